@@ -1,0 +1,17 @@
+pub mod Base
+pub mod RefusalNumbers
+pub mod Spool
+pub mod Lines
+pub mod Numbers
+pub mod RangeClass
+pub mod Values
+pub mod Rows
+pub mod Blocks
+pub mod Figures
+pub mod Sets
+pub mod VolumesAndTotals
+pub mod Machine
+pub mod RecordTable
+pub mod FixedForm
+pub mod Answers
+pub mod SampleRulings

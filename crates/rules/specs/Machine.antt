@@ -1,0 +1,436 @@
+-- The reading of a set, line by line: which block is open, what it holds so far, and what a line does there.
+use Prim.Native.Nat.{ℕ, zero, suc, _+_, _-_}
+use mathlib.Core.Bool.{Bool, true, false, cond, _&&_, _||_, not}
+use mathlib.Core.List.{List, [], _∷_, _++_, map}
+use mathlib.Core.Option.{Option, none, some}
+use lib.Dec.{eqb, leb, ltb}
+use lib.ListN.{length, getD, set}
+use Rattle.rules.specs.declared.Digits.{Digits}
+use Rattle.rules.specs.Base.{isNil, isNone, same, among, hasNumber}
+use Rattle.rules.specs.RefusalNumbers.{Got, got, bad, unless, mapG, andThen, also}
+use Rattle.rules.specs.Lines.{Rest, brace, equals, Form, ignored, wrong, close, eof, keyed, freeShapeOf, Shape, opener, noContent, content, opening, formless, shapeOf, hasForm}
+use Rattle.rules.specs.RangeClass.{digits, digitsOf, reaches, exceeds, both, Skip, passes, deeper, noForm, skipOf, mostDepth}
+use Rattle.rules.specs.Values.{Num, Value, empty, nums, chars, linked, Known, numsOf, charsOf, serialsOf, amountAt, isLayerId, readKind}
+use Rattle.rules.specs.Rows.{Rule, Found, absent, found, find, Slots, blank, Held, partOf, enter, marks, fullAt, Act, stay, entry, begin, shut, refuse, orRefuse, actRow, actUnknown, actFound, act, complete}
+use Rattle.rules.specs.Blocks.{topTable, fileTables, around, blankHeld, drawingTable, mostLayers, layerNameKind, definesTable, symbolTable, elementTable}
+use Rattle.rules.specs.Figures.{layerTable, figureTable, mostPoints, leastPoints, pointTable, textTable, placedTable, placedTables}
+use Rattle.rules.specs.Sets.{Point, Figure, plain, chain, lettering, placed, Layer, Drawing, Symbol, LayerBlock, Contents, Set, nothingYet, withNow, withDrawing, withSymbol, withVolume, withRecords, withBlock, withLayer, withOwn, symbolOwn, symbolFigures, symbolHidden, symbolOrder, isFirst, arcOf, rangeOf, defineRange, isSingle, symbolNameOf, knownOf, ownSerial, figureSerial, serialsIn, usedIn}
+use Rattle.rules.specs.VolumesAndTotals.{chained, dated, countedHere, countedAll, layersUsed}
+
+-- ── a line of the set, and what the reading knows from the start ──
+pub record Line : Type 0 where
+  pub volume : ℕ
+  pub line : ℕ
+  pub last : Bool  -- the last of its volume
+  pub next : List ℕ  -- the name of the volume that follows, nothing in the last volume
+  pub form : Form
+
+pub record Env : Type 0 where
+  pub class : Digits
+  pub limit : Option ℕ  -- how many records the table holds; none for the rewriter
+
+-- ── which block is open ──
+-- where figures stand: in a symbol's `element`, or in a layer
+pub data Home : Type 0 where
+  inElement : Symbol → Home
+  inLayer : ℕ → Home
+
+pub data State : Type 0 where
+  top : Set → ℕ → State  -- none: the number of the block that comes next (0 to 3, 4 after ELEMENT)
+  file : Set → ℕ → Held → ℕ → State  -- FILE_FORMAT: its line, what it holds, which inner part is open
+  drawing : Set → Drawing → State
+  layerNames : Set → Drawing → State
+  defines : Set → Bool → State  -- SYMBOL_DEFINE: `NON=` was read
+  symbol : Set → Symbol → State
+  hide : Set → Symbol → List Point → State
+  elements : Set → State
+  figures : Set → Home → List Figure → State  -- `element` or LAYER
+  successive : Set → Home → List Figure → ℕ → List Point → State
+  texts : Set → Home → List Figure → ℕ → Slots → State
+  placing : Set → Home → List Figure → ℕ → Held → ℕ → State  -- a placed symbol: its line, what it holds, which inner part is open
+  skipping : Set → Home → List Figure → ℕ → Held → ℕ → State  -- in it, how many skipped blocks are open
+  ended : Set → State
+
+-- ── what an act does ──
+abbrev pub byAct : State → (ℕ → Value → Got State) → (ℕ → ℕ → Value → Got State) → (Unit {0} → Got State) → Act → Got State
+byAct here entered opened closed stay = got here
+byAct here entered opened closed (entry j v) = entered j v
+byAct here entered opened closed (begin i j v) = opened i j v
+byAct here entered opened closed shut = closed tt
+byAct here entered opened closed (refuse n) = bad n
+
+-- 19: "record doesn't fit the table"; it is tested last on its line
+abbrev pub roomFor : Option ℕ → ℕ → Bool
+roomFor none n = true
+roomFor (some m) n = leb n m
+
+abbrev pub taking : Env → ℕ → Set → (Set → State) → Got State
+taking e n s f = unless (roomFor (e .limit) (s .taken + n)) 19 (got (f (withRecords n s)))
+
+-- ── at the top level ──
+abbrev pub openTop : Env → Line → Set → ℕ → Got State
+openTop e l s zero = taking e (cond (isFirst s) 2 1) s λ s′. file s′ (l .line) (blankHeld (fileTables (isFirst s))) 0
+openTop e l s (suc zero) = taking e 1 s λ s′. drawing s′ (record { line = l .line; own = blank drawingTable; layers = [] })
+openTop e l s (suc (suc zero)) = got (defines s false)
+openTop e l s (suc (suc (suc k))) = got (elements s)
+
+-- EOF: "9 (EOF misplaced, at EOF's line, also if any line follows it)", then "14 (unused, at EOF)", then "17 (all_ele at EOF)"
+abbrev pub atEof : Line → Set → ℕ → Got State
+atEof l s k =
+    unless (eqb k 4 && (isNil (l .next) && l .last)) 9
+    (unless (layersUsed s) 14
+    (unless (countedAll s) 17
+    (got (ended s))))
+
+abbrev pub onTop : Env → Line → Set → ℕ → Form → Got State
+onTop e l s k ignored = got (top s k)
+onTop e l s k (wrong n) = bad n
+onTop e l s k close = bad 9
+onTop e l s k eof = atEof l s k
+onTop e l s k (keyed key c) =
+    byAct (top s k) (λ j v. bad 5) (λ i j v. unless (eqb j k) 9 (openTop e l s j)) (λ _. bad 9)
+    (act (knownOf s) topTable (digits 0 0) (fullAt 0 topTable) (keyed key c))
+
+-- ── FILE_FORMAT ──
+-- "16: volume chain, date or time unlike volume 1's, at FILE_FORMAT's close"
+abbrev pub closeFile : Line → Set → ℕ → Held → Got State
+closeFile l s n h =
+    unless (chained (isFirst s) (l .next) h && dated s (isFirst s) h) 16
+    (got (top (withNow (record { line = n; file = h; blocks = [] }) s) (cond (isFirst s) 1 3)))
+
+abbrev pub shutPart : ℕ → Got State → (ℕ → State) → Got State
+shutPart zero whole back = whole
+shutPart (suc p) whole back = got (back (around (suc p)))
+
+abbrev pub onFile : Line → Set → ℕ → Held → ℕ → Form → Got State
+onFile l s n h p f =
+    let t = getD (fileTables (isFirst s)) p [] in
+    byAct (file s n h p)
+    (λ j v. got (file s n (enter h p j v) p))
+    (λ i j v. got (file s n (enter h p j v) i))
+    (λ _. shutPart p (closeFile l s n h) (λ q. file s n h q))
+    (act (knownOf s) t (digits 0 0) (marks (partOf h p)) f)
+
+-- ── DRAWING_FORMAT ──
+abbrev pub onDrawing : Set → Drawing → Form → Got State
+onDrawing s d f =
+    byAct (drawing s d)
+    (λ j v. got (drawing s (withOwn (set (d .own) j (some v)) d)))
+    (λ i j v. got (layerNames s (withOwn (set (d .own) j (some v)) d)))
+    (λ _. got (top (withDrawing d s) 2))
+    (act (knownOf s) drawingTable (digitsOf (arcOf s)) (marks (d .own)) f)
+
+-- a line in `layer_name`: every content there is a layer's name; "A misspelt id is 6"; one line too many is 11, a layer declared twice 14
+abbrev pub layerValue : List ℕ → Shape → Got Value
+layerValue k opener = bad 5
+layerValue k noContent = got empty
+layerValue k (content at c) = readKind (record { symbols = []; layers = [] }) layerNameKind at c
+layerValue k (opening at c) = bad 5
+layerValue k formless = bad 5
+
+abbrev pub layerLine : Env → Line → Set → Drawing → List ℕ → Rest → Got State
+layerLine e l s d k c =
+    unless (isLayerId k) 6
+    (andThen (layerValue k (freeShapeOf c)) λ v.
+    unless (ltb (length (d .layers)) mostLayers) 11
+    (unless (not (among k (map (λ y. y .id) (d .layers)))) 14
+    (taking e 1 s λ s′. layerNames s′ (withLayer (record { line = l .line; id = k; name = v }) d))))
+
+abbrev pub onLayerNames : Env → Line → Set → Drawing → Form → Got State
+onLayerNames e l s d ignored = got (layerNames s d)
+onLayerNames e l s d (wrong n) = bad n
+onLayerNames e l s d close = got (drawing s d)
+onLayerNames e l s d eof = bad 9
+onLayerNames e l s d (keyed k c) = layerLine e l s d k c
+
+-- ── SYMBOL_DEFINE ──
+-- "NON and a symbol together" is 6; neither is 8
+abbrev pub onDefines : Env → Line → Set → Bool → Form → Got State
+onDefines e l s non f =
+    byAct (defines s non)
+    (λ j v. unless (isNil (s .symbols)) 6 (got (defines s true)))
+    (λ i j v. unless (not non) 6 (taking e 1 s λ s′. symbol s′ (record { line = l .line; own = blank symbolTable; figures = []; hidden = []; hideFirst = false })))
+    (λ _. unless (non || not (isNil (s .symbols))) 8 (got (top s 3)))
+    (act (knownOf s) definesTable (digitsOf (defineRange s)) (non ∷ false ∷ []) f)
+
+-- "15: symbol name twice"
+abbrev pub newName : Set → Symbol → Bool
+newName s y = isNil (symbolNameOf y) || not (among (symbolNameOf y) (knownOf s .symbols))
+
+abbrev pub openSymbol : Set → Symbol → ℕ → Got State
+openSymbol s y zero = bad 5
+openSymbol s y (suc zero) = got (figures s (inElement y) [])
+openSymbol s y (suc (suc i)) = got (hide s (symbolOrder (isNone (getD (y .own) 1 none)) y) [])
+
+abbrev pub onSymbol : Set → Symbol → Form → Got State
+onSymbol s y f =
+    byAct (symbol s y)
+    (λ j v. let y′ = symbolOwn (set (y .own) j (some v)) y in unless (newName s y′) 15 (got (symbol s y′)))
+    (λ i j v. openSymbol s (symbolOwn (set (y .own) j (some v)) y) i)
+    (λ _. got (defines (withSymbol y s) false))
+    (act (knownOf s) symbolTable (digitsOf (defineRange s)) (marks (y .own)) f)
+
+-- ── points ──
+abbrev pub pointAt : Line → Value → Point
+pointAt l v = record { line = l .line; values = numsOf v }
+
+abbrev pub onHide : Env → Line → Set → Symbol → List Point → Form → Got State
+onHide e l s y ps f =
+    byAct (hide s y ps)
+    (λ j v. taking e 1 s λ s′. hide s′ y (ps ++ pointAt l v ∷ []))
+    (λ i j v. bad 5)
+    (λ _. got (symbol s (symbolHidden ps y)))
+    (act (knownOf s) (pointTable false) (digits 0 0) (fullAt (length ps) (pointTable false)) f)
+
+-- ── ELEMENT ──
+-- "14: layer used twice"; "17: this_ele at ELEMENT's close"
+abbrev pub onElements : Set → Form → Got State
+onElements s f =
+    byAct (elements s)
+    (λ j v. bad 5)
+    (λ i j v. unless (not (hasNumber (amountAt v 0) (usedIn (s .now)))) 14 (got (figures s (inLayer (amountAt v 0)) [])))
+    (λ _. unless (countedHere s) 17 (got (top (withVolume s) 4)))
+    (act (knownOf s) elementTable (digits 0 0) (fullAt 0 elementTable) f)
+
+-- ── figures ──
+abbrev pub isLayer : Home → Bool
+isLayer (inElement y) = false
+isLayer (inLayer k) = true
+
+abbrev pub homeTable : Set → Home → List Rule
+homeTable s (inElement y) = figureTable
+homeTable s (inLayer k) = layerTable (isSingle s)
+
+-- "`element` (one or more figures)": none is 8; a layer may have none
+abbrev pub closeFigures : Set → Home → List Figure → Got State
+closeFigures s (inElement y) fs = unless (not (isNil fs)) 8 (got (symbol s (symbolFigures fs y)))
+closeFigures s (inLayer k) fs = got (elements (withBlock (record { layer = k; figures = fs }) s))
+
+abbrev pub openFigure : Env → Line → Set → Home → List Figure → ℕ → Got State
+openFigure e l s h fs zero = bad 5
+openFigure e l s h fs (suc zero) = taking e 1 s λ s′. successive s′ h fs (l .line) []
+openFigure e l s h fs (suc (suc zero)) = taking e 1 s λ s′. texts s′ h fs (l .line) (blank (textTable (isLayer h) 4 12))
+openFigure e l s h fs (suc (suc (suc i))) = taking e 1 s λ s′. placing s′ h fs (l .line) (blankHeld placedTables) 0
+
+abbrev pub onFigures : Env → Line → Set → Home → List Figure → Form → Got State
+onFigures e l s h fs f =
+    byAct (figures s h fs)
+    (λ j v. taking e 1 s λ s′. figures s′ h (fs ++ plain (l .line) j (numsOf v) ∷ []))
+    (λ i j v. openFigure e l s h fs i)
+    (λ _. closeFigures s h fs)
+    (act (knownOf s) (homeTable s h) (rangeOf s) (fullAt 0 (homeTable s h)) f)
+
+-- "successive: block of 3 to 100 point"
+abbrev pub onSuccessive : Env → Line → Set → Home → List Figure → ℕ → List Point → Form → Got State
+onSuccessive e l s h fs n ps f =
+    byAct (successive s h fs n ps)
+    (λ j v. taking e 1 s λ s′. successive s′ h fs n (ps ++ pointAt l v ∷ []))
+    (λ i j v. bad 5)
+    (λ _. unless (leb leastPoints (length ps)) 8 (got (figures s h (fs ++ chain n ps ∷ []))))
+    (act (knownOf s) (pointTable (isLayer h)) (digits 0 0) (fullAt (length ps) (pointTable (isLayer h))) f)
+
+abbrev pub onTexts : Set → Home → List Figure → ℕ → Slots → Form → Got State
+onTexts s h fs n o f =
+    byAct (texts s h fs n o)
+    (λ j v. got (texts s h fs n (set o j (some v))))
+    (λ i j v. bad 5)
+    (λ _. got (figures s h (fs ++ lettering n o ∷ [])))
+    (act (knownOf s) (textTable (isLayer h) 4 12) (digits 0 0) (marks o) f)
+
+-- ── the placed symbol ──
+-- what the line of a key that the class doesn't know does: "skipped when a digit of E_sym exceeds the class's, and refused otherwise"
+abbrev pub bySkip : Skip → Got State → Got State → Got State
+bySkip passes here inside = here
+bySkip deeper here inside = inside
+bySkip noForm here inside = bad 5
+
+abbrev pub skipDeeper : ℕ → State → Got State
+skipDeeper d inside = unless (ltb d mostDepth) 18 (got inside)
+
+abbrev pub onUnknown : Env → Set → Home → List Figure → ℕ → Held → List ℕ → Rest → Got State
+onUnknown e s h fs n o k c =
+    cond (exceeds (rangeOf s) (e .class))
+    (bySkip (skipOf k c) (got (placing s h fs n o 0)) (skipDeeper 0 (skipping s h fs n o 1)))
+    (byAct (placing s h fs n o 0) (λ j v. bad 6) (λ i j v. bad 6) (λ _. bad 6) (actUnknown c))
+
+-- "Own numbers differ as numbers over the set" (15)
+abbrev pub newSerial : Set → List Figure → Value → Bool
+newSerial s fs v = notAny (ownSerial (serialsOf v)) (serialsIn s ++ Rattle.rules.specs.Base.flat (map figureSerial fs))
+  where
+    notAny : List ℕ → List ℕ → Bool
+    notAny [] used = true
+    notAny (n ∷ ns) used = not (hasNumber n used)
+
+abbrev pub onPlaced : Set → Home → List Figure → ℕ → Held → ℕ → Act → Got State
+onPlaced s h fs n o p a =
+    byAct (placing s h fs n o p)
+    (λ j v. unless (newSerial s fs v) 15 (got (placing s h fs n (enter o p j v) p)))
+    (λ i j v. got (placing s h fs n (enter o p j v) i))
+    (λ _. shutPart p (got (figures s h (fs ++ placed n o ∷ []))) (λ q. placing s h fs n o q))
+    a
+
+-- a key that the class knows is judged as in any block, in a file of the range E_sym
+abbrev pub onPlacedKey : Env → Set → Home → List Figure → ℕ → Held → List ℕ → Rest → Found → Got State
+onPlacedKey e s h fs n o k c absent = onUnknown e s h fs n o k c
+onPlacedKey e s h fs n o k c (found j r) =
+    cond (reaches (e .class) (r .least))
+    (onPlaced s h fs n o 0 (actRow (knownOf s) (rangeOf s) (getD (marks (partOf o 0)) j false) j r c))
+    (onUnknown e s h fs n o k c)
+
+-- what the file allows and the class knows is required
+abbrev pub onPlacedOwn : Env → Set → Home → List Figure → ℕ → Held → Form → Got State
+onPlacedOwn e s h fs n o ignored = got (placing s h fs n o 0)
+onPlacedOwn e s h fs n o (wrong m) = bad m
+onPlacedOwn e s h fs n o close =
+    onPlaced s h fs n o 0 (act (knownOf s) placedTable (both (e .class) (rangeOf s)) (marks (partOf o 0)) close)
+onPlacedOwn e s h fs n o eof = bad 9
+onPlacedOwn e s h fs n o (keyed k c) = onPlacedKey e s h fs n o k c (find k placedTable)
+
+abbrev pub onPlacing : Env → Set → Home → List Figure → ℕ → Held → ℕ → Form → Got State
+onPlacing e s h fs n o zero f = onPlacedOwn e s h fs n o f
+onPlacing e s h fs n o (suc p) f =
+    onPlaced s h fs n o (suc p) (act (knownOf s) (getD placedTables (suc p) []) (digits 0 0) (marks (partOf o (suc p))) f)
+
+-- ── skipped blocks: "A skipped opener takes all lines to its own `}`" ──
+abbrev pub skipShut : Set → Home → List Figure → ℕ → Held → ℕ → Got State
+skipShut s h fs n o zero = bad 9
+skipShut s h fs n o (suc zero) = got (placing s h fs n o 0)
+skipShut s h fs n o (suc (suc d)) = got (skipping s h fs n o (suc d))
+
+abbrev pub onSkipping : Set → Home → List Figure → ℕ → Held → ℕ → Form → Got State
+onSkipping s h fs n o d ignored = got (skipping s h fs n o d)
+onSkipping s h fs n o d (wrong m) = bad m
+onSkipping s h fs n o d close = skipShut s h fs n o d
+onSkipping s h fs n o d eof = bad 9
+onSkipping s h fs n o d (keyed k c) =
+    bySkip (skipOf k c) (got (skipping s h fs n o d)) (skipDeeper d (skipping s h fs n o (suc d)))
+
+-- ── one line ──
+abbrev pub stepIn : Env → Line → State → Got State
+stepIn e l (top s k) = onTop e l s k (l .form)
+stepIn e l (file s n h p) = onFile l s n h p (l .form)
+stepIn e l (drawing s d) = onDrawing s d (l .form)
+stepIn e l (layerNames s d) = onLayerNames e l s d (l .form)
+stepIn e l (defines s b) = onDefines e l s b (l .form)
+stepIn e l (symbol s y) = onSymbol s y (l .form)
+stepIn e l (hide s y ps) = onHide e l s y ps (l .form)
+stepIn e l (elements s) = onElements s (l .form)
+stepIn e l (figures s h fs) = onFigures e l s h fs (l .form)
+stepIn e l (successive s h fs n ps) = onSuccessive e l s h fs n ps (l .form)
+stepIn e l (texts s h fs n o) = onTexts s h fs n o (l .form)
+stepIn e l (placing s h fs n o p) = onPlacing e s h fs n o p (l .form)
+stepIn e l (skipping s h fs n o d) = onSkipping s h fs n o d (l .form)
+stepIn e l (ended s) = bad 9
+
+-- ── the volume's last line: "volume ends early" is 9 there ──
+-- ELEMENT is open, and nothing in it
+abbrev pub inElements : State → Bool
+inElements (top s k) = false
+inElements (file s n h p) = false
+inElements (drawing s d) = false
+inElements (layerNames s d) = false
+inElements (defines s b) = false
+inElements (symbol s y) = false
+inElements (hide s y ps) = false
+inElements (elements s) = true
+inElements (figures s h fs) = false
+inElements (successive s h fs n ps) = false
+inElements (texts s h fs n o) = false
+inElements (placing s h fs n o p) = false
+inElements (skipping s h fs n o d) = false
+inElements (ended s) = false
+
+-- ELEMENT is closed
+abbrev pub afterElements : State → Bool
+afterElements (top s k) = eqb k 4
+afterElements (file s n h p) = false
+afterElements (drawing s d) = false
+afterElements (layerNames s d) = false
+afterElements (defines s b) = false
+afterElements (symbol s y) = false
+afterElements (hide s y ps) = false
+afterElements (elements s) = false
+afterElements (figures s h fs) = false
+afterElements (successive s h fs n ps) = false
+afterElements (texts s h fs n o) = false
+afterElements (placing s h fs n o p) = false
+afterElements (skipping s h fs n o d) = false
+afterElements (ended s) = false
+
+abbrev pub isIgnored : Form → Bool
+isIgnored ignored = true
+isIgnored (wrong n) = false
+isIgnored close = false
+isIgnored eof = false
+isIgnored (keyed k c) = false
+
+abbrev pub isClose : Form → Bool
+isClose ignored = false
+isClose (wrong n) = false
+isClose close = true
+isClose eof = false
+isClose (keyed k c) = false
+
+abbrev pub isEof : Form → Bool
+isEof ignored = false
+isEof (wrong n) = false
+isEof close = false
+isEof eof = true
+isEof (keyed k c) = false
+
+-- Is the volume complete after this line? By its structure: in the last volume EOF after ELEMENT, in others ELEMENT's end.
+abbrev pub completes : Line → State → Bool
+completes l s =
+    cond (isNil (l .next))
+    (afterElements s && isEof (l .form))
+    ((inElements s && isClose (l .form)) || (afterElements s && isIgnored (l .form)))
+
+-- the next volume begins anew
+abbrev pub nextVolume : State → State
+nextVolume (top s k) = top s 0
+nextVolume (file s n h p) = file s n h p
+nextVolume (drawing s d) = drawing s d
+nextVolume (layerNames s d) = layerNames s d
+nextVolume (defines s b) = defines s b
+nextVolume (symbol s y) = symbol s y
+nextVolume (hide s y ps) = hide s y ps
+nextVolume (elements s) = elements s
+nextVolume (figures s h fs) = figures s h fs
+nextVolume (successive s h fs n ps) = successive s h fs n ps
+nextVolume (texts s h fs n o) = texts s h fs n o
+nextVolume (placing s h fs n o p) = placing s h fs n o p
+nextVolume (skipping s h fs n o d) = skipping s h fs n o d
+nextVolume (ended s) = ended s
+
+abbrev pub step : Env → Line → State → Got State
+step e l s = cond (l .last) (mapG nextVolume (also (completes l s) 9 (stepIn e l s))) (stepIn e l s)
+
+-- ── all lines ──
+pub data Outcome : Type 0 where
+  refused : ℕ → ℕ → ℕ → Outcome  -- number, volume, line
+  accepted : Set → Outcome
+
+abbrev pub thenRun : Got State → Line → (State → Outcome) → Outcome
+thenRun (got s) l f = f s
+thenRun (bad n) l f = refused n (l .volume) (l .line)
+
+-- after the last line of the last volume the set has ended (no other state comes through that line)
+abbrev pub finish : State → Outcome
+finish (top s k) = refused 9 0 0
+finish (file s n h p) = refused 9 0 0
+finish (drawing s d) = refused 9 0 0
+finish (layerNames s d) = refused 9 0 0
+finish (defines s b) = refused 9 0 0
+finish (symbol s y) = refused 9 0 0
+finish (hide s y ps) = refused 9 0 0
+finish (elements s) = refused 9 0 0
+finish (figures s h fs) = refused 9 0 0
+finish (successive s h fs n ps) = refused 9 0 0
+finish (texts s h fs n o) = refused 9 0 0
+finish (placing s h fs n o p) = refused 9 0 0
+finish (skipping s h fs n o d) = refused 9 0 0
+finish (ended s) = accepted s
+
+abbrev pub run : Env → State → List Line → Outcome
+run e s [] = finish s
+run e s (l ∷ ls) = thenRun (step e l s) l (λ s′. run e s′ ls)

@@ -1,0 +1,60 @@
+-- Document 01, "Range class": the ten classes, what a class knows, what a file's range allows, and skipped lines.
+use Prim.Native.Nat.{ℕ, zero, suc, _+_, _/_, _%_, min}
+use mathlib.Core.Bool.{Bool, true, false, cond, _&&_, _||_, not}
+use mathlib.Core.List.{List, [], _∷_}
+use mathlib.Core.Option.{Option, none, some}
+use lib.Dec.{eqb, leb, ltb}
+use Rattle.rules.specs.declared.Digits.{Digits}
+use Rattle.rules.specs.Base.{bytes, same, within}
+use Rattle.rules.specs.Lines.{Rest, brace, equals, Shape, opener, noContent, content, opening, formless, shapeOf}
+
+abbrev pub digits : ℕ → ℕ → Digits
+digits m l = record { middle = m; last = l }
+
+-- a three-digit value as its middle and last digit
+abbrev pub digitsOf : ℕ → Digits
+digitsOf n = digits (n / 10 % 10) (n % 10)
+
+-- "1 to 5 or 11 to 15, last and middle digit as above."
+unfoldable pub classOf : ℕ → Option Digits
+classOf n = cond (within 1 5 n || within 11 15 n) (some (digitsOf n)) none
+
+-- "Digits count one by one": d has at least the digits that l asks for.
+-- Said of the file's range it is "allows", said of the class it is "knows".
+abbrev pub reaches : Digits → Digits → Bool
+reaches d l = leb (l .middle) (d .middle) && leb (l .last) (d .last)
+
+-- "when a digit of E_sym exceeds the class's"
+abbrev pub exceeds : Digits → Digits → Bool
+exceeds d c = ltb (c .middle) (d .middle) || ltb (c .last) (d .last)
+
+-- what the file allows and the class knows
+abbrev pub both : Digits → Digits → Digits
+both c d = digits (min (c .middle) (d .middle)) (min (c .last) (d .last))
+
+-- "An attribute E_sym allows and the class doesn't know"
+abbrev pub hides : Digits → Digits → Digits → Bool
+hides c d l = reaches d l && not (reaches c l)
+
+-- ── skipped lines ──
+-- what a skipped line does: nothing, or it opens a block; or it has no form (5)
+pub data Skip : Type 0 where
+  passes : Skip
+  deeper : Skip
+  noForm : Skip
+
+abbrev pub skipShape : Shape → Skip
+skipShape opener = deeper
+skipShape noContent = passes
+skipShape (content at c) = passes
+skipShape (opening at c) = deeper
+skipShape formless = noForm
+
+-- "on any skipped line `character=` never opens"
+abbrev pub skipOf : List ℕ → Rest → Skip
+skipOf k brace = deeper
+skipOf k (equals at c) = cond (same k (bytes "character")) passes (skipShape (shapeOf (equals at c)))
+
+-- "blocks nest to depth 4, the opener being 1"
+abbrev pub mostDepth : ℕ
+mostDepth = 4

@@ -1,0 +1,167 @@
+-- Document 01, "Record table": the records of a set, 32 numbers each, in the order of their lines.
+use Prim.Native.Nat.{ℕ, zero, suc, _+_}
+use mathlib.Core.Bool.{Bool, true, false, cond, _&&_, _||_, not}
+use mathlib.Core.List.{List, [], _∷_, _++_, map}
+use mathlib.Core.Option.{Option, none, some}
+use lib.Dec.{eqb, leb}
+use lib.IntN.{ℤ, pos}
+use lib.ListN.{length, getD, set, take, drop, replicate}
+use lib.Seq.{sets}
+use Rattle.rules.specs.declared.Digits.{Digits}
+use Rattle.rules.specs.Base.{flat, isNil}
+use Rattle.rules.specs.RangeClass.{digits, hides}
+use Rattle.rules.specs.Numbers.{value}
+use Rattle.rules.specs.Values.{Num, Value, empty, nums, chars, linked, valueAt, opens}
+use Rattle.rules.specs.Rows.{Rule, row, Slots, Held, partOf}
+use Rattle.rules.specs.Blocks.{fileTables, drawingTable, symbolTable}
+use Rattle.rules.specs.Figures.{layerTable, figureTable, pointTable, textTable, placedTable, placedTables}
+use Rattle.rules.specs.Sets.{Point, Figure, plain, chain, lettering, placed, Layer, Drawing, Symbol, LayerBlock, Contents, Set, rangeOf, isSingle}
+
+-- ── what a line's value puts into its record ──
+-- "Text is byte place in the spool, from 0, and length; 0 and 0 if empty."
+abbrev pub numbers : Value → List ℤ
+numbers empty = []
+numbers (nums v) = map (λ n. n .value) v
+numbers (chars at c) = pos at ∷ pos (length c) ∷ []
+numbers (linked n ps) = pos n ∷ pos (length ps) ∷ []
+
+-- "States: 0 absent, 1 empty, 2 given, 3 unread."
+abbrev pub stateOf : Value → ℤ
+stateOf empty = pos 1
+stateOf (nums v) = pos 2
+stateOf (chars at c) = pos 2
+stateOf (linked n ps) = pos 2
+
+abbrev pub putNumbers : ℕ → List ℤ → List ℤ → List ℤ
+putNumbers zero zs t = t
+putNumbers (suc p) zs t = sets t (suc p) zs
+
+abbrev pub putState : ℕ → ℤ → List ℤ → List ℤ
+putState zero z t = t
+putState (suc q) z t = set t (suc q) z
+
+abbrev pub putRow : Rule → Value → List ℤ → List ℤ
+putRow r v t = putState (r .state) (stateOf v) (putNumbers (r .place) (numbers v) t)
+
+abbrev pub putSlot : Rule → Option Value → List ℤ → List ℤ
+putSlot r none t = t
+putSlot r (some v) t = putRow r v t
+
+abbrev pub putSlots : List Rule → Slots → List ℤ → List ℤ
+putSlots [] s t = t
+putSlots (r ∷ rs) [] t = t
+putSlots (r ∷ rs) (o ∷ s) t = putSlot r o (putSlots rs s t)
+
+abbrev pub putHeld : List (List Rule) → Held → List ℤ → List ℤ
+putHeld [] h t = t
+putHeld (r ∷ rs) [] t = t
+putHeld (r ∷ rs) (s ∷ h) t = putSlots r s (putHeld rs h t)
+
+-- "An attribute E_sym allows and the class doesn't know has state 3 and zeros."
+abbrev pub markUnread : Digits → Digits → List Rule → List ℤ → List ℤ
+markUnread c d [] t = t
+markUnread c d (r ∷ rs) t = cond (hides c d (r .least)) (putState (r .state) (pos 3) (markUnread c d rs t)) (markUnread c d rs t)
+
+-- ── the record at its line: "0 kind, 1 owner, 2 volume from 1, 3 line, .. unused 0" ──
+abbrev pub width : ℕ
+width = 32
+
+abbrev pub start : ℕ → ℕ → ℕ → ℕ → List ℤ
+start kind owner volume line = pos kind ∷ pos owner ∷ pos volume ∷ pos line ∷ replicate 28 (pos 0)
+
+-- "1 header", and "2 volume: this_line, this_ele; after the header"
+abbrev pub twoOf : List ℤ → List (List ℤ)
+twoOf t = take width t ∷ drop width t ∷ []
+
+abbrev pub fileRecords : Bool → ℕ → Contents → List (List ℤ)
+fileRecords true k v = twoOf (putHeld (fileTables true) (v .file) (start 1 0 k (v .line) ++ start 2 0 k (v .line)))
+fileRecords false k v = putHeld (fileTables false) (v .file) (start 2 0 k (v .line)) ∷ []
+
+-- "3 drawing"
+abbrev pub drawingRecord : Drawing → List ℤ
+drawingRecord d = putSlots drawingTable (d .own) (start 3 0 1 (d .line))
+
+-- "5 layer: letter's byte, number, name": the layers from number n on
+abbrev pub layerRecord : ℕ → Layer → List ℤ
+layerRecord n l = sets (start 5 n 1 (l .line)) 5 (pos (getD (l .id) 0 0) ∷ pos (value (drop 2 (l .id))) ∷ numbers (l .name))
+
+abbrev pub layerRecords : ℕ → List Layer → List (List ℤ)
+layerRecords n [] = []
+layerRecords n (l ∷ ls) = layerRecord n l ∷ layerRecords (suc n) ls
+
+-- ── figures ──
+-- a row of a table by its number
+abbrev pub ruleAt : List Rule → ℕ → Rule
+ruleAt t j = getD t j (row "" (opens 0) 0)
+
+-- "10 line, 11 circle, 12 ellipse, 13 point": a figure's row in the table, and 10; 16 for `E_symbol=`
+abbrev pub plainRecord : List Rule → ℕ → ℕ → ℕ → ℕ → ℕ → List Num → List ℤ
+plainRecord t more owner volume line j v = putRow (ruleAt t j) (nums v) (start (10 + more + j) owner volume line)
+
+-- "17 a successive's points", "43 hide point": kind, and the table of points
+abbrev pub pointRecords : ℕ → ℕ → ℕ → List Point → List (List ℤ)
+pointRecords kind owner volume [] = []
+pointRecords kind owner volume (p ∷ ps) = putRow (ruleAt (pointTable true) 0) (nums (p .values)) (start kind owner volume (p .line)) ∷ pointRecords kind owner volume ps
+
+-- "14 successive (first point's type, point count)"
+abbrev pub firstType : List Point → ℤ
+firstType [] = pos 0
+firstType (p ∷ ps) = valueAt (p .values) 0
+
+abbrev pub chainRecord : ℕ → ℕ → ℕ → ℕ → List Point → List ℤ
+chainRecord more owner volume line ps = sets (start (14 + more) owner volume line) 4 (firstType ps ∷ pos (length ps) ∷ [])
+
+-- "15 text (7 values, characters)"
+abbrev pub textRecord : ℕ → ℕ → ℕ → ℕ → Slots → List ℤ
+textRecord more owner volume line s = putSlots (textTable true 4 12) s (start (15 + more) owner volume line)
+
+-- "16 placed symbol": at the class c, in a file of the range d
+abbrev pub placedRecord : Digits → Digits → ℕ → ℕ → ℕ → Held → List ℤ
+placedRecord c d owner volume line h = markUnread c d placedTable (putHeld placedTables h (start 16 owner volume line))
+
+-- "plus 20 inside a symbol": `more`
+abbrev pub figureRecords : Digits → Digits → List Rule → ℕ → ℕ → ℕ → Figure → List (List ℤ)
+figureRecords c d t more owner volume (plain n j v) = plainRecord t more owner volume n j v ∷ []
+figureRecords c d t more owner volume (chain n ps) = chainRecord more owner volume n ps ∷ pointRecords (17 + more) owner volume ps
+figureRecords c d t more owner volume (lettering n s) = textRecord more owner volume n s ∷ []
+figureRecords c d t more owner volume (placed n h) = placedRecord c d owner volume n h ∷ []
+
+-- ── symbols ──
+-- "4 symbol: name, wall state, x, y"; its figures and hide points follow in the order written
+abbrev pub innerRecords : ℕ → Symbol → List (List ℤ)
+innerRecords n y =
+    let shown = flat (map (figureRecords (digits 0 0) (digits 0 0) figureTable 20 n 1) (y .figures)) in
+    let hidden = pointRecords 43 n 1 (y .hidden) in
+    cond (y .hideFirst) (hidden ++ shown) (shown ++ hidden)
+
+abbrev pub symbolRecords : ℕ → List Symbol → List (List ℤ)
+symbolRecords n [] = []
+symbolRecords n (y ∷ ys) = putSlots symbolTable (y .own) (start 4 n 1 (y .line)) ∷ innerRecords n y ++ symbolRecords (suc n) ys
+
+-- ── volumes ──
+abbrev pub blockRecords : Digits → Digits → List Rule → ℕ → LayerBlock → List (List ℤ)
+blockRecords c d t k u = flat (map (figureRecords c d t 0 (u .layer) k) (u .figures))
+
+abbrev pub bodyRecords : Digits → Digits → List Rule → ℕ → Contents → List (List ℤ)
+bodyRecords c d t k v = flat (map (blockRecords c d t k) (v .blocks))
+
+-- the volumes after the first, from number k on
+abbrev pub laterRecords : Digits → Digits → List Rule → ℕ → List Contents → List (List ℤ)
+laterRecords c d t k [] = []
+laterRecords c d t k (v ∷ vs) = fileRecords false k v ++ bodyRecords c d t k v ++ laterRecords c d t (suc k) vs
+
+abbrev pub recordsFrom : Digits → Set → List Contents → List (List ℤ)
+recordsFrom c s [] = []
+recordsFrom c s (v ∷ vs) =
+    let d = rangeOf s in
+    let t = layerTable (isSingle s) in
+    fileRecords true 1 v ++ (drawingRecord (s .drawing) ∷ layerRecords 0 (s .drawing .layers)) ++ symbolRecords 0 (s .symbols)
+    ++ bodyRecords c d t 1 v ++ laterRecords c d t 2 vs
+
+-- the records of an accepted set, at a class
+unfoldable pub recordsOf : Digits → Set → List (List ℤ)
+recordsOf c s = recordsFrom c s (s .volumes)
+
+-- "zeros after the last record": a table of n numbers
+unfoldable pub tableOf : ℕ → List (List ℤ) → List ℤ
+tableOf n rs = take n (flat rs ++ replicate n (pos 0))
