@@ -1,0 +1,62 @@
+-- Laws of tables: finding a row, and a row's facts by one computed test over its table.
+use Prim.Native.Nat.{ℕ, zero, suc}
+use mathlib.Core.Bool.{Bool, true, false, cond, _&&_, not}
+use mathlib.Core.List.{List, [], _∷_}
+use mathlib.Core.Option.{Option, none, some}
+use mathlib.Core.Path.{_≡_, refl, sym, _∙_, ap, subst}
+use native.Mathlib.Omega.{arith}
+use borrow.Author.Tests.{not-true}
+use lib.ListN.{length, getD}
+use Rattle.rules.specs.Base.{all, same}
+use Rattle.rules.specs.Rows.{Rule, Found, absent, found, further, find, Slots, blank}
+use Rattle.rules.proofs.Chains.{and-left, and-right, same-refl}
+
+-- the row of number i of a table
+pub data Row : List Rule → ℕ → Rule → Type 0 where
+  here : {r : Rule} {rs : List Rule} → Row (r ∷ rs) 0 r
+  there : {r q : Rule} {rs : List Rule} {i : ℕ} → Row rs i r → Row (q ∷ rs) (suc i) r
+
+-- a row that was found stands in the table, under the key that was looked for
+pub found-row : (k : List ℕ) (t : List Rule) (i : ℕ) (r : Rule) → find k t ≡ found i r → Row t i r × (same k (r .key) ≡ true)
+found-row k [] i r e = absurd (let z : _≡_ {A = ℕ} 0 1 = cc in omega arith)
+found-row k (q ∷ t) i r e = go (same k (q .key)) refl (find k t) (λ j p. found-row k t j r p) e
+  where
+    shift : (f : Found) → ((j : ℕ) → f ≡ found j r → Row t j r × (same k (r .key) ≡ true)) → further f ≡ found i r → Row (q ∷ t) i r × (same k (r .key) ≡ true)
+    shift absent ih p = absurd (let z : _≡_ {A = ℕ} 0 1 = cc in omega arith)
+    shift (found j q′) ih p =
+        let a : suc j ≡ i = cc in
+        let b : q′ ≡ r = cc in
+        let w = ih j (ap (found j) b) in
+        (subst (λ (m : ℕ). Row (q ∷ t) m r) a (there (w .0)), w .1)
+
+    go : (b : Bool) → same k (q .key) ≡ b → (f : Found) → ((j : ℕ) → f ≡ found j r → Row t j r × (same k (r .key) ≡ true)) → cond b (found 0 q) (further f) ≡ found i r
+        → Row (q ∷ t) i r × (same k (r .key) ≡ true)
+    go true h f ih p =
+        let a : 0 ≡ i = cc in
+        let b : q ≡ r = cc in
+        (subst (λ (m : ℕ). Row (q ∷ t) m r) a (subst (λ (x : Rule). Row (q ∷ t) 0 x) b here), ap (λ (x : Rule). same k (x .key)) (sym b) ∙ h)
+    go false h f ih p = shift f ih p
+
+-- a test that every row of the table passes, by computation, holds of each
+pub row-all : (p : Rule → Bool) {t : List Rule} {i : ℕ} {r : Rule} → Row t i r → all p t ≡ true → p r ≡ true
+row-all p (here {r = r}) e = and-left (p r) _ e
+row-all p (there {q = q} w) e = row-all p w (and-right (p q) _ e)
+
+-- the keys of a table differ
+abbrev pub differ : List Rule → Bool
+differ [] = true
+differ (q ∷ t) = all (λ r. not (same (r .key) (q .key))) t && differ t
+
+-- a row's key finds it, where the keys differ
+pub row-find : {t : List Rule} {i : ℕ} {r : Rule} → Row t i r → differ t ≡ true → find (r .key) t ≡ found i r
+row-find (here {r = r}) e = rw (same-refl (r .key))
+row-find (there {r = r} {q = q} {rs = t} w) e =
+    rw (
+      not-true (same (r .key) (q .key)) (row-all (λ r. not (same (r .key) (q .key))) w (and-left (all (λ r. not (same (r .key) (q .key))) t) _ e)),
+      row-find w (and-right (all (λ r. not (same (r .key) (q .key))) t) _ e),
+    )
+
+-- the row by its number
+pub row-at : {t : List Rule} {i : ℕ} {r : Rule} → Row t i r → (d : Rule) → getD t i d ≡ r
+row-at here d = refl
+row-at (there w) d = row-at w d
