@@ -9,9 +9,9 @@ use lib.ListN.{length, getD, set, take, drop, replicate}
 use lib.Seq.{sets}
 use Rattle.rules.specs.declared.Digits.{Digits}
 use Rattle.rules.specs.Base.{flat, isNil}
-use Rattle.rules.specs.RangeClass.{digits, hides}
+use Rattle.rules.specs.RangeClass.{hides}
 use Rattle.rules.specs.Numbers.{value}
-use Rattle.rules.specs.Values.{Num, Value, empty, nums, chars, linked, valueAt, opens}
+use Rattle.rules.specs.Values.{Num, Value, empty, nums, chars, linked, valueAt, Kind, values, text, word, volumeName, sheet, ratio, serials, nothing, opens, headed, either}
 use Rattle.rules.specs.Rows.{Rule, row, Slots, Held, partOf}
 use Rattle.rules.specs.Blocks.{fileTables, drawingTable, symbolTable}
 use Rattle.rules.specs.Figures.{layerTable, figureTable, pointTable, textTable, placedTable, placedTables}
@@ -25,13 +25,49 @@ numbers (nums v) = map (λ n. n .value) v
 numbers (chars at c) = pos at ∷ pos (length c) ∷ []
 numbers (linked n ps) = pos n ∷ pos (length ps) ∷ []
 
--- "States: 0 absent, 1 empty, 2 given, 3 unread."
-abbrev pub stateOf : Value → ℤ
-stateOf empty = pos 1
-stateOf (nums v) = pos 2
-stateOf (chars at c) = pos 2
-stateOf (linked n ps) = pos 2
+abbrev pub numbersOf : Option Value → List ℤ
+numbersOf none = []
+numbersOf (some v) = numbers v
 
+-- "States: 0 absent, 1 empty, 2 given, 3 unread."
+abbrev pub given : Value → ℤ
+given empty = pos 1
+given (nums v) = pos 2
+given (chars at c) = pos 2
+given (linked n ps) = pos 2
+
+abbrev pub stateOf : Option Value → ℤ
+stateOf none = pos 0
+stateOf (some v) = given v
+
+-- how many places of the record a row has
+abbrev pub columns : Kind → ℕ
+columns (values p ps a) = suc (length ps)
+columns (text n b) = 2
+columns (word n b) = 2
+columns volumeName = 2
+columns sheet = 2
+columns ratio = 2
+columns serials = 2
+columns nothing = 0
+columns (opens i) = 0
+columns (headed i p) = 1
+columns (either i) = 1
+
+-- so many numbers, the missing ones 0
+abbrev pub firstOr0 : List ℤ → ℤ
+firstOr0 [] = pos 0
+firstOr0 (z ∷ zs) = z
+
+abbrev pub others : List ℤ → List ℤ
+others [] = []
+others (z ∷ zs) = zs
+
+abbrev pub padded : ℕ → List ℤ → List ℤ
+padded zero zs = []
+padded (suc n) zs = firstOr0 zs ∷ padded n (others zs)
+
+-- at a row's places its numbers, at its state's place its state; place 0 is nowhere
 abbrev pub putNumbers : ℕ → List ℤ → List ℤ → List ℤ
 putNumbers zero zs t = t
 putNumbers (suc p) zs t = sets t (suc p) zs
@@ -40,27 +76,37 @@ abbrev pub putState : ℕ → ℤ → List ℤ → List ℤ
 putState zero z t = t
 putState (suc q) z t = set t (suc q) z
 
-abbrev pub putRow : Rule → Value → List ℤ → List ℤ
-putRow r v t = putState (r .state) (stateOf v) (putNumbers (r .place) (numbers v) t)
-
 abbrev pub putSlot : Rule → Option Value → List ℤ → List ℤ
-putSlot r none t = t
-putSlot r (some v) t = putRow r v t
+putSlot r o t = putState (r .state) (stateOf o) (putNumbers (r .place) (padded (columns (r .holds)) (numbersOf o)) t)
+
+abbrev pub firstSlot : Slots → Option Value
+firstSlot [] = none
+firstSlot (o ∷ s) = o
+
+abbrev pub otherSlots : Slots → Slots
+otherSlots [] = []
+otherSlots (o ∷ s) = s
 
 abbrev pub putSlots : List Rule → Slots → List ℤ → List ℤ
 putSlots [] s t = t
-putSlots (r ∷ rs) [] t = t
-putSlots (r ∷ rs) (o ∷ s) t = putSlot r o (putSlots rs s t)
+putSlots (r ∷ rs) s t = putSlot r (firstSlot s) (putSlots rs (otherSlots s) t)
+
+-- the rows of a block and of its inner parts, part by part from number p on
+abbrev pub putParts : ℕ → List (List Rule) → Held → List ℤ → List ℤ
+putParts p [] h t = t
+putParts p (r ∷ rs) h t = putSlots r (partOf h p) (putParts (suc p) rs h t)
 
 abbrev pub putHeld : List (List Rule) → Held → List ℤ → List ℤ
-putHeld [] h t = t
-putHeld (r ∷ rs) [] t = t
-putHeld (r ∷ rs) (s ∷ h) t = putSlots r s (putHeld rs h t)
+putHeld ts h t = putParts 0 ts h t
 
 -- "An attribute E_sym allows and the class doesn't know has state 3 and zeros."
+abbrev pub unreadState : ℕ → Bool → List ℤ → List ℤ
+unreadState zero hidden t = t
+unreadState (suc q) hidden t = set t (suc q) (cond hidden (pos 3) (getD t (suc q) (pos 0)))
+
 abbrev pub markUnread : Digits → Digits → List Rule → List ℤ → List ℤ
 markUnread c d [] t = t
-markUnread c d (r ∷ rs) t = cond (hides c d (r .least)) (putState (r .state) (pos 3) (markUnread c d rs t)) (markUnread c d rs t)
+markUnread c d (r ∷ rs) t = unreadState (r .state) (hides c d (r .least)) (markUnread c d rs t)
 
 -- ── the record at its line: "0 kind, 1 owner, 2 volume from 1, 3 line, .. unused 0" ──
 abbrev pub width : ℕ
@@ -83,7 +129,7 @@ drawingRecord d = putSlots drawingTable (d .own) (start 3 0 1 (d .line))
 
 -- "5 layer: letter's byte, number, name": the layers from number n on
 abbrev pub layerRecord : ℕ → Layer → List ℤ
-layerRecord n l = sets (start 5 n 1 (l .line)) 5 (pos (getD (l .id) 0 0) ∷ pos (value (drop 2 (l .id))) ∷ numbers (l .name))
+layerRecord n l = sets (start 5 n 1 (l .line)) 5 (pos (getD (l .id) 0 0) ∷ pos (value (drop 2 (l .id))) ∷ padded 2 (numbers (l .name)))
 
 abbrev pub layerRecords : ℕ → List Layer → List (List ℤ)
 layerRecords n [] = []
@@ -96,12 +142,12 @@ ruleAt t j = getD t j (row "" (opens 0) 0)
 
 -- "10 line, 11 circle, 12 ellipse, 13 point": a figure's row in the table, and 10; 16 for `E_symbol=`
 abbrev pub plainRecord : List Rule → ℕ → ℕ → ℕ → ℕ → ℕ → List Num → List ℤ
-plainRecord t more owner volume line j v = putRow (ruleAt t j) (nums v) (start (10 + more + j) owner volume line)
+plainRecord t more owner volume line j v = putSlot (ruleAt t j) (some (nums v)) (start (10 + more + j) owner volume line)
 
 -- "17 a successive's points", "43 hide point": kind, and the table of points
 abbrev pub pointRecords : ℕ → ℕ → ℕ → List Point → List (List ℤ)
 pointRecords kind owner volume [] = []
-pointRecords kind owner volume (p ∷ ps) = putRow (ruleAt (pointTable true) 0) (nums (p .values)) (start kind owner volume (p .line)) ∷ pointRecords kind owner volume ps
+pointRecords kind owner volume (p ∷ ps) = putSlot (ruleAt (pointTable true) 0) (some (nums (p .values))) (start kind owner volume (p .line)) ∷ pointRecords kind owner volume ps
 
 -- "14 successive (first point's type, point count)"
 abbrev pub firstType : List Point → ℤ
@@ -128,15 +174,15 @@ figureRecords c d t more owner volume (placed n h) = placedRecord c d owner volu
 
 -- ── symbols ──
 -- "4 symbol: name, wall state, x, y"; its figures and hide points follow in the order written
-abbrev pub innerRecords : ℕ → Symbol → List (List ℤ)
-innerRecords n y =
-    let shown = flat (map (figureRecords (digits 0 0) (digits 0 0) figureTable 20 n 1) (y .figures)) in
+abbrev pub innerRecords : Digits → Digits → ℕ → Symbol → List (List ℤ)
+innerRecords c d n y =
+    let shown = flat (map (figureRecords c d figureTable 20 n 1) (y .figures)) in
     let hidden = pointRecords 43 n 1 (y .hidden) in
     cond (y .hideFirst) (hidden ++ shown) (shown ++ hidden)
 
-abbrev pub symbolRecords : ℕ → List Symbol → List (List ℤ)
-symbolRecords n [] = []
-symbolRecords n (y ∷ ys) = putSlots symbolTable (y .own) (start 4 n 1 (y .line)) ∷ innerRecords n y ++ symbolRecords (suc n) ys
+abbrev pub symbolRecords : Digits → Digits → ℕ → List Symbol → List (List ℤ)
+symbolRecords c d n [] = []
+symbolRecords c d n (y ∷ ys) = putSlots symbolTable (y .own) (start 4 n 1 (y .line)) ∷ innerRecords c d n y ++ symbolRecords c d (suc n) ys
 
 -- ── volumes ──
 abbrev pub blockRecords : Digits → Digits → List Rule → ℕ → LayerBlock → List (List ℤ)
@@ -155,7 +201,7 @@ recordsFrom c s [] = []
 recordsFrom c s (v ∷ vs) =
     let d = rangeOf s in
     let t = layerTable (isSingle s) in
-    fileRecords true 1 v ++ (drawingRecord (s .drawing) ∷ layerRecords 0 (s .drawing .layers)) ++ symbolRecords 0 (s .symbols)
+    fileRecords true 1 v ++ (drawingRecord (s .drawing) ∷ layerRecords 0 (s .drawing .layers)) ++ symbolRecords c d 0 (s .symbols)
     ++ bodyRecords c d t 1 v ++ laterRecords c d t 2 vs
 
 -- the records of an accepted set, at a class

@@ -1,0 +1,100 @@
+-- "Places apart" (demand 2): document 01, "Fixed form": "Places, in demand 2, are line numbers and byte places of text."
+-- What is read, with every place made 0.
+use Prim.Native.Nat.{ℕ, zero, suc}
+use mathlib.Core.List.{List, [], _∷_, map}
+use mathlib.Core.Option.{Option, none, some}
+use Rattle.rules.specs.Base.{mapO}
+use Rattle.rules.specs.Lines.{Rest, brace, equals, Form, ignored, wrong, close, eof, keyed}
+use Rattle.rules.specs.Values.{Num, Value, empty, nums, chars, linked}
+use Rattle.rules.specs.Rows.{Slots, Held, Act, stay, entry, begin, shut, refuse}
+use Rattle.rules.specs.Sets.{Point, Figure, plain, chain, lettering, placed, Layer, Drawing, Symbol, LayerBlock, Contents, Set}
+use Rattle.rules.specs.Machine.{Line, Home, inElement, inLayer, State, top, file, drawing, layerNames, defines, symbol, hide, elements, figures, successive, texts, placing, skipping, ended, Outcome, refused, accepted}
+
+-- ── what is kept ──
+abbrev pub bareValue : Value → Value
+bareValue empty = empty
+bareValue (nums v) = nums v
+bareValue (chars at c) = chars 0 c
+bareValue (linked n ps) = linked n ps
+
+abbrev pub bareSlots : Slots → Slots
+bareSlots s = map (mapO bareValue) s
+
+abbrev pub bareHeld : Held → Held
+bareHeld h = map bareSlots h
+
+abbrev pub barePoint : Point → Point
+barePoint p = record { line = 0; values = p .values }
+
+abbrev pub bareFigure : Figure → Figure
+bareFigure (plain n j v) = plain 0 j v
+bareFigure (chain n ps) = chain 0 (map barePoint ps)
+bareFigure (lettering n s) = lettering 0 (bareSlots s)
+bareFigure (placed n h) = placed 0 (bareHeld h)
+
+abbrev pub bareLayer : Layer → Layer
+bareLayer l = record { line = 0; id = l .id; name = bareValue (l .name) }
+
+abbrev pub bareDrawing : Drawing → Drawing
+bareDrawing d = record { line = 0; own = bareSlots (d .own); layers = map bareLayer (d .layers) }
+
+abbrev pub bareSymbol : Symbol → Symbol
+bareSymbol y =
+    record { line = 0; own = bareSlots (y .own); figures = map bareFigure (y .figures); hidden = map barePoint (y .hidden); hideFirst = y .hideFirst }
+
+abbrev pub bareBlock : LayerBlock → LayerBlock
+bareBlock u = record { layer = u .layer; figures = map bareFigure (u .figures) }
+
+abbrev pub bareContents : Contents → Contents
+bareContents v = record { line = 0; file = bareHeld (v .file); blocks = map bareBlock (v .blocks) }
+
+abbrev pub bareSet : Set → Set
+bareSet s =
+    record { drawing = bareDrawing (s .drawing); symbols = map bareSymbol (s .symbols); volumes = map bareContents (s .volumes); now = bareContents (s .now); taken = s .taken }
+
+-- ── the reading ──
+abbrev pub bareRest : Rest → Rest
+bareRest brace = brace
+bareRest (equals at c) = equals 0 c
+
+abbrev pub bareForm : Form → Form
+bareForm ignored = ignored
+bareForm (wrong n) = wrong n
+bareForm close = close
+bareForm eof = eof
+bareForm (keyed k c) = keyed k (bareRest c)
+
+abbrev pub bareLine : Line → Line
+bareLine l = record { volume = 0; line = 0; last = l .last; next = l .next; form = bareForm (l .form) }
+
+abbrev pub bareAct : Act → Act
+bareAct stay = stay
+bareAct (entry j v) = entry j (bareValue v)
+bareAct (begin i j v) = begin i j (bareValue v)
+bareAct shut = shut
+bareAct (refuse n) = refuse n
+
+abbrev pub bareHome : Home → Home
+bareHome (inElement y) = inElement (bareSymbol y)
+bareHome (inLayer k) = inLayer k
+
+abbrev pub bareState : State → State
+bareState (top s k) = top (bareSet s) k
+bareState (file s n h p) = file (bareSet s) 0 (bareHeld h) p
+bareState (drawing s d) = drawing (bareSet s) (bareDrawing d)
+bareState (layerNames s d) = layerNames (bareSet s) (bareDrawing d)
+bareState (defines s b) = defines (bareSet s) b
+bareState (symbol s y) = symbol (bareSet s) (bareSymbol y)
+bareState (hide s y ps) = hide (bareSet s) (bareSymbol y) (map barePoint ps)
+bareState (elements s) = elements (bareSet s)
+bareState (figures s h fs) = figures (bareSet s) (bareHome h) (map bareFigure fs)
+bareState (successive s h fs n ps) = successive (bareSet s) (bareHome h) (map bareFigure fs) 0 (map barePoint ps)
+bareState (texts s h fs n o) = texts (bareSet s) (bareHome h) (map bareFigure fs) 0 (bareSlots o)
+bareState (placing s h fs n o p) = placing (bareSet s) (bareHome h) (map bareFigure fs) 0 (bareHeld o) p
+bareState (skipping s h fs n o d) = skipping (bareSet s) (bareHome h) (map bareFigure fs) 0 (bareHeld o) d
+bareState (ended s) = ended (bareSet s)
+
+-- an outcome with the places made 0
+abbrev pub bareOutcome : Outcome → Outcome
+bareOutcome (refused n v l) = refused n 0 0
+bareOutcome (accepted s) = accepted (bareSet s)
