@@ -90,8 +90,8 @@ bareState (elements s) = elements (bareSet s)
 bareState (figures s h fs) = figures (bareSet s) (bareHome h) (map bareFigure fs)
 bareState (successive s h fs n ps) = successive (bareSet s) (bareHome h) (map bareFigure fs) 0 (map barePoint ps)
 bareState (texts s h fs n o) = texts (bareSet s) (bareHome h) (map bareFigure fs) 0 (bareSlots o)
-bareState (placing s h fs n o p) = placing (bareSet s) (bareHome h) (map bareFigure fs) 0 (bareHeld o) p
-bareState (skipping s h fs n o d) = skipping (bareSet s) (bareHome h) (map bareFigure fs) 0 (bareHeld o) d
+bareState (placing s k fs n o p) = placing (bareSet s) k (map bareFigure fs) 0 (bareHeld o) p
+bareState (skipping s k fs n o d) = skipping (bareSet s) k (map bareFigure fs) 0 (bareHeld o) d
 bareState (ended s) = ended (bareSet s)
 
 -- an outcome with the places made 0

@@ -47,8 +47,8 @@ pub data State : Type 0 where
   figures : Set → Home → List Figure → State  -- `element` or LAYER
   successive : Set → Home → List Figure → ℕ → List Point → State
   texts : Set → Home → List Figure → ℕ → Slots → State
-  placing : Set → Home → List Figure → ℕ → Held → ℕ → State  -- a placed symbol: its line, what it holds, which inner part is open
-  skipping : Set → Home → List Figure → ℕ → Held → ℕ → State  -- in it, how many skipped blocks are open
+  placing : Set → ℕ → List Figure → ℕ → Held → ℕ → State  -- a placed symbol in a layer: its line, what it holds, which inner part is open
+  skipping : Set → ℕ → List Figure → ℕ → Held → ℕ → State  -- in it, how many skipped blocks are open
   ended : Set → State
 
 -- ── what an act does ──
@@ -206,11 +206,16 @@ abbrev pub closeFigures : Set → Home → List Figure → Got State
 closeFigures s (inElement y) fs = unless (not (isNil fs)) 8 (got (symbol s (symbolFigures fs y)))
 closeFigures s (inLayer k) fs = got (elements (withBlock (record { layer = k; figures = fs }) s))
 
+-- "E_symbol: placed symbol, in layers only"
+abbrev pub openPlaced : Env → Line → Set → Home → List Figure → Got State
+openPlaced e l s (inElement y) fs = bad 6
+openPlaced e l s (inLayer k) fs = taking e 1 s λ s′. placing s′ k fs (l .line) (blankHeld placedTables) 0
+
 abbrev pub openFigure : Env → Line → Set → Home → List Figure → ℕ → Got State
 openFigure e l s h fs zero = bad 5
 openFigure e l s h fs (suc zero) = taking e 1 s λ s′. successive s′ h fs (l .line) []
 openFigure e l s h fs (suc (suc zero)) = taking e 1 s λ s′. texts s′ h fs (l .line) (blank (textTable (isLayer h) 4 12))
-openFigure e l s h fs (suc (suc (suc i))) = taking e 1 s λ s′. placing s′ h fs (l .line) (blankHeld placedTables) 0
+openFigure e l s h fs (suc (suc (suc i))) = openPlaced e l s h fs
 
 abbrev pub onFigures : Env → Line → Set → Home → List Figure → Form → Got State
 onFigures e l s h fs f =
@@ -247,7 +252,7 @@ bySkip noForm here inside = bad 5
 abbrev pub skipDeeper : ℕ → State → Got State
 skipDeeper d inside = unless (ltb d mostDepth) 18 (got inside)
 
-abbrev pub onUnknown : Env → Set → Home → List Figure → ℕ → Held → List ℕ → Rest → Got State
+abbrev pub onUnknown : Env → Set → ℕ → List Figure → ℕ → Held → List ℕ → Rest → Got State
 onUnknown e s h fs n o k c =
     cond (exceeds (rangeOf s) (e .class))
     (bySkip (skipOf k c) (got (placing s h fs n o 0)) (skipDeeper 0 (skipping s h fs n o 1)))
@@ -261,16 +266,16 @@ newSerial s fs v = notAny (ownSerial (serialsOf v)) (serialsIn s ++ Rattle.rule
     notAny [] used = true
     notAny (n ∷ ns) used = not (hasNumber n used)
 
-abbrev pub onPlaced : Set → Home → List Figure → ℕ → Held → ℕ → Act → Got State
+abbrev pub onPlaced : Set → ℕ → List Figure → ℕ → Held → ℕ → Act → Got State
 onPlaced s h fs n o p a =
     byAct (placing s h fs n o p)
     (λ j v. unless (newSerial s fs v) 15 (got (placing s h fs n (enter o p j v) p)))
     (λ i j v. got (placing s h fs n (enter o p j v) i))
-    (λ _. shutPart p (got (figures s h (fs ++ placed n o ∷ []))) (λ q. placing s h fs n o q))
+    (λ _. shutPart p (got (figures s (inLayer h) (fs ++ placed n o ∷ []))) (λ q. placing s h fs n o q))
     a
 
 -- a key that the class knows is judged as in any block, in a file of the range E_sym
-abbrev pub onPlacedKey : Env → Set → Home → List Figure → ℕ → Held → List ℕ → Rest → Found → Got State
+abbrev pub onPlacedKey : Env → Set → ℕ → List Figure → ℕ → Held → List ℕ → Rest → Found → Got State
 onPlacedKey e s h fs n o k c absent = onUnknown e s h fs n o k c
 onPlacedKey e s h fs n o k c (found j r) =
     cond (reaches (e .class) (r .least))
@@ -278,7 +283,7 @@ onPlacedKey e s h fs n o k c (found j r) =
     (onUnknown e s h fs n o k c)
 
 -- what the file allows and the class knows is required
-abbrev pub onPlacedOwn : Env → Set → Home → List Figure → ℕ → Held → Form → Got State
+abbrev pub onPlacedOwn : Env → Set → ℕ → List Figure → ℕ → Held → Form → Got State
 onPlacedOwn e s h fs n o ignored = got (placing s h fs n o 0)
 onPlacedOwn e s h fs n o (wrong m) = bad m
 onPlacedOwn e s h fs n o close =
@@ -286,18 +291,18 @@ onPlacedOwn e s h fs n o close =
 onPlacedOwn e s h fs n o eof = bad 9
 onPlacedOwn e s h fs n o (keyed k c) = onPlacedKey e s h fs n o k c (find k placedTable)
 
-abbrev pub onPlacing : Env → Set → Home → List Figure → ℕ → Held → ℕ → Form → Got State
+abbrev pub onPlacing : Env → Set → ℕ → List Figure → ℕ → Held → ℕ → Form → Got State
 onPlacing e s h fs n o zero f = onPlacedOwn e s h fs n o f
 onPlacing e s h fs n o (suc p) f =
     onPlaced s h fs n o (suc p) (act (knownOf s) (getD placedTables (suc p) []) (digits 0 0) (marks (partOf o (suc p))) f)
 
 -- ── skipped blocks: "A skipped opener takes all lines to its own `}`" ──
-abbrev pub skipShut : Set → Home → List Figure → ℕ → Held → ℕ → Got State
+abbrev pub skipShut : Set → ℕ → List Figure → ℕ → Held → ℕ → Got State
 skipShut s h fs n o zero = bad 9
 skipShut s h fs n o (suc zero) = got (placing s h fs n o 0)
 skipShut s h fs n o (suc (suc d)) = got (skipping s h fs n o (suc d))
 
-abbrev pub onSkipping : Set → Home → List Figure → ℕ → Held → ℕ → Form → Got State
+abbrev pub onSkipping : Set → ℕ → List Figure → ℕ → Held → ℕ → Form → Got State
 onSkipping s h fs n o d ignored = got (skipping s h fs n o d)
 onSkipping s h fs n o d (wrong m) = bad m
 onSkipping s h fs n o d close = skipShut s h fs n o d

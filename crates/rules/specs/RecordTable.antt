@@ -9,7 +9,7 @@ use lib.ListN.{length, getD, set, take, drop, replicate}
 use lib.Seq.{sets}
 use Rattle.rules.specs.declared.Digits.{Digits}
 use Rattle.rules.specs.Base.{flat, isNil}
-use Rattle.rules.specs.RangeClass.{hides}
+use Rattle.rules.specs.RangeClass.{digits, hides}
 use Rattle.rules.specs.Numbers.{value}
 use Rattle.rules.specs.Values.{Num, Value, empty, nums, chars, linked, valueAt, Kind, values, text, word, volumeName, sheet, ratio, serials, nothing, opens, headed, either}
 use Rattle.rules.specs.Rows.{Rule, row, Slots, Held, partOf}
@@ -162,27 +162,27 @@ abbrev pub textRecord : ℕ → ℕ → ℕ → ℕ → Slots → List ℤ
 textRecord more owner volume line s = putSlots (textTable true 4 12) s (start (15 + more) owner volume line)
 
 -- "16 placed symbol": at the class c, in a file of the range d
-abbrev pub placedRecord : Digits → Digits → ℕ → ℕ → ℕ → Held → List ℤ
-placedRecord c d owner volume line h = markUnread c d placedTable (putHeld placedTables h (start 16 owner volume line))
+abbrev pub placedRecord : Digits → Digits → ℕ → ℕ → ℕ → ℕ → Held → List ℤ
+placedRecord c d more owner volume line h = markUnread c d placedTable (putHeld placedTables h (start (16 + more) owner volume line))
 
 -- "plus 20 inside a symbol": `more`
 abbrev pub figureRecords : Digits → Digits → List Rule → ℕ → ℕ → ℕ → Figure → List (List ℤ)
 figureRecords c d t more owner volume (plain n j v) = plainRecord t more owner volume n j v ∷ []
 figureRecords c d t more owner volume (chain n ps) = chainRecord more owner volume n ps ∷ pointRecords (17 + more) owner volume ps
 figureRecords c d t more owner volume (lettering n s) = textRecord more owner volume n s ∷ []
-figureRecords c d t more owner volume (placed n h) = placedRecord c d owner volume n h ∷ []
+figureRecords c d t more owner volume (placed n h) = placedRecord c d more owner volume n h ∷ []
 
 -- ── symbols ──
 -- "4 symbol: name, wall state, x, y"; its figures and hide points follow in the order written
-abbrev pub innerRecords : Digits → Digits → ℕ → Symbol → List (List ℤ)
-innerRecords c d n y =
-    let shown = flat (map (figureRecords c d figureTable 20 n 1) (y .figures)) in
+abbrev pub innerRecords : ℕ → Symbol → List (List ℤ)
+innerRecords n y =
+    let shown = flat (map (figureRecords (digits 0 0) (digits 0 0) figureTable 20 n 1) (y .figures)) in
     let hidden = pointRecords 43 n 1 (y .hidden) in
     cond (y .hideFirst) (hidden ++ shown) (shown ++ hidden)
 
-abbrev pub symbolRecords : Digits → Digits → ℕ → List Symbol → List (List ℤ)
-symbolRecords c d n [] = []
-symbolRecords c d n (y ∷ ys) = putSlots symbolTable (y .own) (start 4 n 1 (y .line)) ∷ innerRecords c d n y ++ symbolRecords c d (suc n) ys
+abbrev pub symbolRecords : ℕ → List Symbol → List (List ℤ)
+symbolRecords n [] = []
+symbolRecords n (y ∷ ys) = putSlots symbolTable (y .own) (start 4 n 1 (y .line)) ∷ innerRecords n y ++ symbolRecords (suc n) ys
 
 -- ── volumes ──
 abbrev pub blockRecords : Digits → Digits → List Rule → ℕ → LayerBlock → List (List ℤ)
@@ -201,7 +201,7 @@ recordsFrom c s [] = []
 recordsFrom c s (v ∷ vs) =
     let d = rangeOf s in
     let t = layerTable (isSingle s) in
-    fileRecords true 1 v ++ (drawingRecord (s .drawing) ∷ layerRecords 0 (s .drawing .layers)) ++ symbolRecords c d 0 (s .symbols)
+    fileRecords true 1 v ++ (drawingRecord (s .drawing) ∷ layerRecords 0 (s .drawing .layers)) ++ symbolRecords 0 (s .symbols)
     ++ bodyRecords c d t 1 v ++ laterRecords c d t 2 vs
 
 -- the records of an accepted set, at a class
