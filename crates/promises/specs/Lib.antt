@@ -1,1 +1,2 @@
 pub mod PlacesApart
+pub mod DemandThree

@@ -27,6 +27,10 @@ pub and-false : (b : Bool) → (b && false) ≡ false
 and-false true = refl
 and-false false = refl
 
+pub or-true : (b : Bool) → (b || true) ≡ true
+or-true true = refl
+or-true false = refl
+
 -- a test is not both true and false
 pub clash : {P : Type 0} {b : Bool} → b ≡ true → b ≡ false → P
 clash p q = absurd (true≢false (sym p ∙ q))
@@ -173,6 +177,10 @@ map-append f (a ∷ s) t = ap (λ l. f a ∷ l) (map-append f s t)
 pub map-compose : {A B C : Type 0} (f : B → C) (g : A → B) (s : List A) → map f (map g s) ≡ map (λ a. f (g a)) s
 map-compose f g [] = refl
 map-compose f g (a ∷ s) = ap (λ l. f (g a) ∷ l) (map-compose f g s)
+
+pub nil-map : {A B : Type 0} (f : A → B) (s : List A) → isNil (map f s) ≡ isNil s
+nil-map f [] = refl
+nil-map f (a ∷ s) = refl
 
 -- two functions that agree everywhere
 pub map-agree : {A B : Type 0} (f g : A → B) → ((a : A) → f a ≡ g a) → (s : List A) → map f s ≡ map g s

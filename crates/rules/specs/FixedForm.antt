@@ -83,19 +83,21 @@ abbrev pub block : List ℕ → (Text → Text) → Text → Text
 block key inside ls = openLine key ∷ inside (bytes "}" ∷ ls)
 
 -- ── figures ──
-abbrev pub showPoints : Known → List Point → Text → Text
-showPoints k [] ls = ls
-showPoints k (p ∷ ps) ls = lineOf k (ruleAt (pointTable true) 0) (nums (p .values)) ∷ showPoints k ps ls
+-- the points of a layer, or of a symbol
+abbrev pub showPoints : Known → Bool → List Point → Text → Text
+showPoints k inLayer [] ls = ls
+showPoints k inLayer (p ∷ ps) ls = lineOf k (ruleAt (pointTable inLayer) 0) (nums (p .values)) ∷ showPoints k inLayer ps ls
 
-abbrev pub showFigure : Known → List Rule → Figure → Text → Text
-showFigure k t (plain n j v) ls = lineOf k (ruleAt t j) (nums v) ∷ ls
-showFigure k t (chain n ps) ls = block (bytes "successive") (showPoints k ps) ls
-showFigure k t (lettering n s) ls = block (bytes "text") (showSlots k (textTable true 4 12) s noInner) ls
-showFigure k t (placed n h) ls = block (bytes "E_symbol") (showHeld k placedTables h) ls
+-- a figure of a layer, or of a symbol, with its table of figures
+abbrev pub showFigure : Known → Bool → List Rule → Figure → Text → Text
+showFigure k inLayer t (plain n j v) ls = lineOf k (ruleAt t j) (nums v) ∷ ls
+showFigure k inLayer t (chain n ps) ls = block (bytes "successive") (showPoints k inLayer ps) ls
+showFigure k inLayer t (lettering n s) ls = block (bytes "text") (showSlots k (textTable inLayer 4 12) s noInner) ls
+showFigure k inLayer t (placed n h) ls = block (bytes "E_symbol") (showHeld k placedTables h) ls
 
-abbrev pub showFigures : Known → List Rule → List Figure → Text → Text
-showFigures k t [] ls = ls
-showFigures k t (f ∷ fs) ls = showFigure k t f (showFigures k t fs ls)
+abbrev pub showFigures : Known → Bool → List Rule → List Figure → Text → Text
+showFigures k inLayer t [] ls = ls
+showFigures k inLayer t (f ∷ fs) ls = showFigure k inLayer t f (showFigures k inLayer t fs ls)
 
 -- ── the blocks ──
 -- "LAYER=id:{ figures or none }"; "a symbol's `element` and `hide` stay in the order written"
@@ -108,8 +110,8 @@ showDrawing k d ls = showSlots k drawingTable (d .own) (λ i rest. showLayers k 
 
 abbrev pub symbolInner : Known → Symbol → ℕ → Text → Text
 symbolInner k y zero ls = ls
-symbolInner k y (suc zero) ls = showFigures k figureTable (y .figures) ls
-symbolInner k y (suc (suc i)) ls = showPoints k (y .hidden) ls
+symbolInner k y (suc zero) ls = showFigures k false figureTable (y .figures) ls
+symbolInner k y (suc (suc i)) ls = showPoints k false (y .hidden) ls
 
 -- the second and third of a list exchanged
 abbrev pub exchanged : {A : Type 0} → Bool → List A → List A
@@ -133,7 +135,7 @@ showDefines k ys ls = cond (isNil ys) (bytes "NON=" ∷ ls) (showSymbols k ys ls
 abbrev pub showBlocks : Known → List Rule → List LayerBlock → Text → Text
 showBlocks k t [] ls = ls
 showBlocks k t (u ∷ us) ls =
-    (bytes "LAYER=" ++ openLine (getD (k .layers) (u .layer) [])) ∷ showFigures k t (u .figures) (bytes "}" ∷ showBlocks k t us ls)
+    (bytes "LAYER=" ++ openLine (getD (k .layers) (u .layer) [])) ∷ showFigures k true t (u .figures) (bytes "}" ∷ showBlocks k t us ls)
 
 -- ── the volumes: "Same volumes, names and record order" ──
 abbrev pub showFirst : Known → List Rule → Set → Contents → Text → Text

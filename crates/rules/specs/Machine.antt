@@ -6,7 +6,7 @@ use mathlib.Core.Option.{Option, none, some}
 use lib.Dec.{eqb, leb, ltb}
 use lib.ListN.{length, getD, set}
 use Rattle.rules.specs.declared.Digits.{Digits}
-use Rattle.rules.specs.Base.{isNil, isNone, same, among, hasNumber}
+use Rattle.rules.specs.Base.{isNil, isNone, same, among, hasNumber, flat}
 use Rattle.rules.specs.RefusalNumbers.{Got, got, bad, unless, mapG, andThen, also}
 use Rattle.rules.specs.Lines.{Rest, brace, equals, Form, ignored, wrong, close, eof, keyed, freeShapeOf, Shape, opener, noContent, content, opening, formless, shapeOf, hasForm}
 use Rattle.rules.specs.RangeClass.{digits, digitsOf, reaches, exceeds, both, Skip, passes, deeper, noForm, skipOf, mostDepth}
@@ -259,12 +259,12 @@ onUnknown e s h fs n o k c =
     (byAct (placing s h fs n o 0) (λ j v. bad 6) (λ i j v. bad 6) (λ _. bad 6) (actUnknown c))
 
 -- "Own numbers differ as numbers over the set" (15)
+abbrev pub noneOf : List ℕ → List ℕ → Bool
+noneOf [] used = true
+noneOf (n ∷ ns) used = not (hasNumber n used) && noneOf ns used
+
 abbrev pub newSerial : Set → List Figure → Value → Bool
-newSerial s fs v = notAny (ownSerial (serialsOf v)) (serialsIn s ++ Rattle.rules.specs.Base.flat (map figureSerial fs))
-  where
-    notAny : List ℕ → List ℕ → Bool
-    notAny [] used = true
-    notAny (n ∷ ns) used = not (hasNumber n used)
+newSerial s fs v = noneOf (ownSerial (serialsOf v)) (serialsIn s ++ flat (map figureSerial fs))
 
 abbrev pub onPlaced : Set → ℕ → List Figure → ℕ → Held → ℕ → Act → Got State
 onPlaced s h fs n o p a =

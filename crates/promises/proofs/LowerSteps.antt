@@ -1,0 +1,185 @@
+-- One line at two classes: what the higher accepts the lower accepts, with the same state but for what it leaves out.
+use Prim.Native.Nat.{ℕ, zero, suc, _+_, _-_, min, _≤_, _<_}
+use mathlib.Core.Bool.{Bool, true, false, cond, _&&_, _||_, not}
+use mathlib.Core.List.{List, [], _∷_, _++_, map}
+use mathlib.Core.Option.{Option, none, some}
+use mathlib.Core.Path.{_≡_, refl, sym, _∙_, ap, ap₂}
+use native.Mathlib.Omega.{arith}
+use lib.Dec.{eqb, leb, ltb}
+use lib.ListN.{length, getD, set, List·getD-map}
+use borrow.Author.Tests.{le-leb, lt-leb, lt-ltb, le-ltb, not-true, leb-true, leb-false, ltb-true, ltb-false}
+use Rattle.rules.specs.declared.Digits.{Digits}
+use Rattle.rules.specs.Base.{bytes, same, isNil, isNone, isSome, all, total, flat, hasNumber, among}
+use Rattle.rules.specs.RefusalNumbers.{Got, got, bad, unless, mapG, andThen, also}
+use Rattle.rules.specs.Lines.{Rest, brace, equals, Form, ignored, wrong, close, eof, keyed, Shape, opener, noContent, content, opening, formless, shapeOf, freeShapeOf, hasForm}
+use Rattle.rules.specs.RangeClass.{digits, digitsOf, reaches, exceeds, both, hides, Skip, passes, deeper, noForm, skipShape, skipOf, mostDepth}
+use Rattle.rules.specs.Values.{Num, Value, empty, nums, chars, linked, Known, Kind, values, text, word, volumeName, sheet, ratio, serials, nothing, opens, headed, either, isFree, readKind, serialsOf, numsOf, amountAt}
+use Rattle.rules.specs.Rows.{Rule, Found, absent, found, find, Slots, blank, Held, partOf, enter, marks, fits, shapeFor, Act, stay, entry, begin, shut, refuse, orRefuse, innerOf, readShape, notTwice, actRow, actUnknown, actFound, present, complete, act, fullAt}
+use Rattle.rules.specs.Blocks.{topTable, fileTables, around, blankHeld, drawingTable, symbolTable, definesTable, elementTable}
+use Rattle.rules.specs.Figures.{placedTable, placedTables, textTable, pointTable, layerTable, figureTable}
+use Rattle.rules.specs.Sets.{Point, Figure, plain, chain, lettering, placed, Layer, Drawing, Symbol, LayerBlock, Contents, Set, withNow, withDrawing, withSymbol, withVolume, withRecords, withBlock, headOr, firstContents, isFirst, rangeOf, knownOf, ownSerial, figureSerial, serialsOfBlock, serialsOfVolume, serialsIn, elementsOf, usedIn}
+use Rattle.rules.specs.VolumesAndTotals.{chained, dated, countedHere, countedAll, layersUsed}
+use Rattle.rules.specs.Machine.{Line, Env, Home, inElement, inLayer, State, top, file, drawing, layerNames, defines, symbol, hide, elements, figures, successive, texts, placing, skipping, ended, byAct, roomFor, taking, openTop, atEof, onTop, closeFile, shutPart, onFile, onDrawing, layerLine, onLayerNames, onDefines, openSymbol, onSymbol, pointAt, onHide, onElements, isLayer, homeTable, closeFigures, openPlaced, openFigure, onFigures, onSuccessive, onTexts, bySkip, skipDeeper, onUnknown, newSerial, onPlaced, onPlacedKey, onPlacedOwn, onPlacing, skipShut, onSkipping, stepIn, inElements, afterElements, isIgnored, isClose, isEof, completes, nextVolume, step}
+use Rattle.rules.proofs.Chains.{and-left, and-right, and-true, clash, by-cond, cond-same, same-eq, never, unless-got, map-got, then-got, map-unless, map-then, map-append, map-compose, map-agree, nil-map, through}
+use Rattle.rules.proofs.Rows.{Row, here, there, found-row, row-all}
+use Rattle.promises.specs.DemandThree.{NotAbove}
+use Rattle.promises.proofs.Lower.{reaches-up, exceeds-down, hides-up, known-shows, unknown-hides, unknown-exceeds, maskSlots, wiped, textLeast, innerPart, lowerHeld, lowerFigure, lowerFigures, lowerBlock, lowerContents, lowerIn, lowerSet, lowerSoFar, depthIn, lowerPlacing, lower, mask-slot, mask-in, mask-out, mask-blank, part-own, part-inner, enter-own, enter-hidden, enter-inner, enter-wiped, lower-blank, file-same, first-same, files-same, elements-same, totals-same, used-same, all-used-same}
+
+-- a function moved through an act
+pub map-act : (g : State → State) (st : State) (en : ℕ → Value → Got State) (op : ℕ → ℕ → Value → Got State) (cl : Unit {0} → Got State) (a : Act)
+    → mapG g (byAct st en op cl a) ≡ byAct (g st) (λ j v. mapG g (en j v)) (λ i j v. mapG g (op i j v)) (λ u. mapG g (cl u)) a
+map-act g st en op cl stay = refl
+map-act g st en op cl (entry j v) = refl
+map-act g st en op cl (begin i j v) = refl
+map-act g st en op cl shut = refl
+map-act g st en op cl (refuse n) = refl
+
+-- ── the set, where one thing of it changes ──
+module _ (c : Digits) where
+  pub range-same : (s : Set) → rangeOf (lowerSet c s) ≡ rangeOf s
+  range-same s = simp (file-same c (rangeOf s) (s .now) (s .volumes))
+
+  pub dated-same : (d : Digits) (s : Set) (b : Bool) (h : Held) → dated (lowerIn c d s) b h ≡ dated s b h
+  dated-same d s true h = refl
+  dated-same d s false h = simp (file-same c d (s .now) (s .volumes))
+
+  -- a new volume at hand, with no layer yet
+  pub now-same : (s : Set) (n : ℕ) (h : Held) → withNow (record { line = n; file = h; blocks = [] }) (lowerSet c s) ≡ lowerSet c (withNow (record { line = n; file = h; blocks = [] }) s)
+  now-same s n h = go (s .volumes)
+    where
+      go : (vs : List Contents) → withNow (record { line = n; file = h; blocks = [] }) (lowerSet c (record { drawing = s .drawing; symbols = s .symbols; volumes = vs; now = s .now; taken = s .taken }))
+          ≡ lowerSet c (withNow (record { line = n; file = h; blocks = [] }) (record { drawing = s .drawing; symbols = s .symbols; volumes = vs; now = s .now; taken = s .taken }))
+      go [] = refl
+      go (u ∷ us) = refl
+
+  -- the first volume's file, where the volume at hand is closed, or has one layer more
+  first-kept : (v : Contents) (vs : List Contents) → headOr v (vs ++ v ∷ []) ≡ headOr v vs
+  first-kept v [] = refl
+  first-kept v (u ∷ us) = refl
+
+  first-file : (v w : Contents) (vs : List Contents) → v .file ≡ w .file → headOr v vs .file ≡ headOr w vs .file
+  first-file v w [] e = e
+  first-file v w (u ∷ us) e = refl
+
+  pub volume-same : (s : Set) → withVolume (lowerSet c s) ≡ lowerSet c (withVolume s)
+  volume-same s = simp (first-kept (s .now) (s .volumes), map-append)
+
+  pub block-same : (s : Set) (k : ℕ) (fs : List Figure)
+      → withBlock (record { layer = k; figures = lowerFigures c (rangeOf s) fs }) (lowerSet c s) ≡ lowerSet c (withBlock (record { layer = k; figures = fs }) s)
+  block-same s k fs =
+      simp (first-file (record { line = s .now .line; file = s .now .file; blocks = s .now .blocks ++ record { layer = k; figures = fs } ∷ [] }) (s .now) (s .volumes) refl, map-append)
+
+  soFar-one : (d : Digits) (h : Home) (fs : List Figure) (f : Figure) → lowerFigure c d f ≡ f → lowerSoFar c d h (fs ++ f ∷ []) ≡ lowerSoFar c d h fs ++ f ∷ []
+  soFar-one d (inElement y) fs f e = refl
+  soFar-one d (inLayer k) fs f e = map-append (lowerFigure c d) fs (f ∷ []) ∙ ap (λ g. lowerFigures c d fs ++ g ∷ []) e
+
+-- ── steps that do not look at the class ──
+module _ (low high : Digits) (m : Option ℕ) where
+  abbrev lo : Env
+  lo = record { class = low; limit = m }
+
+  abbrev hi : Env
+  hi = record { class = high; limit = m }
+
+  sim-eof : (l : Line) (s : Set) (k : ℕ) → atEof l (lowerSet low s) k ≡ mapG (lower low) (atEof l s k)
+  sim-eof l s k = simp (through, file-same, totals-same, all-used-same)
+
+  sim-openTop : (l : Line) (s : Set) (j : ℕ) → openTop lo l (lowerSet low s) j ≡ mapG (lower low) (openTop hi l s j)
+  sim-openTop l s zero = simp (through, nil-map)
+  sim-openTop l s (suc zero) = simp through
+  sim-openTop l s (suc (suc zero)) = refl
+  sim-openTop l s (suc (suc (suc j))) = refl
+
+  sim-top : (l : Line) (s : Set) (k : ℕ) (f : Form) → onTop lo l (lowerSet low s) k f ≡ mapG (lower low) (onTop hi l s k f)
+  sim-top l s k ignored = refl
+  sim-top l s k (wrong n) = refl
+  sim-top l s k close = refl
+  sim-top l s k eof = sim-eof l s k
+  sim-top l s k (keyed key x) = simp (through, map-act, sim-openTop)
+
+  sim-file : (l : Line) (s : Set) (n : ℕ) (h : Held) (p : ℕ) (f : Form) → onFile l (lowerSet low s) n h p f ≡ mapG (lower low) (onFile l s n h p f)
+  sim-file l s n h p f = simp (map-act, sim-shut p) (simp nil-map)
+    where
+      sim-close : closeFile l (lowerSet low s) n h ≡ mapG (lower low) (closeFile l s n h)
+      sim-close = simp (through, nil-map, dated-same, now-same)
+
+      sim-shut : (p : ℕ) → shutPart p (closeFile l (lowerSet low s) n h) (λ q. file (lowerSet low s) n h q) ≡ mapG (lower low) (shutPart p (closeFile l s n h) (λ q. file s n h q))
+      sim-shut zero = sim-close
+      sim-shut (suc p) = refl
+
+  sim-drawing : (s : Set) (d : Drawing) (f : Form) → onDrawing (lowerSet low s) d f ≡ mapG (lower low) (onDrawing s d f)
+  sim-drawing s d f = simp (through, map-act, file-same)
+
+  sim-layerNames : (l : Line) (s : Set) (d : Drawing) (f : Form) → onLayerNames lo l (lowerSet low s) d f ≡ mapG (lower low) (onLayerNames hi l s d f)
+  sim-layerNames l s d ignored = refl
+  sim-layerNames l s d (wrong n) = refl
+  sim-layerNames l s d close = refl
+  sim-layerNames l s d eof = refl
+  sim-layerNames l s d (keyed k x) = simp through
+
+  sim-defines : (l : Line) (s : Set) (b : Bool) (f : Form) → onDefines lo l (lowerSet low s) b f ≡ mapG (lower low) (onDefines hi l s b f)
+  sim-defines l s b f = simp (through, map-act, file-same)
+
+  sim-openSymbol : (s : Set) (y : Symbol) (i : ℕ) → openSymbol (lowerSet low s) y i ≡ mapG (lower low) (openSymbol s y i)
+  sim-openSymbol s y zero = refl
+  sim-openSymbol s y (suc zero) = refl
+  sim-openSymbol s y (suc (suc i)) = refl
+
+  sim-symbol : (s : Set) (y : Symbol) (f : Form) → onSymbol (lowerSet low s) y f ≡ mapG (lower low) (onSymbol s y f)
+  sim-symbol s y f = simp (through, map-act, file-same, sim-openSymbol)
+
+  sim-hide : (l : Line) (s : Set) (y : Symbol) (ps : List Point) (f : Form) → onHide lo l (lowerSet low s) y ps f ≡ mapG (lower low) (onHide hi l s y ps f)
+  sim-hide l s y ps f = simp (through, map-act)
+
+  sim-elements : (s : Set) (f : Form) → onElements (lowerSet low s) f ≡ mapG (lower low) (onElements s f)
+  sim-elements s f = simp (through, map-act, nil-map, elements-same, used-same, volume-same)
+
+  sim-closeFigures : (s : Set) (h : Home) (fs : List Figure) → closeFigures (lowerSet low s) h (lowerSoFar low (rangeOf s) h fs) ≡ mapG (lower low) (closeFigures s h fs)
+  sim-closeFigures s (inElement y) fs = simp through
+  sim-closeFigures s (inLayer k) fs = simp (through, block-same)
+
+  sim-openFigure : (l : Line) (s : Set) (h : Home) (fs : List Figure) (i : ℕ)
+      → openFigure lo l (lowerSet low s) h (lowerSoFar low (rangeOf s) h fs) i ≡ mapG (lower low) (openFigure hi l s h fs i)
+  sim-openFigure l s h fs zero = refl
+  sim-openFigure l s h fs (suc zero) = simp through
+  sim-openFigure l s h fs (suc (suc zero)) = simp through
+  sim-openFigure l s (inElement y) fs (suc (suc (suc i))) = refl
+  sim-openFigure l s (inLayer k) fs (suc (suc (suc i))) = simp (through, lower-blank)
+
+  table-same : (s : Set) (h : Home) → homeTable (lowerSet low s) h ≡ homeTable s h
+  table-same s (inElement y) = refl
+  table-same s (inLayer k) = simp file-same
+
+  sim-figures : (l : Line) (s : Set) (h : Home) (fs : List Figure) (f : Form)
+      → onFigures lo l (lowerSet low s) h (lowerSoFar low (rangeOf s) h fs) f ≡ mapG (lower low) (onFigures hi l s h fs f)
+  sim-figures l s h fs f = simp (through, map-act, table-same, file-same, sim-openFigure, sim-closeFigures, soFar-plain)
+    where
+      soFar-plain : (d : Digits) (n j : ℕ) (v : List Num) → lowerSoFar low d h (fs ++ plain n j v ∷ []) ≡ lowerSoFar low d h fs ++ plain n j v ∷ []
+      soFar-plain d n j v = soFar-one low d h fs (plain n j v) refl
+
+  sim-successive : (l : Line) (s : Set) (h : Home) (fs : List Figure) (n : ℕ) (ps : List Point) (f : Form)
+      → onSuccessive lo l (lowerSet low s) h (lowerSoFar low (rangeOf s) h fs) n ps f ≡ mapG (lower low) (onSuccessive hi l s h fs n ps f)
+  sim-successive l s h fs n ps f = simp (through, map-act, soFar-one low (rangeOf s) h fs (chain n ps) refl)
+
+  sim-texts : (s : Set) (h : Home) (fs : List Figure) (n : ℕ) (o : Slots) (f : Form)
+      → onTexts (lowerSet low s) h (lowerSoFar low (rangeOf s) h fs) n o f ≡ mapG (lower low) (onTexts s h fs n o f)
+  sim-texts s h fs n o f = simp (through, map-act, soFar-one low (rangeOf s) h fs (lettering n o) refl)
+
+  map-skip : (g : State → State) (z : Skip) (a b : Got State) → mapG g (bySkip z a b) ≡ bySkip z (mapG g a) (mapG g b)
+  map-skip g passes a b = refl
+  map-skip g deeper a b = refl
+  map-skip g noForm a b = refl
+
+  sim-skipShut : (s : Set) (k : ℕ) (fs : List Figure) (n : ℕ) (o : Held) (d : ℕ)
+      → skipShut (lowerSet low s) k (lowerFigures low (rangeOf s) fs) n (lowerHeld low (rangeOf s) o) d ≡ mapG (lower low) (skipShut s k fs n o d)
+  sim-skipShut s k fs n o zero = refl
+  sim-skipShut s k fs n o (suc zero) = refl
+  sim-skipShut s k fs n o (suc (suc d)) = refl
+
+  sim-skipping : (s : Set) (k : ℕ) (fs : List Figure) (n : ℕ) (o : Held) (d : ℕ) (f : Form)
+      → onSkipping (lowerSet low s) k (lowerFigures low (rangeOf s) fs) n (lowerHeld low (rangeOf s) o) d f ≡ mapG (lower low) (onSkipping s k fs n o d f)
+  sim-skipping s k fs n o d ignored = refl
+  sim-skipping s k fs n o d (wrong m) = refl
+  sim-skipping s k fs n o d close = sim-skipShut s k fs n o d
+  sim-skipping s k fs n o d eof = refl
+  sim-skipping s k fs n o d (keyed key x) = simp (through, map-skip)

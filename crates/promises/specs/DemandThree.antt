@@ -1,0 +1,93 @@
+-- Demand 3, its words: of two front ends, one class not above the other in either digit, same spool, tables of equal length. "If the
+-- higher accepts, the lower accepts with the same records, except that attributes the file's range allows and the lower doesn't know
+-- are marked unread. If the lower refuses, the higher refuses too, at the same line or before it."
+use Prim.Native.Nat.{ℕ, _≤_, _<_}
+use mathlib.Core.Bool.{Bool, true, false, cond, _&&_, _||_}
+use mathlib.Core.List.{List, [], _∷_, map}
+use mathlib.Core.Option.{Option, none, some}
+use mathlib.Core.Path.{_≡_}
+use lib.Dec.{eqb, leb, ltb}
+use lib.IntN.{ℤ, pos, negsuc}
+use lib.ListN.{getD, set}
+use Rattle.rules.specs.declared.Digits.{Digits}
+use Rattle.rules.specs.declared.Refusal.{Refusal}
+use Rattle.rules.specs.declared.Answer.{Answer}
+use Rattle.rules.specs.declared.Answer.the-variants.{Accepted, Refused}
+use Rattle.rules.specs.RangeClass.{digits, classOf, hides}
+use Rattle.rules.specs.Sets.{Set, rangeOf}
+use Rattle.rules.specs.Machine.{Outcome, accepted}
+use Rattle.rules.specs.Answers.{readOutcome, readAnswer, readRecords}
+
+-- ── classes ──
+-- one class not above the other in either digit
+pub record NotAbove (low high : Digits) : Type 0 where
+  pub middles : low .middle ≤ high .middle
+  pub lasts : low .last ≤ high .last
+
+-- two listed classes, by their numbers
+pub record Classes (lo hi : ℕ) (low high : Digits) : Type 0 where
+  pub lower : classOf lo ≡ some low
+  pub higher : classOf hi ≡ some high
+  pub below : NotAbove low high
+
+-- ── what may differ in a record, and what it is instead ──
+-- an attribute of a placed symbol (kind 16): the digits from which on it is known, its places in the record, its state's place
+pub record Attribute : Type 0 where
+  pub least : Digits
+  pub places : List ℕ
+  pub state : ℕ
+
+abbrev pub attribute : Digits → List ℕ → ℕ → Attribute
+attribute l ps q = record { least = l; places = ps; state = q }
+
+abbrev pub attributes : List Attribute
+attributes =
+    attribute (digits 0 2) (16 ∷ 17 ∷ 18 ∷ 19 ∷ 20 ∷ 21 ∷ 22 ∷ 23 ∷ 24 ∷ 25 ∷ []) 26  -- text
+    ∷ attribute (digits 0 3) (10 ∷ []) 27  -- hight
+    ∷ attribute (digits 0 4) (11 ∷ []) 28  -- pos
+    ∷ attribute (digits 0 5) (12 ∷ 13 ∷ []) 29  -- circuit
+    ∷ attribute (digits 1 0) (14 ∷ 15 ∷ []) 30  -- serial
+    ∷ []
+
+abbrev pub instead : Bool → ℤ → ℤ → ℤ
+instead unknown other z = cond unknown other z
+
+abbrev pub zeroAt : Bool → List ℕ → List ℤ → List ℤ
+zeroAt unknown [] r = r
+zeroAt unknown (p ∷ ps) r = set (zeroAt unknown ps r) p (instead unknown (pos 0) (getD r p (pos 0)))
+
+-- an attribute that the file's range d allows and the class doesn't know: zeros, and state 3
+abbrev pub unreadOne : Bool → Attribute → List ℤ → List ℤ
+unreadOne unknown a r = set (zeroAt unknown (a .places) r) (a .state) (instead unknown (pos 3) (getD r (a .state) (pos 0)))
+
+abbrev pub unreadEach : Digits → Digits → List Attribute → List ℤ → List ℤ
+unreadEach c d [] r = r
+unreadEach c d (a ∷ as′) r = unreadOne (hides c d (a .least)) a (unreadEach c d as′ r)
+
+abbrev pub isPlaced : List ℤ → Bool
+isPlaced [] = false
+isPlaced (pos k ∷ r) = eqb k 16
+isPlaced (negsuc k ∷ r) = false
+
+-- a record of a higher class as the class c has it, in a file of the range d
+abbrev pub unread : Digits → Digits → List ℤ → List ℤ
+unread c d r = cond (isPlaced r) (unreadEach c d attributes r) r
+
+-- ── the two halves ──
+-- "if the higher accepts, the lower accepts with the same records, except .."
+abbrev pub LowerAccepts : Type 0
+LowerAccepts =
+    (lo hi : ℕ) (low high : Digits) → Classes lo hi low high
+    → (len : ℕ) (spool : List ℕ) (set : Set) → readOutcome hi len spool ≡ accepted set
+    → (readAnswer lo len spool ≡ readAnswer hi len spool) × (readRecords lo len spool ≡ map (unread low (rangeOf set)) (readRecords hi len spool))
+
+-- a place in the set is at or before another
+abbrev pub atOrBefore : Refusal → Refusal → Bool
+atOrBefore q r = ltb (q .volume) (r .volume) || (eqb (q .volume) (r .volume) && leb (q .line) (r .line))
+
+-- "If the lower refuses, the higher refuses too, at the same line or before it."
+abbrev pub HigherRefuses : Type 0
+HigherRefuses =
+    (lo hi : ℕ) (low high : Digits) → Classes lo hi low high
+    → (len : ℕ) (spool : List ℕ) (r : Refusal) → readAnswer lo len spool ≡ Refused r
+    → (q : Refusal) × (readAnswer hi len spool ≡ Refused q) × (atOrBefore q r ≡ true)
