@@ -1,0 +1,231 @@
+-- What is true of everything that was read at class 15: each line that the fixed form writes of it reads as the same again.
+use Prim.Native.Nat.{ℕ, zero, suc, _+_, _≤_}
+use mathlib.Core.Bool.{Bool, true, false, cond, _&&_, _||_, not}
+use mathlib.Core.List.{List, [], _∷_, _++_, map}
+use mathlib.Core.Option.{Option, none, some}
+use mathlib.Core.Path.{_≡_}
+use lib.Dec.{eqb, leb}
+use lib.ListN.{length, getD}
+use Rattle.rules.specs.declared.Digits.{Digits}
+use Rattle.rules.specs.Base.{isNil, isSome, among, hasNumber, flat, indexOf}
+use Rattle.rules.specs.RefusalNumbers.{Got, got}
+use Rattle.rules.specs.Lines.{allowed, Rest, brace, equals, Form, keyed, formOf, freeShapeOf}
+use Rattle.rules.specs.RangeClass.{digits, digitsOf, reaches, both}
+use Rattle.rules.specs.Values.{Num, Value, empty, nums, chars, linked, Known, isLayerId, charsOf, amountAt}
+use Rattle.rules.specs.Rows.{Rule, Slots, blank, Held, partOf, numberOf, marks, complete, Act, entry, begin, innerOf, actRow}
+use Rattle.rules.specs.Blocks.{fileTable, rangeTable, baseTable, elecTable, symTable, laterTable, drawingTable, mostLayers, symbolTable}
+use Rattle.rules.specs.Figures.{layerTable, figureTable, mostPoints, leastPoints, pointTable, textTable, placedTable}
+use Rattle.rules.specs.Sets.{Point, Figure, plain, chain, lettering, placed, Layer, Drawing, Symbol, LayerBlock, Contents, Set, arcOf, rangeOf, defineRange, isSingle, symbolNameOf, knownOf, figureSerial, serialsOfVolume, elementsOf, usedIn}
+use Rattle.rules.specs.VolumesAndTotals.{ownTable, chained, dated, countedAll, layersUsed}
+use Rattle.rules.specs.Machine.{layerValue}
+use Rattle.rules.specs.FixedForm.{opensBlock, behind, lineOf}
+use Rattle.rules.specs.Answers.{fullClass}
+use Rattle.rules.specs.RecordTable.{ruleAt}
+use Rattle.rules.proofs.Rows.{Row}
+use Rattle.promises.specs.PlacesApart.{bareValue, bareForm}
+
+-- ── one row ──
+-- what stands behind the key of a written line
+abbrev pub restIn : List ℕ → Rest
+restIn [] = brace
+restIn (b ∷ c) = cond (eqb b 61) (equals 0 c) brace
+
+abbrev pub restOf : Known → Rule → Value → Rest
+restOf k r v = restIn (behind k (r .holds) v)
+
+-- what the written line of row j does where it is read
+abbrev pub writtenAct : ℕ → Rule → Value → Act
+writtenAct j r v = cond (opensBlock (r .holds) v) (begin (innerOf (r .holds)) j (bareValue v)) (entry j (bareValue v))
+
+-- the line written of v under the row r has its form, its bytes are allowed, and it reads as v again
+pub record GoodRow (k : Known) (d : Digits) (r : Rule) (v : Value) : Type 0 where
+  pub level : reaches d (r .least) ≡ true
+  pub form : (at : ℕ) → bareForm (formOf at (lineOf k r v)) ≡ keyed (r .key) (restOf k r v)
+  pub again : (j : ℕ) → actRow k d false j r (restOf k r v) ≡ writtenAct j r v
+  pub okay : allowed (lineOf k r v) ≡ true
+  pub short : leb (length (lineOf k r v)) 512 ≡ true
+
+-- of rows that name neither symbols nor layers it holds whatever is known
+abbrev pub Always : Digits → Rule → Value → Type 0
+Always d r v = (k : Known) → GoodRow k d r v
+
+-- ── slots ──
+abbrev pub GoodSlots : (Rule → Value → Type 0) → List Rule → Slots → Type 0
+GoodSlots P [] [] = Unit {0}
+GoodSlots P [] (o ∷ s) = ⊥
+GoodSlots P (r ∷ t) [] = ⊥
+GoodSlots P (r ∷ t) (none ∷ s) = GoodSlots P t s
+GoodSlots P (r ∷ t) (some v ∷ s) = P r v × GoodSlots P t s
+
+-- a closed block of the table t: its slots are good, and nothing required at d is missing
+pub record Closed (P : Rule → Value → Type 0) (d : Digits) (t : List Rule) (s : Slots) : Type 0 where
+  pub good : GoodSlots P t s
+  pub all : complete d t (marks s) ≡ true
+
+-- an inner part: closed where it was opened, blank where not
+abbrev pub GoodPart : Bool → (Rule → Value → Type 0) → Digits → List Rule → Slots → Type 0
+GoodPart true P d t s = Closed P d t s
+GoodPart false P d t s = s ≡ blank t
+
+abbrev pub none0 : Digits
+none0 = digits 0 0
+
+-- ── FILE_FORMAT ──
+abbrev pub isOne : Option Value → Bool
+isOne none = false
+isOne (some v) = eqb (amountAt v 0) 1
+
+pub record GoodFile (h : Held) : Type 0 where
+  pub own : Slots
+  pub range : Slots
+  pub base : Slots
+  pub elec : Slots
+  pub sym : Slots
+  pub is : h ≡ own ∷ range ∷ base ∷ elec ∷ sym ∷ []
+  pub own-good : Closed (Always none0) none0 fileTable own
+  pub range-good : Closed (Always none0) none0 rangeTable range
+  pub base-good : Closed (Always none0) none0 baseTable base
+  pub elec-good : GoodPart (isOne (getD range 2 none)) (Always none0) none0 elecTable elec
+  pub sym-good : GoodPart (isOne (getD range 5 none)) (Always none0) none0 symTable sym
+
+pub record GoodLater (h : Held) : Type 0 where
+  pub own : Slots
+  pub is : h ≡ own ∷ []
+  pub own-good : Closed (Always none0) none0 laterTable own
+
+-- ── figures ──
+abbrev pub GoodPoints : Bool → List Point → Type 0
+GoodPoints b [] = Unit {0}
+GoodPoints b (p ∷ ps) = Always none0 (ruleAt (pointTable b) 0) (nums (p .values)) × GoodPoints b ps
+
+pub record GoodPlaced (k : Known) (d : Digits) (h : Held) : Type 0 where
+  pub own : Slots
+  pub text : Slots
+  pub is : h ≡ own ∷ text ∷ []
+  pub own-good : Closed (GoodRow k d) (both fullClass d) placedTable own
+  pub text-good : GoodPart (isSome (getD own 1 none)) (Always none0) none0 (textTable true 16 24) text
+
+-- a line of row j of a table
+pub record GoodLine (P : Rule → Value → Type 0) (t : List Rule) (j : ℕ) (v : List Num) : Type 0 where
+  pub rule : Rule
+  pub row : Row t j rule
+  pub good : P rule (nums v)
+
+pub record GoodChain (b : Bool) (ps : List Point) : Type 0 where
+  pub points : GoodPoints b ps
+  pub least : leb leastPoints (length ps) ≡ true
+  pub most : leb (length ps) mostPoints ≡ true
+
+abbrev pub GoodText : Bool → Slots → Type 0
+GoodText b s = Closed (Always none0) none0 (textTable b 4 12) s
+
+-- a figure of a layer
+abbrev pub GoodFigure : Known → Digits → Bool → Figure → Type 0
+GoodFigure k d single (plain n j v) = GoodLine (GoodRow k d) (layerTable single) j v
+GoodFigure k d single (chain n ps) = GoodChain true ps
+GoodFigure k d single (lettering n s) = GoodText true s
+GoodFigure k d single (placed n h) = GoodPlaced k d h × (single ≡ false) × (reaches d (digits 0 1) ≡ true)
+
+abbrev pub GoodFigures : Known → Digits → Bool → List Figure → Type 0
+GoodFigures k d single [] = Unit {0}
+GoodFigures k d single (f ∷ fs) = GoodFigure k d single f × GoodFigures k d single fs
+
+-- a figure of a symbol's element
+abbrev pub GoodShape : Digits → Figure → Type 0
+GoodShape d (plain n j v) = GoodLine (Always d) figureTable j v
+GoodShape d (chain n ps) = GoodChain false ps
+GoodShape d (lettering n s) = GoodText false s
+GoodShape d (placed n h) = ⊥
+
+abbrev pub GoodShapes : Digits → List Figure → Type 0
+GoodShapes d [] = Unit {0}
+GoodShapes d (f ∷ fs) = GoodShape d f × GoodShapes d fs
+
+-- ── the drawing ──
+-- no byte string stands in the list that was there before
+abbrev pub fresh : List (List ℕ) → List (List ℕ) → Bool
+fresh seen [] = true
+fresh seen (n ∷ ns) = not (among n seen) && fresh (seen ++ n ∷ []) ns
+
+abbrev pub freshNumbers : List ℕ → List ℕ → Bool
+freshNumbers seen [] = true
+freshNumbers seen (n ∷ ns) = not (hasNumber n seen) && freshNumbers (seen ++ n ∷ []) ns
+
+pub record GoodLayer (l : Layer) : Type 0 where
+  pub named : isLayerId (l .id) ≡ true
+  pub okay : allowed (charsOf (l .name)) ≡ true
+  pub again : layerValue (l .id) (freeShapeOf (equals 0 (charsOf (l .name)))) ≡ got (bareValue (l .name))
+  pub short : leb (length (l .id ++ 61 ∷ charsOf (l .name))) 512 ≡ true
+
+abbrev pub GoodLayers : List Layer → Type 0
+GoodLayers [] = Unit {0}
+GoodLayers (l ∷ ls) = GoodLayer l × GoodLayers ls
+
+abbrev pub idsOf : List Layer → List (List ℕ)
+idsOf ls = map (λ l. l .id) ls
+
+pub record GoodDrawing (arc : ℕ) (d : Drawing) : Type 0 where
+  pub own-good : Closed (Always (digitsOf arc)) (digitsOf arc) drawingTable (d .own)
+  pub layers : GoodLayers (d .layers)
+  pub most : leb (length (d .layers)) mostLayers ≡ true
+  pub differ : fresh [] (idsOf (d .layers)) ≡ true
+
+-- ── symbols ── (se: S_elec; d: E_sym's digits, which the tables of figures are read with)
+pub record GoodSymbol (se : ℕ) (d : Digits) (y : Symbol) : Type 0 where
+  pub own-good : Closed (Always (digitsOf se)) (digitsOf se) symbolTable (y .own)
+  pub shown : GoodShapes d (y .figures)
+  pub some-shown : isNil (y .figures) ≡ false
+  pub hidden : GoodPoints false (y .hidden)
+  pub few-hidden : leb (length (y .hidden)) mostPoints ≡ true
+  pub named : isNil (symbolNameOf y) ≡ false
+
+abbrev pub GoodSymbols : ℕ → Digits → List Symbol → Type 0
+GoodSymbols se d [] = Unit {0}
+GoodSymbols se d (y ∷ ys) = GoodSymbol se d y × GoodSymbols se d ys
+
+abbrev pub GoodDefines : ℕ → Digits → List Symbol → Type 0
+GoodDefines se d ys = GoodSymbols se d ys × (fresh [] (map symbolNameOf ys) ≡ true) × ((isNil ys || reaches (digitsOf se) (digits 0 1)) ≡ true)
+
+-- ── layers in use, volumes ──
+pub record GoodBlock (k : Known) (d : Digits) (single : Bool) (u : LayerBlock) : Type 0 where
+  pub here : indexOf (getD (k .layers) (u .layer) []) (k .layers) ≡ some (u .layer)
+  pub id : isLayerId (getD (k .layers) (u .layer) []) ≡ true
+  pub figures : GoodFigures k d single (u .figures)
+
+abbrev pub GoodBlocks : Known → Digits → Bool → List LayerBlock → Type 0
+GoodBlocks k d single [] = Unit {0}
+GoodBlocks k d single (u ∷ us) = GoodBlock k d single u × GoodBlocks k d single us
+
+-- a volume: its layers, each used once; the counts and the chain of its file format hold
+pub record GoodVolume (k : Known) (d : Digits) (single first : Bool) (next : List ℕ) (v : Contents) : Type 0 where
+  pub blocks : GoodBlocks k d single (v .blocks)
+  pub once : freshNumbers [] (usedIn v) ≡ true
+  pub chain : chained first next (v .file) ≡ true
+  pub count : eqb (numberOf "this_ele" (ownTable first) (partOf (v .file) 0)) (elementsOf v) ≡ true
+
+-- the later volumes, with the name that follows each
+abbrev pub GoodLaters : Known → Digits → Bool → Set → List (List ℕ) → List Contents → Type 0
+GoodLaters k d single s [] [] = Unit {0}
+GoodLaters k d single s [] (v ∷ vs) = ⊥
+GoodLaters k d single s (n ∷ ns) [] = ⊥
+GoodLaters k d single s (n ∷ ns) (v ∷ vs) =
+    GoodVolume k d single false n v × GoodLater (v .file) × (dated s false (v .file) ≡ true) × GoodLaters k d single s ns vs
+
+-- ── the set, with the name that follows each of its volumes (nothing after the last) ──
+pub record GoodSet (nexts : List (List ℕ)) (s : Set) : Type 0 where
+  pub first : Contents
+  pub rest : List Contents
+  pub volumes : s .volumes ≡ first ∷ rest
+  pub next : List ℕ
+  pub others : List (List ℕ)
+  pub nexts-are : nexts ≡ next ∷ others
+  pub file : GoodFile (first .file)
+  pub drawing : GoodDrawing (arcOf s) (s .drawing)
+  pub defines : GoodDefines (defineRange s) (rangeOf s) (s .symbols)
+  pub volume : GoodVolume (knownOf s) (rangeOf s) (isSingle s) true next first
+  pub laters : GoodLaters (knownOf s) (rangeOf s) (isSingle s) s others rest
+  pub serials : freshNumbers [] (flat (map serialsOfVolume (s .volumes))) ≡ true
+  pub used : layersUsed s ≡ true
+  pub counted : countedAll s ≡ true
+  pub before : List Contents
+  pub latest : s .volumes ≡ before ++ s .now ∷ []
