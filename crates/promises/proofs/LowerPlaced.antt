@@ -11,15 +11,15 @@ use borrow.Author.Tests.{le-leb, lt-leb, lt-ltb, le-ltb, not-true, leb-true, leb
 use Rattle.rules.specs.declared.Digits.{Digits}
 use Rattle.rules.specs.Base.{bytes, same, isNil, isNone, isSome, all, flat, hasNumber}
 use Rattle.rules.specs.RefusalNumbers.{Got, got, bad, unless, mapG, andThen}
-use Rattle.rules.specs.Lines.{Rest, brace, equals, Form, ignored, wrong, close, eof, keyed, Shape, opener, noContent, content, opening, formless, shapeOf, freeShapeOf, hasForm}
+use Rattle.rules.specs.Lines.{Rest, brace, equals, Form, ignored, wrong, close, eof, keyed, Shape, opener, noContent, content, opening, formless, stem, byStem, shapeOf, freeShapeOf, hasForm}
 use Rattle.rules.specs.RangeClass.{digits, reaches, exceeds, both, hides, Skip, passes, deeper, noForm, skipShape, skipOf}
 use Rattle.rules.specs.Values.{Value, empty, nums, chars, linked, Known, Kind, values, text, word, volumeName, sheet, ratio, serials, nothing, opens, headed, either, isFree, readKind, serialsOf}
-use Rattle.rules.specs.Rows.{Rule, Found, absent, found, find, Slots, blank, Held, partOf, enter, marks, slotValue, heldAt, held, fits, shapeFor, Act, stay, entry, begin, shut, refuse, orRefuse, innerOf, readShape, notTwice, actRow, actUnknown, actFound, present, complete, act}
+use Rattle.rules.specs.Rows.{Rule, Found, absent, found, find, Slots, blank, Held, partOf, enter, marks, slotValue, heldAt, held, isContent, isEmpty, isOpener, fits, shapeFor, Act, stay, entry, begin, shut, refuse, orRefuse, innerOf, readShape, notTwice, actRow, actUnknown, actFound, present, complete, act}
 use Rattle.rules.specs.Blocks.{around}
 use Rattle.rules.specs.Figures.{placedTable, placedTables, textTable}
-use Rattle.rules.specs.Sets.{Figure, plain, chain, lettering, placed, LayerBlock, Contents, Set, rangeOf, knownOf, ownSerial, figureSerial, serialsOfBlock, serialsOfVolume, serialsIn}
+use Rattle.rules.specs.Sets.{Figure, plain, chain, lettering, placed, LayerBlock, Contents, Set, firstContents, rangeOf, knownOf, ownSerial, figureSerial, serialsOfBlock, serialsOfVolume, serialsIn}
 use Rattle.rules.specs.Machine.{Env, Home, inElement, inLayer, State, figures, placing, skipping, byAct, shutPart, bySkip, skipDeeper, onUnknown, noneOf, newSerial, onPlaced, onPlacedKey, onPlacedOwn, onPlacing, skipShut, onSkipping}
-use Rattle.rules.proofs.Chains.{and-left, and-right, and-true, or-true, clash, by-cond, cond-same, same-eq, never, unless-got, map-got, map-append, map-compose, On, on-unless, on-then}
+use Rattle.rules.proofs.Chains.{and-left, and-right, and-true, and-false, or-true, clash, by-cond, cond-same, same-eq, never, unless-got, map-got, map-append, map-compose, On, on-unless, on-then}
 use Rattle.rules.proofs.Rows.{Row, here, there, found-row, row-all}
 use Rattle.promises.specs.DemandThree.{NotAbove}
 use Rattle.promises.proofs.Lower.{reaches-up, exceeds-down, hides-up, known-shows, unknown-hides, unknown-exceeds, maskSlots, wiped, textLeast, innerPart, lowerHeld, lowerFigure, lowerFigures, lowerBlock, lowerContents, lowerIn, lowerSet, depthIn, lowerPlacing, lower, mask-slot, part-own, part-inner, enter-own, enter-hidden, enter-inner, enter-wiped, file-same}
@@ -97,3 +97,436 @@ module _ (c d : Digits) where
   serial-new s fs v e =
       none-sub (ownSerial (serialsOf v)) (serialsIn (lowerIn c d s) ++ flat (map figureSerial (lowerFigures c d fs))) (serialsIn s ++ flat (map figureSerial fs))
       (sub-append (serialsIn (lowerIn c d s)) (serialsIn s) (flat (map figureSerial (lowerFigures c d fs))) (flat (map figureSerial fs)) (set-sub s) (figures-sub fs)) e
+
+-- ── what a line of a row comes to ──
+abbrev entryShape : Shape → Bool
+entryShape opener = false
+entryShape noContent = true
+entryShape (content at c) = true
+entryShape (opening at c) = false
+entryShape formless = false
+
+abbrev openShape : Shape → Bool
+openShape opener = true
+openShape noContent = false
+openShape (content at c) = false
+openShape (opening at c) = true
+openShape formless = false
+
+data RowAct (d : Digits) (j : ℕ) (r : Rule) (x : Rest) : Act → Type 0 where
+  entered : (v : Value) → reaches d (r .least) ≡ true → entryShape (shapeFor r x) ≡ true → RowAct d j r x (entry j v)
+  opened : (v : Value) → reaches d (r .least) ≡ true → openShape (shapeFor r x) ≡ true → fits (r .holds) (r .may) (shapeFor r x) ≡ true
+      → RowAct d j r x (begin (innerOf (r .holds)) j v)
+  refused : (n : ℕ) → RowAct d j r x (refuse n)
+
+row-act : (k : Known) (d : Digits) (full : Bool) (j : ℕ) (r : Rule) (x : Rest) → RowAct d j r x (actRow k d full j r x)
+row-act k d full j r x =
+    told
+    (unless (hasForm (shapeFor r x)) 5 (unless (reaches d (r .least)) 6 (unless (fits (r .holds) (r .may) (shapeFor r x)) 5 (unless (notTwice (r .times) full) 7 (andThen (readShape k j r (shapeFor r x)) λ a. unless (not full) 11 (got a))))))
+    (on-unless P (hasForm (shapeFor r x)) 5 _ λ _. on-unless P (reaches d (r .least)) 6 _ λ l. on-unless P (fits (r .holds) (r .may) (shapeFor r x)) 5 _ λ f.
+    on-unless P (notTwice (r .times) full) 7 _ λ _. on-then P (readShape k j r (shapeFor r x)) (λ a. unless (not full) 11 (got a)) λ a e. on-unless P (not full) 11 (got a) λ _. by-shape l (shapeFor r x) refl f a e)
+  where
+    P : Act → Type 0
+    P a = RowAct d j r x a
+
+    told : (g : Got Act) → On P g → RowAct d j r x (orRefuse g)
+    told (got a) h = h
+    told (bad n) h = refused n
+
+    by-shape : reaches d (r .least) ≡ true → (sh : Shape) → shapeFor r x ≡ sh → fits (r .holds) (r .may) sh ≡ true → (a : Act) → readShape k j r sh ≡ got a → RowAct d j r x a
+    by-shape l opener q f a e = let z : begin (innerOf (r .holds)) j (nums []) ≡ a = cc in rw (← z) (opened (nums []) l (rw q) (rw q f))
+    by-shape l noContent q f a e = let z : entry j empty ≡ a = cc in rw (← z) (entered empty l (rw q))
+    by-shape l (content at c) q f a e = let (v, p, z) = map-got (entry j) (readKind k (r .holds) at c) a e in rw (← z) (entered v l (rw q))
+    by-shape l (opening at c) q f a e =
+        let (v, p, z) = map-got (begin (innerOf (r .holds)) j) (readKind k (r .holds) at c) a e in rw (← z) (opened v l (rw q) (rw q f))
+    by-shape l formless q f a e = never e
+
+-- ── rows whose lines can be skipped ──
+-- a line that is entered opens nothing where it is skipped: no free text, or `character`
+abbrev quiet : Rule → Bool
+quiet r = not (isFree (r .holds)) || same (r .key) (bytes "character")
+
+-- an opener is `key:{`, for the text
+abbrev opensText : Kind → Digits → Bool
+opensText (values p ps a) l = true
+opensText (text n b) l = true
+opensText (word n b) l = true
+opensText volumeName l = true
+opensText sheet l = true
+opensText ratio l = true
+opensText serials l = true
+opensText nothing l = true
+opensText (opens i) l = eqb i 1 && (eqb (l .middle) 0 && eqb (l .last) 2)
+opensText (headed i p) l = false
+opensText (either i) l = false
+
+abbrev flatKind : Kind → Bool
+flatKind (values p ps a) = true
+flatKind (text n b) = true
+flatKind (word n b) = true
+flatKind volumeName = true
+flatKind sheet = true
+flatKind ratio = true
+flatKind serials = true
+flatKind nothing = true
+flatKind (opens i) = false
+flatKind (headed i p) = false
+flatKind (either i) = false
+
+quiet-passes : (key : List ℕ) (r : Rule) (x : Rest) → same key (r .key) ≡ true → quiet r ≡ true → entryShape (shapeFor r x) ≡ true → skipOf key x ≡ passes
+quiet-passes key r brace s q e = clash e (rw (cond-same (isFree (r .holds)) opener))
+quiet-passes key r (equals at c) s q e = go (isFree (r .holds)) q e
+  where
+    by-shape : (sh : Shape) → entryShape sh ≡ true → skipShape sh ≡ passes
+    by-shape opener e = clash e refl
+    by-shape noContent e = refl
+    by-shape (content at c) e = refl
+    by-shape (opening at c) e = clash e refl
+    by-shape formless e = clash e refl
+
+    go : (f : Bool) → (not f || same (r .key) (bytes "character")) ≡ true → entryShape (cond f (freeShapeOf (equals at c)) (shapeOf (equals at c))) ≡ true → skipOf key (equals at c) ≡ passes
+    go true q e = rw (same-eq key (r .key) s, q)
+    go false q e = rw (by-shape (shapeOf (equals at c)) e) (cond-same (same key (bytes "character")) passes)
+
+-- an opener is neither content nor empty
+no-content : (sh : Shape) (may : Bool) → openShape sh ≡ true → (isContent sh || (may && isEmpty sh)) ≡ false
+no-content opener may e = rw (and-false may)
+no-content noContent may e = clash e refl
+no-content (content at c) may e = clash e refl
+no-content (opening at c) may e = rw (and-false may)
+no-content formless may e = clash e refl
+
+no-empty : (sh : Shape) → openShape sh ≡ true → isEmpty sh ≡ false
+no-empty opener e = refl
+no-empty noContent e = clash e refl
+no-empty (content at c) e = refl
+no-empty (opening at c) e = refl
+no-empty formless e = refl
+
+-- an opened row of the placed symbol is its text, and where it is skipped it opens
+pub record Opens (r : Rule) (key : List ℕ) (x : Rest) : Type 0 where
+  pub inner : innerOf (r .holds) ≡ 1
+  pub least : r .least ≡ textLeast
+  pub skips : skipOf key x ≡ deeper
+
+opens-text : (key : List ℕ) (r : Rule) (x : Rest) → opensText (r .holds) (r .least) ≡ true → openShape (shapeFor r x) ≡ true → fits (r .holds) (r .may) (shapeFor r x) ≡ true → Opens r key x
+opens-text key r x t o f = go (r .holds) refl t f
+  where
+    is-brace : (x : Rest) → isOpener (shapeFor r x) ≡ true → skipOf key x ≡ deeper
+    is-brace brace e = refl
+    is-brace (equals at c) e = clash e (not-opener at c (isFree (r .holds)))
+      where
+        by-stem : (at : ℕ) (c : List ℕ) (s : Option (List ℕ)) → isOpener (byStem at c s) ≡ false
+        by-stem at c none = refl
+        by-stem at c (some []) = refl
+        by-stem at c (some (b ∷ t)) = refl
+
+        not-opener : (at : ℕ) (c : List ℕ) (f : Bool) → isOpener (cond f (freeShapeOf (equals at c)) (shapeOf (equals at c))) ≡ false
+        not-opener at [] true = refl
+        not-opener at [] false = refl
+        not-opener at (b ∷ c) true = refl
+        not-opener at (b ∷ c) false = by-stem at (b ∷ c) (stem (b ∷ c))
+
+    go : (h : Kind) → r .holds ≡ h → opensText h (r .least) ≡ true → fits h (r .may) (shapeFor r x) ≡ true → Opens r key x
+    go (values p ps a) q t f = clash f (no-content (shapeFor r x) (r .may) o)
+    go (text n b) q t f = clash f (no-content (shapeFor r x) (r .may) o)
+    go (word n b) q t f = clash f (no-content (shapeFor r x) (r .may) o)
+    go volumeName q t f = clash f (no-content (shapeFor r x) (r .may) o)
+    go sheet q t f = clash f (no-content (shapeFor r x) (r .may) o)
+    go ratio q t f = clash f (no-content (shapeFor r x) (r .may) o)
+    go serials q t f = clash f (no-content (shapeFor r x) (r .may) o)
+    go nothing q t f = clash f (no-empty (shapeFor r x) o)
+    go (opens i) q t f =
+        let one = eqb-true i 1 (and-left (eqb i 1) _ t) in
+        let m = eqb-true (r .least .middle) 0 (and-left (eqb (r .least .middle) 0) _ (and-right (eqb i 1) _ t)) in
+        let l = eqb-true (r .least .last) 2 (and-right (eqb (r .least .middle) 0) _ (and-right (eqb i 1) _ t)) in
+        record { inner = rw q one; least = λ i. digits (m i) (l i); skips = is-brace x f }
+    go (headed i p) q t f = clash t refl
+    go (either i) q t f = clash t refl
+
+flat-opens : (h : Kind) (may : Bool) (sh : Shape) → flatKind h ≡ true → openShape sh ≡ true → fits h may sh ≡ true → ⊥
+flat-opens (values p ps a) may sh t o f = clash f (no-content sh may o)
+flat-opens (text n b) may sh t o f = clash f (no-content sh may o)
+flat-opens (word n b) may sh t o f = clash f (no-content sh may o)
+flat-opens volumeName may sh t o f = clash f (no-content sh may o)
+flat-opens sheet may sh t o f = clash f (no-content sh may o)
+flat-opens ratio may sh t o f = clash f (no-content sh may o)
+flat-opens serials may sh t o f = clash f (no-content sh may o)
+flat-opens nothing may sh t o f = clash f (no-empty sh o)
+flat-opens (opens i) may sh t o f = clash t refl
+flat-opens (headed i p) may sh t o f = clash t refl
+flat-opens (either i) may sh t o f = clash t refl
+
+-- ── the tables, computed ──
+quiet-rows : all quiet placedTable ≡ true
+unfolding placedTable
+quiet-rows = refl
+
+text-rows : all (λ r. opensText (r .holds) (r .least)) placedTable ≡ true
+unfolding placedTable
+text-rows = refl
+
+quiet-texts : all quiet (textTable true 16 24) ≡ true
+unfolding textTable
+quiet-texts = refl
+
+flat-texts : all (λ r. flatKind (r .holds)) (textTable true 16 24) ≡ true
+unfolding textTable
+flat-texts = refl
+
+-- ── what the lower class demands at the closing line the higher has demanded ──
+reaches-both : (c d l : Digits) → reaches (both c d) l ≡ true → (reaches c l ≡ true) × (reaches d l ≡ true)
+reaches-both c d l e =
+    let a = leb-true (l .middle) (min (c .middle) (d .middle)) (and-left (leb (l .middle) (min (c .middle) (d .middle))) _ e) in
+    let b = leb-true (l .last) (min (c .last) (d .last)) (and-right (leb (l .middle) (min (c .middle) (d .middle))) _ e) in (
+      and-true _ _ (le-leb (l .middle) (c .middle) (omega arith)) (le-leb (l .last) (c .last) (omega arith)),
+      and-true _ _ (le-leb (l .middle) (d .middle) (omega arith)) (le-leb (l .last) (d .last) (omega arith)),
+    )
+
+both-reaches : (c d l : Digits) → reaches c l ≡ true → reaches d l ≡ true → reaches (both c d) l ≡ true
+both-reaches c d l p q =
+    let cm = leb-true (l .middle) (c .middle) (and-left (leb (l .middle) (c .middle)) _ p) in
+    let cl = leb-true (l .last) (c .last) (and-right (leb (l .middle) (c .middle)) _ p) in
+    let dm = leb-true (l .middle) (d .middle) (and-left (leb (l .middle) (d .middle)) _ q) in
+    let dl = leb-true (l .last) (d .last) (and-right (leb (l .middle) (d .middle)) _ q) in
+    and-true _ _ (le-leb (l .middle) (min (c .middle) (d .middle)) (omega arith)) (le-leb (l .last) (min (c .last) (d .last)) (omega arith))
+
+row-present : (must a b hidden : Bool) (o : Option Value) → (a ≡ true → b ≡ true) → (a ≡ true → hidden ≡ false)
+    → (not must || (not b || isSome o)) ≡ true → (not must || (not a || isSome (cond hidden none o))) ≡ true
+row-present false a b h o f g e = refl
+row-present true false b h o f g e = refl
+row-present true true b h o f g e = rw (g refl) (rw (f refl) at e)
+
+complete-mask : (low high d : Digits) → NotAbove low high → (t : List Rule) (s : Slots) → complete (both high d) t (marks s) ≡ true
+    → complete (both low d) t (marks (maskSlots low d t s)) ≡ true
+complete-mask low high d le [] [] e = refl
+complete-mask low high d le [] (o ∷ s) e = refl
+complete-mask low high d le (r ∷ t) [] e = refl
+complete-mask low high d le (r ∷ t) (o ∷ s) e =
+    and-true _ _
+    (row-present (r .must) (reaches (both low d) (r .least)) (reaches (both high d) (r .least)) (hides low d (r .least)) o
+    (λ z. let w = reaches-both low d (r .least) z in both-reaches high d (r .least) (reaches-up low high le (r .least) (w .0)) (w .1))
+    (λ z. known-shows low d (r .least) (reaches-both low d (r .least) z .0))
+    (and-left (present (both high d) r (isSome o)) _ e))
+    (complete-mask low high d le t s (and-right (present (both high d) r (isSome o)) _ e))
+
+-- ── a line in a placed symbol ──
+-- a key that is not known here is refused
+unknown-never : {P : Type 0} (st : State) (x : Rest) (s′ : State) → byAct st (λ j v. bad 6) (λ i j v. bad 6) (λ _. bad 6) (actUnknown x) ≡ got s′ → P
+unknown-never st x s′ e = go (hasForm (shapeOf x)) e
+  where
+    go : {P : Type 0} (b : Bool) → byAct st (λ j v. bad 6) (λ i j v. bad 6) (λ _. bad 6) (orRefuse (unless b 5 (bad 6))) ≡ got s′ → P
+    go true e = never e
+    go false e = never e
+
+module _ (low high : Digits) (le : NotAbove low high) (m : Option ℕ) (s : Set) (k : ℕ) (fs : List Figure) (n : ℕ) (o : Held) where
+  abbrev d : Digits
+  d = rangeOf s
+
+  abbrev hi : Env
+  hi = record { class = high; limit = m }
+
+  abbrev lo : Env
+  lo = record { class = low; limit = m }
+
+  abbrev fs′ : List Figure
+  fs′ = lowerFigures low d fs
+
+  abbrev o′ : Held
+  o′ = lowerHeld low d o
+
+  same-file : firstContents (lowerSet low s) .file ≡ firstContents s .file
+  same-file = file-same low d (s .now) (s .volumes)
+
+  -- where the two answers are the same but for what is left out
+  via : {st st′ : State} → got st ≡ got st′ → got (lower low st) ≡ got (lower low st′)
+  via e = ap (mapG (lower low)) e
+
+  sim-unknown : (key : List ℕ) (x : Rest) (s′ : State) → onUnknown hi s k fs n o key x ≡ got s′ → onUnknown lo (lowerSet low s) k fs′ n o′ key x ≡ got (lower low s′)
+  sim-unknown key x s′ e = go (exceeds d high) refl e
+    where
+      by : (z : Skip) → bySkip z (got (placing s k fs n o 0)) (skipDeeper 0 (skipping s k fs n o 1)) ≡ got s′
+          → bySkip z (got (placing (lowerSet low s) k fs′ n o′ 0)) (skipDeeper 0 (skipping (lowerSet low s) k fs′ n o′ 1)) ≡ got (lower low s′)
+      by passes e = via e
+      by deeper e = via e
+      by noForm e = never e
+
+      go : (b : Bool) → exceeds d high ≡ b → cond b (bySkip (skipOf key x) (got (placing s k fs n o 0)) (skipDeeper 0 (skipping s k fs n o 1)))
+          (byAct (placing s k fs n o 0) (λ j v. bad 6) (λ i j v. bad 6) (λ _. bad 6) (actUnknown x)) ≡ got s′
+          → onUnknown lo (lowerSet low s) k fs′ n o′ key x ≡ got (lower low s′)
+      go true b e = rw (same-file, exceeds-down low high le d b) (by (skipOf key x) e)
+      go false b e = unknown-never (placing s k fs n o 0) x s′ e
+
+  -- a row that both know
+  sim-known : (key : List ℕ) (j : ℕ) (r : Rule) (x : Rest) → Row placedTable j r → hides low d (r .least) ≡ false → opensText (r .holds) (r .least) ≡ true
+      → (a : Act) → RowAct d j r x a → (s′ : State) → onPlaced s k fs n o 0 a ≡ got s′ → onPlaced (lowerSet low s) k fs′ n o′ 0 a ≡ got (lower low s′)
+  sim-known key j r x w h t _ (entered v l q) s′ e =
+      let u = unless-got (newSerial s fs v) 15 _ s′ e in
+      rw (serial-new low d s fs v (u .0), enter-own low d w h o v) (via (u .1))
+  sim-known key j r x w h t _ (opened v l q f) s′ e =
+      let z = opens-text key r x t q f in
+      rw (enter-own low d w h o v, z .inner) (shown (rw (z .least) at h) (via (rw (z .inner) at e)))
+    where
+      shown : hides low d textLeast ≡ false → got (lowerPlacing low s k fs n (enter o 0 j v) 1) ≡ got (lower low s′)
+          → got (placing (lowerSet low s) k fs′ n (lowerHeld low d (enter o 0 j v)) 1) ≡ got (lower low s′)
+      shown g p = rw g at p
+  sim-known key j r x w h t _ (refused i) s′ e = never e
+
+  -- a row that the lower doesn't know, and the file has
+  sim-hidden : (key : List ℕ) (j : ℕ) (r : Rule) (x : Rest) → Row placedTable j r → same key (r .key) ≡ true → quiet r ≡ true → opensText (r .holds) (r .least) ≡ true → reaches low (r .least) ≡ false
+      → (a : Act) → RowAct d j r x a → (s′ : State) → onPlaced s k fs n o 0 a ≡ got s′ → onUnknown lo (lowerSet low s) k fs′ n o′ key x ≡ got (lower low s′)
+  sim-hidden key j r x w sk c t u _ (entered v l q) s′ e =
+      let p = unless-got (newSerial s fs v) 15 _ s′ e in
+      rw (same-file, unknown-exceeds low d (r .least) l u, quiet-passes key r x sk c q)
+      (ap (λ h. got (placing (lowerSet low s) k fs′ n h 0)) (sym (enter-hidden low d w (unknown-hides low d (r .least) l u) o v)) ∙ via (p .1))
+  sim-hidden key j r x w sk c t u _ (opened v l q f) s′ e =
+      let z = opens-text key r x t q f in
+      rw (same-file, unknown-exceeds low d (r .least) l u, z .skips)
+      (ap (λ h. got (skipping (lowerSet low s) k fs′ n h 1)) (sym (enter-hidden low d w (unknown-hides low d (r .least) l u) o v))
+      ∙ left-out (rw (z .least) at (unknown-hides low d (r .least) l u)) (via (rw (z .inner) at e)))
+    where
+      left-out : hides low d textLeast ≡ true → got (lowerPlacing low s k fs n (enter o 0 j v) 1) ≡ got (lower low s′)
+          → got (skipping (lowerSet low s) k fs′ n (lowerHeld low d (enter o 0 j v)) 1) ≡ got (lower low s′)
+      left-out g p = rw g at p
+  sim-hidden key j r x w sk c t u _ (refused i) s′ e = never e
+
+  -- a key of the placed symbol
+  sim-key : (key : List ℕ) (x : Rest) (f : Found) → find key placedTable ≡ f → (s′ : State)
+      → onPlacedKey hi s k fs n o key x f ≡ got s′ → onPlacedKey lo (lowerSet low s) k fs′ n o′ key x f ≡ got (lower low s′)
+  sim-key key x absent q s′ e = sim-unknown key x s′ e
+  sim-key key x (found j r) q s′ e = go (reaches high (r .least)) refl (reaches low (r .least)) refl e
+    where
+      w : Row placedTable j r × (same key (r .key) ≡ true)
+      w = found-row key placedTable j r q
+
+      calm : quiet r ≡ true
+      calm = row-all quiet (w .0) quiet-rows
+
+      text : opensText (r .holds) (r .least) ≡ true
+      text = row-all (λ r. opensText (r .holds) (r .least)) (w .0) text-rows
+
+      full : Slots → Bool
+      full t = getD (marks t) j false
+
+      same-marks : hides low d (r .least) ≡ false → full (partOf o′ 0) ≡ full (partOf o 0)
+      same-marks h =
+          List·getD-map isSome (partOf o′ 0) j none ∙ ap isSome (ap (λ t. getD t j none) (part-own low d o) ∙ mask-slot low d (w .0) h (partOf o 0)) ∙ sym (List·getD-map isSome (partOf o 0) j none)
+
+      go : (b : Bool) → reaches high (r .least) ≡ b → (a : Bool) → reaches low (r .least) ≡ a
+          → cond b (onPlaced s k fs n o 0 (actRow (knownOf s) d (full (partOf o 0)) j r x)) (onUnknown hi s k fs n o key x) ≡ got s′
+          → cond a (onPlaced (lowerSet low s) k fs′ n o′ 0 (actRow (knownOf s) (rangeOf (lowerSet low s)) (full (partOf o′ 0)) j r x)) (onUnknown lo (lowerSet low s) k fs′ n o′ key x) ≡ got (lower low s′)
+      go true b true a e =
+          let h = known-shows low d (r .least) a in
+          rw (same-file, same-marks h)
+          (sim-known key j r x (w .0) h text (actRow (knownOf s) d (full (partOf o 0)) j r x) (row-act (knownOf s) d (full (partOf o 0)) j r x) s′ e)
+      go true b false a e =
+          sim-hidden key j r x (w .0) (w .1) calm text a (actRow (knownOf s) d (full (partOf o 0)) j r x) (row-act (knownOf s) d (full (partOf o 0)) j r x) s′ e
+      go false b true a e = clash (reaches-up low high le (r .least) a) b
+      go false b false a e = sim-unknown key x s′ e
+
+  sim-close : (s′ : State) → onPlacedOwn hi s k fs n o close ≡ got s′ → onPlacedOwn lo (lowerSet low s) k fs′ n o′ close ≡ got (lower low s′)
+  sim-close s′ e = go (complete (both high d) placedTable (marks (partOf o 0))) refl e
+    where
+      go : (b : Bool) → complete (both high d) placedTable (marks (partOf o 0)) ≡ b → onPlaced s k fs n o 0 (cond b shut (refuse 8)) ≡ got s′
+          → onPlacedOwn lo (lowerSet low s) k fs′ n o′ close ≡ got (lower low s′)
+      go true b e =
+          rw (same-file, part-own low d o, complete-mask low high d le placedTable (partOf o 0) b)
+          (ap (λ gs. got (figures (lowerSet low s) (inLayer k) gs)) (sym (map-append (lowerFigure low d) fs (placed n o ∷ []))) ∙ via e)
+      go false b e = never e
+
+  sim-own : (f : Form) (s′ : State) → onPlacedOwn hi s k fs n o f ≡ got s′ → onPlacedOwn lo (lowerSet low s) k fs′ n o′ f ≡ got (lower low s′)
+  sim-own ignored s′ e = via e
+  sim-own (wrong i) s′ e = never e
+  sim-own close s′ e = sim-close s′ e
+  sim-own eof s′ e = never e
+  sim-own (keyed key x) s′ e = sim-key key x (find key placedTable) refl s′ e
+
+  -- ── in the symbol's text: both read it, or the lower skips it ──
+  sim-shown : (p : ℕ) → hides low d textLeast ≡ false → (a : Act) (s′ : State) → onPlaced s k fs n o (suc p) a ≡ got s′ → onPlaced (lowerSet low s) k fs′ n o′ (suc p) a ≡ got (lower low s′)
+  sim-shown p h stay s′ e = shown (via e)
+    where
+      shown : got (lowerPlacing low s k fs n o (suc p)) ≡ got (lower low s′) → got (placing (lowerSet low s) k fs′ n o′ (suc p)) ≡ got (lower low s′)
+      shown q = rw h at q
+  sim-shown p h (entry j v) s′ e =
+      let u = unless-got (newSerial s fs v) 15 _ s′ e in
+      rw (serial-new low d s fs v (u .0), enter-inner low d h o p j v) (shown (via (u .1)))
+    where
+      shown : got (lowerPlacing low s k fs n (enter o (suc p) j v) (suc p)) ≡ got (lower low s′) → got (placing (lowerSet low s) k fs′ n (lowerHeld low d (enter o (suc p) j v)) (suc p)) ≡ got (lower low s′)
+      shown q = rw h at q
+  sim-shown p h (begin i j v) s′ e = rw (enter-inner low d h o p j v) (shown i (via e))
+    where
+      shown : (i : ℕ) → got (lowerPlacing low s k fs n (enter o (suc p) j v) i) ≡ got (lower low s′) → got (placing (lowerSet low s) k fs′ n (lowerHeld low d (enter o (suc p) j v)) i) ≡ got (lower low s′)
+      shown zero q = q
+      shown (suc i) q = rw h at q
+  sim-shown zero h shut s′ e = via e
+  sim-shown (suc p) h shut s′ e = shown (via e)
+    where
+      shown : got (lowerPlacing low s k fs n o 1) ≡ got (lower low s′) → got (placing (lowerSet low s) k fs′ n o′ 1) ≡ got (lower low s′)
+      shown q = rw h at q
+  sim-shown p h (refuse i) s′ e = never e
+
+  -- what an act of a flat row leaves of what is held, where the text is left out
+  sim-wiped : (p : ℕ) → hides low d textLeast ≡ true → (key : List ℕ) (x : Rest) (f : Found) → find key (getD placedTables (suc p) []) ≡ f → (s′ : State)
+      → onPlaced s k fs n o (suc p) (actFound (knownOf s) (digits 0 0) (marks (partOf o (suc p))) x f) ≡ got s′
+      → onSkipping (lowerSet low s) k fs′ n o′ (depthIn (suc p)) (keyed key x) ≡ got (lower low s′)
+  sim-wiped p h key x absent q s′ e = go (hasForm (shapeOf x)) e
+    where
+      go : (b : Bool) → onPlaced s k fs n o (suc p) (orRefuse (unless b 5 (bad 6))) ≡ got s′ → onSkipping (lowerSet low s) k fs′ n o′ (depthIn (suc p)) (keyed key x) ≡ got (lower low s′)
+      go true e = never e
+      go false e = never e
+  sim-wiped (suc p) h key x (found j r) q s′ e = absurd (let z : _≡_ {A = ℕ} 0 1 = cc in omega arith)
+  sim-wiped zero h key x (found j r) q s′ e =
+      by (actRow (knownOf s) (digits 0 0) (getD (marks (partOf o 1)) j false) j r x) (row-act (knownOf s) (digits 0 0) (getD (marks (partOf o 1)) j false) j r x) e
+    where
+      w : Row (textTable true 16 24) j r × (same key (r .key) ≡ true)
+      w = found-row key (textTable true 16 24) j r q
+
+      by : (a : Act) → RowAct (digits 0 0) j r x a → onPlaced s k fs n o 1 a ≡ got s′ → onSkipping (lowerSet low s) k fs′ n o′ 1 (keyed key x) ≡ got (lower low s′)
+      by _ (entered v l c) e =
+          let u = unless-got (newSerial s fs v) 15 _ s′ e in
+          rw (quiet-passes key r x (w .1) (row-all quiet (w .0) quiet-texts) c)
+          (ap (λ b. got (skipping (lowerSet low s) k fs′ n b 1)) (sym (enter-wiped low d h o 0 j v)) ∙ wiped-out (via (u .1)))
+        where
+          wiped-out : got (lowerPlacing low s k fs n (enter o 1 j v) 1) ≡ got (lower low s′) → got (skipping (lowerSet low s) k fs′ n (lowerHeld low d (enter o 1 j v)) 1) ≡ got (lower low s′)
+          wiped-out p = rw h at p
+      by _ (opened v l c f) e = absurd (flat-opens (r .holds) (r .may) (shapeFor r x) (row-all (λ r. flatKind (r .holds)) (w .0) flat-texts) c f)
+      by _ (refused i) e = never e
+
+  sim-closed : (p : ℕ) → hides low d textLeast ≡ true → (b : Bool) (s′ : State) → onPlaced s k fs n o (suc p) (cond b shut (refuse 8)) ≡ got s′
+      → skipShut (lowerSet low s) k fs′ n o′ (depthIn (suc p)) ≡ got (lower low s′)
+  sim-closed zero h true s′ e = via e
+  sim-closed (suc p) h true s′ e = left-out (via e)
+    where
+      left-out : got (lowerPlacing low s k fs n o 1) ≡ got (lower low s′) → got (skipping (lowerSet low s) k fs′ n o′ 1) ≡ got (lower low s′)
+      left-out q = rw h at q
+  sim-closed p h false s′ e = never e
+
+  sim-skipped : (p : ℕ) → hides low d textLeast ≡ true → (f : Form) (s′ : State) → onPlacing hi s k fs n o (suc p) f ≡ got s′
+      → onSkipping (lowerSet low s) k fs′ n o′ (depthIn (suc p)) f ≡ got (lower low s′)
+  sim-skipped p h ignored s′ e = left-out (via e)
+    where
+      left-out : got (lowerPlacing low s k fs n o (suc p)) ≡ got (lower low s′) → got (skipping (lowerSet low s) k fs′ n o′ (depthIn (suc p))) ≡ got (lower low s′)
+      left-out q = rw h at q
+  sim-skipped p h (wrong i) s′ e = never e
+  sim-skipped p h close s′ e = sim-closed p h (complete (digits 0 0) (getD placedTables (suc p) []) (marks (partOf o (suc p)))) s′ e
+  sim-skipped p h eof s′ e = never e
+  sim-skipped p h (keyed key x) s′ e = sim-wiped p h key x (find key (getD placedTables (suc p) [])) refl s′ e
+
+  sim-inner : (p : ℕ) → hides low d textLeast ≡ false → (f : Form) (s′ : State) → onPlacing hi s k fs n o (suc p) f ≡ got s′ → onPlacing lo (lowerSet low s) k fs′ n o′ (suc p) f ≡ got (lower low s′)
+  sim-inner p h f s′ e =
+      ap (λ t. onPlaced (lowerSet low s) k fs′ n o′ (suc p) (act (knownOf s) (getD placedTables (suc p) []) (digits 0 0) (marks t) f)) (part-inner low d o p ∙ shown)
+      ∙ sim-shown p h (act (knownOf s) (getD placedTables (suc p) []) (digits 0 0) (marks (partOf o (suc p))) f) s′ e
+    where
+      shown : innerPart low d (partOf o (suc p)) ≡ partOf o (suc p)
+      shown = rw h
+
+  -- ── a line where a placed symbol is open ──
+  pub sim-placing : (p : ℕ) (f : Form) (s′ : State) → onPlacing hi s k fs n o p f ≡ got s′ → (st : State) → lowerPlacing low s k fs n o p ≡ st
+      → (onOne : State → Got State) → ((o : Held) (p : ℕ) → onOne (placing (lowerSet low s) k fs′ n o p) ≡ onPlacing lo (lowerSet low s) k fs′ n o p f)
+      → ((o : Held) (q : ℕ) → onOne (skipping (lowerSet low s) k fs′ n o q) ≡ onSkipping (lowerSet low s) k fs′ n o q f) → onOne st ≡ got (lower low s′)
+  sim-placing zero f s′ e st q on shown left = ap on (sym q) ∙ shown o′ 0 ∙ sim-own f s′ e
+  sim-placing (suc p) f s′ e st q on shown left = ap on (sym q) ∙ go (hides low d textLeast) refl
+    where
+      go : (b : Bool) → hides low d textLeast ≡ b → on (cond b (skipping (lowerSet low s) k fs′ n o′ (depthIn (suc p))) (placing (lowerSet low s) k fs′ n o′ (suc p))) ≡ got (lower low s′)
+      go true b = left o′ (depthIn (suc p)) ∙ sim-skipped p b f s′ e
+      go false b = shown o′ (suc p) ∙ sim-inner p b f s′ e

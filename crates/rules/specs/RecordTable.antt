@@ -140,7 +140,7 @@ layerRecords n (l ∷ ls) = layerRecord n l ∷ layerRecords (suc n) ls
 abbrev pub ruleAt : List Rule → ℕ → Rule
 ruleAt t j = getD t j (row "" (opens 0) 0)
 
--- "10 line, 11 circle, 12 ellipse, 13 point": a figure's row in the table, and 10; 16 for `E_symbol=`
+-- "10 line, 11 circle, 12 ellipse, 13 point": a figure's row in the table, and 10
 abbrev pub plainRecord : List Rule → ℕ → ℕ → ℕ → ℕ → ℕ → List Num → List ℤ
 plainRecord t more owner volume line j v = putSlot (ruleAt t j) (some (nums v)) (start (10 + more + j) owner volume line)
 
@@ -165,9 +165,14 @@ textRecord more owner volume line s = putSlots (textTable true 4 12) s (start (1
 abbrev pub placedRecord : Digits → Digits → ℕ → ℕ → ℕ → ℕ → Held → List ℤ
 placedRecord c d more owner volume line h = markUnread c d placedTable (putHeld placedTables h (start (16 + more) owner volume line))
 
+-- `E_symbol=`, the seventh row of a layer's figures, is a placed symbol with that line alone
+abbrev pub lineRecord : Digits → Digits → List Rule → ℕ → ℕ → ℕ → ℕ → ℕ → List Num → List ℤ
+lineRecord c d t more owner volume n j v =
+    cond (eqb j 6) (placedRecord c d more owner volume n ((some (nums v) ∷ []) ∷ [])) (plainRecord t more owner volume n j v)
+
 -- "plus 20 inside a symbol": `more`
 abbrev pub figureRecords : Digits → Digits → List Rule → ℕ → ℕ → ℕ → Figure → List (List ℤ)
-figureRecords c d t more owner volume (plain n j v) = plainRecord t more owner volume n j v ∷ []
+figureRecords c d t more owner volume (plain n j v) = lineRecord c d t more owner volume n j v ∷ []
 figureRecords c d t more owner volume (chain n ps) = chainRecord more owner volume n ps ∷ pointRecords (17 + more) owner volume ps
 figureRecords c d t more owner volume (lettering n s) = textRecord more owner volume n s ∷ []
 figureRecords c d t more owner volume (placed n h) = placedRecord c d more owner volume n h ∷ []
