@@ -81,23 +81,23 @@ module _ (low high : Digits) (m : Option ℕ) where
   abbrev hi : Env
   hi = record { class = high; limit = m }
 
-  sim-eof : (l : Line) (s : Set) (k : ℕ) → atEof l (lowerSet low s) k ≡ mapG (lower low) (atEof l s k)
+  pub sim-eof : (l : Line) (s : Set) (k : ℕ) → atEof l (lowerSet low s) k ≡ mapG (lower low) (atEof l s k)
   sim-eof l s k = simp (through, file-same, totals-same, all-used-same)
 
-  sim-openTop : (l : Line) (s : Set) (j : ℕ) → openTop lo l (lowerSet low s) j ≡ mapG (lower low) (openTop hi l s j)
+  pub sim-openTop : (l : Line) (s : Set) (j : ℕ) → openTop lo l (lowerSet low s) j ≡ mapG (lower low) (openTop hi l s j)
   sim-openTop l s zero = simp (through, nil-map)
   sim-openTop l s (suc zero) = simp through
   sim-openTop l s (suc (suc zero)) = refl
   sim-openTop l s (suc (suc (suc j))) = refl
 
-  sim-top : (l : Line) (s : Set) (k : ℕ) (f : Form) → onTop lo l (lowerSet low s) k f ≡ mapG (lower low) (onTop hi l s k f)
+  pub sim-top : (l : Line) (s : Set) (k : ℕ) (f : Form) → onTop lo l (lowerSet low s) k f ≡ mapG (lower low) (onTop hi l s k f)
   sim-top l s k ignored = refl
   sim-top l s k (wrong n) = refl
   sim-top l s k close = refl
   sim-top l s k eof = sim-eof l s k
   sim-top l s k (keyed key x) = simp (through, map-act, sim-openTop)
 
-  sim-file : (l : Line) (s : Set) (n : ℕ) (h : Held) (p : ℕ) (f : Form) → onFile l (lowerSet low s) n h p f ≡ mapG (lower low) (onFile l s n h p f)
+  pub sim-file : (l : Line) (s : Set) (n : ℕ) (h : Held) (p : ℕ) (f : Form) → onFile l (lowerSet low s) n h p f ≡ mapG (lower low) (onFile l s n h p f)
   sim-file l s n h p f = simp (map-act, sim-shut p) (simp nil-map)
     where
       sim-close : closeFile l (lowerSet low s) n h ≡ mapG (lower low) (closeFile l s n h)
@@ -107,38 +107,38 @@ module _ (low high : Digits) (m : Option ℕ) where
       sim-shut zero = sim-close
       sim-shut (suc p) = refl
 
-  sim-drawing : (s : Set) (d : Drawing) (f : Form) → onDrawing (lowerSet low s) d f ≡ mapG (lower low) (onDrawing s d f)
+  pub sim-drawing : (s : Set) (d : Drawing) (f : Form) → onDrawing (lowerSet low s) d f ≡ mapG (lower low) (onDrawing s d f)
   sim-drawing s d f = simp (through, map-act, file-same)
 
-  sim-layerNames : (l : Line) (s : Set) (d : Drawing) (f : Form) → onLayerNames lo l (lowerSet low s) d f ≡ mapG (lower low) (onLayerNames hi l s d f)
+  pub sim-layerNames : (l : Line) (s : Set) (d : Drawing) (f : Form) → onLayerNames lo l (lowerSet low s) d f ≡ mapG (lower low) (onLayerNames hi l s d f)
   sim-layerNames l s d ignored = refl
   sim-layerNames l s d (wrong n) = refl
   sim-layerNames l s d close = refl
   sim-layerNames l s d eof = refl
   sim-layerNames l s d (keyed k x) = simp through
 
-  sim-defines : (l : Line) (s : Set) (b : Bool) (f : Form) → onDefines lo l (lowerSet low s) b f ≡ mapG (lower low) (onDefines hi l s b f)
+  pub sim-defines : (l : Line) (s : Set) (b : Bool) (f : Form) → onDefines lo l (lowerSet low s) b f ≡ mapG (lower low) (onDefines hi l s b f)
   sim-defines l s b f = simp (through, map-act, file-same)
 
-  sim-openSymbol : (s : Set) (y : Symbol) (i : ℕ) → openSymbol (lowerSet low s) y i ≡ mapG (lower low) (openSymbol s y i)
+  pub sim-openSymbol : (s : Set) (y : Symbol) (i : ℕ) → openSymbol (lowerSet low s) y i ≡ mapG (lower low) (openSymbol s y i)
   sim-openSymbol s y zero = refl
   sim-openSymbol s y (suc zero) = refl
   sim-openSymbol s y (suc (suc i)) = refl
 
-  sim-symbol : (s : Set) (y : Symbol) (f : Form) → onSymbol (lowerSet low s) y f ≡ mapG (lower low) (onSymbol s y f)
+  pub sim-symbol : (s : Set) (y : Symbol) (f : Form) → onSymbol (lowerSet low s) y f ≡ mapG (lower low) (onSymbol s y f)
   sim-symbol s y f = simp (through, map-act, file-same, sim-openSymbol)
 
-  sim-hide : (l : Line) (s : Set) (y : Symbol) (ps : List Point) (f : Form) → onHide lo l (lowerSet low s) y ps f ≡ mapG (lower low) (onHide hi l s y ps f)
+  pub sim-hide : (l : Line) (s : Set) (y : Symbol) (ps : List Point) (f : Form) → onHide lo l (lowerSet low s) y ps f ≡ mapG (lower low) (onHide hi l s y ps f)
   sim-hide l s y ps f = simp (through, map-act)
 
-  sim-elements : (s : Set) (f : Form) → onElements (lowerSet low s) f ≡ mapG (lower low) (onElements s f)
+  pub sim-elements : (s : Set) (f : Form) → onElements (lowerSet low s) f ≡ mapG (lower low) (onElements s f)
   sim-elements s f = simp (through, map-act, nil-map, elements-same, used-same, volume-same)
 
-  sim-closeFigures : (s : Set) (h : Home) (fs : List Figure) → closeFigures (lowerSet low s) h (lowerSoFar low (rangeOf s) h fs) ≡ mapG (lower low) (closeFigures s h fs)
+  pub sim-closeFigures : (s : Set) (h : Home) (fs : List Figure) → closeFigures (lowerSet low s) h (lowerSoFar low (rangeOf s) h fs) ≡ mapG (lower low) (closeFigures s h fs)
   sim-closeFigures s (inElement y) fs = simp through
   sim-closeFigures s (inLayer k) fs = simp (through, block-same)
 
-  sim-openFigure : (l : Line) (s : Set) (h : Home) (fs : List Figure) (i : ℕ)
+  pub sim-openFigure : (l : Line) (s : Set) (h : Home) (fs : List Figure) (i : ℕ)
       → openFigure lo l (lowerSet low s) h (lowerSoFar low (rangeOf s) h fs) i ≡ mapG (lower low) (openFigure hi l s h fs i)
   sim-openFigure l s h fs zero = refl
   sim-openFigure l s h fs (suc zero) = simp through
@@ -150,18 +150,18 @@ module _ (low high : Digits) (m : Option ℕ) where
   table-same s (inElement y) = refl
   table-same s (inLayer k) = simp file-same
 
-  sim-figures : (l : Line) (s : Set) (h : Home) (fs : List Figure) (f : Form)
+  pub sim-figures : (l : Line) (s : Set) (h : Home) (fs : List Figure) (f : Form)
       → onFigures lo l (lowerSet low s) h (lowerSoFar low (rangeOf s) h fs) f ≡ mapG (lower low) (onFigures hi l s h fs f)
   sim-figures l s h fs f = simp (through, map-act, table-same, file-same, sim-openFigure, sim-closeFigures, soFar-plain)
     where
       soFar-plain : (d : Digits) (n j : ℕ) (v : List Num) → lowerSoFar low d h (fs ++ plain n j v ∷ []) ≡ lowerSoFar low d h fs ++ plain n j v ∷ []
       soFar-plain d n j v = soFar-one low d h fs (plain n j v) refl
 
-  sim-successive : (l : Line) (s : Set) (h : Home) (fs : List Figure) (n : ℕ) (ps : List Point) (f : Form)
+  pub sim-successive : (l : Line) (s : Set) (h : Home) (fs : List Figure) (n : ℕ) (ps : List Point) (f : Form)
       → onSuccessive lo l (lowerSet low s) h (lowerSoFar low (rangeOf s) h fs) n ps f ≡ mapG (lower low) (onSuccessive hi l s h fs n ps f)
   sim-successive l s h fs n ps f = simp (through, map-act, soFar-one low (rangeOf s) h fs (chain n ps) refl)
 
-  sim-texts : (s : Set) (h : Home) (fs : List Figure) (n : ℕ) (o : Slots) (f : Form)
+  pub sim-texts : (s : Set) (h : Home) (fs : List Figure) (n : ℕ) (o : Slots) (f : Form)
       → onTexts (lowerSet low s) h (lowerSoFar low (rangeOf s) h fs) n o f ≡ mapG (lower low) (onTexts s h fs n o f)
   sim-texts s h fs n o f = simp (through, map-act, soFar-one low (rangeOf s) h fs (lettering n o) refl)
 
@@ -170,13 +170,13 @@ module _ (low high : Digits) (m : Option ℕ) where
   map-skip g deeper a b = refl
   map-skip g noForm a b = refl
 
-  sim-skipShut : (s : Set) (k : ℕ) (fs : List Figure) (n : ℕ) (o : Held) (d : ℕ)
+  pub sim-skipShut : (s : Set) (k : ℕ) (fs : List Figure) (n : ℕ) (o : Held) (d : ℕ)
       → skipShut (lowerSet low s) k (lowerFigures low (rangeOf s) fs) n (lowerHeld low (rangeOf s) o) d ≡ mapG (lower low) (skipShut s k fs n o d)
   sim-skipShut s k fs n o zero = refl
   sim-skipShut s k fs n o (suc zero) = refl
   sim-skipShut s k fs n o (suc (suc d)) = refl
 
-  sim-skipping : (s : Set) (k : ℕ) (fs : List Figure) (n : ℕ) (o : Held) (d : ℕ) (f : Form)
+  pub sim-skipping : (s : Set) (k : ℕ) (fs : List Figure) (n : ℕ) (o : Held) (d : ℕ) (f : Form)
       → onSkipping (lowerSet low s) k (lowerFigures low (rangeOf s) fs) n (lowerHeld low (rangeOf s) o) d f ≡ mapG (lower low) (onSkipping s k fs n o d f)
   sim-skipping s k fs n o d ignored = refl
   sim-skipping s k fs n o d (wrong m) = refl

@@ -1,2 +1,3 @@
-pub mod PlacesApart
+pub mod DemandOne
 pub mod DemandThree
+pub mod PlacesApart

@@ -1,0 +1,439 @@
+-- In a set that was read only rows of text hold text: what `records-bare` asks of a set.
+use Prim.Native.Nat.{ℕ, zero, suc, _+_, _≤_, _<_}
+use mathlib.Core.Bool.{Bool, true, false, cond, _&&_, _||_, not}
+use mathlib.Core.List.{List, [], _∷_, _++_, map}
+use mathlib.Core.Option.{some}
+use mathlib.Core.Path.{_≡_, refl, subst}
+use native.Mathlib.Omega.{arith}
+use borrow.Author.Tests.{eqb-true}
+use lib.Dec.{eqb, leb, ltb}
+use lib.ListN.{length, getD, set}
+use Rattle.rules.specs.declared.Digits.{Digits}
+use Rattle.rules.specs.Base.{isNil, all, split, among, hasNumber}
+use Rattle.rules.specs.RefusalNumbers.{Got, got, bad, unless, mapG, andThen, orBad, keep, also}
+use Rattle.rules.specs.Lines.{Rest, Form, ignored, wrong, close, eof, keyed, Shape, opener, noContent, content, opening, formless, shapeOf, freeShapeOf, hasForm}
+use Rattle.rules.specs.RangeClass.{digits, digitsOf, reaches, exceeds, both, Skip, passes, deeper, noForm, skipOf, mostDepth}
+use Rattle.rules.specs.Values.{Value, nums, chars, Known, Kind, values, text, word, volumeName, sheet, ratio, serials, nothing, opens, headed, either, byteIn, lettersAndDigits, capital, readAll, agree, readPart, range, findSheet, sheets, readRatio, mostPartners, readSerials, readKind, linkedOf, numsOf, amountAt, isLayerId}
+use Rattle.rules.specs.Rows.{Rule, Found, absent, found, find, Slots, blank, Held, partOf, enter, marks, fullAt, fits, shapeFor, Act, stay, entry, begin, shut, refuse, orRefuse, innerOf, readShape, notTwice, actRow, actUnknown, actFound, complete, act}
+use Rattle.rules.specs.Blocks.{topTable, fileTables, drawingTable, definesTable, symbolTable, elementTable, mostLayers, around, blankHeld}
+use Rattle.rules.specs.Figures.{pointTable, textTable, placedTable, placedTables, leastPoints}
+use Rattle.rules.specs.Sets.{Point, Figure, plain, chain, lettering, placed, Drawing, Symbol, Contents, Set, nothingYet, isFirst, arcOf, defineRange, rangeOf, knownOf, usedIn, symbolOwn}
+use Rattle.rules.specs.VolumesAndTotals.{chained, dated, countedHere, countedAll, layersUsed}
+use Rattle.rules.specs.Machine.{Line, Env, Home, inElement, inLayer, State, top, file, drawing, layerNames, defines, symbol, hide, elements, figures, successive, texts, placing, skipping, ended, byAct, roomFor, openTop, onTop, closeFile, shutPart, onFile, onDrawing, layerValue, onLayerNames, onDefines, newName, openSymbol, onSymbol, onHide, onElements, isLayer, homeTable, closeFigures, openFigure, onFigures, onSuccessive, onTexts, bySkip, skipDeeper, onUnknown, newSerial, onPlaced, onPlacedKey, onPlacedOwn, onPlacing, onSkipping, stepIn, completes, nextVolume, step, Outcome, refused, accepted, thenRun, finish, run}
+use Rattle.rules.proofs.Chains.{On, on-unless, on-cond, on-map, on-then, on-also, by-cond}
+use Rattle.rules.proofs.Rows.{Row, here, there, found-row}
+use Rattle.rules.specs.RecordTable.{recordsOf}
+use Rattle.promises.specs.PlacesApart.{bareSet, placesApart}
+use Rattle.promises.proofs.RecordPlaces.{records-bare, isText, FitValue, FitSlots, FitHeld, Each, FitFigure, FitSymbol, FitBlock, FitContents, FitVolumes, FitSet}
+
+-- ── lists, slots ──
+each-more : {A : Type 0} (P : A → Type 0) (s : List A) (a : A) → Each P s → P a → Each P (s ++ a ∷ [])
+each-more P [] a g x = (x, tt)
+each-more P (b ∷ s) a g x = (g .0, each-more P s a (g .1) x)
+
+volume-more : (vs : List Contents) (v : Contents) → FitVolumes vs → FitContents (isNil vs) v → FitVolumes (vs ++ v ∷ [])
+volume-more [] v g x = (x, tt)
+volume-more (u ∷ us) v g x = (g .0, each-more (FitContents false) us v (g .1) x)
+
+fit-nil : (t : List Rule) → FitSlots t []
+fit-nil [] = tt
+fit-nil (r ∷ t) = (tt, fit-nil t)
+
+pub fit-blank : (t : List Rule) → FitSlots t (blank t)
+fit-blank [] = tt
+fit-blank (r ∷ t) = (tt, fit-blank t)
+
+pub fit-set : {t : List Rule} {j : ℕ} {r : Rule} → Row t j r → (s : Slots) (v : Value) → FitSlots t s → FitValue (isText (r .holds)) v → FitSlots t (set s j (some v))
+fit-set here [] v g x = g
+fit-set here (o ∷ s) v g x = (x, g .1)
+fit-set (there w) [] v g x = g
+fit-set (there w) (o ∷ s) v g x = (g .0, fit-set w s v (g .1) x)
+
+pub fit-blanks : (ts : List (List Rule)) → FitHeld ts (blankHeld ts)
+fit-blanks [] p = tt
+fit-blanks (t ∷ ts) zero = fit-blank t
+fit-blanks (t ∷ ts) (suc p) = fit-blanks ts p
+
+pub fit-enter : (ts : List (List Rule)) (h : Held) (p : ℕ) {j : ℕ} {r : Rule} → Row (getD ts p []) j r → (v : Value) → FitHeld ts h → FitValue (isText (r .holds)) v → FitHeld ts (enter h p j v)
+fit-enter ts h p {j} w v g x = go (λ q s. FitSlots (getD ts q []) s) h p (set (partOf h p) j (some v)) g (fit-set w (partOf h p) v (g p) x)
+  where
+    go : (Q : ℕ → Slots → Type 0) (h : Held) (p : ℕ) (s : Slots) → ((q : ℕ) → Q q (getD h q [])) → Q p s → (q : ℕ) → Q q (getD (set h p s) q [])
+    go Q [] p s k y q = k q
+    go Q (o ∷ h) zero s k y zero = y
+    go Q (o ∷ h) zero s k y (suc q) = k (suc q)
+    go Q (o ∷ h) (suc p) s k y zero = k 0
+    go Q (o ∷ h) (suc p) s k y (suc q) = go (λ q. Q (suc q)) h p s (λ q. k (suc q)) y q
+
+-- ── what is read ──
+numbers-fit : {A : Type 0} (f : A → Value) → ((a : A) → FitValue false (f a)) → (g : Got A) → On (FitValue false) (mapG f g)
+numbers-fit f h (got a) = h a
+numbers-fit f h (bad n) = tt
+
+on-weak : {A : Type 0} (P Q : A → Type 0) → ((a : A) → P a → Q a) → (g : Got A) → On P g → On Q g
+on-weak P Q f (got a) h = f a h
+on-weak P Q f (bad n) h = tt
+
+pub kind-fit : (k : Known) (d : Kind) (at : ℕ) (c : List ℕ) → On (FitValue (isText d)) (readKind k d at c)
+kind-fit k (values p ps a) at c = numbers-fit nums (λ v. tt) (keep 11 (agree a) (readAll k (p ∷ ps) (split 44 c)))
+kind-fit k (text n b) at c = on-unless (FitValue true) (all (byteIn b) c && leb (length c) n) 11 (got (chars at c)) (λ e. refl)
+kind-fit k (word n b) at c = on-unless (FitValue true) (all (byteIn b) c && leb (length c) n) 11 (got (chars at c)) (λ e. refl)
+kind-fit k volumeName at c = on-unless (FitValue true) (all (byteIn lettersAndDigits) c) 11 (got (chars at (map capital c))) (λ e. refl)
+kind-fit k sheet at c = numbers-fit nums (λ v. tt) (orBad 11 (findSheet c sheets))
+kind-fit k ratio at c = numbers-fit nums (λ v. tt) (readRatio c)
+kind-fit k serials at c = numbers-fit linkedOf linked-fit (keep 11 (λ ns. leb (length ns) (mostPartners + 1)) (readSerials (split 44 c)))
+  where
+    linked-fit : (ns : List ℕ) → FitValue false (linkedOf ns)
+    linked-fit [] = tt
+    linked-fit (n ∷ ps) = tt
+kind-fit k nothing at c = tt
+kind-fit k (opens i) at c = tt
+kind-fit k (headed i p) at c = numbers-fit (λ n. nums (n ∷ [])) (λ v. tt) (readPart k p c)
+kind-fit k (either i) at c = numbers-fit (λ n. nums (n ∷ [])) (λ v. tt) (readPart k (range 0 1) c)
+
+-- ── what a line does: the row is one of the table, and what it holds is of the row's kind ──
+abbrev pub FitRow : List Rule → ℕ → Value → Type 0
+FitRow t j v = (r : Rule) × Row t j r × FitValue (isText (r .holds)) v
+
+abbrev pub FitAct : List Rule → Act → Type 0
+FitAct t stay = Unit {0}
+FitAct t (entry j v) = FitRow t j v
+FitAct t (begin i j v) = FitRow t j v
+FitAct t shut = Unit {0}
+FitAct t (refuse n) = Unit {0}
+
+shape-fit : (k : Known) {t : List Rule} {j : ℕ} {r : Rule} → Row t j r → (s : Shape) → On (FitAct t) (readShape k j r s)
+shape-fit k {r = r} w opener = (r, w, tt)
+shape-fit k {r = r} w noContent = (r, w, tt)
+shape-fit k {t} {j} {r} w (content at c) =
+    on-map (FitAct t) (entry j) (readKind k (r .holds) at c) (on-weak (FitValue (isText (r .holds))) _ (λ v x. (r, w, x)) (readKind k (r .holds) at c) (kind-fit k (r .holds) at c))
+shape-fit k {t} {j} {r} w (opening at c) =
+    on-map (FitAct t) (begin (innerOf (r .holds)) j) (readKind k (r .holds) at c) (on-weak (FitValue (isText (r .holds))) _ (λ v x. (r, w, x)) (readKind k (r .holds) at c) (kind-fit k (r .holds) at c))
+shape-fit k w formless = tt
+
+fit-unless : (t : List Rule) (b : Bool) (n : ℕ) (g : Got Act) → FitAct t (orRefuse g) → FitAct t (orRefuse (unless b n g))
+fit-unless t true n g h = h
+fit-unless t false n g h = tt
+
+pub row-fit : (k : Known) (d : Digits) (full : Bool) {t : List Rule} {j : ℕ} {r : Rule} → Row t j r → (c : Rest) → FitAct t (actRow k d full j r c)
+row-fit k d full {t} {j} {r} w c =
+    fit-unless t (hasForm (shapeFor r c)) 5 _
+    (fit-unless t (reaches d (r .least)) 6 _
+    (fit-unless t (fits (r .holds) (r .may) (shapeFor r c)) 5 _
+    (fit-unless t (notTwice (r .times) full) 7 _ (last (readShape k j r (shapeFor r c)) (shape-fit k w (shapeFor r c))))))
+  where
+    last : (g : Got Act) → On (FitAct t) g → FitAct t (orRefuse (andThen g λ a. unless (not full) 11 (got a)))
+    last (got a) h = fit-unless t (not full) 11 (got a) h
+    last (bad n) h = tt
+
+pub unknown-fit : (t : List Rule) (c : Rest) → FitAct t (actUnknown c)
+unknown-fit t c = fit-unless t (hasForm (shapeOf c)) 5 (bad 6) tt
+
+pub act-fit : (k : Known) (t : List Rule) (d : Digits) (full : List Bool) (f : Form) → FitAct t (act k t d full f)
+act-fit k t d full ignored = tt
+act-fit k t d full (wrong n) = tt
+act-fit k t d full close = by-cond (FitAct t) (complete d t full) (λ e. tt) (λ e. tt)
+act-fit k t d full eof = tt
+act-fit k t d full (keyed key c) = go (find key t) refl
+  where
+    go : (f : Found) → find key t ≡ f → FitAct t (actFound k d full c f)
+    go absent e = unknown-fit t c
+    go (found j r) e = row-fit k d (getD full j false) (found-row key t j r e .0) c
+
+-- ── states ──
+-- the volume at hand
+abbrev FitNow : Set → Type 0
+FitNow s = FitContents (isFirst s) (s .now)
+
+abbrev FitHome : Home → Type 0
+FitHome (inElement y) = FitSymbol y
+FitHome (inLayer k) = Unit {0}
+
+abbrev FitFigures : Set → Home → List Figure → Type 0
+FitFigures s h fs = FitSet s × FitNow s × FitHome h × Each (FitFigure (isLayer h)) fs
+
+abbrev FitPlacing : Set → List Figure → Held → Type 0
+FitPlacing s fs o = FitSet s × FitNow s × Each (FitFigure true) fs × FitHeld placedTables o
+
+-- at the top level the volume at hand is open from FILE_FORMAT's end to ELEMENT's
+abbrev pub FitState : State → Type 0
+FitState (top s k) = FitSet s × (1 ≤ k → k < 4 → FitNow s)
+FitState (file s n h p) = FitSet s × FitHeld (fileTables (isFirst s)) h
+FitState (drawing s d) = FitSet s × FitNow s × FitSlots drawingTable (d .own)
+FitState (layerNames s d) = FitSet s × FitNow s × FitSlots drawingTable (d .own)
+FitState (defines s b) = FitSet s × FitNow s
+FitState (symbol s y) = FitSet s × FitNow s × FitSymbol y
+FitState (hide s y ps) = FitSet s × FitNow s × FitSymbol y
+FitState (elements s) = FitSet s × FitNow s
+FitState (figures s h fs) = FitFigures s h fs
+FitState (successive s h fs n ps) = FitFigures s h fs
+FitState (texts s h fs n o) = FitFigures s h fs × FitSlots (textTable (isLayer h) 4 12) o
+FitState (placing s k fs n o p) = FitPlacing s fs o
+FitState (skipping s k fs n o d) = FitPlacing s fs o
+FitState (ended s) = FitSet s
+
+by-act : {t : List Rule} (a : Act) (z : State) (n : ℕ → Value → Got State) (o : ℕ → ℕ → Value → Got State) (c : Unit {0} → Got State) → FitAct t a → FitState z
+    → ((j : ℕ) (v : Value) → FitRow t j v → On FitState (n j v)) → ((i j : ℕ) (v : Value) → FitRow t j v → On FitState (o i j v)) → On FitState (c tt)
+    → On FitState (byAct z n o c a)
+by-act stay z n o c f h en eo ec = h
+by-act (entry j v) z n o c f h en eo ec = en j v f
+by-act (begin i j v) z n o c f h en eo ec = eo i j v f
+by-act shut z n o c f h en eo ec = ec
+by-act (refuse m) z n o c f h en eo ec = tt
+
+by-line : (k : Known) (t : List Rule) (d : Digits) (full : List Bool) (f : Form) (z : State) (n : ℕ → Value → Got State) (o : ℕ → ℕ → Value → Got State) (c : Unit {0} → Got State)
+    → FitState z → ((j : ℕ) (v : Value) → FitRow t j v → On FitState (n j v)) → ((i j : ℕ) (v : Value) → FitRow t j v → On FitState (o i j v)) → On FitState (c tt)
+    → On FitState (byAct z n o c (act k t d full f))
+by-line k t d full f z n o c h en eo ec = by-act (act k t d full f) z n o c (act-fit k t d full f) h en eo ec
+
+abbrev room : Env → ℕ → Set → Bool
+room e n s = roomFor (e .limit) (s .taken + n)
+
+-- ── each block ──
+top-rows : (j : ℕ) (v : Value) → FitRow topTable j v → j < 4
+unfolding topTable
+top-rows j v w = row-below (w .1)
+  where
+    row-below : {t : List Rule} {j : ℕ} {r : Rule} → Row t j r → j < length t
+    row-below here = omega arith
+    row-below (there w) = let h = row-below w in omega arith
+
+openTop-fit : (e : Env) (l : Line) (s : Set) (k : ℕ) → FitState (top s k) → k < 4 → On FitState (openTop e l s k)
+openTop-fit e l s zero f h = on-unless FitState (room e (cond (isFirst s) 2 1) s) 19 _ λ _. (f .0, fit-blanks (fileTables (isFirst s)))
+openTop-fit e l s (suc zero) f h = on-unless FitState (room e 1 s) 19 _ λ _. (f .0, f .1 (omega arith) h, fit-blank drawingTable)
+openTop-fit e l s (suc (suc zero)) f h = (f .0, f .1 (omega arith) h)
+openTop-fit e l s (suc (suc (suc k))) f h = (f .0, f .1 (omega arith) h)
+
+onTop-fit : (e : Env) (l : Line) (s : Set) (k : ℕ) (f : Form) → FitState (top s k) → On FitState (onTop e l s k f)
+onTop-fit e l s k ignored h = h
+onTop-fit e l s k (wrong n) h = tt
+onTop-fit e l s k close h = tt
+onTop-fit e l s k eof h =
+    on-unless FitState (eqb k 4 && (isNil (l .next) && l .last)) 9 _ λ _.
+    on-unless FitState (layersUsed s) 14 _ λ _. on-unless FitState (countedAll s) 17 (got (ended s)) λ _. h .0
+onTop-fit e l s k (keyed key c) h =
+    by-line (knownOf s) topTable (digits 0 0) (fullAt 0 topTable) (keyed key c) (top s k) _ _ _ h (λ j v w. tt)
+    (λ i j v w. on-unless FitState (eqb j k) 9 _ λ e′. let q = eqb-true j k e′ in rw q (openTop-fit e l s k h (rw q at (top-rows j v w)))) tt
+
+closeFile-fit : (l : Line) (s : Set) (n : ℕ) (h : Held) → FitState (file s n h 0) → On FitState (closeFile l s n h)
+closeFile-fit l s n h f = on-unless FitState (chained (isFirst s) (l .next) h && dated s (isFirst s) h) 16 _ λ _. (f .0, λ a b. (f .1, tt))
+
+shutPart-fit : (p : ℕ) (w : Got State) (b : ℕ → State) → On FitState w → ((q : ℕ) → FitState (b q)) → On FitState (shutPart p w b)
+shutPart-fit zero w b e h = e
+shutPart-fit (suc p) w b e h = h (around (suc p))
+
+onFile-fit : (l : Line) (s : Set) (n : ℕ) (h : Held) (p : ℕ) (f : Form) → FitState (file s n h p) → On FitState (onFile l s n h p f)
+onFile-fit l s n h p f g =
+    by-line (knownOf s) (getD (fileTables (isFirst s)) p []) (digits 0 0) (marks (partOf h p)) f (file s n h p) _ _ _ g
+    (λ j v w. (g .0, fit-enter (fileTables (isFirst s)) h p (w .1) v (g .1) (w .2)))
+    (λ i j v w. (g .0, fit-enter (fileTables (isFirst s)) h p (w .1) v (g .1) (w .2)))
+    (shutPart-fit p (closeFile l s n h) _ (closeFile-fit l s n h g) (λ q. g))
+
+onDrawing-fit : (s : Set) (d : Drawing) (f : Form) → FitState (drawing s d) → On FitState (onDrawing s d f)
+onDrawing-fit s d f g =
+    by-line (knownOf s) drawingTable (digitsOf (arcOf s)) (marks (d .own)) f (drawing s d) _ _ _ g
+    (λ j v w. (g .0, g .1, fit-set (w .1) (d .own) v (g .2) (w .2)))
+    (λ i j v w. (g .0, g .1, fit-set (w .1) (d .own) v (g .2) (w .2)))
+    ((g .2, g .0 .1, g .0 .2), λ a b. g .1)
+
+onLayerNames-fit : (e : Env) (l : Line) (s : Set) (d : Drawing) (f : Form) → FitState (layerNames s d) → On FitState (onLayerNames e l s d f)
+onLayerNames-fit e l s d ignored g = g
+onLayerNames-fit e l s d (wrong n) g = tt
+onLayerNames-fit e l s d close g = g
+onLayerNames-fit e l s d eof g = tt
+onLayerNames-fit e l s d (keyed k c) g =
+    on-unless FitState (isLayerId k) 6 _ λ _.
+    on-then FitState (layerValue k (freeShapeOf c)) _ λ v _.
+    on-unless FitState (ltb (length (d .layers)) mostLayers) 11 _ λ _.
+    on-unless FitState (not (among k (map (λ y. y .id) (d .layers)))) 14 _ λ _. on-unless FitState (room e 1 s) 19 _ λ _. g
+
+onDefines-fit : (e : Env) (l : Line) (s : Set) (b : Bool) (f : Form) → FitState (defines s b) → On FitState (onDefines e l s b f)
+onDefines-fit e l s b f g =
+    by-line (knownOf s) definesTable (digitsOf (defineRange s)) (b ∷ false ∷ []) f (defines s b) _ _ _ g
+    (λ j v w. on-unless FitState (isNil (s .symbols)) 6 _ λ _. g)
+    (λ i j v w. on-unless FitState (not b) 6 _ λ _. on-unless FitState (room e 1 s) 19 _ λ _. (g .0, g .1, (fit-blank symbolTable, tt)))
+    (on-unless FitState (b || not (isNil (s .symbols))) 8 _ λ _. (g .0, λ a b. g .1))
+
+openSymbol-fit : (s : Set) (y : Symbol) (i : ℕ) → FitState (symbol s y) → On FitState (openSymbol s y i)
+openSymbol-fit s y zero g = tt
+openSymbol-fit s y (suc zero) g = (g .0, g .1, g .2, tt)
+openSymbol-fit s y (suc (suc i)) g = g
+
+onSymbol-fit : (s : Set) (y : Symbol) (f : Form) → FitState (symbol s y) → On FitState (onSymbol s y f)
+onSymbol-fit s y f g =
+    by-line (knownOf s) symbolTable (digitsOf (defineRange s)) (marks (y .own)) f (symbol s y) _ _ _ g
+    (λ j v w. on-unless FitState (newName s (symbolOwn (set (y .own) j (some v)) y)) 15 _ λ _. (g .0, g .1, (fit-set (w .1) (y .own) v (g .2 .0) (w .2), g .2 .1)))
+    (λ i j v w. openSymbol-fit s (symbolOwn (set (y .own) j (some v)) y) i (g .0, g .1, (fit-set (w .1) (y .own) v (g .2 .0) (w .2), g .2 .1)))
+    ((g .0 .0, each-more FitSymbol (s .symbols) y (g .0 .1) (g .2), g .0 .2), g .1)
+
+onHide-fit : (e : Env) (l : Line) (s : Set) (y : Symbol) (ps : List Point) (f : Form) → FitState (hide s y ps) → On FitState (onHide e l s y ps f)
+onHide-fit e l s y ps f g =
+    by-line (knownOf s) (pointTable false) (digits 0 0) (fullAt (length ps) (pointTable false)) f (hide s y ps) _ _ _ g
+    (λ j v w. on-unless FitState (room e 1 s) 19 _ λ _. g) (λ i j v w. tt) g
+
+onElements-fit : (s : Set) (f : Form) → FitState (elements s) → On FitState (onElements s f)
+onElements-fit s f g =
+    by-line (knownOf s) elementTable (digits 0 0) (fullAt 0 elementTable) f (elements s) _ _ _ g
+    (λ j v w. tt)
+    (λ i j v w. on-unless FitState (not (hasNumber (amountAt v 0) (usedIn (s .now)))) 14 _ λ _. (g .0, g .1, tt, tt))
+    (on-unless FitState (countedHere s) 17 _ λ _. ((g .0 .0, g .0 .1, volume-more (s .volumes) (s .now) (g .0 .2) (g .1)), λ a b. absurd (let z : 4 < 4 = b in omega arith)))
+
+-- ── figures ──
+closeFigures-fit : (s : Set) (h : Home) (fs : List Figure) → FitFigures s h fs → On FitState (closeFigures s h fs)
+closeFigures-fit s (inElement y) fs g = on-unless FitState (not (isNil fs)) 8 _ λ _. (g .0, g .1, (g .2 .0, g .3))
+closeFigures-fit s (inLayer k) fs g = (g .0, (g .1 .0, each-more FitBlock (s .now .blocks) (record { layer = k; figures = fs }) (g .1 .1) (g .3)))
+
+openFigure-fit : (e : Env) (l : Line) (s : Set) (h : Home) (fs : List Figure) (i : ℕ) → FitFigures s h fs → On FitState (openFigure e l s h fs i)
+openFigure-fit e l s h fs zero g = tt
+openFigure-fit e l s h fs (suc zero) g = on-unless FitState (room e 1 s) 19 _ λ _. g
+openFigure-fit e l s h fs (suc (suc zero)) g = on-unless FitState (room e 1 s) 19 _ λ _. (g, fit-blank (textTable (isLayer h) 4 12))
+openFigure-fit e l s (inElement y) fs (suc (suc (suc i))) g = tt
+openFigure-fit e l s (inLayer k) fs (suc (suc (suc i))) g = on-unless FitState (room e 1 s) 19 _ λ _. (g .0, g .1, g .3, fit-blanks placedTables)
+
+more-figures : (s : Set) (h : Home) (fs : List Figure) (x : Figure) → FitFigures s h fs → FitFigure (isLayer h) x → FitFigures s h (fs ++ x ∷ [])
+more-figures s h fs x g w = (g .0, g .1, g .2, each-more (FitFigure (isLayer h)) fs x (g .3) w)
+
+onFigures-fit : (e : Env) (l : Line) (s : Set) (h : Home) (fs : List Figure) (f : Form) → FitFigures s h fs → On FitState (onFigures e l s h fs f)
+onFigures-fit e l s h fs f g =
+    by-line (knownOf s) (homeTable s h) (rangeOf s) (fullAt 0 (homeTable s h)) f (figures s h fs) _ _ _ g
+    (λ j v w. on-unless FitState (room e 1 s) 19 _ λ _. more-figures s h fs (plain (l .line) j (numsOf v)) g tt)
+    (λ i j v w. openFigure-fit e l s h fs i g) (closeFigures-fit s h fs g)
+
+onSuccessive-fit : (e : Env) (l : Line) (s : Set) (h : Home) (fs : List Figure) (n : ℕ) (ps : List Point) (f : Form) → FitFigures s h fs → On FitState (onSuccessive e l s h fs n ps f)
+onSuccessive-fit e l s h fs n ps f g =
+    by-line (knownOf s) (pointTable (isLayer h)) (digits 0 0) (fullAt (length ps) (pointTable (isLayer h))) f (successive s h fs n ps) _ _ _ g
+    (λ j v w. on-unless FitState (room e 1 s) 19 _ λ _. g) (λ i j v w. tt)
+    (on-unless FitState (leb leastPoints (length ps)) 8 _ λ _. more-figures s h fs (chain n ps) g tt)
+
+onTexts-fit : (s : Set) (h : Home) (fs : List Figure) (n : ℕ) (o : Slots) (f : Form) → FitState (texts s h fs n o) → On FitState (onTexts s h fs n o f)
+onTexts-fit s h fs n o f g =
+    by-line (knownOf s) (textTable (isLayer h) 4 12) (digits 0 0) (marks o) f (texts s h fs n o) _ _ _ g
+    (λ j v w. (g .0, fit-set (w .1) o v (g .1) (w .2))) (λ i j v w. tt) (more-figures s h fs (lettering n o) (g .0) (g .1))
+
+-- ── the placed symbol ──
+bySkip-fit : (k : Skip) (x y : Got State) → On FitState x → On FitState y → On FitState (bySkip k x y)
+bySkip-fit passes x y f g = f
+bySkip-fit deeper x y f g = g
+bySkip-fit noForm x y f g = tt
+
+onUnknown-fit : (e : Env) (s : Set) (i : ℕ) (fs : List Figure) (n : ℕ) (o : Held) (k : List ℕ) (c : Rest) → FitPlacing s fs o → On FitState (onUnknown e s i fs n o k c)
+onUnknown-fit e s i fs n o k c g =
+    on-cond FitState (exceeds (rangeOf s) (e .class)) _ _
+    (λ _. bySkip-fit (skipOf k c) (got (placing s i fs n o 0)) (got (skipping s i fs n o 1)) g g)
+    (λ _. by-act {t = placedTable} (actUnknown c) (placing s i fs n o 0) _ _ _ (unknown-fit placedTable c) g (λ j v w. tt) (λ i j v w. tt) tt)
+
+onPlaced-fit : (s : Set) (i : ℕ) (fs : List Figure) (n : ℕ) (o : Held) (p : ℕ) (a : Act) → FitAct (getD placedTables p []) a → FitPlacing s fs o → On FitState (onPlaced s i fs n o p a)
+onPlaced-fit s i fs n o p a f g =
+    by-act a (placing s i fs n o p) _ _ _ f g
+    (λ j v w. on-unless FitState (newSerial s fs v) 15 _ λ _. (g .0, g .1, g .2, fit-enter placedTables o p (w .1) v (g .3) (w .2)))
+    (λ i j v w. (g .0, g .1, g .2, fit-enter placedTables o p (w .1) v (g .3) (w .2)))
+    (shutPart-fit p _ _ (g .0, g .1, tt, each-more (FitFigure true) fs (placed n o) (g .2) (g .3)) (λ q. g))
+
+onPlacedOwn-fit : (e : Env) (s : Set) (i : ℕ) (fs : List Figure) (n : ℕ) (o : Held) (f : Form) → FitPlacing s fs o → On FitState (onPlacedOwn e s i fs n o f)
+onPlacedOwn-fit e s i fs n o ignored g = g
+onPlacedOwn-fit e s i fs n o (wrong m) g = tt
+onPlacedOwn-fit e s i fs n o close g =
+    onPlaced-fit s i fs n o 0 (act (knownOf s) placedTable (both (e .class) (rangeOf s)) (marks (partOf o 0)) close)
+    (act-fit (knownOf s) placedTable (both (e .class) (rangeOf s)) (marks (partOf o 0)) close) g
+onPlacedOwn-fit e s i fs n o eof g = tt
+onPlacedOwn-fit e s i fs n o (keyed k c) g = go (find k placedTable) refl
+  where
+    go : (f : Found) → find k placedTable ≡ f → On FitState (onPlacedKey e s i fs n o k c f)
+    go absent p = onUnknown-fit e s i fs n o k c g
+    go (found j r) p =
+        on-cond FitState (reaches (e .class) (r .least)) _ _
+        (λ _. onPlaced-fit s i fs n o 0 (actRow (knownOf s) (rangeOf s) (getD (marks (partOf o 0)) j false) j r c) (row-fit (knownOf s) (rangeOf s) (getD (marks (partOf o 0)) j false) (found-row k placedTable j r p .0) c) g)
+        (λ _. onUnknown-fit e s i fs n o k c g)
+
+onPlacing-fit : (e : Env) (s : Set) (i : ℕ) (fs : List Figure) (n : ℕ) (o : Held) (p : ℕ) (f : Form) → FitPlacing s fs o → On FitState (onPlacing e s i fs n o p f)
+onPlacing-fit e s i fs n o zero f g = onPlacedOwn-fit e s i fs n o f g
+onPlacing-fit e s i fs n o (suc p) f g =
+    onPlaced-fit s i fs n o (suc p) (act (knownOf s) (getD placedTables (suc p) []) (digits 0 0) (marks (partOf o (suc p))) f)
+    (act-fit (knownOf s) (getD placedTables (suc p) []) (digits 0 0) (marks (partOf o (suc p))) f) g
+
+onSkipping-fit : (s : Set) (i : ℕ) (fs : List Figure) (n : ℕ) (o : Held) (d : ℕ) (f : Form) → FitPlacing s fs o → On FitState (onSkipping s i fs n o d f)
+onSkipping-fit s i fs n o d ignored g = g
+onSkipping-fit s i fs n o d (wrong m) g = tt
+onSkipping-fit s i fs n o zero close g = tt
+onSkipping-fit s i fs n o (suc zero) close g = g
+onSkipping-fit s i fs n o (suc (suc d)) close g = g
+onSkipping-fit s i fs n o d eof g = tt
+onSkipping-fit s i fs n o d (keyed k c) g =
+    bySkip-fit (skipOf k c) (got (skipping s i fs n o d)) (skipDeeper d (skipping s i fs n o (suc d))) g (on-unless FitState (ltb d mostDepth) 18 _ λ _. g)
+
+-- ── all lines ──
+stepIn-fit : (e : Env) (l : Line) (s : State) → FitState s → On FitState (stepIn e l s)
+stepIn-fit e l (top s k) g = onTop-fit e l s k (l .form) g
+stepIn-fit e l (file s n h p) g = onFile-fit l s n h p (l .form) g
+stepIn-fit e l (drawing s d) g = onDrawing-fit s d (l .form) g
+stepIn-fit e l (layerNames s d) g = onLayerNames-fit e l s d (l .form) g
+stepIn-fit e l (defines s b) g = onDefines-fit e l s b (l .form) g
+stepIn-fit e l (symbol s y) g = onSymbol-fit s y (l .form) g
+stepIn-fit e l (hide s y ps) g = onHide-fit e l s y ps (l .form) g
+stepIn-fit e l (elements s) g = onElements-fit s (l .form) g
+stepIn-fit e l (figures s h fs) g = onFigures-fit e l s h fs (l .form) g
+stepIn-fit e l (successive s h fs n ps) g = onSuccessive-fit e l s h fs n ps (l .form) g
+stepIn-fit e l (texts s h fs n o) g = onTexts-fit s h fs n o (l .form) g
+stepIn-fit e l (placing s k fs n o p) g = onPlacing-fit e s k fs n o p (l .form) g
+stepIn-fit e l (skipping s k fs n o d) g = onSkipping-fit s k fs n o d (l .form) g
+stepIn-fit e l (ended s) g = tt
+
+next-fit : (s : State) → FitState s → FitState (nextVolume s)
+next-fit (top s k) g = (g .0, λ a b. absurd (let z : 1 ≤ 0 = a in omega arith))
+next-fit (file s n h p) g = g
+next-fit (drawing s d) g = g
+next-fit (layerNames s d) g = g
+next-fit (defines s b) g = g
+next-fit (symbol s y) g = g
+next-fit (hide s y ps) g = g
+next-fit (elements s) g = g
+next-fit (figures s h fs) g = g
+next-fit (successive s h fs n ps) g = g
+next-fit (texts s h fs n o) g = g
+next-fit (placing s k fs n o p) g = g
+next-fit (skipping s k fs n o d) g = g
+next-fit (ended s) g = g
+
+pub step-fit : (e : Env) (l : Line) (s : State) → FitState s → On FitState (step e l s)
+step-fit e l s g = on-cond FitState (l .last) _ _ (λ _. next (also (completes l s) 9 (stepIn e l s)) (on-also FitState (completes l s) 9 (stepIn e l s) (λ _. stepIn-fit e l s g))) (λ _. stepIn-fit e l s g)
+  where
+    next : (x : Got State) → On FitState x → On FitState (mapG nextVolume x)
+    next (got u) h = next-fit u h
+    next (bad n) h = tt
+
+-- what holds of the set, where one is accepted
+abbrev FitOutcome : Outcome → Type 0
+FitOutcome (refused n v l) = Unit {0}
+FitOutcome (accepted s) = FitSet s
+
+finish-fit : (s : State) → FitState s → FitOutcome (finish s)
+finish-fit (top s k) g = tt
+finish-fit (file s n h p) g = tt
+finish-fit (drawing s d) g = tt
+finish-fit (layerNames s d) g = tt
+finish-fit (defines s b) g = tt
+finish-fit (symbol s y) g = tt
+finish-fit (hide s y ps) g = tt
+finish-fit (elements s) g = tt
+finish-fit (figures s h fs) g = tt
+finish-fit (successive s h fs n ps) g = tt
+finish-fit (texts s h fs n o) g = tt
+finish-fit (placing s k fs n o p) g = tt
+finish-fit (skipping s k fs n o d) g = tt
+finish-fit (ended s) g = g
+
+run-fit : (e : Env) (ls : List Line) (s : State) → FitState s → FitOutcome (run e s ls)
+run-fit e [] s g = finish-fit s g
+run-fit e (l ∷ ls) s g = go (step e l s) (step-fit e l s g) (run-fit e ls)
+  where
+    go : (x : Got State) → On FitState x → ((u : State) → FitState u → FitOutcome (run e u ls)) → FitOutcome (thenRun x l (λ u. run e u ls))
+    go (got u) h ih = ih u h
+    go (bad n) h ih = tt
+
+pub accepted-fit : (e : Env) (ls : List Line) (t : Set) → run e (top nothingYet 0) ls ≡ accepted t → FitSet t
+accepted-fit e ls t h =
+    subst FitOutcome h (run-fit e ls (top nothingYet 0) ((fit-nil drawingTable, tt, tt), λ a b. absurd (let z : 1 ≤ 0 = a in omega arith)))
+
+-- so the records of a set that was read differ from those of the bare set in their places alone
+pub records-read : (c : Digits) (e : Env) (ls : List Line) (t : Set) → run e (top nothingYet 0) ls ≡ accepted t
+    → map placesApart (recordsOf c t) ≡ map placesApart (recordsOf c (bareSet t))
+records-read c e ls t h = records-bare c t (accepted-fit e ls t h)

@@ -1,0 +1,440 @@
+-- Records, and the texts that they show, differ in their places alone, where only rows of text hold text.
+use Prim.Native.Nat.{ℕ, zero, suc, _+_}
+use Prim.Native.String as S
+use mathlib.Core.Bool.{Bool, true, false, cond, _||_, not}
+use mathlib.Core.List.{List, [], _∷_, _++_, map}
+use mathlib.Core.Option.{Option, none, some}
+use mathlib.Core.Path.{_≡_, refl, sym, _∙_, ap, ap₂}
+use lib.Dec.{eqb}
+use lib.IntN.{ℤ, pos, negsuc}
+use lib.ListN.{length, getD, set, take, drop, length-map}
+use lib.Seq.{sets}
+use Rattle.rules.specs.declared.Digits.{Digits}
+use Rattle.rules.specs.Base.{mapO, all, flat, hasNumber}
+use Rattle.rules.specs.RangeClass.{digits, hides}
+use Rattle.rules.specs.Values.{Num, Value, empty, nums, chars, linked, Kind, values, text, word, volumeName, sheet, ratio, serials, nothing, opens, headed, either, charsOf}
+use Rattle.rules.specs.Rows.{Rule, Slots, Held, partOf, slotValue, held}
+use Rattle.rules.specs.Blocks.{fileTable, rangeTable, baseTable, elecTable, symTable, laterTable, fileTables, drawingTable, symbolTable}
+use Rattle.rules.specs.Figures.{layerTable, figureTable, pointTable, textTable, placedTable, placedTables}
+use Rattle.rules.specs.Sets.{Point, Figure, plain, chain, lettering, placed, Layer, Drawing, Symbol, LayerBlock, Contents, Set, rangeOf, isSingle}
+use Rattle.rules.specs.RecordTable.{numbers, numbersOf, stateOf, columns, firstOr0, others, padded, putNumbers, putState, putSlot, firstSlot, otherSlots, putSlots, putParts, putHeld, unreadState, markUnread, start, fileRecords, drawingRecord, layerRecord, layerRecords, ruleAt, plainRecord, lineRecord, pointRecords, firstType, chainRecord, textRecord, placedRecord, figureRecords, innerRecords, symbolRecords, blockRecords, bodyRecords, laterRecords, recordsFrom, recordsOf}
+use Rattle.rules.proofs.Chains.{and-left, and-right, cond-same, map-append}
+use Rattle.promises.specs.PlacesApart.{bareValue, bareSlots, bareHeld, barePoint, bareFigure, bareLayer, bareDrawing, bareSymbol, bareBlock, bareContents, bareSet, textPlaces, kindOf, without, placesApart, textAt, headerTexts, drawingTexts, figureTexts, symbolTexts, blockTexts, bodyTexts, textsFrom, textsOf}
+use Rattle.promises.proofs.Places.{map-same, chars-bare, held-bare, part-bare, range-bare, single-bare, name-bare}
+
+-- ── texts ──
+text-bare : (k : S.String) (t : List Rule) (s : Slots) → textAt k t (bareSlots s) ≡ textAt k t s
+text-bare k t s = ap charsOf (held-bare k t s) ∙ chars-bare (slotValue (held k t s))
+
+flat-same : {A B : Type 0} (g : A → List B) (f : A → A) → ((a : A) → g (f a) ≡ g a) → (s : List A) → flat (map g (map f s)) ≡ flat (map g s)
+flat-same g f e s = ap flat (map-same g f e s)
+
+figure-texts : (f : Figure) → figureTexts (bareFigure f) ≡ figureTexts f
+figure-texts (plain n j v) = refl
+figure-texts (chain n ps) = refl
+figure-texts (lettering n s) = rw (text-bare "character" (textTable true 4 12) s)
+figure-texts (placed n h) =
+    rw (part-bare h 0, part-bare h 1, text-bare "circuit" placedTable (partOf h 0), text-bare "character" (textTable true 16 24) (partOf h 1))
+
+body-texts : (v : Contents) → bodyTexts (bareContents v) ≡ bodyTexts v
+body-texts v = flat-same blockTexts bareBlock (λ u. flat-same figureTexts bareFigure figure-texts (u .figures)) (v .blocks)
+
+symbol-texts : (y : Symbol) → symbolTexts (bareSymbol y) ≡ symbolTexts y
+symbol-texts y = ap₂ _∷_ (name-bare y) (flat-same figureTexts bareFigure figure-texts (y .figures))
+
+header-texts : (s : Slots) → headerTexts (bareSlots s) ≡ headerTexts s
+header-texts s = simp text-bare
+
+drawing-texts : (d : Drawing) → drawingTexts (bareDrawing d) ≡ drawingTexts d
+drawing-texts d = rw (map-same (λ l. charsOf (l .name)) bareLayer (λ l. chars-bare (l .name)) (d .layers)) (simp text-bare)
+
+pub texts-bare : (s : Set) → textsOf (bareSet s) ≡ textsOf s
+texts-bare s = go (s .volumes)
+  where
+    go : (vs : List Contents) → textsFrom (bareSet s) (map bareContents vs) ≡ textsFrom s vs
+    go [] = refl
+    go (v ∷ vs) =
+        ap₂ _++_
+        (ap₂ _++_
+        (ap₂ _++_ (ap headerTexts (part-bare (v .file) 0) ∙ header-texts (partOf (v .file) 0)) (drawing-texts (s .drawing)))
+        (flat-same symbolTexts bareSymbol symbol-texts (s .symbols)))
+        (flat-same bodyTexts bareContents body-texts (v ∷ vs))
+
+-- ── only rows of text hold text ──
+abbrev pub isText : Kind → Bool
+isText (values p ps a) = false
+isText (text n b) = true
+isText (word n b) = true
+isText volumeName = true
+isText sheet = false
+isText ratio = false
+isText serials = false
+isText nothing = false
+isText (opens i) = false
+isText (headed i p) = false
+isText (either i) = false
+
+-- the first argument: the row is one of text
+abbrev pub FitValue : Bool → Value → Type 0
+FitValue b empty = Unit {0}
+FitValue b (nums v) = Unit {0}
+FitValue b (chars at c) = b ≡ true
+FitValue b (linked n ps) = Unit {0}
+
+abbrev pub FitSlot : Bool → Option Value → Type 0
+FitSlot b none = Unit {0}
+FitSlot b (some v) = FitValue b v
+
+abbrev pub FitSlots : List Rule → Slots → Type 0
+FitSlots [] s = Unit {0}
+FitSlots (r ∷ t) s = FitSlot (isText (r .holds)) (firstSlot s) × FitSlots t (otherSlots s)
+
+abbrev pub FitHeld : List (List Rule) → Held → Type 0
+FitHeld ts h = (p : ℕ) → FitSlots (getD ts p []) (partOf h p)
+
+abbrev pub Each : {A : Type 0} → (A → Type 0) → List A → Type 0
+Each P [] = Unit {0}
+Each P (a ∷ s) = P a × Each P s
+
+-- a figure of a layer, or of a symbol, in which no symbol is placed
+abbrev pub FitFigure : Bool → Figure → Type 0
+FitFigure inLayer (plain n j v) = Unit {0}
+FitFigure inLayer (chain n ps) = Unit {0}
+FitFigure inLayer (lettering n s) = FitSlots (textTable inLayer 4 12) s
+FitFigure true (placed n h) = FitHeld placedTables h
+FitFigure false (placed n h) = ⊥
+
+abbrev pub FitSymbol : Symbol → Type 0
+FitSymbol y = FitSlots symbolTable (y .own) × Each (FitFigure false) (y .figures)
+
+abbrev pub FitBlock : LayerBlock → Type 0
+FitBlock u = Each (FitFigure true) (u .figures)
+
+abbrev pub FitContents : Bool → Contents → Type 0
+FitContents first v = FitHeld (fileTables first) (v .file) × Each FitBlock (v .blocks)
+
+-- the volumes, of which the first has FILE_FORMAT's whole table
+abbrev pub FitVolumes : List Contents → Type 0
+FitVolumes [] = Unit {0}
+FitVolumes (v ∷ vs) = FitContents true v × Each (FitContents false) vs
+
+abbrev pub FitSet : Set → Type 0
+FitSet s = FitSlots drawingTable (s .drawing .own) × Each FitSymbol (s .symbols) × FitVolumes (s .volumes)
+
+-- ── lists that agree but at some places ──
+abbrev isPlace : ℕ → ℕ → Bool
+isPlace k i = hasNumber i (3 ∷ textPlaces k)
+
+set-without : (p : ℕ → Bool) (t : List ℤ) (i : ℕ) (z : ℤ) → without p (set t i z) ≡ set (without p t) i (cond (p i) (pos 0) z)
+set-without p [] i z = refl
+set-without p (x ∷ t) zero z = refl
+set-without p (x ∷ t) (suc i) z = ap (λ u. cond (p 0) (pos 0) x ∷ u) (set-without (λ i. p (suc i)) t i z)
+
+at-without : (p : ℕ → Bool) (t : List ℤ) (i : ℕ) → getD (without p t) i (pos 0) ≡ cond (p i) (pos 0) (getD t i (pos 0))
+at-without p [] i = sym (cond-same (p i) (pos 0))
+at-without p (x ∷ t) zero = refl
+at-without p (x ∷ t) (suc i) = at-without (λ i. p (suc i)) t i
+
+first-slot : (s : Slots) → firstSlot (bareSlots s) ≡ mapO bareValue (firstSlot s)
+first-slot [] = refl
+first-slot (o ∷ s) = refl
+
+other-slots : (s : Slots) → otherSlots (bareSlots s) ≡ bareSlots (otherSlots s)
+other-slots [] = refl
+other-slots (o ∷ s) = refl
+
+state-bare : (o : Option Value) → stateOf (mapO bareValue o) ≡ stateOf o
+state-bare none = refl
+state-bare (some empty) = refl
+state-bare (some (nums v)) = refl
+state-bare (some (chars at c)) = refl
+state-bare (some (linked n ps)) = refl
+
+text-columns : (d : Kind) → isText d ≡ true → columns d ≡ 2
+text-columns (values p ps a) e = cc
+text-columns (text n b) e = refl
+text-columns (word n b) e = refl
+text-columns volumeName e = refl
+text-columns sheet e = refl
+text-columns ratio e = refl
+text-columns serials e = refl
+text-columns nothing e = cc
+text-columns (opens i) e = cc
+text-columns (headed i p) e = cc
+text-columns (either i) e = cc
+
+-- what `FitHeld` says, part by part from number n on
+abbrev FitParts : ℕ → List (List Rule) → Held → Type 0
+FitParts n [] h = Unit {0}
+FitParts n (r ∷ ts) h = FitSlots r (partOf h n) × FitParts (suc n) ts h
+
+module _ (p : ℕ → Bool) where
+  -- the same number goes into both
+  set-same : (t u : List ℤ) (i : ℕ) (z : ℤ) → without p t ≡ without p u → without p (set t i z) ≡ without p (set u i z)
+  set-same t u i z e = rw (set-without p t i z, set-without p u i z, e)
+
+  -- two numbers go to a place that does not count
+  set-hidden : (t u : List ℤ) (i : ℕ) (z w : ℤ) → p i ≡ true → without p t ≡ without p u → without p (set t i z) ≡ without p (set u i w)
+  set-hidden t u i z w h e = rw (set-without p t i z, set-without p u i w, e, h)
+
+  sets-same : (zs t u : List ℤ) (i : ℕ) → without p t ≡ without p u → without p (sets t i zs) ≡ without p (sets u i zs)
+  sets-same [] t u i e = e
+  sets-same (z ∷ zs) t u i e = sets-same zs (set t i z) (set u i z) (suc i) (set-same t u i z e)
+
+  numbers-same : (q : ℕ) (zs t u : List ℤ) → without p t ≡ without p u → without p (putNumbers q zs t) ≡ without p (putNumbers q zs u)
+  numbers-same zero zs t u e = e
+  numbers-same (suc q) zs t u e = sets-same zs t u (suc q) e
+
+  state-same : (q : ℕ) (z : ℤ) (t u : List ℤ) → without p t ≡ without p u → without p (putState q z t) ≡ without p (putState q z u)
+  state-same zero z t u e = e
+  state-same (suc q) z t u e = set-same t u (suc q) z e
+
+  slot-same : (r : Rule) (o : Option Value) (t u : List ℤ) → without p t ≡ without p u → without p (putSlot r o t) ≡ without p (putSlot r o u)
+  slot-same r o t u e = state-same (r .state) (stateOf o) _ _ (numbers-same (r .place) (padded (columns (r .holds)) (numbersOf o)) t u e)
+
+  slots-same : (rs : List Rule) (s : Slots) (t u : List ℤ) → without p t ≡ without p u → without p (putSlots rs s t) ≡ without p (putSlots rs s u)
+  slots-same [] s t u e = e
+  slots-same (r ∷ rs) s t u e = slot-same r (firstSlot s) (putSlots rs (otherSlots s) t) (putSlots rs (otherSlots s) u) (slots-same rs (otherSlots s) t u e)
+
+  parts-same : (ts : List (List Rule)) (n : ℕ) (h : Held) (t u : List ℤ) → without p t ≡ without p u → without p (putParts n ts h t) ≡ without p (putParts n ts h u)
+  parts-same [] n h t u e = e
+  parts-same (r ∷ ts) n h t u e = slots-same r (partOf h n) (putParts (suc n) ts h t) (putParts (suc n) ts h u) (parts-same ts (suc n) h t u e)
+
+  unread-same : (q : ℕ) (b : Bool) (t u : List ℤ) → without p t ≡ without p u → without p (unreadState q b t) ≡ without p (unreadState q b u)
+  unread-same zero b t u e = e
+  unread-same (suc q) true t u e = set-same t u (suc q) (pos 3) e
+  unread-same (suc q) false t u e =
+      rw (set-without p t (suc q) (getD t (suc q) (pos 0)), set-without p u (suc q) (getD u (suc q) (pos 0)), ← (at-without p t (suc q)), ← (at-without p u (suc q)), e)
+
+  marked-same : (c d : Digits) (rs : List Rule) (t u : List ℤ) → without p t ≡ without p u → without p (markUnread c d rs t) ≡ without p (markUnread c d rs u)
+  marked-same c d [] t u e = e
+  marked-same c d (r ∷ rs) t u e = unread-same (r .state) (hides c d (r .least)) (markUnread c d rs t) (markUnread c d rs u) (marked-same c d rs t u e)
+
+  -- ── a row ──
+  -- the byte place of a row's text is one of these, or nowhere
+  abbrev hidesPlace : ℕ → Bool
+  hidesPlace zero = true
+  hidesPlace (suc q) = p (suc q)
+
+  abbrev rowApart : Rule → Bool
+  rowApart r = not (isText (r .holds)) || hidesPlace (r .place)
+
+  numbers-apart : (d : Kind) (q : ℕ) (o : Option Value) (t u : List ℤ) → (not (isText d) || hidesPlace q) ≡ true → FitSlot (isText d) o → without p t ≡ without p u
+      → without p (putNumbers q (padded (columns d) (numbersOf o)) t) ≡ without p (putNumbers q (padded (columns d) (numbersOf (mapO bareValue o))) u)
+  numbers-apart d q none t u a f e = numbers-same q _ t u e
+  numbers-apart d q (some empty) t u a f e = numbers-same q _ t u e
+  numbers-apart d q (some (nums v)) t u a f e = numbers-same q _ t u e
+  numbers-apart d zero (some (chars at c)) t u a f e = e
+  numbers-apart d (suc q) (some (chars at c)) t u a f e =
+      rw (text-columns d f)
+      (set-same (set t (suc q) (pos at)) (set u (suc q) (pos 0)) (suc (suc q)) (pos (length c)) (set-hidden t u (suc q) (pos at) (pos 0) (rw f at a) e))
+  numbers-apart d q (some (linked n ps)) t u a f e = numbers-same q _ t u e
+
+  slot-apart : (r : Rule) (o : Option Value) (t u : List ℤ) → rowApart r ≡ true → FitSlot (isText (r .holds)) o → without p t ≡ without p u
+      → without p (putSlot r o t) ≡ without p (putSlot r (mapO bareValue o) u)
+  slot-apart r o t u a f e = rw (state-bare o) (state-same (r .state) (stateOf o) _ _ (numbers-apart (r .holds) (r .place) o t u a f e))
+
+  slots-apart : (rs : List Rule) (s : Slots) (t u : List ℤ) → all rowApart rs ≡ true → FitSlots rs s → without p t ≡ without p u
+      → without p (putSlots rs s t) ≡ without p (putSlots rs (bareSlots s) u)
+  slots-apart [] s t u a f e = e
+  slots-apart (r ∷ rs) s t u a f e =
+      rw (first-slot s, other-slots s)
+      (slot-apart r (firstSlot s) (putSlots rs (otherSlots s) t) (putSlots rs (bareSlots (otherSlots s)) u) (and-left (rowApart r) (all rowApart rs) a) (f .0)
+      (slots-apart rs (otherSlots s) t u (and-right (rowApart r) (all rowApart rs) a) (f .1) e))
+
+  parts-apart : (ts : List (List Rule)) (n : ℕ) (h : Held) (t u : List ℤ) → all (all rowApart) ts ≡ true → FitParts n ts h → without p t ≡ without p u
+      → without p (putParts n ts h t) ≡ without p (putParts n ts (bareHeld h) u)
+  parts-apart [] n h t u a f e = e
+  parts-apart (r ∷ ts) n h t u a f e =
+      rw (part-bare h n)
+      (slots-apart r (partOf h n) (putParts (suc n) ts h t) (putParts (suc n) ts (bareHeld h) u) (and-left (all rowApart r) (all (all rowApart) ts) a) (f .0)
+      (parts-apart ts (suc n) h t u (and-right (all rowApart r) (all (all rowApart) ts) a) (f .1) e))
+
+-- ── one record ──
+kind-sets : (zs t : List ℤ) (i : ℕ) → kindOf (sets t (suc i) zs) ≡ kindOf t
+kind-sets [] t i = refl
+kind-sets (z ∷ zs) [] i = kind-sets zs [] (suc i)
+kind-sets (z ∷ zs) (pos k ∷ t) i = kind-sets zs (pos k ∷ set t i z) (suc i)
+kind-sets (z ∷ zs) (negsuc k ∷ t) i = kind-sets zs (negsuc k ∷ set t i z) (suc i)
+
+kind-slot : (r : Rule) (o : Option Value) (t : List ℤ) → kindOf (putSlot r o t) ≡ kindOf t
+kind-slot r o t = go (r .state) _ ∙ to (r .place) _
+  where
+    to : (q : ℕ) (zs : List ℤ) → kindOf (putNumbers q zs t) ≡ kindOf t
+    to zero zs = refl
+    to (suc q) zs = kind-sets zs t q
+
+    go : (q : ℕ) (u : List ℤ) → kindOf (putState q (stateOf o) u) ≡ kindOf u
+    go zero u = refl
+    go (suc q) u = kind-sets (stateOf o ∷ []) u q
+
+-- a record that differs in its line alone
+line-apart : (r : Rule) (o : Option Value) (kind owner volume line : ℕ)
+    → placesApart (putSlot r o (start kind owner volume line)) ≡ placesApart (putSlot r o (start kind owner volume 0))
+line-apart r o kind owner volume line =
+    rw (kind-slot r o (start kind owner volume line), kind-slot r o (start kind owner volume 0))
+    (slot-same (isPlace kind) r o (start kind owner volume line) (start kind owner volume 0) refl)
+
+-- lists of records that are the same, places apart
+record Apart (s u : List (List ℤ)) : Type 0 where
+  eq : map placesApart s ≡ map placesApart u
+
+no-record : Apart [] []
+no-record = record { eq = refl }
+
+one-more : {t u : List ℤ} {s v : List (List ℤ)} → placesApart t ≡ placesApart u → Apart s v → Apart (t ∷ s) (u ∷ v)
+one-more p q = record { eq = ap₂ _∷_ p (q .eq) }
+
+behind-it : {s t u v : List (List ℤ)} → Apart s u → Apart t v → Apart (s ++ t) (u ++ v)
+behind-it {s} {t} {u} {v} p q = record { eq = map-append placesApart s t ∙ ap₂ _++_ (p .eq) (q .eq) ∙ sym (map-append placesApart u v) }
+
+each-item : {A : Type 0} (P : A → Type 0) (f : A → List (List ℤ)) (b : A → A) → ((a : A) → P a → Apart (f a) (f (b a))) → (s : List A) → Each P s
+    → Apart (flat (map f s)) (flat (map f (map b s)))
+each-item P f b e [] g = no-record
+each-item P f b e (a ∷ s) g = behind-it (e a (g .0)) (each-item P f b e s (g .1))
+
+drawing-apart : (d : Drawing) → FitSlots drawingTable (d .own) → placesApart (drawingRecord d) ≡ placesApart (drawingRecord (bareDrawing d))
+unfolding drawingTable
+drawing-apart d f = slots-apart (isPlace 3) drawingTable (d .own) (start 3 0 1 (d .line)) (start 3 0 1 0) refl f refl
+
+symbol-apart : (n : ℕ) (y : Symbol) → FitSlots symbolTable (y .own)
+    → placesApart (putSlots symbolTable (y .own) (start 4 n 1 (y .line))) ≡ placesApart (putSlots symbolTable (bareSlots (y .own)) (start 4 n 1 0))
+unfolding symbolTable
+symbol-apart n y f = slots-apart (isPlace 4) symbolTable (y .own) (start 4 n 1 (y .line)) (start 4 n 1 0) refl f refl
+
+second-bare : (v : Value) → firstOr0 (others (numbers (bareValue v))) ≡ firstOr0 (others (numbers v))
+second-bare empty = refl
+second-bare (nums v) = refl
+second-bare (chars at c) = refl
+second-bare (linked n ps) = refl
+
+layer-apart : (n : ℕ) (l : Layer) → placesApart (layerRecord n l) ≡ placesApart (layerRecord n (bareLayer l))
+layer-apart n l = rw (second-bare (l .name))
+
+-- both records of FILE_FORMAT in the first volume: the line of the second stands at 35
+header-apart : (k : ℕ) (v : Contents) → FitHeld (fileTables true) (v .file)
+    → Apart (fileRecords true k v) (fileRecords true k (bareContents v))
+unfolding fileTable rangeTable baseTable elecTable symTable
+header-apart k v f =
+    record {
+      eq =
+          ap (λ t. take 32 t ∷ drop 32 t ∷ [])
+          (parts-apart (λ i. hasNumber i (35 ∷ 3 ∷ textPlaces 1)) (fileTables true) 0 (v .file)
+          (start 1 0 k (v .line) ++ start 2 0 k (v .line)) (start 1 0 k 0 ++ start 2 0 k 0) refl (f 0, (f 1, (f 2, (f 3, (f 4, tt))))) refl);
+    }
+
+later-apart : (k : ℕ) (v : Contents) → FitHeld (fileTables false) (v .file)
+    → Apart (fileRecords false k v) (fileRecords false k (bareContents v))
+unfolding laterTable
+later-apart k v f =
+    one-more (parts-apart (isPlace 2) (fileTables false) 0 (v .file) (start 2 0 k (v .line)) (start 2 0 k 0) refl (f 0, tt) refl) no-record
+
+-- ── figures ──
+-- what is added to the kinds inside a symbol
+abbrev moreIn : Bool → ℕ
+moreIn true = 0
+moreIn false = 20
+
+points-apart : (kind owner volume : ℕ) (ps : List Point) → Apart (pointRecords kind owner volume ps) (pointRecords kind owner volume (map barePoint ps))
+points-apart kind owner volume [] = no-record
+points-apart kind owner volume (p ∷ ps) =
+    one-more (line-apart (ruleAt (pointTable true) 0) (some (nums (p .values))) kind owner volume (p .line)) (points-apart kind owner volume ps)
+
+chain-apart : (more owner volume line : ℕ) (ps : List Point) → placesApart (chainRecord more owner volume line ps) ≡ placesApart (chainRecord more owner volume 0 (map barePoint ps))
+chain-apart more owner volume line ps = rw (length-map ps barePoint, type-bare ps)
+  where
+    type-bare : (ps : List Point) → firstType (map barePoint ps) ≡ firstType ps
+    type-bare [] = refl
+    type-bare (p ∷ ps) = refl
+
+text-apart : (b : Bool) (owner volume line : ℕ) (s : Slots) → FitSlots (textTable b 4 12) s
+    → placesApart (textRecord (moreIn b) owner volume line s) ≡ placesApart (textRecord (moreIn b) owner volume 0 (bareSlots s))
+unfolding textTable
+text-apart true owner volume line s f = slots-apart (isPlace 15) (textTable true 4 12) s (start 15 owner volume line) (start 15 owner volume 0) refl f refl
+text-apart false owner volume line s f = slots-apart (isPlace 35) (textTable true 4 12) s (start 35 owner volume line) (start 35 owner volume 0) refl f refl
+
+placed-apart : (c d : Digits) (owner volume line : ℕ) (h : Held) → FitHeld placedTables h
+    → placesApart (placedRecord c d 0 owner volume line h) ≡ placesApart (placedRecord c d 0 owner volume 0 (bareHeld h))
+unfolding textTable placedTable
+placed-apart c d owner volume line h f =
+    marked-same (isPlace 16) c d placedTable (putHeld placedTables h (start 16 owner volume line)) (putHeld placedTables (bareHeld h) (start 16 owner volume 0))
+    (parts-apart (isPlace 16) placedTables 0 h (start 16 owner volume line) (start 16 owner volume 0) refl (f 0, (f 1, tt)) refl)
+
+-- a placed symbol that is one line
+placed-line : (c d : Digits) (more owner volume line : ℕ) (h : Held)
+    → placesApart (placedRecord c d more owner volume line h) ≡ placesApart (placedRecord c d more owner volume 0 h)
+unfolding textTable placedTable
+placed-line c d more owner volume line h =
+    marked-same (isPlace (16 + more)) c d placedTable (putHeld placedTables h (start (16 + more) owner volume line)) (putHeld placedTables h (start (16 + more) owner volume 0))
+    (parts-same (isPlace (16 + more)) placedTables 0 h (start (16 + more) owner volume line) (start (16 + more) owner volume 0) refl)
+
+plain-apart : (c d : Digits) (t : List Rule) (more owner volume line j : ℕ) (v : List Num)
+    → placesApart (lineRecord c d t more owner volume line j v) ≡ placesApart (lineRecord c d t more owner volume 0 j v)
+plain-apart c d t more owner volume line j v = go (eqb j 6)
+  where
+    h : Held
+    h = (some (nums v) ∷ []) ∷ []
+
+    go : (b : Bool) → placesApart (cond b (placedRecord c d more owner volume line h) (plainRecord t more owner volume line j v))
+        ≡ placesApart (cond b (placedRecord c d more owner volume 0 h) (plainRecord t more owner volume 0 j v))
+    go true = placed-line c d more owner volume line h
+    go false = line-apart (ruleAt t j) (some (nums v)) (10 + more + j) owner volume line
+
+figure-apart : (b : Bool) (c d : Digits) (t : List Rule) (owner volume : ℕ) (f : Figure) → FitFigure b f
+    → Apart (figureRecords c d t (moreIn b) owner volume f) (figureRecords c d t (moreIn b) owner volume (bareFigure f))
+figure-apart b c d t owner volume (plain n j v) g = one-more (plain-apart c d t (moreIn b) owner volume n j v) no-record
+figure-apart b c d t owner volume (chain n ps) g = one-more (chain-apart (moreIn b) owner volume n ps) (points-apart (17 + moreIn b) owner volume ps)
+figure-apart b c d t owner volume (lettering n s) g = one-more (text-apart b owner volume n s g) no-record
+figure-apart true c d t owner volume (placed n h) g = one-more (placed-apart c d owner volume n h g) no-record
+figure-apart false c d t owner volume (placed n h) g = absurd g
+
+-- ── the whole ──
+layers-apart : (n : ℕ) (ls : List Layer) → Apart (layerRecords n ls) (layerRecords n (map bareLayer ls))
+layers-apart n [] = no-record
+layers-apart n (l ∷ ls) = one-more (layer-apart n l) (layers-apart (suc n) ls)
+
+inner-apart : (n : ℕ) (y : Symbol) → FitSymbol y → Apart (innerRecords n y) (innerRecords n (bareSymbol y))
+inner-apart n y g =
+    go (y .hideFirst) (each-item (FitFigure false) _ bareFigure (figure-apart false (digits 0 0) (digits 0 0) figureTable n 1) (y .figures) (g .1)) (points-apart 43 n 1 (y .hidden))
+  where
+    go : (b : Bool) {s t u v : List (List ℤ)} → Apart s u → Apart t v → Apart (cond b (t ++ s) (s ++ t)) (cond b (v ++ u) (u ++ v))
+    go true p q = behind-it q p
+    go false p q = behind-it p q
+
+symbols-apart : (n : ℕ) (ys : List Symbol) → Each FitSymbol ys → Apart (symbolRecords n ys) (symbolRecords n (map bareSymbol ys))
+symbols-apart n [] g = no-record
+symbols-apart n (y ∷ ys) g = one-more (symbol-apart n y (g .0 .0)) (behind-it (inner-apart n y (g .0)) (symbols-apart (suc n) ys (g .1)))
+
+module _ (c d : Digits) (t : List Rule) where
+  body-apart : (k : ℕ) (v : Contents) → Each FitBlock (v .blocks) → Apart (bodyRecords c d t k v) (bodyRecords c d t k (bareContents v))
+  body-apart k v g =
+      each-item FitBlock (blockRecords c d t k) bareBlock
+      (λ u h. each-item (FitFigure true) (figureRecords c d t 0 (u .layer) k) bareFigure (figure-apart true c d t (u .layer) k) (u .figures) h) (v .blocks) g
+
+  volumes-apart : (k : ℕ) (vs : List Contents) → Each (FitContents false) vs → Apart (laterRecords c d t k vs) (laterRecords c d t k (map bareContents vs))
+  volumes-apart k [] g = no-record
+  volumes-apart k (v ∷ vs) g = behind-it (behind-it (later-apart k v (g .0 .0)) (body-apart k v (g .0 .1))) (volumes-apart (suc k) vs (g .1))
+
+  abbrev allRecords : Set → Contents → List Contents → List (List ℤ)
+  allRecords s v vs =
+      fileRecords true 1 v ++ (drawingRecord (s .drawing) ∷ layerRecords 0 (s .drawing .layers)) ++ symbolRecords 0 (s .symbols)
+      ++ bodyRecords c d t 1 v ++ laterRecords c d t 2 vs
+
+  all-apart : (s : Set) (v : Contents) (vs : List Contents) → FitSlots drawingTable (s .drawing .own) → Each FitSymbol (s .symbols) → FitVolumes (v ∷ vs)
+      → Apart (allRecords s v vs) (allRecords (bareSet s) (bareContents v) (map bareContents vs))
+  all-apart s v vs fd fy fv =
+      behind-it
+      (behind-it
+      (behind-it (behind-it (header-apart 1 v (fv .0 .0)) (one-more (drawing-apart (s .drawing) fd) (layers-apart 0 (s .drawing .layers)))) (symbols-apart 0 (s .symbols) fy))
+      (body-apart 1 v (fv .0 .1)))
+      (volumes-apart 2 vs (fv .1))
+
+pub records-bare : (c : Digits) (s : Set) → FitSet s → map placesApart (recordsOf c s) ≡ map placesApart (recordsOf c (bareSet s))
+unfolding recordsOf
+records-bare c s f = go (s .volumes) (f .2)
+  where
+    go : (vs : List Contents) → FitVolumes vs → map placesApart (recordsFrom c s vs) ≡ map placesApart (recordsFrom c (bareSet s) (map bareContents vs))
+    go [] g = refl
+    go (v ∷ vs) g =
+        all-apart c (rangeOf s) (layerTable (isSingle s)) s v vs (f .0) (f .1) g .eq
+        ∙ ap₂ (λ d t. map placesApart (allRecords c d t (bareSet s) (bareContents v) (map bareContents vs))) (sym (range-bare s)) (ap layerTable (sym (single-bare s)))

@@ -1,0 +1,444 @@
+-- Every refusal of the reading has a number from 1 to 19: 4 to 19 at a line, 1 to 3 before.
+use Prim.Native.Nat.{ℕ, zero, suc, _+_, _≤_, min}
+use mathlib.Core.Bool.{Bool, true, false, cond, _&&_, not}
+use mathlib.Core.List.{List, [], _∷_, _++_}
+use mathlib.Core.Option.{Option, none, some}
+use native.Mathlib.Omega.{arith}
+use lib.Dec.{T, eqb, leb, leb→le, le→leb}
+use lib.ListN.{length, getD}
+use Rattle.rules.specs.declared.Digits.{Digits}
+use Rattle.rules.specs.Base.{choose, bytes, isNil, same, within, split}
+use Rattle.rules.specs.RefusalNumbers.{Got, got, bad, unless, mapG, andThen, orBad, keep, consG, also}
+use Rattle.rules.specs.Lines.{Rest, Form, ignored, wrong, close, eof, keyed, Scan, neither, atEqual, atBrace, withKey, formFrom, formOfRest, formOf, unindent, allowed, scan, brace, Shape, opener, noContent, content, opening, formless, hasForm, shapeOf}
+use Rattle.rules.specs.RangeClass.{digits, reaches, both, Skip, passes, deeper, noForm}
+use Rattle.rules.specs.Values.{Value, Known, Part, count, digit, kindOfLine, range, rangeOfSymbols, day, clock, decimal, symbolName, layerId, readPart, readAll, Kind, values, text, word, volumeName, sheet, ratio, serials, nothing, opens, headed, either, readCounts, readSerials, readKind}
+use Rattle.rules.specs.Rows.{Rule, Found, absent, found, find, Slots, Held, partOf, marks, fullAt, Act, stay, entry, begin, shut, refuse, orRefuse, innerOf, fits, shapeFor, readShape, notTwice, actRow, actUnknown, actFound, complete, act}
+use Rattle.rules.specs.Blocks.{topTable}
+use Rattle.rules.specs.Figures.{placedTable}
+use Rattle.rules.specs.Sets.{Point, Figure, Drawing, Symbol, Set, nothingYet, rangeOf, knownOf}
+use Rattle.rules.specs.Machine.{Line, Env, Home, inElement, inLayer, State, top, file, drawing, layerNames, defines, symbol, hide, elements, figures, successive, texts, placing, skipping, ended, byAct, openTop, onTop, shutPart, onFile, onDrawing, layerValue, onLayerNames, openSymbol, onSymbol, onDefines, onHide, onElements, closeFigures, openPlaced, openFigure, onFigures, onSuccessive, onTexts, bySkip, onUnknown, onPlaced, onPlacedKey, onPlacedOwn, onPlacing, skipShut, onSkipping, stepIn, step, Outcome, refused, accepted, thenRun, finish, run}
+use Rattle.rules.specs.Spool.{Volume, volumesOf, linesOf}
+use Rattle.rules.specs.Answers.{numbered, linesOfVolume, nextName, Listed, listed, noLines, ontoLines, listVolume, listVolumes, outcomeOfLines, outcomeOfVolumes, outcomeOf, outcomeAt}
+use Rattle.rules.proofs.Chains.{by-cond, On, on-unless, on-map, on-then, on-got}
+
+-- ── a refusal at a line ──
+abbrev AtLine : ℕ → Type 0
+AtLine n = T (within 4 19 n)
+
+both-true : (a b : Bool) → T a → T b → T (a && b)
+both-true true b p q = q
+both-true false b p q = p
+
+each-true : (a b : Bool) → T (a && b) → T a × T b
+each-true true b p = (tt, p)
+each-true false b p = absurd p
+
+pub within-le : (lo hi n : ℕ) → T (within lo hi n) → (lo ≤ n) × (n ≤ hi)
+within-le lo hi n h = let w = each-true (leb lo n) (leb n hi) h in (leb→le lo n (w .0), leb→le n hi (w .1))
+
+le-within : (lo hi n : ℕ) → lo ≤ n → n ≤ hi → T (within lo hi n)
+le-within lo hi n p q = both-true (leb lo n) (leb n hi) (le→leb lo n p) (le→leb n hi q)
+
+at-min : (m n : ℕ) → AtLine m → AtLine n → AtLine (min m n)
+at-min m n p q = le-within 4 19 (min m n) (omega (arith, within-le 4 19 m p, within-le 4 19 n q)) (omega (arith, within-le 4 19 m p, within-le 4 19 n q))
+
+data Fine {A : Type 0} : Got A → Type 0 where
+  answers : {a : A} → Fine (got a)
+  refuses : (n : ℕ) → AtLine n → Fine (bad n)
+
+module _ {A : Type 0} where
+  fine-unless : (t : Bool) (n : ℕ) (g : Got A) → AtLine n → Fine g → Fine (unless t n g)
+  fine-unless true n g h w = w
+  fine-unless false n g h w = refuses n h
+
+  fine-cond : (t : Bool) (g h : Got A) → Fine g → Fine h → Fine (cond t g h)
+  fine-cond true g h p q = p
+  fine-cond false g h p q = q
+
+  fine-or : (n : ℕ) (o : Option A) → AtLine n → Fine (orBad n o)
+  fine-or n none h = refuses n h
+  fine-or n (some a) h = answers
+
+  fine-keep : (n : ℕ) (p : A → Bool) (g : Got A) → AtLine n → Fine g → Fine (keep n p g)
+  fine-keep n p (got a) h w = fine-unless (p a) n _ h answers
+  fine-keep n p (bad m) h w = w
+
+  fine-cons : (g : Got A) (h : Got (List A)) → Fine g → Fine h → Fine (consG g h)
+  fine-cons (got a) (got s) p q = answers
+  fine-cons (got a) (bad n) p (refuses _ q) = refuses n q
+  fine-cons (bad m) (got s) (refuses _ p) q = refuses m p
+  fine-cons (bad m) (bad n) (refuses _ p) (refuses _ q) = refuses (min m n) (at-min m n p q)
+
+  fine-also : (t : Bool) (n : ℕ) (g : Got A) → AtLine n → Fine g → Fine (also t n g)
+  fine-also true n g h w = w
+  fine-also false n (got a) h w = refuses n h
+  fine-also false n (bad m) h (refuses _ w) = refuses (min m n) (at-min m n w h)
+
+module _ {A B : Type 0} where
+  fine-map : (f : A → B) (g : Got A) → Fine g → Fine (mapG f g)
+  fine-map f (got a) w = answers
+  fine-map f (bad n) (refuses _ w) = refuses n w
+
+  fine-then : (g : Got A) (f : A → Got B) → Fine g → ((a : A) → Fine (f a)) → Fine (andThen g f)
+  fine-then (got a) f w h = h a
+  fine-then (bad n) f (refuses _ w) h = refuses n w
+
+-- what holds of every value holds of the answer
+on-any : {A : Type 0} {P : A → Type 0} (g : Got A) → ((a : A) → P a) → On P g
+on-any (got a) h = h a
+on-any (bad n) h = tt
+
+ruleset fines = (answers, refuses, fine-unless, fine-cond, fine-or, fine-keep, fine-cons, fine-also, fine-map, fine-then)
+
+-- ── values ──
+fine-part : (k : Known) (p : Part) (s : List ℕ) → Fine (readPart k p s)
+fine-part k count s = search fines
+fine-part k (digit lo hi) s = search fines
+fine-part k kindOfLine s = search fines
+fine-part k (range lo hi) s = search fines
+fine-part k rangeOfSymbols s = search fines
+fine-part k day s = search fines
+fine-part k clock s = search fines
+fine-part k (decimal b) s = search fines
+fine-part k symbolName s = search fines
+fine-part k layerId s = search fines
+
+fine-parts : (k : Known) (ps : List Part) (ss : List (List ℕ)) → Fine (readAll k ps ss)
+fine-parts k [] [] = answers
+fine-parts k [] (s ∷ ss) = refuses 10 tt
+fine-parts k (p ∷ ps) [] = refuses 10 tt
+fine-parts k (p ∷ ps) (s ∷ ss) = fine-cons (readPart k p s) (readAll k ps ss) (fine-part k p s) (fine-parts k ps ss)
+
+fine-counts : (ss : List (List ℕ)) → Fine (readCounts ss)
+fine-counts [] = answers
+fine-counts (s ∷ ss) = let rest = fine-counts ss in search fines
+
+fine-serials : (ss : List (List ℕ)) → Fine (readSerials ss)
+fine-serials [] = answers
+fine-serials (s ∷ ss) = let rest = fine-serials ss in search fines
+
+fine-kind : (k : Known) (d : Kind) (at : ℕ) (c : List ℕ) → Fine (readKind k d at c)
+fine-kind k (values p ps a) at c = let w = fine-parts k (p ∷ ps) (split 44 c) in search fines
+fine-kind k (text n b) at c = search fines
+fine-kind k (word n b) at c = search fines
+fine-kind k volumeName at c = search fines
+fine-kind k sheet at c = search fines
+fine-kind k ratio at c = search (fines, fine-counts)
+fine-kind k serials at c = search (fines, fine-serials)
+fine-kind k nothing at c = search fines
+fine-kind k (opens i) at c = search fines
+fine-kind k (headed i p) at c = search (fines, fine-part)
+fine-kind k (either i) at c = search (fines, fine-part)
+
+-- ── acts ──
+data FineAct : Act → Type 0 where
+  stays : FineAct stay
+  enters : {j : ℕ} {v : Value} → FineAct (entry j v)
+  begins : {i j : ℕ} {v : Value} → FineAct (begin i j v)
+  shuts : FineAct shut
+  denies : (n : ℕ) → AtLine n → FineAct (refuse n)
+
+data FineForm : Form → Type 0 where
+  passed : FineForm ignored
+  broken : (n : ℕ) → AtLine n → FineForm (wrong n)
+  closing : FineForm close
+  ending : FineForm eof
+  keying : {k : List ℕ} {c : Rest} → FineForm (keyed k c)
+
+fine-refuse : (g : Got Act) → On FineAct g → Fine g → FineAct (orRefuse g)
+fine-refuse (got a) h w = h
+fine-refuse (bad n) h (refuses _ w) = denies n w
+
+fine-shape : (k : Known) (j : ℕ) (r : Rule) (s : Shape) → Fine (readShape k j r s)
+fine-shape k j r opener = answers
+fine-shape k j r noContent = answers
+fine-shape k j r (content at c) = fine-map _ _ (fine-kind k (r .holds) at c)
+fine-shape k j r (opening at c) = fine-map _ _ (fine-kind k (r .holds) at c)
+fine-shape k j r formless = refuses 5 tt
+
+shape-act : (k : Known) (j : ℕ) (r : Rule) (s : Shape) → On FineAct (readShape k j r s)
+shape-act k j r opener = begins
+shape-act k j r noContent = enters
+shape-act k j r (content at c) = on-map FineAct (entry j) (readKind k (r .holds) at c) (on-any (readKind k (r .holds) at c) λ v. enters)
+shape-act k j r (opening at c) = on-map FineAct (begin (innerOf (r .holds)) j) (readKind k (r .holds) at c) (on-any (readKind k (r .holds) at c) λ v. begins)
+shape-act k j r formless = tt
+
+fine-row : (k : Known) (d : Digits) (full : Bool) (j : ℕ) (r : Rule) (c : Rest) → FineAct (actRow k d full j r c)
+fine-row k d full j r c =
+    fine-refuse _
+    (on-unless FineAct (hasForm (shapeFor r c)) 5 _ λ _.
+    on-unless FineAct (reaches d (r .least)) 6 _ λ _.
+    on-unless FineAct (fits (r .holds) (r .may) (shapeFor r c)) 5 _ λ _.
+    on-unless FineAct (notTwice (r .times) full) 7 _ λ _.
+    on-then FineAct (readShape k j r (shapeFor r c)) _ λ a e.
+    on-unless FineAct (not full) 11 (got a) λ _. on-got FineAct (readShape k j r (shapeFor r c)) a (shape-act k j r (shapeFor r c)) e)
+    (fine-unless (hasForm (shapeFor r c)) 5 _ tt
+    (fine-unless (reaches d (r .least)) 6 _ tt
+    (fine-unless (fits (r .holds) (r .may) (shapeFor r c)) 5 _ tt
+    (fine-unless (notTwice (r .times) full) 7 _ tt
+    (fine-then (readShape k j r (shapeFor r c)) _ (fine-shape k j r (shapeFor r c)) (λ a. fine-unless (not full) 11 _ tt answers))))))
+
+fine-unknown : (c : Rest) → FineAct (actUnknown c)
+fine-unknown c = fine-refuse _ (on-unless FineAct (hasForm (shapeOf c)) 5 (bad 6) λ _. tt) (fine-unless (hasForm (shapeOf c)) 5 (bad 6) tt (refuses 6 tt))
+
+fine-found : (k : Known) (d : Digits) (full : List Bool) (c : Rest) (f : Found) → FineAct (actFound k d full c f)
+fine-found k d full c absent = fine-unknown c
+fine-found k d full c (found j r) = fine-row k d (getD full j false) j r c
+
+fine-act : (k : Known) (t : List Rule) (d : Digits) (full : List Bool) {f : Form} → FineForm f → FineAct (act k t d full f)
+fine-act k t d full passed = stays
+fine-act k t d full (broken n h) = denies n h
+fine-act k t d full closing = by-cond FineAct (complete d t full) (λ _. shuts) (λ _. denies 8 tt)
+fine-act k t d full ending = denies 9 tt
+fine-act k t d full (keying {k = key} {c = c}) = fine-found k d full c (find key t)
+
+fine-byAct : (st : State) (entered : ℕ → Value → Got State) (opened : ℕ → ℕ → Value → Got State) (closed : Unit {0} → Got State) (a : Act)
+    → FineAct a → ((j : ℕ) (v : Value) → Fine (entered j v)) → ((i j : ℕ) (v : Value) → Fine (opened i j v)) → Fine (closed tt) → Fine (byAct st entered opened closed a)
+fine-byAct st entered opened closed stay h p q r = answers
+fine-byAct st entered opened closed (entry j v) h p q r = p j v
+fine-byAct st entered opened closed (begin i j v) h p q r = q i j v
+fine-byAct st entered opened closed shut h p q r = r
+fine-byAct st entered opened closed (refuse n) (denies _ h) p q r = refuses n h
+
+-- ── the contexts ──
+fine-shut : (p : ℕ) (whole : Got State) (back : ℕ → State) → Fine whole → Fine (shutPart p whole back)
+fine-shut zero whole back w = w
+fine-shut (suc p) whole back w = answers
+
+fine-skip : (k : Skip) (st inside : Got State) → Fine st → Fine inside → Fine (bySkip k st inside)
+fine-skip passes st inside p q = p
+fine-skip deeper st inside p q = q
+fine-skip noForm st inside p q = refuses 5 tt
+
+ruleset steps = (fines, fine-byAct, fine-shut, fine-skip, fine-act, fine-unknown, fine-row)
+
+module _ (e : Env) (l : Line) where
+  fine-open : (s : Set) (k : ℕ) → Fine (openTop e l s k)
+  fine-open s zero = search fines
+  fine-open s (suc zero) = search fines
+  fine-open s (suc (suc zero)) = answers
+  fine-open s (suc (suc (suc k))) = answers
+
+  fine-top : (s : Set) (k : ℕ) {f : Form} → FineForm f → Fine (onTop e l s k f)
+  fine-top s k passed = answers
+  fine-top s k (broken n h) = refuses n h
+  fine-top s k closing = refuses 9 tt
+  fine-top s k ending = search fines
+  fine-top s k (keying {k = key} {c = c}) = let w = fine-act (knownOf s) topTable (digits 0 0) (fullAt 0 topTable) (keying {k = key} {c = c}) in search (steps, fine-open)
+
+  fine-file : (s : Set) (n : ℕ) (h : Held) (p : ℕ) {f : Form} → FineForm f → Fine (onFile l s n h p f)
+  fine-file s n h p w = search steps
+
+  fine-drawing : (s : Set) (d : Drawing) {f : Form} → FineForm f → Fine (onDrawing s d f)
+  fine-drawing s d w = search steps
+
+  fine-layer-value : (k : List ℕ) (s : Shape) → Fine (layerValue k s)
+  fine-layer-value k opener = refuses 5 tt
+  fine-layer-value k noContent = answers
+  fine-layer-value k (content at c) = search fine-kind
+  fine-layer-value k (opening at c) = refuses 5 tt
+  fine-layer-value k formless = refuses 5 tt
+
+  fine-layers : (s : Set) (d : Drawing) {f : Form} → FineForm f → Fine (onLayerNames e l s d f)
+  fine-layers s d passed = answers
+  fine-layers s d (broken n h) = refuses n h
+  fine-layers s d closing = answers
+  fine-layers s d ending = refuses 9 tt
+  fine-layers s d keying = search (fines, fine-layer-value) depth 8
+
+  fine-defines : (s : Set) (b : Bool) {f : Form} → FineForm f → Fine (onDefines e l s b f)
+  fine-defines s b w = search steps
+
+  fine-open-symbol : (s : Set) (y : Symbol) (i : ℕ) → Fine (openSymbol s y i)
+  fine-open-symbol s y zero = refuses 5 tt
+  fine-open-symbol s y (suc zero) = answers
+  fine-open-symbol s y (suc (suc i)) = answers
+
+  fine-symbol : (s : Set) (y : Symbol) {f : Form} → FineForm f → Fine (onSymbol s y f)
+  fine-symbol s y w = search (steps, fine-open-symbol)
+
+  fine-hide : (s : Set) (y : Symbol) (ps : List Point) {f : Form} → FineForm f → Fine (onHide e l s y ps f)
+  fine-hide s y ps w = search steps
+
+  fine-elements : (s : Set) {f : Form} → FineForm f → Fine (onElements s f)
+  fine-elements s w = search steps
+
+  fine-close-figures : (s : Set) (h : Home) (fs : List Figure) → Fine (closeFigures s h fs)
+  fine-close-figures s (inElement y) fs = search fines
+  fine-close-figures s (inLayer k) fs = answers
+
+  fine-open-placed : (s : Set) (h : Home) (fs : List Figure) → Fine (openPlaced e l s h fs)
+  fine-open-placed s (inElement y) fs = refuses 6 tt
+  fine-open-placed s (inLayer k) fs = search fines
+
+  fine-open-figure : (s : Set) (h : Home) (fs : List Figure) (i : ℕ) → Fine (openFigure e l s h fs i)
+  fine-open-figure s h fs zero = refuses 5 tt
+  fine-open-figure s h fs (suc zero) = search fines
+  fine-open-figure s h fs (suc (suc zero)) = search fines
+  fine-open-figure s h fs (suc (suc (suc i))) = fine-open-placed s h fs
+
+  fine-figures : (s : Set) (h : Home) (fs : List Figure) {f : Form} → FineForm f → Fine (onFigures e l s h fs f)
+  fine-figures s h fs w = search (steps, fine-close-figures, fine-open-figure)
+
+  fine-successive : (s : Set) (h : Home) (fs : List Figure) (n : ℕ) (ps : List Point) {f : Form} → FineForm f → Fine (onSuccessive e l s h fs n ps f)
+  fine-successive s h fs n ps w = search steps
+
+  fine-texts : (s : Set) (h : Home) (fs : List Figure) (n : ℕ) (o : Slots) {f : Form} → FineForm f → Fine (onTexts s h fs n o f)
+  fine-texts s h fs n o w = search steps
+
+  fine-placed : (s : Set) (k : ℕ) (fs : List Figure) (n : ℕ) (o : Held) (p : ℕ) {a : Act} → FineAct a → Fine (onPlaced s k fs n o p a)
+  fine-placed s k fs n o p w = search steps
+
+  fine-not-known : (s : Set) (k : ℕ) (fs : List Figure) (n : ℕ) (o : Held) (key : List ℕ) (c : Rest) → Fine (onUnknown e s k fs n o key c)
+  fine-not-known s k fs n o key c = search steps
+
+  fine-key : (s : Set) (k : ℕ) (fs : List Figure) (n : ℕ) (o : Held) (key : List ℕ) (c : Rest) (f : Found) → Fine (onPlacedKey e s k fs n o key c f)
+  fine-key s k fs n o key c absent = fine-not-known s k fs n o key c
+  fine-key s k fs n o key c (found j r) = search (fine-cond, fine-placed, fine-row, fine-not-known)
+
+  fine-own : (s : Set) (k : ℕ) (fs : List Figure) (n : ℕ) (o : Held) {f : Form} → FineForm f → Fine (onPlacedOwn e s k fs n o f)
+  fine-own s k fs n o passed = answers
+  fine-own s k fs n o (broken m h) = refuses m h
+  fine-own s k fs n o closing = fine-placed s k fs n o 0 (fine-act (knownOf s) placedTable (both (e .class) (rangeOf s)) (marks (partOf o 0)) closing)
+  fine-own s k fs n o ending = refuses 9 tt
+  fine-own s k fs n o (keying {k = key} {c = c}) = fine-key s k fs n o key c (find key placedTable)
+
+  fine-placing : (s : Set) (k : ℕ) (fs : List Figure) (n : ℕ) (o : Held) (p : ℕ) {f : Form} → FineForm f → Fine (onPlacing e s k fs n o p f)
+  fine-placing s k fs n o zero w = fine-own s k fs n o w
+  fine-placing s k fs n o (suc p) w = search (fine-placed, fine-act)
+
+  fine-skip-shut : (s : Set) (k : ℕ) (fs : List Figure) (n : ℕ) (o : Held) (d : ℕ) → Fine (skipShut s k fs n o d)
+  fine-skip-shut s k fs n o zero = refuses 9 tt
+  fine-skip-shut s k fs n o (suc zero) = answers
+  fine-skip-shut s k fs n o (suc (suc d)) = answers
+
+  fine-skipping : (s : Set) (k : ℕ) (fs : List Figure) (n : ℕ) (o : Held) (d : ℕ) {f : Form} → FineForm f → Fine (onSkipping s k fs n o d f)
+  fine-skipping s k fs n o d passed = answers
+  fine-skipping s k fs n o d (broken m h) = refuses m h
+  fine-skipping s k fs n o d closing = fine-skip-shut s k fs n o d
+  fine-skipping s k fs n o d ending = refuses 9 tt
+  fine-skipping s k fs n o d keying = search steps
+
+  fine-in : (st : State) → FineForm (l .form) → Fine (stepIn e l st)
+  fine-in (top s k) w = fine-top s k w
+  fine-in (file s n h p) w = fine-file s n h p w
+  fine-in (drawing s d) w = fine-drawing s d w
+  fine-in (layerNames s d) w = fine-layers s d w
+  fine-in (defines s b) w = fine-defines s b w
+  fine-in (symbol s y) w = fine-symbol s y w
+  fine-in (hide s y ps) w = fine-hide s y ps w
+  fine-in (elements s) w = fine-elements s w
+  fine-in (figures s h fs) w = fine-figures s h fs w
+  fine-in (successive s h fs n ps) w = fine-successive s h fs n ps w
+  fine-in (texts s h fs n o) w = fine-texts s h fs n o w
+  fine-in (placing s h fs n o p) w = fine-placing s h fs n o p w
+  fine-in (skipping s h fs n o d) w = fine-skipping s h fs n o d w
+  fine-in (ended s) w = refuses 9 tt
+
+  fine-step : (st : State) → FineForm (l .form) → Fine (step e l st)
+  fine-step st w = let v = fine-in st w in search fines
+
+-- ── the forms of lines: 4 or 5 ──
+fine-with-key : (k : List ℕ) (r : Rest) → FineForm (withKey k r)
+fine-with-key [] r = broken 5 tt
+fine-with-key (b ∷ k) r = keying
+
+fine-from : (s : List ℕ) (end : ℕ) (c : Scan) → FineForm (formFrom s end c)
+fine-from s end neither =
+    by-cond FineForm (same s (bytes "}")) (λ _. closing) (λ _. by-cond FineForm (same s (bytes "EOF")) (λ _. ending) (λ _. broken 5 tt))
+fine-from s end (atEqual k c) = fine-with-key k _
+fine-from s end (atBrace k c) = by-cond FineForm (isNil c) (λ _. fine-with-key k brace) (λ _. broken 5 tt)
+
+fine-rest : (s : List ℕ) (end : ℕ) → FineForm (formOfRest s end)
+fine-rest [] end = passed
+fine-rest (b ∷ s) end = by-cond FineForm (allowed (b ∷ s)) (λ _. fine-from (b ∷ s) end (scan (b ∷ s))) (λ _. broken 4 tt)
+
+fine-form : (at : ℕ) (s : List ℕ) → FineForm (formOf at s)
+unfolding formOf
+fine-form at [] = passed
+fine-form at (b ∷ s) = go (eqb b 35) (fine-rest (unindent (b ∷ s)) (at + length (b ∷ s)))
+  where
+    go : {f : Form} (t : Bool) → FineForm f → FineForm (choose t (λ _. ignored) (λ _. f))
+    go true w = passed
+    go false w = w
+
+-- ── the lines of a spool ──
+data FineLines : List Line → Type 0 where
+  noLine : FineLines []
+  oneLine : {l : Line} {ls : List Line} → FineForm (l .form) → FineLines ls → FineLines (l ∷ ls)
+
+fine-numbered : (v : ℕ) (next : List ℕ) (n at : ℕ) (ls : List (List ℕ)) → FineLines (numbered v next n at ls)
+fine-numbered v next n at [] = noLine
+fine-numbered v next n at (l ∷ ls) = oneLine (fine-form at l) (fine-numbered v next (suc n) (at + length l + 2) ls)
+
+fine-volume : (v : ℕ) (next : List ℕ) (at : ℕ) (ls : List (List ℕ)) → FineLines (linesOfVolume v next at ls)
+fine-volume v next at [] = oneLine passed noLine
+fine-volume v next at (l ∷ ls) = fine-numbered v next 1 at (l ∷ ls)
+
+fine-append : (a b : List Line) → FineLines a → FineLines b → FineLines (a ++ b)
+fine-append [] b noLine q = q
+fine-append (l ∷ a) b (oneLine w p) q = oneLine w (fine-append a b p q)
+
+data FineListed : Listed → Type 0 where
+  lines : {ls : List Line} → FineLines ls → FineListed (listed ls)
+  none3 : {v : ℕ} → FineListed (noLines v)
+
+fine-onto : (ls : List Line) (r : Listed) → FineLines ls → FineListed r → FineListed (ontoLines ls r)
+fine-onto ls (listed rest) p (lines q) = lines (fine-append ls rest p q)
+fine-onto ls (noLines v) p q = none3
+
+fine-list : (k : ℕ) (v : Volume) (vs : List Volume) (ls : Option (List (List ℕ))) (rest : Listed) → FineListed rest → FineListed (listVolume k v vs ls rest)
+fine-list k v vs none rest w = none3
+fine-list k v vs (some ls) rest w = fine-onto _ rest (fine-volume k (nextName vs) (v .place) ls) w
+
+fine-volumes : (k : ℕ) (vs : List Volume) → FineListed (listVolumes k vs)
+fine-volumes k [] = lines noLine
+fine-volumes k (v ∷ vs) = fine-list k v vs (linesOf (v .body)) _ (fine-volumes (suc k) vs)
+
+-- ── the outcome ──
+pub data Told : Outcome → Type 0 where
+  toldSet : {s : Set} → Told (accepted s)
+  toldNumber : (n v l : ℕ) → 1 ≤ n → n ≤ 19 → Told (refused n v l)
+
+told-nine : Told (refused 9 0 0)
+told-nine = toldNumber 9 0 0 (omega arith) (omega arith)
+
+told-finish : (st : State) → Told (finish st)
+told-finish (top s k) = told-nine
+told-finish (file s n h p) = told-nine
+told-finish (drawing s d) = told-nine
+told-finish (layerNames s d) = told-nine
+told-finish (defines s b) = told-nine
+told-finish (symbol s y) = told-nine
+told-finish (hide s y ps) = told-nine
+told-finish (elements s) = told-nine
+told-finish (figures s h fs) = told-nine
+told-finish (successive s h fs n ps) = told-nine
+told-finish (texts s h fs n o) = told-nine
+told-finish (placing s h fs n o p) = told-nine
+told-finish (skipping s h fs n o d) = told-nine
+told-finish (ended s) = toldSet
+
+told-then : (g : Got State) (l : Line) (f : State → Outcome) → Fine g → ((st : State) → Told (f st)) → Told (thenRun g l f)
+told-then (got st) l f w h = h st
+told-then (bad n) l f (refuses _ w) h = let b = within-le 4 19 n w in toldNumber n (l .volume) (l .line) (omega arith) (b .1)
+
+told-run : (e : Env) (st : State) (ls : List Line) → FineLines ls → Told (run e st ls)
+told-run e st [] noLine = told-finish st
+told-run e st (l ∷ ls) (oneLine w r) = told-then (step e l st) l _ (fine-step e l st w) (λ st′. told-run e st′ ls r)
+
+told-lines : (e : Env) (l : Listed) → FineListed l → Told (outcomeOfLines e l)
+told-lines e (listed ls) (lines w) = told-run e (top nothingYet 0) ls w
+told-lines e (noLines v) w = toldNumber 3 v 0 (omega arith) (omega arith)
+
+told-volumes : (e : Env) (vs : Option (List Volume)) → Told (outcomeOfVolumes e vs)
+told-volumes e none = toldNumber 2 0 0 (omega arith) (omega arith)
+told-volumes e (some vs) = told-lines e (listVolumes 1 vs) (fine-volumes 1 vs)
+
+pub told-spool : (e : Env) (spool : List ℕ) → Told (outcomeOf e spool)
+unfolding outcomeOf
+told-spool e spool = told-volumes e (volumesOf spool)
+
+pub told-at : (c : Option Digits) (m : Option ℕ) (spool : List ℕ) → Told (outcomeAt c m spool)
+told-at none m spool = toldNumber 1 0 0 (omega arith) (omega arith)
+told-at (some c) m spool = told-spool (record { class = c; limit = m }) spool

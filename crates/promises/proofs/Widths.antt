@@ -1,0 +1,147 @@
+-- Every record has 32 numbers: what is put into a record keeps its length.
+use Prim.Native.Nat.{ℕ, zero, suc, _+_, _*_, _-_, _≤_}
+use mathlib.Core.Bool.{Bool, true, false}
+use mathlib.Core.List.{List, [], _∷_, _++_, map}
+use mathlib.Core.Option.{Option, some}
+use mathlib.Core.Path.{_≡_, refl, _∙_, ap}
+use native.Mathlib.Omega.{arith}
+use lib.IntN.{ℤ}
+use lib.Dec.{eqb}
+use lib.ListN.{length, take, drop, replicate, length-set, length-append, length-take, length-drop, length-replicate}
+use lib.Seq.{length-sets, take-append-add}
+use Rattle.rules.specs.declared.Digits.{Digits}
+use Rattle.rules.specs.Base.{flat}
+use Rattle.rules.specs.RangeClass.{digits, hides}
+use Rattle.rules.specs.Values.{Value, nums}
+use Rattle.rules.specs.Rows.{Rule, Slots, Held, partOf}
+use Rattle.rules.specs.Blocks.{fileTables, drawingTable, symbolTable}
+use Rattle.rules.specs.Figures.{layerTable, figureTable, pointTable, textTable, placedTable, placedTables}
+use Rattle.rules.specs.Sets.{Point, Figure, plain, chain, lettering, placed, Layer, Symbol, Contents, Set, rangeOf, isSingle}
+use Rattle.rules.specs.RecordTable.{putNumbers, putState, putSlot, firstSlot, otherSlots, putSlots, putParts, putHeld, unreadState, markUnread, start, twoOf, fileRecords, layerRecords, ruleAt, pointRecords, figureRecords, innerRecords, symbolRecords, bodyRecords, laterRecords, recordsFrom, recordsOf}
+use Rattle.rules.proofs.Chains.{by-cond}
+use Rattle.promises.specs.DemandOne.{Wide, noRecord, oneMore}
+
+-- ── what is put into a record ──
+numbers-length : (p : ℕ) (zs t : List ℤ) → length (putNumbers p zs t) ≡ length t
+numbers-length zero zs t = refl
+numbers-length (suc p) zs t = length-sets t (suc p) zs
+
+state-length : (q : ℕ) (z : ℤ) (t : List ℤ) → length (putState q z t) ≡ length t
+state-length zero z t = refl
+state-length (suc q) z t = length-set t (suc q) z
+
+slot-length : (r : Rule) (o : Option Value) (t : List ℤ) → length (putSlot r o t) ≡ length t
+slot-length r o t = state-length (r .state) _ _ ∙ numbers-length (r .place) _ t
+
+slots-length : (rs : List Rule) (s : Slots) (t : List ℤ) → length (putSlots rs s t) ≡ length t
+slots-length [] s t = refl
+slots-length (r ∷ rs) s t = slot-length r (firstSlot s) _ ∙ slots-length rs (otherSlots s) t
+
+parts-length : (p : ℕ) (ts : List (List Rule)) (h : Held) (t : List ℤ) → length (putParts p ts h t) ≡ length t
+parts-length p [] h t = refl
+parts-length p (r ∷ rs) h t = slots-length r (partOf h p) _ ∙ parts-length (suc p) rs h t
+
+unread-one : (q : ℕ) (b : Bool) (t : List ℤ) → length (unreadState q b t) ≡ length t
+unread-one zero b t = refl
+unread-one (suc q) b t = length-set t (suc q) _
+
+unread-length : (c d : Digits) (rs : List Rule) (t : List ℤ) → length (markUnread c d rs t) ≡ length t
+unread-length c d [] t = refl
+unread-length c d (r ∷ rs) t = unread-one (r .state) (hides c d (r .least)) _ ∙ unread-length c d rs t
+
+placed-length : (c d : Digits) (h : Held) (t : List ℤ) → length (markUnread c d placedTable (putHeld placedTables h t)) ≡ length t
+placed-length c d h t = unread-length c d placedTable _ ∙ parts-length 0 placedTables h t
+
+-- ── lists of records ──
+wide-append : (a b : List (List ℤ)) → Wide a → Wide b → Wide (a ++ b)
+wide-append [] b noRecord q = q
+wide-append (r ∷ a) b (oneMore e p) q = oneMore e (wide-append a b p q)
+
+wide-flat : {A : Type 0} (f : A → List (List ℤ)) → ((a : A) → Wide (f a)) → (s : List A) → Wide (flat (map f s))
+wide-flat f h [] = noRecord
+wide-flat f h (a ∷ s) = wide-append (f a) _ (h a) (wide-flat f h s)
+
+pub flat-length : (rs : List (List ℤ)) → Wide rs → length (flat rs) ≡ length rs * 32
+flat-length [] noRecord = refl
+flat-length (r ∷ rs) (oneMore e w) = omega (arith, length-append r (flat rs), e, flat-length rs w)
+
+-- ── the records of a set ──
+wide-points : (kind owner volume : ℕ) (ps : List Point) → Wide (pointRecords kind owner volume ps)
+wide-points kind owner volume [] = noRecord
+wide-points kind owner volume (p ∷ ps) = oneMore (slot-length (ruleAt (pointTable true) 0) (some (nums (p .values))) _) (wide-points kind owner volume ps)
+
+wide-figure : (c d : Digits) (t : List Rule) (more owner volume : ℕ) (f : Figure) → Wide (figureRecords c d t more owner volume f)
+wide-figure c d t more owner volume (plain n j v) =
+    oneMore
+    (by-cond (λ (l : List ℤ). length l ≡ 32) (eqb j 6)
+    (λ _. placed-length c d ((some (nums v) ∷ []) ∷ []) (start (16 + more) owner volume n))
+    (λ _. slot-length (ruleAt t j) (some (nums v)) _))
+    noRecord
+wide-figure c d t more owner volume (chain n ps) = oneMore refl (wide-points (17 + more) owner volume ps)
+wide-figure c d t more owner volume (lettering n s) = oneMore (slots-length (textTable true 4 12) s _) noRecord
+wide-figure c d t more owner volume (placed n h) = oneMore (placed-length c d h _) noRecord
+
+wide-inner : (n : ℕ) (y : Symbol) → Wide (innerRecords n y)
+wide-inner n y =
+    let shown = wide-flat _ (wide-figure (digits 0 0) (digits 0 0) figureTable 20 n 1) (y .figures) in
+    let hidden = wide-points 43 n 1 (y .hidden) in
+    by-cond Wide (y .hideFirst) (λ e. wide-append _ _ hidden shown) (λ e. wide-append _ _ shown hidden)
+
+wide-symbols : (n : ℕ) (ys : List Symbol) → Wide (symbolRecords n ys)
+wide-symbols n [] = noRecord
+wide-symbols n (y ∷ ys) = oneMore (slots-length symbolTable (y .own) _) (wide-append (innerRecords n y) _ (wide-inner n y) (wide-symbols (suc n) ys))
+
+wide-layers : (n : ℕ) (ls : List Layer) → Wide (layerRecords n ls)
+wide-layers n [] = noRecord
+wide-layers n (l ∷ ls) = oneMore refl (wide-layers (suc n) ls)
+
+wide-body : (c d : Digits) (t : List Rule) (k : ℕ) (v : Contents) → Wide (bodyRecords c d t k v)
+wide-body c d t k v = wide-flat _ (λ u. wide-flat _ (wide-figure c d t 0 (u .layer) k) (u .figures)) (v .blocks)
+
+-- the header's 64 numbers, cut into 32 and 32
+wide-two : (t : List ℤ) → length t ≡ 64 → Wide (twoOf t)
+wide-two t e =
+    let first : length (take 32 t) ≡ 32 = omega (arith, length-take 32 t) in
+    let second : length (drop 32 t) ≡ 32 = omega (arith, length-drop 32 t) in
+    oneMore first (oneMore second noRecord)
+
+wide-file : (b : Bool) (k : ℕ) (v : Contents) → Wide (fileRecords b k v)
+wide-file true k v = wide-two (putHeld (fileTables true) (v .file) (start 1 0 k (v .line) ++ start 2 0 k (v .line))) (parts-length 0 (fileTables true) (v .file) (start 1 0 k (v .line) ++ start 2 0 k (v .line)))
+wide-file false k v = oneMore (parts-length 0 (fileTables false) (v .file) _) noRecord
+
+wide-later : (c d : Digits) (t : List Rule) (k : ℕ) (vs : List Contents) → Wide (laterRecords c d t k vs)
+wide-later c d t k [] = noRecord
+wide-later c d t k (v ∷ vs) =
+    wide-append _ _ (wide-append (fileRecords false k v) _ (wide-file false k v) (wide-body c d t k v)) (wide-later c d t (suc k) vs)
+
+wide-from : (c : Digits) (s : Set) (vs : List Contents) → Wide (recordsFrom c s vs)
+wide-from c s [] = noRecord
+wide-from c s (v ∷ vs) =
+    let d = rangeOf s in
+    let t = layerTable (isSingle s) in
+    wide-append _ _
+    (wide-append _ _
+    (wide-append _ _
+    (wide-append (fileRecords true 1 v) _ (wide-file true 1 v) (oneMore (slots-length drawingTable (s .drawing .own) _) (wide-layers 0 (s .drawing .layers))))
+    (wide-symbols 0 (s .symbols)))
+    (wide-body c d t 1 v))
+    (wide-later c d t 2 vs)
+
+pub wide-records : (c : Digits) (s : Set) → Wide (recordsOf c s)
+unfolding recordsOf
+wide-records c s = wide-from c s (s .volumes)
+
+-- ── a lent part: what is written, and zeros up to its length ──
+pub take-replicate : {A : Type 0} (k m : ℕ) (z : A) → k ≤ m → take k (replicate m z) ≡ replicate k z
+take-replicate zero m z h = refl
+take-replicate (suc k) zero z h = absurd (omega arith)
+take-replicate (suc k) (suc m) z h = ap (λ l. z ∷ l) (take-replicate k m z (omega arith))
+
+pub filled-length : {A : Type 0} (n : ℕ) (z : A) (p : List A) → length (take n (p ++ replicate n z)) ≡ n
+filled-length n z p = omega (arith, length-take n (p ++ replicate n z), length-append p (replicate n z), length-replicate n z)
+
+pub filled : {A : Type 0} (n : ℕ) (z : A) (p : List A) → length p ≤ n → take n (p ++ replicate n z) ≡ p ++ replicate (n - length p) z
+filled n z p h =
+    let e : n ≡ length p + (n - length p) = omega arith in
+    ap (λ (k : ℕ). take k (p ++ replicate n z)) e ∙ take-append-add p (replicate n z) (n - length p)
+    ∙ ap (λ l. p ++ l) (take-replicate (n - length p) n z (omega arith))
