@@ -4,6 +4,7 @@ pub mod Fits
 pub mod Forms
 pub mod Frame
 pub mod Good
+pub mod Listing
 pub mod Lower
 pub mod LowerPlaced
 pub mod LowerRecords
@@ -14,5 +15,6 @@ pub mod Places
 pub mod RecordPlaces
 pub mod Refusals
 pub mod RowGood
+pub mod TwoClasses
 pub mod Values
 pub mod Widths

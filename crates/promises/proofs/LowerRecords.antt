@@ -308,3 +308,29 @@ module _ (low high : Digits) (le : NotAbove low high) (d : Digits) where
 
   head-same : (dr : Drawing) → Same (drawingRecord dr ∷ layerRecords 0 (dr .layers))
   head-same dr = cons-same (drawingRecord dr) (layerRecords 0 (dr .layers)) (slots-same drawingTable (dr .own) (start 3 0 1 (dr .line)) refl) (layers-same 0 (dr .layers))
+
+  from-lower : (s s′ : Set) → s′ .drawing ≡ s .drawing → s′ .symbols ≡ s .symbols → rangeOf s′ ≡ d → isSingle s′ ≡ isSingle s → rangeOf s ≡ d → (vs : List Contents)
+      → recordsFrom low s′ (map (lowerContents low d) vs) ≡ map u (recordsFrom high s vs)
+  from-lower s s′ p q r o e [] = refl
+  from-lower s s′ p q r o e (v ∷ vs) = rw (p, q, r, o, e) (apart (layerTable (isSingle s)))
+    where
+      head : List (List ℤ)
+      head = fileRecords true 1 v ++ (drawingRecord (s .drawing) ∷ layerRecords 0 (s .drawing .layers)) ++ symbolRecords 0 (s .symbols)
+
+      head-kept : Same head
+      head-kept =
+          append-same (fileRecords true 1 v ++ (drawingRecord (s .drawing) ∷ layerRecords 0 (s .drawing .layers))) (symbolRecords 0 (s .symbols))
+          (append-same (fileRecords true 1 v) (drawingRecord (s .drawing) ∷ layerRecords 0 (s .drawing .layers)) (file-records true 1 v) (head-same (s .drawing))) (symbols-same 0 (s .symbols))
+
+      apart : (t : List Rule) → head ++ bodyRecords low d t 1 (lowerContents low d v) ++ laterRecords low d t 2 (map (lowerContents low d) vs)
+          ≡ map u (head ++ bodyRecords high d t 1 v ++ laterRecords high d t 2 vs)
+      apart t =
+          ap₂ (λ x y. x ++ y) (ap₂ (λ x y. x ++ y) (sym head-kept) (body-lower t 1 v)) (later-lower t 2 vs)
+          ∙ ap (λ x. x ++ map u (laterRecords high d t 2 vs)) (sym (map-append u head (bodyRecords high d t 1 v)))
+          ∙ sym (map-append u (head ++ bodyRecords high d t 1 v) (laterRecords high d t 2 vs))
+
+-- the records of a set, at the two classes
+pub records-lower : (low high : Digits) → NotAbove low high → (s : Set) → recordsOf low (lowerSet low s) ≡ map (unread low (rangeOf s)) (recordsOf high s)
+unfolding recordsOf
+records-lower low high le s =
+    from-lower low high le (rangeOf s) s (lowerSet low s) refl refl (simp (file-same low (rangeOf s) (s .now) (s .volumes))) (simp (file-same low (rangeOf s) (s .now) (s .volumes))) refl (s .volumes)

@@ -1,0 +1,104 @@
+-- Demand 3, proved.
+use Prim.Native.Nat.{ℕ, zero, suc, _/_}
+use mathlib.Core.Bool.{Bool, true, false}
+use mathlib.Core.List.{List, [], _∷_, map}
+use mathlib.Core.Option.{Option, none, some}
+use mathlib.Core.Path.{_≡_, refl, sym, _∙_, ap, ap₂}
+use native.Mathlib.Omega.{arith}
+use lib.IntN.{ℤ}
+use lib.ListN.{length, length-map}
+use Rattle.rules.specs.declared.Digits.{Digits}
+use Rattle.rules.specs.declared.Refusal.{Refusal}
+use Rattle.rules.specs.declared.Answer.{Answer}
+use Rattle.rules.specs.declared.Answer.the-variants.{Accepted, Refused}
+use Rattle.rules.specs.Base.{isNil}
+use Rattle.rules.specs.Spool.{Volume, volumesOf}
+use Rattle.rules.specs.RangeClass.{classOf}
+use Rattle.rules.specs.Sets.{Set, nothingYet, rangeOf}
+use Rattle.rules.specs.Machine.{Line, Env, State, top, Outcome, refused, accepted, run}
+use Rattle.rules.specs.RecordTable.{width, recordsOf}
+use Rattle.rules.specs.Answers.{Listed, listed, noLines, listVolumes, outcomeOfLines, outcomeOfVolumes, outcomeOf, outcomeAt, digitsOr, recordsIn, answerWith, refusal, readOutcome, readRecords, readAnswer}
+use Rattle.rules.proofs.Chains.{clash}
+use Rattle.promises.specs.DemandThree.{NotAbove, Classes, unread, LowerAccepts, atOrBefore, HigherRefuses}
+use Rattle.promises.proofs.Frame.{volumes-inv}
+use Rattle.promises.proofs.Lower.{lowerSet}
+use Rattle.promises.proofs.LowerRecords.{records-lower}
+use Rattle.promises.proofs.LowerRun.{no-accept, notAfter, notAfter-refl, Sorted, proper, sim-run, refused-too}
+use Rattle.promises.proofs.Listing.{lines-whole, lines-proper}
+
+module _ (low high : Digits) (le : NotAbove low high) (m : Option ℕ) where
+  abbrev lo : Env
+  lo = record { class = low; limit = m }
+
+  abbrev hi : Env
+  hi = record { class = high; limit = m }
+
+  accepts : (o : Option (List Volume)) (s : Set) → outcomeOfVolumes hi o ≡ accepted s → outcomeOfVolumes lo o ≡ accepted (lowerSet low s)
+  accepts none s e = no-accept (sym e)
+  accepts (some vs) s e = go (listVolumes 1 vs) e
+    where
+      go : (l : Listed) → outcomeOfLines hi l ≡ accepted s → outcomeOfLines lo l ≡ accepted (lowerSet low s)
+      go (listed ls) e = sim-run low high le m ls (top nothingYet 0) s e
+      go (noLines v) e = no-accept (sym e)
+
+  abbrev There : Outcome → ℕ → ℕ → Type 0
+  There o v n = (k′ : ℕ) × (v′ : ℕ) × (n′ : ℕ) × (o ≡ refused k′ v′ n′) × (notAfter v′ n′ v n ≡ true)
+
+  -- a refusal that both give
+  both : (o : Outcome) (k v n : ℕ) → o ≡ refused k v n → There o v n
+  both o k v n e = (k, v, n, e, notAfter-refl v n)
+
+  refuses : (spool : List ℕ) (k v n : ℕ) → outcomeOfVolumes lo (volumesOf spool) ≡ refused k v n → There (outcomeOfVolumes hi (volumesOf spool)) v n
+  refuses spool k v n e = go (volumesOf spool) refl e
+    where
+      by : (vs : List Volume) → volumesOf spool ≡ some vs → (l : Listed) → listVolumes 1 vs ≡ l → outcomeOfLines lo l ≡ refused k v n → There (outcomeOfLines hi l) v n
+      by [] p l q e = absurd (let w = volumes-inv spool [] p in omega (arith, w .one))
+      by (u ∷ vs) p (noLines w) q e = both (refused 3 w 0) k v n e
+      by (u ∷ vs) p (listed ls) q e = refused-too low high le m ls (top nothingYet 0) (lines-proper 1 u vs ls q) (lines-whole 0 (u ∷ vs) ls q .sorted) k v n e
+
+      go : (o : Option (List Volume)) → volumesOf spool ≡ o → outcomeOfVolumes lo o ≡ refused k v n → There (outcomeOfVolumes hi o) v n
+      go none p e = both (refused 2 0 0) k v n e
+      go (some vs) p e = by vs p (listVolumes 1 vs) refl e
+
+-- ── the answers ──
+taken : (len : ℕ) (spool : List ℕ) (class : ℕ) (c : Digits) (s : Set) → classOf class ≡ some c → readOutcome class len spool ≡ accepted s
+    → (readRecords class len spool ≡ recordsOf c s) × (readAnswer class len spool ≡ Accepted (length (recordsOf c s)))
+unfolding readRecords readAnswer
+taken len spool class c s p e = (rw (e, p), rw (e, p))
+
+outcome-at : (len : ℕ) (spool : List ℕ) (class : ℕ) (c : Digits) → classOf class ≡ some c
+    → readOutcome class len spool ≡ outcomeOfVolumes (record { class = c; limit = some (len / width) }) (volumesOf spool)
+unfolding readOutcome outcomeOf
+outcome-at len spool class c p = rw p
+
+pub lower-accepts : LowerAccepts
+lower-accepts lo hi low high cs len spool set e =
+    let m : Option ℕ = some (len / width) in
+    let up = outcome-at len spool hi high (cs .higher) in
+    let down = outcome-at len spool lo low (cs .lower) ∙ accepts low high (cs .below) m (volumesOf spool) set (sym up ∙ e) in
+    let a = taken len spool hi high set (cs .higher) e in
+    let b = taken len spool lo low (lowerSet low set) (cs .lower) down in
+    let r = records-lower low high (cs .below) set in (
+      b .1 ∙ ap (λ rs. Accepted (length rs)) r ∙ ap Accepted (length-map (recordsOf high set) (unread low (rangeOf set))) ∙ sym (a .1),
+      b .0 ∙ r ∙ ap (map (unread low (rangeOf set))) (sym (a .0)),
+    )
+
+-- an answer that refuses comes of an outcome that refuses
+refused-inv : (len : ℕ) (spool : List ℕ) (class : ℕ) (r : Refusal) → readAnswer class len spool ≡ Refused r → readOutcome class len spool ≡ refused (r .number) (r .volume) (r .line)
+unfolding readAnswer
+refused-inv len spool class r e = go (readOutcome class len spool) (length (readRecords class len spool)) e
+  where
+    go : (o : Outcome) (n : ℕ) → answerWith n o ≡ Refused r → o ≡ refused (r .number) (r .volume) (r .line)
+    go (refused k v l) n e = let z : record { number = k; volume = v; line = l } ≡ r = cc in ap (λ (q : Refusal). refused (q .number) (q .volume) (q .line)) z
+    go (accepted s) n e = absurd (let z : _≡_ {A = ℕ} 0 1 = cc in omega arith)
+
+refused-of : (len : ℕ) (spool : List ℕ) (class : ℕ) (k v n : ℕ) → readOutcome class len spool ≡ refused k v n → readAnswer class len spool ≡ refusal k v n
+unfolding readAnswer
+refused-of len spool class k v n e = rw e
+
+pub higher-refuses : HigherRefuses
+higher-refuses lo hi low high cs len spool r e =
+    let m : Option ℕ = some (len / width) in
+    let down = sym (outcome-at len spool lo low (cs .lower)) ∙ refused-inv len spool lo r e in
+    let (k, v, n, p, q) = refuses low high (cs .below) m spool (r .number) (r .volume) (r .line) down in
+    (record { number = k; volume = v; line = n }, refused-of len spool hi k v n (outcome-at len spool hi high (cs .higher) ∙ p), q)
