@@ -15,6 +15,7 @@ pub mod Places
 pub mod RecordPlaces
 pub mod Refusals
 pub mod RowGood
+pub mod Sizes
 pub mod TwoClasses
 pub mod Values
 pub mod Widths

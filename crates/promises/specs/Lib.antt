@@ -1,3 +1,4 @@
 pub mod DemandOne
+pub mod DemandTwo
 pub mod DemandThree
 pub mod PlacesApart
