@@ -89,7 +89,8 @@ counted (placing s h fs n o p) = within s + figuresCount fs + 1
 counted (skipping s h fs n o d) = within s + figuresCount fs + 1
 counted (ended s) = suc (drawnCount (s .drawing) + closedCount s)
 
-abbrev setOf : State → Set
+-- the set that a state holds
+abbrev pub setOf : State → Set
 setOf (top s k) = s
 setOf (file s n h p) = s
 setOf (drawing s d) = s
@@ -575,24 +576,24 @@ isAccepted (accepted s) = true
 pub not-accepted : {P : Type 0} {n v l : ℕ} {s : Set} → refused n v l ≡ accepted s → P
 not-accepted e = absurd (true≢false (sym (ap isAccepted e)))
 
-inv-finish : (e : Env) (st : State) (s : Set) → Inv e st → finish st ≡ accepted s → Inv e (ended s)
-inv-finish e (top s k) a i q = not-accepted q
-inv-finish e (file s n h p) a i q = not-accepted q
-inv-finish e (drawing s d) a i q = not-accepted q
-inv-finish e (layerNames s d) a i q = not-accepted q
-inv-finish e (defines s b) a i q = not-accepted q
-inv-finish e (symbol s y) a i q = not-accepted q
-inv-finish e (hide s y ps) a i q = not-accepted q
-inv-finish e (elements s) a i q = not-accepted q
-inv-finish e (figures s h fs) a i q = not-accepted q
-inv-finish e (successive s h fs n ps) a i q = not-accepted q
-inv-finish e (texts s h fs n o) a i q = not-accepted q
-inv-finish e (placing s h fs n o p) a i q = not-accepted q
-inv-finish e (skipping s h fs n o d) a i q = not-accepted q
-inv-finish e (ended s) a i q = let same : s ≡ a = cc in rw (← same) i
+pub finish-ended : (st : State) (s : Set) → finish st ≡ accepted s → st ≡ ended s
+finish-ended (top s k) a q = not-accepted q
+finish-ended (file s n h p) a q = not-accepted q
+finish-ended (drawing s d) a q = not-accepted q
+finish-ended (layerNames s d) a q = not-accepted q
+finish-ended (defines s b) a q = not-accepted q
+finish-ended (symbol s y) a q = not-accepted q
+finish-ended (hide s y ps) a q = not-accepted q
+finish-ended (elements s) a q = not-accepted q
+finish-ended (figures s h fs) a q = not-accepted q
+finish-ended (successive s h fs n ps) a q = not-accepted q
+finish-ended (texts s h fs n o) a q = not-accepted q
+finish-ended (placing s h fs n o p) a q = not-accepted q
+finish-ended (skipping s h fs n o d) a q = not-accepted q
+finish-ended (ended s) a q = cc
 
 inv-run : (e : Env) (st : State) (ls : List Line) (s : Set) → Inv e st → run e st ls ≡ accepted s → Inv e (ended s)
-inv-run e st [] s i q = inv-finish e st s i q
+inv-run e st [] s i q = subst (Inv e) (finish-ended st s q) i
 inv-run e st (l ∷ ls) s i q = go (step e l st) (inv-step e l st i) (λ st′ i′ q′. inv-run e st′ ls s i′ q′) q
   where
     go : (g : Got State) → On (Inv e) g → ((st′ : State) → Inv e st′ → run e st′ ls ≡ accepted s → Inv e (ended s)) → thenRun g l (λ st′. run e st′ ls) ≡ accepted s → Inv e (ended s)
@@ -669,8 +670,12 @@ count-from c s (v ∷ vs) q =
       count-later c d t 2 vs,
     )
 
-pub count-records : (e : Env) (c : Digits) (ls : List Line) (s : Set) → run e (top nothingYet 0) ls ≡ accepted s → roomFor (e .limit) (length (recordsOf c s)) ≡ true
+-- what was taken is what the records are, and it fits
+pub count-taken : (e : Env) (c : Digits) (ls : List Line) (s : Set) → run e (top nothingYet 0) ls ≡ accepted s → (length (recordsOf c s) ≡ s .taken) × (roomFor (e .limit) (s .taken) ≡ true)
 unfolding recordsOf
-count-records e c ls s q =
+count-taken e c ls s q =
     let i = inv-run e (top nothingYet 0) ls s (inv-start e) q in
-    rw (count-from c s (s .volumes) (i .kept), ← i .counts) (i .room)
+    (count-from c s (s .volumes) (i .kept) ∙ sym (i .counts), i .room)
+
+pub count-records : (e : Env) (c : Digits) (ls : List Line) (s : Set) → run e (top nothingYet 0) ls ≡ accepted s → roomFor (e .limit) (length (recordsOf c s)) ≡ true
+count-records e c ls s q = let w = count-taken e c ls s q in rw (w .0) (w .1)

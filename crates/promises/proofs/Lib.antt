@@ -4,6 +4,8 @@ pub mod Fits
 pub mod Forms
 pub mod Frame
 pub mod Good
+pub mod GoodLines
+pub mod Limits
 pub mod Listing
 pub mod Lower
 pub mod LowerPlaced

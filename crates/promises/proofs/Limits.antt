@@ -1,0 +1,232 @@
+-- The table's limit changes nothing of a set that fits: with it and without it the same lines give the same set.
+use Prim.Native.Nat.{ℕ, zero, suc, _≤_, _<_}
+use mathlib.Core.Bool.{Bool, true, false, cond}
+use mathlib.Core.List.{List, [], _∷_}
+use mathlib.Core.Option.{Option, none, some}
+use mathlib.Core.Path.{_≡_, refl, ap}
+use native.Mathlib.Nat.{le-refl, le-of-eq, le-add-right}
+use native.Mathlib.Omega.{arith}
+use lib.Dec.{leb}
+use lib.ListN.{length}
+use borrow.Author.Tests.{leb-true, leb-false}
+use Rattle.rules.specs.declared.Digits.{Digits}
+use Rattle.rules.specs.RefusalNumbers.{Got, got, bad, unless, mapG, andThen, also}
+use Rattle.rules.specs.Lines.{Rest, Form, ignored, wrong, close, eof, keyed}
+use Rattle.rules.specs.RangeClass.{Skip, passes, deeper, noForm}
+use Rattle.rules.specs.Values.{Value}
+use Rattle.rules.specs.Rows.{Found, absent, found, Held, Act, stay, entry, begin, shut, refuse}
+use Rattle.rules.specs.Sets.{Figure, Symbol, Drawing, Set, nothingYet}
+use Rattle.rules.specs.RecordTable.{recordsOf}
+use Rattle.rules.specs.Machine.{Line, Env, Home, inElement, inLayer, State, top, file, drawing, layerNames, defines, symbol, hide, elements, figures, successive, texts, placing, skipping, ended, byAct, openTop, onTop, shutPart, onLayerNames, openSymbol, closeFigures, openPlaced, openFigure, bySkip, onUnknown, onPlacedKey, onPlacedOwn, onPlacing, skipShut, onSkipping, stepIn, completes, nextVolume, step, accepted, thenRun, run}
+use Rattle.promises.proofs.Count.{setOf, not-accepted, finish-ended, count-taken}
+
+-- ── what a line gives without a limit and with the limit m, where n records were taken before ──
+-- the same, or without a limit a state with more than m records, and with it 19
+data Alike (m n : ℕ) : Got State → Got State → Type 0 where
+  refuses : {k : ℕ} → Alike m n (bad k) (bad k)
+  goes : (st : State) → n ≤ setOf st .taken → Alike m n (got st) (got st)
+  over : (st : State) → n ≤ setOf st .taken → m < setOf st .taken → Alike m n (got st) (bad 19)
+
+-- the next volume begins with what was taken
+same-taken : (st : State) → setOf (nextVolume st) ≡ setOf st
+same-taken (top s k) = refl
+same-taken (file s n h p) = refl
+same-taken (drawing s d) = refl
+same-taken (layerNames s d) = refl
+same-taken (defines s b) = refl
+same-taken (symbol s y) = refl
+same-taken (hide s y ps) = refl
+same-taken (elements s) = refl
+same-taken (figures s h fs) = refl
+same-taken (successive s h fs n ps) = refl
+same-taken (texts s h fs n o) = refl
+same-taken (placing s h fs n o p) = refl
+same-taken (skipping s h fs n o d) = refl
+same-taken (ended s) = refl
+
+module _ {m n : ℕ} where
+  alike-unless : (t : Bool) (k : ℕ) (g h : Got State) → Alike m n g h → Alike m n (unless t k g) (unless t k h)
+  alike-unless true k g h w = w
+  alike-unless false k g h w = refuses
+
+  alike-cond : (t : Bool) (g h g′ h′ : Got State) → Alike m n g h → Alike m n g′ h′ → Alike m n (cond t g g′) (cond t h h′)
+  alike-cond true g h g′ h′ p q = p
+  alike-cond false g h g′ h′ p q = q
+
+  alike-then : {A : Type 0} (x : Got A) (f f′ : A → Got State) → ((a : A) → Alike m n (f a) (f′ a)) → Alike m n (andThen x f) (andThen x f′)
+  alike-then (got a) f f′ w = w a
+  alike-then (bad k) f f′ w = refuses
+
+  alike-also : (t : Bool) {g h : Got State} → Alike m n g h → Alike m n (also t 9 g) (also t 9 h)
+  alike-also true w = w
+  alike-also false refuses = refuses
+  alike-also false (goes st p) = refuses
+  alike-also false (over st p q) = refuses
+
+  alike-act : (st : State) (en en′ : ℕ → Value → Got State) (op op′ : ℕ → ℕ → Value → Got State) (cl cl′ : Unit {0} → Got State) (a : Act)
+      → n ≤ setOf st .taken → ((j : ℕ) (v : Value) → Alike m n (en j v) (en′ j v)) → ((i j : ℕ) (v : Value) → Alike m n (op i j v) (op′ i j v)) → Alike m n (cl tt) (cl′ tt)
+      → Alike m n (byAct st en op cl a) (byAct st en′ op′ cl′ a)
+  alike-act st en en′ op op′ cl cl′ stay p q r w = goes st p
+  alike-act st en en′ op op′ cl cl′ (entry j v) p q r w = q j v
+  alike-act st en en′ op op′ cl cl′ (begin i j v) p q r w = r i j v
+  alike-act st en en′ op op′ cl cl′ shut p q r w = w
+  alike-act st en en′ op op′ cl cl′ (refuse k) p q r w = refuses
+
+  alike-shut : (p : ℕ) (whole : Got State) (back : ℕ → State) → Alike m n whole whole → ((q : ℕ) → n ≤ setOf (back q) .taken) → Alike m n (shutPart p whole back) (shutPart p whole back)
+  alike-shut zero whole back w h = w
+  alike-shut (suc p) whole back w h = goes _ (h _)
+
+  alike-skip : (k : Skip) (g h : Got State) → Alike m n g g → Alike m n h h → Alike m n (bySkip k g h) (bySkip k g h)
+  alike-skip passes g h p q = p
+  alike-skip deeper g h p q = q
+  alike-skip noForm g h p q = refuses
+
+  -- the one place that looks at the limit
+  alike-room : (k : ℕ) (st : State) → n ≤ k → k ≡ setOf st .taken → Alike m n (got st) (unless (leb k m) 19 (got st))
+  alike-room k st p e = go (leb k m) refl
+    where
+      go : (t : Bool) → leb k m ≡ t → Alike m n (got st) (unless t 19 (got st))
+      go true r = goes st (rw (← e) p)
+      go false r = over st (rw (← e) p) (rw (← e) (leb-false k m r))
+
+  alike-next : {g h : Got State} → Alike m n g h → Alike m n (mapG nextVolume g) (mapG nextVolume h)
+  alike-next refuses = refuses
+  alike-next (goes st p) = goes (nextVolume st) (rw (same-taken st) p)
+  alike-next (over st p q) = over (nextVolume st) (rw (same-taken st) p) (rw (same-taken st) q)
+
+ruleset alikes = (refuses, goes, alike-unless, alike-cond, alike-then, alike-act, alike-shut, alike-skip, alike-room, le-refl, le-add-right)
+
+-- the reading with no limit, and with a table of m records
+abbrev free : Digits → Env
+free c = record { class = c; limit = none }
+
+abbrev bound : Digits → ℕ → Env
+bound c m = record { class = c; limit = some m }
+
+-- ── one line ──
+module _ (c : Digits) (m : ℕ) (l : Line) where
+  alike-open : (s : Set) (k : ℕ) → Alike m (s .taken) (openTop (free c) l s k) (openTop (bound c m) l s k)
+  alike-open s zero = search alikes
+  alike-open s (suc zero) = search alikes
+  alike-open s (suc (suc zero)) = search alikes
+  alike-open s (suc (suc (suc k))) = search alikes
+
+  alike-top : (s : Set) (k : ℕ) (f : Form) → Alike m (s .taken) (onTop (free c) l s k f) (onTop (bound c m) l s k f)
+  alike-top s k ignored = search alikes
+  alike-top s k (wrong n) = refuses
+  alike-top s k close = refuses
+  alike-top s k eof = search alikes
+  alike-top s k (keyed key x) = search (alikes, alike-open)
+
+  alike-layers : (s : Set) (d : Drawing) (f : Form) → Alike m (s .taken) (onLayerNames (free c) l s d f) (onLayerNames (bound c m) l s d f)
+  alike-layers s d ignored = search alikes
+  alike-layers s d (wrong n) = refuses
+  alike-layers s d close = search alikes
+  alike-layers s d eof = refuses
+  alike-layers s d (keyed k x) = search alikes depth 8
+
+  alike-symbol : (s : Set) (y : Symbol) (i : ℕ) → Alike m (s .taken) (openSymbol s y i) (openSymbol s y i)
+  alike-symbol s y zero = refuses
+  alike-symbol s y (suc zero) = search alikes
+  alike-symbol s y (suc (suc i)) = search alikes
+
+  alike-close : (s : Set) (h : Home) (fs : List Figure) → Alike m (s .taken) (closeFigures s h fs) (closeFigures s h fs)
+  alike-close s (inElement y) fs = search alikes
+  alike-close s (inLayer k) fs = search alikes
+
+  alike-placed : (s : Set) (h : Home) (fs : List Figure) → Alike m (s .taken) (openPlaced (free c) l s h fs) (openPlaced (bound c m) l s h fs)
+  alike-placed s (inElement y) fs = refuses
+  alike-placed s (inLayer k) fs = search alikes
+
+  alike-figure : (s : Set) (h : Home) (fs : List Figure) (i : ℕ) → Alike m (s .taken) (openFigure (free c) l s h fs i) (openFigure (bound c m) l s h fs i)
+  alike-figure s h fs zero = refuses
+  alike-figure s h fs (suc zero) = search alikes
+  alike-figure s h fs (suc (suc zero)) = search alikes
+  alike-figure s h fs (suc (suc (suc i))) = alike-placed s h fs
+
+  alike-unknown : (s : Set) (h : ℕ) (fs : List Figure) (n : ℕ) (o : Held) (k : List ℕ) (x : Rest) → Alike m (s .taken) (onUnknown (free c) s h fs n o k x) (onUnknown (bound c m) s h fs n o k x)
+  alike-unknown s h fs n o k x = search alikes
+
+  alike-key : (s : Set) (h : ℕ) (fs : List Figure) (n : ℕ) (o : Held) (k : List ℕ) (x : Rest) (f : Found) → Alike m (s .taken) (onPlacedKey (free c) s h fs n o k x f) (onPlacedKey (bound c m) s h fs n o k x f)
+  alike-key s h fs n o k x absent = alike-unknown s h fs n o k x
+  alike-key s h fs n o k x (found j r) = search (alikes, alike-unknown)
+
+  alike-own : (s : Set) (h : ℕ) (fs : List Figure) (n : ℕ) (o : Held) (f : Form) → Alike m (s .taken) (onPlacedOwn (free c) s h fs n o f) (onPlacedOwn (bound c m) s h fs n o f)
+  alike-own s h fs n o ignored = search alikes
+  alike-own s h fs n o (wrong k) = refuses
+  alike-own s h fs n o close = search alikes
+  alike-own s h fs n o eof = refuses
+  alike-own s h fs n o (keyed k x) = search alike-key
+
+  alike-placing : (s : Set) (h : ℕ) (fs : List Figure) (n : ℕ) (o : Held) (p : ℕ) (f : Form) → Alike m (s .taken) (onPlacing (free c) s h fs n o p f) (onPlacing (bound c m) s h fs n o p f)
+  alike-placing s h fs n o zero f = alike-own s h fs n o f
+  alike-placing s h fs n o (suc p) f = search alikes
+
+  alike-skip-shut : (s : Set) (h : ℕ) (fs : List Figure) (n : ℕ) (o : Held) (d : ℕ) → Alike m (s .taken) (skipShut s h fs n o d) (skipShut s h fs n o d)
+  alike-skip-shut s h fs n o zero = refuses
+  alike-skip-shut s h fs n o (suc zero) = search alikes
+  alike-skip-shut s h fs n o (suc (suc d)) = search alikes
+
+  alike-skipping : (s : Set) (h : ℕ) (fs : List Figure) (n : ℕ) (o : Held) (d : ℕ) (f : Form) → Alike m (s .taken) (onSkipping s h fs n o d f) (onSkipping s h fs n o d f)
+  alike-skipping s h fs n o d ignored = search alikes
+  alike-skipping s h fs n o d (wrong k) = refuses
+  alike-skipping s h fs n o d close = alike-skip-shut s h fs n o d
+  alike-skipping s h fs n o d eof = refuses
+  alike-skipping s h fs n o d (keyed k x) = search alikes
+
+  alike-in : (st : State) → Alike m (setOf st .taken) (stepIn (free c) l st) (stepIn (bound c m) l st)
+  alike-in (top s k) = alike-top s k (l .form)
+  alike-in (file s n h p) = search alikes
+  alike-in (drawing s d) = search alikes
+  alike-in (layerNames s d) = alike-layers s d (l .form)
+  alike-in (defines s b) = search alikes
+  alike-in (symbol s y) = search (alikes, alike-symbol)
+  alike-in (hide s y ps) = search alikes
+  alike-in (elements s) = search alikes
+  alike-in (figures s h fs) = search (alikes, alike-figure, alike-close)
+  alike-in (successive s h fs n ps) = search alikes
+  alike-in (texts s h fs n o) = search alikes
+  alike-in (placing s h fs n o p) = alike-placing s h fs n o p (l .form)
+  alike-in (skipping s h fs n o d) = alike-skipping s h fs n o d (l .form)
+  alike-in (ended s) = refuses
+
+  alike-step : (st : State) → Alike m (setOf st .taken) (step (free c) l st) (step (bound c m) l st)
+  alike-step st = alike-cond (l .last) _ _ _ _ (alike-next (alike-also (completes l st) (alike-in st))) (alike-in st)
+
+-- ── all lines ──
+-- without a limit: the count never falls, and a table that holds it in the end changes nothing
+lift : (c : Digits) (m : ℕ) (ls : List Line) (s : State) (t : Set) → run (free c) s ls ≡ accepted t → (setOf s .taken ≤ t .taken) × (t .taken ≤ m → run (bound c m) s ls ≡ accepted t)
+lift c m [] s t q = (le-of-eq (ap (λ st. setOf st .taken) (finish-ended s t q)), λ _. q)
+lift c m (l ∷ ls) s t q = go (alike-step c m l s) (λ st. lift c m ls st t) q
+  where
+    go : {g h : Got State} → Alike m (setOf s .taken) g h
+        → ((st : State) → run (free c) st ls ≡ accepted t → (setOf st .taken ≤ t .taken) × (t .taken ≤ m → run (bound c m) st ls ≡ accepted t))
+        → thenRun g l (λ st. run (free c) st ls) ≡ accepted t
+        → (setOf s .taken ≤ t .taken) × (t .taken ≤ m → thenRun h l (λ st. run (bound c m) st ls) ≡ accepted t)
+    go refuses ih q = not-accepted q
+    go (goes st p) ih q = let w = ih st q in (omega (arith, p, w .0), w .1)
+    go (over st p r) ih q = let w = ih st q in (omega (arith, p, w .0), λ f. absurd (omega (arith, f, r, w .0)))
+
+-- a table that holds what was taken in the end accepts, with the same set
+pub limit-lift : (c : Digits) (m : ℕ) (ls : List Line) (s : State) (t : Set) → run (record { class = c; limit = none }) s ls ≡ accepted t → t .taken ≤ m
+    → run (record { class = c; limit = some m }) s ls ≡ accepted t
+limit-lift c m ls s t q = lift c m ls s t q .1
+
+-- what a table accepts is accepted with no limit
+pub limit-drop : (c : Digits) (m : ℕ) (ls : List Line) (s : State) (t : Set) → run (record { class = c; limit = some m }) s ls ≡ accepted t
+    → run (record { class = c; limit = none }) s ls ≡ accepted t
+limit-drop c m [] s t q = q
+limit-drop c m (l ∷ ls) s t q = go (alike-step c m l s) (λ st. limit-drop c m ls st t) q
+  where
+    go : {g h : Got State} → Alike m (setOf s .taken) g h → ((st : State) → run (bound c m) st ls ≡ accepted t → run (free c) st ls ≡ accepted t)
+        → thenRun h l (λ st. run (bound c m) st ls) ≡ accepted t → thenRun g l (λ st. run (free c) st ls) ≡ accepted t
+    go refuses ih q = not-accepted q
+    go (goes st p) ih q = ih st q
+    go (over st p r) ih q = not-accepted q
+
+-- ── what was taken ──
+pub taken-fits : (c : Digits) (m : ℕ) (ls : List Line) (t : Set) → run (record { class = c; limit = some m }) (top nothingYet 0) ls ≡ accepted t → t .taken ≤ m
+taken-fits c m ls t q = leb-true (t .taken) m (count-taken (bound c m) c ls t q .1)
+
+pub taken-counts : (c c′ : Digits) (l : Option ℕ) (ls : List Line) (t : Set) → run (record { class = c; limit = l }) (top nothingYet 0) ls ≡ accepted t → length (recordsOf c′ t) ≡ t .taken
+taken-counts c c′ l ls t q = count-taken (record { class = c; limit = l }) c′ ls t q .0
