@@ -1,10 +1,17 @@
 pub mod Answered
+pub mod BackSlots
+pub mod Costs
 pub mod Count
 pub mod Fits
 pub mod Forms
 pub mod Frame
+pub mod Frames
 pub mod Good
 pub mod GoodLines
+pub mod Length
+pub mod LengthBlocks
+pub mod LengthFigures
+pub mod LengthRows
 pub mod Limits
 pub mod Listing
 pub mod Lower
@@ -20,4 +27,5 @@ pub mod RowGood
 pub mod Sizes
 pub mod TwoClasses
 pub mod Values
+pub mod Weights
 pub mod Widths

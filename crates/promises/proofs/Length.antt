@@ -1,0 +1,117 @@
+-- The fixed form of a set that was read is never longer than the lines it was read from, where the law of one row is given.
+use Prim.Native.Nat.{ℕ, _+_, _≤_}
+use mathlib.Core.List.{List, [], _∷_}
+use mathlib.Core.Path.{_≡_, ap}
+use native.Mathlib.Omega.{arith}
+use Rattle.rules.specs.Base.{total}
+use Rattle.rules.specs.RefusalNumbers.{Got, got, bad, mapG, also}
+use Rattle.rules.specs.Values.{Known}
+use Rattle.rules.specs.Sets.{Set, nothingYet, knownOf}
+use Rattle.rules.specs.Machine.{Line, Env, State, top, file, drawing, layerNames, defines, symbol, hide, elements, figures, successive, texts, placing, skipping, ended, stepIn, completes, nextVolume, step, refused, accepted, thenRun, finish, run}
+use Rattle.rules.specs.FixedForm.{volumeLines}
+use Rattle.rules.proofs.Chains.{On, on-cond, on-map, on-also}
+use Rattle.promises.proofs.Forms.{Tells}
+use Rattle.promises.proofs.RowGood.{entry-good, begin-good, layer-good}
+use Rattle.promises.proofs.Weights.{weigh, volumes-weight}
+use Rattle.promises.proofs.Costs.{cost, closed-least, owed, Ok, Next}
+use Rattle.promises.proofs.LengthRows.{Told, EntryShort, BeginShort, LayerShort}
+use Rattle.promises.proofs.LengthBlocks.{file-next, top-next, drawing-next, layers-next, defines-next, symbol-next, hide-next}
+use Rattle.promises.proofs.LengthFigures.{elements-next, figures-next, successive-next, texts-next, placing-next, skipping-next}
+
+-- the bytes of each line, as its form tells of them
+abbrev pub Tolds : List Line → List ℕ → Type 0
+Tolds [] [] = Unit {0}
+Tolds [] (n ∷ ns) = ⊥
+Tolds (l ∷ ls) [] = ⊥
+Tolds (l ∷ ls) (n ∷ ns) = Told n (l .form) × Tolds ls ns
+
+-- a refusal is no set
+not-accepted : {P : Type 0} {n v l : ℕ} {s : Set} → refused n v l ≡ accepted s → P
+not-accepted e = absurd (let z : _≡_ {A = ℕ} 0 1 = cc in omega arith)
+
+finished : (s : Set) (st : State) → finish st ≡ accepted s → st ≡ ended s
+finished s (top s′ k) e = not-accepted e
+finished s (file s′ m h p) e = not-accepted e
+finished s (drawing s′ d) e = not-accepted e
+finished s (layerNames s′ d) e = not-accepted e
+finished s (defines s′ b) e = not-accepted e
+finished s (symbol s′ y) e = not-accepted e
+finished s (hide s′ y ps) e = not-accepted e
+finished s (elements s′) e = not-accepted e
+finished s (figures s′ h fs) e = not-accepted e
+finished s (successive s′ h fs m ps) e = not-accepted e
+finished s (texts s′ h fs m o) e = not-accepted e
+finished s (placing s′ h fs m o p) e = not-accepted e
+finished s (skipping s′ h fs m o d) e = not-accepted e
+finished s (ended s′) e = cc
+
+-- the laws of one row, of a line that was read
+entry-short : EntryShort
+entry-short k d full j r x n j′ v key t e = let (p, o, f, w) = entry-good k d full j r x n j′ v key (t .0) (t .1) e in (p, o, f, w .no-longer)
+
+begin-short : BeginShort
+begin-short k d full j r x n i j′ v key t e = let (a, p, o, f, w) = begin-good k d full j r x n i j′ v key (t .0) (t .1) e in (a, p, o, f, w .no-longer)
+
+layer-short : LayerShort
+layer-short k x n v i t e = layer-good k x n 0 v i (t .0) (t .1) e .1
+
+in-next : (K : Known) (n : ℕ) (e : Env) (l : Line) (st : State) → Ok st → Told n (l .form) → On (Next K st n) (stepIn e l st)
+in-next K n e l (top s k) ok t = top-next entry-short begin-short K n e l s k (l .form) ok t
+in-next K n e l (file s m h p) ok t = file-next entry-short begin-short K n l s m h p (l .form) t
+in-next K n e l (drawing s d) ok t = drawing-next entry-short begin-short K n s d (l .form) ok t
+in-next K n e l (layerNames s d) ok t = layers-next entry-short begin-short K n layer-short e l s d (l .form) ok t
+in-next K n e l (defines s b) ok t = defines-next entry-short begin-short K n e l s b (l .form) ok t
+in-next K n e l (symbol s y) ok t = symbol-next entry-short begin-short K n s y (l .form) ok t
+in-next K n e l (hide s y ps) ok t = hide-next entry-short begin-short K n e l s y ps (l .form) ok t
+in-next K n e l (elements s) ok t = elements-next entry-short begin-short K n s (l .form) t
+in-next K n e l (figures s h fs) ok t = figures-next entry-short begin-short K n e l s h fs (l .form) ok t
+in-next K n e l (successive s h fs m ps) ok t = successive-next entry-short begin-short K n e l s h fs m ps (l .form) ok t
+in-next K n e l (texts s h fs m o) ok t = texts-next entry-short begin-short K n s h fs m o (l .form) ok t
+in-next K n e l (placing s h fs m o p) ok t = placing-next entry-short begin-short K n s h fs m o e p (l .form) t
+in-next K n e l (skipping s h fs m o d) ok t = skipping-next entry-short begin-short K n s h fs m o d (l .form) t
+in-next K n e l (ended s) ok t = tt
+
+-- the next volume begins with no more
+volume-next : (K : Known) (st : State) (n : ℕ) (st′ : State) → Next K st n st′ → Next K st n (nextVolume st′)
+volume-next K st n (top s k) z = (tt, omega (arith, z .1, closed-least K s k))
+volume-next K st n (file s m h p) z = z
+volume-next K st n (drawing s d) z = z
+volume-next K st n (layerNames s d) z = z
+volume-next K st n (defines s b) z = z
+volume-next K st n (symbol s y) z = z
+volume-next K st n (hide s y ps) z = z
+volume-next K st n (elements s) z = z
+volume-next K st n (figures s h fs) z = z
+volume-next K st n (successive s h fs m ps) z = z
+volume-next K st n (texts s h fs m o) z = z
+volume-next K st n (placing s h fs m o p) z = z
+volume-next K st n (skipping s h fs m o d) z = z
+volume-next K st n (ended s) z = z
+
+step-next : (K : Known) (n : ℕ) (e : Env) (l : Line) (st : State) → Ok st → Told n (l .form) → On (Next K st n) (step e l st)
+step-next K n e l st ok t =
+    let z : On (Next K st n) (stepIn e l st) = in-next K n e l st ok t in
+    on-cond (Next K st n) (l .last) (mapG nextVolume (also (completes l st) 9 (stepIn e l st))) (stepIn e l st)
+    (λ _. on-map (Next K st n) nextVolume (also (completes l st) 9 (stepIn e l st))
+    (on-also (λ st′. Next K st n (nextVolume st′)) (completes l st) 9 (stepIn e l st) λ _. weaken (stepIn e l st) z))
+    (λ _. z)
+  where
+    weaken : (g : Got State) → On (Next K st n) g → On (λ st′. Next K st n (nextVolume st′)) g
+    weaken (got st′) z = volume-next K st n st′ z
+    weaken (bad m) z = tt
+
+run-cost : (K : Known) (e : Env) (ls : List Line) (ns : List ℕ) (st : State) (s : Set) → Ok st → Tolds ls ns → run e st ls ≡ accepted s
+    → cost K (ended s) + owed st ≤ cost K st + total (λ n. n + 2) ns
+run-cost K e [] [] st s ok t q = let p = finished s st q in omega (arith, ap (cost K) p, ap owed p)
+run-cost K e [] (n ∷ ns) st s ok t q = absurd t
+run-cost K e (l ∷ ls) [] st s ok t q = absurd t
+run-cost K e (l ∷ ls) (n ∷ ns) st s ok t q = go (step e l st) (step-next K n e l st ok (t .0)) (λ st′ ok′. run-cost K e ls ns st′ s ok′ (t .1)) q
+  where
+    go : (g : Got State) → On (Next K st n) g → ((st′ : State) → Ok st′ → run e st′ ls ≡ accepted s → cost K (ended s) + owed st′ ≤ cost K st′ + total (λ n. n + 2) ns)
+        → thenRun g l (λ st′. run e st′ ls) ≡ accepted s → cost K (ended s) + owed st ≤ cost K st + (n + 2 + total (λ n. n + 2) ns)
+    go (got st′) z ih q = omega (arith, z .1, ih st′ (z .0) q)
+    go (bad m) z ih q = not-accepted q
+
+pub fixed-short : (e : Env) (ls : List Line) (ns : List ℕ) (s : Set) → Tolds ls ns → run e (top nothingYet 0) ls ≡ accepted s
+    → total weigh (volumeLines s (s .volumes)) ≤ total (λ n. n + 2) ns
+fixed-short e ls ns s t q = omega (arith, volumes-weight s (s .volumes), run-cost (knownOf s) e ls ns (top nothingYet 0) s tt t q)
