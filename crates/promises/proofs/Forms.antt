@@ -287,3 +287,7 @@ form-inv-close at l e = subst (Tells (length l)) e (form-tells at l)
 
 pub form-inv-eof : (at : ℕ) (l : List ℕ) → formOf at l ≡ eof → 3 ≤ length l
 form-inv-eof at l e = subst (Tells (length l)) e (form-tells at l)
+
+-- what a form says of a line of n bytes, and that it has no more of them than a line may have
+abbrev pub Told : ℕ → Form → Type 0
+Told n f = Tells n f × (n ≤ 512)

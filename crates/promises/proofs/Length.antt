@@ -10,20 +10,14 @@ use Rattle.rules.specs.Sets.{Set, nothingYet, knownOf}
 use Rattle.rules.specs.Machine.{Line, Env, State, top, file, drawing, layerNames, defines, symbol, hide, elements, figures, successive, texts, placing, skipping, ended, stepIn, completes, nextVolume, step, refused, accepted, thenRun, finish, run}
 use Rattle.rules.specs.FixedForm.{volumeLines}
 use Rattle.rules.proofs.Chains.{On, on-cond, on-map, on-also}
-use Rattle.promises.proofs.Forms.{Tells}
+use Rattle.promises.proofs.Forms.{Told}
+use Rattle.promises.proofs.Sizes.{Tolds}
 use Rattle.promises.proofs.RowGood.{entry-good, begin-good, layer-good}
 use Rattle.promises.proofs.Weights.{weigh, volumes-weight}
 use Rattle.promises.proofs.Costs.{cost, closed-least, owed, Ok, Next}
-use Rattle.promises.proofs.LengthRows.{Told, EntryShort, BeginShort, LayerShort}
+use Rattle.promises.proofs.LengthRows.{EntryShort, BeginShort, LayerShort}
 use Rattle.promises.proofs.LengthBlocks.{file-next, top-next, drawing-next, layers-next, defines-next, symbol-next, hide-next}
 use Rattle.promises.proofs.LengthFigures.{elements-next, figures-next, successive-next, texts-next, placing-next, skipping-next}
-
--- the bytes of each line, as its form tells of them
-abbrev pub Tolds : List Line → List ℕ → Type 0
-Tolds [] [] = Unit {0}
-Tolds [] (n ∷ ns) = ⊥
-Tolds (l ∷ ls) [] = ⊥
-Tolds (l ∷ ls) (n ∷ ns) = Told n (l .form) × Tolds ls ns
 
 -- a refusal is no set
 not-accepted : {P : Type 0} {n v l : ℕ} {s : Set} → refused n v l ≡ accepted s → P

@@ -24,11 +24,11 @@ use Rattle.rules.specs.VolumesAndTotals.{chained, dated, countedAll, layersUsed
 use Rattle.rules.specs.Machine.{Line, Env, inElement, State, top, file, drawing, layerNames, defines, symbol, hide, figures, ended, byAct, roomFor, taking, openTop, onTop, closeFile, shutPart, onFile, onDrawing, layerValue, onLayerNames, onDefines, newName, openSymbol, onSymbol, pointAt, onHide}
 use Rattle.rules.proofs.Chains.{On, on-unless, on-then, clash, and-left, and-right, all-weaken}
 use Rattle.rules.proofs.Rows.{Row, row-all, row-at}
-use Rattle.promises.proofs.Forms.{Tells, keyOk}
+use Rattle.promises.proofs.Forms.{Told, keyOk}
 use Rattle.promises.proofs.Values.{nameless}
 use Rattle.promises.proofs.Weights.{innerCost, inner-open, blank-cost, blank-held, pointCost, pointsCost, layerCost, nonCost, blocksCost}
 use Rattle.promises.proofs.Costs.{total-more, depth, First, closed-least, closed-first, now-first, file-cost, symbol-cost, inSymbol, HomeOk, TopOk, file-ok, Next}
-use Rattle.promises.proofs.LengthRows.{Told, EntryShort, BeginShort, LayerShort, always-short, row-below, open-line, Took, slots-took, held-took, heads, head-took, nums-took, on-act}
+use Rattle.promises.proofs.LengthRows.{EntryShort, BeginShort, LayerShort, always-short, row-below, open-line, Took, slots-took, held-took, heads, head-took, nums-took, on-act}
 
 -- ── tables whose rows name nothing ──
 abbrev plainRule : Rule → Bool

@@ -21,10 +21,10 @@ use Rattle.rules.specs.Machine.{Line, Env, Home, inElement, inLayer, State, top
 use Rattle.rules.specs.FixedForm.{openLine, lineOf}
 use Rattle.rules.proofs.Chains.{On, on-unless, on-cond, clash, same-eq}
 use Rattle.rules.proofs.Rows.{Row, found-row, row-all, row-at}
-use Rattle.promises.proofs.Forms.{Tells, keyOk, keysOk, table-keys}
+use Rattle.promises.proofs.Forms.{Told, keyOk, keysOk, table-keys}
 use Rattle.promises.proofs.Weights.{blank-cost, blank-held, figureCost, layerHead}
 use Rattle.promises.proofs.Costs.{total-more, homeKnown, inFigures, volume-cost, layer-cost, HomeOk, Next}
-use Rattle.promises.proofs.LengthRows.{Told, EntryShort, BeginShort, row-below, Took, slots-took, held-took, heads, head-took, figureRows, nums-took, on-row, on-unknown, on-act, isWritten, head-written}
+use Rattle.promises.proofs.LengthRows.{EntryShort, BeginShort, row-below, Took, slots-took, held-took, heads, head-took, figureRows, nums-took, on-row, on-unknown, on-act, isWritten, head-written}
 use Rattle.promises.proofs.LengthBlocks.{plain-tables, plain-same, deepens, deeper-part, on-taking, point-took, on-plain}
 
 -- ── the line of a layer ──

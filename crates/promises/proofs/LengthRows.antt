@@ -20,15 +20,11 @@ use Rattle.rules.specs.RecordTable.{ruleAt}
 use Rattle.rules.specs.FixedForm.{openLine, opensBlock, behind, lineOf}
 use Rattle.rules.proofs.Chains.{On, on-unless, on-map, on-then, on-got, same-eq, clash}
 use Rattle.rules.proofs.Rows.{Row, here, there, found-row, row-all, row-at}
-use Rattle.promises.proofs.Forms.{Tells, keyOk, keysOk}
+use Rattle.promises.proofs.Forms.{Told, keyOk, keysOk}
 use Rattle.promises.proofs.Values.{nameless, show-nameless}
 use Rattle.promises.proofs.Weights.{open-kind, innerCost, inner-open, slotsCost, set-cost, heldCost, set-held}
 
 -- ── the law of one row ──
--- what a form says of a line of n bytes, and that it has no more than a line may have
-abbrev pub Told : ℕ → Form → Type 0
-Told n f = Tells n f × (n ≤ 512)
-
 abbrev pub EntryShort : Type 0
 EntryShort =
     (k : Known) (d : Digits) (full : Bool) (j : ℕ) (r : Rule) (x : Rest) (n j′ : ℕ) (v : Value) → keyOk (r .key) ≡ true → Told n (keyed (r .key) x)

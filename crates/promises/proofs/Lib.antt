@@ -23,6 +23,7 @@ pub mod Numbers
 pub mod Places
 pub mod RecordPlaces
 pub mod Refusals
+pub mod Round
 pub mod RowGood
 pub mod Sizes
 pub mod TwoClasses

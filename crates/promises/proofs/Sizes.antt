@@ -23,9 +23,10 @@ use Rattle.rules.specs.FixedForm.{Text}
 use Rattle.rules.specs.Answers.{numbered, linesOfVolume, nextName, Listed, listed, noLines, ontoLines, listVolume, listVolumes}
 use Rattle.rules.proofs.Chains.{and-left, and-right, and-true, clash, never, none-some, unless-got, map-got, also-got}
 use Rattle.promises.specs.PlacesApart.{bareForm, bareLine}
-use Rattle.promises.proofs.Forms.{Tells, form-tells, form-place}
+use Rattle.promises.proofs.Forms.{Told, form-tells}
 use Rattle.promises.proofs.Frame.{lines-inv}
 use Rattle.promises.proofs.LowerRun.{no-accept}
+use Rattle.promises.proofs.Weights.{weigh}
 
 -- ── the listing by texts ──
 -- the lines of the volumes from number k on, whose texts these are
@@ -173,11 +174,7 @@ none-empty e k (v ∷ w ∷ vs) ((l ∷ ls) ∷ ts) h a s u r =
     none-empty e (suc k) (w ∷ vs) ts (h .1) b s′ u q
 
 -- ── how long they are ──
--- the bytes of a volume's lines, each with its CR LF
-abbrev pub weight : Text → ℕ
-weight t = total (λ l. length l + 2) t
-
-pub unlines-length : (t : Text) → length (unlines t) ≡ weight t + 1
+pub unlines-length : (t : Text) → length (unlines t) ≡ weigh t + 1
 unlines-length [] = refl
 unlines-length (l ∷ t) = length-append l (13 ∷ 10 ∷ unlines t) ∙ omega (arith, unlines-length t)
 
@@ -190,16 +187,16 @@ total-append : (f : ℕ → ℕ) (a b : List ℕ) → total f (a ++ b) ≡ total
 total-append f [] b = omega arith
 total-append f (n ∷ a) b = let e = total-append f a b in omega arith
 
-text-weight : (t : Text) → total (λ n. n + 2) (map length t) ≡ weight t
+text-weight : (t : Text) → total (λ n. n + 2) (map length t) ≡ weigh t
 text-weight [] = refl
 text-weight (l ∷ t) = let e = text-weight t in omega arith
 
-pub sizes-weight : (ts : List Text) → total (λ n. n + 2) (sizes ts) ≡ total weight ts
+pub sizes-weight : (ts : List Text) → total (λ n. n + 2) (sizes ts) ≡ total weigh ts
 sizes-weight [] = refl
 sizes-weight (t ∷ ts) = let a = total-append (λ n. n + 2) (map length t) (sizes ts) in let b = text-weight t in let c = sizes-weight ts in omega arith
 
 -- a spool's volumes, by the weight of their texts: each has twelve bytes before it and one behind its lines
-pub volumes-weight : (vs : List Volume) (ts : List Text) → Texts vs ts → total (λ v. 12 + length (v .body)) vs ≡ total (λ t. 13 + weight t) ts
+pub volumes-weight : (vs : List Volume) (ts : List Text) → Texts vs ts → total (λ v. 12 + length (v .body)) vs ≡ total (λ t. 13 + weigh t) ts
 volumes-weight [] [] h = refl
 volumes-weight [] (t ∷ ts) h = absurd h
 volumes-weight (v ∷ vs) [] h = absurd h
@@ -210,22 +207,22 @@ volumes-weight (v ∷ vs) (t ∷ ts) h =
     omega arith
 
 -- lines with the lengths of their texts
-abbrev pub Measured : List Line → List ℕ → Type 0
-Measured [] [] = Unit {0}
-Measured [] (n ∷ ns) = ⊥
-Measured (l ∷ ls) [] = ⊥
-Measured (l ∷ ls) (n ∷ ns) = Tells n (l .form) × (n ≤ 512) × Measured ls ns
+abbrev pub Tolds : List Line → List ℕ → Type 0
+Tolds [] [] = Unit {0}
+Tolds [] (n ∷ ns) = ⊥
+Tolds (l ∷ ls) [] = ⊥
+Tolds (l ∷ ls) (n ∷ ns) = Told n (l .form) × Tolds ls ns
 
-numbered-measured : (k : ℕ) (next : List ℕ) (n at : ℕ) (t : Text) → all (λ l. leb (length l) mostInLine) t ≡ true → (more : List Line) (ns : List ℕ) → Measured more ns
-    → Measured (numbered k next n at t ++ more) (map length t ++ ns)
-numbered-measured k next n at [] a more ns h = h
-numbered-measured k next n at (l ∷ t) a more ns h =
-    (form-tells at l, leb-true (length l) 512 (and-left (leb (length l) mostInLine) _ a), numbered-measured k next (suc n) (at + length l + 2) t (and-right (leb (length l) mostInLine) _ a) more ns h)
+numbered-told : (k : ℕ) (next : List ℕ) (n at : ℕ) (t : Text) → all (λ l. leb (length l) mostInLine) t ≡ true → (more : List Line) (ns : List ℕ) → Tolds more ns
+    → Tolds (numbered k next n at t ++ more) (map length t ++ ns)
+numbered-told k next n at [] a more ns h = h
+numbered-told k next n at (l ∷ t) a more ns h =
+    ((form-tells at l, leb-true (length l) 512 (and-left (leb (length l) mostInLine) _ a)), numbered-told k next (suc n) (at + length l + 2) t (and-right (leb (length l) mostInLine) _ a) more ns h)
 
-pub listing-measured : (k : ℕ) (vs : List Volume) (ts : List Text) → Texts vs ts → all someLines ts ≡ true → Measured (listing k vs ts) (sizes ts)
-listing-measured k [] [] h a = tt
-listing-measured k [] (t ∷ ts) h a = absurd h
-listing-measured k (v ∷ vs) [] h a = absurd h
-listing-measured k (v ∷ vs) ([] ∷ ts) h a = clash a refl
-listing-measured k (v ∷ vs) ((l ∷ t) ∷ ts) h a =
-    numbered-measured k (nextName vs) 1 (v .place) (l ∷ t) (lines-inv (v .body) (l ∷ t) (h .0) .1) (listing (suc k) vs ts) (sizes ts) (listing-measured (suc k) vs ts (h .1) a)
+pub listing-told : (k : ℕ) (vs : List Volume) (ts : List Text) → Texts vs ts → all someLines ts ≡ true → Tolds (listing k vs ts) (sizes ts)
+listing-told k [] [] h a = tt
+listing-told k [] (t ∷ ts) h a = absurd h
+listing-told k (v ∷ vs) [] h a = absurd h
+listing-told k (v ∷ vs) ([] ∷ ts) h a = clash a refl
+listing-told k (v ∷ vs) ((l ∷ t) ∷ ts) h a =
+    numbered-told k (nextName vs) 1 (v .place) (l ∷ t) (lines-inv (v .body) (l ∷ t) (h .0) .1) (listing (suc k) vs ts) (sizes ts) (listing-told (suc k) vs ts (h .1) a)

@@ -61,12 +61,12 @@ module _ (low high : Digits) (le : NotAbove low high) (m : Option ℕ) where
       go (some vs) p e = by vs p (listVolumes 1 vs) refl e
 
 -- ── the answers ──
-taken : (len : ℕ) (spool : List ℕ) (class : ℕ) (c : Digits) (s : Set) → classOf class ≡ some c → readOutcome class len spool ≡ accepted s
+pub taken : (len : ℕ) (spool : List ℕ) (class : ℕ) (c : Digits) (s : Set) → classOf class ≡ some c → readOutcome class len spool ≡ accepted s
     → (readRecords class len spool ≡ recordsOf c s) × (readAnswer class len spool ≡ Accepted (length (recordsOf c s)))
 unfolding readRecords readAnswer
 taken len spool class c s p e = (rw (e, p), rw (e, p))
 
-outcome-at : (len : ℕ) (spool : List ℕ) (class : ℕ) (c : Digits) → classOf class ≡ some c
+pub outcome-at : (len : ℕ) (spool : List ℕ) (class : ℕ) (c : Digits) → classOf class ≡ some c
     → readOutcome class len spool ≡ outcomeOfVolumes (record { class = c; limit = some (len / width) }) (volumesOf spool)
 unfolding readOutcome outcomeOf
 outcome-at len spool class c p = rw p

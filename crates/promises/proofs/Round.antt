@@ -1,0 +1,302 @@
+-- Demand 2, proved: the fixed form of an accepted spool, read back and written again.
+use Prim.Native.Nat.{ℕ, zero, suc, _+_, _*_, _/_, _≤_}
+use mathlib.Core.Bool.{Bool, true, false, cond, not}
+use mathlib.Core.List.{List, [], _∷_, _++_, map}
+use mathlib.Core.Option.{Option, none, some}
+use mathlib.Core.Path.{_≡_, refl, sym, _∙_, ap, ap₂, subst}
+use native.Mathlib.Omega.{arith}
+use lib.ListN.{length, length-map}
+use Rattle.rules.specs.declared.Digits.{Digits}
+use Rattle.rules.specs.declared.Answer.{Answer}
+use Rattle.rules.specs.declared.Answer.the-variants.{Accepted, Refused}
+use Rattle.rules.specs.Base.{isNil, all, total}
+use Rattle.rules.specs.Spool.{Volume, mostBytes, namesOf, volumesOf, unlines}
+use Rattle.rules.specs.RangeClass.{digits, classOf}
+use Rattle.rules.specs.Sets.{Contents, Set, nothingYet}
+use Rattle.rules.specs.Machine.{Line, Env, State, top, Outcome, refused, accepted, run}
+use Rattle.rules.specs.RecordTable.{width, recordsFrom, recordsOf}
+use Rattle.rules.specs.FixedForm.{Text, volumeLines, volumesBytes, fixedForm}
+use Rattle.rules.specs.Answers.{Listed, listed, noLines, listVolumes, outcomeOfLines, outcomeOfVolumes, outcomeOf, answerWith, readOutcome, readRecords, readAnswer, fullClass, namesIn, writtenIn, rewriteOutcome, written}
+use Rattle.promises.specs.PlacesApart.{bareLine, bareSet, placesApart, textsFrom, textsOf}
+use Rattle.promises.specs.DemandTwo.{RoundTrip, DemandTwo}
+use Rattle.promises.proofs.Frame.{Spooled, laid, framed, volumes-inv, volumes-back, volumes-framed, framed-length, names-laid}
+use Rattle.promises.proofs.Frames.{listing-bare, laid-texts, nextsOfNames, nexts-names, named}
+use Rattle.promises.proofs.Good.{GoodSet}
+use Rattle.promises.proofs.GoodLines.{lines-fine, lines-some, lines-count, nexts-count}
+use Rattle.promises.proofs.BackSlots.{layAll, plainEnv, retaken}
+use Rattle.promises.proofs.Sizes.{listing, Texts, Listing, listing-inv, listing-of, nextsOfVolumes, someLines, none-empty, unlines-length, sizes, sizes-weight, volumes-weight, listing-told}
+use Rattle.promises.proofs.Weights.{weigh}
+use Rattle.promises.proofs.Length.{fixed-short}
+use Rattle.promises.proofs.LowerRun.{no-accept}
+use Rattle.promises.proofs.Places.{accepted-real, form-bare}
+use Rattle.promises.proofs.RecordPlaces.{texts-bare}
+use Rattle.promises.proofs.Fits.{records-read}
+use Rattle.promises.proofs.Limits.{limit-lift, limit-drop, taken-fits, taken-counts}
+use Rattle.promises.proofs.TwoClasses.{taken, outcome-at}
+
+-- ── a spool that was read ──
+pub record Parsed (e : Env) (spool : List ℕ) (s : Set) : Type 0 where
+  pub volumes : List Volume
+  pub found : volumesOf spool ≡ some volumes
+  pub texts : List Text
+  pub theirs : Texts volumes texts
+  pub runs : run e (top nothingYet 0) (listing 1 volumes texts) ≡ accepted s
+
+parsed : (e : Env) (spool : List ℕ) (s : Set) → outcomeOfVolumes e (volumesOf spool) ≡ accepted s → Parsed e spool s
+parsed e spool s h = go (volumesOf spool) refl h
+  where
+    by : (vs : List Volume) → volumesOf spool ≡ some vs → (l : Listed) → listVolumes 1 vs ≡ l → outcomeOfLines e l ≡ accepted s → Parsed e spool s
+    by vs p (listed ls) q h =
+        let i = listing-inv 1 vs ls q in
+        record { volumes = vs; found = p; texts = i .texts; theirs = i .theirs; runs = ap (run e (top nothingYet 0)) (sym (i .are)) ∙ h }
+    by vs p (noLines v) q h = no-accept (sym h)
+
+    go : (o : Option (List Volume)) → volumesOf spool ≡ o → outcomeOfVolumes e o ≡ accepted s → Parsed e spool s
+    go none p h = no-accept (sym h)
+    go (some vs) p h = by vs p (listVolumes 1 vs) refl h
+
+-- a spool with these volumes and texts is read by their listing
+reading : (e : Env) (spool : List ℕ) (vs : List Volume) (ts : List Text) → volumesOf spool ≡ some vs → Texts vs ts
+    → outcomeOfVolumes e (volumesOf spool) ≡ run e (top nothingYet 0) (listing 1 vs ts)
+reading e spool vs ts p h = ap (outcomeOfVolumes e) p ∙ ap (outcomeOfLines e) (listing-of 1 vs ts h)
+
+rewrite-is : (spool : List ℕ) → rewriteOutcome spool ≡ outcomeOfVolumes plainEnv (volumesOf spool)
+unfolding rewriteOutcome outcomeOf
+rewrite-is spool = refl
+
+-- what is written of a spool whose set is known
+written-is : (spool : List ℕ) (vs : List Volume) (s : Set) → volumesOf spool ≡ some vs → rewriteOutcome spool ≡ accepted s → written spool ≡ fixedForm (namesOf vs) s
+unfolding written
+written-is spool vs s p e = ap₂ (λ o r. writtenIn (namesIn o) r) p e
+
+form-is : (names : List (List ℕ)) (s : Set) → fixedForm names s ≡ framed names (map unlines (volumeLines s (s .volumes)))
+unfolding fixedForm
+form-is names s = volumes-framed names (volumeLines s (s .volumes))
+
+-- the count of records does not stand in what is written, shown or recorded
+form-retaken : (names : List (List ℕ)) (m : ℕ) (s : Set) → fixedForm names (retaken m s) ≡ fixedForm names s
+unfolding fixedForm
+form-retaken names m s = ap (volumesBytes names) (go (s .volumes))
+  where
+    go : (vs : List Contents) → volumeLines (retaken m s) vs ≡ volumeLines s vs
+    go [] = refl
+    go (v ∷ vs) = refl
+
+records-retaken : (c : Digits) (m : ℕ) (s : Set) → recordsOf c (retaken m s) ≡ recordsOf c s
+unfolding recordsOf
+records-retaken c m s = go (s .volumes)
+  where
+    go : (vs : List Contents) → recordsFrom c (retaken m s) vs ≡ recordsFrom c s vs
+    go [] = refl
+    go (v ∷ vs) = refl
+
+texts-retaken : (m : ℕ) (s : Set) → textsOf (retaken m s) ≡ textsOf s
+texts-retaken m s = go (s .volumes)
+  where
+    go : (vs : List Contents) → textsFrom (retaken m s) vs ≡ textsFrom s vs
+    go [] = refl
+    go (v ∷ vs) = refl
+
+-- sums over lists
+total-plus : {A : Type 0} (k : ℕ) (f : A → ℕ) (s : List A) → total (λ a. k + f a) s ≡ k * length s + total f s
+total-plus k f [] = omega arith
+total-plus k f (a ∷ s) = let e = total-plus k f s in omega arith
+
+body-total : (ts : List Text) → total (λ b. 12 + length b) (map unlines ts) ≡ total (λ t. 13 + weigh t) ts
+body-total [] = refl
+body-total (t ∷ ts) = let a = unlines-length t in let b = body-total ts in omega arith
+
+class15 : classOf 15 ≡ some fullClass
+unfolding classOf
+class15 = refl
+
+accepted-same : {s t : Set} → accepted s ≡ accepted t → s ≡ t
+accepted-same e = cc
+
+answer-with : (len : ℕ) (spool : List ℕ) (o : Outcome) → readOutcome 15 len spool ≡ o → readAnswer 15 len spool ≡ answerWith (length (readRecords 15 len spool)) o
+unfolding readAnswer
+answer-with len spool o q = ap (answerWith (length (readRecords 15 len spool))) q
+
+-- an answer that accepts comes of an outcome that accepts, and counts its records
+accepted-inv : (len : ℕ) (spool : List ℕ) (n : ℕ) → readAnswer 15 len spool ≡ Accepted n
+    → (u : Set) × (readOutcome 15 len spool ≡ accepted u) × (length (recordsOf fullClass u) ≡ n)
+accepted-inv len spool n e = go (readOutcome 15 len spool) refl
+  where
+    go : (o : Outcome) → readOutcome 15 len spool ≡ o → (u : Set) × (readOutcome 15 len spool ≡ accepted u) × (length (recordsOf fullClass u) ≡ n)
+    go (refused k v l) q = absurd (let z = sym (answer-with len spool (refused k v l) q) ∙ e in let y : _≡_ {A = ℕ} 0 1 = cc in omega arith)
+    go (accepted u) q = (u, q, let z = sym (taken len spool 15 fullClass u class15 q .1) ∙ e in cc)
+
+-- the lines written weigh no more than the lines read
+no-longer : (vs : List Volume) (ts : List Text) (s : Set) → Texts vs ts → all someLines ts ≡ true → run plainEnv (top nothingYet 0) (listing 1 vs ts) ≡ accepted s
+    → total weigh (volumeLines s (s .volumes)) ≤ total weigh ts
+no-longer vs ts s h full r =
+    let a = fixed-short plainEnv (listing 1 vs ts) (sizes ts) s (listing-told 1 vs ts h full) r in
+    let b = sizes-weight ts in
+    omega arith
+
+-- ── one accepted spool ──
+-- names of volumes go with as many volumes
+same-length : {A B : Type 0} (f : A → B) (s : List A) → length (map f s) ≡ length s
+same-length f s = length-map s f
+
+module _ (read-good : (vs : List Volume) (ts : List Text) (s : Set) → Texts vs ts → all someLines ts ≡ true → run plainEnv (top nothingYet 0) (listing 1 vs ts) ≡ accepted s → GoodSet (nextsOfVolumes vs) s)
+    (set-back : (nexts : List (List ℕ)) (s : Set) → GoodSet nexts s → (m : ℕ) × (run plainEnv (top nothingYet 0) (layAll nexts (volumeLines s (s .volumes))) ≡ accepted (retaken m (bareSet s))))
+    (spool : List ℕ) (s : Set) (outcome : rewriteOutcome spool ≡ accepted s) (p : Parsed plainEnv spool s) where
+  abbrev vs : List Volume
+  vs = p .volumes
+
+  abbrev names : List (List ℕ)
+  names = namesOf vs
+
+  spooled : Spooled spool vs
+  spooled = volumes-inv spool vs (p .found)
+
+  full : all someLines (p .texts) ≡ true
+  full = none-empty plainEnv 1 vs (p .texts) (p .theirs) (named vs (spooled .named)) nothingYet s (p .runs)
+
+  good : GoodSet (nextsOfVolumes vs) s
+  good = read-good vs (p .texts) s (p .theirs) full (p .runs)
+
+  -- the lines of the fixed form, volume by volume
+  abbrev lines : List Text
+  lines = volumeLines s (s .volumes)
+
+  abbrev bodies : List (List ℕ)
+  bodies = map unlines lines
+
+  abbrev output : List ℕ
+  output = framed names bodies
+
+  is-output : written spool ≡ output
+  is-output = written-is spool vs s (p .found) outcome ∙ form-is names s
+
+  nexts-length : (vs : List Volume) → length (nextsOfVolumes vs) ≡ length vs
+  nexts-length [] = refl
+  nexts-length (v ∷ vs) = ap suc (nexts-length vs)
+
+  as-many : length names ≡ length lines
+  as-many = same-length (λ v. v .name) vs ∙ sym (nexts-length vs) ∙ nexts-count (nextsOfVolumes vs) s good ∙ sym (lines-count s)
+
+  texts-many : (vs : List Volume) (ts : List Text) → Texts vs ts → length vs ≡ length ts
+  texts-many [] [] h = refl
+  texts-many [] (t ∷ ts) h = absurd h
+  texts-many (v ∷ vs) [] h = absurd h
+  texts-many (v ∷ vs) (t ∷ ts) h = ap suc (texts-many vs ts (h .1))
+
+  as-bodies : length names ≡ length bodies
+  as-bodies = as-many ∙ sym (same-length unlines lines)
+
+  output-length : length output ≤ length spool
+  output-length =
+      let a = framed-length names bodies as-bodies ∙ body-total lines ∙ total-plus 13 weigh lines in
+      let b = spooled .size ∙ volumes-weight vs (p .texts) (p .theirs) ∙ total-plus 13 weigh (p .texts) in
+      let c = no-longer vs (p .texts) s (p .theirs) full (p .runs) in
+      let d = texts-many vs (p .texts) (p .theirs) in
+      let e = same-length (λ v. v .name) vs in
+      let f = as-many in
+      omega arith
+
+  -- ── the output is a spool, and is read as the same set ──
+  again-found : volumesOf output ≡ some (laid 0 names bodies)
+  again-found =
+      let a = output-length in
+      let b = spooled .fits in
+      let c = spooled .one in
+      let d = spooled .few in
+      let e = same-length (λ v. v .name) vs in
+      volumes-back names bodies as-bodies (omega arith) (omega arith) (spooled .named) (spooled .differ) (omega arith)
+
+  again-theirs : Texts (laid 0 names bodies) lines
+  again-theirs = laid-texts 0 names lines as-many (lines-fine (nextsOfVolumes vs) s good)
+
+  again-nexts : nextsOfVolumes (laid 0 names bodies) ≡ nextsOfVolumes vs
+  again-nexts = nexts-names (laid 0 names bodies) ∙ ap nextsOfNames (names-laid 0 names bodies as-bodies) ∙ sym (nexts-names vs)
+
+  again-lines : map bareLine (listing 1 (laid 0 names bodies) lines) ≡ layAll (nextsOfVolumes vs) lines
+  again-lines = listing-bare 1 (laid 0 names bodies) lines again-theirs (lines-some s) ∙ ap (λ ns. layAll ns lines) again-nexts
+
+  pub record Again : Type 0 where
+    pub set : Set
+    pub runs : run plainEnv (top nothingYet 0) (listing 1 (laid 0 names bodies) lines) ≡ accepted set
+    pub count : ℕ
+    pub bare : bareSet set ≡ retaken count (bareSet s)
+
+  again : Again
+  again =
+      let (m, r) = set-back (nextsOfVolumes vs) s good in
+      let (t, q, b) = accepted-real plainEnv (listing 1 (laid 0 names bodies) lines) (top nothingYet 0) (retaken m (bareSet s)) (ap (run plainEnv (top nothingYet 0)) again-lines ∙ r) in
+      record { set = t; runs = q; count = m; bare = b }
+
+  module _ (a : Again) where
+    abbrev t : Set
+    t = a .set
+
+    again-outcome : rewriteOutcome (written spool) ≡ accepted t
+    again-outcome =
+        ap rewriteOutcome is-output ∙ rewrite-is output ∙ reading plainEnv output (laid 0 names bodies) lines again-found again-theirs ∙ a .runs
+
+    again-form : written (written spool) ≡ written spool
+    again-form =
+        written-is (written spool) (laid 0 names bodies) t (ap volumesOf is-output ∙ again-found) again-outcome
+        ∙ ap (λ ns. fixedForm ns t) (names-laid 0 names bodies as-bodies)
+        ∙ sym (form-bare names t) ∙ ap (fixedForm names) (a .bare) ∙ form-retaken names (a .count) (bareSet s) ∙ form-bare names s
+        ∙ sym (written-is spool vs s (p .found) outcome)
+
+    again-texts : textsOf t ≡ textsOf s
+    again-texts = sym (texts-bare t) ∙ ap textsOf (a .bare) ∙ texts-retaken (a .count) (bareSet s) ∙ texts-bare s
+
+    again-records : (c : Digits) → map placesApart (recordsOf c t) ≡ map placesApart (recordsOf c s)
+    again-records c =
+        records-read c plainEnv (listing 1 (laid 0 names bodies) lines) t (a .runs)
+        ∙ ap (λ u. map placesApart (recordsOf c u)) (a .bare) ∙ ap (map placesApart) (records-retaken c (a .count) (bareSet s))
+        ∙ sym (records-read c plainEnv (listing 1 vs (p .texts)) s (p .runs))
+
+    -- as many records
+    again-taken : t .taken ≡ s .taken
+    again-taken =
+        sym (taken-counts fullClass fullClass none (listing 1 (laid 0 names bodies) lines) t (a .runs))
+        ∙ sym (same-length placesApart (recordsOf fullClass t)) ∙ ap length (again-records fullClass) ∙ same-length placesApart (recordsOf fullClass s)
+        ∙ taken-counts fullClass fullClass none (listing 1 vs (p .texts)) s (p .runs)
+
+    -- ── with a table ──
+    module _ (len : ℕ) (u : Set) (reads : readOutcome 15 len spool ≡ accepted u) where
+      abbrev m : ℕ
+      m = len / width
+
+      abbrev env : Env
+      env = record { class = fullClass; limit = some m }
+
+      run-limited : run env (top nothingYet 0) (listing 1 vs (p .texts)) ≡ accepted u
+      run-limited = sym (reading env spool vs (p .texts) (p .found) (p .theirs)) ∙ sym (outcome-at len spool 15 fullClass class15) ∙ reads
+
+      same-set : u ≡ s
+      same-set = accepted-same (sym (limit-drop fullClass m (listing 1 vs (p .texts)) (top nothingYet 0) u run-limited) ∙ p .runs)
+
+      again-limited : readOutcome 15 len (written spool) ≡ accepted t
+      again-limited =
+          let f = taken-fits fullClass m (listing 1 vs (p .texts)) u run-limited in
+          let g = ap (λ (v : Set). v .taken) same-set in
+          let h = again-taken in
+          ap (readOutcome 15 len) is-output ∙ outcome-at len output 15 fullClass class15
+          ∙ reading env output (laid 0 names bodies) lines again-found again-theirs
+          ∙ limit-lift fullClass m (listing 1 (laid 0 names bodies) lines) (top nothingYet 0) t (a .runs) (omega arith)
+
+  round : RoundTrip spool s
+  round =
+      let a = again in
+      record {
+        noLonger = subst (λ o. length o ≤ length spool) (sym is-output) output-length;
+        set = a .set;
+        again = again-outcome a;
+        count = λ len n e.
+            let (u, o, q) = accepted-inv len spool n e in
+            let w = taken len (written spool) 15 fullClass (a .set) class15 (again-limited a len u o) in
+            w .1 ∙ ap Accepted (sym (same-length placesApart (recordsOf fullClass (a .set))) ∙ ap length (again-records a fullClass) ∙ same-length placesApart (recordsOf fullClass s)
+            ∙ ap (λ v. length (recordsOf fullClass v)) (sym (same-set a len u o)) ∙ q);
+        records = λ len n e.
+            let (u, o, q) = accepted-inv len spool n e in
+            ap (map placesApart) (taken len (written spool) 15 fullClass (a .set) class15 (again-limited a len u o) .0) ∙ again-records a fullClass
+            ∙ ap (λ v. map placesApart (recordsOf fullClass v)) (sym (same-set a len u o)) ∙ ap (map placesApart) (sym (taken len spool 15 fullClass u class15 o .0));
+        texts = again-texts a;
+        twice = again-form a;
+      }
