@@ -145,3 +145,19 @@ formIn s L.Eof = eof
 formIn s (L.Opens o) = keyed (bytesAt s (o .key)) brace
 formIn s (L.Equals q) = keyed (bytesAt s (q .key)) (equals (q .rest .at) (bytesAt s (q .rest)))
 formIn s (L.Refused r) = wrong (r .number)
+
+abbrev pub span : ℕ → ℕ → Span
+span at len = record { at = at; len = len }
+
+-- a form with the places of its parts: the line's volume and number, and the place just behind it
+abbrev pub withPlaces : ℕ → ℕ → ℕ → Form → LineForm
+withPlaces volume line end ignored = L.Ignored
+withPlaces volume line end (wrong n) = L.Refused (record { number = n; volume = volume; line = line })
+withPlaces volume line end close = L.Close
+withPlaces volume line end eof = L.Eof
+withPlaces volume line end (keyed k brace) = L.Opens (record { key = span (end - 2 - length k) (length k) })
+withPlaces volume line end (keyed k (equals at c)) = L.Equals (record { key = span (at - 1 - length k) (length k); rest = span at (length c) })
+
+-- the whole answer about a line: its form with places, or the refusal with volume and line
+unfoldable pub lineFormOf : ℕ → ℕ → ℕ → List ℕ → LineForm
+lineFormOf volume line at l = withPlaces volume line (at + length l) (formOf at l)
