@@ -22,9 +22,10 @@ use Rattle.rules.specs.Machine.{Line, Env, top, Outcome, refused, accepted, run
 use Rattle.rules.specs.RecordTable.{recordsOf, tableOf, width}
 use Rattle.rules.specs.Answers.{Listed, listed, noLines, listVolumes, outcomeOfLines, outcomeOfVolumes, outcomeOf, outcomeAt, digitsOr, answerNumber, answerCount, refusal, readOutcome, recordsIn, answerWith, readRecords, readAnswer, readTable, namesIn, writtenIn, rewriteOutcome, written, fitOutput, rewriteAnswer, rewriteBytes, rewriteOutput}
 use Rattle.rules.proofs.Chains.{by-cond, cond-same}
+use Rattle.rules.proofs.Runs.{not-accepted}
 use Rattle.promises.specs.DemandOne.{Answered, acceptedWith, refusedWith, OneAnswer, Filled, Reads, Written, Rewrites, DemandOne}
 use Rattle.promises.proofs.Widths.{flat-length, wide-records, take-replicate, filled-length, filled}
-use Rattle.promises.proofs.Count.{not-accepted, count-records}
+use Rattle.promises.proofs.Count.{count-records}
 use Rattle.promises.proofs.Refusals.{Told, toldSet, toldNumber, told-spool, told-at}
 
 -- ── answers ──

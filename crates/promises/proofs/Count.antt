@@ -23,6 +23,7 @@ use Rattle.rules.specs.VolumesAndTotals.{chained, dated, countedHere, countedAl
 use Rattle.rules.specs.Machine.{Line, Env, Home, inElement, inLayer, State, top, file, drawing, layerNames, defines, symbol, hide, elements, figures, successive, texts, placing, skipping, ended, byAct, roomFor, openTop, atEof, onTop, closeFile, shutPart, onFile, onDrawing, layerValue, onLayerNames, newName, openSymbol, onSymbol, onDefines, pointAt, onHide, onElements, isLayer, homeTable, closeFigures, openPlaced, openFigure, onFigures, onSuccessive, onTexts, bySkip, onUnknown, newSerial, onPlaced, onPlacedKey, onPlacedOwn, onPlacing, skipShut, onSkipping, stepIn, isIgnored, isEof, completes, nextVolume, step, Outcome, refused, accepted, thenRun, finish, run}
 use Rattle.rules.specs.RecordTable.{ruleAt, fileRecords, drawingRecord, layerRecords, pointRecords, figureRecords, innerRecords, symbolRecords, bodyRecords, laterRecords, recordsFrom, recordsOf}
 use Rattle.rules.proofs.Chains.{and-left, and-false, clash, by-cond, cond-same, never, unless-got, map-got, then-got, On, on-unless, on-cond, on-map, on-then, on-also}
+use Rattle.rules.proofs.Runs.{not-accepted, finish-ended}
 use Rattle.rules.proofs.Rows.{Row, here, there, found-row, row-all, row-at}
 
 -- ── sums ──
@@ -569,29 +570,6 @@ module _ (e : Env) (l : Line) where
       (λ _. inv-in st i)
 
 -- ── the whole reading ──
-abbrev isAccepted : Outcome → Bool
-isAccepted (refused n v l) = false
-isAccepted (accepted s) = true
-
-pub not-accepted : {P : Type 0} {n v l : ℕ} {s : Set} → refused n v l ≡ accepted s → P
-not-accepted e = absurd (true≢false (sym (ap isAccepted e)))
-
-pub finish-ended : (st : State) (s : Set) → finish st ≡ accepted s → st ≡ ended s
-finish-ended (top s k) a q = not-accepted q
-finish-ended (file s n h p) a q = not-accepted q
-finish-ended (drawing s d) a q = not-accepted q
-finish-ended (layerNames s d) a q = not-accepted q
-finish-ended (defines s b) a q = not-accepted q
-finish-ended (symbol s y) a q = not-accepted q
-finish-ended (hide s y ps) a q = not-accepted q
-finish-ended (elements s) a q = not-accepted q
-finish-ended (figures s h fs) a q = not-accepted q
-finish-ended (successive s h fs n ps) a q = not-accepted q
-finish-ended (texts s h fs n o) a q = not-accepted q
-finish-ended (placing s h fs n o p) a q = not-accepted q
-finish-ended (skipping s h fs n o d) a q = not-accepted q
-finish-ended (ended s) a q = cc
-
 inv-run : (e : Env) (st : State) (ls : List Line) (s : Set) → Inv e st → run e st ls ≡ accepted s → Inv e (ended s)
 inv-run e st [] s i q = subst (Inv e) (finish-ended st s q) i
 inv-run e st (l ∷ ls) s i q = go (step e l st) (inv-step e l st i) (λ st′ i′ q′. inv-run e st′ ls s i′ q′) q

@@ -12,7 +12,7 @@ use borrow.Author.Tests.{eqb-true, eq-eqb, leb-true, le-leb}
 use Rattle.rules.specs.Base.{choose, mapO, isNil, all, total, same, distinct, within}
 use Rattle.rules.specs.Spool.{mostBytes, mostVolumes, mostInLine, Volume, nameByte, nameOf, paddedName, goodName, lengthOf, goodHead, volumeAt, volumesFrom, namesOf, soundVolumes, volumesOf, headLine, linesFrom, shortLines, linesOf, unlines, volumeBytes}
 use Rattle.rules.specs.FixedForm.{volumesBytes}
-use Rattle.rules.proofs.Chains.{and-left, and-right, and-true, same-refl, none-some, all-weaken}
+use Rattle.rules.proofs.Chains.{map-some, and-left, and-right, and-true, same-refl, none-some, all-weaken}
 use Rattle.promises.proofs.Forms.{byte-not, by-choose, plainByte, plainLine}
 
 -- ── lines ──
@@ -38,10 +38,6 @@ lines-back ls e =
     )
 
 -- ── what was read as lines ──
-pub map-some : {A B : Type 0} (f : A → B) (o : Option A) (b : B) → mapO f o ≡ some b → (a : A) × (o ≡ some a) × (f a ≡ b)
-map-some f none b e = none-some e
-map-some f (some a) b e = (a, refl, cc)
-
 -- from the start of a line or within it; and behind its CR
 lines-cut : (s : List ℕ) → ((ls : List (List ℕ)) → linesFrom false s ≡ some ls → s ≡ unlines ls) × ((ls : List (List ℕ)) → linesFrom true s ≡ some ls → 13 ∷ s ≡ unlines ls)
 lines-cut [] = (λ ls e. none-some e, λ ls e. none-some e)

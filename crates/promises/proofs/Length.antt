@@ -9,6 +9,7 @@ use Rattle.rules.specs.Values.{Known}
 use Rattle.rules.specs.Sets.{Set, nothingYet, knownOf}
 use Rattle.rules.specs.Machine.{Line, Env, State, top, file, drawing, layerNames, defines, symbol, hide, elements, figures, successive, texts, placing, skipping, ended, stepIn, completes, nextVolume, step, refused, accepted, thenRun, finish, run}
 use Rattle.rules.specs.FixedForm.{volumeLines}
+use Rattle.rules.proofs.Runs.{not-accepted, finish-ended}
 use Rattle.rules.proofs.Chains.{On, on-cond, on-map, on-also}
 use Rattle.promises.proofs.Forms.{Told}
 use Rattle.promises.proofs.Sizes.{Tolds}
@@ -18,26 +19,6 @@ use Rattle.promises.proofs.Costs.{cost, closed-least, owed, Ok, Next}
 use Rattle.promises.proofs.LengthRows.{EntryShort, BeginShort, LayerShort}
 use Rattle.promises.proofs.LengthBlocks.{file-next, top-next, drawing-next, layers-next, defines-next, symbol-next, hide-next}
 use Rattle.promises.proofs.LengthFigures.{elements-next, figures-next, successive-next, texts-next, placing-next, skipping-next}
-
--- a refusal is no set
-not-accepted : {P : Type 0} {n v l : ℕ} {s : Set} → refused n v l ≡ accepted s → P
-not-accepted e = absurd (let z : _≡_ {A = ℕ} 0 1 = cc in omega arith)
-
-finished : (s : Set) (st : State) → finish st ≡ accepted s → st ≡ ended s
-finished s (top s′ k) e = not-accepted e
-finished s (file s′ m h p) e = not-accepted e
-finished s (drawing s′ d) e = not-accepted e
-finished s (layerNames s′ d) e = not-accepted e
-finished s (defines s′ b) e = not-accepted e
-finished s (symbol s′ y) e = not-accepted e
-finished s (hide s′ y ps) e = not-accepted e
-finished s (elements s′) e = not-accepted e
-finished s (figures s′ h fs) e = not-accepted e
-finished s (successive s′ h fs m ps) e = not-accepted e
-finished s (texts s′ h fs m o) e = not-accepted e
-finished s (placing s′ h fs m o p) e = not-accepted e
-finished s (skipping s′ h fs m o d) e = not-accepted e
-finished s (ended s′) e = cc
 
 -- the laws of one row, of a line that was read
 entry-short : EntryShort
@@ -96,7 +77,7 @@ step-next K n e l st ok t =
 
 run-cost : (K : Known) (e : Env) (ls : List Line) (ns : List ℕ) (st : State) (s : Set) → Ok st → Tolds ls ns → run e st ls ≡ accepted s
     → cost K (ended s) + owed st ≤ cost K st + total (λ n. n + 2) ns
-run-cost K e [] [] st s ok t q = let p = finished s st q in omega (arith, ap (cost K) p, ap owed p)
+run-cost K e [] [] st s ok t q = let p = finish-ended st s q in omega (arith, ap (cost K) p, ap owed p)
 run-cost K e [] (n ∷ ns) st s ok t q = absurd t
 run-cost K e (l ∷ ls) [] st s ok t q = absurd t
 run-cost K e (l ∷ ls) (n ∷ ns) st s ok t q = go (step e l st) (step-next K n e l st ok (t .0)) (λ st′ ok′. run-cost K e ls ns st′ s ok′ (t .1)) q

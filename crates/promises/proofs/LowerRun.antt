@@ -17,6 +17,7 @@ use Rattle.rules.specs.Sets.{Figure, Set, rangeOf}
 use Rattle.rules.specs.VolumesAndTotals.{countedAll, layersUsed}
 use Rattle.rules.specs.Rows.{Held}
 use Rattle.rules.specs.Machine.{Line, Env, State, top, file, drawing, layerNames, defines, symbol, hide, elements, figures, successive, texts, placing, skipping, ended, atEof, onTop, onPlacing, onSkipping, stepIn, inElements, afterElements, isIgnored, isClose, isEof, completes, nextVolume, step, Outcome, refused, accepted, thenRun, finish, run}
+use Rattle.rules.proofs.Runs.{not-accepted}
 use Rattle.rules.proofs.Chains.{and-left, and-right, and-true, or-true, clash, by-cond, never, unless-got, map-got, also-got}
 use Rattle.promises.specs.DemandThree.{NotAbove}
 use Rattle.promises.proofs.Lower.{textLeast, lowerFigures, lowerHeld, lowerSet, depthIn, lowerPlacing, lower}
@@ -191,14 +192,11 @@ proper [] = false
 proper (l ∷ []) = l .last && isNil (l .next)
 proper (l ∷ m ∷ ls) = proper (m ∷ ls)
 
-pub no-accept : {P : Type 0} {k v n : ℕ} {t : Set} → accepted t ≡ refused k v n → P
-no-accept e = absurd (let z : _≡_ {A = ℕ} 0 1 = cc in omega arith)
-
 -- through its last line no set comes but one that has ended
 ended-run : {P : Type 0} (e : Env) (l : Line) (s s′ : State) → (l .last && isNil (l .next)) ≡ true → step e l s ≡ got s′ → (k v n : ℕ) → finish s′ ≡ refused k v n → P
 ended-run e l s s′ p h k v n q =
     let (t, z) = last-ends e l s s′ (and-left (l .last) _ p) (and-right (l .last) _ p) h in
-    no-accept (rw z at q)
+    not-accepted (sym (rw z at q))
 
 -- a refusal is not before the lines that are read
 late : (e : Env) (v n : ℕ) (ls : List Line) (s : State) → proper ls ≡ true → From v n ls → (k v′ n′ : ℕ) → run e s ls ≡ refused k v′ n′ → notAfter v n v′ n′ ≡ true
@@ -229,19 +227,19 @@ module _ (low high : Digits) (le : NotAbove low high) (m : Option ℕ) where
   hi′ = record { class = high; limit = m }
 
   finish-same : (s : State) (t : Set) → finish s ≡ accepted t → finish (lower low s) ≡ accepted (lowerSet low t)
-  finish-same (top s k) t e = no-accept (sym e)
-  finish-same (file s n h p) t e = no-accept (sym e)
-  finish-same (drawing s d) t e = no-accept (sym e)
-  finish-same (layerNames s d) t e = no-accept (sym e)
-  finish-same (defines s b) t e = no-accept (sym e)
-  finish-same (symbol s y) t e = no-accept (sym e)
-  finish-same (hide s y ps) t e = no-accept (sym e)
-  finish-same (elements s) t e = no-accept (sym e)
-  finish-same (figures s h fs) t e = no-accept (sym e)
-  finish-same (successive s h fs n ps) t e = no-accept (sym e)
-  finish-same (texts s h fs n o) t e = no-accept (sym e)
-  finish-same (placing s k fs n o p) t e = no-accept (sym e)
-  finish-same (skipping s k fs n o d) t e = no-accept (sym e)
+  finish-same (top s k) t e = not-accepted e
+  finish-same (file s n h p) t e = not-accepted e
+  finish-same (drawing s d) t e = not-accepted e
+  finish-same (layerNames s d) t e = not-accepted e
+  finish-same (defines s b) t e = not-accepted e
+  finish-same (symbol s y) t e = not-accepted e
+  finish-same (hide s y ps) t e = not-accepted e
+  finish-same (elements s) t e = not-accepted e
+  finish-same (figures s h fs) t e = not-accepted e
+  finish-same (successive s h fs n ps) t e = not-accepted e
+  finish-same (texts s h fs n o) t e = not-accepted e
+  finish-same (placing s k fs n o p) t e = not-accepted e
+  finish-same (skipping s k fs n o d) t e = not-accepted e
   finish-same (ended s) t e = let z : s ≡ t = cc in ap (λ u. accepted (lowerSet low u)) z
 
   pub sim-run : (ls : List Line) (s : State) (t : Set) → run hi′ s ls ≡ accepted t → run lo′ (lower low s) ls ≡ accepted (lowerSet low t)
@@ -251,7 +249,7 @@ module _ (low high : Digits) (le : NotAbove low high) (m : Option ℕ) where
       go : (g : Got State) → step hi′ l s ≡ g → ((s′ : State) → run hi′ s′ ls ≡ accepted t → run lo′ (lower low s′) ls ≡ accepted (lowerSet low t))
           → thenRun g l (λ s′. run hi′ s′ ls) ≡ accepted t → run lo′ (lower low s) (l ∷ ls) ≡ accepted (lowerSet low t)
       go (got s′) q ih e = rw (sim-step low high le m l s s′ q) (ih s′ e)
-      go (bad k) q ih e = no-accept (sym e)
+      go (bad k) q ih e = not-accepted e
 
   abbrev RefusedToo : List Line → State → ℕ → ℕ → Type 0
   RefusedToo ls s v n = (k′ : ℕ) × (v′ : ℕ) × (n′ : ℕ) × (run hi′ s ls ≡ refused k′ v′ n′) × (notAfter v′ n′ v n ≡ true)

@@ -21,18 +21,10 @@ use Rattle.rules.specs.Sets.{Point, Figure, plain, chain, lettering, placed, La
 use Rattle.rules.specs.VolumesAndTotals.{chained, dated, countedHere, countedAll, layersUsed}
 use Rattle.rules.specs.Machine.{Line, Env, Home, inElement, inLayer, State, top, file, drawing, layerNames, defines, symbol, hide, elements, figures, successive, texts, placing, skipping, ended, byAct, roomFor, taking, openTop, atEof, onTop, closeFile, shutPart, onFile, onDrawing, layerLine, onLayerNames, onDefines, openSymbol, onSymbol, pointAt, onHide, onElements, isLayer, homeTable, closeFigures, openPlaced, openFigure, onFigures, onSuccessive, onTexts, bySkip, skipDeeper, onUnknown, newSerial, onPlaced, onPlacedKey, onPlacedOwn, onPlacing, skipShut, onSkipping, stepIn, inElements, afterElements, isIgnored, isClose, isEof, completes, nextVolume, step}
 use Rattle.rules.proofs.Chains.{and-left, and-right, and-true, clash, by-cond, cond-same, same-eq, never, unless-got, map-got, then-got, map-unless, map-then, map-append, map-compose, map-agree, nil-map, through}
+use Rattle.rules.proofs.Runs.{map-act}
 use Rattle.rules.proofs.Rows.{Row, here, there, found-row, row-all}
 use Rattle.promises.specs.DemandThree.{NotAbove}
 use Rattle.promises.proofs.Lower.{reaches-up, exceeds-down, hides-up, known-shows, unknown-hides, unknown-exceeds, maskSlots, wiped, textLeast, innerPart, lowerHeld, lowerFigure, lowerFigures, lowerBlock, lowerContents, lowerIn, lowerSet, lowerSoFar, depthIn, lowerPlacing, lower, mask-slot, mask-in, mask-out, mask-blank, part-own, part-inner, enter-own, enter-hidden, enter-inner, enter-wiped, lower-blank, file-same, first-same, files-same, elements-same, totals-same, used-same, all-used-same}
-
--- a function moved through an act
-pub map-act : (g : State → State) (st : State) (en : ℕ → Value → Got State) (op : ℕ → ℕ → Value → Got State) (cl : Unit {0} → Got State) (a : Act)
-    → mapG g (byAct st en op cl a) ≡ byAct (g st) (λ j v. mapG g (en j v)) (λ i j v. mapG g (op i j v)) (λ u. mapG g (cl u)) a
-map-act g st en op cl stay = refl
-map-act g st en op cl (entry j v) = refl
-map-act g st en op cl (begin i j v) = refl
-map-act g st en op cl shut = refl
-map-act g st en op cl (refuse n) = refl
 
 -- ── the set, where one thing of it changes ──
 module _ (c : Digits) where

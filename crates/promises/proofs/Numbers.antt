@@ -12,16 +12,7 @@ use lib.ListN.{length, length-append}
 use borrow.Author.Tests.{le-leb, leb-true, eq-eqb, ne-eqb, eqb-true, eqb-false, not-true}
 use Rattle.rules.specs.Base.{all, mapO, isNil, within, Cut, whole, parts, cut, onto}
 use Rattle.rules.specs.Numbers.{isDigit, digitRun, valueFrom, value, readCount, readFixed, padEnd, readParts, readSize, minus, readDecimal, fixedOnto, fixed, trim, endOnto, trimEnd, showCount, showFraction, showSize, showDecimal}
-use Rattle.rules.proofs.Chains.{and-left, and-right, and-true, by-cond, none-some, all-weaken, all-append}
-
--- ── options ──
-pub cond-some : {A : Type 0} (t : Bool) (x y : A) → cond t (some x) none ≡ some y → (t ≡ true) × (x ≡ y)
-cond-some true x y e = (refl, cc)
-cond-some false x y e = none-some e
-
-pub map-some : {A B : Type 0} (f : A → B) (o : Option A) (b : B) → mapO f o ≡ some b → (a : A) × (o ≡ some a) × (f a ≡ b)
-map-some f none b e = none-some e
-map-some f (some a) b e = (a, refl, cc)
+use Rattle.rules.proofs.Chains.{cond-some, map-some, and-left, and-right, and-true, by-cond, none-some, all-weaken, all-append}
 
 -- ── bytes between limits ──
 pub within-both : (lo hi b : ℕ) → within lo hi b ≡ true → (lo ≤ b) × (b ≤ hi)

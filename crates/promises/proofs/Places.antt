@@ -21,14 +21,10 @@ use Rattle.rules.specs.Sets.{Point, Figure, plain, chain, lettering, placed, La
 use Rattle.rules.specs.VolumesAndTotals.{chained, dated, countedHere, countedAll, layersUsed, ownTable}
 use Rattle.rules.specs.FixedForm.{Text, openLine, opensBlock, behind, lineOf, showValue, showSlots, noInner, showInner, showHeld, block, showPoints, showFigure, showFigures, showLayers, showDrawing, symbolInner, exchanged, showSymbol, showSymbols, showDefines, showBlocks, showFirst, showLater, ending, laterLines, volumeLines, volumesBytes, fixedForm}
 use Rattle.rules.specs.Machine.{Line, Env, Home, inElement, inLayer, State, top, file, drawing, layerNames, defines, symbol, hide, elements, figures, successive, texts, placing, skipping, ended, byAct, openTop, atEof, onTop, closeFile, shutPart, onFile, onDrawing, layerValue, onLayerNames, onDefines, newName, openSymbol, onSymbol, onHide, onElements, isLayer, homeTable, closeFigures, openPlaced, openFigure, onFigures, onSuccessive, onTexts, bySkip, onUnknown, newSerial, onPlaced, onPlacedKey, onPlacedOwn, onPlacing, skipShut, onSkipping, stepIn, inElements, afterElements, isIgnored, isClose, isEof, completes, nextVolume, step, Outcome, refused, accepted, thenRun, finish, run}
-use Rattle.rules.proofs.Chains.{map-cond, map-unless, through, map-append, map-compose, map-agree, ap-cond}
+use Rattle.rules.proofs.Chains.{nil-map, map-cond, map-unless, through, map-append, map-compose, map-agree, ap-cond}
 use Rattle.promises.specs.PlacesApart.{bareValue, bareSlots, bareHeld, barePoint, bareFigure, bareLayer, bareDrawing, bareSymbol, bareBlock, bareContents, bareSet, bareRest, bareForm, bareLine, bareAct, bareHome, bareState, bareOutcome}
 
 -- ── lists of what is the same, places apart ──
-pub nil-map : {A B : Type 0} (f : A → B) (s : List A) → isNil (map f s) ≡ isNil s
-nil-map f [] = refl
-nil-map f (a ∷ s) = refl
-
 pub map-same : {A B : Type 0} (g : A → B) (f : A → A) → ((a : A) → g (f a) ≡ g a) → (s : List A) → map g (map f s) ≡ map g s
 map-same g f e [] = refl
 map-same g f e (a ∷ s) = rw (e a, map-same g f e s)

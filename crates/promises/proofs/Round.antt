@@ -17,6 +17,7 @@ use Rattle.rules.specs.Machine.{Line, Env, State, top, Outcome, refused, accept
 use Rattle.rules.specs.RecordTable.{width, recordsFrom, recordsOf}
 use Rattle.rules.specs.FixedForm.{Text, volumeLines, volumesBytes, fixedForm}
 use Rattle.rules.specs.Answers.{Listed, listed, noLines, listVolumes, outcomeOfLines, outcomeOfVolumes, outcomeOf, answerWith, readOutcome, readRecords, readAnswer, fullClass, namesIn, writtenIn, rewriteOutcome, written}
+use Rattle.rules.proofs.Runs.{not-accepted}
 use Rattle.promises.specs.PlacesApart.{bareLine, bareSet, placesApart, textsFrom, textsOf}
 use Rattle.promises.specs.DemandTwo.{RoundTrip, DemandTwo}
 use Rattle.promises.proofs.Frame.{Spooled, laid, framed, volumes-inv, volumes-back, volumes-framed, framed-length, names-laid}
@@ -27,7 +28,6 @@ use Rattle.promises.proofs.BackSlots.{layAll, plainEnv, retaken}
 use Rattle.promises.proofs.Sizes.{listing, Texts, Listing, listing-inv, listing-of, nextsOfVolumes, someLines, none-empty, unlines-length, sizes, sizes-weight, volumes-weight, listing-told}
 use Rattle.promises.proofs.Weights.{weigh}
 use Rattle.promises.proofs.Length.{fixed-short}
-use Rattle.promises.proofs.LowerRun.{no-accept}
 use Rattle.promises.proofs.Places.{accepted-real, form-bare}
 use Rattle.promises.proofs.RecordPlaces.{texts-bare}
 use Rattle.promises.proofs.Fits.{records-read}
@@ -49,10 +49,10 @@ parsed e spool s h = go (volumesOf spool) refl h
     by vs p (listed ls) q h =
         let i = listing-inv 1 vs ls q in
         record { volumes = vs; found = p; texts = i .texts; theirs = i .theirs; runs = ap (run e (top nothingYet 0)) (sym (i .are)) ∙ h }
-    by vs p (noLines v) q h = no-accept (sym h)
+    by vs p (noLines v) q h = not-accepted h
 
     go : (o : Option (List Volume)) → volumesOf spool ≡ o → outcomeOfVolumes e o ≡ accepted s → Parsed e spool s
-    go none p h = no-accept (sym h)
+    go none p h = not-accepted h
     go (some vs) p h = by vs p (listVolumes 1 vs) refl h
 
 -- a spool with these volumes and texts is read by their listing

@@ -19,9 +19,9 @@ use Rattle.rules.specs.Values.{Num, num, Value, empty, nums, chars, Known, anyB
 use Rattle.rules.specs.Rows.{Times, once, upTo, anyNumber, Rule, isContent, isEmpty, fits, shapeFor, Act, entry, begin, refuse, orRefuse, innerOf, readShape, notTwice, actRow}
 use Rattle.rules.specs.Machine.{layerValue}
 use Rattle.rules.specs.FixedForm.{opensBlock, behind, lineOf}
-use Rattle.rules.proofs.Chains.{and-left, and-false, clash, cond-same, same-eq, never, none-some, unless-got, map-got, then-got, keep-got, or-got}
+use Rattle.rules.proofs.Chains.{map-some, and-left, and-false, clash, cond-same, same-eq, never, none-some, unless-got, map-got, then-got, keep-got, or-got}
 use Rattle.promises.specs.PlacesApart.{bareValue, bareForm}
-use Rattle.promises.proofs.Numbers.{map-some, within-both, fixed-same}
+use Rattle.promises.proofs.Numbers.{within-both, fixed-same}
 use Rattle.promises.proofs.Values.{allowed-seam, kind-back, nameless, read-nameless}
 use Rattle.promises.proofs.Forms.{keyOk, allowed-key, allowed-equal, allowed-open, form-equal, form-open, Tells}
 use Rattle.promises.proofs.Good.{restIn, writtenAct, GoodRow, Always, GoodLayer}

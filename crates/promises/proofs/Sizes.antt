@@ -21,11 +21,11 @@ use Rattle.rules.specs.VolumesAndTotals.{countedHere}
 use Rattle.rules.specs.Machine.{Line, Env, byAct, inLayer, State, top, file, drawing, layerNames, defines, symbol, hide, elements, figures, successive, texts, placing, skipping, ended, onTop, onElements, stepIn, inElements, afterElements, isIgnored, isClose, isEof, completes, nextVolume, step, Outcome, refused, accepted, thenRun, finish, run}
 use Rattle.rules.specs.FixedForm.{Text}
 use Rattle.rules.specs.Answers.{numbered, linesOfVolume, nextName, Listed, listed, noLines, ontoLines, listVolume, listVolumes}
+use Rattle.rules.proofs.Runs.{not-accepted}
 use Rattle.rules.proofs.Chains.{and-left, and-right, and-true, clash, never, none-some, unless-got, map-got, also-got}
 use Rattle.promises.specs.PlacesApart.{bareForm, bareLine}
 use Rattle.promises.proofs.Forms.{Told, form-tells}
 use Rattle.promises.proofs.Frame.{lines-inv}
-use Rattle.promises.proofs.LowerRun.{no-accept}
 use Rattle.promises.proofs.Weights.{weigh}
 
 -- ── the listing by texts ──
@@ -133,8 +133,8 @@ volume-ends e l s s′ p q h =
 -- a volume with no line, at its turn, is refused
 empty-refused : {P : Type 0} (e : Env) (k : ℕ) (next : List ℕ) (s : Set) (more : List Line) (u : Set)
     → run e (top s 0) (record { volume = k; line = 0; last = true; next = next; form = ignored } ∷ more) ≡ accepted u → P
-empty-refused e k [] s more u h = no-accept (sym h)
-empty-refused e k (b ∷ next) s more u h = no-accept (sym h)
+empty-refused e k [] s more u h = not-accepted h
+empty-refused e k (b ∷ next) s more u h = not-accepted h
 
 -- the lines of a volume lead to the next volume's beginning
 volume-run : (e : Env) (k : ℕ) (next : List ℕ) → isNil next ≡ false → (n at : ℕ) (l : List ℕ) (ls : Text) (more : List Line) (st : State) (u : Set)
@@ -146,7 +146,7 @@ volume-run e k next p n at l [] more st u h = go (step e line st) refl h
 
     go : (g : Got State) → step e line st ≡ g → thenRun g line (λ s′. run e s′ more) ≡ accepted u → (s : Set) × (run e (top s 0) more ≡ accepted u)
     go (got s′) q h = let (t, z) = volume-ends e line st s′ refl p q in (t, ap (λ s. run e s more) (sym z) ∙ h)
-    go (bad j) q h = no-accept (sym h)
+    go (bad j) q h = not-accepted h
 volume-run e k next p n at l (m ∷ ls) more st u h = go (step e line st) (λ s′. volume-run e k next p (suc n) (at + length l + 2) m ls more s′ u) h
   where
     line : Line
@@ -155,7 +155,7 @@ volume-run e k next p n at l (m ∷ ls) more st u h = go (step e line st) (λ s�
     go : (g : Got State) → ((s′ : State) → run e s′ (numbered k next (suc n) (at + length l + 2) (m ∷ ls) ++ more) ≡ accepted u → (s : Set) × (run e (top s 0) more ≡ accepted u))
         → thenRun g line (λ s′. run e s′ (numbered k next (suc n) (at + length l + 2) (m ∷ ls) ++ more)) ≡ accepted u → (s : Set) × (run e (top s 0) more ≡ accepted u)
     go (got s′) ih h = ih s′ h
-    go (bad j) ih h = no-accept (sym h)
+    go (bad j) ih h = not-accepted h
 
 abbrev pub someLines : Text → Bool
 someLines t = not (isNil t)

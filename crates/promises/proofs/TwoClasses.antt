@@ -18,12 +18,13 @@ use Rattle.rules.specs.Sets.{Set, nothingYet, rangeOf}
 use Rattle.rules.specs.Machine.{Line, Env, State, top, Outcome, refused, accepted, run}
 use Rattle.rules.specs.RecordTable.{width, recordsOf}
 use Rattle.rules.specs.Answers.{Listed, listed, noLines, listVolumes, outcomeOfLines, outcomeOfVolumes, outcomeOf, outcomeAt, digitsOr, recordsIn, answerWith, refusal, readOutcome, readRecords, readAnswer}
+use Rattle.rules.proofs.Runs.{not-accepted}
 use Rattle.rules.proofs.Chains.{clash}
 use Rattle.promises.specs.DemandThree.{NotAbove, Classes, unread, LowerAccepts, atOrBefore, HigherRefuses}
 use Rattle.promises.proofs.Frame.{volumes-inv}
 use Rattle.promises.proofs.Lower.{lowerSet}
 use Rattle.promises.proofs.LowerRecords.{records-lower}
-use Rattle.promises.proofs.LowerRun.{no-accept, notAfter, notAfter-refl, Sorted, proper, sim-run, refused-too}
+use Rattle.promises.proofs.LowerRun.{notAfter, notAfter-refl, Sorted, proper, sim-run, refused-too}
 use Rattle.promises.proofs.Listing.{lines-whole, lines-proper}
 
 module _ (low high : Digits) (le : NotAbove low high) (m : Option ℕ) where
@@ -34,12 +35,12 @@ module _ (low high : Digits) (le : NotAbove low high) (m : Option ℕ) where
   hi = record { class = high; limit = m }
 
   accepts : (o : Option (List Volume)) (s : Set) → outcomeOfVolumes hi o ≡ accepted s → outcomeOfVolumes lo o ≡ accepted (lowerSet low s)
-  accepts none s e = no-accept (sym e)
+  accepts none s e = not-accepted e
   accepts (some vs) s e = go (listVolumes 1 vs) e
     where
       go : (l : Listed) → outcomeOfLines hi l ≡ accepted s → outcomeOfLines lo l ≡ accepted (lowerSet low s)
       go (listed ls) e = sim-run low high le m ls (top nothingYet 0) s e
-      go (noLines v) e = no-accept (sym e)
+      go (noLines v) e = not-accepted e
 
   abbrev There : Outcome → ℕ → ℕ → Type 0
   There o v n = (k′ : ℕ) × (v′ : ℕ) × (n′ : ℕ) × (o ≡ refused k′ v′ n′) × (notAfter v′ n′ v n ≡ true)

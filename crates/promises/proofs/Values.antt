@@ -15,9 +15,9 @@ use Rattle.rules.specs.RefusalNumbers.{Got, got, bad, mapG, orBad, keep}
 use Rattle.rules.specs.Numbers.{isDigit, readCount, readFixed, isDay, isClock, readDecimal, fixedOnto, fixed, showCount}
 use Rattle.rules.specs.Lines.{singleByte, leadByte, trailByte, allowedFrom, allowed, stem}
 use Rattle.rules.specs.Values.{Num, num, Value, empty, nums, chars, linked, Known, isLetter, lettersAndDigits, byteIn, capital, isLayerId, inBound, Part, count, digit, kindOfLine, range, rangeOfSymbols, day, clock, decimal, symbolName, layerId, servedSymbols, natural, readPart, amount, showPart, readAll, showAll, agree, Kind, values, text, word, volumeName, sheet, ratio, serials, nothing, opens, headed, either, sheets, twoNums, findSheet, showSheet, goodRatio, withOne, ratioParts, readCounts, readRatio, showRatio, mostPartners, readSerials, linkedOf, showSerials, readKind, numsOf, showKind, showContent}
-use Rattle.rules.proofs.Chains.{and-left, and-right, and-true, and-false, by-cond, clash, same-eq, never, none-some, unless-got, map-got, keep-got, or-got, cons-got, map-unless, map-map, all-weaken, all-append}
+use Rattle.rules.proofs.Chains.{map-some, and-left, and-right, and-true, and-false, by-cond, clash, same-eq, never, none-some, unless-got, map-got, keep-got, or-got, cons-got, map-unless, map-map, all-weaken, all-append}
 use Rattle.promises.specs.PlacesApart.{bareValue}
-use Rattle.promises.proofs.Numbers.{map-some, within-both, both-within, numeric, free, all-free, free-head, free-tail, cut-none, cut-at, cut-parts, some-full, Again, count-back, fixed-same, decimal-back}
+use Rattle.promises.proofs.Numbers.{within-both, both-within, numeric, free, all-free, free-head, free-tail, cut-none, cut-at, cut-parts, some-full, Again, count-back, fixed-same, decimal-back}
 
 -- ── allowed bytes ──
 -- a byte that is neither lead nor trail parts what is allowed

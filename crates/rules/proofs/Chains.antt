@@ -66,6 +66,14 @@ never e = absurd (let z : _≡_ {A = ℕ} 0 1 = cc in omega arith)
 pub none-some : {A : Type 0} {P : Type 0} {a : A} → none ≡ some a → P
 none-some e = absurd (let z : _≡_ {A = ℕ} 0 1 = cc in omega arith)
 
+pub cond-some : {A : Type 0} (t : Bool) (x y : A) → cond t (some x) none ≡ some y → (t ≡ true) × (x ≡ y)
+cond-some true x y e = (refl, cc)
+cond-some false x y e = none-some e
+
+pub map-some : {A B : Type 0} (f : A → B) (o : Option A) (b : B) → mapO f o ≡ some b → (a : A) × (o ≡ some a) × (f a ≡ b)
+map-some f none b e = none-some e
+map-some f (some a) b e = (a, refl, cc)
+
 pub unless-got : {A : Type 0} (t : Bool) (n : ℕ) (g : Got A) (a : A) → unless t n g ≡ got a → (t ≡ true) × (g ≡ got a)
 unless-got true n g a e = (refl, e)
 unless-got false n g a e = (cc, cc)
