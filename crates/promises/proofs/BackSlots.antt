@@ -1,28 +1,27 @@
 -- Lines written and read again, one after the other: the lines of a volume, what a text leads to, and the slots of a block.
-use Prim.Native.Nat.{ℕ, zero, suc, _+_}
+use Prim.Native.Nat.{ℕ, zero, suc}
 use mathlib.Core.Bool.{Bool, true, false, cond, _&&_, _||_, not}
-use mathlib.Core.List.{List, [], _∷_, _++_, map}
+use mathlib.Core.List.{List, [], _∷_, _++_}
 use mathlib.Core.Option.{Option, none, some}
 use mathlib.Core.Path.{_≡_, refl, sym, _∙_, ap, subst}
-use lib.Dec.{eqb, leb}
-use lib.ListN.{length, getD, set}
+use lib.ListN.{getD, set}
 use borrow.Author.Tests.{not-true, le-leb}
 use native.Mathlib.Omega.{arith}
 use Rattle.rules.specs.declared.Digits.{Digits}
-use Rattle.rules.specs.Base.{bytes, all, isNil, isNone, isSome, hasNumber, mapO}
-use Rattle.rules.specs.RefusalNumbers.{Got, got, bad, unless, mapG}
-use Rattle.rules.specs.Lines.{Form, close, keyed, formOf}
+use Rattle.rules.specs.Base.{bytes, all, isNil, isSome}
+use Rattle.rules.specs.RefusalNumbers.{got}
+use Rattle.rules.specs.Lines.{close, formOf}
 use Rattle.rules.specs.RangeClass.{digits, reaches}
-use Rattle.rules.specs.Values.{Value, empty, nums, chars, linked, Known, Kind, values, text, word, volumeName, sheet, ratio, serials, nothing, opens, headed, either, amountAt}
-use Rattle.rules.specs.Rows.{Rule, find, Slots, blank, marks, fullAt, isFull, Act, entry, begin, innerOf, actRow, act, present, complete}
+use Rattle.rules.specs.Values.{Value, empty, nums, chars, linked, Known, Kind, values, text, word, volumeName, sheet, ratio, serials, nothing, opens, headed, either}
+use Rattle.rules.specs.Rows.{Rule, Slots, blank, marks, entry, begin, innerOf, act, present, complete}
 use Rattle.rules.specs.Sets.{Set}
 use Rattle.rules.specs.Machine.{Line, Env, State, stepIn, run}
-use Rattle.rules.specs.FixedForm.{Text, opensBlock, behind, lineOf, showValue, showSlot, showSlots}
+use Rattle.rules.specs.FixedForm.{Text, opensBlock, behind, lineOf, showValue, showSlots}
 use Rattle.rules.specs.Answers.{fullClass}
 use Rattle.rules.proofs.Chains.{and-left, and-right, and-true, clash}
 use Rattle.rules.proofs.Rows.{Row, here, there, differ, row-all, row-find}
 use Rattle.promises.specs.PlacesApart.{bareValue, bareSlots, bareForm}
-use Rattle.promises.proofs.Good.{GoodRow, GoodSlots, writtenAct, restOf}
+use Rattle.promises.proofs.Good.{GoodRow, GoodSlots, writtenAct}
 use Rattle.promises.proofs.Values.{nameless, show-nameless}
 
 -- ── the lines ──
@@ -211,7 +210,7 @@ mayOpen (opens i) = true
 mayOpen (headed i p) = true
 mayOpen (either i) = true
 
-pub calm-kind : (d : Kind) (v : Value) → mayOpen d ≡ false → opensBlock d v ≡ false
+calm-kind : (d : Kind) (v : Value) → mayOpen d ≡ false → opensBlock d v ≡ false
 calm-kind (values p ps a) v e = refl
 calm-kind (text n b) v e = refl
 calm-kind (word n b) v e = refl
@@ -274,7 +273,7 @@ pub reaches-none : (d : Digits) → reaches d (digits 0 0) ≡ true
 reaches-none d = and-true _ _ (le-leb 0 (d .middle) (omega arith)) (le-leb 0 (d .last) (omega arith))
 
 -- what a closed block must have is there
-pub needed : (P : Rule → Value → Type 0) (d : Digits) {t : List Rule} {i : ℕ} {r : Rule} → Row t i r → (s : Slots) → GoodSlots P t s → complete d t (marks s) ≡ true
+needed : (P : Rule → Value → Type 0) (d : Digits) {t : List Rule} {i : ℕ} {r : Rule} → Row t i r → (s : Slots) → GoodSlots P t s → complete d t (marks s) ≡ true
     → (r .must && reaches d (r .least)) ≡ true → isSome (getD s i none) ≡ true
 needed P d here [] g c e = absurd g
 needed P d (here {r = r}) (o ∷ s) g c e = go (r .must) (reaches d (r .least)) (isSome o) e (and-left (present d r (isSome o)) _ c)
@@ -286,3 +285,12 @@ needed P d (here {r = r}) (o ∷ s) g c e = go (r .must) (reaches d (r .least)) 
 needed P d (there w) [] g c e = absurd g
 needed P d (there {q = q} w) (none ∷ s) g c e = needed P d w s g (and-right (present d q false) _ c) e
 needed P d (there {q = q} w) (some v ∷ s) g c e = needed P d w s (g .1) (and-right (present d q true) _ c) e
+
+-- so the inner block of a row that always opens one has been opened
+pub opens-needed : (P : Rule → Value → Type 0) (d : Digits) {t : List Rule} {i : ℕ} {r : Rule} → Row t i r → (s : Slots) → GoodSlots P t s → complete d t (marks s) ≡ true
+    → (r .must && reaches d (r .least)) ≡ true → ((v : Value) → opensBlock (r .holds) v ≡ true) → opensAt t (bareSlots s) i ≡ true
+opens-needed P d {i = i} {r = r} w s g c e always = opens-end P w s g ∙ go (getD s i none) (needed P d w s g c e)
+  where
+    go : (o : Option Value) → isSome o ≡ true → opensIn (r .holds) o ≡ true
+    go none z = clash z refl
+    go (some v) z = always v

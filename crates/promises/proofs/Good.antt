@@ -110,6 +110,7 @@ pub record GoodLine (P : Rule → Value → Type 0) (t : List Rule) (j : ℕ) (v
   pub rule : Rule
   pub row : Row t j rule
   pub good : P rule (nums v)
+  pub alone : opensBlock (rule .holds) (nums v) ≡ false
 
 pub record GoodChain (b : Bool) (ps : List Point) : Type 0 where
   pub points : GoodPoints b ps

@@ -1,5 +1,14 @@
 pub mod Answered
+pub mod Back
+pub mod BackBare
+pub mod BackBlocks
+pub mod BackDrawing
+pub mod BackFigures
+pub mod BackFile
+pub mod BackPlaced
+pub mod BackSet
 pub mod BackSlots
+pub mod BackSymbols
 pub mod Costs
 pub mod Count
 pub mod Fits
@@ -8,6 +17,14 @@ pub mod Frame
 pub mod Frames
 pub mod Good
 pub mod GoodLines
+pub mod Inv
+pub mod InvBody
+pub mod InvFile
+pub mod InvHead
+pub mod InvParts
+pub mod InvPlaced
+pub mod InvRows
+pub mod InvState
 pub mod Length
 pub mod LengthBlocks
 pub mod LengthFigures
@@ -25,6 +42,7 @@ pub mod RecordPlaces
 pub mod Refusals
 pub mod Round
 pub mod RowGood
+pub mod RowLaws
 pub mod Sizes
 pub mod TwoClasses
 pub mod Values

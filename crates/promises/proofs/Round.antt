@@ -16,7 +16,7 @@ use Rattle.rules.specs.Sets.{Contents, Set, nothingYet}
 use Rattle.rules.specs.Machine.{Line, Env, State, top, Outcome, refused, accepted, run}
 use Rattle.rules.specs.RecordTable.{width, recordsFrom, recordsOf}
 use Rattle.rules.specs.FixedForm.{Text, volumeLines, volumesBytes, fixedForm}
-use Rattle.rules.specs.Answers.{Listed, listed, noLines, listVolumes, outcomeOfLines, outcomeOfVolumes, outcomeOf, answerWith, readOutcome, readRecords, readAnswer, fullClass, namesIn, writtenIn, rewriteOutcome, written}
+use Rattle.rules.specs.Answers.{numbered, nextName, Listed, listed, noLines, listVolumes, outcomeOfLines, outcomeOfVolumes, outcomeOf, answerWith, readOutcome, readRecords, readAnswer, fullClass, namesIn, writtenIn, rewriteOutcome, written}
 use Rattle.rules.proofs.Runs.{not-accepted}
 use Rattle.promises.specs.PlacesApart.{bareLine, bareSet, placesApart, textsFrom, textsOf}
 use Rattle.promises.specs.DemandTwo.{RoundTrip, DemandTwo}
@@ -24,8 +24,13 @@ use Rattle.promises.proofs.Frame.{Spooled, laid, framed, volumes-inv, v
 use Rattle.promises.proofs.Frames.{listing-bare, laid-texts, nextsOfNames, nexts-names, named}
 use Rattle.promises.proofs.Good.{GoodSet}
 use Rattle.promises.proofs.GoodLines.{lines-fine, lines-some, lines-count, nexts-count}
+use Rattle.rules.proofs.Chains.{and-left, and-right, and-true, clash}
 use Rattle.promises.proofs.BackSlots.{layAll, plainEnv, retaken}
-use Rattle.promises.proofs.Sizes.{listing, Texts, Listing, listing-inv, listing-of, nextsOfVolumes, someLines, none-empty, unlines-length, sizes, sizes-weight, volumes-weight, listing-told}
+use Rattle.promises.proofs.BackSet.{endsOnce}
+use Rattle.promises.proofs.Back.{good-back}
+use Rattle.promises.proofs.Inv.{Sized, nextsOf, Steady, read-good}
+use Rattle.promises.proofs.RowLaws.{rowLaws}
+use Rattle.promises.proofs.Sizes.{listing, Texts, Listing, listing-inv, listing-of, nextsOfVolumes, someLines, none-empty, unlines-length, sizes, sizes-weight, volumes-weight, Tolds, listing-told}
 use Rattle.promises.proofs.Weights.{weigh}
 use Rattle.promises.proofs.Length.{fixed-short}
 use Rattle.promises.proofs.Places.{accepted-real, form-bare}
@@ -134,14 +139,56 @@ no-longer vs ts s h full r =
     let b = sizes-weight ts in
     omega arith
 
+told-sized : (ls : List Line) (ns : List ℕ) → Tolds ls ns → Sized ls ns
+told-sized [] [] h = tt
+told-sized [] (n ∷ ns) h = absurd h
+told-sized (l ∷ ls) [] h = absurd h
+told-sized (l ∷ ls) (n ∷ ns) h = (h .0 .0, h .0 .1, told-sized ls ns (h .1))
+
+-- the names that follow, by the last line of each volume
+numbered-nexts : (k : ℕ) (next : List ℕ) (n at : ℕ) (l : List ℕ) (t : Text) (more : List Line) → nextsOf (numbered k next n at (l ∷ t) ++ more) ≡ next ∷ nextsOf more
+numbered-nexts k next n at l [] more = refl
+numbered-nexts k next n at l (m ∷ t) more = numbered-nexts k next (suc n) (at + length l + 2) m t more
+
+listing-nexts : (k : ℕ) (vs : List Volume) (ts : List Text) → Texts vs ts → all someLines ts ≡ true → nextsOf (listing k vs ts) ≡ nextsOfVolumes vs
+listing-nexts k [] [] h a = refl
+listing-nexts k [] (t ∷ ts) h a = absurd h
+listing-nexts k (v ∷ vs) [] h a = absurd h
+listing-nexts k (v ∷ vs) ([] ∷ ts) h a = clash a refl
+listing-nexts k (v ∷ vs) ((l ∷ t) ∷ ts) h a =
+    numbered-nexts k (nextName vs) 1 (v .place) l t (listing (suc k) vs ts) ∙ ap (λ ns. nextName vs ∷ ns) (listing-nexts (suc k) vs ts (h .1) a)
+
+numbered-steady : (k : ℕ) (next : List ℕ) (n at : ℕ) (l : List ℕ) (t : Text) (more : List Line) → Steady more → Steady (numbered k next n at (l ∷ t) ++ more)
+numbered-steady k next n at l [] [] h = tt
+numbered-steady k next n at l [] (m ∷ more) h = (λ e. clash refl e, h)
+numbered-steady k next n at l (m ∷ t) more h = (λ e. refl, numbered-steady k next (suc n) (at + length l + 2) m t more h)
+
+listing-steady : (k : ℕ) (vs : List Volume) (ts : List Text) → Texts vs ts → all someLines ts ≡ true → Steady (listing k vs ts)
+listing-steady k [] [] h a = tt
+listing-steady k [] (t ∷ ts) h a = absurd h
+listing-steady k (v ∷ vs) [] h a = absurd h
+listing-steady k (v ∷ vs) ([] ∷ ts) h a = clash a refl
+listing-steady k (v ∷ vs) ((l ∷ t) ∷ ts) h a = numbered-steady k (nextName vs) 1 (v .place) l t (listing (suc k) vs ts) (listing-steady (suc k) vs ts (h .1) a)
+
+-- what was read of these texts is good
+listing-good : (vs : List Volume) (ts : List Text) (s : Set) → Texts vs ts → all someLines ts ≡ true → run plainEnv (top nothingYet 0) (listing 1 vs ts) ≡ accepted s → GoodSet (nextsOfVolumes vs) s
+listing-good vs ts s h full r =
+    subst (λ ns. GoodSet ns s) (listing-nexts 1 vs ts h full) (read-good rowLaws (listing 1 vs ts) (sizes ts) s (told-sized (listing 1 vs ts) (sizes ts) (listing-told 1 vs ts h full)) (listing-steady 1 vs ts h full) r)
+
+-- every volume but the last is followed by one with a name
+ends-once : (vs : List Volume) → all (λ v. not (isNil (v .name))) vs ≡ true → 1 ≤ length vs → endsOnce (nextsOfVolumes vs) ≡ true
+ends-once [] a h = absurd (let z : 1 ≤ 0 = h in omega arith)
+ends-once (v ∷ []) a h = refl
+ends-once (v ∷ w ∷ vs) a h =
+    let b = and-right (not (isNil (v .name))) _ a in
+    and-true _ _ (and-left (not (isNil (w .name))) _ b) (ends-once (w ∷ vs) b (omega arith))
+
 -- ── one accepted spool ──
 -- names of volumes go with as many volumes
 same-length : {A B : Type 0} (f : A → B) (s : List A) → length (map f s) ≡ length s
 same-length f s = length-map s f
 
-module _ (read-good : (vs : List Volume) (ts : List Text) (s : Set) → Texts vs ts → all someLines ts ≡ true → run plainEnv (top nothingYet 0) (listing 1 vs ts) ≡ accepted s → GoodSet (nextsOfVolumes vs) s)
-    (set-back : (nexts : List (List ℕ)) (s : Set) → GoodSet nexts s → (m : ℕ) × (run plainEnv (top nothingYet 0) (layAll nexts (volumeLines s (s .volumes))) ≡ accepted (retaken m (bareSet s))))
-    (spool : List ℕ) (s : Set) (outcome : rewriteOutcome spool ≡ accepted s) (p : Parsed plainEnv spool s) where
+module _ (spool : List ℕ) (s : Set) (outcome : rewriteOutcome spool ≡ accepted s) (p : Parsed plainEnv spool s) where
   abbrev vs : List Volume
   vs = p .volumes
 
@@ -155,7 +202,7 @@ module _ (read-good : (vs : List Volume) (ts : List Text) (s : Set) → Texts vs
   full = none-empty plainEnv 1 vs (p .texts) (p .theirs) (named vs (spooled .named)) nothingYet s (p .runs)
 
   good : GoodSet (nextsOfVolumes vs) s
-  good = read-good vs (p .texts) s (p .theirs) full (p .runs)
+  good = listing-good vs (p .texts) s (p .theirs) full (p .runs)
 
   -- the lines of the fixed form, volume by volume
   abbrev lines : List Text
@@ -223,7 +270,7 @@ module _ (read-good : (vs : List Volume) (ts : List Text) (s : Set) → Texts vs
 
   again : Again
   again =
-      let (m, r) = set-back (nextsOfVolumes vs) s good in
+      let (m, r) = good-back (nextsOfVolumes vs) s good (ends-once vs (named vs (spooled .named)) (spooled .one)) in
       let (t, q, b) = accepted-real plainEnv (listing 1 (laid 0 names bodies) lines) (top nothingYet 0) (retaken m (bareSet s)) (ap (run plainEnv (top nothingYet 0)) again-lines ∙ r) in
       record { set = t; runs = q; count = m; bare = b }
 
@@ -300,3 +347,6 @@ module _ (read-good : (vs : List Volume) (ts : List Text) (s : Set) → Texts vs
         texts = again-texts a;
         twice = again-form a;
       }
+
+pub demand-two : DemandTwo
+demand-two spool s e = round spool s e (parsed plainEnv spool s (sym (rewrite-is spool) ∙ e))

@@ -119,7 +119,7 @@ record Written (k : Known) (p : Part) (s : List ℕ) (a : Num) : Type 0 where
   apart : free 44 s ≡ true → free 44 (showPart k p a) ≡ true
 
 -- a name is written as it was read
-name-same : (s : List ℕ) (us : List (List ℕ)) (n : ℕ) → indexOf s us ≡ some n → getD us n [] ≡ s
+pub name-same : (s : List ℕ) (us : List (List ℕ)) (n : ℕ) → indexOf s us ≡ some n → getD us n [] ≡ s
 name-same s [] n e = none-some e
 name-same s (u ∷ us) n e = go (same s u) refl (name-same s us) e
   where
