@@ -328,39 +328,48 @@ stepIn e l (skipping s h fs n o d) = onSkipping s h fs n o d (l .form)
 stepIn e l (ended s) = bad 9
 
 -- ── the volume's last line: "volume ends early" is 9 there ──
+-- how far the set is, as far as the end of a volume asks: between blocks, in ELEMENT with nothing open in it, in another block, ended
+pub data Stage : Type 0 where
+  between : Set → ℕ → Stage
+  withinElement : Stage
+  withinOther : Stage
+  atEnd : Set → Stage
+
+abbrev pub stageOf : State → Stage
+stageOf (top s k) = between s k
+stageOf (file s n h p) = withinOther
+stageOf (drawing s d) = withinOther
+stageOf (layerNames s d) = withinOther
+stageOf (defines s b) = withinOther
+stageOf (symbol s y) = withinOther
+stageOf (hide s y ps) = withinOther
+stageOf (elements s) = withinElement
+stageOf (figures s h fs) = withinOther
+stageOf (successive s h fs n ps) = withinOther
+stageOf (texts s h fs n o) = withinOther
+stageOf (placing s h fs n o p) = withinOther
+stageOf (skipping s h fs n o d) = withinOther
+stageOf (ended s) = atEnd s
+
+abbrev pub isWithinElement : Stage → Bool
+isWithinElement (between s k) = false
+isWithinElement withinElement = true
+isWithinElement withinOther = false
+isWithinElement (atEnd s) = false
+
+abbrev pub isAfterElement : Stage → Bool
+isAfterElement (between s k) = eqb k 4
+isAfterElement withinElement = false
+isAfterElement withinOther = false
+isAfterElement (atEnd s) = false
+
 -- ELEMENT is open, and nothing in it
 abbrev pub inElements : State → Bool
-inElements (top s k) = false
-inElements (file s n h p) = false
-inElements (drawing s d) = false
-inElements (layerNames s d) = false
-inElements (defines s b) = false
-inElements (symbol s y) = false
-inElements (hide s y ps) = false
-inElements (elements s) = true
-inElements (figures s h fs) = false
-inElements (successive s h fs n ps) = false
-inElements (texts s h fs n o) = false
-inElements (placing s h fs n o p) = false
-inElements (skipping s h fs n o d) = false
-inElements (ended s) = false
+inElements s = isWithinElement (stageOf s)
 
 -- ELEMENT is closed
 abbrev pub afterElements : State → Bool
-afterElements (top s k) = eqb k 4
-afterElements (file s n h p) = false
-afterElements (drawing s d) = false
-afterElements (layerNames s d) = false
-afterElements (defines s b) = false
-afterElements (symbol s y) = false
-afterElements (hide s y ps) = false
-afterElements (elements s) = false
-afterElements (figures s h fs) = false
-afterElements (successive s h fs n ps) = false
-afterElements (texts s h fs n o) = false
-afterElements (placing s h fs n o p) = false
-afterElements (skipping s h fs n o d) = false
-afterElements (ended s) = false
+afterElements s = isAfterElement (stageOf s)
 
 abbrev pub isIgnored : Form → Bool
 isIgnored ignored = true
@@ -391,21 +400,14 @@ completes l s =
     ((inElements s && isClose (l .form)) || (afterElements s && isIgnored (l .form)))
 
 -- the next volume begins anew
+abbrev pub begunAnew : Stage → State → State
+begunAnew (between s k) st = top s 0
+begunAnew withinElement st = st
+begunAnew withinOther st = st
+begunAnew (atEnd s) st = st
+
 abbrev pub nextVolume : State → State
-nextVolume (top s k) = top s 0
-nextVolume (file s n h p) = file s n h p
-nextVolume (drawing s d) = drawing s d
-nextVolume (layerNames s d) = layerNames s d
-nextVolume (defines s b) = defines s b
-nextVolume (symbol s y) = symbol s y
-nextVolume (hide s y ps) = hide s y ps
-nextVolume (elements s) = elements s
-nextVolume (figures s h fs) = figures s h fs
-nextVolume (successive s h fs n ps) = successive s h fs n ps
-nextVolume (texts s h fs n o) = texts s h fs n o
-nextVolume (placing s h fs n o p) = placing s h fs n o p
-nextVolume (skipping s h fs n o d) = skipping s h fs n o d
-nextVolume (ended s) = ended s
+nextVolume s = begunAnew (stageOf s) s
 
 abbrev pub step : Env → Line → State → Got State
 step e l s = cond (l .last) (mapG nextVolume (also (completes l s) 9 (stepIn e l s))) (stepIn e l s)
@@ -420,21 +422,14 @@ thenRun (got s) l f = f s
 thenRun (bad n) l f = refused n (l .volume) (l .line)
 
 -- after the last line of the last volume the set has ended (no other state comes through that line)
+abbrev pub endedAs : Stage → Outcome
+endedAs (between s k) = refused 9 0 0
+endedAs withinElement = refused 9 0 0
+endedAs withinOther = refused 9 0 0
+endedAs (atEnd s) = accepted s
+
 abbrev pub finish : State → Outcome
-finish (top s k) = refused 9 0 0
-finish (file s n h p) = refused 9 0 0
-finish (drawing s d) = refused 9 0 0
-finish (layerNames s d) = refused 9 0 0
-finish (defines s b) = refused 9 0 0
-finish (symbol s y) = refused 9 0 0
-finish (hide s y ps) = refused 9 0 0
-finish (elements s) = refused 9 0 0
-finish (figures s h fs) = refused 9 0 0
-finish (successive s h fs n ps) = refused 9 0 0
-finish (texts s h fs n o) = refused 9 0 0
-finish (placing s h fs n o p) = refused 9 0 0
-finish (skipping s h fs n o d) = refused 9 0 0
-finish (ended s) = accepted s
+finish s = endedAs (stageOf s)
 
 abbrev pub run : Env → State → List Line → Outcome
 run e s [] = finish s
