@@ -26,7 +26,7 @@ use Rattle.rules.proofs.Runs.{not-accepted}
 use Rattle.promises.specs.DemandOne.{Answered, acceptedWith, refusedWith, OneAnswer, Filled, Reads, Written, Rewrites, DemandOne}
 use Rattle.promises.proofs.Widths.{flat-length, wide-records, take-replicate, filled-length, filled}
 use Rattle.promises.proofs.Count.{count-records}
-use Rattle.promises.proofs.Refusals.{Told, toldSet, toldNumber, told-spool, told-at}
+use Rattle.promises.proofs.Refusals.{OutcomeTold, toldSet, toldNumber, told-spool, told-at}
 
 -- ── answers ──
 abbrev isAnswer : Answer → Bool
@@ -36,7 +36,7 @@ isAnswer (Refused r) = false
 not-refused : {P : Type 0} {n : ℕ} {r : Refusal} → Accepted n ≡ Refused r → P
 not-refused e = absurd (true≢false (ap isAnswer e))
 
-told-answer : (count : ℕ) (o : Outcome) → Told o → Answered 19 (answerWith count o)
+told-answer : (count : ℕ) (o : Outcome) → OutcomeTold o → Answered 19 (answerWith count o)
 told-answer count (refused n v l) (toldNumber _ _ _ p q) = refusedWith _ p q
 told-answer count (accepted s) toldSet = acceptedWith count
 
@@ -87,7 +87,7 @@ table-accepted c len (accepted s) n h q =
       stands = rw (filled len (pos 0) (flat rs) (omega (arith, size, fit)), size);
     }
 
-reader-told : (class len : ℕ) (spool : List ℕ) → Told (readOutcome class len spool)
+reader-told : (class len : ℕ) (spool : List ℕ) → OutcomeTold (readOutcome class len spool)
 unfolding readOutcome
 reader-told class len spool = told-at (classOf class) (some (len / width)) spool
 
@@ -124,7 +124,7 @@ output-accepted : (len : ℕ) (names : List (List ℕ)) (o : Outcome) (n : ℕ) 
 output-accepted len names (refused m v l) n q = not-refused (sym q)
 output-accepted len names (accepted s) n q = let w = writtenIn names (accepted s) in fit-accepted (leb (length w) len) len n w (leb-true (length w) len) q
 
-output-told : (len count : ℕ) (o : Outcome) → Told o → Answered 20 (fitOutput len count (answerWith count o))
+output-told : (len count : ℕ) (o : Outcome) → OutcomeTold o → Answered 20 (fitOutput len count (answerWith count o))
 output-told len count (refused n v l) (toldNumber _ _ _ p q) = refusedWith _ p (omega arith)
 output-told len count (accepted s) toldSet = by-cond (Answered 20) (leb count len) (λ _. acceptedWith count) (λ _. refusedWith _ (omega arith) (omega arith))
 
@@ -137,11 +137,11 @@ fit-short true len count n r h q = not-refused q
 fit-short false len count n r h q = h refl
 
 -- the reading itself gives no 20
-output-only : (len count : ℕ) (o : Outcome) (r : Refusal) → Told o → fitOutput len count (answerWith count o) ≡ Refused r → r .number ≡ 20 → len < count
+output-only : (len count : ℕ) (o : Outcome) (r : Refusal) → OutcomeTold o → fitOutput len count (answerWith count o) ≡ Refused r → r .number ≡ 20 → len < count
 output-only len count (refused n v l) r (toldNumber _ _ _ p q) e t = let same : n ≡ r .number = ap answerNumber e in absurd (omega arith)
 output-only len count (accepted s) r w e t = fit-short (leb count len) len count count r (leb-false count len) e
 
-rewriter-told : (spool : List ℕ) → Told (rewriteOutcome spool)
+rewriter-told : (spool : List ℕ) → OutcomeTold (rewriteOutcome spool)
 unfolding rewriteOutcome
 rewriter-told spool = told-spool _ spool
 

@@ -9,7 +9,7 @@ use lib.Dec.{ltb}
 use lib.ListN.{length, set, length-append}
 use borrow.Author.Tests.{lt-ltb, leb-true}
 use Rattle.rules.specs.declared.Digits.{Digits}
-use Rattle.rules.specs.Base.{bytes, all, among}
+use Rattle.rules.specs.Base.{bytes, among}
 use Rattle.rules.specs.RefusalNumbers.{got}
 use Rattle.rules.specs.RangeClass.{digitsOf}
 use Rattle.rules.specs.Values.{Value, Known, charsOf}
@@ -19,13 +19,14 @@ use Rattle.rules.specs.Sets.{Layer, Drawing, Set, arcOf, knownOf, withDrawing}
 use Rattle.rules.specs.Machine.{State, top, drawing, layerNames, stepIn}
 use Rattle.rules.specs.FixedForm.{Text, opensBlock, showValue, showLayers, showDrawing}
 use Rattle.rules.proofs.Chains.{and-left, and-right, map-append}
-use Rattle.rules.proofs.Rows.{Row, here, there, differ, row-all}
+use Rattle.rules.proofs.Rows.{Row, here, there, row-all, reaches-none}
 use Rattle.promises.specs.PlacesApart.{bareValue, bareSlots, bareLayer, bareDrawing}
 use Rattle.promises.proofs.Good.{Always, GoodLayer, GoodLayers, GoodDrawing, fresh, idsOf}
 use Rattle.promises.proofs.Forms.{layer-key, form-equal}
-use Rattle.promises.proofs.Values.{nameless}
-use Rattle.promises.proofs.BackSlots.{lineFor, plainEnv, close-form, retaken, Reads, one-line, no-lines, _and_, Free, marks-bare, free-mark, Takes, read-slots, act-entry, act-begin, opensAt, still, filled, unfilled, entered, opened, line-any, reaches-none, opens-needed}
+use Rattle.promises.proofs.BackSlots.{lineFor, plainEnv, close-form, retaken, Reads, one-line, no-lines, _and_, Free, free-mark, Takes, read-slots, act-entry, act-begin, opensAt, still, filled, unfilled, entered, opened, opens-needed}
 use Rattle.promises.proofs.BackFile.{sound, sound-differ, sound-plain}
+use Rattle.promises.proofs.Bare.{marks-bare}
+use Rattle.promises.proofs.Nameless.{nameless, line-any}
 
 -- ── the layers ──
 abbrev pub takenLayers : ℕ → List Layer → ℕ

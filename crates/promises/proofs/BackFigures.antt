@@ -5,7 +5,7 @@ use mathlib.Core.List.{List, [], _∷_, _++_, map, append-nil, append-assoc}
 use mathlib.Core.Path.{_≡_, refl, _∙_, ap}
 use native.Mathlib.Omega.{arith}
 use lib.Dec.{leb}
-use lib.ListN.{length, getD, length-append}
+use lib.ListN.{length, getD, length-append, length-map}
 use borrow.Author.Tests.{not-true, lt-leb, leb-true}
 use Rattle.rules.specs.Base.{bytes, all}
 use Rattle.rules.specs.RefusalNumbers.{got}
@@ -17,13 +17,13 @@ use Rattle.rules.specs.Sets.{Point, Figure, plain, chain, lettering, placed, Sy
 use Rattle.rules.specs.Machine.{Home, inElement, inLayer, State, hide, figures, successive, texts, isLayer, homeTable, stepIn}
 use Rattle.rules.specs.FixedForm.{opensBlock, lineOf, noInner, openLine, block, showSlots, showPoints}
 use Rattle.rules.specs.RecordTable.{ruleAt}
-use Rattle.rules.proofs.Rows.{Row, here, there, differ, row-all}
+use Rattle.rules.proofs.Rows.{Row, here, there, differ, row-all, reaches-none}
 use Rattle.promises.specs.PlacesApart.{bareSlots, bareForm, barePoint}
 use Rattle.promises.proofs.Good.{GoodRow, Always, none0, GoodPoints, GoodChain, GoodText}
-use Rattle.promises.proofs.Values.{nameless}
-use Rattle.promises.proofs.BackBare.{length-map}
-use Rattle.promises.proofs.BackSlots.{lineFor, plainEnv, close-form, retaken, Reads, one-line, no-lines, _and_, marks-bare, free-mark, act-entry, calm, read-calm, line-any, reaches-none}
+use Rattle.promises.proofs.BackSlots.{lineFor, plainEnv, close-form, retaken, Reads, one-line, no-lines, _and_, free-mark, act-entry, calm, read-calm}
 use Rattle.promises.proofs.BackFile.{sound, sound-differ, sound-plain}
+use Rattle.promises.proofs.Bare.{marks-bare}
+use Rattle.promises.proofs.Nameless.{nameless, line-any}
 
 -- how many records have been taken when n had been before
 abbrev pub takenPoints : ℕ → List Point → ℕ
@@ -39,13 +39,6 @@ takenFigure n (placed m h) = n + 1
 abbrev pub takenFigures : ℕ → List Figure → ℕ
 takenFigures n [] = n
 takenFigures n (f ∷ fs) = takenFigures (takenFigure n f) fs
-
--- a figure that is one line has a row that opens nothing
-abbrev pub isLine : List Rule → Figure → Bool
-isLine t (plain n j v) = not (opensBlock (ruleAt t j .holds) (nums v))
-isLine t (chain n ps) = true
-isLine t (lettering n s) = true
-isLine t (placed n h) = true
 
 -- ── rows that may stand again and again ──
 full-at : (n : ℕ) {t : List Rule} {i : ℕ} {r : Rule} → Row t i r → getD (fullAt n t) i false ≡ isFull n (r .times)
@@ -137,7 +130,7 @@ module _ (next : List ℕ) (k : Known) (S : Set) (n : ℕ) (h : Home) (fs : List
       and read-points next k (isLayer h) (λ n ps. successive (retaken n S) h fs 0 ps) (λ n ps v g l. rw (point-act (knownOf S) k (isLayer h) (length ps) v g l)) (n + 1) [] qs (g .points)
       (let l = leb-true (length qs) mostPoints (g .most) in omega arith)
       and one-line next (bytes "}") (successive (retaken (takenPoints (n + 1) qs) S) h fs 0 (map barePoint qs)) (figures (retaken (takenPoints (n + 1) qs) S) h (fs ++ chain 0 (map barePoint qs) ∷ []))
-      (rw (close-form, point-complete (isLayer h) (length (map barePoint qs)), length-map barePoint qs, g .least))
+      (rw (close-form, point-complete (isLayer h) (length (map barePoint qs)), length-map qs barePoint, g .least))
 
   pub read-text : (o : Slots) → GoodText (isLayer h) o
       → Reads next (figures (retaken n S) h fs) (block (bytes "text") (showSlots k (textTable (isLayer h) 4 12) o noInner)) (figures (retaken (n + 1) S) h (fs ++ lettering 0 (bareSlots o) ∷ []))

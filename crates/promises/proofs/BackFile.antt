@@ -22,9 +22,9 @@ use Rattle.rules.proofs.Chains.{and-left, and-right}
 use Rattle.rules.proofs.Rows.{Row, here, there, differ, row-all}
 use Rattle.promises.specs.PlacesApart.{bareValue, bareSlots, bareHeld}
 use Rattle.promises.proofs.Good.{Always, Closed, GoodPart, none0, isOne, GoodFile, GoodLater}
-use Rattle.promises.proofs.Values.{nameless}
-use Rattle.promises.proofs.BackBare.{chained-bare}
-use Rattle.promises.proofs.BackSlots.{lineFor, plainEnv, Reads, one-line, _and_, Free, bare-blank, marks-bare, free-mark, Takes, read-slots, act-entry, act-begin, opensIn, opensAt, still, filled, unfilled, unmoved, opens-end, calm, calm-row, Enters, entered, opened, read-calm, line-any, opens-needed}
+use Rattle.promises.proofs.BackSlots.{lineFor, plainEnv, Reads, one-line, _and_, Free, free-mark, Takes, read-slots, act-entry, act-begin, opensIn, opensAt, still, filled, unfilled, unmoved, opens-end, calm, calm-row, Enters, entered, opened, read-calm, opens-needed}
+use Rattle.promises.proofs.Bare.{marks-bare, blank-bare, chained-bare}
+use Rattle.promises.proofs.Nameless.{nameless, line-any}
 
 -- an inner part so far: as written where it was opened, blank where not
 abbrev pub innerSlots : Bool → List Rule → Slots → Slots
@@ -33,7 +33,7 @@ innerSlots false t s = blank t
 
 pub inner-whole : (b : Bool) (P : Rule → Value → Type 0) (d : Digits) (t : List Rule) (s : Slots) → GoodPart b P d t s → innerSlots b t s ≡ bareSlots s
 inner-whole true P d t s g = refl
-inner-whole false P d t s g = rw (g, bare-blank t)
+inner-whole false P d t s g = rw (g, blank-bare t)
 
 -- ── FILE_FORMAT ──
 module _ (next : List ℕ) (k : Known) (S : Set) (t : List Rule) (p : ℕ) (H : Slots → Held)

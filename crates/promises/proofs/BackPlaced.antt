@@ -21,14 +21,14 @@ use Rattle.rules.specs.Machine.{inLayer, State, figures, placing, noneOf, newSe
 use Rattle.rules.specs.FixedForm.{Text, opensBlock, lineOf, noInner, openLine, showInner, showHeld, showSlots, showValue, showFigure, showFigures}
 use Rattle.rules.specs.Answers.{fullClass}
 use Rattle.rules.specs.RecordTable.{ruleAt}
-use Rattle.rules.proofs.Chains.{and-left, and-right, and-true, clash, map-append, On, on-map}
+use Rattle.rules.proofs.Chains.{and-left, and-right, and-true, clash, map-append, On, on-map, flat-append}
 use Rattle.rules.proofs.Rows.{Row, here, there, differ, row-all, row-find, row-at}
 use Rattle.promises.specs.PlacesApart.{bareValue, bareSlots, bareHeld, bareFigure}
 use Rattle.promises.proofs.Good.{GoodRow, Always, restOf, none0, Closed, GoodPart, GoodFigure, GoodFigures, freshNumbers}
-use Rattle.promises.proofs.BackBare.{serials-bare, serial-bare}
-use Rattle.promises.proofs.BackSlots.{lineFor, plainEnv, close-form, retaken, Reads, one-line, no-lines, _and_, Free, marks-bare, free-mark, Takes, read-slots, act-entry, opensIn, opensAt, still, filled, unfilled, opens-end, entered, opened, read-calm}
+use Rattle.promises.proofs.BackSlots.{lineFor, plainEnv, close-form, retaken, Reads, one-line, no-lines, _and_, Free, free-mark, Takes, read-slots, act-entry, opensIn, opensAt, still, filled, unfilled, opens-end, entered, opened, read-calm}
 use Rattle.promises.proofs.BackFile.{innerSlots, inner-whole, sound-differ}
-use Rattle.promises.proofs.BackFigures.{takenFigure, takenFigures, isLine, plain-line, read-chain, read-text, text-sound}
+use Rattle.promises.proofs.BackFigures.{takenFigure, takenFigures, plain-line, read-chain, read-text, text-sound}
+use Rattle.promises.proofs.Bare.{serials-bare, marks-bare, serial-bare}
 
 -- ── only the row of serial numbers holds serial numbers ──
 abbrev isSerials : Kind → Bool
@@ -215,10 +215,6 @@ fresh-parts seen (n ∷ a) b e =
     let (p, q) = fresh-parts (seen ++ n ∷ []) a b (and-right (not (hasNumber n seen)) _ e) in
     (and-true _ _ (and-left (not (hasNumber n seen)) _ e) p, rw (← append-assoc seen (n ∷ []) a) q)
 
-pub flat-append : {A : Type 0} (a b : List (List A)) → flat (a ++ b) ≡ flat a ++ flat b
-flat-append [] b = refl
-flat-append (u ∷ a) b = ap (λ (s : List _). u ++ s) (flat-append a b) ∙ sym (append-assoc u (flat a) (flat b))
-
 serials-grow : (fs : List Figure) (f : Figure) → flat (map figureSerial (fs ++ bareFigure f ∷ [])) ≡ flat (map figureSerial fs) ++ figureSerial f
 serials-grow fs f =
     ap flat (map-append figureSerial fs (bareFigure f ∷ [])) ∙ flat-append (map figureSerial fs) (figureSerial (bareFigure f) ∷ [])
@@ -241,29 +237,29 @@ module _ (next : List ℕ) (S : Set) (m : ℕ) where
   abbrev layered : Figure → Text → Text
   layered f = showFigure (knownOf S) true (layerTable (isSingle S)) f
 
-  read-figure : (n : ℕ) (fs : List Figure) (f : Figure) → good f → isLine (layerTable (isSingle S)) f ≡ true → noneOf (figureSerial f) (serialsIn S ++ flat (map figureSerial fs)) ≡ true
+  read-figure : (n : ℕ) (fs : List Figure) (f : Figure) → good f → noneOf (figureSerial f) (serialsIn S ++ flat (map figureSerial fs)) ≡ true
       → Reads next (figures (retaken n S) (inLayer m) fs) (layered f) (figures (retaken (takenFigure n f) S) (inLayer m) (fs ++ bareFigure f ∷ []))
-  read-figure n fs (plain l j v) g p z =
+  read-figure n fs (plain l j v) g z =
       let q : ruleAt (layerTable (isSingle S)) j ≡ g .rule = row-at (g .row) (ruleAt [] 0) in
       subst (λ (r : Rule). Reads next (figures (retaken n S) (inLayer m) fs) (λ ls. lineOf (knownOf S) r (nums v) ∷ ls) (figures (retaken (n + 1) S) (inLayer m) (fs ++ plain 0 j v ∷ []))) (sym q)
       (one-line next (lineOf (knownOf S) (g .rule) (nums v)) (figures (retaken n S) (inLayer m) fs) (figures (retaken (n + 1) S) (inLayer m) (fs ++ plain 0 j v ∷ []))
-      (plain-line next S n (inLayer m) fs j v (g .rule) (g .row) (g .good) (not-true (opensBlock (g .rule .holds) (nums v)) (rw q at p))))
-  read-figure n fs (chain l ps) g p z = read-chain next (knownOf S) S n (inLayer m) fs ps g
-  read-figure n fs (lettering l o) g p z = read-text next (knownOf S) S n (inLayer m) fs o g
-  read-figure n fs (placed l h) g p z =
+      (plain-line next S n (inLayer m) fs j v (g .rule) (g .row) (g .good) (g .alone)))
+  read-figure n fs (chain l ps) g z = read-chain next (knownOf S) S n (inLayer m) fs ps g
+  read-figure n fs (lettering l o) g z = read-text next (knownOf S) S n (inLayer m) fs o g
+  read-figure n fs (placed l h) g z =
       one-line next (openLine (bytes "E_symbol")) (figures (retaken n S) (inLayer m) fs) (placing (retaken (n + 1) S) m fs 0 (blankHeld placedTables) 0) (opens-symbol next S n m fs (g .1) (g .2))
       and subst (λ (h : Held). noneOf (figureSerial (placed l h)) (serialsIn S ++ flat (map figureSerial fs)) ≡ true
       → Reads next (placing (retaken (n + 1) S) m fs 0 (blankHeld placedTables) 0) (λ ls. showHeld (knownOf S) placedTables h (bytes "}" ∷ ls)) (figures (retaken (n + 1) S) (inLayer m) (fs ++ placed 0 (bareHeld h) ∷ [])))
       (sym (g .0 .is)) (λ z. read-placed next S (n + 1) m fs (g .0 .own) (g .0 .text) (g .0 .own-good) (g .0 .text-good) z) z
 
   -- all figures of a layer
-  pub read-figures : (n : ℕ) (fs gs : List Figure) → GoodFigures (knownOf S) (rangeOf S) (isSingle S) gs → all (isLine (layerTable (isSingle S))) gs ≡ true
+  pub read-figures : (n : ℕ) (fs gs : List Figure) → GoodFigures (knownOf S) (rangeOf S) (isSingle S) gs
       → freshNumbers (serialsIn S ++ flat (map figureSerial fs)) (flat (map figureSerial gs)) ≡ true
       → Reads next (figures (retaken n S) (inLayer m) fs) (showFigures (knownOf S) true (layerTable (isSingle S)) gs) (figures (retaken (takenFigures n gs) S) (inLayer m) (fs ++ map bareFigure gs))
-  read-figures n fs [] g p z = rw (append-nil fs) (no-lines next (figures (retaken n S) (inLayer m) fs))
-  read-figures n fs (f ∷ gs) g p z =
+  read-figures n fs [] g z = rw (append-nil fs) (no-lines next (figures (retaken n S) (inLayer m) fs))
+  read-figures n fs (f ∷ gs) g z =
       let seen = serialsIn S ++ flat (map figureSerial fs) in
       let (z₁, z₂) = fresh-parts seen (figureSerial f) (flat (map figureSerial gs)) z in
-      read-figure n fs f (g .0) (and-left (isLine (layerTable (isSingle S)) f) _ p) (figure-fresh f seen z₁)
+      read-figure n fs f (g .0) (figure-fresh f seen z₁)
       and rw (← append-assoc fs (bareFigure f ∷ []) (map bareFigure gs))
-      (read-figures (takenFigure n f) (fs ++ bareFigure f ∷ []) gs (g .1) (and-right (isLine (layerTable (isSingle S)) f) _ p) (subst (λ (u : List ℕ). freshNumbers u (flat (map figureSerial gs)) ≡ true) (append-assoc (serialsIn S) (flat (map figureSerial fs)) (figureSerial f) ∙ ap (λ (u : List ℕ). serialsIn S ++ u) (sym (serials-grow fs f))) z₂))
+      (read-figures (takenFigure n f) (fs ++ bareFigure f ∷ []) gs (g .1) (subst (λ (u : List ℕ). freshNumbers u (flat (map figureSerial gs)) ≡ true) (append-assoc (serialsIn S) (flat (map figureSerial fs)) (figureSerial f) ∙ ap (λ (u : List ℕ). serialsIn S ++ u) (sym (serials-grow fs f))) z₂))

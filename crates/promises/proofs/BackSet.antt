@@ -6,7 +6,7 @@ use mathlib.Core.List.{List, [], _∷_, _++_, map, append-nil, append-assoc}
 use mathlib.Core.Path.{_≡_, refl, sym, _∙_, ap, ap₂, subst, subst₂}
 use lib.Dec.{eqb}
 use borrow.Author.Tests.{not-true}
-use Rattle.rules.specs.Base.{bytes, all, isNil, flat}
+use Rattle.rules.specs.Base.{bytes, isNil, flat}
 use Rattle.rules.specs.RefusalNumbers.{got}
 use Rattle.rules.specs.Lines.{formOf, eof}
 use Rattle.rules.specs.RangeClass.{digitsOf}
@@ -14,20 +14,21 @@ use Rattle.rules.specs.Values.{Known}
 use Rattle.rules.specs.Rows.{Rule, blank, Held, partOf, numberOf}
 use Rattle.rules.specs.Blocks.{topTable, fileTable, rangeTable, elecTable, symTable, laterTable, fileTables, blankHeld, drawingTable, elementTable}
 use Rattle.rules.specs.Figures.{layerTable}
-use Rattle.rules.specs.Sets.{Layer, Contents, Set, noContents, nothingYet, withNow, withDrawing, withVolume, isFirst, headOr, firstContents, arcOf, symbolRange, rangeOf, defineRange, isSingle, symbolNameOf, knownOf, serialsOfVolume, elementsOf}
+use Rattle.rules.specs.Sets.{Contents, Set, noContents, nothingYet, withNow, withDrawing, withVolume, isFirst, headOr, firstContents, arcOf, symbolRange, rangeOf, defineRange, isSingle, knownOf, serialsOfVolume, elementsOf}
 use Rattle.rules.specs.VolumesAndTotals.{ownTable, countedHere, countedAll, layersUsed}
 use Rattle.rules.specs.Machine.{Line, top, file, drawing, defines, elements, accepted, stepIn, run}
 use Rattle.rules.specs.FixedForm.{Text, openLine, block, showHeld, showDrawing, showDefines, showBlocks, ending, laterLines, volumeLines}
-use Rattle.rules.proofs.Chains.{and-left, and-right, map-append, map-compose}
-use Rattle.promises.specs.PlacesApart.{bareForm, bareHeld, bareLayer, bareDrawing, bareSymbol, bareContents, bareSet}
+use Rattle.rules.proofs.Chains.{and-left, and-right, map-append, nil-snoc, flat-append}
+use Rattle.rules.proofs.Runs.{head-snoc}
+use Rattle.promises.specs.PlacesApart.{bareForm, bareHeld, bareDrawing, bareSymbol, bareContents, bareSet}
 use Rattle.promises.proofs.Good.{GoodFile, GoodLater, GoodDrawing, GoodDefines, GoodVolume, GoodLaters, GoodSet, freshNumbers}
-use Rattle.promises.proofs.BackBare.{number-bare, names-bare, volume-serials-bare, elements-bare, totals-bare, all-used-bare}
 use Rattle.promises.proofs.BackSlots.{lineFor, lay, layAll, plainEnv, close-form, retaken, Reads, one-line, _and_}
 use Rattle.promises.proofs.BackFile.{read-file, read-later}
 use Rattle.promises.proofs.BackDrawing.{takenLayers, read-drawing}
-use Rattle.promises.proofs.BackPlaced.{fresh-parts, flat-append}
-use Rattle.promises.proofs.BackSymbols.{takenSymbols, withSymbols, linesIn, read-defines}
-use Rattle.promises.proofs.BackBlocks.{takenBlocks, linesOfBlock, read-blocks}
+use Rattle.promises.proofs.BackPlaced.{fresh-parts}
+use Rattle.promises.proofs.BackSymbols.{takenSymbols, withSymbols, read-defines}
+use Rattle.promises.proofs.BackBlocks.{takenBlocks, read-blocks}
+use Rattle.promises.proofs.Bare.{part-number, known-bare, volume-serials, elements-bare, all-bare, layers-bare}
 
 -- ── the lines between the blocks ──
 opens-file : (next : List ℕ) (S : Set) (n : ℕ) → stepIn plainEnv (lineFor next false (openLine (bytes "FILE_FORMAT"))) (top (retaken n S) 0)
@@ -79,27 +80,16 @@ datedBy f h =
     eqb (numberOf "date" laterTable (partOf h 0)) (numberOf "date" fileTable (partOf f 0))
     && eqb (numberOf "time" laterTable (partOf h 0)) (numberOf "time" fileTable (partOf f 0))
 
-dated-bare : (f h : Held) → datedBy (bareHeld f) (bareHeld h) ≡ datedBy f h
-dated-bare f h = rw (number-bare "date" laterTable h 0, number-bare "date" fileTable f 0, number-bare "time" laterTable h 0, number-bare "time" fileTable f 0)
-
-head-snoc : (v w : Contents) (vs : List Contents) → headOr v (vs ++ w ∷ []) ≡ headOr w vs
-head-snoc v w [] = refl
-head-snoc v w (u ∷ us) = refl
-
-nil-snoc : {A : Type 0} (s : List A) (a : A) → isNil (s ++ a ∷ []) ≡ false
-nil-snoc [] a = refl
-nil-snoc (b ∷ s) a = refl
+dates-bare : (f h : Held) → datedBy (bareHeld f) (bareHeld h) ≡ datedBy f h
+dates-bare f h = rw (part-number "date" laterTable h 0, part-number "date" fileTable f 0, part-number "time" laterTable h 0, part-number "time" fileTable f 0)
 
 serials-snoc : (vs : List Contents) (v : Contents) → flat (map serialsOfVolume (vs ++ v ∷ [])) ≡ flat (map serialsOfVolume vs) ++ serialsOfVolume v
 serials-snoc vs v =
     ap flat (map-append serialsOfVolume vs (v ∷ [])) ∙ flat-append (map serialsOfVolume vs) (serialsOfVolume v ∷ [])
     ∙ ap (λ (x : List ℕ). flat (map serialsOfVolume vs) ++ x) (append-nil (serialsOfVolume v))
 
-abbrev pub volumeLinesOk : Bool → Contents → Bool
-volumeLinesOk single v = all (linesOfBlock single) (v .blocks)
-
 counted-bare : (S : Set) (first : Bool) (v : Contents) → S .now ≡ bareContents v → isFirst S ≡ first → eqb (numberOf "this_ele" (ownTable first) (partOf (v .file) 0)) (elementsOf v) ≡ true → countedHere S ≡ true
-counted-bare S first v e f c = rw (e, f, number-bare "this_ele" (ownTable first) (v .file) 0, elements-bare v) c
+counted-bare S first v e f c = rw (e, f, part-number "this_ele" (ownTable first) (v .file) 0, elements-bare v) c
 
 module _ (k : Known) (f : Held) where
   abbrev range : ℕ
@@ -109,17 +99,17 @@ module _ (k : Known) (f : Held) where
   single = eqb range 1
 
   read-volume : (next : List ℕ) (S : Set) (v : Contents) → knownOf S ≡ k → firstContents S .file ≡ bareHeld f → GoodVolume k (digitsOf range) single false next v → GoodLater (v .file)
-      → datedBy f (v .file) ≡ true → volumeLinesOk single v ≡ true → freshNumbers (flat (map serialsOfVolume (S .volumes ++ S .now ∷ []))) (serialsOfVolume v) ≡ true
+      → datedBy f (v .file) ≡ true → freshNumbers (flat (map serialsOfVolume (S .volumes ++ S .now ∷ []))) (serialsOfVolume v) ≡ true
       → Reads next (top (withVolume S) 0) (λ ls. openLine (bytes "FILE_FORMAT") ∷ showHeld k (fileTables false) (v .file) (bytes "}" ∷ openLine (bytes "ELEMENT") ∷ showBlocks k (layerTable single) (v .blocks) ls))
       (elements (nextSet S v))
-  read-volume next S v p q g h d l z =
+  read-volume next S v p q g h d z =
       one-line next (openLine (bytes "FILE_FORMAT")) (top T 0) (file (retaken (S .taken + 1) T) 0 (blankHeld (fileTables false)) 0)
       (opens-file next T (S .taken) ∙ ap (λ b. got (file (retaken (S .taken + cond b 2 1) T) 0 (blankHeld (fileTables b)) 0)) later)
-      and read-later next k (retaken (S .taken + 1) T) later (v .file) h (g .chain) (rw (head-snoc (S .now) (S .now) (S .volumes), q) (rw (dated-bare f (v .file)) d))
+      and read-later next k (retaken (S .taken + 1) T) later (v .file) h (g .chain) (rw (head-snoc (S .now) (S .now) (S .volumes), q) (rw (dates-bare f (v .file)) d))
       and one-line next (openLine (bytes "ELEMENT")) (top (retaken (S .taken + 1) U) 3) (elements (retaken (S .taken + 1) U)) (opens-elements next (retaken (S .taken + 1) U))
       and read-blocks next k range U (S .taken + 1) (v .blocks) p
-      (ap (λ (h : Held). numberOf "E_sym" elecTable (partOf h 3)) (ap (λ (c : Contents). c .file) (head-snoc (U .now) (S .now) (S .volumes)) ∙ q) ∙ number-bare "E_sym" elecTable f 3)
-      (g .blocks) l (g .once) (rw (append-nil (flat (map serialsOfVolume (S .volumes ++ S .now ∷ [])))) z)
+      (ap (λ (h : Held). numberOf "E_sym" elecTable (partOf h 3)) (ap (λ (c : Contents). c .file) (head-snoc (U .now) (S .now) (S .volumes)) ∙ q) ∙ part-number "E_sym" elecTable f 3)
+      (g .blocks) (g .once) (rw (append-nil (flat (map serialsOfVolume (S .volumes ++ S .now ∷ [])))) z)
     where
       T : Set
       T = withVolume S
@@ -138,23 +128,23 @@ endsOnce (n ∷ m ∷ ns) = not (isNil n) && endsOnce (m ∷ ns)
 
 -- ── from ELEMENT's end on ──
 module _ (k : Known) (f : Held) (s : Set) (first-is : firstContents s .file ≡ f) where
-  read-rest : (next : List ℕ) (ns : List (List ℕ)) (S : Set) (vs : List Contents) → GoodLaters k (digitsOf (range k f)) (single k f) s ns vs → all (volumeLinesOk (single k f)) vs ≡ true
+  read-rest : (next : List ℕ) (ns : List (List ℕ)) (S : Set) (vs : List Contents) → GoodLaters k (digitsOf (range k f)) (single k f) s ns vs
       → endsOnce (next ∷ ns) ≡ true → knownOf S ≡ k → firstContents S .file ≡ bareHeld f → countedHere S ≡ true
       → freshNumbers (flat (map serialsOfVolume (S .volumes ++ S .now ∷ []))) (flat (map serialsOfVolume vs)) ≡ true → layersUsed (closeAll S vs) ≡ true → countedAll (closeAll S vs) ≡ true
       → run plainEnv (elements S) (lay next (bytes "}" ∷ ending vs) (layAll ns (laterLines k (layerTable (single k f)) vs))) ≡ accepted (closeAll S vs)
-  read-rest next [] S [] g l e p q c z u a = end-last next S e c u a
-  read-rest next [] S (v ∷ vs) g l e p q c z u a = absurd g
-  read-rest next (n ∷ ns) S [] g l e p q c z u a = absurd g
-  read-rest next (n ∷ ns) S (v ∷ vs) g l e p q c z u a =
+  read-rest next [] S [] g e p q c z u a = end-last next S e c u a
+  read-rest next [] S (v ∷ vs) g e p q c z u a = absurd g
+  read-rest next (n ∷ ns) S [] g e p q c z u a = absurd g
+  read-rest next (n ∷ ns) S (v ∷ vs) g e p q c z u a =
       let (z₁, z₂) = fresh-parts (flat (map serialsOfVolume (S .volumes ++ S .now ∷ []))) (serialsOfVolume v) (flat (map serialsOfVolume vs)) z in
-      let here-read = read-volume k f n S v p q (g .0) (g .1) (subst (λ (h : Held). datedBy h (v .file) ≡ true) first-is (g .2)) (and-left (volumeLinesOk (single k f) v) _ l) z₁ in
+      let here-read = read-volume k f n S v p q (g .0) (g .1) (subst (λ (h : Held). datedBy h (v .file) ≡ true) first-is (g .2)) z₁ in
       end-more next S (layAll (n ∷ ns) (laterLines k (layerTable (single k f)) (v ∷ vs))) (not-true (isNil next) (and-left (not (isNil next)) _ e)) c
       ∙ here-read .leads (bytes "}" ∷ ending vs) (layAll ns (laterLines k (layerTable (single k f)) vs)) refl
-      ∙ read-rest n ns (nextSet S v) vs (g .3) (and-right (volumeLinesOk (single k f) v) _ l) (and-right (not (isNil next)) _ e) p
+      ∙ read-rest n ns (nextSet S v) vs (g .3) (and-right (not (isNil next)) _ e) p
       (ap (λ (c : Contents). c .file) (head-snoc (bareContents v) (S .now) (S .volumes)) ∙ q)
       (counted-bare (nextSet S v) false v refl (nil-snoc (S .volumes) (S .now)) (g .0 .count))
       (subst (λ (x : List ℕ). freshNumbers x (flat (map serialsOfVolume vs)) ≡ true)
-      (ap (λ (x : List ℕ). flat (map serialsOfVolume (S .volumes ++ S .now ∷ [])) ++ x) (sym (volume-serials-bare v)) ∙ sym (serials-snoc (S .volumes ++ S .now ∷ []) (bareContents v))) z₂)
+      (ap (λ (x : List ℕ). flat (map serialsOfVolume (S .volumes ++ S .now ∷ [])) ++ x) (sym (volume-serials v)) ∙ sym (serials-snoc (S .volumes ++ S .now ∷ []) (bareContents v))) z₂)
       u a
 
 -- ── the set at the end ──
@@ -178,19 +168,6 @@ latest-bare : (v : Contents) (vs : List Contents) → latestOf (bareContents v) 
 latest-bare v [] = refl
 latest-bare v (w ∷ vs) = latest-bare w vs
 
-used-set-bare : (m : ℕ) (s : Set) → layersUsed (retaken m (bareSet s)) ≡ layersUsed s
-used-set-bare m s = rw (map-compose (λ (l : Layer). l .id) bareLayer (s .drawing .layers), all-used-bare (s .volumes))
-
-first-bare : (s : Set) → firstContents (bareSet s) ≡ bareContents (firstContents s)
-first-bare s = go (s .volumes)
-  where
-    go : (vs : List Contents) → headOr (bareContents (s .now)) (map bareContents vs) ≡ bareContents (headOr (s .now) vs)
-    go [] = refl
-    go (v ∷ vs) = refl
-
-counted-set-bare : (m : ℕ) (s : Set) → countedAll (retaken m (bareSet s)) ≡ countedAll s
-counted-set-bare m s = rw (first-bare s, number-bare "all_ele" fileTable (firstContents s .file) 0, totals-bare (s .volumes))
-
 -- ── the first volume ──
 abbrev takenFirst : Set → Contents → ℕ
 takenFirst s v = takenBlocks (takenSymbols (takenLayers 3 (s .drawing .layers)) (s .symbols)) (v .blocks)
@@ -204,9 +181,6 @@ firstText s v ls =
     (block (bytes "DRAWING_FORMAT") (showDrawing (knownOf s) (s .drawing))
     (block (bytes "SYMBOL_DEFINE") (showDefines (knownOf s) (s .symbols))
     (openLine (bytes "ELEMENT") ∷ showBlocks (knownOf s) (layerTable (isSingle s)) (v .blocks) ls)))
-
-known-bare : (s : Set) → record { symbols = map symbolNameOf (map bareSymbol (s .symbols)); layers = map (λ (l : Layer). l .id) (map bareLayer (s .drawing .layers)) } ≡ knownOf s
-known-bare s = ap₂ (λ a b. record { symbols = a; layers = b }) (names-bare (s .symbols)) (map-compose (λ (l : Layer). l .id) bareLayer (s .drawing .layers))
 
 module _ (next : List ℕ) (s : Set) (v : Contents) (v-is : v .file ≡ firstContents s .file) where
   abbrev k : Known
@@ -223,28 +197,24 @@ module _ (next : List ℕ) (s : Set) (v : Contents) (v-is : v .file ≡ firstCon
   named = retaken (takenSymbols (takenLayers 3 (s .drawing .layers)) (s .symbols)) (withSymbols (map bareSymbol (s .symbols)) drawn)
 
   number-is : (key : S.String) (t : List Rule) (p : ℕ) → numberOf key t (partOf (bareHeld (v .file)) p) ≡ numberOf key t (partOf (firstContents s .file) p)
-  number-is key t p = number-bare key t (v .file) p ∙ ap (λ (h : Held). numberOf key t (partOf h p)) v-is
+  number-is key t p = part-number key t (v .file) p ∙ ap (λ (h : Held). numberOf key t (partOf h p)) v-is
 
   read-first : GoodFile (v .file) → GoodDrawing (arcOf s) (s .drawing) → GoodDefines (defineRange s) (rangeOf s) (s .symbols) → GoodVolume k (rangeOf s) (isSingle s) true next v
-      → all linesIn (s .symbols) ≡ true → volumeLinesOk (isSingle s) v ≡ true → freshNumbers [] (serialsOfVolume v) ≡ true
+      → freshNumbers [] (serialsOfVolume v) ≡ true
       → Reads next (top nothingYet 0) (firstText s v) (elements (firstSet s v))
-  read-first file-good drawing-good defines-good g l₁ l₂ z =
+  read-first file-good drawing-good defines-good g z =
       one-line next (openLine (bytes "FILE_FORMAT")) (top nothingYet 0) (file (retaken 2 nothingYet) 0 (blankHeld (fileTables true)) 0) (opens-file next nothingYet 0)
       and read-file next k (retaken 2 nothingYet) refl (v .file) file-good (g .chain)
       and one-line next (openLine (bytes "DRAWING_FORMAT")) (top filed 1) (drawing (retaken 3 filed) (record { line = 0; own = blank drawingTable; layers = [] })) (opens-drawing next filed 2)
       and read-drawing next k filed 3 (s .drawing) (subst (λ (n : ℕ). GoodDrawing n (s .drawing)) (sym (number-is "arc" rangeTable 1)) drawing-good)
       and one-line next (openLine (bytes "SYMBOL_DEFINE")) (top drawn 2) (defines drawn false) (opens-defines next drawn)
       and read-defines next k drawn (takenLayers 3 (s .drawing .layers)) (s .symbols) refl
-      (subst₂ (λ (a b : ℕ). GoodDefines a (digitsOf b) (s .symbols)) (sym (number-is "S_elec" symTable 4)) (sym (number-is "E_sym" elecTable 3)) defines-good) l₁
+      (subst₂ (λ (a b : ℕ). GoodDefines a (digitsOf b) (s .symbols)) (sym (number-is "S_elec" symTable 4)) (sym (number-is "E_sym" elecTable 3)) defines-good)
       and one-line next (openLine (bytes "ELEMENT")) (top named 3) (elements named) (opens-elements next named)
-      and read-blocks next k (symbolRange s) named (takenSymbols (takenLayers 3 (s .drawing .layers)) (s .symbols)) (v .blocks) (known-bare s) (number-is "E_sym" elecTable 3) (g .blocks) l₂ (g .once) z
+      and read-blocks next k (symbolRange s) named (takenSymbols (takenLayers 3 (s .drawing .layers)) (s .symbols)) (v .blocks) (known-bare s) (number-is "E_sym" elecTable 3) (g .blocks) (g .once) z
 
 -- ── the whole set ──
--- every figure that is one line has a row that opens nothing
-abbrev pub plainFigures : Set → Bool
-plainFigures s = all linesIn (s .symbols) && all (volumeLinesOk (isSingle s)) (s .volumes)
-
-module _ (nexts : List (List ℕ)) (s : Set) (g : GoodSet nexts s) (e : endsOnce nexts ≡ true) (l : plainFigures s ≡ true) where
+module _ (nexts : List (List ℕ)) (s : Set) (g : GoodSet nexts s) (e : endsOnce nexts ≡ true) where
   abbrev last : Set
   last = closeAll (firstSet s (g .first)) (g .rest)
 
@@ -263,16 +233,14 @@ module _ (nexts : List (List ℕ)) (s : Set) (g : GoodSet nexts s) (e : endsOnce
   set-runs : run plainEnv (top nothingYet 0) (layAll nexts (volumeLines s (s .volumes))) ≡ accepted (retaken (last .taken) (bareSet s))
   set-runs =
       let (z₁, z₂) = fresh-parts [] (serialsOfVolume (g .first)) (flat (map serialsOfVolume (g .rest))) (subst (λ (vs : List Contents). freshNumbers [] (flat (map serialsOfVolume vs)) ≡ true) (g .volumes) (g .serials)) in
-      let l₁ = and-left (all linesIn (s .symbols)) _ l in
-      let l₂ = subst (λ (vs : List Contents). all (volumeLinesOk (isSingle s)) vs ≡ true) (g .volumes) (and-right (all linesIn (s .symbols)) _ l) in
       let more = layAll (g .others) (laterLines (knownOf s) (layerTable (isSingle s)) (g .rest)) in
       ap₂ (λ (ns : List (List ℕ)) (vs : List Contents). run plainEnv (top nothingYet 0) (layAll ns (volumeLines s vs))) (g .nexts-are) (g .volumes)
-      ∙ read-first (g .next) s (g .first) first-file (g .file) (g .drawing) (g .defines) (g .volume) l₁ (and-left (volumeLinesOk (isSingle s) (g .first)) _ l₂) z₁ .leads (bytes "}" ∷ ending (g .rest)) more refl
-      ∙ read-rest (knownOf s) (firstContents s .file) s refl (g .next) (g .others) (firstSet s (g .first)) (g .rest) (g .laters) (and-right (volumeLinesOk (isSingle s) (g .first)) _ l₂)
+      ∙ read-first (g .next) s (g .first) first-file (g .file) (g .drawing) (g .defines) (g .volume) z₁ .leads (bytes "}" ∷ ending (g .rest)) more refl
+      ∙ read-rest (knownOf s) (firstContents s .file) s refl (g .next) (g .others) (firstSet s (g .first)) (g .rest) (g .laters)
       (subst (λ (ns : List (List ℕ)). endsOnce ns ≡ true) (g .nexts-are) e) (known-bare s) (ap bareHeld first-file)
       (counted-bare (firstSet s (g .first)) true (g .first) refl refl (g .volume .count))
-      (subst (λ (x : List ℕ). freshNumbers x (flat (map serialsOfVolume (g .rest))) ≡ true) (sym (append-nil (serialsOfVolume (bareContents (g .first))) ∙ volume-serials-bare (g .first))) z₂)
-      (ap layersUsed last-is ∙ used-set-bare (last .taken) s ∙ g .used) (ap countedAll last-is ∙ counted-set-bare (last .taken) s ∙ g .counted)
+      (subst (λ (x : List ℕ). freshNumbers x (flat (map serialsOfVolume (g .rest))) ≡ true) (sym (append-nil (serialsOfVolume (bareContents (g .first))) ∙ volume-serials (g .first))) z₂)
+      (ap layersUsed last-is ∙ layers-bare s ∙ g .used) (ap countedAll last-is ∙ all-bare s ∙ g .counted)
       ∙ ap accepted last-is
 
   -- reading the lines of the fixed form gives the set again, places apart

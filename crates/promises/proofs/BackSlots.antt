@@ -1,28 +1,26 @@
 -- Lines written and read again, one after the other: the lines of a volume, what a text leads to, and the slots of a block.
 use Prim.Native.Nat.{ℕ, zero, suc}
 use mathlib.Core.Bool.{Bool, true, false, cond, _&&_, _||_, not}
-use mathlib.Core.List.{List, [], _∷_, _++_}
+use mathlib.Core.List.{List, [], _∷_}
 use mathlib.Core.Option.{Option, none, some}
 use mathlib.Core.Path.{_≡_, refl, sym, _∙_, ap, subst}
 use lib.ListN.{getD, set}
-use borrow.Author.Tests.{not-true, le-leb}
-use native.Mathlib.Omega.{arith}
+use borrow.Author.Tests.{not-true}
 use Rattle.rules.specs.declared.Digits.{Digits}
 use Rattle.rules.specs.Base.{bytes, all, isNil, isSome}
 use Rattle.rules.specs.RefusalNumbers.{got}
 use Rattle.rules.specs.Lines.{close, formOf}
-use Rattle.rules.specs.RangeClass.{digits, reaches}
+use Rattle.rules.specs.RangeClass.{reaches}
 use Rattle.rules.specs.Values.{Value, empty, nums, chars, linked, Known, Kind, values, text, word, volumeName, sheet, ratio, serials, nothing, opens, headed, either}
 use Rattle.rules.specs.Rows.{Rule, Slots, blank, marks, entry, begin, innerOf, act, present, complete}
 use Rattle.rules.specs.Sets.{Set}
 use Rattle.rules.specs.Machine.{Line, Env, State, stepIn, run}
-use Rattle.rules.specs.FixedForm.{Text, opensBlock, behind, lineOf, showValue, showSlots}
+use Rattle.rules.specs.FixedForm.{Text, opensBlock, lineOf, showValue, showSlots}
 use Rattle.rules.specs.Answers.{fullClass}
-use Rattle.rules.proofs.Chains.{and-left, and-right, and-true, clash}
+use Rattle.rules.proofs.Chains.{and-left, and-right, clash}
 use Rattle.rules.proofs.Rows.{Row, here, there, differ, row-all, row-find}
 use Rattle.promises.specs.PlacesApart.{bareValue, bareSlots, bareForm}
 use Rattle.promises.proofs.Good.{GoodRow, GoodSlots, writtenAct}
-use Rattle.promises.proofs.Values.{nameless, show-nameless}
 
 -- ── the lines ──
 -- a text line as a line of the reading, with no places: the last of its volume or not, and the name of the volume that follows
@@ -81,15 +79,6 @@ abbrev pub Free : Slots → ℕ → Type 0
 Free [] i = ⊥
 Free (o ∷ u) zero = o ≡ none
 Free (o ∷ u) (suc i) = Free u i
-
-pub bare-blank : (t : List Rule) → bareSlots (blank t) ≡ blank t
-bare-blank [] = refl
-bare-blank (r ∷ t) = ap (λ u. none ∷ u) (bare-blank t)
-
-pub marks-bare : (s : Slots) → marks (bareSlots s) ≡ marks s
-marks-bare [] = refl
-marks-bare (none ∷ s) = ap (λ u. false ∷ u) (marks-bare s)
-marks-bare (some v ∷ s) = ap (λ u. true ∷ u) (marks-bare s)
 
 pub free-mark : (u : Slots) (i : ℕ) → Free u i → getD (marks u) i false ≡ false
 free-mark [] i f = refl
@@ -251,26 +240,6 @@ pub read-calm : (next : List ℕ) (k : Known) (inner : ℕ → Text → Text) (P
 read-calm next k inner P K t s c a g =
     read-slots next k inner P K t s g
     (λ i r v w e p u f. entered next k inner r v (K u) (K (set u i (some (bareValue v)))) (calm-row w c v) (a i r v w p u f (calm-row w c v)))
-
--- a row that names neither symbols nor layers is written alike whatever is known
-pub line-any : (r : Rule) → nameless (r .holds) ≡ true → (k k′ : Known) (v : Value) → lineOf k r v ≡ lineOf k′ r v
-line-any r e k k′ v = ap (λ c. r .key ++ c) (go (r .holds) e)
-  where
-    go : (d : Kind) → nameless d ≡ true → behind k d v ≡ behind k′ d v
-    go (values p ps a) e = rw (show-nameless (values p ps a) e k k′ v)
-    go (text n b) e = rw (show-nameless (text n b) e k k′ v)
-    go (word n b) e = rw (show-nameless (word n b) e k k′ v)
-    go volumeName e = rw (show-nameless volumeName e k k′ v)
-    go sheet e = rw (show-nameless sheet e k k′ v)
-    go ratio e = rw (show-nameless ratio e k k′ v)
-    go serials e = rw (show-nameless serials e k k′ v)
-    go nothing e = refl
-    go (opens i) e = refl
-    go (headed i p) e = rw (show-nameless (headed i p) e k k′ v)
-    go (either i) e = rw (show-nameless (either i) e k k′ v)
-
-pub reaches-none : (d : Digits) → reaches d (digits 0 0) ≡ true
-reaches-none d = and-true _ _ (le-leb 0 (d .middle) (omega arith)) (le-leb 0 (d .last) (omega arith))
 
 -- what a closed block must have is there
 needed : (P : Rule → Value → Type 0) (d : Digits) {t : List Rule} {i : ℕ} {r : Rule} → Row t i r → (s : Slots) → GoodSlots P t s → complete d t (marks s) ≡ true

@@ -6,14 +6,13 @@ use mathlib.Core.Option.{Option, none, some}
 use mathlib.Core.Path.{_≡_, refl, sym, _∙_, ap, subst}
 use lib.Dec.{leb}
 use lib.ListN.{length, getD, set}
-use borrow.Author.Tests.{not-true}
 use Rattle.rules.specs.declared.Digits.{Digits}
 use Rattle.rules.specs.Base.{bytes, all, isNil, isNone, among}
 use Rattle.rules.specs.RefusalNumbers.{got}
 use Rattle.rules.specs.Lines.{formOf}
 use Rattle.rules.specs.RangeClass.{digits, digitsOf, reaches}
 use Rattle.rules.specs.Values.{Value, nums, Known, charsOf}
-use Rattle.rules.specs.Rows.{Rule, row, Slots, blank, marks, slotValue, innerOf, present, complete}
+use Rattle.rules.specs.Rows.{Rule, Slots, blank, marks, slotValue, innerOf, present, complete}
 use Rattle.rules.specs.Blocks.{definesTable, symbolTable}
 use Rattle.rules.specs.Figures.{figureTable, mostPoints, pointTable}
 use Rattle.rules.specs.Sets.{Point, Figure, plain, chain, lettering, placed, Symbol, Set, withSymbol, symbolOwn, symbolFigures, symbolHidden, symbolOrder, rangeOf, defineRange, symbolNameOf, knownOf}
@@ -21,14 +20,14 @@ use Rattle.rules.specs.Machine.{inElement, top, defines, symbol, hide, figures,
 use Rattle.rules.specs.FixedForm.{Text, opensBlock, lineOf, openLine, showSlots, showValue, showSlot, showFigure, showFigures, symbolInner, exchanged, showSymbol, showSymbols, showDefines}
 use Rattle.rules.specs.RecordTable.{ruleAt}
 use Rattle.rules.proofs.Chains.{and-left, and-right, or-true, clash, map-append, nil-map}
-use Rattle.rules.proofs.Rows.{Row, here, there, row-all, row-at}
+use Rattle.rules.proofs.Rows.{Row, here, there, row-all, row-at, reaches-none}
 use Rattle.promises.specs.PlacesApart.{bareValue, bareSlots, barePoint, bareFigure, bareSymbol}
-use Rattle.promises.proofs.Good.{Always, GoodSlots, GoodShape, GoodShapes, GoodPoints, GoodSymbol, GoodSymbols, GoodDefines, fresh}
-use Rattle.promises.proofs.Values.{nameless}
-use Rattle.promises.proofs.BackBare.{chars-bare, name-bare}
-use Rattle.promises.proofs.BackSlots.{lineFor, plainEnv, close-form, retaken, Reads, one-line, no-lines, _and_, marks-bare, act-entry, act-begin, entered, opened, line-any, reaches-none}
+use Rattle.promises.proofs.Good.{Always, GoodSlots, GoodShape, GoodShapes, GoodPoints, GoodSymbol, GoodSymbols, GoodDefines, fresh, InSlot}
+use Rattle.promises.proofs.BackSlots.{lineFor, plainEnv, close-form, retaken, Reads, one-line, no-lines, _and_, act-entry, act-begin, entered, opened}
 use Rattle.promises.proofs.BackFile.{sound, sound-differ, sound-plain}
-use Rattle.promises.proofs.BackFigures.{takenPoints, takenFigure, takenFigures, isLine, plain-line, read-chain, read-text, read-hidden}
+use Rattle.promises.proofs.BackFigures.{takenPoints, takenFigure, takenFigures, plain-line, read-chain, read-text, read-hidden}
+use Rattle.promises.proofs.Bare.{chars-bare, marks-bare, name-bare}
+use Rattle.promises.proofs.Nameless.{nameless, line-any}
 
 figure-plain : all (λ r. nameless (r .holds)) figureTable ≡ true
 unfolding figureTable
@@ -36,24 +35,24 @@ figure-plain = refl
 
 -- ── the figures of a symbol ──
 module _ (next : List ℕ) (k : Known) (S : Set) (y : Symbol) where
-  read-shape : (n : ℕ) (fs : List Figure) (f : Figure) → GoodShape (rangeOf S) f → isLine figureTable f ≡ true
+  read-shape : (n : ℕ) (fs : List Figure) (f : Figure) → GoodShape (rangeOf S) f
       → Reads next (figures (retaken n S) (inElement y) fs) (showFigure k false figureTable f) (figures (retaken (takenFigure n f) S) (inElement y) (fs ++ bareFigure f ∷ []))
-  read-shape n fs (plain l j v) g p =
+  read-shape n fs (plain l j v) g =
       let q : ruleAt figureTable j ≡ g .rule = row-at (g .row) (ruleAt [] 0) in
       subst (λ (c : List ℕ). Reads next (figures (retaken n S) (inElement y) fs) (λ ls. c ∷ ls) (figures (retaken (n + 1) S) (inElement y) (fs ++ plain 0 j v ∷ [])))
       (line-any (g .rule) (row-all (λ r. nameless (r .holds)) (g .row) figure-plain) (knownOf S) k (nums v) ∙ ap (λ (r : Rule). lineOf k r (nums v)) (sym q))
       (one-line next (lineOf (knownOf S) (g .rule) (nums v)) (figures (retaken n S) (inElement y) fs) (figures (retaken (n + 1) S) (inElement y) (fs ++ plain 0 j v ∷ []))
-      (plain-line next S n (inElement y) fs j v (g .rule) (g .row) (g .good (knownOf S)) (not-true (opensBlock (g .rule .holds) (nums v)) (rw q at p))))
-  read-shape n fs (chain l ps) g p = read-chain next k S n (inElement y) fs ps g
-  read-shape n fs (lettering l o) g p = read-text next k S n (inElement y) fs o g
-  read-shape n fs (placed l h) g p = absurd g
+      (plain-line next S n (inElement y) fs j v (g .rule) (g .row) (g .good (knownOf S)) (g .alone)))
+  read-shape n fs (chain l ps) g = read-chain next k S n (inElement y) fs ps g
+  read-shape n fs (lettering l o) g = read-text next k S n (inElement y) fs o g
+  read-shape n fs (placed l h) g = absurd g
 
-  read-shapes : (n : ℕ) (fs gs : List Figure) → GoodShapes (rangeOf S) gs → all (isLine figureTable) gs ≡ true
+  read-shapes : (n : ℕ) (fs gs : List Figure) → GoodShapes (rangeOf S) gs
       → Reads next (figures (retaken n S) (inElement y) fs) (showFigures k false figureTable gs) (figures (retaken (takenFigures n gs) S) (inElement y) (fs ++ map bareFigure gs))
-  read-shapes n fs [] g p = rw (append-nil fs) (no-lines next (figures (retaken n S) (inElement y) fs))
-  read-shapes n fs (f ∷ gs) g p =
-      read-shape n fs f (g .0) (and-left (isLine figureTable f) _ p)
-      and rw (← append-assoc fs (bareFigure f ∷ []) (map bareFigure gs)) (read-shapes (takenFigure n f) (fs ++ bareFigure f ∷ []) gs (g .1) (and-right (isLine figureTable f) _ p))
+  read-shapes n fs [] g = rw (append-nil fs) (no-lines next (figures (retaken n S) (inElement y) fs))
+  read-shapes n fs (f ∷ gs) g =
+      read-shape n fs f (g .0)
+      and rw (← append-assoc fs (bareFigure f ∷ []) (map bareFigure gs)) (read-shapes (takenFigure n f) (fs ++ bareFigure f ∷ []) gs (g .1))
 
 -- ── the lines of a symbol ──
 symbol-sound : sound symbolTable ≡ true
@@ -95,13 +94,13 @@ module _ (next : List ℕ) (k : Known) (S : Set) (Y : Symbol) (n : ℕ) (y : Sym
       )
 
   symbol-element : Row symbolTable 1 r → getD (marks (y .own)) 1 false ≡ false → opensBlock (r .holds) v ≡ true → innerOf (r .holds) ≡ 1
-      → GoodShapes (rangeOf S) (Y .figures) → all (isLine figureTable) (Y .figures) ≡ true → isNil (Y .figures) ≡ false
+      → GoodShapes (rangeOf S) (Y .figures) → isNil (Y .figures) ≡ false
       → Reads next (symbol (retaken n S) y) (showValue k r v inSymbol) (symbol (retaken (takenFigures n (Y .figures)) S) (symbolFigures (map bareFigure (Y .figures)) (having 1)))
-  symbol-element w m o i good lines some′ =
+  symbol-element w m o i good some′ =
       opened next k inSymbol r v (symbol (retaken n S) y) (figures (retaken n S) (inElement (having 1)) []) (symbol (retaken (takenFigures n (Y .figures)) S) (symbolFigures (map bareFigure (Y .figures)) (having 1))) o
       (symbol-opens 1 w m o ∙ ap (openSymbol (retaken n S) (having 1)) i)
       (rw i
-      (read-shapes next k S (having 1) n [] (Y .figures) good lines
+      (read-shapes next k S (having 1) n [] (Y .figures) good
       and one-line next (bytes "}") (figures (retaken (takenFigures n (Y .figures)) S) (inElement (having 1)) (map bareFigure (Y .figures)))
       (symbol (retaken (takenFigures n (Y .figures)) S) (symbolFigures (map bareFigure (Y .figures)) (having 1)))
       (close-figures next (retaken (takenFigures n (Y .figures)) S) (having 1) (map bareFigure (Y .figures)) (nil-map bareFigure (Y .figures) ∙ some′))))
@@ -121,10 +120,6 @@ module _ (next : List ℕ) (k : Known) (S : Set) (Y : Symbol) (n : ℕ) (y : Sym
 
 -- ── a symbol: name, `element`, `hide` in the order written, `wall` ──
 -- a slot that must be there, and what stands behind it
-abbrev SlotGood : (Rule → Value → Type 0) → Rule → Option Value → Type 0
-SlotGood P r none = Unit {0}
-SlotGood P r (some v) = P r v
-
 take-needed : (P : Rule → Value → Type 0) (d : Digits) (r : Rule) (t : List Rule) (s : Slots) → GoodSlots P (r ∷ t) s → complete d (r ∷ t) (marks s) ≡ true → (r .must && reaches d (r .least)) ≡ true
     → (v : Value) × (u : Slots) × (s ≡ some v ∷ u) × P r v × GoodSlots P t u × (complete d t (marks u) ≡ true)
 take-needed P d r t [] g c e = absurd g
@@ -136,7 +131,7 @@ take-needed P d r t (none ∷ s) g c e = absurd (go (r .must) (reaches d (r .lea
     go false b e f = clash e refl
 take-needed P d r t (some v ∷ s) g c e = (v, s, refl, g .0, g .1, and-right (present d r true) _ c)
 
-take-last : (P : Rule → Value → Type 0) (r : Rule) (s : Slots) → GoodSlots P (r ∷ []) s → (o : Option Value) × (s ≡ o ∷ []) × SlotGood P r o
+take-last : (P : Rule → Value → Type 0) (r : Rule) (s : Slots) → GoodSlots P (r ∷ []) s → (o : Option Value) × (s ≡ o ∷ []) × InSlot P r o
 take-last P r [] g = absurd g
 take-last P r (none ∷ []) g = (none, refl, tt)
 take-last P r (none ∷ o ∷ s) g = absurd g
@@ -153,7 +148,7 @@ symbolOf own fs ps b = record { line = 0; own = own; figures = fs; hidden = ps; 
 abbrev ruleOf : ℕ → Rule
 ruleOf i = ruleAt symbolTable i
 
-module _ (next : List ℕ) (k : Known) (S : Set) (Y : Symbol) (n : ℕ) (shown : GoodShapes (rangeOf S) (Y .figures)) (lines : all (isLine figureTable) (Y .figures) ≡ true) (some-shown : isNil (Y .figures) ≡ false)
+module _ (next : List ℕ) (k : Known) (S : Set) (Y : Symbol) (n : ℕ) (shown : GoodShapes (rangeOf S) (Y .figures)) (some-shown : isNil (Y .figures) ≡ false)
     (hidden : GoodPoints false (Y .hidden)) (few : leb (length (Y .hidden)) mostPoints ≡ true) where
   abbrev Good : Rule → Value → Type 0
   Good = Always (digitsOf (defineRange S))
@@ -167,7 +162,7 @@ module _ (next : List ℕ) (k : Known) (S : Set) (Y : Symbol) (n : ℕ) (shown :
   new-name : (y : Symbol) (c : List ℕ) → symbolNameOf y ≡ c → not (among c (knownOf S .symbols)) ≡ true → newName S y ≡ true
   new-name y c e h = rw (e, h) (or-true (isNil c))
 
-  module _ (a b c : Value) (w : Option Value) (ga : Good (ruleOf 0) a) (gb : Good (ruleOf 1) b) (gc : Good (ruleOf 2) c) (gw : SlotGood Good (ruleOf 3) w)
+  module _ (a b c : Value) (w : Option Value) (ga : Good (ruleOf 0) a) (gb : Good (ruleOf 1) b) (gc : Good (ruleOf 2) c) (gw : InSlot Good (ruleOf 3) w)
       (new : not (among (charsOf a) (knownOf S .symbols)) ≡ true) where
     abbrev va : Option Value
     va = some (bareValue a)
@@ -184,7 +179,7 @@ module _ (next : List ℕ) (k : Known) (S : Set) (Y : Symbol) (n : ℕ) (shown :
         symbol-entry next k S Y n (symbolOf (blank symbolTable) [] [] false) (ruleOf 0) a ga 0 here refl refl
         (new-name (symbolOf (va ∷ none ∷ none ∷ none ∷ []) [] [] false) (charsOf a) (chars-bare a) new)
 
-    read-wall : (m : ℕ) (w : Option Value) → SlotGood Good (ruleOf 3) w → (h : Bool)
+    read-wall : (m : ℕ) (w : Option Value) → InSlot Good (ruleOf 3) w → (h : Bool)
         → Reads next (symbol (retaken m S) (symbolOf (va ∷ vb ∷ vc ∷ none ∷ []) fs ps h)) (showSlot k (ruleOf 3) w (symbolInner k Y)) (symbol (retaken m S) (symbolOf (va ∷ vb ∷ vc ∷ bareSlots (w ∷ [])) fs ps h))
     unfolding symbolTable
     read-wall m none g h = no-lines next (symbol (retaken m S) (symbolOf (va ∷ vb ∷ vc ∷ none ∷ []) fs ps h))
@@ -198,13 +193,13 @@ module _ (next : List ℕ) (k : Known) (S : Set) (Y : Symbol) (n : ℕ) (shown :
     unfolding symbolTable
     read-symbol-slots false =
         read-name
-        and symbol-element next k S Y n (symbolOf (va ∷ none ∷ none ∷ none ∷ []) [] [] false) (ruleOf 1) b gb (there here) refl refl refl shown lines some-shown
+        and symbol-element next k S Y n (symbolOf (va ∷ none ∷ none ∷ none ∷ []) [] [] false) (ruleOf 1) b gb (there here) refl refl refl shown some-shown
         and symbol-hide next k S Y (takenFigures n (Y .figures)) (symbolOf (va ∷ vb ∷ none ∷ none ∷ []) fs [] false) (ruleOf 2) c gc (there (there here)) refl refl refl hidden few
         and read-wall (takenPoints (takenFigures n (Y .figures)) (Y .hidden)) w gw false
     read-symbol-slots true =
         read-name
         and symbol-hide next k S Y n (symbolOf (va ∷ none ∷ none ∷ none ∷ []) [] [] false) (ruleOf 2) c gc (there (there here)) refl refl refl hidden few
-        and symbol-element next k S Y (takenPoints n (Y .hidden)) (symbolOf (va ∷ none ∷ vc ∷ none ∷ []) [] ps true) (ruleOf 1) b gb (there here) refl refl refl shown lines some-shown
+        and symbol-element next k S Y (takenPoints n (Y .hidden)) (symbolOf (va ∷ none ∷ vc ∷ none ∷ []) [] ps true) (ruleOf 1) b gb (there here) refl refl refl shown some-shown
         and read-wall (takenFigures (takenPoints n (Y .hidden)) (Y .figures)) w gw true
 
 -- the slots of a symbol: only `wall` may be missing
@@ -217,7 +212,7 @@ record SymbolSlots (P : Rule → Value → Type 0) (own : Slots) : Type 0 where
   name-good : P (ruleAt symbolTable 0) name
   element-good : P (ruleAt symbolTable 1) element
   hide-good : P (ruleAt symbolTable 2) hide
-  wall-good : SlotGood P (ruleAt symbolTable 3) wall
+  wall-good : InSlot P (ruleAt symbolTable 3) wall
 
 four : (own s₀ s₁ s₂ : Slots) (a b c o : Option Value) → own ≡ a ∷ s₀ → s₀ ≡ b ∷ s₁ → s₁ ≡ c ∷ s₂ → s₂ ≡ o ∷ [] → own ≡ a ∷ b ∷ c ∷ o ∷ []
 four own s₀ s₁ s₂ a b c o e₀ e₁ e₂ e₃ = rw (e₀, e₁, e₂, e₃)
@@ -257,13 +252,10 @@ abbrev pub takenSymbols : ℕ → List Symbol → ℕ
 takenSymbols n [] = n
 takenSymbols n (y ∷ ys) = takenSymbols (takenSymbol n y) ys
 
-abbrev pub linesIn : Symbol → Bool
-linesIn y = all (isLine figureTable) (y .figures)
-
-read-symbol : (next : List ℕ) (k : Known) (S : Set) (n : ℕ) (Y : Symbol) → GoodSymbol (defineRange S) (rangeOf S) Y → linesIn Y ≡ true → not (among (symbolNameOf Y) (knownOf S .symbols)) ≡ true
+read-symbol : (next : List ℕ) (k : Known) (S : Set) (n : ℕ) (Y : Symbol) → GoodSymbol (defineRange S) (rangeOf S) Y → not (among (symbolNameOf Y) (knownOf S .symbols)) ≡ true
     → reaches (digitsOf (defineRange S)) (digits 0 1) ≡ true
     → Reads next (defines (retaken n S) false) (showSymbol k Y) (defines (retaken (takenSymbol n Y) (withSymbol (bareSymbol Y) S)) false)
-read-symbol next k S n Y g lines new level =
+read-symbol next k S n Y g new level =
     one-line next (openLine (bytes "E_symbol")) (defines (retaken n S) false) (symbol (retaken (n + 1) S) (symbolOf (blank symbolTable) [] [] false)) (opens-define next S n level)
     and inside
     and one-line next (bytes "}") (symbol (retaken (takenSymbol n Y) S) (bareSymbol Y)) (defines (retaken (takenSymbol n Y) (withSymbol (bareSymbol Y) S)) false)
@@ -278,21 +270,21 @@ read-symbol next k S n Y g lines new level =
         subst (λ (o : Slots). Reads next (symbol (retaken (n + 1) S) (symbolOf (blank symbolTable) [] [] false)) (showSlots k (exchanged (Y .hideFirst) symbolTable) (exchanged (Y .hideFirst) o) (symbolInner k Y))
         (symbol (retaken (takenSymbol n Y) S) (symbolOf (bareSlots o) (map bareFigure (Y .figures)) (map barePoint (Y .hidden)) (Y .hideFirst))))
         (sym (slots .is))
-        (read-symbol-slots next k S Y (n + 1) (g .shown) lines (g .some-shown) (g .hidden) (g .few-hidden) (slots .name) (slots .element) (slots .hide) (slots .wall) (slots .name-good) (slots .element-good)
+        (read-symbol-slots next k S Y (n + 1) (g .shown) (g .some-shown) (g .hidden) (g .few-hidden) (slots .name) (slots .element) (slots .hide) (slots .wall) (slots .name-good) (slots .element-good)
         (slots .hide-good) (slots .wall-good) (rw (symbol-name (Always (digitsOf (defineRange S))) Y slots) at new) (Y .hideFirst))
 
 -- ── SYMBOL_DEFINE ──
 abbrev pub withSymbols : List Symbol → Set → Set
 withSymbols ys s = record { drawing = s .drawing; symbols = s .symbols ++ ys; volumes = s .volumes; now = s .now; taken = s .taken }
 
-read-symbols : (next : List ℕ) (k : Known) (S : Set) (n : ℕ) (ys : List Symbol) → GoodSymbols (defineRange S) (rangeOf S) ys → all linesIn ys ≡ true
+read-symbols : (next : List ℕ) (k : Known) (S : Set) (n : ℕ) (ys : List Symbol) → GoodSymbols (defineRange S) (rangeOf S) ys
     → fresh (map symbolNameOf (S .symbols)) (map symbolNameOf ys) ≡ true → (isNil ys || reaches (digitsOf (defineRange S)) (digits 0 1)) ≡ true
     → Reads next (defines (retaken n S) false) (showSymbols k ys) (defines (retaken (takenSymbols n ys) (withSymbols (map bareSymbol ys) S)) false)
-read-symbols next k S n [] g l f e = rw (append-nil (S .symbols)) (no-lines next (defines (retaken n S) false))
-read-symbols next k S n (y ∷ ys) g l f e =
-    read-symbol next k S n y (g .0) (and-left (linesIn y) _ l) (and-left (not (among (symbolNameOf y) (map symbolNameOf (S .symbols)))) _ f) e
+read-symbols next k S n [] g f e = rw (append-nil (S .symbols)) (no-lines next (defines (retaken n S) false))
+read-symbols next k S n (y ∷ ys) g f e =
+    read-symbol next k S n y (g .0) (and-left (not (among (symbolNameOf y) (map symbolNameOf (S .symbols)))) _ f) e
     and rw (← append-assoc (S .symbols) (bareSymbol y ∷ []) (map bareSymbol ys))
-    (read-symbols next k (withSymbol (bareSymbol y) S) (takenSymbol n y) ys (g .1) (and-right (linesIn y) _ l)
+    (read-symbols next k (withSymbol (bareSymbol y) S) (takenSymbol n y) ys (g .1)
     (rw (map-append symbolNameOf (S .symbols) (bareSymbol y ∷ []), name-bare y) (and-right (not (among (symbolNameOf y) (map symbolNameOf (S .symbols)))) _ f)) (rw e (or-true (isNil ys))))
 
 non-line : (next : List ℕ) (S : Set) → isNil (S .symbols) ≡ true → stepIn plainEnv (lineFor next false (bytes "NON=")) (defines S false) ≡ got (defines S true)
@@ -303,15 +295,15 @@ close-defines : (next : List ℕ) (S : Set) (b : Bool) → (b || not (isNil (S .
 unfolding definesTable
 close-defines next S b e = rw (close-form, e)
 
-pub read-defines : (next : List ℕ) (k : Known) (S : Set) (n : ℕ) (ys : List Symbol) → isNil (S .symbols) ≡ true → GoodDefines (defineRange S) (rangeOf S) ys → all linesIn ys ≡ true
+pub read-defines : (next : List ℕ) (k : Known) (S : Set) (n : ℕ) (ys : List Symbol) → isNil (S .symbols) ≡ true → GoodDefines (defineRange S) (rangeOf S) ys
     → Reads next (defines (retaken n S) false) (λ ls. showDefines k ys (bytes "}" ∷ ls)) (top (retaken (takenSymbols n ys) (withSymbols (map bareSymbol ys) S)) 3)
-read-defines next k S n [] z g l =
+read-defines next k S n [] z g =
     rw (append-nil (S .symbols))
     (one-line next (bytes "NON=") (defines (retaken n S) false) (defines (retaken n S) true) (non-line next (retaken n S) z)
     and one-line next (bytes "}") (defines (retaken n S) true) (top (retaken n S) 3) (close-defines next (retaken n S) true refl))
-read-defines next k S n (y ∷ ys) z g l =
+read-defines next k S n (y ∷ ys) z g =
     let T = retaken (takenSymbols n (y ∷ ys)) (withSymbols (map bareSymbol (y ∷ ys)) S) in
-    read-symbols next k S n (y ∷ ys) (g .0) l (subst (λ (u : List (List ℕ)). fresh u (map symbolNameOf (y ∷ ys)) ≡ true) (nil (S .symbols) z) (g .1)) (g .2)
+    read-symbols next k S n (y ∷ ys) (g .0) (subst (λ (u : List (List ℕ)). fresh u (map symbolNameOf (y ∷ ys)) ≡ true) (nil (S .symbols) z) (g .1)) (g .2)
     and one-line next (bytes "}") (defines T false) (top T 3) (close-defines next T false (some′ (S .symbols)))
   where
     nil : (s : List Symbol) → isNil s ≡ true → [] ≡ map symbolNameOf s

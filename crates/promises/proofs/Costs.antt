@@ -5,19 +5,15 @@ use mathlib.Core.List.{List, [], _∷_, _++_}
 use mathlib.Core.Path.{_≡_, refl, ap}
 use native.Mathlib.Omega.{arith}
 use lib.ListN.{length}
-use Rattle.rules.specs.Base.{bytes, isNil, total}
+use Rattle.rules.specs.Base.{bytes, isNil}
 use Rattle.rules.specs.Values.{Known}
 use Rattle.rules.specs.Rows.{Rule, Held}
 use Rattle.rules.specs.Blocks.{symbolTable}
 use Rattle.rules.specs.Figures.{layerTable, textTable, placedTables}
 use Rattle.rules.specs.Sets.{Figure, Drawing, Symbol, Contents, Set, withNow, withSymbol, withVolume, withBlock, isFirst, isSingle, knownOf}
 use Rattle.rules.specs.Machine.{Home, inElement, inLayer, State, top, file, drawing, layerNames, defines, symbol, hide, elements, figures, successive, texts, placing, skipping, ended, isLayer, homeTable}
+use Rattle.rules.proofs.Chains.{total-more}
 use Rattle.promises.proofs.Weights.{slotsCost, heldCost, blockCost, pointsCost, figuresCost, drawingCost, symbolCost, ownCost, symbolsCost, own-cost, nonCost, layerHead, blocksCost, fileCost, elementCost, headCost, latersCost, volumesCost}
-
--- a list with one thing more
-pub total-more : {A : Type 0} (f : A → ℕ) (s : List A) (a : A) → total f (s ++ a ∷ []) ≡ total f s + f a
-total-more f [] a = omega arith
-total-more f (b ∷ s) a = omega (arith, total-more f s a)
 
 -- the closing lines of the inner parts that are open
 abbrev pub depth : ℕ → ℕ

@@ -5,139 +5,28 @@ use mathlib.Core.List.{List, [], _∷_, _++_, map}
 use mathlib.Core.Option.{some}
 use mathlib.Core.Path.{_≡_, refl, subst}
 use native.Mathlib.Omega.{arith}
-use borrow.Author.Tests.{eqb-true}
 use lib.Dec.{eqb, leb, ltb}
 use lib.ListN.{length, getD, set}
+use borrow.Author.Tests.{eqb-true}
 use Rattle.rules.specs.declared.Digits.{Digits}
-use Rattle.rules.specs.Base.{isNil, all, split, among, hasNumber}
-use Rattle.rules.specs.RefusalNumbers.{Got, got, bad, unless, mapG, andThen, orBad, keep, also}
-use Rattle.rules.specs.Lines.{Rest, Form, ignored, wrong, close, eof, keyed, Shape, opener, noContent, content, opening, formless, shapeOf, freeShapeOf, hasForm}
+use Rattle.rules.specs.Base.{isNil, among, hasNumber}
+use Rattle.rules.specs.RefusalNumbers.{Got, got, bad, mapG, also}
+use Rattle.rules.specs.Lines.{Rest, Form, ignored, wrong, close, eof, keyed, freeShapeOf}
 use Rattle.rules.specs.RangeClass.{digits, digitsOf, reaches, exceeds, both, Skip, passes, deeper, noForm, skipOf, mostDepth}
-use Rattle.rules.specs.Values.{Value, nums, chars, Known, Kind, values, text, word, volumeName, sheet, ratio, serials, nothing, opens, headed, either, byteIn, lettersAndDigits, capital, readAll, agree, readPart, range, findSheet, sheets, readRatio, mostPartners, readSerials, readKind, linkedOf, numsOf, amountAt, isLayerId}
-use Rattle.rules.specs.Rows.{Rule, Found, absent, found, find, Slots, blank, Held, partOf, enter, marks, fullAt, fits, shapeFor, Act, stay, entry, begin, shut, refuse, orRefuse, innerOf, readShape, notTwice, actRow, actUnknown, actFound, complete, act}
-use Rattle.rules.specs.Blocks.{topTable, fileTables, drawingTable, definesTable, symbolTable, elementTable, mostLayers, around, blankHeld}
+use Rattle.rules.specs.Values.{Value, Known, numsOf, amountAt, isLayerId}
+use Rattle.rules.specs.Rows.{Rule, Found, absent, found, find, Slots, Held, partOf, marks, fullAt, Act, stay, entry, begin, shut, refuse, actRow, actUnknown, act}
+use Rattle.rules.specs.Blocks.{topTable, fileTables, drawingTable, definesTable, symbolTable, elementTable, mostLayers, around}
 use Rattle.rules.specs.Figures.{pointTable, textTable, placedTable, placedTables, leastPoints}
-use Rattle.rules.specs.Sets.{Point, Figure, plain, chain, lettering, placed, Drawing, Symbol, Contents, Set, nothingYet, isFirst, arcOf, defineRange, rangeOf, knownOf, usedIn, symbolOwn}
+use Rattle.rules.specs.Sets.{Point, Figure, plain, chain, lettering, placed, Drawing, Symbol, Set, nothingYet, isFirst, arcOf, defineRange, rangeOf, knownOf, usedIn, symbolOwn}
 use Rattle.rules.specs.VolumesAndTotals.{chained, dated, countedHere, countedAll, layersUsed}
 use Rattle.rules.specs.Machine.{Line, Env, Home, inElement, inLayer, State, top, file, drawing, layerNames, defines, symbol, hide, elements, figures, successive, texts, placing, skipping, ended, byAct, roomFor, openTop, onTop, closeFile, shutPart, onFile, onDrawing, layerValue, onLayerNames, onDefines, newName, openSymbol, onSymbol, onHide, onElements, isLayer, homeTable, closeFigures, openFigure, onFigures, onSuccessive, onTexts, bySkip, skipDeeper, onUnknown, newSerial, onPlaced, onPlacedKey, onPlacedOwn, onPlacing, onSkipping, stepIn, completes, nextVolume, step, Outcome, refused, accepted, thenRun, finish, run}
-use Rattle.rules.proofs.Chains.{On, on-unless, on-cond, on-map, on-then, on-also, by-cond}
-use Rattle.rules.proofs.Rows.{Row, here, there, found-row}
 use Rattle.rules.specs.RecordTable.{recordsOf}
+use Rattle.rules.proofs.Chains.{On, on-unless, on-cond, on-then, on-also}
+use Rattle.rules.proofs.Rows.{found-row, row-below}
 use Rattle.promises.specs.PlacesApart.{bareSet, placesApart}
-use Rattle.promises.proofs.RecordPlaces.{records-bare, isText, FitValue, FitSlots, FitHeld, Each, FitFigure, FitSymbol, FitBlock, FitContents, FitVolumes, FitSet}
-
--- ── lists, slots ──
-each-more : {A : Type 0} (P : A → Type 0) (s : List A) (a : A) → Each P s → P a → Each P (s ++ a ∷ [])
-each-more P [] a g x = (x, tt)
-each-more P (b ∷ s) a g x = (g .0, each-more P s a (g .1) x)
-
-volume-more : (vs : List Contents) (v : Contents) → FitVolumes vs → FitContents (isNil vs) v → FitVolumes (vs ++ v ∷ [])
-volume-more [] v g x = (x, tt)
-volume-more (u ∷ us) v g x = (g .0, each-more (FitContents false) us v (g .1) x)
-
-fit-nil : (t : List Rule) → FitSlots t []
-fit-nil [] = tt
-fit-nil (r ∷ t) = (tt, fit-nil t)
-
-pub fit-blank : (t : List Rule) → FitSlots t (blank t)
-fit-blank [] = tt
-fit-blank (r ∷ t) = (tt, fit-blank t)
-
-pub fit-set : {t : List Rule} {j : ℕ} {r : Rule} → Row t j r → (s : Slots) (v : Value) → FitSlots t s → FitValue (isText (r .holds)) v → FitSlots t (set s j (some v))
-fit-set here [] v g x = g
-fit-set here (o ∷ s) v g x = (x, g .1)
-fit-set (there w) [] v g x = g
-fit-set (there w) (o ∷ s) v g x = (g .0, fit-set w s v (g .1) x)
-
-pub fit-blanks : (ts : List (List Rule)) → FitHeld ts (blankHeld ts)
-fit-blanks [] p = tt
-fit-blanks (t ∷ ts) zero = fit-blank t
-fit-blanks (t ∷ ts) (suc p) = fit-blanks ts p
-
-pub fit-enter : (ts : List (List Rule)) (h : Held) (p : ℕ) {j : ℕ} {r : Rule} → Row (getD ts p []) j r → (v : Value) → FitHeld ts h → FitValue (isText (r .holds)) v → FitHeld ts (enter h p j v)
-fit-enter ts h p {j} w v g x = go (λ q s. FitSlots (getD ts q []) s) h p (set (partOf h p) j (some v)) g (fit-set w (partOf h p) v (g p) x)
-  where
-    go : (Q : ℕ → Slots → Type 0) (h : Held) (p : ℕ) (s : Slots) → ((q : ℕ) → Q q (getD h q [])) → Q p s → (q : ℕ) → Q q (getD (set h p s) q [])
-    go Q [] p s k y q = k q
-    go Q (o ∷ h) zero s k y zero = y
-    go Q (o ∷ h) zero s k y (suc q) = k (suc q)
-    go Q (o ∷ h) (suc p) s k y zero = k 0
-    go Q (o ∷ h) (suc p) s k y (suc q) = go (λ q. Q (suc q)) h p s (λ q. k (suc q)) y q
-
--- ── what is read ──
-numbers-fit : {A : Type 0} (f : A → Value) → ((a : A) → FitValue false (f a)) → (g : Got A) → On (FitValue false) (mapG f g)
-numbers-fit f h (got a) = h a
-numbers-fit f h (bad n) = tt
-
-on-weak : {A : Type 0} (P Q : A → Type 0) → ((a : A) → P a → Q a) → (g : Got A) → On P g → On Q g
-on-weak P Q f (got a) h = f a h
-on-weak P Q f (bad n) h = tt
-
-pub kind-fit : (k : Known) (d : Kind) (at : ℕ) (c : List ℕ) → On (FitValue (isText d)) (readKind k d at c)
-kind-fit k (values p ps a) at c = numbers-fit nums (λ v. tt) (keep 11 (agree a) (readAll k (p ∷ ps) (split 44 c)))
-kind-fit k (text n b) at c = on-unless (FitValue true) (all (byteIn b) c && leb (length c) n) 11 (got (chars at c)) (λ e. refl)
-kind-fit k (word n b) at c = on-unless (FitValue true) (all (byteIn b) c && leb (length c) n) 11 (got (chars at c)) (λ e. refl)
-kind-fit k volumeName at c = on-unless (FitValue true) (all (byteIn lettersAndDigits) c) 11 (got (chars at (map capital c))) (λ e. refl)
-kind-fit k sheet at c = numbers-fit nums (λ v. tt) (orBad 11 (findSheet c sheets))
-kind-fit k ratio at c = numbers-fit nums (λ v. tt) (readRatio c)
-kind-fit k serials at c = numbers-fit linkedOf linked-fit (keep 11 (λ ns. leb (length ns) (mostPartners + 1)) (readSerials (split 44 c)))
-  where
-    linked-fit : (ns : List ℕ) → FitValue false (linkedOf ns)
-    linked-fit [] = tt
-    linked-fit (n ∷ ps) = tt
-kind-fit k nothing at c = tt
-kind-fit k (opens i) at c = tt
-kind-fit k (headed i p) at c = numbers-fit (λ n. nums (n ∷ [])) (λ v. tt) (readPart k p c)
-kind-fit k (either i) at c = numbers-fit (λ n. nums (n ∷ [])) (λ v. tt) (readPart k (range 0 1) c)
-
--- ── what a line does: the row is one of the table, and what it holds is of the row's kind ──
-abbrev pub FitRow : List Rule → ℕ → Value → Type 0
-FitRow t j v = (r : Rule) × Row t j r × FitValue (isText (r .holds)) v
-
-abbrev pub FitAct : List Rule → Act → Type 0
-FitAct t stay = Unit {0}
-FitAct t (entry j v) = FitRow t j v
-FitAct t (begin i j v) = FitRow t j v
-FitAct t shut = Unit {0}
-FitAct t (refuse n) = Unit {0}
-
-shape-fit : (k : Known) {t : List Rule} {j : ℕ} {r : Rule} → Row t j r → (s : Shape) → On (FitAct t) (readShape k j r s)
-shape-fit k {r = r} w opener = (r, w, tt)
-shape-fit k {r = r} w noContent = (r, w, tt)
-shape-fit k {t} {j} {r} w (content at c) =
-    on-map (FitAct t) (entry j) (readKind k (r .holds) at c) (on-weak (FitValue (isText (r .holds))) _ (λ v x. (r, w, x)) (readKind k (r .holds) at c) (kind-fit k (r .holds) at c))
-shape-fit k {t} {j} {r} w (opening at c) =
-    on-map (FitAct t) (begin (innerOf (r .holds)) j) (readKind k (r .holds) at c) (on-weak (FitValue (isText (r .holds))) _ (λ v x. (r, w, x)) (readKind k (r .holds) at c) (kind-fit k (r .holds) at c))
-shape-fit k w formless = tt
-
-fit-unless : (t : List Rule) (b : Bool) (n : ℕ) (g : Got Act) → FitAct t (orRefuse g) → FitAct t (orRefuse (unless b n g))
-fit-unless t true n g h = h
-fit-unless t false n g h = tt
-
-pub row-fit : (k : Known) (d : Digits) (full : Bool) {t : List Rule} {j : ℕ} {r : Rule} → Row t j r → (c : Rest) → FitAct t (actRow k d full j r c)
-row-fit k d full {t} {j} {r} w c =
-    fit-unless t (hasForm (shapeFor r c)) 5 _
-    (fit-unless t (reaches d (r .least)) 6 _
-    (fit-unless t (fits (r .holds) (r .may) (shapeFor r c)) 5 _
-    (fit-unless t (notTwice (r .times) full) 7 _ (last (readShape k j r (shapeFor r c)) (shape-fit k w (shapeFor r c))))))
-  where
-    last : (g : Got Act) → On (FitAct t) g → FitAct t (orRefuse (andThen g λ a. unless (not full) 11 (got a)))
-    last (got a) h = fit-unless t (not full) 11 (got a) h
-    last (bad n) h = tt
-
-pub unknown-fit : (t : List Rule) (c : Rest) → FitAct t (actUnknown c)
-unknown-fit t c = fit-unless t (hasForm (shapeOf c)) 5 (bad 6) tt
-
-pub act-fit : (k : Known) (t : List Rule) (d : Digits) (full : List Bool) (f : Form) → FitAct t (act k t d full f)
-act-fit k t d full ignored = tt
-act-fit k t d full (wrong n) = tt
-act-fit k t d full close = by-cond (FitAct t) (complete d t full) (λ e. tt) (λ e. tt)
-act-fit k t d full eof = tt
-act-fit k t d full (keyed key c) = go (find key t) refl
-  where
-    go : (f : Found) → find key t ≡ f → FitAct t (actFound k d full c f)
-    go absent e = unknown-fit t c
-    go (found j r) e = row-fit k d (getD full j false) (found-row key t j r e .0) c
+use Rattle.promises.proofs.RecordPlaces.{records-bare}
+use Rattle.promises.proofs.FitSets.{FitSlots, FitHeld, Each, FitFigure, FitSymbol, FitBlock, FitContents, FitSet}
+use Rattle.promises.proofs.FitRows.{each-more, volume-more, fit-nil, fit-blank, fit-set, fit-blanks, fit-enter, FitRow, FitAct, row-fit, unknown-fit, act-fit}
 
 -- ── states ──
 -- the volume at hand
@@ -192,10 +81,6 @@ room e n s = roomFor (e .limit) (s .taken + n)
 top-rows : (j : ℕ) (v : Value) → FitRow topTable j v → j < 4
 unfolding topTable
 top-rows j v w = row-below (w .1)
-  where
-    row-below : {t : List Rule} {j : ℕ} {r : Rule} → Row t j r → j < length t
-    row-below here = omega arith
-    row-below (there w) = let h = row-below w in omega arith
 
 openTop-fit : (e : Env) (l : Line) (s : Set) (k : ℕ) → FitState (top s k) → k < 4 → On FitState (openTop e l s k)
 openTop-fit e l s zero f h = on-unless FitState (room e (cond (isFirst s) 2 1) s) 19 _ λ _. (f .0, fit-blanks (fileTables (isFirst s)))

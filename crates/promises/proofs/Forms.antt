@@ -2,7 +2,7 @@
 use Prim.Native.Nat.{ℕ, _+_, _-_, _≤_}
 use mathlib.Core.Bool.{Bool, true, false, cond, _&&_, _||_, not, true≢false}
 use mathlib.Core.List.{List, [], _∷_, _++_}
-use mathlib.Core.Path.{_≡_, refl, sym, _∙_, ap, subst}
+use mathlib.Core.Path.{_≡_, refl, sym, _∙_, ap}
 use native.Mathlib.Omega.{arith}
 use lib.Dec.{eqb, leb}
 use lib.ListN.{length, take, drop, length-append}
@@ -275,18 +275,6 @@ form-tells at (b ∷ s) =
     by-choose (Tells (length (b ∷ s))) (eqb b 35) _ _ (λ _. tt) λ _.
     tells-more (length (unindent (b ∷ s))) (length (b ∷ s)) (formOfRest (unindent (b ∷ s)) (at + length (b ∷ s))) (unindent-short (b ∷ s))
     (rest-tells (unindent (b ∷ s)) (at + length (b ∷ s)))
-
-pub form-inv : (at : ℕ) (l key c : List ℕ) (p : ℕ) → formOf at l ≡ keyed key (equals p c) → (length key + 1 + length c ≤ length l) × (allowed c ≡ true)
-form-inv at l key c p e = subst (Tells (length l)) e (form-tells at l)
-
-pub form-inv-open : (at : ℕ) (l key : List ℕ) → formOf at l ≡ keyed key brace → length key + 2 ≤ length l
-form-inv-open at l key e = subst (Tells (length l)) e (form-tells at l)
-
-pub form-inv-close : (at : ℕ) (l : List ℕ) → formOf at l ≡ close → 1 ≤ length l
-form-inv-close at l e = subst (Tells (length l)) e (form-tells at l)
-
-pub form-inv-eof : (at : ℕ) (l : List ℕ) → formOf at l ≡ eof → 3 ≤ length l
-form-inv-eof at l e = subst (Tells (length l)) e (form-tells at l)
 
 -- what a form says of a line of n bytes, and that it has no more of them than a line may have
 abbrev pub Told : ℕ → Form → Type 0

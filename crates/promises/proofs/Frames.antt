@@ -1,25 +1,22 @@
 -- The spool that the fixed form makes: its volumes, their lines, and these as lines of the reading with no places.
-use Prim.Native.Nat.{ℕ, zero, suc, _+_, _*_, _≤_, _<_}
-use mathlib.Core.Bool.{Bool, true, false, cond, _&&_, not}
+use Prim.Native.Nat.{ℕ, suc, _+_}
+use mathlib.Core.Bool.{true, not}
 use mathlib.Core.List.{List, [], _∷_, _++_, map}
-use mathlib.Core.Option.{Option, none, some}
-use mathlib.Core.Path.{_≡_, refl, sym, _∙_, ap, ap₂}
+use mathlib.Core.Path.{_≡_, refl, _∙_, ap}
 use native.Mathlib.Omega.{arith}
-use lib.ListN.{length, length-map}
-use borrow.Author.Tests.{leb-true, le-leb, lt-leb}
-use lib.Dec.{eqb, leb}
-use Rattle.rules.specs.Base.{isNil, all, total, within}
-use Rattle.rules.specs.Spool.{Volume, namesOf, linesOf, unlines}
+use lib.ListN.{length}
+use Rattle.rules.specs.Base.{isNil, all}
+use Rattle.rules.specs.Spool.{Volume, namesOf, unlines}
 use Rattle.rules.specs.Machine.{Line}
 use Rattle.rules.specs.FixedForm.{Text}
-use Rattle.rules.specs.Answers.{numbered, linesOfVolume, nextName}
-use Rattle.rules.proofs.Chains.{and-left, and-right, and-true, clash, map-append, all-weaken}
+use Rattle.rules.specs.Answers.{numbered, nextName}
+use Rattle.rules.proofs.Chains.{and-left, and-right, and-true, clash}
 use Rattle.promises.specs.PlacesApart.{bareLine}
 use Rattle.promises.proofs.Forms.{form-place}
 use Rattle.promises.proofs.Frame.{laid, isName, lines-back}
 use Rattle.promises.proofs.GoodLines.{fine}
 use Rattle.promises.proofs.Sizes.{listing, Texts, nextsOfVolumes, someLines}
-use Rattle.promises.proofs.BackSlots.{lineFor, lay, layAll}
+use Rattle.promises.proofs.BackSlots.{lay, layAll}
 
 -- ── the lines of a listing, with no places ──
 numbered-bare : (k : ℕ) (next : List ℕ) (n at : ℕ) (t : Text) (more : List Line) → map bareLine (numbered k next n at t ++ more) ≡ lay next t (map bareLine more)

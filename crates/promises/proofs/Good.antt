@@ -1,5 +1,5 @@
 -- What is true of everything that was read at class 15: each line that the fixed form writes of it reads as the same again.
-use Prim.Native.Nat.{ℕ, zero, suc, _+_, _≤_}
+use Prim.Native.Nat.{ℕ}
 use mathlib.Core.Bool.{Bool, true, false, cond, _&&_, _||_, not}
 use mathlib.Core.List.{List, [], _∷_, _++_, map}
 use mathlib.Core.Option.{Option, none, some}
@@ -8,14 +8,14 @@ use lib.Dec.{eqb, leb}
 use lib.ListN.{length, getD}
 use Rattle.rules.specs.declared.Digits.{Digits}
 use Rattle.rules.specs.Base.{isNil, isSome, among, hasNumber, flat, indexOf}
-use Rattle.rules.specs.RefusalNumbers.{Got, got}
-use Rattle.rules.specs.Lines.{allowed, Rest, brace, equals, Form, keyed, formOf, freeShapeOf}
+use Rattle.rules.specs.RefusalNumbers.{got}
+use Rattle.rules.specs.Lines.{allowed, Rest, brace, equals, keyed, formOf, freeShapeOf}
 use Rattle.rules.specs.RangeClass.{digits, digitsOf, reaches, both}
-use Rattle.rules.specs.Values.{Num, Value, empty, nums, chars, linked, Known, isLayerId, charsOf, amountAt}
+use Rattle.rules.specs.Values.{Num, Value, nums, Known, isLayerId, charsOf, amountAt}
 use Rattle.rules.specs.Rows.{Rule, Slots, blank, Held, partOf, numberOf, marks, complete, Act, entry, begin, innerOf, actRow}
 use Rattle.rules.specs.Blocks.{fileTable, rangeTable, baseTable, elecTable, symTable, laterTable, drawingTable, mostLayers, symbolTable}
 use Rattle.rules.specs.Figures.{layerTable, figureTable, mostPoints, leastPoints, pointTable, textTable, placedTable}
-use Rattle.rules.specs.Sets.{Point, Figure, plain, chain, lettering, placed, Layer, Drawing, Symbol, LayerBlock, Contents, Set, arcOf, rangeOf, defineRange, isSingle, symbolNameOf, knownOf, figureSerial, serialsOfVolume, elementsOf, usedIn}
+use Rattle.rules.specs.Sets.{Point, Figure, plain, chain, lettering, placed, Layer, Drawing, Symbol, LayerBlock, Contents, Set, arcOf, rangeOf, defineRange, isSingle, symbolNameOf, knownOf, serialsOfVolume, elementsOf, usedIn}
 use Rattle.rules.specs.VolumesAndTotals.{ownTable, chained, dated, countedAll, layersUsed}
 use Rattle.rules.specs.Machine.{layerValue}
 use Rattle.rules.specs.FixedForm.{opensBlock, behind, lineOf}
@@ -56,6 +56,15 @@ GoodSlots P [] (o ∷ s) = ⊥
 GoodSlots P (r ∷ t) [] = ⊥
 GoodSlots P (r ∷ t) (none ∷ s) = GoodSlots P t s
 GoodSlots P (r ∷ t) (some v ∷ s) = P r v × GoodSlots P t s
+
+pub good-blank : (P : Rule → Value → Type 0) (t : List Rule) → GoodSlots P t (blank t)
+good-blank P [] = tt
+good-blank P (r ∷ t) = good-blank P t
+
+-- one slot
+abbrev pub InSlot : (Rule → Value → Type 0) → Rule → Option Value → Type 0
+InSlot P r none = Unit {0}
+InSlot P r (some v) = P r v
 
 -- a closed block of the table t: its slots are good, and nothing required at d is missing
 pub record Closed (P : Rule → Value → Type 0) (d : Digits) (t : List Rule) (s : Slots) : Type 0 where

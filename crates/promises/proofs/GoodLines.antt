@@ -14,7 +14,7 @@ use Rattle.rules.specs.Numbers.{isDigit, digitRun}
 use Rattle.rules.specs.Lines.{allowed}
 use Rattle.rules.specs.Spool.{mostInLine}
 use Rattle.rules.specs.Values.{Value, nums, Known, isLayerId, charsOf}
-use Rattle.rules.specs.Rows.{Rule, Slots, blank, Held, partOf}
+use Rattle.rules.specs.Rows.{Rule, Slots, Held, partOf}
 use Rattle.rules.specs.Blocks.{fileTable, rangeTable, baseTable, elecTable, symTable, laterTable, fileTables, drawingTable, symbolTable}
 use Rattle.rules.specs.Figures.{layerTable, figureTable, textTable, placedTable, placedTables}
 use Rattle.rules.specs.Sets.{Point, Figure, plain, chain, lettering, placed, Layer, Drawing, Symbol, LayerBlock, Contents, Set, rangeOf, isSingle, knownOf}
@@ -22,7 +22,7 @@ use Rattle.rules.specs.FixedForm.{Text, openLine, opensBlock, innerOf, lineOf, 
 use Rattle.rules.proofs.Chains.{and-left, and-right, and-true, by-cond}
 use Rattle.rules.proofs.Rows.{row-at}
 use Rattle.promises.proofs.Forms.{layer-key, allowed-append, allowed-key, allowed-equal, plainLine, allowed-plain}
-use Rattle.promises.proofs.Good.{GoodRow, Always, GoodSlots, GoodPart, none0, isOne, GoodFile, GoodLater, GoodPoints, GoodPlaced, GoodText, GoodFigure, GoodFigures, GoodShape, GoodShapes, GoodLayers, GoodDrawing, GoodSymbol, GoodSymbols, GoodBlocks, GoodLaters, GoodSet}
+use Rattle.promises.proofs.Good.{GoodRow, Always, GoodSlots, GoodPart, none0, isOne, GoodFile, GoodLater, GoodPoints, GoodPlaced, GoodText, GoodFigure, GoodFigures, GoodShape, GoodShapes, GoodLayers, GoodDrawing, GoodSymbol, GoodSymbols, GoodBlocks, GoodLaters, GoodSet, good-blank, InSlot}
 
 -- a line as a volume may have it
 abbrev pub fine : List ℕ → Bool
@@ -44,11 +44,6 @@ row-fine k d r v g = allowed-fine (lineOf k r v) (g .okay) (g .short)
 abbrev Fine : Known → Rule → Value → Type 0
 Fine k r v = fine (lineOf k r v) ≡ true
 
--- slots by their first row
-abbrev InSlot : (Rule → Value → Type 0) → Rule → Option Value → Type 0
-InSlot P r none = Unit {0}
-InSlot P r (some v) = P r v
-
 slots-open : (P : Rule → Value → Type 0) (r : Rule) (t : List Rule) (o : Option Value) (s : Slots) → GoodSlots P (r ∷ t) (o ∷ s) → InSlot P r o × GoodSlots P t s
 slots-open P r t none s g = (tt, g)
 slots-open P r t (some v) s g = g
@@ -63,10 +58,6 @@ slots-weaken P Q f [] (o ∷ s) g = absurd g
 slots-weaken P Q f (r ∷ t) [] g = absurd g
 slots-weaken P Q f (r ∷ t) (none ∷ s) g = slots-weaken P Q f t s g
 slots-weaken P Q f (r ∷ t) (some v ∷ s) g = (f r v (g .0), slots-weaken P Q f t s (g .1))
-
-slots-blank : (P : Rule → Value → Type 0) (t : List Rule) → GoodSlots P t (blank t)
-slots-blank P [] = tt
-slots-blank P (r ∷ t) = slots-blank P t
 
 -- a table's second and third row exchanged
 slots-exchanged : (P : Rule → Value → Type 0) (b : Bool) (p q r : Rule) (t : List Rule) (s : Slots) → GoodSlots P (p ∷ q ∷ r ∷ t) s
@@ -86,7 +77,7 @@ always-slots k d t s g = slots-weaken (Always d) (Fine k) (λ r v p. row-fine k 
 
 part-slots : (k : Known) (b : Bool) (d e : Digits) (t : List Rule) (s : Slots) → GoodPart b (Always d) e t s → GoodSlots (Fine k) t s
 part-slots k true d e t s g = always-slots k d t s (g .good)
-part-slots k false d e t s g = rw g (slots-blank (Fine k) t)
+part-slots k false d e t s g = rw g (good-blank (Fine k) t)
 
 slots-keep : (k : Known) (t : List Rule) (s : Slots) (inner : ℕ → Text → Text) → ((i : ℕ) → Keeps (inner i)) → GoodSlots (Fine k) t s → Keeps (showSlots k t s inner)
 slots-keep k [] s inner f g ls e = e

@@ -14,22 +14,15 @@ use Rattle.rules.specs.Sets.{Contents, Set, nothingYet}
 use Rattle.rules.specs.VolumesAndTotals.{countedHere, countedAll, layersUsed}
 use Rattle.rules.specs.Machine.{Line, State, top, file, drawing, layerNames, defines, symbol, hide, elements, figures, successive, texts, placing, skipping, ended, stepIn, isIgnored, isClose, isEof, completes, nextVolume, Outcome, refused, accepted, thenRun, finish, run, onTop, onElements}
 use Rattle.rules.specs.Answers.{fullClass}
-use Rattle.rules.proofs.Chains.{or-true, clash, cond-same, On, on-unless, on-map, on-also}
+use Rattle.rules.proofs.Chains.{or-true, clash, cond-same, On, on-unless, on-map, on-also, or-left}
 use Rattle.promises.proofs.Forms.{Tells}
 use Rattle.promises.proofs.Good.{GoodSet}
-use Rattle.promises.proofs.InvRows.{RowLaws, or-left}
+use Rattle.promises.proofs.Sizes.{Tolds}
 use Rattle.promises.proofs.InvState.{untaken, TopInv, Over, fileOf, Start, Inv}
 use Rattle.promises.proofs.InvHead.{fullEnv, on-top, on-file, on-drawing, on-layers, on-defines, on-symbol, on-hide}
 use Rattle.promises.proofs.InvBody.{on-elements, on-figures, on-successive, on-texts, on-placing, on-skipping}
 
 -- ── the lines ──
--- lines with the lengths of their texts
-abbrev pub Sized : List Line → List ℕ → Type 0
-Sized [] [] = Unit {0}
-Sized [] (n ∷ ns) = ⊥
-Sized (l ∷ ls) [] = ⊥
-Sized (l ∷ ls) (n ∷ ns) = Tells n (l .form) × (n ≤ 512) × Sized ls ns
-
 -- the names that follow the volumes, one for each last line
 abbrev pub nextsOf : List Line → List (List ℕ)
 nextsOf [] = []
@@ -42,23 +35,22 @@ Steady (l ∷ []) = Unit {0}
 Steady (l ∷ m ∷ ls) = (l .last ≡ false → l .next ≡ m .next) × Steady (m ∷ ls)
 
 -- ── one line ──
-module _ (laws : RowLaws) where
-  inv-in : (done fin : List (List ℕ)) (l : Line) (n : ℕ) → n ≤ 512 → (l .last ≡ true → fin ≡ done ++ l .next ∷ []) → Tells n (l .form) → (st : State) → (was : List (List ℕ))
-      → Inv done (l .next) was st → On (Inv done (l .next) fin) (stepIn fullEnv l st)
-  inv-in done fin l n fit e t (top s k) was i = on-top laws done fin l n fit e s k (l .form) t i
-  inv-in done fin l n fit e t (file s m h p) was i = on-file laws done fin l n fit e s m h p t i
-  inv-in done fin l n fit e t (drawing s d) was i = on-drawing laws done fin l n fit e s d t i
-  inv-in done fin l n fit e t (layerNames s d) was i = on-layers laws done fin l n fit e s d (l .form) t i
-  inv-in done fin l n fit e t (defines s b) was i = on-defines laws done fin l n fit e s b t i
-  inv-in done fin l n fit e t (symbol s y) was i = on-symbol laws done fin l n fit e s y t i
-  inv-in done fin l n fit e t (hide s y ps) was i = on-hide laws done fin l n fit e s y ps t i
-  inv-in done fin l n fit e t (elements s) was i = on-elements laws done fin l n fit s t i
-  inv-in done fin l n fit e t (figures s h fs) was i = on-figures laws done fin l n fit s h fs t i
-  inv-in done fin l n fit e t (successive s h fs m ps) was i = on-successive laws done fin l n fit s h fs m ps t i
-  inv-in done fin l n fit e t (texts s h fs m o) was i = on-texts laws done fin l n fit s h fs m o t i
-  inv-in done fin l n fit e t (placing s k fs m o p) was i = on-placing laws done fin l n fit s k fs m o p t i
-  inv-in done fin l n fit e t (skipping s k fs m o d) was i = on-skipping laws done fin l n fit s k fs m o d (l .form) i
-  inv-in done fin l n fit e t (ended s) was i = tt
+inv-in : (done fin : List (List ℕ)) (l : Line) (n : ℕ) → n ≤ 512 → (l .last ≡ true → fin ≡ done ++ l .next ∷ []) → Tells n (l .form) → (st : State) → (was : List (List ℕ))
+    → Inv done (l .next) was st → On (Inv done (l .next) fin) (stepIn fullEnv l st)
+inv-in done fin l n fit e t (top s k) was i = on-top done fin l n fit e s k (l .form) t i
+inv-in done fin l n fit e t (file s m h p) was i = on-file done fin l n fit e s m h p t i
+inv-in done fin l n fit e t (drawing s d) was i = on-drawing done fin l n fit e s d t i
+inv-in done fin l n fit e t (layerNames s d) was i = on-layers done fin l n fit e s d (l .form) t i
+inv-in done fin l n fit e t (defines s b) was i = on-defines done fin l n fit e s b t i
+inv-in done fin l n fit e t (symbol s y) was i = on-symbol done fin l n fit e s y t i
+inv-in done fin l n fit e t (hide s y ps) was i = on-hide done fin l n fit e s y ps t i
+inv-in done fin l n fit e t (elements s) was i = on-elements done fin l n fit s t i
+inv-in done fin l n fit e t (figures s h fs) was i = on-figures done fin l n fit s h fs t i
+inv-in done fin l n fit e t (successive s h fs m ps) was i = on-successive done fin l n fit s h fs m ps t i
+inv-in done fin l n fit e t (texts s h fs m o) was i = on-texts done fin l n fit s h fs m o t i
+inv-in done fin l n fit e t (placing s k fs m o p) was i = on-placing done fin l n fit s k fs m o p t i
+inv-in done fin l n fit e t (skipping s k fs m o d) was i = on-skipping done fin l n fit s k fs m o d (l .form) i
+inv-in done fin l n fit e t (ended s) was i = tt
 
 -- ── the last line of a volume ──
 -- ELEMENT is closed, or the set has ended
@@ -202,30 +194,29 @@ then-good : (P : State → Type 0) (Q : Set → Type 0) (g : Got State) (l : Lin
 then-good P Q (got st) l f p h = h st p
 then-good P Q (bad n) l f p h = tt
 
-module _ (laws : RowLaws) where
-  run-good : (ls : List Line) (ns : List ℕ) (done : List (List ℕ)) (st : State) → Sized ls ns → Steady ls → Facing done ls st → OnSet (GoodSet (done ++ nextsOf ls)) (run fullEnv st ls)
-  run-good [] [] done st z w i = rw (append-nil done) (finish-good done (i .0) st (i .1))
-  run-good [] (n ∷ ns) done st z w i = absurd z
-  run-good (l ∷ ls) [] done st z w i = absurd z
-  run-good (l ∷ ls) (n ∷ ns) done st z w i = go (l .last) refl (λ done st. run-good ls ns done st (z .2) (steady-tail l ls w))
-    where
-      go : (b : Bool) → l .last ≡ b → ((done : List (List ℕ)) (st : State) → Facing done ls st → OnSet (GoodSet (done ++ nextsOf ls)) (run fullEnv st ls))
-          → OnSet (GoodSet (done ++ cond b (l .next ∷ nextsOf ls) (nextsOf ls)))
-          (thenRun (cond b (mapG nextVolume (also (completes l st) 9 (stepIn fullEnv l st))) (stepIn fullEnv l st)) l (λ st. run fullEnv st ls))
-      go true e ih =
-          let all = done ++ l .next ∷ [] in
-          rw (← append-assoc done (l .next ∷ []) (nextsOf ls))
-          (then-good (λ st. (c : List ℕ) → Inv all c all st) (GoodSet (all ++ nextsOf ls)) (mapG nextVolume (also (completes l st) 9 (stepIn fullEnv l st))) l (λ st. run fullEnv st ls)
-          (on-map (λ st. (c : List ℕ) → Inv all c all st) nextVolume (also (completes l st) 9 (stepIn fullEnv l st))
-          (on-also (Next done (l .next)) (completes l st) 9 (stepIn fullEnv l st) λ ends.
-          on-next done (l .next) (stepIn fullEnv l st) (inv-in laws done all l n (z .1) (λ _. refl) (z .0) st done i) (volume-ends l st ends)))
-          (λ st j. ih all st (facing-any all ls st j)))
-      go false e ih =
-          then-good (Inv done (l .next) done) (GoodSet (done ++ nextsOf ls)) (stepIn fullEnv l st) l (λ st. run fullEnv st ls)
-          (inv-in laws done done l n (z .1) (λ last. clash last e) (z .0) st done i)
-          (λ st j. ih done st (facing-same done l ls st w e j))
+run-good : (ls : List Line) (ns : List ℕ) (done : List (List ℕ)) (st : State) → Tolds ls ns → Steady ls → Facing done ls st → OnSet (GoodSet (done ++ nextsOf ls)) (run fullEnv st ls)
+run-good [] [] done st z w i = rw (append-nil done) (finish-good done (i .0) st (i .1))
+run-good [] (n ∷ ns) done st z w i = absurd z
+run-good (l ∷ ls) [] done st z w i = absurd z
+run-good (l ∷ ls) (n ∷ ns) done st z w i = go (l .last) refl (λ done st. run-good ls ns done st (z .1) (steady-tail l ls w))
+  where
+    go : (b : Bool) → l .last ≡ b → ((done : List (List ℕ)) (st : State) → Facing done ls st → OnSet (GoodSet (done ++ nextsOf ls)) (run fullEnv st ls))
+        → OnSet (GoodSet (done ++ cond b (l .next ∷ nextsOf ls) (nextsOf ls)))
+        (thenRun (cond b (mapG nextVolume (also (completes l st) 9 (stepIn fullEnv l st))) (stepIn fullEnv l st)) l (λ st. run fullEnv st ls))
+    go true e ih =
+        let all = done ++ l .next ∷ [] in
+        rw (← append-assoc done (l .next ∷ []) (nextsOf ls))
+        (then-good (λ st. (c : List ℕ) → Inv all c all st) (GoodSet (all ++ nextsOf ls)) (mapG nextVolume (also (completes l st) 9 (stepIn fullEnv l st))) l (λ st. run fullEnv st ls)
+        (on-map (λ st. (c : List ℕ) → Inv all c all st) nextVolume (also (completes l st) 9 (stepIn fullEnv l st))
+        (on-also (Next done (l .next)) (completes l st) 9 (stepIn fullEnv l st) λ ends.
+        on-next done (l .next) (stepIn fullEnv l st) (inv-in done all l n (z .0 .1) (λ _. refl) (z .0 .0) st done i) (volume-ends l st ends)))
+        (λ st j. ih all st (facing-any all ls st j)))
+    go false e ih =
+        then-good (Inv done (l .next) done) (GoodSet (done ++ nextsOf ls)) (stepIn fullEnv l st) l (λ st. run fullEnv st ls)
+        (inv-in done done l n (z .0 .1) (λ last. clash last e) (z .0 .0) st done i)
+        (λ st j. ih done st (facing-same done l ls st w e j))
 
-  -- ── every set that was read is good ──
-  pub read-good : (ls : List Line) (ns : List ℕ) (s : Set) → Sized ls ns → Steady ls → run (record { class = fullClass; limit = none }) (top nothingYet 0) ls ≡ accepted s → GoodSet (nextsOf ls) s
-  read-good ls ns s z w e =
-      subst (OnSet (GoodSet (nextsOf ls))) e (run-good ls ns [] (top nothingYet 0) z w (facing-any [] ls (top nothingYet 0) (λ c. (refl, refl))))
+-- ── every set that was read is good ──
+pub read-good : (ls : List Line) (ns : List ℕ) (s : Set) → Tolds ls ns → Steady ls → run (record { class = fullClass; limit = none }) (top nothingYet 0) ls ≡ accepted s → GoodSet (nextsOf ls) s
+read-good ls ns s z w e =
+    subst (OnSet (GoodSet (nextsOf ls))) e (run-good ls ns [] (top nothingYet 0) z w (facing-any [] ls (top nothingYet 0) (λ c. (refl, refl))))

@@ -18,21 +18,23 @@ use Rattle.rules.specs.Values.{Num, num, Value, nums, Known, numsOf, amountAt, 
 use Rattle.rules.specs.Rows.{Rule, Found, absent, found, find, Slots, Held, partOf, slotValue, held, marks, fullAt, shapeFor, Act, stay, entry, begin, shut, refuse, actRow, actUnknown, act, complete, innerOf}
 use Rattle.rules.specs.Blocks.{elementTable}
 use Rattle.rules.specs.Figures.{layerTable, figureTable, leastPoints, pointTable, textTable, placedTable, placedTables}
-use Rattle.rules.specs.Sets.{Point, Figure, plain, chain, lettering, placed, LayerBlock, Contents, Set, headOr, withRecords, withVolume, withBlock, rangeOf, isSingle, knownOf, figureSerial, serialsOfBlock, serialsOfVolume, serialsIn, usedIn}
+use Rattle.rules.specs.Sets.{Point, Figure, plain, chain, lettering, placed, LayerBlock, Contents, Set, withRecords, withVolume, withBlock, rangeOf, isSingle, knownOf, figureSerial, serialsOfBlock, serialsOfVolume, serialsIn, usedIn}
 use Rattle.rules.specs.VolumesAndTotals.{countedHere}
 use Rattle.rules.specs.Machine.{Line, Home, inElement, inLayer, State, elements, figures, successive, texts, placing, skipping, byAct, onElements, isLayer, homeTable, closeFigures, openFigure, onFigures, onSuccessive, onTexts, bySkip, onUnknown, noneOf, newSerial, onPlaced, onPlacedKey, onPlacedOwn, onPlacing, skipShut, onSkipping}
 use Rattle.rules.specs.Answers.{fullClass}
 use Rattle.rules.specs.RecordTable.{ruleAt}
-use Rattle.rules.proofs.Chains.{unless-got, map-got, or-got, map-append, On, on-unless, on-cond}
-use Rattle.rules.proofs.Rows.{found-row, row-all, row-at}
+use Rattle.rules.proofs.Chains.{unless-got, map-got, or-got, map-append, On, on-unless, on-cond, or-left}
+use Rattle.rules.proofs.Rows.{found-row, row-all, row-at, row-did}
+use Rattle.rules.proofs.Runs.{head-file, head-snoc}
 use Rattle.promises.proofs.Forms.{keysOk, table-keys, Tells}
-use Rattle.promises.proofs.Values.{nameless, name-same}
-use Rattle.promises.proofs.Good.{Always, none0, GoodChain, GoodText, GoodFigure, GoodShape, freshNumbers}
-use Rattle.promises.proofs.InvRows.{RowLaws, Took, Told, row-from, read-begin, on-byAct, row-told, on-act, or-left, row-all-at, good-blank, onlyNumbers, entry-numbers, level-by}
+use Rattle.promises.proofs.Values.{name-same}
+use Rattle.promises.proofs.Good.{Always, none0, GoodChain, GoodText, GoodFigure, GoodShape, freshNumbers, good-blank}
+use Rattle.promises.proofs.InvRows.{Took, ActTold, read-begin, on-byAct, row-told, on-act, row-all-at, onlyNumbers, entry-numbers, level-by}
 use Rattle.promises.proofs.InvParts.{allNameless, took-set}
 use Rattle.promises.proofs.InvPlaced.{placed-start, placed-enter, placed-begin, text-enter, text-keys, text-opens, text-shut, placed-good}
 use Rattle.promises.proofs.InvState.{fileOf, untaken, Working, Over, LayerOpen, figureSerials, FiguresInv, Inv, figures-more, shapes-more, blocks-more, volumes-more, number-more, serial-more, flat-more}
 use Rattle.promises.proofs.InvHead.{fullEnv, points-enter}
+use Rattle.promises.proofs.Nameless.{nameless}
 
 -- ── ELEMENT ──
 -- the layer that a LAYER line names
@@ -58,23 +60,14 @@ layer-open {k} {full} {i} {j} {v} now w new =
     let z = eqb-true j 0 (row-all-at (λ j r. eqb j 0) (w .row) refl) in
     let q : getD elementTable 0 (w .rule) ≡ w .rule = subst (λ (j : ℕ). getD elementTable j (w .rule) ≡ w .rule) z (row-at (w .row) (w .rule)) in
     let r = ruleAt elementTable 0 in
-    let (f, g) = row-from k none0 (getD full j false) j r (w .rest) (begin i j v) refl (subst (λ (r : Rule). actRow k none0 (getD full j false) j r (w .rest) ≡ begin i j v) (sym q) (w .from)) in
-    let (at, c, e) = read-begin k j r (shapeFor r (w .rest)) i j v g refl f in
+    let did = row-did k none0 (getD full j false) j r (w .rest) (begin i j v) refl (subst (λ (r : Rule). actRow k none0 (getD full j false) j r (w .rest) ≡ begin i j v) (sym q) (w .from)) in
+    let (at, c, e) = read-begin k j r (shapeFor r (w .rest)) i j v (did .read) refl (did .fit) in
     let (here, id) = layer-read k at c v e in
     record { here = here; id = id; new = new }
 
--- where the first volume's FILE_FORMAT stands does not change
-file-closed : (vs : List Contents) (now : Contents) → headOr now vs .file ≡ headOr now (vs ++ now ∷ []) .file
-file-closed [] now = refl
-file-closed (v ∷ vs) now = refl
-
-file-kept : (vs : List Contents) (a b : Contents) → a .file ≡ b .file → headOr a vs .file ≡ headOr b vs .file
-file-kept [] a b e = e
-file-kept (v ∷ vs) a b e = refl
-
 close-volume : (done : List (List ℕ)) (cur : List ℕ) (s : Set) → Working done cur (fileOf s) (untaken s) → countedHere s ≡ true → Over (done ++ cur ∷ []) (fileOf (withVolume s)) (untaken (withVolume s))
 close-volume done cur s w e =
-    subst (λ (f : Held). Over (done ++ cur ∷ []) f (untaken (withVolume s))) (file-closed (s .volumes) (s .now))
+    subst (λ (f : Held). Over (done ++ cur ∷ []) f (untaken (withVolume s))) (sym (ap (λ (v : Contents). v .file) (head-snoc (s .now) (s .now) (s .volumes))))
     (record {
       fixed = w .fixed;
       closed =
@@ -89,7 +82,7 @@ close-layer : (done : List (List ℕ)) (cur : List ℕ) (s : Set) (n : ℕ) (fs 
     → Working done cur (fileOf (withBlock (record { layer = n; figures = fs }) s)) (untaken (withBlock (record { layer = n; figures = fs }) s))
 close-layer done cur s n fs i =
     let u : LayerBlock = record { layer = n; figures = fs } in
-    subst (λ (f : Held). Working done cur f (untaken (withBlock u s))) (file-kept (s .volumes) (s .now) (withBlock u s .now) refl)
+    subst (λ (f : Held). Working done cur f (untaken (withBlock u s))) (head-file (s .now) (withBlock u s .now) (s .volumes) refl)
     (record {
       fixed = i .0 .fixed;
       closed = i .0 .closed;
@@ -170,21 +163,21 @@ unfolding textTable
 texts-nameless true = refl
 texts-nameless false = refl
 
-close-told : (k : Known) (d c : Digits) (t : List Rule) (full : List Bool) → Told k d c t full (act k t c full close)
+close-told : (k : Known) (d c : Digits) (t : List Rule) (full : List Bool) → ActTold k d c t full (act k t c full close)
 close-told k d c t full = go (complete c t full) refl
   where
-    go : (b : Bool) → complete c t full ≡ b → Told k d c t full (cond b shut (refuse 8))
+    go : (b : Bool) → complete c t full ≡ b → ActTold k d c t full (cond b shut (refuse 8))
     go true e = e
     go false e = tt
 
-module _ (laws : RowLaws) (done fin : List (List ℕ)) (l : Line) (n : ℕ) (fit : n ≤ 512) where
+module _ (done fin : List (List ℕ)) (l : Line) (n : ℕ) (fit : n ≤ 512) where
   abbrev J : State → Type 0
   J st = Inv done (l .next) fin st
 
   pub on-elements : (s : Set) → Tells n (l .form) → J (elements s) → On J (onElements s (l .form))
   unfolding elementTable
   on-elements s t i =
-      on-act laws J (knownOf s) none0 elementTable (fullAt 0 elementTable) n (l .form) (table-keys true 0 0 .10) t fit _ _ _ _ i
+      on-act J (knownOf s) none0 elementTable (fullAt 0 elementTable) n (l .form) (table-keys true 0 0 .10) t fit _ _ _ _ i
       (λ j v w. tt)
       (λ i′ j v w. on-unless J (not (hasNumber (amountAt v 0) (usedIn (s .now)))) 14 _ λ e.
       (i, layer-open (s .now) w (not-true (hasNumber (amountAt v 0) (usedIn (s .now))) e), tt, rw (append-nil (serialsIn s)) (i .serials)))
@@ -205,7 +198,7 @@ module _ (laws : RowLaws) (done fin : List (List ℕ)) (l : Line) (n : ℕ) (fit
 
   pub on-figures : (s : Set) (h : Home) (fs : List Figure) → Tells n (l .form) → J (figures s h fs) → On J (onFigures fullEnv l s h fs (l .form))
   on-figures s h fs t i =
-      on-act laws J (knownOf s) (rangeOf s) (homeTable s h) (fullAt 0 (homeTable s h)) n (l .form) (home-keys s h) t fit _ _ _ _ i
+      on-act J (knownOf s) (rangeOf s) (homeTable s h) (fullAt 0 (homeTable s h)) n (l .form) (home-keys s h) t fit _ _ _ _ i
       (λ j v w. records-taken done (l .next) s h (fs ++ plain (l .line) j (numsOf v) ∷ []) 1
       (add-figure done (l .next) s h fs (plain (l .line) j (numsOf v)) i (plain-good s h (l .line) j v w) refl))
       (λ i′ j v w. open-figure s h fs i′ j v i w)
@@ -214,7 +207,7 @@ module _ (laws : RowLaws) (done fin : List (List ℕ)) (l : Line) (n : ℕ) (fit
   -- ── figures that are blocks ──
   pub on-successive : (s : Set) (h : Home) (fs : List Figure) (m : ℕ) (ps : List Point) → Tells n (l .form) → J (successive s h fs m ps) → On J (onSuccessive fullEnv l s h fs m ps (l .form))
   on-successive s h fs m ps t i =
-      on-act laws J (knownOf s) none0 (pointTable (isLayer h)) (fullAt (length ps) (pointTable (isLayer h))) n (l .form) (table-keys (isLayer h) 0 0 .13) t fit _ _ _ _ i
+      on-act J (knownOf s) none0 (pointTable (isLayer h)) (fullAt (length ps) (pointTable (isLayer h))) n (l .form) (table-keys (isLayer h) 0 0 .13) t fit _ _ _ _ i
       (λ j v w. (records-taken done (l .next) s h fs 1 (i .0), points-enter (isLayer h) l ps (i .1) w))
       (λ i′ j v w. tt)
       (λ e. on-unless J (leb leastPoints (length ps)) 8 _ λ c.
@@ -222,13 +215,13 @@ module _ (laws : RowLaws) (done fin : List (List ℕ)) (l : Line) (n : ℕ) (fit
 
   pub on-texts : (s : Set) (h : Home) (fs : List Figure) (m : ℕ) (o : Slots) → Tells n (l .form) → J (texts s h fs m o) → On J (onTexts s h fs m o (l .form))
   on-texts s h fs m o t i =
-      on-act laws J (knownOf s) none0 (textTable (isLayer h) 4 12) (marks o) n (l .form) (table-keys (isLayer h) 4 12 .14) t fit _ _ _ _ i
+      on-act J (knownOf s) none0 (textTable (isLayer h) 4 12) (marks o) n (l .form) (table-keys (isLayer h) 4 12 .14) t fit _ _ _ _ i
       (λ j v w. (i .0, took-set o none0 (texts-nameless (isLayer h)) w (i .1)))
       (λ i′ j v w. tt)
       (λ e. add-figure done (l .next) s h fs (lettering m o) (i .0) (text-home s h m o (record { good = i .1; all = e })) refl)
 
   -- ── the placed symbol ──
-  placed-act : (s : Set) (k : ℕ) (fs : List Figure) (m : ℕ) (o : Held) (a : Act) → Told (knownOf s) (rangeOf s) (both fullClass (rangeOf s)) placedTable (marks (partOf o 0)) a → J (placing s k fs m o 0)
+  placed-act : (s : Set) (k : ℕ) (fs : List Figure) (m : ℕ) (o : Held) (a : Act) → ActTold (knownOf s) (rangeOf s) (both fullClass (rangeOf s)) placedTable (marks (partOf o 0)) a → J (placing s k fs m o 0)
       → On J (onPlaced s k fs m o 0 a)
   placed-act s k fs m o a told i =
       on-byAct J (knownOf s) (rangeOf s) (both fullClass (rangeOf s)) placedTable (marks (partOf o 0)) _ _ _ _ a told i
@@ -260,7 +253,7 @@ module _ (laws : RowLaws) (done fin : List (List ℕ)) (l : Line) (n : ℕ) (fit
       let (w, q) = found-row key placedTable j r e in
       on-cond J (reaches fullClass (r .least)) _ _
       (λ _. placed-act s k fs m o (actRow (knownOf s) (rangeOf s) (getD (marks (partOf o 0)) j false) j r c)
-      (row-told laws (knownOf s) (rangeOf s) (both fullClass (rangeOf s)) placedTable (marks (partOf o 0)) n key c j r w q (table-keys true 0 0 .15) t fit) i)
+      (row-told (knownOf s) (rangeOf s) (both fullClass (rangeOf s)) placedTable (marks (partOf o 0)) n key c j r w q (table-keys true 0 0 .15) t fit) i)
       (λ _. on-unknown s k fs m o key c i)
 
   placed-own : (s : Set) (k : ℕ) (fs : List Figure) (m : ℕ) (o : Held) (f : Form) → Tells n f → J (placing s k fs m o 0) → On J (onPlacedOwn fullEnv s k fs m o f)
@@ -275,7 +268,7 @@ module _ (laws : RowLaws) (done fin : List (List ℕ)) (l : Line) (n : ℕ) (fit
   pub on-placing : (s : Set) (k : ℕ) (fs : List Figure) (m : ℕ) (o : Held) (p : ℕ) → Tells n (l .form) → J (placing s k fs m o p) → On J (onPlacing fullEnv s k fs m o p (l .form))
   on-placing s k fs m o zero t i = placed-own s k fs m o (l .form) t i
   on-placing s k fs m o (suc p) t i =
-      on-act laws J (knownOf s) none0 (getD placedTables (suc p) []) (marks (partOf o (suc p))) n (l .form) (text-keys p) t fit _ _ _ _ i
+      on-act J (knownOf s) none0 (getD placedTables (suc p) []) (marks (partOf o (suc p))) n (l .form) (text-keys p) t fit _ _ _ _ i
       (λ j v w. on-unless J (newSerial s fs v) 15 _ λ e. (i .0, text-enter (serialsIn s ++ figureSerials fs) p o (i .1) w, i .2, i .3))
       (λ i′ j v w. absurd (text-opens p w))
       (λ e. (i .0, text-shut (serialsIn s ++ figureSerials fs) p o (i .1) e, i .2, i .3))

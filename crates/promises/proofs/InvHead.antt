@@ -24,15 +24,16 @@ use Rattle.rules.specs.Machine.{Line, Env, State, top, file, drawing, layerName
 use Rattle.rules.specs.Answers.{fullClass}
 use Rattle.rules.specs.RecordTable.{ruleAt}
 use Rattle.rules.proofs.Chains.{and-left, and-right, or-true, clash, map-append, On, on-unless, on-then}
-use Rattle.rules.proofs.Rows.{row-all, row-at}
-use Rattle.promises.proofs.Forms.{table-keys, Tells}
-use Rattle.promises.proofs.Values.{nameless}
+use Rattle.rules.proofs.Rows.{row-all, row-at, row-did}
 use Rattle.promises.specs.PlacesApart.{bareValue}
+use Rattle.promises.proofs.Forms.{table-keys, Tells}
 use Rattle.promises.proofs.Good.{restOf, Always, GoodSlots, none0, idsOf, GoodSymbol, GoodDefines, GoodLaters, GoodSet}
-use Rattle.promises.proofs.InvRows.{RowLaws, Took, row-from, on-act, row-all-at, complete-at, onlyNumbers, entry-numbers, open-at, level-by}
+use Rattle.promises.proofs.RowGood.{layer-good}
+use Rattle.promises.proofs.InvRows.{Took, on-act, row-all-at, complete-at, onlyNumbers, entry-numbers, open-at, level-by}
 use Rattle.promises.proofs.InvParts.{allNameless, took-set, other-kept, opened-by, inner-by}
 use Rattle.promises.proofs.InvFile.{FileInv, FileGood, partTable, file-start, file-keys, file-enter, file-begin, file-shut-in, file-shut}
 use Rattle.promises.proofs.InvState.{fileOf, rangeIn, singleIn, datedIn, Laters, Volumes, untaken, Working, Over, Start, TopInv, DrawingInv, Defining, Making, nameIn, NewName, Points, Inv, points-more, layers-more, symbols-more, fresh-more}
+use Rattle.promises.proofs.Nameless.{nameless}
 
 -- the reading at class 15, with no limit of records
 abbrev pub fullEnv : Env
@@ -146,7 +147,7 @@ name-full : (d : Digits) (own : Slots) → GoodSlots (Always d) symbolTable own 
 unfolding symbolTable
 name-full d [] g e = absurd g
 name-full d (none ∷ own) g e = clash (must-be d false (and-left (not (reaches d none0) || false) _ e)) refl
-name-full d (some v ∷ own) g e = go v (row-from nobody d false 0 (ruleAt symbolTable 0) (restOf nobody (ruleAt symbolTable 0) v) (entry 0 (bareValue v)) refl (g .0 nobody .again 0) .0)
+name-full d (some v ∷ own) g e = go v (row-did nobody d false 0 (ruleAt symbolTable 0) (restOf nobody (ruleAt symbolTable 0) v) (entry 0 (bareValue v)) refl (g .0 nobody .again 0) .fit)
   where
     nobody : Known
     nobody = record { symbols = []; layers = [] }
@@ -161,7 +162,7 @@ name-full d (some v ∷ own) g e = go v (row-from nobody d false 0 (ruleAt symbo
     go (chars at c) f = chars-full at c f
     go (linked m u) f = clash f refl
 
-module _ (laws : RowLaws) (done fin : List (List ℕ)) (l : Line) (n : ℕ) (fit : n ≤ 512) (fin-is : l .last ≡ true → fin ≡ done ++ l .next ∷ []) where
+module _ (done fin : List (List ℕ)) (l : Line) (n : ℕ) (fit : n ≤ 512) (fin-is : l .last ≡ true → fin ≡ done ++ l .next ∷ []) where
   abbrev J : State → Type 0
   J st = Inv done (l .next) fin st
 
@@ -187,7 +188,7 @@ module _ (laws : RowLaws) (done fin : List (List ℕ)) (l : Line) (n : ℕ) (fit
       → On J (byAct (top s k) (λ j v. bad 5) (λ i j v. unless (eqb j k) 9 (openTop fullEnv l s j)) (λ _. bad 9) (act (knownOf s) topTable none0 (fullAt 0 topTable) (keyed key c)))
   unfolding topTable
   top-key s k key c t i =
-      on-act laws J (knownOf s) none0 topTable (fullAt 0 topTable) n (keyed key c) (table-keys true 0 0 .0) t fit _ _ _ _ i
+      on-act J (knownOf s) none0 topTable (fullAt 0 topTable) n (keyed key c) (table-keys true 0 0 .0) t fit _ _ _ _ i
       (λ j v w. tt)
       (λ i′ j v w. on-unless J (eqb j k) 9 _ λ e.
       open-top s j (row-all-at (λ j r. leb j 3) (w .row) refl) (subst (λ (k : ℕ). TopInv done (l .next) k (untaken s)) (sym (eqb-true j k e)) i))
@@ -203,7 +204,7 @@ module _ (laws : RowLaws) (done fin : List (List ℕ)) (l : Line) (n : ℕ) (fit
   -- ── FILE_FORMAT ──
   pub on-file : (s : Set) (m : ℕ) (h : Held) (p : ℕ) → Tells n (l .form) → J (file s m h p) → On J (onFile l s m h p (l .form))
   on-file s m h p t i =
-      on-act laws J (knownOf s) none0 (partTable (isFirst s) p) (marks (partOf h p)) n (l .form) (file-keys (isFirst s) p) t fit _ _ _ _ i
+      on-act J (knownOf s) none0 (partTable (isFirst s) p) (marks (partOf h p)) n (l .form) (file-keys (isFirst s) p) t fit _ _ _ _ i
       (λ j v w. (i .0, file-enter (isFirst s) p h (i .1) w))
       (λ i′ j v w. (i .0, file-begin (isFirst s) p h (i .1) w))
       (shuts p (i .1))
@@ -227,7 +228,7 @@ module _ (laws : RowLaws) (done fin : List (List ℕ)) (l : Line) (n : ℕ) (fit
 
   pub on-drawing : (s : Set) (d : Drawing) → Tells n (l .form) → J (drawing s d) → On J (onDrawing s d (l .form))
   on-drawing s d t i =
-      on-act laws J (knownOf s) (digitsOf (arcOf s)) drawingTable (marks (d .own)) n (l .form) (table-keys true 0 0 .7) t fit _ _ _ _ i
+      on-act J (knownOf s) (digitsOf (arcOf s)) drawingTable (marks (d .own)) n (l .form) (table-keys true 0 0 .7) t fit _ _ _ _ i
       (λ j v w. (i .0, i .1, drawing-set (arcOf s) d (i .2) w))
       (λ i′ j v w. (i .0, i .1, drawing-set (arcOf s) d (i .2) w))
       (λ e. (i .0, i .1, record { own-good = record { good = i .2 .own-good; all = e }; layers = i .2 .layers; most = i .2 .most; differ = i .2 .differ }))
@@ -242,7 +243,7 @@ module _ (laws : RowLaws) (done fin : List (List ℕ)) (l : Line) (n : ℕ) (fit
         i .1,
         record {
           own-good = i .2 .own-good;
-          layers = layers-more (d .layers) (record { line = l .line; id = k; name = v }) (i .2 .layers) (laws .layer-good k c n (l .line) v named t fit e .0);
+          layers = layers-more (d .layers) (record { line = l .line; id = k; name = v }) (i .2 .layers) (layer-good k c n (l .line) v named t fit e .0);
           most = le-leb (length (d .layers ++ record { line = l .line; id = k; name = v } ∷ [])) 64 (omega (arith, length-append (d .layers) (record { line = l .line; id = k; name = v } ∷ []), ltb-true (length (d .layers)) 64 few));
           differ =
               rw (map-append (λ (y : Layer). y .id) (d .layers) (record { line = l .line; id = k; name = v } ∷ []))
@@ -261,7 +262,7 @@ module _ (laws : RowLaws) (done fin : List (List ℕ)) (l : Line) (n : ℕ) (fit
   pub on-defines : (s : Set) (non : Bool) → Tells n (l .form) → J (defines s non) → On J (onDefines fullEnv l s non (l .form))
   unfolding definesTable symbolTable
   on-defines s non t i =
-      on-act laws J (knownOf s) (digitsOf (defineRange s)) definesTable (non ∷ false ∷ []) n (l .form) (table-keys true 0 0 .8) t fit _ _ _ _ i
+      on-act J (knownOf s) (digitsOf (defineRange s)) definesTable (non ∷ false ∷ []) n (l .form) (table-keys true 0 0 .8) t fit _ _ _ _ i
       (λ j v w. on-unless J (isNil (s .symbols)) 6 _ λ e. i)
       (λ i′ j v w. on-unless J (not non) 6 _ λ e.
       (i, record { own-good = tt; hidden-good = tt; few-hidden = refl; level = level-by w 1 (eqb-true j 1 (open-at (λ j. eqb j 1) w refl)) }, refl, λ e. clash e refl))
@@ -315,7 +316,7 @@ module _ (laws : RowLaws) (done fin : List (List ℕ)) (l : Line) (n : ℕ) (fit
   pub on-symbol : (s : Set) (y : Symbol) → Tells n (l .form) → J (symbol s y) → On J (onSymbol s y (l .form))
   unfolding symbolTable
   on-symbol s y t i =
-      on-act laws J (knownOf s) (digitsOf (defineRange s)) symbolTable (marks (y .own)) n (l .form) (table-keys true 0 0 .9) t fit _ _ _ _ i
+      on-act J (knownOf s) (digitsOf (defineRange s)) symbolTable (marks (y .own)) n (l .form) (table-keys true 0 0 .9) t fit _ _ _ _ i
       (λ j v w. on-unless J (newName s (symbolOwn (set (y .own) j (some v)) y)) 15 _ λ e.
       (i .0, making-set (defineRange s) (y .own) (y .hidden) (i .1) w, e, λ z. i .3 (other-kept isSome (y .own) j 1 v (λ q. true≢false (opened-by w 1 q)) ∙ z)))
       (λ i′ j v w. open-symbol s y i′ j v i w)
@@ -323,7 +324,7 @@ module _ (laws : RowLaws) (done fin : List (List ℕ)) (l : Line) (n : ℕ) (fit
 
   pub on-hide : (s : Set) (y : Symbol) (ps : List Point) → Tells n (l .form) → J (hide s y ps) → On J (onHide fullEnv l s y ps (l .form))
   on-hide s y ps t i =
-      on-act laws J (knownOf s) none0 (pointTable false) (fullAt (length ps) (pointTable false)) n (l .form) (table-keys false 0 0 .13) t fit _ _ _ _ i
+      on-act J (knownOf s) none0 (pointTable false) (fullAt (length ps) (pointTable false)) n (l .form) (table-keys false 0 0 .13) t fit _ _ _ _ i
       (λ j v w. (i .0, points-enter false l ps (i .1) w))
       (λ i′ j v w. tt)
       (λ e. (i .0 .0, record { own-good = i .0 .1 .own-good; hidden-good = i .1 .0; few-hidden = i .1 .1; level = i .0 .1 .level }, i .0 .2, i .0 .3))

@@ -16,9 +16,9 @@ use Rattle.rules.specs.FixedForm.{opensBlock}
 use Rattle.rules.specs.RecordTable.{ruleAt}
 use Rattle.rules.proofs.Chains.{clash}
 use Rattle.rules.proofs.Rows.{row-all}
-use Rattle.promises.proofs.Values.{nameless}
-use Rattle.promises.proofs.Good.{Always, GoodSlots, Closed, GoodPart, none0, isOne}
-use Rattle.promises.proofs.InvRows.{Took, good-blank, good-set, slot-set, unmarked, opened-at, inner-at}
+use Rattle.promises.proofs.Good.{Always, GoodSlots, Closed, GoodPart, none0, isOne, good-blank}
+use Rattle.promises.proofs.InvRows.{Took, good-set, slot-set, unmarked, opened-at, inner-at}
+use Rattle.promises.proofs.Nameless.{nameless}
 
 -- ── an inner part, open now or not; where it is not, it was opened or not ──
 abbrev pub HeldPart : Bool → Bool → (Rule → Value → Type 0) → List Rule → Slots → Type 0

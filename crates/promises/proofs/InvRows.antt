@@ -1,7 +1,7 @@
 -- What a line that was read in a block says: the row that it entered, what it held, and that the block's slots stay good.
 use Prim.Native.Nat.{ℕ, zero, suc, _≤_, _<_}
 use mathlib.Core.Bool.{Bool, true, false, cond, _&&_, _||_, not}
-use mathlib.Core.List.{List, [], _∷_, _++_}
+use mathlib.Core.List.{List, [], _∷_}
 use mathlib.Core.Option.{Option, none, some}
 use mathlib.Core.Path.{_≡_, refl, sym, _∙_, ap, subst}
 use native.Mathlib.Omega.{arith}
@@ -9,34 +9,20 @@ use lib.ListN.{length, getD, set, List·getD-map}
 use borrow.Author.Tests.{not-true}
 use Rattle.rules.specs.declared.Digits.{Digits}
 use Rattle.rules.specs.Base.{isSome, same, split}
-use Rattle.rules.specs.RefusalNumbers.{Got, got, bad, unless, andThen, keep}
-use Rattle.rules.specs.Lines.{Rest, Form, ignored, wrong, close, eof, keyed, Shape, opener, noContent, content, opening, formless, shapeOf, freeShapeOf, hasForm}
+use Rattle.rules.specs.RefusalNumbers.{Got, got, bad, unless, keep}
+use Rattle.rules.specs.Lines.{Rest, Form, ignored, wrong, close, eof, keyed, Shape, opener, noContent, content, opening, formless, shapeOf, hasForm}
 use Rattle.rules.specs.RangeClass.{reaches}
-use Rattle.rules.specs.Values.{Value, nums, Known, Kind, values, text, word, volumeName, sheet, ratio, serials, nothing, opens, headed, either, isLayerId, readKind, readAll, agree, numsOf, charsOf}
-use Rattle.rules.specs.Rows.{Rule, Found, absent, found, find, Slots, blank, marks, fits, shapeFor, Act, stay, entry, begin, shut, refuse, orRefuse, innerOf, readShape, notTwice, actRow, actUnknown, actFound, present, complete, act}
-use Rattle.rules.specs.Machine.{State, byAct, layerValue}
-use Rattle.rules.specs.FixedForm.{opensBlock, lineOf}
+use Rattle.rules.specs.Values.{Value, nums, Known, Kind, values, text, word, volumeName, sheet, ratio, serials, nothing, opens, headed, either, readKind, readAll, agree, numsOf}
+use Rattle.rules.specs.Rows.{Rule, Found, absent, found, find, Slots, marks, fits, shapeFor, Act, stay, entry, begin, shut, refuse, orRefuse, innerOf, readShape, actRow, actUnknown, actFound, present, complete, act}
+use Rattle.rules.specs.Machine.{State, byAct}
+use Rattle.rules.specs.FixedForm.{opensBlock}
 use Rattle.rules.specs.RecordTable.{ruleAt}
-use Rattle.rules.proofs.Chains.{and-left, and-right, clash, same-eq, never, unless-got, map-got, then-got, On, on-map, on-got}
-use Rattle.rules.proofs.Rows.{Row, here, there, found-row, row-all, row-at}
+use Rattle.rules.proofs.Chains.{and-left, and-right, clash, same-eq, never, map-got, On, on-map, on-all, on-got, or-left}
+use Rattle.rules.proofs.Rows.{Row, here, there, found-row, row-all, row-at, row-did}
 use Rattle.promises.proofs.Forms.{keyOk, keysOk, Tells}
-use Rattle.promises.proofs.Values.{nameless}
-use Rattle.promises.proofs.Good.{GoodRow, Always, GoodSlots, GoodLayer}
-
--- ── the laws about one row, which are proved elsewhere ──
-pub record RowLaws : Type 0 where
-  pub entry-good : (k : Known) (d : Digits) (full : Bool) (j : ℕ) (r : Rule) (x : Rest) (n j′ : ℕ) (v : Value) → keyOk (r .key) ≡ true → Tells n (keyed (r .key) x) → n ≤ 512
-      → actRow k d full j r x ≡ entry j′ v → (j ≡ j′) × (opensBlock (r .holds) v ≡ false) × (full ≡ false) × GoodRow k d r v × (length (lineOf k r v) ≤ n)
-  pub begin-good : (k : Known) (d : Digits) (full : Bool) (j : ℕ) (r : Rule) (x : Rest) (n i j′ : ℕ) (v : Value) → keyOk (r .key) ≡ true → Tells n (keyed (r .key) x) → n ≤ 512
-      → actRow k d full j r x ≡ begin i j′ v → (i ≡ innerOf (r .holds)) × (j ≡ j′) × (opensBlock (r .holds) v ≡ true) × (full ≡ false) × GoodRow k d r v × (length (lineOf k r v) ≤ n)
-  pub entry-always : (k : Known) (d : Digits) (full : Bool) (j : ℕ) (r : Rule) (x : Rest) (n j′ : ℕ) (v : Value) → keyOk (r .key) ≡ true → Tells n (keyed (r .key) x) → n ≤ 512
-      → nameless (r .holds) ≡ true → actRow k d full j r x ≡ entry j′ v
-      → (j ≡ j′) × (opensBlock (r .holds) v ≡ false) × (full ≡ false) × Always d r v × ((k′ : Known) → length (lineOf k′ r v) ≤ n)
-  pub begin-always : (k : Known) (d : Digits) (full : Bool) (j : ℕ) (r : Rule) (x : Rest) (n i j′ : ℕ) (v : Value) → keyOk (r .key) ≡ true → Tells n (keyed (r .key) x) → n ≤ 512
-      → nameless (r .holds) ≡ true → actRow k d full j r x ≡ begin i j′ v
-      → (i ≡ innerOf (r .holds)) × (j ≡ j′) × (opensBlock (r .holds) v ≡ true) × (full ≡ false) × Always d r v × ((k′ : Known) → length (lineOf k′ r v) ≤ n)
-  pub layer-good : (k : List ℕ) (x : Rest) (n m : ℕ) (v : Value) → isLayerId k ≡ true → Tells n (keyed k x) → n ≤ 512 → layerValue k (freeShapeOf x) ≡ got v
-      → GoodLayer (record { line = m; id = k; name = v }) × (length (k ++ 61 ∷ charsOf v) ≤ n)
+use Rattle.promises.proofs.Good.{GoodRow, Always, GoodSlots}
+use Rattle.promises.proofs.RowGood.{entry-good, begin-good, entry-always, begin-always, numbersOnly}
+use Rattle.promises.proofs.Nameless.{nameless}
 
 -- ── what an act says of the block ──
 -- the number of the inner block is the row's
@@ -60,49 +46,12 @@ pub record Took (k : Known) (d : Digits) (t : List Rule) (full : List Bool) (j :
   pub from : actRow k d (getD full j false) j rule rest ≡ a
 
 -- the rows are judged at d, what is required at c
-abbrev pub Told : Known → Digits → Digits → List Rule → List Bool → Act → Type 0
-Told k d c t full stay = Unit {0}
-Told k d c t full (entry j v) = Took k d t full j v false (entry j v)
-Told k d c t full (begin i j v) = Took k d t full j v true (begin i j v)
-Told k d c t full shut = complete c t full ≡ true
-Told k d c t full (refuse n) = Unit {0}
-
-pub or-left : (a b : Bool) → b ≡ false → (a || b) ≡ true → a ≡ true
-or-left true b q e = refl
-or-left false b q e = clash e q
-
-pub on-all : {A : Type 0} (P : A → Type 0) → ((a : A) → P a) → (g : Got A) → On P g
-on-all P f (got a) = f a
-on-all P f (bad n) = tt
-
--- an act that is no refusal
-abbrev pub isRefusal : Act → Bool
-isRefusal stay = false
-isRefusal (entry j v) = false
-isRefusal (begin i j v) = false
-isRefusal shut = false
-isRefusal (refuse n) = true
-
-or-act : (g : Got Act) (a : Act) → isRefusal a ≡ false → orRefuse g ≡ a → g ≡ got a
-or-act (got b) a n e = ap got e
-or-act (bad m) a n e = clash (ap isRefusal (sym e)) n
-
--- what an accepted line of a row had: its form, and what was read of it
-pub row-from : (k : Known) (d : Digits) (full : Bool) (j : ℕ) (r : Rule) (x : Rest) (a : Act) → isRefusal a ≡ false → actRow k d full j r x ≡ a
-    → (fits (r .holds) (r .may) (shapeFor r x) ≡ true) × (readShape k j r (shapeFor r x) ≡ got a)
-row-from k d full j r x a n e =
-    let last : Act → Got Act = λ a. unless (not full) 11 (got a) in
-    let read : Got Act = andThen (readShape k j r (shapeFor r x)) last in
-    let once : Got Act = unless (notTwice (r .times) full) 7 read in
-    let fitting : Got Act = unless (fits (r .holds) (r .may) (shapeFor r x)) 5 once in
-    let reached : Got Act = unless (reaches d (r .least)) 6 fitting in
-    let (h, e1) = unless-got (hasForm (shapeFor r x)) 5 reached a (or-act (unless (hasForm (shapeFor r x)) 5 reached) a n e) in
-    let (l, e2) = unless-got (reaches d (r .least)) 6 fitting a e1 in
-    let (f, e3) = unless-got (fits (r .holds) (r .may) (shapeFor r x)) 5 once a e2 in
-    let (o, e4) = unless-got (notTwice (r .times) full) 7 read a e3 in
-    let (b, g, e5) = then-got (readShape k j r (shapeFor r x)) last a e4 in
-    let (z, e6) = unless-got (not full) 11 (got b) a e5 in
-    (f, g ∙ e6)
+abbrev pub ActTold : Known → Digits → Digits → List Rule → List Bool → Act → Type 0
+ActTold k d c t full stay = Unit {0}
+ActTold k d c t full (entry j v) = Took k d t full j v false (entry j v)
+ActTold k d c t full (begin i j v) = Took k d t full j v true (begin i j v)
+ActTold k d c t full shut = complete c t full ≡ true
+ActTold k d c t full (refuse n) = Unit {0}
 
 -- a line with a key enters a row, and it opens a block or does not; it closes nothing
 abbrev isBegin : Act → Bool
@@ -151,16 +100,16 @@ read-begin k j r (opening at c) i m v e n f =
     let (u, g, q) = map-got (begin (innerOf (r .holds)) j) (readKind k (r .holds) at c) (begin i m v) e in let z : u ≡ v = cc in (at, c, g ∙ ap got z)
 read-begin k j r formless i m v e n f = never e
 
-unknown-told : (k : Known) (d c : Digits) (t : List Rule) (full : List Bool) (x : Rest) → Told k d c t full (actUnknown x)
+unknown-told : (k : Known) (d c : Digits) (t : List Rule) (full : List Bool) (x : Rest) → ActTold k d c t full (actUnknown x)
 unknown-told k d c t full x = go (hasForm (shapeOf x))
   where
-    go : (b : Bool) → Told k d c t full (orRefuse (unless b 5 (bad 6)))
+    go : (b : Bool) → ActTold k d c t full (orRefuse (unless b 5 (bad 6)))
     go true = tt
     go false = tt
 
 -- what an act does, from what it says
 pub on-byAct : (P : State → Type 0) (k : Known) (d c : Digits) (t : List Rule) (full : List Bool) (stays : State) (en : ℕ → Value → Got State) (op : ℕ → ℕ → Value → Got State)
-    (cl : Unit {0} → Got State) (a : Act) → Told k d c t full a → P stays → ((j : ℕ) (v : Value) → Took k d t full j v false (entry j v) → On P (en j v))
+    (cl : Unit {0} → Got State) (a : Act) → ActTold k d c t full a → P stays → ((j : ℕ) (v : Value) → Took k d t full j v false (entry j v) → On P (en j v))
     → ((i j : ℕ) (v : Value) → Took k d t full j v true (begin i j v) → On P (op i j v)) → (complete c t full ≡ true → On P (cl tt)) → On P (byAct stays en op cl a)
 on-byAct P k d c t full stays en op cl stay w p x y z = p
 on-byAct P k d c t full stays en op cl (entry j v) w p x y z = x j v w
@@ -168,70 +117,69 @@ on-byAct P k d c t full stays en op cl (begin i j v) w p x y z = y i j v w
 on-byAct P k d c t full stays en op cl shut w p x y z = z w
 on-byAct P k d c t full stays en op cl (refuse n) w p x y z = tt
 
-module _ (laws : RowLaws) where
-  pub row-told : (k : Known) (d c : Digits) (t : List Rule) (full : List Bool) (n : ℕ) (key : List ℕ) (x : Rest) (j : ℕ) (r : Rule)
-      → Row t j r → same key (r .key) ≡ true → keysOk t ≡ true → Tells n (keyed key x) → n ≤ 512 → Told k d c t full (actRow k d (getD full j false) j r x)
-  row-told k d c t full n key x j r w q ok tells fit = go (actRow k d (getD full j false) j r x) refl
-    where
-      is-key : keyOk (r .key) ≡ true
-      is-key = row-all (λ r. keyOk (r .key)) w ok
+pub row-told : (k : Known) (d c : Digits) (t : List Rule) (full : List Bool) (n : ℕ) (key : List ℕ) (x : Rest) (j : ℕ) (r : Rule)
+    → Row t j r → same key (r .key) ≡ true → keysOk t ≡ true → Tells n (keyed key x) → n ≤ 512 → ActTold k d c t full (actRow k d (getD full j false) j r x)
+row-told k d c t full n key x j r w q ok tells fit = go (actRow k d (getD full j false) j r x) refl
+  where
+    is-key : keyOk (r .key) ≡ true
+    is-key = row-all (λ r. keyOk (r .key)) w ok
 
-      at-key : Tells n (keyed (r .key) x)
-      at-key = subst (λ (m : List ℕ). Tells n (keyed m x)) (same-eq key (r .key) q) tells
+    at-key : Tells n (keyed (r .key) x)
+    at-key = subst (λ (m : List ℕ). Tells n (keyed m x)) (same-eq key (r .key) q) tells
 
-      go : (a : Act) → actRow k d (getD full j false) j r x ≡ a → Told k d c t full a
-      go stay e = tt
-      go (entry j′ v) e =
-          let (p, o, f, g, l) = laws .entry-good k d (getD full j false) j r x n j′ v is-key at-key fit e in
-          subst (λ (m : ℕ). Took k d t full m v false (entry m v)) p
-          (record {
-            rule = r;
-            row = w;
-            opened-is = o;
-            new = f;
-            good = g;
-            always = λ z. laws .entry-always k d (getD full j false) j r x n j′ v is-key at-key fit z e .3;
-            inside = tt;
-            rest = x;
-            from = e ∙ ap (λ (m : ℕ). entry m v) (sym p);
-          })
-      go (begin i j′ v) e =
-          let (y, p, o, f, g, l) = laws .begin-good k d (getD full j false) j r x n i j′ v is-key at-key fit e in
-          subst (λ (m : ℕ). Took k d t full m v true (begin i m v)) p
-          (record {
-            rule = r;
-            row = w;
-            opened-is = o;
-            new = f;
-            good = g;
-            always = λ z. laws .begin-always k d (getD full j false) j r x n i j′ v is-key at-key fit z e .4;
-            inside = y;
-            rest = x;
-            from = e ∙ ap (λ (m : ℕ). begin i m v) (sym p);
-          })
-      go shut e = clash refl (on-got (λ a. isShut a ≡ false) (readShape k j r (shapeFor r x)) shut (shape-open k j r (shapeFor r x)) (row-from k d (getD full j false) j r x shut refl e .1))
-      go (refuse m) e = tt
+    go : (a : Act) → actRow k d (getD full j false) j r x ≡ a → ActTold k d c t full a
+    go stay e = tt
+    go (entry j′ v) e =
+        let (p, o, f, g) = entry-good k d (getD full j false) j r x n j′ v is-key at-key fit e in
+        subst (λ (m : ℕ). Took k d t full m v false (entry m v)) p
+        (record {
+          rule = r;
+          row = w;
+          opened-is = o;
+          new = f;
+          good = g .row;
+          always = λ z. entry-always k d (getD full j false) j r x n j′ v z is-key at-key fit e .3;
+          inside = tt;
+          rest = x;
+          from = e ∙ ap (λ (m : ℕ). entry m v) (sym p);
+        })
+    go (begin i j′ v) e =
+        let (y, p, o, f, g) = begin-good k d (getD full j false) j r x n i j′ v is-key at-key fit e in
+        subst (λ (m : ℕ). Took k d t full m v true (begin i m v)) p
+        (record {
+          rule = r;
+          row = w;
+          opened-is = o;
+          new = f;
+          good = g .row;
+          always = λ z. begin-always k d (getD full j false) j r x n i j′ v z is-key at-key fit e .4;
+          inside = y;
+          rest = x;
+          from = e ∙ ap (λ (m : ℕ). begin i m v) (sym p);
+        })
+    go shut e = clash refl (on-got (λ a. isShut a ≡ false) (readShape k j r (shapeFor r x)) shut (shape-open k j r (shapeFor r x)) (row-did k d (getD full j false) j r x shut refl e .read))
+    go (refuse m) e = tt
 
-  pub act-told : (k : Known) (d : Digits) (t : List Rule) (full : List Bool) (n : ℕ) (f : Form) → keysOk t ≡ true → Tells n f → n ≤ 512 → Told k d d t full (act k t d full f)
-  act-told k d t full n ignored ok tells fit = tt
-  act-told k d t full n (wrong m) ok tells fit = tt
-  act-told k d t full n close ok tells fit = go (complete d t full) refl
-    where
-      go : (b : Bool) → complete d t full ≡ b → Told k d d t full (cond b shut (refuse 8))
-      go true e = e
-      go false e = tt
-  act-told k d t full n eof ok tells fit = tt
-  act-told k d t full n (keyed key x) ok tells fit = go (find key t) refl
-    where
-      go : (f : Found) → find key t ≡ f → Told k d d t full (actFound k d full x f)
-      go absent e = unknown-told k d d t full x
-      go (found j r) e = let (w, q) = found-row key t j r e in row-told k d d t full n key x j r w q ok tells fit
+pub act-told : (k : Known) (d : Digits) (t : List Rule) (full : List Bool) (n : ℕ) (f : Form) → keysOk t ≡ true → Tells n f → n ≤ 512 → ActTold k d d t full (act k t d full f)
+act-told k d t full n ignored ok tells fit = tt
+act-told k d t full n (wrong m) ok tells fit = tt
+act-told k d t full n close ok tells fit = go (complete d t full) refl
+  where
+    go : (b : Bool) → complete d t full ≡ b → ActTold k d d t full (cond b shut (refuse 8))
+    go true e = e
+    go false e = tt
+act-told k d t full n eof ok tells fit = tt
+act-told k d t full n (keyed key x) ok tells fit = go (find key t) refl
+  where
+    go : (f : Found) → find key t ≡ f → ActTold k d d t full (actFound k d full x f)
+    go absent e = unknown-told k d d t full x
+    go (found j r) e = let (w, q) = found-row key t j r e in row-told k d d t full n key x j r w q ok tells fit
 
-  -- a line in a block of the table t
-  pub on-act : (P : State → Type 0) (k : Known) (d : Digits) (t : List Rule) (full : List Bool) (n : ℕ) (f : Form) → keysOk t ≡ true → Tells n f → n ≤ 512 → (stays : State)
-      (en : ℕ → Value → Got State) (op : ℕ → ℕ → Value → Got State) (cl : Unit {0} → Got State) → P stays → ((j : ℕ) (v : Value) → Took k d t full j v false (entry j v) → On P (en j v))
-      → ((i j : ℕ) (v : Value) → Took k d t full j v true (begin i j v) → On P (op i j v)) → (complete d t full ≡ true → On P (cl tt)) → On P (byAct stays en op cl (act k t d full f))
-  on-act P k d t full n f ok tells fit stays en op cl = on-byAct P k d d t full stays en op cl (act k t d full f) (act-told k d t full n f ok tells fit)
+-- a line in a block of the table t
+pub on-act : (P : State → Type 0) (k : Known) (d : Digits) (t : List Rule) (full : List Bool) (n : ℕ) (f : Form) → keysOk t ≡ true → Tells n f → n ≤ 512 → (stays : State)
+    (en : ℕ → Value → Got State) (op : ℕ → ℕ → Value → Got State) (cl : Unit {0} → Got State) → P stays → ((j : ℕ) (v : Value) → Took k d t full j v false (entry j v) → On P (en j v))
+    → ((i j : ℕ) (v : Value) → Took k d t full j v true (begin i j v) → On P (op i j v)) → (complete d t full ≡ true → On P (cl tt)) → On P (byAct stays en op cl (act k t d full f))
+on-act P k d t full n f ok tells fit stays en op cl = on-byAct P k d d t full stays en op cl (act k t d full f) (act-told k d t full n f ok tells fit)
 
 -- ── a test over a table's rows, with their numbers ──
 abbrev pub allAt : (ℕ → Rule → Bool) → List Rule → Bool
@@ -243,10 +191,6 @@ row-all-at p (here {r = r}) e = and-left (p 0 r) _ e
 row-all-at p (there {q = q} w) e = row-all-at (λ j. p (suc j)) w (and-right (p 0 q) _ e)
 
 -- ── slots ──
-pub good-blank : (P : Rule → Value → Type 0) (t : List Rule) → GoodSlots P t (blank t)
-good-blank P [] = tt
-good-blank P (r ∷ t) = good-blank P t
-
 pub good-set : (P : Rule → Value → Type 0) {t : List Rule} {j : ℕ} {r : Rule} → Row t j r → (s : Slots) (v : Value) → GoodSlots P t s → P r v → GoodSlots P t (set s j (some v))
 good-set P here [] v g x = absurd g
 good-set P here (none ∷ s) v g x = (x, g)
@@ -277,19 +221,6 @@ complete-at P d (r ∷ t) (suc j) (none ∷ s) l g e = complete-at P d t j s (om
 complete-at P d (r ∷ t) (suc j) (some u ∷ s) l g e = complete-at P d t j s (omega arith) (g .1) (and-right (present d r true) _ e)
 
 -- ── rows that hold numbers alone ──
-abbrev numbersOnly : Kind → Bool
-numbersOnly (values p ps a) = true
-numbersOnly (text n b) = false
-numbersOnly (word n b) = false
-numbersOnly volumeName = false
-numbersOnly sheet = false
-numbersOnly ratio = false
-numbersOnly serials = false
-numbersOnly nothing = false
-numbersOnly (opens i) = true
-numbersOnly (headed i p) = false
-numbersOnly (either i) = false
-
 abbrev pub onlyNumbers : Rule → Bool
 onlyNumbers r = numbersOnly (r .holds) && not (r .may)
 
@@ -322,9 +253,9 @@ read-numbers k (either i) at c v o e = clash o refl
 -- an entry of such a row is its numbers
 pub entry-numbers : (k : Known) (d : Digits) (full : Bool) (j : ℕ) (r : Rule) (x : Rest) (m : ℕ) (v : Value) → onlyNumbers r ≡ true → actRow k d full j r x ≡ entry m v → nums (numsOf v) ≡ v
 entry-numbers k d full j r x m v o e =
-    let (f, g) = row-from k d full j r x (entry m v) refl e in
+    let w = row-did k d full j r x (entry m v) refl e in
     let kind = and-left (numbersOnly (r .holds)) _ o in
-    let (at, c, q) = read-entry k j r (shapeFor r x) m v g (not-empty (r .holds) (r .may) kind (not-true (r .may) (and-right (numbersOnly (r .holds)) _ o))) f in
+    let (at, c, q) = read-entry k j r (shapeFor r x) m v (w .read) (not-empty (r .holds) (r .may) kind (not-true (r .may) (and-right (numbersOnly (r .holds)) _ o))) (w .fit) in
     read-numbers k (r .holds) at c v kind q
 
 -- ── the row that took a value, by its number ──

@@ -1,4 +1,4 @@
--- The fixed form of a set that was read is never longer than the lines it was read from, where the law of one row is given.
+-- The fixed form of a set that was read is never longer than the lines it was read from.
 use Prim.Native.Nat.{ℕ, _+_, _≤_}
 use mathlib.Core.List.{List, [], _∷_}
 use mathlib.Core.Path.{_≡_, ap}
@@ -7,43 +7,31 @@ use Rattle.rules.specs.Base.{total}
 use Rattle.rules.specs.RefusalNumbers.{Got, got, bad, mapG, also}
 use Rattle.rules.specs.Values.{Known}
 use Rattle.rules.specs.Sets.{Set, nothingYet, knownOf}
-use Rattle.rules.specs.Machine.{Line, Env, State, top, file, drawing, layerNames, defines, symbol, hide, elements, figures, successive, texts, placing, skipping, ended, stepIn, completes, nextVolume, step, refused, accepted, thenRun, finish, run}
+use Rattle.rules.specs.Machine.{Line, Env, State, top, file, drawing, layerNames, defines, symbol, hide, elements, figures, successive, texts, placing, skipping, ended, stepIn, completes, nextVolume, step, accepted, thenRun, run}
 use Rattle.rules.specs.FixedForm.{volumeLines}
 use Rattle.rules.proofs.Runs.{not-accepted, finish-ended}
-use Rattle.rules.proofs.Chains.{On, on-cond, on-map, on-also}
+use Rattle.rules.proofs.Chains.{On, on-cond, on-map, on-also, on-weaken}
 use Rattle.promises.proofs.Forms.{Told}
 use Rattle.promises.proofs.Sizes.{Tolds}
-use Rattle.promises.proofs.RowGood.{entry-good, begin-good, layer-good}
 use Rattle.promises.proofs.Weights.{weigh, volumes-weight}
 use Rattle.promises.proofs.Costs.{cost, closed-least, owed, Ok, Next}
-use Rattle.promises.proofs.LengthRows.{EntryShort, BeginShort, LayerShort}
 use Rattle.promises.proofs.LengthBlocks.{file-next, top-next, drawing-next, layers-next, defines-next, symbol-next, hide-next}
 use Rattle.promises.proofs.LengthFigures.{elements-next, figures-next, successive-next, texts-next, placing-next, skipping-next}
 
--- the laws of one row, of a line that was read
-entry-short : EntryShort
-entry-short k d full j r x n j′ v key t e = let (p, o, f, w) = entry-good k d full j r x n j′ v key (t .0) (t .1) e in (p, o, f, w .no-longer)
-
-begin-short : BeginShort
-begin-short k d full j r x n i j′ v key t e = let (a, p, o, f, w) = begin-good k d full j r x n i j′ v key (t .0) (t .1) e in (a, p, o, f, w .no-longer)
-
-layer-short : LayerShort
-layer-short k x n v i t e = layer-good k x n 0 v i (t .0) (t .1) e .1
-
 in-next : (K : Known) (n : ℕ) (e : Env) (l : Line) (st : State) → Ok st → Told n (l .form) → On (Next K st n) (stepIn e l st)
-in-next K n e l (top s k) ok t = top-next entry-short begin-short K n e l s k (l .form) ok t
-in-next K n e l (file s m h p) ok t = file-next entry-short begin-short K n l s m h p (l .form) t
-in-next K n e l (drawing s d) ok t = drawing-next entry-short begin-short K n s d (l .form) ok t
-in-next K n e l (layerNames s d) ok t = layers-next entry-short begin-short K n layer-short e l s d (l .form) ok t
-in-next K n e l (defines s b) ok t = defines-next entry-short begin-short K n e l s b (l .form) ok t
-in-next K n e l (symbol s y) ok t = symbol-next entry-short begin-short K n s y (l .form) ok t
-in-next K n e l (hide s y ps) ok t = hide-next entry-short begin-short K n e l s y ps (l .form) ok t
-in-next K n e l (elements s) ok t = elements-next entry-short begin-short K n s (l .form) t
-in-next K n e l (figures s h fs) ok t = figures-next entry-short begin-short K n e l s h fs (l .form) ok t
-in-next K n e l (successive s h fs m ps) ok t = successive-next entry-short begin-short K n e l s h fs m ps (l .form) ok t
-in-next K n e l (texts s h fs m o) ok t = texts-next entry-short begin-short K n s h fs m o (l .form) ok t
-in-next K n e l (placing s h fs m o p) ok t = placing-next entry-short begin-short K n s h fs m o e p (l .form) t
-in-next K n e l (skipping s h fs m o d) ok t = skipping-next entry-short begin-short K n s h fs m o d (l .form) t
+in-next K n e l (top s k) ok t = top-next K n e l s k (l .form) ok t
+in-next K n e l (file s m h p) ok t = file-next K n l s m h p (l .form) t
+in-next K n e l (drawing s d) ok t = drawing-next K n s d (l .form) ok t
+in-next K n e l (layerNames s d) ok t = layers-next K n e l s d (l .form) ok t
+in-next K n e l (defines s b) ok t = defines-next K n e l s b (l .form) ok t
+in-next K n e l (symbol s y) ok t = symbol-next K n s y (l .form) ok t
+in-next K n e l (hide s y ps) ok t = hide-next K n e l s y ps (l .form) ok t
+in-next K n e l (elements s) ok t = elements-next K n s (l .form) t
+in-next K n e l (figures s h fs) ok t = figures-next K n e l s h fs (l .form) ok t
+in-next K n e l (successive s h fs m ps) ok t = successive-next K n e l s h fs m ps (l .form) ok t
+in-next K n e l (texts s h fs m o) ok t = texts-next K n s h fs m o (l .form) ok t
+in-next K n e l (placing s h fs m o p) ok t = placing-next K n s h fs m o e p (l .form) t
+in-next K n e l (skipping s h fs m o d) ok t = skipping-next K n s h fs m o d (l .form) t
 in-next K n e l (ended s) ok t = tt
 
 -- the next volume begins with no more
@@ -68,12 +56,8 @@ step-next K n e l st ok t =
     let z : On (Next K st n) (stepIn e l st) = in-next K n e l st ok t in
     on-cond (Next K st n) (l .last) (mapG nextVolume (also (completes l st) 9 (stepIn e l st))) (stepIn e l st)
     (λ _. on-map (Next K st n) nextVolume (also (completes l st) 9 (stepIn e l st))
-    (on-also (λ st′. Next K st n (nextVolume st′)) (completes l st) 9 (stepIn e l st) λ _. weaken (stepIn e l st) z))
+    (on-also (λ st′. Next K st n (nextVolume st′)) (completes l st) 9 (stepIn e l st) λ _. on-weaken (Next K st n) (λ st′. Next K st n (nextVolume st′)) (volume-next K st n) (stepIn e l st) z))
     (λ _. z)
-  where
-    weaken : (g : Got State) → On (Next K st n) g → On (λ st′. Next K st n (nextVolume st′)) g
-    weaken (got st′) z = volume-next K st n st′ z
-    weaken (bad m) z = tt
 
 run-cost : (K : Known) (e : Env) (ls : List Line) (ns : List ℕ) (st : State) (s : Set) → Ok st → Tolds ls ns → run e st ls ≡ accepted s
     → cost K (ended s) + owed st ≤ cost K st + total (λ n. n + 2) ns

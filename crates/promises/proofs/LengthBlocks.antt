@@ -22,13 +22,14 @@ use Rattle.rules.specs.Figures.{layerTable, figureTable, pointTable, textTable}
 use Rattle.rules.specs.Sets.{Point, Layer, Drawing, Symbol, Set, withNow, withDrawing, withRecords, withLayer, symbolOwn, isFirst, arcOf, defineRange, isSingle, knownOf}
 use Rattle.rules.specs.VolumesAndTotals.{chained, dated, countedAll, layersUsed}
 use Rattle.rules.specs.Machine.{Line, Env, inElement, State, top, file, drawing, layerNames, defines, symbol, hide, figures, ended, byAct, roomFor, taking, openTop, onTop, closeFile, shutPart, onFile, onDrawing, layerValue, onLayerNames, onDefines, newName, openSymbol, onSymbol, pointAt, onHide}
-use Rattle.rules.proofs.Chains.{On, on-unless, on-then, clash, and-left, and-right, all-weaken}
-use Rattle.rules.proofs.Rows.{Row, row-all, row-at}
+use Rattle.rules.proofs.Chains.{On, on-unless, on-then, clash, and-left, and-right, all-weaken, total-more}
+use Rattle.rules.proofs.Rows.{Row, row-all, row-at, row-below}
 use Rattle.promises.proofs.Forms.{Told, keyOk}
-use Rattle.promises.proofs.Values.{nameless}
 use Rattle.promises.proofs.Weights.{innerCost, inner-open, blank-cost, blank-held, pointCost, pointsCost, layerCost, nonCost, blocksCost}
-use Rattle.promises.proofs.Costs.{total-more, depth, First, closed-least, closed-first, now-first, file-cost, symbol-cost, inSymbol, HomeOk, TopOk, file-ok, Next}
-use Rattle.promises.proofs.LengthRows.{EntryShort, BeginShort, LayerShort, always-short, row-below, open-line, Took, slots-took, held-took, heads, head-took, nums-took, on-act}
+use Rattle.promises.proofs.Costs.{depth, First, closed-least, closed-first, now-first, file-cost, symbol-cost, inSymbol, HomeOk, TopOk, file-ok, Next}
+use Rattle.promises.proofs.RowGood.{layer-good}
+use Rattle.promises.proofs.LengthRows.{open-line, Took, slots-took, held-took, heads, head-took, nums-took, on-act}
+use Rattle.promises.proofs.Nameless.{nameless, line-any}
 
 -- ── tables whose rows name nothing ──
 abbrev plainRule : Rule → Bool
@@ -46,7 +47,7 @@ plain-tables false p q = (refl, refl, refl, refl, refl, refl, refl)
 
 -- their lines are the same whatever is known
 pub plain-same : {t : List Rule} → plainTable t ≡ true → {j : ℕ} {r : Rule} → Row t j r → (k k′ : Known) (v : Value) → lineOf k r v ≡ lineOf k′ r v
-plain-same e {r = r} w k k′ v = always-short r (and-right (keyOk (r .key)) _ (row-all plainRule w e)) k k′ v
+plain-same e {r = r} w k k′ v = line-any r (and-right (keyOk (r .key)) _ (row-all plainRule w e)) k k′ v
 
 -- a part within part p is deeper
 abbrev pub deepens : ℕ → Rule → Bool
@@ -119,7 +120,7 @@ non-least true false e = omega arith
 non-least false true e = clash e refl
 non-least false false e = omega arith
 
-module _ (entry-short : EntryShort) (begin-short : BeginShort) (K : Known) (n : ℕ) where
+module _ (K : Known) (n : ℕ) where
   -- such a table's lines weigh the same at K
   pub on-plain : (P : State → Type 0) (here : State) (en : ℕ → Value → Got State) (op : ℕ → ℕ → Value → Got State) (cl : Unit {0} → Got State) (k : Known) (d : Digits)
       (t : List Rule) (full : List Bool) (f : Form) → plainTable t ≡ true → Told n f
@@ -129,7 +130,7 @@ module _ (entry-short : EntryShort) (begin-short : BeginShort) (K : Known) (n : 
       → (1 ≤ n → On P (cl tt))
       → On P (byAct here en op cl (act k t d full f))
   on-plain P here en op cl k d t full f plain tells st ent beg clo =
-      on-act entry-short begin-short P here en op cl k K d n t full f
+      on-act P here en op cl k K d n t full f
       (all-weaken plainRule (λ r. keyOk (r .key)) (λ r e. and-left (keyOk (r .key)) _ e) t plain)
       (λ j r w v. plain-same plain w k K v)
       tells st ent (λ j r v w u x e. beg j r v w u) clo
@@ -189,12 +190,12 @@ module _ (entry-short : EntryShort) (begin-short : BeginShort) (K : Known) (n : 
       (λ j r v w u. (ok, omega (arith, slots-took w K (d .own) v n true u)))
       (λ one. (ok, omega (arith, closed-first K s (ok .0), closed-first K (withDrawing d s) (ok .0))))
 
-  pub layers-next : LayerShort → (e : Env) (l : Line) (s : Set) (d : Drawing) (f : Form) → First s → Told n f → On (Next K (layerNames s d) n) (onLayerNames e l s d f)
-  layers-next layer-short e l s d ignored ok tells = (ok, omega arith)
-  layers-next layer-short e l s d (wrong m) ok tells = tt
-  layers-next layer-short e l s d close ok tells = (ok, omega arith)
-  layers-next layer-short e l s d eof ok tells = tt
-  layers-next layer-short e l s d (keyed k c) ok tells =
+  pub layers-next : (e : Env) (l : Line) (s : Set) (d : Drawing) (f : Form) → First s → Told n f → On (Next K (layerNames s d) n) (onLayerNames e l s d f)
+  layers-next e l s d ignored ok tells = (ok, omega arith)
+  layers-next e l s d (wrong m) ok tells = tt
+  layers-next e l s d close ok tells = (ok, omega arith)
+  layers-next e l s d eof ok tells = tt
+  layers-next e l s d (keyed k c) ok tells =
       let P : State → Type 0 = Next K (layerNames s d) n in
       let u : Value → Layer = λ v. record { line = l .line; id = k; name = v } in
       let g2 : Value → Got State = λ v. taking e 1 s λ s′. layerNames s′ (withLayer (u v) d) in
@@ -203,7 +204,7 @@ module _ (entry-short : EntryShort) (begin-short : BeginShort) (K : Known) (n : 
       on-then P (layerValue k (freeShapeOf c)) g1 λ v q.
       on-unless P (ltb (length (d .layers)) mostLayers) 11 (unless (not (among k (map (λ y. y .id) (d .layers)))) 14 (g2 v)) λ _.
       on-unless P (not (among k (map (λ y. y .id) (d .layers)))) 14 (g2 v) λ _.
-      on-taking P e 1 s (λ s′. layerNames s′ (withLayer (u v) d)) (ok, omega (arith, total-more layerCost (d .layers) (u v), layer-short k c n v i tells q))
+      on-taking P e 1 s (λ s′. layerNames s′ (withLayer (u v) d)) (ok, omega (arith, total-more layerCost (d .layers) (u v), layer-good k c n 0 v i (tells .0) (tells .1) q .1))
 
   -- ── SYMBOL_DEFINE ──
   pub defines-next : (e : Env) (l : Line) (s : Set) (b : Bool) (f : Form) → First s → Told n f → On (Next K (defines s b) n) (onDefines e l s b f)

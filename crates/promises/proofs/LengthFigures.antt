@@ -19,12 +19,12 @@ use Rattle.rules.specs.Sets.{Point, Figure, plain, chain, lettering, placed, Sy
 use Rattle.rules.specs.VolumesAndTotals.{countedHere}
 use Rattle.rules.specs.Machine.{Line, Env, Home, inElement, inLayer, State, top, symbol, elements, figures, successive, texts, placing, skipping, taking, onElements, isLayer, homeTable, pointAt, closeFigures, openFigure, onFigures, onSuccessive, onTexts, bySkip, skipDeeper, shutPart, onUnknown, newSerial, onPlaced, onPlacedKey, onPlacing, onSkipping}
 use Rattle.rules.specs.FixedForm.{openLine, lineOf}
-use Rattle.rules.proofs.Chains.{On, on-unless, on-cond, clash, same-eq}
-use Rattle.rules.proofs.Rows.{Row, found-row, row-all, row-at}
+use Rattle.rules.proofs.Chains.{On, on-unless, on-cond, clash, same-eq, total-more}
+use Rattle.rules.proofs.Rows.{Row, found-row, row-all, row-at, row-below}
 use Rattle.promises.proofs.Forms.{Told, keyOk, keysOk, table-keys}
 use Rattle.promises.proofs.Weights.{blank-cost, blank-held, figureCost, layerHead}
-use Rattle.promises.proofs.Costs.{total-more, homeKnown, inFigures, volume-cost, layer-cost, HomeOk, Next}
-use Rattle.promises.proofs.LengthRows.{EntryShort, BeginShort, row-below, Took, slots-took, held-took, heads, head-took, figureRows, nums-took, on-row, on-unknown, on-act, isWritten, head-written}
+use Rattle.promises.proofs.Costs.{homeKnown, inFigures, volume-cost, layer-cost, HomeOk, Next}
+use Rattle.promises.proofs.LengthRows.{Took, slots-took, held-took, heads, head-took, figureRows, nums-took, on-row, on-unknown, on-act, isWritten, head-written}
 use Rattle.promises.proofs.LengthBlocks.{plain-tables, plain-same, deepens, deeper-part, on-taking, point-took, on-plain}
 
 -- ── the line of a layer ──
@@ -78,12 +78,12 @@ on-home : (P : State → Type 0) (e : Env) (s : Set) (h : Home) (F : Set → Hom
 on-home P e s (inElement y) F f g z = on-taking P e 1 s (λ s′. F s′ (inElement y)) (f y z)
 on-home P e s (inLayer k) F f g z = on-taking P e 1 s (λ s′. F s′ (inLayer k)) (g k z)
 
-module _ (entry-short : EntryShort) (begin-short : BeginShort) (K : Known) (n : ℕ) where
+module _ (K : Known) (n : ℕ) where
   -- ── ELEMENT ──
   pub elements-next : (s : Set) (f : Form) → Told n f → On (Next K (elements s) n) (onElements s f)
   elements-next s f tells =
       let P : State → Type 0 = Next K (elements s) n in
-      on-act entry-short begin-short P _ _ _ _ (knownOf s) (knownOf s) (digits 0 0) n elementTable (fullAt 0 elementTable) f (table-keys true 0 0 .10) (λ j r w v. refl) tells
+      on-act P _ _ _ _ (knownOf s) (knownOf s) (digits 0 0) n elementTable (fullAt 0 elementTable) f (table-keys true 0 0 .10) (λ j r w v. refl) tells
       (tt, omega arith)
       (λ j r v w u. tt)
       (λ j r v w u x e. on-unless P (not (hasNumber (amountAt v 0) (usedIn (s .now)))) 14 (got (figures s (inLayer (amountAt v 0)) [])) λ _.
@@ -113,7 +113,7 @@ module _ (entry-short : EntryShort) (begin-short : BeginShort) (K : Known) (n : 
   pub figures-next : (e : Env) (l : Line) (s : Set) (h : Home) (fs : List Figure) (f : Form) → HomeOk s h → Told n f → On (Next K (figures s h fs) n) (onFigures e l s h fs f)
   figures-next e l s h fs f ok tells =
       let P : State → Type 0 = Next K (figures s h fs) n in
-      on-act entry-short begin-short P _ _ _ _ (knownOf s) (homeKnown K s h) (rangeOf s) n (homeTable s h) (fullAt 0 (homeTable s h)) f (home-rows s h .0) (home-same K s h) tells
+      on-act P _ _ _ _ (knownOf s) (homeKnown K s h) (rangeOf s) n (homeTable s h) (fullAt 0 (homeTable s h)) f (home-rows s h .0) (home-same K s h) tells
       (ok, omega arith)
       (λ j r v w u. on-home P e s h (λ s′ h′. figures s′ h′ (fs ++ plain (l .line) j (numsOf v) ∷ [])) (λ y z. z) (λ k z. z)
       (ok, omega (arith, figure-more s h fs (plain (l .line) j (numsOf v)), nums-took w (home-rows s h .2) (homeKnown K s h) _ v n false u)))
@@ -124,7 +124,7 @@ module _ (entry-short : EntryShort) (begin-short : BeginShort) (K : Known) (n : 
       → On (Next K (successive s h fs m ps) n) (onSuccessive e l s h fs m ps f)
   successive-next e l s h fs m ps f ok tells =
       let P : State → Type 0 = Next K (successive s h fs m ps) n in
-      on-plain entry-short begin-short (homeKnown K s h) n P _ _ _ _ (knownOf s) (digits 0 0) (pointTable (isLayer h)) (fullAt (length ps) (pointTable (isLayer h))) f (plain-tables (isLayer h) 0 0 .5) tells
+      on-plain (homeKnown K s h) n P _ _ _ _ (knownOf s) (digits 0 0) (pointTable (isLayer h)) (fullAt (length ps) (pointTable (isLayer h))) f (plain-tables (isLayer h) 0 0 .5) tells
       (ok, omega arith)
       (λ j r v w u. on-home P e s h (λ s′ h′. successive s′ h′ fs m (ps ++ pointAt l v ∷ [])) (λ y z. z) (λ k z. z) (ok, omega (arith, point-took (isLayer h) w (homeKnown K s h) _ v n u ps l)))
       (λ j r v w u. tt)
@@ -132,7 +132,7 @@ module _ (entry-short : EntryShort) (begin-short : BeginShort) (K : Known) (n : 
 
   pub texts-next : (s : Set) (h : Home) (fs : List Figure) (m : ℕ) (o : Slots) (f : Form) → HomeOk s h → Told n f → On (Next K (texts s h fs m o) n) (onTexts s h fs m o f)
   texts-next s h fs m o f ok tells =
-      on-plain entry-short begin-short (homeKnown K s h) n (Next K (texts s h fs m o) n) _ _ _ _ (knownOf s) (digits 0 0) (textTable (isLayer h) 4 12) (marks o) f (plain-tables (isLayer h) 4 12 .6) tells
+      on-plain (homeKnown K s h) n (Next K (texts s h fs m o) n) _ _ _ _ (knownOf s) (digits 0 0) (textTable (isLayer h) 4 12) (marks o) f (plain-tables (isLayer h) 4 12 .6) tells
       (ok, omega arith)
       (λ j r v w u. (ok, omega (arith, slots-took w (homeKnown K s h) o v n false u)))
       (λ j r v w u. tt)
@@ -158,7 +158,7 @@ module _ (entry-short : EntryShort) (begin-short : BeginShort) (K : Known) (n : 
 
     placed-act : (p : ℕ) (d : Digits) (f : Form) → Told n f → On (Next K (placing s h fs m o p) n) (onPlaced s h fs m o p (act (knownOf s) (getD placedTables p []) d (marks (partOf o p)) f))
     placed-act p d f tells =
-        on-act entry-short begin-short (Next K (placing s h fs m o p) n) _ _ _ _ (knownOf s) (knownOf s) d n (getD placedTables p []) (marks (partOf o p)) f (placed-rows p .0) (λ j r w v. refl) tells
+        on-act (Next K (placing s h fs m o p) n) _ _ _ _ (knownOf s) (knownOf s) d n (getD placedTables p []) (marks (partOf o p)) f (placed-rows p .0) (λ j r w v. refl) tells
         (tt, omega arith) (placed-entry p) (λ j r v w u x e. placed-begin p j r v w u) (placed-shut p)
 
     skip-next : (d : ℕ) (z : Skip) → On (Next K (skipping s h fs m o d) n) (bySkip z (got (skipping s h fs m o d)) (skipDeeper d (skipping s h fs m o (suc d))))
@@ -179,7 +179,7 @@ module _ (entry-short : EntryShort) (begin-short : BeginShort) (K : Known) (n : 
     unknown-next e k c =
         on-cond (Next K (placing s h fs m o 0) n) (exceeds (rangeOf s) (e .class)) _ _
         (λ _. skips (skipOf k c))
-        (λ _. on-unknown entry-short begin-short (Next K (placing s h fs m o 0) n) (placing s h fs m o 0) (λ j v. bad 6) (λ i j v. bad 6) (λ _. bad 6) (knownOf s) (knownOf s) (digits 0 0) n c)
+        (λ _. on-unknown (Next K (placing s h fs m o 0) n) (placing s h fs m o 0) (λ j v. bad 6) (λ i j v. bad 6) (λ _. bad 6) (knownOf s) (knownOf s) (digits 0 0) n c)
       where
         skips : (z : Skip) → On (Next K (placing s h fs m o 0) n) (bySkip z (got (placing s h fs m o 0)) (skipDeeper 0 (skipping s h fs m o 1)))
         skips passes = (tt, omega arith)
@@ -191,7 +191,7 @@ module _ (entry-short : EntryShort) (begin-short : BeginShort) (K : Known) (n : 
     key-next e k c tells (found j r) q =
         let (w, i) = found-row k placedTable j r q in
         on-cond (Next K (placing s h fs m o 0) n) (reaches (e .class) (r .least)) _ _
-        (λ _. on-row entry-short begin-short (Next K (placing s h fs m o 0) n) _ _ _ _ (knownOf s) (knownOf s) (rangeOf s) n (getD (marks (partOf o 0)) j false) j r c
+        (λ _. on-row (Next K (placing s h fs m o 0) n) _ _ _ _ (knownOf s) (knownOf s) (rangeOf s) n (getD (marks (partOf o 0)) j false) j r c
         (row-all (λ r. keyOk (r .key)) w (placed-rows 0 .0)) (λ v. refl) (subst (λ (x : List ℕ). Told n (keyed x c)) (same-eq k (r .key) i) tells)
         (tt, omega arith) (λ v. placed-entry 0 j r v w) (λ v u e. placed-begin 0 j r v w u) (placed-shut 0))
         (λ _. unknown-next e k c)

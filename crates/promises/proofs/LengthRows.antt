@@ -1,64 +1,27 @@
--- One line in a block of rows: what it adds to the weight of what is held, where the law of one row is given.
-use Prim.Native.Nat.{ℕ, suc, _+_, _≤_}
-use mathlib.Core.Bool.{Bool, true, false, cond, not}
+-- One line in a block of rows: what it adds to the weight of what is held.
+use Prim.Native.Nat.{ℕ, _+_, _≤_}
+use mathlib.Core.Bool.{Bool, true, false, cond}
 use mathlib.Core.List.{List, [], _∷_, _++_}
 use mathlib.Core.Option.{some}
 use mathlib.Core.Path.{_≡_, refl, sym, ap, subst}
 use native.Mathlib.Omega.{arith}
-use lib.Dec.{eqb, leb}
+use lib.Dec.{leb}
 use lib.ListN.{length, getD, set, length-append}
 use borrow.Author.Tests.{leb-true}
 use Rattle.rules.specs.declared.Digits.{Digits}
 use Rattle.rules.specs.Base.{bytes, all, same}
-use Rattle.rules.specs.RefusalNumbers.{Got, got, bad, unless, andThen}
-use Rattle.rules.specs.Lines.{Rest, brace, equals, Form, ignored, wrong, close, eof, keyed, freeShapeOf, Shape, opener, noContent, content, opening, formless, shapeOf, hasForm}
-use Rattle.rules.specs.RangeClass.{reaches}
-use Rattle.rules.specs.Values.{isLayerId, Value, empty, nums, chars, linked, Known, Part, Kind, values, text, word, volumeName, sheet, ratio, serials, nothing, opens, headed, either, readPart, readKind, numsOf, charsOf, amountAt, showContent}
-use Rattle.rules.specs.Rows.{Rule, row, Found, absent, found, find, Slots, Held, partOf, enter, marks, fits, shapeFor, Act, stay, entry, begin, shut, refuse, orRefuse, innerOf, readShape, notTwice, actRow, actUnknown, actFound, act, complete}
-use Rattle.rules.specs.Machine.{State, byAct, layerValue}
+use Rattle.rules.specs.RefusalNumbers.{Got, bad, unless}
+use Rattle.rules.specs.Lines.{Rest, brace, equals, Form, ignored, wrong, close, eof, keyed, Shape, opener, noContent, content, opening, formless, shapeOf, hasForm}
+use Rattle.rules.specs.Values.{Value, empty, nums, chars, linked, Known, Part, Kind, values, text, word, volumeName, sheet, ratio, serials, nothing, opens, headed, either, readPart, readKind, numsOf, showContent}
+use Rattle.rules.specs.Rows.{Rule, row, Found, absent, found, find, Slots, Held, partOf, enter, marks, shapeFor, Act, stay, entry, begin, shut, refuse, orRefuse, innerOf, readShape, actRow, actUnknown, actFound, act, complete}
+use Rattle.rules.specs.Machine.{State, byAct}
 use Rattle.rules.specs.RecordTable.{ruleAt}
 use Rattle.rules.specs.FixedForm.{openLine, opensBlock, behind, lineOf}
-use Rattle.rules.proofs.Chains.{On, on-unless, on-map, on-then, on-got, same-eq, clash}
-use Rattle.rules.proofs.Rows.{Row, here, there, found-row, row-all, row-at}
+use Rattle.rules.proofs.Chains.{On, on-map, on-all, on-got, same-eq, clash}
+use Rattle.rules.proofs.Rows.{Row, here, found-row, row-all, row-at, row-did}
 use Rattle.promises.proofs.Forms.{Told, keyOk, keysOk}
-use Rattle.promises.proofs.Values.{nameless, show-nameless}
+use Rattle.promises.proofs.RowGood.{entry-good, begin-good, numbersOnly}
 use Rattle.promises.proofs.Weights.{open-kind, innerCost, inner-open, slotsCost, set-cost, heldCost, set-held}
-
--- ── the law of one row ──
-abbrev pub EntryShort : Type 0
-EntryShort =
-    (k : Known) (d : Digits) (full : Bool) (j : ℕ) (r : Rule) (x : Rest) (n j′ : ℕ) (v : Value) → keyOk (r .key) ≡ true → Told n (keyed (r .key) x)
-    → actRow k d full j r x ≡ entry j′ v → (j ≡ j′) × (opensBlock (r .holds) v ≡ false) × (full ≡ false) × (length (lineOf k r v) ≤ n)
-
-abbrev pub BeginShort : Type 0
-BeginShort =
-    (k : Known) (d : Digits) (full : Bool) (j : ℕ) (r : Rule) (x : Rest) (n i j′ : ℕ) (v : Value) → keyOk (r .key) ≡ true → Told n (keyed (r .key) x)
-    → actRow k d full j r x ≡ begin i j′ v → (i ≡ innerOf (r .holds)) × (j ≡ j′) × (opensBlock (r .holds) v ≡ true) × (full ≡ false) × (length (lineOf k r v) ≤ n)
-
-abbrev pub LayerShort : Type 0
-LayerShort = (k : List ℕ) (x : Rest) (n : ℕ) (v : Value) → isLayerId k ≡ true → Told n (keyed k x) → layerValue k (freeShapeOf x) ≡ got v → length (k ++ 61 ∷ charsOf v) ≤ n
-
--- ── rows whose line is the same whatever is known ──
-behind-nameless : (d : Kind) → nameless d ≡ true → (k k′ : Known) (v : Value) → behind k d v ≡ behind k′ d v
-behind-nameless (values p ps a) e k k′ v = ap (λ c. 61 ∷ c) (show-nameless (values p ps a) e k k′ v)
-behind-nameless (text n b) e k k′ v = ap (λ c. 61 ∷ c) (show-nameless (text n b) e k k′ v)
-behind-nameless (word n b) e k k′ v = ap (λ c. 61 ∷ c) (show-nameless (word n b) e k k′ v)
-behind-nameless volumeName e k k′ v = ap (λ c. 61 ∷ c) (show-nameless volumeName e k k′ v)
-behind-nameless sheet e k k′ v = ap (λ c. 61 ∷ c) (show-nameless sheet e k k′ v)
-behind-nameless ratio e k k′ v = ap (λ c. 61 ∷ c) (show-nameless ratio e k k′ v)
-behind-nameless serials e k k′ v = ap (λ c. 61 ∷ c) (show-nameless serials e k k′ v)
-behind-nameless nothing e k k′ v = refl
-behind-nameless (opens i) e k k′ v = refl
-behind-nameless (headed i p) e k k′ v = ap (λ c. 61 ∷ openLine c) (show-nameless (headed i p) e k k′ v)
-behind-nameless (either i) e k k′ v = ap (λ c. 61 ∷ cond (eqb (amountAt v 0) 1) (openLine c) c) (show-nameless (either i) e k k′ v)
-
-pub always-short : (r : Rule) → nameless (r .holds) ≡ true → (k k′ : Known) (v : Value) → lineOf k r v ≡ lineOf k′ r v
-always-short r e k k′ v = ap (λ c. r .key ++ c) (behind-nameless (r .holds) e k k′ v)
-
--- ── a row's number ──
-pub row-below : {t : List Rule} {j : ℕ} {r : Rule} → Row t j r → suc j ≤ length t
-row-below here = omega arith
-row-below (there w) = omega (arith, row-below w)
 
 -- ── a line that opens ──
 -- it has its key and `:{` at least
@@ -96,20 +59,7 @@ head-took w {r = r} at e k full v n (f, o, l, m) =
     omega (arith, leb-true (innerCost w (r .holds)) (length (r .key) + 2) (row-all (λ r. leb (innerCost w (r .holds)) (length (r .key) + 2)) at e), inner-open w (r .holds) v o, open-line k r v o, l)
 
 -- figures and points: their values are kept as numbers
-abbrev figureKind : Kind → Bool
-figureKind (values p ps a) = true
-figureKind (text n b) = false
-figureKind (word n b) = false
-figureKind volumeName = false
-figureKind sheet = false
-figureKind ratio = false
-figureKind serials = false
-figureKind nothing = false
-figureKind (opens i) = true
-figureKind (headed i p) = false
-figureKind (either i) = false
-
-behind-nums : (k : Known) (d : Kind) (v : Value) → figureKind d ≡ true → behind k d (nums (numsOf v)) ≡ behind k d v
+behind-nums : (k : Known) (d : Kind) (v : Value) → numbersOnly d ≡ true → behind k d (nums (numsOf v)) ≡ behind k d v
 behind-nums k (values p ps a) empty e = refl
 behind-nums k (values p ps a) (nums v) e = refl
 behind-nums k (values p ps a) (chars at c) e = refl
@@ -126,19 +76,19 @@ behind-nums k (headed i p) v e = clash e refl
 behind-nums k (either i) v e = clash e refl
 
 abbrev pub figureRows : List Rule → Bool
-figureRows t = all (λ r. figureKind (r .holds)) t
+figureRows t = all (λ r. numbersOnly (r .holds)) t
 
 pub nums-took : {t : List Rule} {j : ℕ} {r : Rule} → Row t j r → figureRows t ≡ true → (k : Known) (full : Bool) (v : Value) (n : ℕ) (b : Bool) → Took k r full v n b
     → length (lineOf k (ruleAt t j) (nums (numsOf v))) ≤ n
 nums-took {r = r} w e k full v n b (f, o, l, m) =
-    rw (row-at w (row "" (opens 0) 0), behind-nums k (r .holds) v (row-all (λ r. figureKind (r .holds)) w e)) l
+    rw (row-at w (row "" (opens 0) 0), behind-nums k (r .holds) v (row-all (λ r. numbersOnly (r .holds)) w e)) l
 
 -- ── a line in a block of rows ──
 key-least : (n : ℕ) (k : List ℕ) (x : Rest) → Told n (keyed k x) → length k + 1 ≤ n
 key-least n k brace t = omega arith
 key-least n k (equals p c) t = omega (arith, t .0)
 
-module _ (entry-short : EntryShort) (begin-short : BeginShort) (P : State → Type 0) (here : State) (en : ℕ → Value → Got State) (op : ℕ → ℕ → Value → Got State) (cl : Unit {0} → Got State) (k k′ : Known) (d : Digits) (n : ℕ) where
+module _ (P : State → Type 0) (here : State) (en : ℕ → Value → Got State) (op : ℕ → ℕ → Value → Got State) (cl : Unit {0} → Got State) (k k′ : Known) (d : Digits) (n : ℕ) where
   -- under a row that was found, read with k, weighed with k′
   pub on-row : (full : Bool) (j : ℕ) (r : Rule) (x : Rest) → keyOk (r .key) ≡ true → ((v : Value) → lineOf k r v ≡ lineOf k′ r v) → Told n (keyed (r .key) x)
       → P here
@@ -151,13 +101,13 @@ module _ (entry-short : EntryShort) (begin-short : BeginShort) (P : State → Ty
       go : (a : Act) → actRow k d full j r x ≡ a → On P (byAct here en op cl a)
       go stay e = st
       go (entry j′ v) e =
-          let (p, o, f, l) = entry-short k d full j r x n j′ v key t e in
-          subst (λ (m : ℕ). On P (en m v)) p (ent v (f, o, omega (arith, ap length (same v), l), key-least n (r .key) x t))
+          let (p, o, f, w) = entry-good k d full j r x n j′ v key (t .0) (t .1) e in
+          subst (λ (m : ℕ). On P (en m v)) p (ent v (f, o, omega (arith, ap length (same v), w .no-longer), key-least n (r .key) x t))
       go (begin i j′ v) e =
-          let (a, p, o, f, l) = begin-short k d full j r x n i j′ v key t e in
+          let (a, p, o, f, w) = begin-good k d full j r x n i j′ v key (t .0) (t .1) e in
           let q : actRow k d full j r x ≡ begin (innerOf (r .holds)) j v = cc in
           subst (λ (m : ℕ). On P (op m j′ v)) (sym a)
-          (subst (λ (m : ℕ). On P (op (innerOf (r .holds)) m v)) p (beg v (f, o, omega (arith, ap length (same v), l), key-least n (r .key) x t) q))
+          (subst (λ (m : ℕ). On P (op (innerOf (r .holds)) m v)) p (beg v (f, o, omega (arith, ap length (same v), w .no-longer), key-least n (r .key) x t) q))
       go shut e = clo (omega (arith, key-least n (r .key) x t))
       go (refuse m) e = tt
 
@@ -206,38 +156,17 @@ Opened (begin i j v) = isWritten v ≡ true
 Opened shut = Unit {0}
 Opened (refuse n) = Unit {0}
 
-on-any : {A : Type 0} (P : A → Type 0) → ((a : A) → P a) → (g : Got A) → On P g
-on-any P h (got a) = h a
-on-any P h (bad n) = tt
-
 shape-opened : (k : Known) (j : ℕ) (r : Rule) (s : Shape) → ((at : ℕ) (c : List ℕ) → On (λ v. isWritten v ≡ true) (readKind k (r .holds) at c)) → On Opened (readShape k j r s)
 shape-opened k j r opener h = refl
 shape-opened k j r noContent h = tt
-shape-opened k j r (content at c) h = on-map Opened (entry j) (readKind k (r .holds) at c) (on-any (λ v. Unit {0}) (λ v. tt) (readKind k (r .holds) at c))
+shape-opened k j r (content at c) h = on-map Opened (entry j) (readKind k (r .holds) at c) (on-all (λ v. Unit {0}) (λ v. tt) (readKind k (r .holds) at c))
 shape-opened k j r (opening at c) h = on-map Opened (begin (innerOf (r .holds)) j) (readKind k (r .holds) at c) (h at c)
 shape-opened k j r formless h = tt
-
-row-opened : (k : Known) (d : Digits) (full : Bool) (j : ℕ) (r : Rule) (x : Rest) → ((at : ℕ) (c : List ℕ) → On (λ v. isWritten v ≡ true) (readKind k (r .holds) at c))
-    → Opened (actRow k d full j r x)
-row-opened k d full j r x h =
-    let s : Shape = shapeFor r x in
-    let g1 : Got Act = andThen (readShape k j r s) (λ a. unless (not full) 11 (got a)) in
-    let g2 : Got Act = unless (notTwice (r .times) full) 7 g1 in
-    let g3 : Got Act = unless (fits (r .holds) (r .may) s) 5 g2 in
-    let g4 : Got Act = unless (reaches d (r .least)) 6 g3 in
-    done (unless (hasForm s) 5 g4)
-    (on-unless Opened (hasForm s) 5 g4 λ _. on-unless Opened (reaches d (r .least)) 6 g3 λ _.
-    on-unless Opened (fits (r .holds) (r .may) s) 5 g2 λ _. on-unless Opened (notTwice (r .times) full) 7 g1 λ _.
-    on-then Opened (readShape k j r s) (λ a. unless (not full) 11 (got a)) λ a e.
-    on-unless Opened (not full) 11 (got a) λ _. on-got Opened (readShape k j r s) a (shape-opened k j r s h) e)
-  where
-    done : (g : Got Act) → On Opened g → Opened (orRefuse g)
-    done (got a) o = o
-    done (bad n) o = tt
 
 pub head-written : (k : Known) (d : Digits) (full : Bool) (j : ℕ) (r : Rule) (x : Rest) (i : ℕ) (p : Part) (v : Value) → r .holds ≡ headed i p
     → actRow k d full j r x ≡ begin (innerOf (r .holds)) j v → isWritten v ≡ true
 head-written k d full j r x i p v q e =
-    subst Opened e
-    (row-opened k d full j r x λ at c. subst (λ d. On (λ v. isWritten v ≡ true) (readKind k d at c)) (sym q)
-    (on-map (λ v. isWritten v ≡ true) (λ n. nums (n ∷ [])) (readPart k p c) (on-any _ (λ n. refl) (readPart k p c))))
+    on-got Opened (readShape k j r (shapeFor r x)) (begin (innerOf (r .holds)) j v)
+    (shape-opened k j r (shapeFor r x) λ at c. subst (λ d. On (λ v. isWritten v ≡ true) (readKind k d at c)) (sym q)
+    (on-map (λ v. isWritten v ≡ true) (λ n. nums (n ∷ [])) (readPart k p c) (on-all _ (λ n. refl) (readPart k p c))))
+    (row-did k d full j r x (begin (innerOf (r .holds)) j v) refl e .read)

@@ -1,20 +1,18 @@
 -- The lines of a spool's volumes, as the reading goes over them: in order, ending in the last line of the last volume.
-use Prim.Native.Nat.{ℕ, zero, suc, _+_, _≤_, _<_}
-use mathlib.Core.Bool.{Bool, true, false, cond, _&&_, _||_}
+use Prim.Native.Nat.{ℕ, suc, _+_, _≤_, _<_}
+use mathlib.Core.Bool.{true}
 use mathlib.Core.List.{List, [], _∷_, _++_, append-nil}
 use mathlib.Core.Option.{Option, none, some}
-use mathlib.Core.Path.{_≡_, refl, sym, _∙_, ap, subst}
+use mathlib.Core.Path.{_≡_, refl}
 use native.Mathlib.Omega.{arith}
-use lib.Dec.{eqb, leb, ltb}
+use lib.Dec.{ltb}
 use lib.ListN.{length}
-use borrow.Author.Tests.{le-leb, lt-ltb, eq-eqb, eqb-true, leb-true, ltb-true}
-use Rattle.rules.specs.Base.{isNil}
+use borrow.Author.Tests.{le-leb, lt-ltb, eq-eqb}
 use Rattle.rules.specs.Spool.{Volume, linesOf}
-use Rattle.rules.specs.Lines.{formOf}
 use Rattle.rules.specs.Machine.{Line}
 use Rattle.rules.specs.Answers.{numbered, linesOfVolume, nextName, Listed, listed, noLines, ontoLines, listVolume, listVolumes}
-use Rattle.rules.proofs.Chains.{and-left, and-right, and-true, or-true, clash}
-use Rattle.promises.proofs.LowerRun.{notAfter, notAfter-refl, From, Sorted, proper}
+use Rattle.rules.proofs.Chains.{or-true, clash}
+use Rattle.promises.proofs.LowerRun.{notAfter, From, Sorted, proper}
 
 -- ── places ──
 later-place : (v n v′ n′ : ℕ) → v < v′ → notAfter v n v′ n′ ≡ true

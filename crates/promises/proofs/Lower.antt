@@ -1,27 +1,25 @@
 -- Two classes on the same lines: what the higher one's state is for the lower one, and that each line keeps it so.
-use Prim.Native.Nat.{ℕ, zero, suc, _+_, _-_, min, _≤_, _<_}
+use Prim.Native.Nat.{ℕ, zero, suc, _≤_}
 use mathlib.Core.Bool.{Bool, true, false, cond, _&&_, _||_, not}
-use mathlib.Core.List.{List, [], _∷_, _++_, map}
+use mathlib.Core.List.{List, [], _∷_, map}
 use mathlib.Core.Option.{Option, none, some}
-use mathlib.Core.Path.{_≡_, refl, sym, _∙_, ap, ap₂}
+use mathlib.Core.Path.{_≡_, refl, sym, _∙_, ap}
 use native.Mathlib.Omega.{arith}
-use lib.Dec.{eqb, leb, ltb}
-use lib.ListN.{length, getD, set, length-map, List·getD-map}
+use lib.Dec.{leb, ltb}
+use lib.ListN.{length, getD, set, length-map}
 use lib.Seq.{set-getD}
-use borrow.Author.Tests.{le-leb, lt-leb, lt-ltb, le-ltb, not-true, leb-true, leb-false, ltb-true, ltb-false}
+use borrow.Author.Tests.{le-leb, lt-ltb, leb-true, leb-false, ltb-true}
 use Rattle.rules.specs.declared.Digits.{Digits}
-use Rattle.rules.specs.Base.{bytes, same, isNil, isNone, isSome, all, total, flat, hasNumber, among}
-use Rattle.rules.specs.RefusalNumbers.{Got, got, bad, unless, mapG, andThen, also}
-use Rattle.rules.specs.Lines.{Rest, brace, equals, Form, ignored, wrong, close, eof, keyed, Shape, opener, noContent, content, opening, formless, shapeOf, freeShapeOf, hasForm}
-use Rattle.rules.specs.RangeClass.{digits, digitsOf, reaches, exceeds, both, hides, Skip, passes, deeper, noForm, skipShape, skipOf, mostDepth}
-use Rattle.rules.specs.Values.{Value, empty, nums, chars, linked, Known, Kind, values, text, word, volumeName, sheet, ratio, serials, nothing, opens, headed, either, isFree, readKind, serialsOf}
-use Rattle.rules.specs.Rows.{Rule, Found, absent, found, find, Slots, blank, Held, partOf, enter, marks, slotValue, heldAt, held, fits, shapeFor, Act, stay, entry, begin, shut, refuse, orRefuse, innerOf, readShape, notTwice, actRow, actUnknown, actFound, present, complete, act}
-use Rattle.rules.specs.Blocks.{around, blankHeld}
+use Rattle.rules.specs.Base.{total}
+use Rattle.rules.specs.RangeClass.{digits, reaches, exceeds, hides}
+use Rattle.rules.specs.Values.{Value}
+use Rattle.rules.specs.Rows.{Rule, Slots, blank, Held, partOf, enter}
+use Rattle.rules.specs.Blocks.{blankHeld}
 use Rattle.rules.specs.Figures.{placedTable, placedTables, textTable}
-use Rattle.rules.specs.Sets.{Point, Figure, plain, chain, lettering, placed, Layer, Drawing, Symbol, LayerBlock, Contents, Set, headOr, firstContents, isFirst, symbolRange, rangeOf, knownOf, ownSerial, figureSerial, serialsOfBlock, serialsOfVolume, serialsIn, elementsOf, usedIn}
-use Rattle.rules.specs.Machine.{Line, Env, Home, inElement, inLayer, State, top, file, drawing, layerNames, defines, symbol, hide, elements, figures, successive, texts, placing, skipping, ended, byAct}
-use Rattle.rules.proofs.Chains.{and-left, and-right, and-true, and-false, or-true, clash, by-cond, cond-same, ap-cond, same-eq, never, unless-got, map-got, then-got, map-append, map-compose, map-agree, nil-map, through}
-use Rattle.rules.proofs.Rows.{Row, here, there, found-row, row-all}
+use Rattle.rules.specs.Sets.{Figure, plain, chain, lettering, placed, LayerBlock, Contents, Set, headOr, rangeOf, elementsOf, usedIn}
+use Rattle.rules.specs.Machine.{Home, inElement, inLayer, State, top, file, drawing, layerNames, defines, symbol, hide, elements, figures, successive, texts, placing, skipping, ended}
+use Rattle.rules.proofs.Chains.{and-left, and-right, and-true, and-false, or-true, clash, cond-same, map-compose, map-agree}
+use Rattle.rules.proofs.Rows.{Row, here, there}
 use Rattle.promises.specs.DemandThree.{NotAbove}
 
 -- ── digits ──
@@ -243,12 +241,6 @@ module _ (c d : Digits) where
   pub file-same : (now : Contents) (vs : List Contents) → headOr (lowerContents c d now) (map (lowerContents c d) vs) .file ≡ headOr now vs .file
   file-same now [] = refl
   file-same now (v ∷ vs) = refl
-
-  pub first-same : (s : Set) → isFirst (lowerIn c d s) ≡ isFirst s
-  first-same s = nil-map (lowerContents c d) (s .volumes)
-
-  pub files-same : (s : Set) → firstContents (lowerIn c d s) .file ≡ firstContents s .file
-  files-same s = file-same (s .now) (s .volumes)
 
   block-count : (us : List LayerBlock) → total (λ u. length (u .figures)) (map (lowerBlock c d) us) ≡ total (λ u. length (u .figures)) us
   block-count [] = refl

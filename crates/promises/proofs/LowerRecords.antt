@@ -1,28 +1,28 @@
 -- The records of the lower class are those of the higher, with what the lower doesn't know marked unread.
-use Prim.Native.Nat.{ℕ, zero, suc, _+_, _≤_}
-use mathlib.Core.Bool.{Bool, true, false, cond, _&&_, _||_, not}
+use Prim.Native.Nat.{ℕ, zero, suc, _+_}
+use mathlib.Core.Bool.{Bool, true, false, cond}
 use mathlib.Core.List.{List, [], _∷_, _++_, map}
 use mathlib.Core.Option.{Option, none, some}
 use mathlib.Core.Path.{_≡_, refl, sym, _∙_, ap, ap₂}
 use native.Mathlib.Omega.{arith}
-use lib.Dec.{eqb, leb}
+use lib.Dec.{eqb}
 use lib.IntN.{ℤ, pos, negsuc}
-use lib.ListN.{length, getD, set, take, drop, replicate}
+use lib.ListN.{set}
 use lib.Seq.{sets}
-use borrow.Author.Tests.{le-leb, eqb-false, ne-eqb}
+use borrow.Author.Tests.{eqb-false, ne-eqb}
 use Rattle.rules.specs.declared.Digits.{Digits}
 use Rattle.rules.specs.Base.{flat}
-use Rattle.rules.specs.RangeClass.{digits, hides, reaches}
+use Rattle.rules.specs.RangeClass.{digits, hides}
 use Rattle.rules.specs.Values.{Num, Value, nums}
 use Rattle.rules.specs.Rows.{Rule, Slots, Held, partOf}
-use Rattle.rules.specs.Blocks.{fileTable, rangeTable, baseTable, elecTable, symTable, laterTable, fileTables, drawingTable, symbolTable}
-use Rattle.rules.specs.Figures.{layerTable, figureTable, pointTable, textTable, placedTable, placedTables}
+use Rattle.rules.specs.Blocks.{fileTable, rangeTable, baseTable, elecTable, symTable, laterTable, drawingTable, symbolTable}
+use Rattle.rules.specs.Figures.{layerTable, figureTable, pointTable, textTable, placedTable}
 use Rattle.rules.specs.Sets.{Point, Figure, plain, chain, lettering, placed, Layer, Drawing, Symbol, LayerBlock, Contents, Set, rangeOf, isSingle}
-use Rattle.rules.specs.RecordTable.{numbersOf, stateOf, columns, firstOr0, others, padded, putNumbers, putState, putSlot, firstSlot, otherSlots, putSlots, putParts, putHeld, unreadState, markUnread, width, start, twoOf, fileRecords, drawingRecord, layerRecord, layerRecords, ruleAt, plainRecord, pointRecords, chainRecord, textRecord, placedRecord, lineRecord, figureRecords, innerRecords, symbolRecords, blockRecords, bodyRecords, laterRecords, recordsFrom, recordsOf}
-use Rattle.rules.proofs.Rows.{Row, here, there}
-use Rattle.rules.proofs.Chains.{and-true, and-false, by-cond, cond-same, map-append, map-compose, map-agree}
-use Rattle.promises.specs.DemandThree.{NotAbove, Attribute, attributes, instead, zeroAt, unreadOne, unreadEach, isPlaced, unread}
-use Rattle.promises.proofs.Lower.{hides-up, known-shows, maskSlots, wiped, textLeast, innerPart, lowerHeld, lowerFigure, lowerFigures, lowerBlock, lowerContents, lowerIn, lowerSet, part-own, part-inner, file-same}
+use Rattle.rules.specs.RecordTable.{numbersOf, stateOf, columns, firstOr0, others, padded, putNumbers, putState, putSlot, firstSlot, otherSlots, putSlots, start, fileRecords, drawingRecord, layerRecord, layerRecords, ruleAt, plainRecord, pointRecords, chainRecord, textRecord, placedRecord, lineRecord, figureRecords, innerRecords, symbolRecords, blockRecords, bodyRecords, laterRecords, recordsFrom, recordsOf}
+use Rattle.rules.proofs.Rows.{Row, here, there, reaches-none}
+use Rattle.rules.proofs.Chains.{by-cond, cond-same, map-append}
+use Rattle.promises.specs.DemandThree.{NotAbove, instead, isPlaced, unread}
+use Rattle.promises.proofs.Lower.{hides-up, known-shows, maskSlots, wiped, textLeast, innerPart, lowerHeld, lowerFigure, lowerBlock, lowerContents, lowerSet, part-own, part-inner, file-same}
 
 -- ── slots that are left out ──
 module _ (c d : Digits) where
@@ -127,15 +127,11 @@ first-slots : (rs : List Rule) (s : Slots) (t : List ℤ) → firstOr0 (putSlots
 first-slots [] s t = refl
 first-slots (r ∷ rs) s t = first-slot r (firstSlot s) (putSlots rs (otherSlots s) t) ∙ first-slots rs (otherSlots s) t
 
--- every class knows what is known from 000 on
-zero-known : (c : Digits) → reaches c (digits 0 0) ≡ true
-zero-known c = and-true _ _ (le-leb 0 (c .middle) (omega arith)) (le-leb 0 (c .last) (omega arith))
-
 module _ (low high : Digits) (le : NotAbove low high) (d : Digits) where
   -- the line of `E_symbol=` alone has no attribute to leave out
   first-alone : (v : Value) → lowerHeld low d ((some v ∷ []) ∷ []) ≡ (some v ∷ []) ∷ []
   unfolding placedTable
-  first-alone v = rw (known-shows low d (digits 0 0) (zero-known low))
+  first-alone v = rw (known-shows low d (digits 0 0) (reaches-none low))
 
   up : (l : Digits) → hides low d l ≡ false → hides high d l ≡ false
   up l e = hides-up low high le d l e
@@ -174,7 +170,7 @@ module _ (low high : Digits) (le : NotAbove low high) (d : Digits) where
       × (nth 4 (maskSlots low d placedTable s) ≡ cond (hides low d (digits 0 5)) none (nth 4 s)) × (nth 5 (maskSlots low d placedTable s) ≡ cond (hides low d (digits 1 0)) none (nth 5 s))
   unfolding placedTable
   own-masked s = (
-    nth-mask {t = placedTable} here s ∙ rw (known-shows low d (digits 0 0) (zero-known low)),
+    nth-mask {t = placedTable} here s ∙ rw (known-shows low d (digits 0 0) (reaches-none low)),
     nth-mask {t = placedTable} (there here) s,
     nth-mask {t = placedTable} (there (there here)) s,
     nth-mask {t = placedTable} (there (there (there here))) s,

@@ -1,24 +1,23 @@
 -- Two classes over all lines: what the higher accepts the lower accepts; what the lower refuses the higher refuses, there or before.
-use Prim.Native.Nat.{ℕ, zero, suc, _+_, _≤_, _<_}
-use mathlib.Core.Bool.{Bool, true, false, cond, _&&_, _||_, not}
-use mathlib.Core.List.{List, [], _∷_, _++_, map}
-use mathlib.Core.Option.{Option, none, some}
-use mathlib.Core.Path.{_≡_, refl, sym, _∙_, ap, subst}
+use Prim.Native.Nat.{ℕ, zero, suc}
+use mathlib.Core.Bool.{Bool, true, false, cond, _&&_, _||_}
+use mathlib.Core.List.{List, [], _∷_}
+use mathlib.Core.Option.{Option}
+use mathlib.Core.Path.{_≡_, refl, sym, _∙_, ap}
 use native.Mathlib.Omega.{arith}
 use lib.Dec.{eqb, leb, ltb}
-use lib.ListN.{length}
-use borrow.Author.Tests.{le-leb, lt-ltb, eq-eqb, eqb-true, leb-true, ltb-true}
+use borrow.Author.Tests.{le-leb, eq-eqb}
 use Rattle.rules.specs.declared.Digits.{Digits}
 use Rattle.rules.specs.Base.{isNil}
-use Rattle.rules.specs.RefusalNumbers.{Got, got, bad, unless, mapG, also}
+use Rattle.rules.specs.RefusalNumbers.{Got, got, bad, mapG, also}
 use Rattle.rules.specs.Lines.{Form, ignored, wrong, close, eof, keyed}
 use Rattle.rules.specs.RangeClass.{hides}
 use Rattle.rules.specs.Sets.{Figure, Set, rangeOf}
 use Rattle.rules.specs.VolumesAndTotals.{countedAll, layersUsed}
 use Rattle.rules.specs.Rows.{Held}
-use Rattle.rules.specs.Machine.{Line, Env, State, top, file, drawing, layerNames, defines, symbol, hide, elements, figures, successive, texts, placing, skipping, ended, atEof, onTop, onPlacing, onSkipping, stepIn, inElements, afterElements, isIgnored, isClose, isEof, completes, nextVolume, step, Outcome, refused, accepted, thenRun, finish, run}
+use Rattle.rules.specs.Machine.{Line, Env, State, top, file, drawing, layerNames, defines, symbol, hide, elements, figures, successive, texts, placing, skipping, ended, atEof, onTop, stepIn, inElements, afterElements, isIgnored, isClose, isEof, completes, nextVolume, step, refused, accepted, thenRun, finish, run}
 use Rattle.rules.proofs.Runs.{not-accepted}
-use Rattle.rules.proofs.Chains.{and-left, and-right, and-true, or-true, clash, by-cond, never, unless-got, map-got, also-got}
+use Rattle.rules.proofs.Chains.{and-left, and-right, or-true, clash, by-cond, never, unless-got, map-got, also-got, cond-true}
 use Rattle.promises.specs.DemandThree.{NotAbove}
 use Rattle.promises.proofs.Lower.{textLeast, lowerFigures, lowerHeld, lowerSet, depthIn, lowerPlacing, lower}
 use Rattle.promises.proofs.LowerSteps.{sim-top, sim-file, sim-drawing, sim-layerNames, sim-defines, sim-symbol, sim-hide, sim-elements, sim-figures, sim-successive, sim-texts, sim-skipping}
@@ -130,15 +129,11 @@ module _ (low high : Digits) (le : NotAbove low high) (m : Option ℕ) where
 -- a step through the last line of the last volume ends the set
 pub last-ends : (e : Env) (l : Line) (s s′ : State) → l .last ≡ true → isNil (l .next) ≡ true → step e l s ≡ got s′ → (t : Set) × (s′ ≡ ended t)
 last-ends e l s s′ p q h =
-    let (u, a, b) = map-got nextVolume (also (completes l s) 9 (stepIn e l s)) s′ (taken (l .last) (mapG nextVolume (also (completes l s) 9 (stepIn e l s))) (stepIn e l s) (got s′) p h) in
+    let (u, a, b) = map-got nextVolume (also (completes l s) 9 (stepIn e l s)) s′ (cond-true (l .last) (mapG nextVolume (also (completes l s) 9 (stepIn e l s))) (stepIn e l s) (got s′) p h) in
     let (c, d) = also-got (completes l s) 9 (stepIn e l s) u a in
-    let (t, z) = ends s u (taken (isNil (l .next)) (afterElements s && isEof (l .form)) ((inElements s && isClose (l .form)) || (afterElements s && isIgnored (l .form))) true q c) d in
+    let (t, z) = ends s u (cond-true (isNil (l .next)) (afterElements s && isEof (l .form)) ((inElements s && isClose (l .form)) || (afterElements s && isIgnored (l .form))) true q c) d in
     (t, sym b ∙ ap nextVolume z)
   where
-    taken : {A : Type 0} (b : Bool) (x y z : A) → b ≡ true → cond b x y ≡ z → x ≡ z
-    taken true x y z p e = e
-    taken false x y z p e = clash p refl
-
     at-eof : (s : Set) (k : ℕ) (u : State) → atEof l s k ≡ got u → (t : Set) × (u ≡ ended t)
     at-eof s k u e =
         let a = unless-got (eqb k 4 && (isNil (l .next) && l .last)) 9 _ u e in

@@ -1,36 +1,24 @@
 -- One line at two classes: what the higher accepts the lower accepts, with the same state but for what it leaves out.
-use Prim.Native.Nat.{ℕ, zero, suc, _+_, _-_, min, _≤_, _<_}
-use mathlib.Core.Bool.{Bool, true, false, cond, _&&_, _||_, not}
-use mathlib.Core.List.{List, [], _∷_, _++_, map}
-use mathlib.Core.Option.{Option, none, some}
-use mathlib.Core.Path.{_≡_, refl, sym, _∙_, ap, ap₂}
-use native.Mathlib.Omega.{arith}
-use lib.Dec.{eqb, leb, ltb}
-use lib.ListN.{length, getD, set, List·getD-map}
-use borrow.Author.Tests.{le-leb, lt-leb, lt-ltb, le-ltb, not-true, leb-true, leb-false, ltb-true, ltb-false}
+use Prim.Native.Nat.{ℕ, zero, suc}
+use mathlib.Core.Bool.{Bool, true, false}
+use mathlib.Core.List.{List, [], _∷_, _++_}
+use mathlib.Core.Option.{Option}
+use mathlib.Core.Path.{_≡_, refl, _∙_, ap}
 use Rattle.rules.specs.declared.Digits.{Digits}
-use Rattle.rules.specs.Base.{bytes, same, isNil, isNone, isSome, all, total, flat, hasNumber, among}
-use Rattle.rules.specs.RefusalNumbers.{Got, got, bad, unless, mapG, andThen, also}
-use Rattle.rules.specs.Lines.{Rest, brace, equals, Form, ignored, wrong, close, eof, keyed, Shape, opener, noContent, content, opening, formless, shapeOf, freeShapeOf, hasForm}
-use Rattle.rules.specs.RangeClass.{digits, digitsOf, reaches, exceeds, both, hides, Skip, passes, deeper, noForm, skipShape, skipOf, mostDepth}
-use Rattle.rules.specs.Values.{Num, Value, empty, nums, chars, linked, Known, Kind, values, text, word, volumeName, sheet, ratio, serials, nothing, opens, headed, either, isFree, readKind, serialsOf, numsOf, amountAt}
-use Rattle.rules.specs.Rows.{Rule, Found, absent, found, find, Slots, blank, Held, partOf, enter, marks, fits, shapeFor, Act, stay, entry, begin, shut, refuse, orRefuse, innerOf, readShape, notTwice, actRow, actUnknown, actFound, present, complete, act, fullAt}
-use Rattle.rules.specs.Blocks.{topTable, fileTables, around, blankHeld, drawingTable, symbolTable, definesTable, elementTable}
-use Rattle.rules.specs.Figures.{placedTable, placedTables, textTable, pointTable, layerTable, figureTable}
-use Rattle.rules.specs.Sets.{Point, Figure, plain, chain, lettering, placed, Layer, Drawing, Symbol, LayerBlock, Contents, Set, withNow, withDrawing, withSymbol, withVolume, withRecords, withBlock, headOr, firstContents, isFirst, rangeOf, knownOf, ownSerial, figureSerial, serialsOfBlock, serialsOfVolume, serialsIn, elementsOf, usedIn}
-use Rattle.rules.specs.VolumesAndTotals.{chained, dated, countedHere, countedAll, layersUsed}
-use Rattle.rules.specs.Machine.{Line, Env, Home, inElement, inLayer, State, top, file, drawing, layerNames, defines, symbol, hide, elements, figures, successive, texts, placing, skipping, ended, byAct, roomFor, taking, openTop, atEof, onTop, closeFile, shutPart, onFile, onDrawing, layerLine, onLayerNames, onDefines, openSymbol, onSymbol, pointAt, onHide, onElements, isLayer, homeTable, closeFigures, openPlaced, openFigure, onFigures, onSuccessive, onTexts, bySkip, skipDeeper, onUnknown, newSerial, onPlaced, onPlacedKey, onPlacedOwn, onPlacing, skipShut, onSkipping, stepIn, inElements, afterElements, isIgnored, isClose, isEof, completes, nextVolume, step}
-use Rattle.rules.proofs.Chains.{and-left, and-right, and-true, clash, by-cond, cond-same, same-eq, never, unless-got, map-got, then-got, map-unless, map-then, map-append, map-compose, map-agree, nil-map, through}
-use Rattle.rules.proofs.Runs.{map-act}
-use Rattle.rules.proofs.Rows.{Row, here, there, found-row, row-all}
-use Rattle.promises.specs.DemandThree.{NotAbove}
-use Rattle.promises.proofs.Lower.{reaches-up, exceeds-down, hides-up, known-shows, unknown-hides, unknown-exceeds, maskSlots, wiped, textLeast, innerPart, lowerHeld, lowerFigure, lowerFigures, lowerBlock, lowerContents, lowerIn, lowerSet, lowerSoFar, depthIn, lowerPlacing, lower, mask-slot, mask-in, mask-out, mask-blank, part-own, part-inner, enter-own, enter-hidden, enter-inner, enter-wiped, lower-blank, file-same, first-same, files-same, elements-same, totals-same, used-same, all-used-same}
+use Rattle.rules.specs.RefusalNumbers.{Got, mapG}
+use Rattle.rules.specs.Lines.{Form, ignored, wrong, close, eof, keyed}
+use Rattle.rules.specs.RangeClass.{Skip, passes, deeper, noForm}
+use Rattle.rules.specs.Values.{Num}
+use Rattle.rules.specs.Rows.{Slots, Held}
+use Rattle.rules.specs.Sets.{Point, Figure, plain, chain, lettering, Drawing, Symbol, Contents, Set, withNow, withVolume, withBlock, rangeOf}
+use Rattle.rules.specs.VolumesAndTotals.{dated}
+use Rattle.rules.specs.Machine.{Line, Env, Home, inElement, inLayer, State, file, drawing, figures, openTop, atEof, onTop, closeFile, shutPart, onFile, onDrawing, onLayerNames, onDefines, openSymbol, onSymbol, onHide, onElements, homeTable, closeFigures, openFigure, onFigures, onSuccessive, onTexts, bySkip, skipShut, onSkipping}
+use Rattle.rules.proofs.Chains.{map-append, nil-map, through}
+use Rattle.rules.proofs.Runs.{map-act, head-file, head-snoc}
+use Rattle.promises.proofs.Lower.{lowerHeld, lowerFigure, lowerFigures, lowerIn, lowerSet, lowerSoFar, lower, lower-blank, file-same, elements-same, totals-same, used-same, all-used-same}
 
 -- ── the set, where one thing of it changes ──
 module _ (c : Digits) where
-  pub range-same : (s : Set) → rangeOf (lowerSet c s) ≡ rangeOf s
-  range-same s = simp (file-same c (rangeOf s) (s .now) (s .volumes))
-
   pub dated-same : (d : Digits) (s : Set) (b : Bool) (h : Held) → dated (lowerIn c d s) b h ≡ dated s b h
   dated-same d s true h = refl
   dated-same d s false h = simp (file-same c d (s .now) (s .volumes))
@@ -45,21 +33,13 @@ module _ (c : Digits) where
       go (u ∷ us) = refl
 
   -- the first volume's file, where the volume at hand is closed, or has one layer more
-  first-kept : (v : Contents) (vs : List Contents) → headOr v (vs ++ v ∷ []) ≡ headOr v vs
-  first-kept v [] = refl
-  first-kept v (u ∷ us) = refl
-
-  first-file : (v w : Contents) (vs : List Contents) → v .file ≡ w .file → headOr v vs .file ≡ headOr w vs .file
-  first-file v w [] e = e
-  first-file v w (u ∷ us) e = refl
-
   pub volume-same : (s : Set) → withVolume (lowerSet c s) ≡ lowerSet c (withVolume s)
-  volume-same s = simp (first-kept (s .now) (s .volumes), map-append)
+  volume-same s = simp (head-snoc (s .now) (s .now) (s .volumes), map-append)
 
   pub block-same : (s : Set) (k : ℕ) (fs : List Figure)
       → withBlock (record { layer = k; figures = lowerFigures c (rangeOf s) fs }) (lowerSet c s) ≡ lowerSet c (withBlock (record { layer = k; figures = fs }) s)
   block-same s k fs =
-      simp (first-file (record { line = s .now .line; file = s .now .file; blocks = s .now .blocks ++ record { layer = k; figures = fs } ∷ [] }) (s .now) (s .volumes) refl, map-append)
+      simp (head-file (record { line = s .now .line; file = s .now .file; blocks = s .now .blocks ++ record { layer = k; figures = fs } ∷ [] }) (s .now) (s .volumes) refl, map-append)
 
   soFar-one : (d : Digits) (h : Home) (fs : List Figure) (f : Figure) → lowerFigure c d f ≡ f → lowerSoFar c d h (fs ++ f ∷ []) ≡ lowerSoFar c d h fs ++ f ∷ []
   soFar-one d (inElement y) fs f e = refl

@@ -1,4 +1,4 @@
--- Records, and the texts that they show, differ in their places alone, where only rows of text hold text.
+-- Records differ in their places alone, where only rows of text hold text.
 use Prim.Native.Nat.{ℕ, zero, suc, _+_}
 use Prim.Native.String as S
 use mathlib.Core.Bool.{Bool, true, false, cond, _||_, not}
@@ -12,114 +12,16 @@ use lib.Seq.{sets}
 use Rattle.rules.specs.declared.Digits.{Digits}
 use Rattle.rules.specs.Base.{mapO, all, flat, hasNumber}
 use Rattle.rules.specs.RangeClass.{digits, hides}
-use Rattle.rules.specs.Values.{Num, Value, empty, nums, chars, linked, Kind, values, text, word, volumeName, sheet, ratio, serials, nothing, opens, headed, either, charsOf}
-use Rattle.rules.specs.Rows.{Rule, Slots, Held, partOf, slotValue, held}
+use Rattle.rules.specs.Values.{Num, Value, empty, nums, chars, linked, Kind, values, text, word, volumeName, sheet, ratio, serials, nothing, opens, headed, either}
+use Rattle.rules.specs.Rows.{Rule, Slots, Held, partOf}
 use Rattle.rules.specs.Blocks.{fileTable, rangeTable, baseTable, elecTable, symTable, laterTable, fileTables, drawingTable, symbolTable}
 use Rattle.rules.specs.Figures.{layerTable, figureTable, pointTable, textTable, placedTable, placedTables}
-use Rattle.rules.specs.Sets.{Point, Figure, plain, chain, lettering, placed, Layer, Drawing, Symbol, LayerBlock, Contents, Set, rangeOf, isSingle}
+use Rattle.rules.specs.Sets.{Point, Figure, plain, chain, lettering, placed, Layer, Drawing, Symbol, Contents, Set, rangeOf, isSingle}
 use Rattle.rules.specs.RecordTable.{numbers, numbersOf, stateOf, columns, firstOr0, others, padded, putNumbers, putState, putSlot, firstSlot, otherSlots, putSlots, putParts, putHeld, unreadState, markUnread, start, fileRecords, drawingRecord, layerRecord, layerRecords, ruleAt, plainRecord, lineRecord, pointRecords, firstType, chainRecord, textRecord, placedRecord, figureRecords, innerRecords, symbolRecords, blockRecords, bodyRecords, laterRecords, recordsFrom, recordsOf}
 use Rattle.rules.proofs.Chains.{and-left, and-right, cond-same, map-append}
-use Rattle.promises.specs.PlacesApart.{bareValue, bareSlots, bareHeld, barePoint, bareFigure, bareLayer, bareDrawing, bareSymbol, bareBlock, bareContents, bareSet, textPlaces, kindOf, without, placesApart, textAt, headerTexts, drawingTexts, figureTexts, symbolTexts, blockTexts, bodyTexts, textsFrom, textsOf}
-use Rattle.promises.proofs.Places.{map-same, chars-bare, held-bare, part-bare, range-bare, single-bare, name-bare}
-
--- ── texts ──
-text-bare : (k : S.String) (t : List Rule) (s : Slots) → textAt k t (bareSlots s) ≡ textAt k t s
-text-bare k t s = ap charsOf (held-bare k t s) ∙ chars-bare (slotValue (held k t s))
-
-flat-same : {A B : Type 0} (g : A → List B) (f : A → A) → ((a : A) → g (f a) ≡ g a) → (s : List A) → flat (map g (map f s)) ≡ flat (map g s)
-flat-same g f e s = ap flat (map-same g f e s)
-
-figure-texts : (f : Figure) → figureTexts (bareFigure f) ≡ figureTexts f
-figure-texts (plain n j v) = refl
-figure-texts (chain n ps) = refl
-figure-texts (lettering n s) = rw (text-bare "character" (textTable true 4 12) s)
-figure-texts (placed n h) =
-    rw (part-bare h 0, part-bare h 1, text-bare "circuit" placedTable (partOf h 0), text-bare "character" (textTable true 16 24) (partOf h 1))
-
-body-texts : (v : Contents) → bodyTexts (bareContents v) ≡ bodyTexts v
-body-texts v = flat-same blockTexts bareBlock (λ u. flat-same figureTexts bareFigure figure-texts (u .figures)) (v .blocks)
-
-symbol-texts : (y : Symbol) → symbolTexts (bareSymbol y) ≡ symbolTexts y
-symbol-texts y = ap₂ _∷_ (name-bare y) (flat-same figureTexts bareFigure figure-texts (y .figures))
-
-header-texts : (s : Slots) → headerTexts (bareSlots s) ≡ headerTexts s
-header-texts s = simp text-bare
-
-drawing-texts : (d : Drawing) → drawingTexts (bareDrawing d) ≡ drawingTexts d
-drawing-texts d = rw (map-same (λ l. charsOf (l .name)) bareLayer (λ l. chars-bare (l .name)) (d .layers)) (simp text-bare)
-
-pub texts-bare : (s : Set) → textsOf (bareSet s) ≡ textsOf s
-texts-bare s = go (s .volumes)
-  where
-    go : (vs : List Contents) → textsFrom (bareSet s) (map bareContents vs) ≡ textsFrom s vs
-    go [] = refl
-    go (v ∷ vs) =
-        ap₂ _++_
-        (ap₂ _++_
-        (ap₂ _++_ (ap headerTexts (part-bare (v .file) 0) ∙ header-texts (partOf (v .file) 0)) (drawing-texts (s .drawing)))
-        (flat-same symbolTexts bareSymbol symbol-texts (s .symbols)))
-        (flat-same bodyTexts bareContents body-texts (v ∷ vs))
-
--- ── only rows of text hold text ──
-abbrev pub isText : Kind → Bool
-isText (values p ps a) = false
-isText (text n b) = true
-isText (word n b) = true
-isText volumeName = true
-isText sheet = false
-isText ratio = false
-isText serials = false
-isText nothing = false
-isText (opens i) = false
-isText (headed i p) = false
-isText (either i) = false
-
--- the first argument: the row is one of text
-abbrev pub FitValue : Bool → Value → Type 0
-FitValue b empty = Unit {0}
-FitValue b (nums v) = Unit {0}
-FitValue b (chars at c) = b ≡ true
-FitValue b (linked n ps) = Unit {0}
-
-abbrev pub FitSlot : Bool → Option Value → Type 0
-FitSlot b none = Unit {0}
-FitSlot b (some v) = FitValue b v
-
-abbrev pub FitSlots : List Rule → Slots → Type 0
-FitSlots [] s = Unit {0}
-FitSlots (r ∷ t) s = FitSlot (isText (r .holds)) (firstSlot s) × FitSlots t (otherSlots s)
-
-abbrev pub FitHeld : List (List Rule) → Held → Type 0
-FitHeld ts h = (p : ℕ) → FitSlots (getD ts p []) (partOf h p)
-
-abbrev pub Each : {A : Type 0} → (A → Type 0) → List A → Type 0
-Each P [] = Unit {0}
-Each P (a ∷ s) = P a × Each P s
-
--- a figure of a layer, or of a symbol, in which no symbol is placed
-abbrev pub FitFigure : Bool → Figure → Type 0
-FitFigure inLayer (plain n j v) = Unit {0}
-FitFigure inLayer (chain n ps) = Unit {0}
-FitFigure inLayer (lettering n s) = FitSlots (textTable inLayer 4 12) s
-FitFigure true (placed n h) = FitHeld placedTables h
-FitFigure false (placed n h) = ⊥
-
-abbrev pub FitSymbol : Symbol → Type 0
-FitSymbol y = FitSlots symbolTable (y .own) × Each (FitFigure false) (y .figures)
-
-abbrev pub FitBlock : LayerBlock → Type 0
-FitBlock u = Each (FitFigure true) (u .figures)
-
-abbrev pub FitContents : Bool → Contents → Type 0
-FitContents first v = FitHeld (fileTables first) (v .file) × Each FitBlock (v .blocks)
-
--- the volumes, of which the first has FILE_FORMAT's whole table
-abbrev pub FitVolumes : List Contents → Type 0
-FitVolumes [] = Unit {0}
-FitVolumes (v ∷ vs) = FitContents true v × Each (FitContents false) vs
-
-abbrev pub FitSet : Set → Type 0
-FitSet s = FitSlots drawingTable (s .drawing .own) × Each FitSymbol (s .symbols) × FitVolumes (s .volumes)
+use Rattle.promises.specs.PlacesApart.{bareValue, bareSlots, bareHeld, barePoint, bareFigure, bareLayer, bareDrawing, bareSymbol, bareBlock, bareContents, bareSet, textPlaces, kindOf, without, placesApart}
+use Rattle.promises.proofs.Bare.{part-bare, range-bare, single-bare}
+use Rattle.promises.proofs.FitSets.{isText, FitSlot, FitSlots, FitHeld, Each, FitFigure, FitSymbol, FitBlock, FitContents, FitVolumes, FitSet}
 
 -- ── lists that agree but at some places ──
 abbrev isPlace : ℕ → ℕ → Bool

@@ -1,204 +1,25 @@
 -- Every refusal of the reading has a number from 1 to 19: 4 to 19 at a line, 1 to 3 before.
-use Prim.Native.Nat.{ℕ, zero, suc, _+_, _≤_, min}
-use mathlib.Core.Bool.{Bool, true, false, cond, _&&_, not}
+use Prim.Native.Nat.{ℕ, zero, suc, _+_, _≤_}
+use mathlib.Core.Bool.{Bool, true, false}
 use mathlib.Core.List.{List, [], _∷_, _++_}
 use mathlib.Core.Option.{Option, none, some}
 use native.Mathlib.Omega.{arith}
-use lib.Dec.{T, eqb, leb, leb→le, le→leb}
-use lib.ListN.{length, getD}
+use lib.Dec.{eqb}
+use lib.ListN.{length}
 use Rattle.rules.specs.declared.Digits.{Digits}
-use Rattle.rules.specs.Base.{choose, bytes, isNil, same, within, split}
-use Rattle.rules.specs.RefusalNumbers.{Got, got, bad, unless, mapG, andThen, orBad, keep, consG, also}
-use Rattle.rules.specs.Lines.{Rest, Form, ignored, wrong, close, eof, keyed, Scan, neither, atEqual, atBrace, withKey, formFrom, formOfRest, formOf, unindent, allowed, scan, brace, Shape, opener, noContent, content, opening, formless, hasForm, shapeOf}
-use Rattle.rules.specs.RangeClass.{digits, reaches, both, Skip, passes, deeper, noForm}
-use Rattle.rules.specs.Values.{Value, Known, Part, count, digit, kindOfLine, range, rangeOfSymbols, day, clock, decimal, symbolName, layerId, readPart, readAll, Kind, values, text, word, volumeName, sheet, ratio, serials, nothing, opens, headed, either, readCounts, readSerials, readKind}
-use Rattle.rules.specs.Rows.{Rule, Found, absent, found, find, Slots, Held, partOf, marks, fullAt, Act, stay, entry, begin, shut, refuse, orRefuse, innerOf, fits, shapeFor, readShape, notTwice, actRow, actUnknown, actFound, complete, act}
+use Rattle.rules.specs.Base.{choose, bytes, isNil, same}
+use Rattle.rules.specs.RefusalNumbers.{Got, got, bad}
+use Rattle.rules.specs.Lines.{Rest, Form, ignored, Scan, neither, atEqual, atBrace, withKey, formFrom, formOfRest, formOf, unindent, allowed, scan, brace, Shape, opener, noContent, content, opening, formless}
+use Rattle.rules.specs.RangeClass.{digits, both, Skip, passes, deeper, noForm}
+use Rattle.rules.specs.Rows.{Found, absent, found, find, Slots, Held, partOf, marks, fullAt, Act}
 use Rattle.rules.specs.Blocks.{topTable}
 use Rattle.rules.specs.Figures.{placedTable}
 use Rattle.rules.specs.Sets.{Point, Figure, Drawing, Symbol, Set, nothingYet, rangeOf, knownOf}
-use Rattle.rules.specs.Machine.{Line, Env, Home, inElement, inLayer, State, top, file, drawing, layerNames, defines, symbol, hide, elements, figures, successive, texts, placing, skipping, ended, byAct, openTop, onTop, shutPart, onFile, onDrawing, layerValue, onLayerNames, openSymbol, onSymbol, onDefines, onHide, onElements, closeFigures, openPlaced, openFigure, onFigures, onSuccessive, onTexts, bySkip, onUnknown, onPlaced, onPlacedKey, onPlacedOwn, onPlacing, skipShut, onSkipping, stepIn, step, Outcome, refused, accepted, thenRun, finish, run}
+use Rattle.rules.specs.Machine.{Line, Env, Home, inElement, inLayer, State, top, file, drawing, layerNames, defines, symbol, hide, elements, figures, successive, texts, placing, skipping, ended, openTop, onTop, shutPart, onFile, onDrawing, layerValue, onLayerNames, openSymbol, onSymbol, onDefines, onHide, onElements, closeFigures, openPlaced, openFigure, onFigures, onSuccessive, onTexts, bySkip, onUnknown, onPlaced, onPlacedKey, onPlacedOwn, onPlacing, skipShut, onSkipping, stepIn, step, Outcome, refused, accepted, thenRun, finish, run}
 use Rattle.rules.specs.Spool.{Volume, volumesOf, linesOf}
 use Rattle.rules.specs.Answers.{numbered, linesOfVolume, nextName, Listed, listed, noLines, ontoLines, listVolume, listVolumes, outcomeOfLines, outcomeOfVolumes, outcomeOf, outcomeAt}
-use Rattle.rules.proofs.Chains.{by-cond, On, on-unless, on-map, on-then, on-got}
-
--- ── a refusal at a line ──
-abbrev AtLine : ℕ → Type 0
-AtLine n = T (within 4 19 n)
-
-both-true : (a b : Bool) → T a → T b → T (a && b)
-both-true true b p q = q
-both-true false b p q = p
-
-each-true : (a b : Bool) → T (a && b) → T a × T b
-each-true true b p = (tt, p)
-each-true false b p = absurd p
-
-pub within-le : (lo hi n : ℕ) → T (within lo hi n) → (lo ≤ n) × (n ≤ hi)
-within-le lo hi n h = let w = each-true (leb lo n) (leb n hi) h in (leb→le lo n (w .0), leb→le n hi (w .1))
-
-le-within : (lo hi n : ℕ) → lo ≤ n → n ≤ hi → T (within lo hi n)
-le-within lo hi n p q = both-true (leb lo n) (leb n hi) (le→leb lo n p) (le→leb n hi q)
-
-at-min : (m n : ℕ) → AtLine m → AtLine n → AtLine (min m n)
-at-min m n p q = le-within 4 19 (min m n) (omega (arith, within-le 4 19 m p, within-le 4 19 n q)) (omega (arith, within-le 4 19 m p, within-le 4 19 n q))
-
-data Fine {A : Type 0} : Got A → Type 0 where
-  answers : {a : A} → Fine (got a)
-  refuses : (n : ℕ) → AtLine n → Fine (bad n)
-
-module _ {A : Type 0} where
-  fine-unless : (t : Bool) (n : ℕ) (g : Got A) → AtLine n → Fine g → Fine (unless t n g)
-  fine-unless true n g h w = w
-  fine-unless false n g h w = refuses n h
-
-  fine-cond : (t : Bool) (g h : Got A) → Fine g → Fine h → Fine (cond t g h)
-  fine-cond true g h p q = p
-  fine-cond false g h p q = q
-
-  fine-or : (n : ℕ) (o : Option A) → AtLine n → Fine (orBad n o)
-  fine-or n none h = refuses n h
-  fine-or n (some a) h = answers
-
-  fine-keep : (n : ℕ) (p : A → Bool) (g : Got A) → AtLine n → Fine g → Fine (keep n p g)
-  fine-keep n p (got a) h w = fine-unless (p a) n _ h answers
-  fine-keep n p (bad m) h w = w
-
-  fine-cons : (g : Got A) (h : Got (List A)) → Fine g → Fine h → Fine (consG g h)
-  fine-cons (got a) (got s) p q = answers
-  fine-cons (got a) (bad n) p (refuses _ q) = refuses n q
-  fine-cons (bad m) (got s) (refuses _ p) q = refuses m p
-  fine-cons (bad m) (bad n) (refuses _ p) (refuses _ q) = refuses (min m n) (at-min m n p q)
-
-  fine-also : (t : Bool) (n : ℕ) (g : Got A) → AtLine n → Fine g → Fine (also t n g)
-  fine-also true n g h w = w
-  fine-also false n (got a) h w = refuses n h
-  fine-also false n (bad m) h (refuses _ w) = refuses (min m n) (at-min m n w h)
-
-module _ {A B : Type 0} where
-  fine-map : (f : A → B) (g : Got A) → Fine g → Fine (mapG f g)
-  fine-map f (got a) w = answers
-  fine-map f (bad n) (refuses _ w) = refuses n w
-
-  fine-then : (g : Got A) (f : A → Got B) → Fine g → ((a : A) → Fine (f a)) → Fine (andThen g f)
-  fine-then (got a) f w h = h a
-  fine-then (bad n) f (refuses _ w) h = refuses n w
-
--- what holds of every value holds of the answer
-on-any : {A : Type 0} {P : A → Type 0} (g : Got A) → ((a : A) → P a) → On P g
-on-any (got a) h = h a
-on-any (bad n) h = tt
-
-ruleset fines = (answers, refuses, fine-unless, fine-cond, fine-or, fine-keep, fine-cons, fine-also, fine-map, fine-then)
-
--- ── values ──
-fine-part : (k : Known) (p : Part) (s : List ℕ) → Fine (readPart k p s)
-fine-part k count s = search fines
-fine-part k (digit lo hi) s = search fines
-fine-part k kindOfLine s = search fines
-fine-part k (range lo hi) s = search fines
-fine-part k rangeOfSymbols s = search fines
-fine-part k day s = search fines
-fine-part k clock s = search fines
-fine-part k (decimal b) s = search fines
-fine-part k symbolName s = search fines
-fine-part k layerId s = search fines
-
-fine-parts : (k : Known) (ps : List Part) (ss : List (List ℕ)) → Fine (readAll k ps ss)
-fine-parts k [] [] = answers
-fine-parts k [] (s ∷ ss) = refuses 10 tt
-fine-parts k (p ∷ ps) [] = refuses 10 tt
-fine-parts k (p ∷ ps) (s ∷ ss) = fine-cons (readPart k p s) (readAll k ps ss) (fine-part k p s) (fine-parts k ps ss)
-
-fine-counts : (ss : List (List ℕ)) → Fine (readCounts ss)
-fine-counts [] = answers
-fine-counts (s ∷ ss) = let rest = fine-counts ss in search fines
-
-fine-serials : (ss : List (List ℕ)) → Fine (readSerials ss)
-fine-serials [] = answers
-fine-serials (s ∷ ss) = let rest = fine-serials ss in search fines
-
-fine-kind : (k : Known) (d : Kind) (at : ℕ) (c : List ℕ) → Fine (readKind k d at c)
-fine-kind k (values p ps a) at c = let w = fine-parts k (p ∷ ps) (split 44 c) in search fines
-fine-kind k (text n b) at c = search fines
-fine-kind k (word n b) at c = search fines
-fine-kind k volumeName at c = search fines
-fine-kind k sheet at c = search fines
-fine-kind k ratio at c = search (fines, fine-counts)
-fine-kind k serials at c = search (fines, fine-serials)
-fine-kind k nothing at c = search fines
-fine-kind k (opens i) at c = search fines
-fine-kind k (headed i p) at c = search (fines, fine-part)
-fine-kind k (either i) at c = search (fines, fine-part)
-
--- ── acts ──
-data FineAct : Act → Type 0 where
-  stays : FineAct stay
-  enters : {j : ℕ} {v : Value} → FineAct (entry j v)
-  begins : {i j : ℕ} {v : Value} → FineAct (begin i j v)
-  shuts : FineAct shut
-  denies : (n : ℕ) → AtLine n → FineAct (refuse n)
-
-data FineForm : Form → Type 0 where
-  passed : FineForm ignored
-  broken : (n : ℕ) → AtLine n → FineForm (wrong n)
-  closing : FineForm close
-  ending : FineForm eof
-  keying : {k : List ℕ} {c : Rest} → FineForm (keyed k c)
-
-fine-refuse : (g : Got Act) → On FineAct g → Fine g → FineAct (orRefuse g)
-fine-refuse (got a) h w = h
-fine-refuse (bad n) h (refuses _ w) = denies n w
-
-fine-shape : (k : Known) (j : ℕ) (r : Rule) (s : Shape) → Fine (readShape k j r s)
-fine-shape k j r opener = answers
-fine-shape k j r noContent = answers
-fine-shape k j r (content at c) = fine-map _ _ (fine-kind k (r .holds) at c)
-fine-shape k j r (opening at c) = fine-map _ _ (fine-kind k (r .holds) at c)
-fine-shape k j r formless = refuses 5 tt
-
-shape-act : (k : Known) (j : ℕ) (r : Rule) (s : Shape) → On FineAct (readShape k j r s)
-shape-act k j r opener = begins
-shape-act k j r noContent = enters
-shape-act k j r (content at c) = on-map FineAct (entry j) (readKind k (r .holds) at c) (on-any (readKind k (r .holds) at c) λ v. enters)
-shape-act k j r (opening at c) = on-map FineAct (begin (innerOf (r .holds)) j) (readKind k (r .holds) at c) (on-any (readKind k (r .holds) at c) λ v. begins)
-shape-act k j r formless = tt
-
-fine-row : (k : Known) (d : Digits) (full : Bool) (j : ℕ) (r : Rule) (c : Rest) → FineAct (actRow k d full j r c)
-fine-row k d full j r c =
-    fine-refuse _
-    (on-unless FineAct (hasForm (shapeFor r c)) 5 _ λ _.
-    on-unless FineAct (reaches d (r .least)) 6 _ λ _.
-    on-unless FineAct (fits (r .holds) (r .may) (shapeFor r c)) 5 _ λ _.
-    on-unless FineAct (notTwice (r .times) full) 7 _ λ _.
-    on-then FineAct (readShape k j r (shapeFor r c)) _ λ a e.
-    on-unless FineAct (not full) 11 (got a) λ _. on-got FineAct (readShape k j r (shapeFor r c)) a (shape-act k j r (shapeFor r c)) e)
-    (fine-unless (hasForm (shapeFor r c)) 5 _ tt
-    (fine-unless (reaches d (r .least)) 6 _ tt
-    (fine-unless (fits (r .holds) (r .may) (shapeFor r c)) 5 _ tt
-    (fine-unless (notTwice (r .times) full) 7 _ tt
-    (fine-then (readShape k j r (shapeFor r c)) _ (fine-shape k j r (shapeFor r c)) (λ a. fine-unless (not full) 11 _ tt answers))))))
-
-fine-unknown : (c : Rest) → FineAct (actUnknown c)
-fine-unknown c = fine-refuse _ (on-unless FineAct (hasForm (shapeOf c)) 5 (bad 6) λ _. tt) (fine-unless (hasForm (shapeOf c)) 5 (bad 6) tt (refuses 6 tt))
-
-fine-found : (k : Known) (d : Digits) (full : List Bool) (c : Rest) (f : Found) → FineAct (actFound k d full c f)
-fine-found k d full c absent = fine-unknown c
-fine-found k d full c (found j r) = fine-row k d (getD full j false) j r c
-
-fine-act : (k : Known) (t : List Rule) (d : Digits) (full : List Bool) {f : Form} → FineForm f → FineAct (act k t d full f)
-fine-act k t d full passed = stays
-fine-act k t d full (broken n h) = denies n h
-fine-act k t d full closing = by-cond FineAct (complete d t full) (λ _. shuts) (λ _. denies 8 tt)
-fine-act k t d full ending = denies 9 tt
-fine-act k t d full (keying {k = key} {c = c}) = fine-found k d full c (find key t)
-
-fine-byAct : (st : State) (entered : ℕ → Value → Got State) (opened : ℕ → ℕ → Value → Got State) (closed : Unit {0} → Got State) (a : Act)
-    → FineAct a → ((j : ℕ) (v : Value) → Fine (entered j v)) → ((i j : ℕ) (v : Value) → Fine (opened i j v)) → Fine (closed tt) → Fine (byAct st entered opened closed a)
-fine-byAct st entered opened closed stay h p q r = answers
-fine-byAct st entered opened closed (entry j v) h p q r = p j v
-fine-byAct st entered opened closed (begin i j v) h p q r = q i j v
-fine-byAct st entered opened closed shut h p q r = r
-fine-byAct st entered opened closed (refuse n) (denies _ h) p q r = refuses n h
+use Rattle.rules.proofs.Chains.{by-cond}
+use Rattle.promises.proofs.FineActs.{within-le, Fine, fine-cond, fines, fine-kind, FineAct, FineForm, fine-row, fine-unknown, fine-act, fine-byAct, answers, refuses, passed, broken, closing, ending, keying}
 
 -- ── the contexts ──
 fine-shut : (p : ℕ) (whole : Got State) (back : ℕ → State) → Fine whole → Fine (shutPart p whole back)
@@ -396,14 +217,14 @@ fine-volumes k [] = lines noLine
 fine-volumes k (v ∷ vs) = fine-list k v vs (linesOf (v .body)) _ (fine-volumes (suc k) vs)
 
 -- ── the outcome ──
-pub data Told : Outcome → Type 0 where
-  toldSet : {s : Set} → Told (accepted s)
-  toldNumber : (n v l : ℕ) → 1 ≤ n → n ≤ 19 → Told (refused n v l)
+pub data OutcomeTold : Outcome → Type 0 where
+  toldSet : {s : Set} → OutcomeTold (accepted s)
+  toldNumber : (n v l : ℕ) → 1 ≤ n → n ≤ 19 → OutcomeTold (refused n v l)
 
-told-nine : Told (refused 9 0 0)
+told-nine : OutcomeTold (refused 9 0 0)
 told-nine = toldNumber 9 0 0 (omega arith) (omega arith)
 
-told-finish : (st : State) → Told (finish st)
+told-finish : (st : State) → OutcomeTold (finish st)
 told-finish (top s k) = told-nine
 told-finish (file s n h p) = told-nine
 told-finish (drawing s d) = told-nine
@@ -419,26 +240,26 @@ told-finish (placing s h fs n o p) = told-nine
 told-finish (skipping s h fs n o d) = told-nine
 told-finish (ended s) = toldSet
 
-told-then : (g : Got State) (l : Line) (f : State → Outcome) → Fine g → ((st : State) → Told (f st)) → Told (thenRun g l f)
+told-then : (g : Got State) (l : Line) (f : State → Outcome) → Fine g → ((st : State) → OutcomeTold (f st)) → OutcomeTold (thenRun g l f)
 told-then (got st) l f w h = h st
 told-then (bad n) l f (refuses _ w) h = let b = within-le 4 19 n w in toldNumber n (l .volume) (l .line) (omega arith) (b .1)
 
-told-run : (e : Env) (st : State) (ls : List Line) → FineLines ls → Told (run e st ls)
+told-run : (e : Env) (st : State) (ls : List Line) → FineLines ls → OutcomeTold (run e st ls)
 told-run e st [] noLine = told-finish st
 told-run e st (l ∷ ls) (oneLine w r) = told-then (step e l st) l _ (fine-step e l st w) (λ st′. told-run e st′ ls r)
 
-told-lines : (e : Env) (l : Listed) → FineListed l → Told (outcomeOfLines e l)
+told-lines : (e : Env) (l : Listed) → FineListed l → OutcomeTold (outcomeOfLines e l)
 told-lines e (listed ls) (lines w) = told-run e (top nothingYet 0) ls w
 told-lines e (noLines v) w = toldNumber 3 v 0 (omega arith) (omega arith)
 
-told-volumes : (e : Env) (vs : Option (List Volume)) → Told (outcomeOfVolumes e vs)
+told-volumes : (e : Env) (vs : Option (List Volume)) → OutcomeTold (outcomeOfVolumes e vs)
 told-volumes e none = toldNumber 2 0 0 (omega arith) (omega arith)
 told-volumes e (some vs) = told-lines e (listVolumes 1 vs) (fine-volumes 1 vs)
 
-pub told-spool : (e : Env) (spool : List ℕ) → Told (outcomeOf e spool)
+pub told-spool : (e : Env) (spool : List ℕ) → OutcomeTold (outcomeOf e spool)
 unfolding outcomeOf
 told-spool e spool = told-volumes e (volumesOf spool)
 
-pub told-at : (c : Option Digits) (m : Option ℕ) (spool : List ℕ) → Told (outcomeAt c m spool)
+pub told-at : (c : Option Digits) (m : Option ℕ) (spool : List ℕ) → OutcomeTold (outcomeAt c m spool)
 told-at none m spool = toldNumber 1 0 0 (omega arith) (omega arith)
 told-at (some c) m spool = told-spool (record { class = c; limit = m }) spool

@@ -1,43 +1,41 @@
 -- Demand 2, proved: the fixed form of an accepted spool, read back and written again.
-use Prim.Native.Nat.{ℕ, zero, suc, _+_, _*_, _/_, _≤_}
-use mathlib.Core.Bool.{Bool, true, false, cond, not}
+use Prim.Native.Nat.{ℕ, suc, _+_, _*_, _/_, _≤_}
+use mathlib.Core.Bool.{true, not}
 use mathlib.Core.List.{List, [], _∷_, _++_, map}
 use mathlib.Core.Option.{Option, none, some}
 use mathlib.Core.Path.{_≡_, refl, sym, _∙_, ap, ap₂, subst}
 use native.Mathlib.Omega.{arith}
 use lib.ListN.{length, length-map}
 use Rattle.rules.specs.declared.Digits.{Digits}
-use Rattle.rules.specs.declared.Answer.{Answer}
-use Rattle.rules.specs.declared.Answer.the-variants.{Accepted, Refused}
+use Rattle.rules.specs.declared.Answer.the-variants.{Accepted}
 use Rattle.rules.specs.Base.{isNil, all, total}
-use Rattle.rules.specs.Spool.{Volume, mostBytes, namesOf, volumesOf, unlines}
-use Rattle.rules.specs.RangeClass.{digits, classOf}
+use Rattle.rules.specs.Spool.{Volume, namesOf, volumesOf, unlines}
+use Rattle.rules.specs.RangeClass.{classOf}
 use Rattle.rules.specs.Sets.{Contents, Set, nothingYet}
-use Rattle.rules.specs.Machine.{Line, Env, State, top, Outcome, refused, accepted, run}
+use Rattle.rules.specs.Machine.{Line, Env, top, Outcome, refused, accepted, run}
 use Rattle.rules.specs.RecordTable.{width, recordsFrom, recordsOf}
 use Rattle.rules.specs.FixedForm.{Text, volumeLines, volumesBytes, fixedForm}
 use Rattle.rules.specs.Answers.{numbered, nextName, Listed, listed, noLines, listVolumes, outcomeOfLines, outcomeOfVolumes, outcomeOf, answerWith, readOutcome, readRecords, readAnswer, fullClass, namesIn, writtenIn, rewriteOutcome, written}
 use Rattle.rules.proofs.Runs.{not-accepted}
+use Rattle.rules.proofs.Chains.{and-left, and-right, and-true, clash}
 use Rattle.promises.specs.PlacesApart.{bareLine, bareSet, placesApart, textsFrom, textsOf}
 use Rattle.promises.specs.DemandTwo.{RoundTrip, DemandTwo}
 use Rattle.promises.proofs.Frame.{Spooled, laid, framed, volumes-inv, volumes-back, volumes-framed, framed-length, names-laid}
 use Rattle.promises.proofs.Frames.{listing-bare, laid-texts, nextsOfNames, nexts-names, named}
 use Rattle.promises.proofs.Good.{GoodSet}
 use Rattle.promises.proofs.GoodLines.{lines-fine, lines-some, lines-count, nexts-count}
-use Rattle.rules.proofs.Chains.{and-left, and-right, and-true, clash}
 use Rattle.promises.proofs.BackSlots.{layAll, plainEnv, retaken}
-use Rattle.promises.proofs.BackSet.{endsOnce}
-use Rattle.promises.proofs.Back.{good-back}
-use Rattle.promises.proofs.Inv.{Sized, nextsOf, Steady, read-good}
-use Rattle.promises.proofs.RowLaws.{rowLaws}
-use Rattle.promises.proofs.Sizes.{listing, Texts, Listing, listing-inv, listing-of, nextsOfVolumes, someLines, none-empty, unlines-length, sizes, sizes-weight, volumes-weight, Tolds, listing-told}
+use Rattle.promises.proofs.BackSet.{endsOnce, set-back}
+use Rattle.promises.proofs.Inv.{nextsOf, Steady, read-good}
+use Rattle.promises.proofs.Sizes.{listing, Texts, listing-inv, listing-of, nextsOfVolumes, someLines, none-empty, unlines-length, sizes, sizes-weight, volumes-weight, listing-told}
 use Rattle.promises.proofs.Weights.{weigh}
 use Rattle.promises.proofs.Length.{fixed-short}
-use Rattle.promises.proofs.Places.{accepted-real, form-bare}
-use Rattle.promises.proofs.RecordPlaces.{texts-bare}
+use Rattle.promises.proofs.Places.{accepted-real}
 use Rattle.promises.proofs.Fits.{records-read}
 use Rattle.promises.proofs.Limits.{limit-lift, limit-drop, taken-fits, taken-counts}
 use Rattle.promises.proofs.TwoClasses.{taken, outcome-at}
+use Rattle.promises.proofs.BareForm.{form-bare}
+use Rattle.promises.proofs.TextPlaces.{texts-bare}
 
 -- ── a spool that was read ──
 pub record Parsed (e : Env) (spool : List ℕ) (s : Set) : Type 0 where
@@ -139,12 +137,6 @@ no-longer vs ts s h full r =
     let b = sizes-weight ts in
     omega arith
 
-told-sized : (ls : List Line) (ns : List ℕ) → Tolds ls ns → Sized ls ns
-told-sized [] [] h = tt
-told-sized [] (n ∷ ns) h = absurd h
-told-sized (l ∷ ls) [] h = absurd h
-told-sized (l ∷ ls) (n ∷ ns) h = (h .0 .0, h .0 .1, told-sized ls ns (h .1))
-
 -- the names that follow, by the last line of each volume
 numbered-nexts : (k : ℕ) (next : List ℕ) (n at : ℕ) (l : List ℕ) (t : Text) (more : List Line) → nextsOf (numbered k next n at (l ∷ t) ++ more) ≡ next ∷ nextsOf more
 numbered-nexts k next n at l [] more = refl
@@ -173,7 +165,7 @@ listing-steady k (v ∷ vs) ((l ∷ t) ∷ ts) h a = numbered-steady k (nextName
 -- what was read of these texts is good
 listing-good : (vs : List Volume) (ts : List Text) (s : Set) → Texts vs ts → all someLines ts ≡ true → run plainEnv (top nothingYet 0) (listing 1 vs ts) ≡ accepted s → GoodSet (nextsOfVolumes vs) s
 listing-good vs ts s h full r =
-    subst (λ ns. GoodSet ns s) (listing-nexts 1 vs ts h full) (read-good rowLaws (listing 1 vs ts) (sizes ts) s (told-sized (listing 1 vs ts) (sizes ts) (listing-told 1 vs ts h full)) (listing-steady 1 vs ts h full) r)
+    subst (λ ns. GoodSet ns s) (listing-nexts 1 vs ts h full) (read-good (listing 1 vs ts) (sizes ts) s (listing-told 1 vs ts h full) (listing-steady 1 vs ts h full) r)
 
 -- every volume but the last is followed by one with a name
 ends-once : (vs : List Volume) → all (λ v. not (isNil (v .name))) vs ≡ true → 1 ≤ length vs → endsOnce (nextsOfVolumes vs) ≡ true
@@ -184,10 +176,6 @@ ends-once (v ∷ w ∷ vs) a h =
     and-true _ _ (and-left (not (isNil (w .name))) _ b) (ends-once (w ∷ vs) b (omega arith))
 
 -- ── one accepted spool ──
--- names of volumes go with as many volumes
-same-length : {A B : Type 0} (f : A → B) (s : List A) → length (map f s) ≡ length s
-same-length f s = length-map s f
-
 module _ (spool : List ℕ) (s : Set) (outcome : rewriteOutcome spool ≡ accepted s) (p : Parsed plainEnv spool s) where
   abbrev vs : List Volume
   vs = p .volumes
@@ -222,7 +210,7 @@ module _ (spool : List ℕ) (s : Set) (outcome : rewriteOutcome spool ≡ accept
   nexts-length (v ∷ vs) = ap suc (nexts-length vs)
 
   as-many : length names ≡ length lines
-  as-many = same-length (λ v. v .name) vs ∙ sym (nexts-length vs) ∙ nexts-count (nextsOfVolumes vs) s good ∙ sym (lines-count s)
+  as-many = length-map vs (λ v. v .name) ∙ sym (nexts-length vs) ∙ nexts-count (nextsOfVolumes vs) s good ∙ sym (lines-count s)
 
   texts-many : (vs : List Volume) (ts : List Text) → Texts vs ts → length vs ≡ length ts
   texts-many [] [] h = refl
@@ -231,7 +219,7 @@ module _ (spool : List ℕ) (s : Set) (outcome : rewriteOutcome spool ≡ accept
   texts-many (v ∷ vs) (t ∷ ts) h = ap suc (texts-many vs ts (h .1))
 
   as-bodies : length names ≡ length bodies
-  as-bodies = as-many ∙ sym (same-length unlines lines)
+  as-bodies = as-many ∙ sym (length-map lines unlines)
 
   output-length : length output ≤ length spool
   output-length =
@@ -239,7 +227,7 @@ module _ (spool : List ℕ) (s : Set) (outcome : rewriteOutcome spool ≡ accept
       let b = spooled .size ∙ volumes-weight vs (p .texts) (p .theirs) ∙ total-plus 13 weigh (p .texts) in
       let c = no-longer vs (p .texts) s (p .theirs) full (p .runs) in
       let d = texts-many vs (p .texts) (p .theirs) in
-      let e = same-length (λ v. v .name) vs in
+      let e = length-map vs (λ v. v .name) in
       let f = as-many in
       omega arith
 
@@ -250,7 +238,7 @@ module _ (spool : List ℕ) (s : Set) (outcome : rewriteOutcome spool ≡ accept
       let b = spooled .fits in
       let c = spooled .one in
       let d = spooled .few in
-      let e = same-length (λ v. v .name) vs in
+      let e = length-map vs (λ v. v .name) in
       volumes-back names bodies as-bodies (omega arith) (omega arith) (spooled .named) (spooled .differ) (omega arith)
 
   again-theirs : Texts (laid 0 names bodies) lines
@@ -270,7 +258,7 @@ module _ (spool : List ℕ) (s : Set) (outcome : rewriteOutcome spool ≡ accept
 
   again : Again
   again =
-      let (m, r) = good-back (nextsOfVolumes vs) s good (ends-once vs (named vs (spooled .named)) (spooled .one)) in
+      let (m, r) = set-back (nextsOfVolumes vs) s good (ends-once vs (named vs (spooled .named)) (spooled .one)) in
       let (t, q, b) = accepted-real plainEnv (listing 1 (laid 0 names bodies) lines) (top nothingYet 0) (retaken m (bareSet s)) (ap (run plainEnv (top nothingYet 0)) again-lines ∙ r) in
       record { set = t; runs = q; count = m; bare = b }
 
@@ -302,7 +290,7 @@ module _ (spool : List ℕ) (s : Set) (outcome : rewriteOutcome spool ≡ accept
     again-taken : t .taken ≡ s .taken
     again-taken =
         sym (taken-counts fullClass fullClass none (listing 1 (laid 0 names bodies) lines) t (a .runs))
-        ∙ sym (same-length placesApart (recordsOf fullClass t)) ∙ ap length (again-records fullClass) ∙ same-length placesApart (recordsOf fullClass s)
+        ∙ sym (length-map (recordsOf fullClass t) placesApart) ∙ ap length (again-records fullClass) ∙ length-map (recordsOf fullClass s) placesApart
         ∙ taken-counts fullClass fullClass none (listing 1 vs (p .texts)) s (p .runs)
 
     -- ── with a table ──
@@ -338,7 +326,7 @@ module _ (spool : List ℕ) (s : Set) (outcome : rewriteOutcome spool ≡ accept
         count = λ len n e.
             let (u, o, q) = accepted-inv len spool n e in
             let w = taken len (written spool) 15 fullClass (a .set) class15 (again-limited a len u o) in
-            w .1 ∙ ap Accepted (sym (same-length placesApart (recordsOf fullClass (a .set))) ∙ ap length (again-records a fullClass) ∙ same-length placesApart (recordsOf fullClass s)
+            w .1 ∙ ap Accepted (sym (length-map (recordsOf fullClass (a .set)) placesApart) ∙ ap length (again-records a fullClass) ∙ length-map (recordsOf fullClass s) placesApart
             ∙ ap (λ v. length (recordsOf fullClass v)) (sym (same-set a len u o)) ∙ q);
         records = λ len n e.
             let (u, o, q) = accepted-inv len spool n e in

@@ -8,63 +8,33 @@ use native.Mathlib.Omega.{arith}
 use lib.Dec.{eqb, leb}
 use lib.IntN.{pos}
 use lib.ListN.{length, length-append}
-use borrow.Author.Tests.{le-leb, not-true}
+use borrow.Author.Tests.{le-leb}
 use Rattle.rules.specs.declared.Digits.{Digits}
 use Rattle.rules.specs.Base.{bytes, mapO, isNil, all, same, within}
-use Rattle.rules.specs.RefusalNumbers.{Got, got, bad, unless, andThen, orBad, keep}
+use Rattle.rules.specs.RefusalNumbers.{got, orBad, keep}
 use Rattle.rules.specs.Numbers.{readFixed, fixedOnto, fixed}
 use Rattle.rules.specs.Lines.{allowed, Rest, brace, equals, keyed, formOf, stem, Shape, opener, noContent, content, opening, formless, byStem, shapeOf, freeShapeOf, hasForm}
 use Rattle.rules.specs.RangeClass.{reaches}
 use Rattle.rules.specs.Values.{Num, num, Value, empty, nums, chars, Known, anyBytes, byteIn, isLayerId, Part, range, readPart, Kind, values, text, word, volumeName, sheet, ratio, serials, nothing, opens, headed, either, isFree, readKind, charsOf, showContent}
-use Rattle.rules.specs.Rows.{Times, once, upTo, anyNumber, Rule, isContent, isEmpty, fits, shapeFor, Act, entry, begin, refuse, orRefuse, innerOf, readShape, notTwice, actRow}
+use Rattle.rules.specs.Rows.{Times, once, upTo, anyNumber, Rule, isContent, isEmpty, fits, shapeFor, Act, entry, begin, innerOf, readShape, notTwice, actRow}
 use Rattle.rules.specs.Machine.{layerValue}
 use Rattle.rules.specs.FixedForm.{opensBlock, behind, lineOf}
-use Rattle.rules.proofs.Chains.{map-some, and-left, and-false, clash, cond-same, same-eq, never, none-some, unless-got, map-got, then-got, keep-got, or-got}
+use Rattle.rules.proofs.Chains.{map-some, and-left, and-false, clash, cond-same, same-eq, never, none-some, unless-got, map-got, keep-got, or-got}
+use Rattle.rules.proofs.Rows.{Did, row-did}
 use Rattle.promises.specs.PlacesApart.{bareValue, bareForm}
 use Rattle.promises.proofs.Numbers.{within-both, fixed-same}
-use Rattle.promises.proofs.Values.{allowed-seam, kind-back, nameless, read-nameless}
+use Rattle.promises.proofs.Values.{kind-back}
 use Rattle.promises.proofs.Forms.{keyOk, allowed-key, allowed-equal, allowed-open, form-equal, form-open, Tells}
 use Rattle.promises.proofs.Good.{restIn, writtenAct, GoodRow, Always, GoodLayer}
+use Rattle.promises.proofs.Stands.{allowed-seam}
+use Rattle.promises.proofs.Nameless.{nameless, row-nameless}
 
 -- what a line of at most n bytes held, where it was taken
 pub record Taken (k : Known) (d : Digits) (r : Rule) (v : Value) (n : ℕ) : Type 0 where
   pub row : GoodRow k d r v
   pub no-longer : length (lineOf k r v) ≤ n
 
--- ── the act of a row, taken apart ──
-not-entry : {P : Type 0} {n j : ℕ} {v : Value} → refuse n ≡ entry j v → P
-not-entry e = absurd (let z : _≡_ {A = ℕ} 0 1 = cc in omega arith)
-
-not-begin : {P : Type 0} {n i j : ℕ} {v : Value} → refuse n ≡ begin i j v → P
-not-begin e = absurd (let z : _≡_ {A = ℕ} 0 1 = cc in omega arith)
-
-refuse-got : (g : Got Act) (a : Act) → ((n : ℕ) → refuse n ≡ a → ⊥) → orRefuse g ≡ a → g ≡ got a
-refuse-got (got b) a other e = ap got e
-refuse-got (bad n) a other e = absurd (other n e)
-
--- what an act that is no refusal says of its line
-record Did (k : Known) (d : Digits) (full : Bool) (j : ℕ) (r : Rule) (x : Rest) (a : Act) : Type 0 where
-  level : reaches d (r .least) ≡ true
-  fit : fits (r .holds) (r .may) (shapeFor r x) ≡ true
-  open-yet : full ≡ false
-  read : readShape k j r (shapeFor r x) ≡ got a
-
-row-did : (k : Known) (d : Digits) (full : Bool) (j : ℕ) (r : Rule) (x : Rest) (a : Act) → ((n : ℕ) → refuse n ≡ a → ⊥) → actRow k d full j r x ≡ a → Did k d full j r x a
-row-did k d full j r x a other e =
-    let s = shapeFor r x in
-    let last = andThen (readShape k j r s) λ b. unless (not full) 11 (got b) in
-    let twice = unless (notTwice (r .times) full) 7 last in
-    let fitting = unless (fits (r .holds) (r .may) s) 5 twice in
-    let known = unless (reaches d (r .least)) 6 fitting in
-    let (h, e1) = unless-got (hasForm s) 5 known a (refuse-got (unless (hasForm s) 5 known) a other e) in
-    let (l, e2) = unless-got (reaches d (r .least)) 6 fitting a e1 in
-    let (f, e3) = unless-got (fits (r .holds) (r .may) s) 5 twice a e2 in
-    let (t, e4) = unless-got (notTwice (r .times) full) 7 last a e3 in
-    let (b, g, e5) = then-got (readShape k j r s) (λ b. unless (not full) 11 (got b)) a e4 in
-    let (o, q) = unless-got (not full) 11 (got b) a e5 in
-    record { level = l; fit = f; open-yet = not-true full o; read = g ∙ q }
-
--- and the other way: a line of a shape that is read does that where the row is not full
+-- ── a line of a shape that is read does that where the row is not full ──
 twice-not : (t : Times) → notTwice t false ≡ true
 twice-not once = refl
 twice-not (upTo n) = refl
@@ -119,7 +89,7 @@ shape-content free [] n e = clash refl n
 shape-content true (b ∷ w) n e = refl
 shape-content false (b ∷ w) n e = rw (e refl)
 
-shape-opening : (w : List ℕ) → isNil w ≡ false → shapeOf (equals 0 (w ++ bytes ":{")) ≡ opening 0 w
+pub shape-opening : (w : List ℕ) → isNil w ≡ false → shapeOf (equals 0 (w ++ bytes ":{")) ≡ opening 0 w
 shape-opening [] n = clash refl n
 shape-opening (b ∷ w) n = rw (stem-open (b ∷ w))
 
@@ -145,6 +115,20 @@ sort nothing = emptyOnly
 sort (opens i) = braceOnly
 sort (headed i p) = heads
 sort (either i) = switch
+
+-- kinds that hold numbers alone
+abbrev pub numbersOnly : Kind → Bool
+numbersOnly (values p ps a) = true
+numbersOnly (text n b) = false
+numbersOnly (word n b) = false
+numbersOnly volumeName = false
+numbersOnly sheet = false
+numbersOnly ratio = false
+numbersOnly serials = false
+numbersOnly nothing = false
+numbersOnly (opens i) = true
+numbersOnly (headed i p) = false
+numbersOnly (either i) = false
 
 -- ── `key=000` and `key=001:{` ──
 either-read : (k : Known) (i at : ℕ) (c : List ℕ) (v : Value) → readKind k (either i) at c ≡ got v → (m : ℕ) × (m ≤ 1) × (nums (num (pos m) ∷ []) ≡ v) × (fixed 3 m ≡ c)
@@ -294,7 +278,7 @@ did-held k d full j r x n a key t most w =
 pub entry-good : (k : Known) (d : Digits) (full : Bool) (j : ℕ) (r : Rule) (x : Rest) (n j′ : ℕ) (v : Value) → keyOk (r .key) ≡ true → Tells n (keyed (r .key) x) → n ≤ 512
     → actRow k d full j r x ≡ entry j′ v → (j ≡ j′) × (opensBlock (r .holds) v ≡ false) × (full ≡ false) × Taken k d r v n
 entry-good k d full j r x n j′ v key t most e =
-    let w = row-did k d full j r x (entry j′ v) (λ m. not-entry) e in
+    let w = row-did k d full j r x (entry j′ v) refl e in
     let (u, q, h) = did-held k d full j r x n (entry j′ v) key t most w in
     go u h (w .open-yet) (opensBlock (r .holds) u) refl q
   where
@@ -308,7 +292,7 @@ entry-good k d full j r x n j′ v key t most e =
 pub begin-good : (k : Known) (d : Digits) (full : Bool) (j : ℕ) (r : Rule) (x : Rest) (n i j′ : ℕ) (v : Value) → keyOk (r .key) ≡ true → Tells n (keyed (r .key) x) → n ≤ 512
     → actRow k d full j r x ≡ begin i j′ v → (i ≡ innerOf (r .holds)) × (j ≡ j′) × (opensBlock (r .holds) v ≡ true) × (full ≡ false) × Taken k d r v n
 begin-good k d full j r x n i j′ v key t most e =
-    let w = row-did k d full j r x (begin i j′ v) (λ m. not-begin) e in
+    let w = row-did k d full j r x (begin i j′ v) refl e in
     let (u, q, h) = did-held k d full j r x n (begin i j′ v) key t most w in
     go u h (w .open-yet) (opensBlock (r .holds) u) refl q
   where
@@ -319,17 +303,7 @@ begin-good k d full j r x n i j′ v key t most e =
         let z : u ≡ v = cc in
         (cc, cc, ap (opensBlock (r .holds)) (sym z) ∙ o, f, subst (λ (v : Value). Taken k d r v n) z h)
 
--- ── rows that name neither symbols nor layers: the line does the same whatever is known ──
-shape-nameless : (r : Rule) → nameless (r .holds) ≡ true → (k k′ : Known) (j : ℕ) (s : Shape) → readShape k j r s ≡ readShape k′ j r s
-shape-nameless r e k k′ j opener = refl
-shape-nameless r e k k′ j noContent = refl
-shape-nameless r e k k′ j (content at c) = rw (read-nameless (r .holds) e k k′ at c)
-shape-nameless r e k k′ j (opening at c) = rw (read-nameless (r .holds) e k k′ at c)
-shape-nameless r e k k′ j formless = refl
-
-row-nameless : (r : Rule) → nameless (r .holds) ≡ true → (k k′ : Known) (d : Digits) (full : Bool) (j : ℕ) (x : Rest) → actRow k d full j r x ≡ actRow k′ d full j r x
-row-nameless r e k k′ d full j x = rw (shape-nameless r e k k′ j (shapeFor r x))
-
+-- ── rows that name neither symbols nor layers ──
 pub entry-always : (k : Known) (d : Digits) (full : Bool) (j : ℕ) (r : Rule) (x : Rest) (n j′ : ℕ) (v : Value) → nameless (r .holds) ≡ true → keyOk (r .key) ≡ true → Tells n (keyed (r .key) x) → n ≤ 512
     → actRow k d full j r x ≡ entry j′ v
     → (j ≡ j′) × (opensBlock (r .holds) v ≡ false) × (full ≡ false) × Always d r v × ((k′ : Known) → length (lineOf k′ r v) ≤ n)

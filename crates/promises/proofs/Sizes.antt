@@ -1,16 +1,16 @@
 -- The lines of a spool by their texts: which volume's they are, how long, and that no volume of an accepted set is empty.
-use Prim.Native.Nat.{ℕ, zero, suc, _+_, _*_, _≤_, _<_}
+use Prim.Native.Nat.{ℕ, suc, _+_}
 use mathlib.Core.Bool.{Bool, true, false, cond, _&&_, _||_, not}
 use mathlib.Core.List.{List, [], _∷_, _++_, map}
 use mathlib.Core.Option.{Option, none, some}
-use mathlib.Core.Path.{_≡_, refl, sym, _∙_, ap, ap₂, subst}
+use mathlib.Core.Path.{_≡_, refl, sym, _∙_, ap}
 use native.Mathlib.Omega.{arith}
-use lib.Dec.{eqb, leb, ltb}
+use lib.Dec.{eqb, leb}
 use lib.ListN.{length, length-append}
-use borrow.Author.Tests.{not-true, leb-true, eqb-true}
+use borrow.Author.Tests.{not-true, leb-true}
 use Rattle.rules.specs.Base.{isNil, all, total, hasNumber}
 use Rattle.rules.specs.RefusalNumbers.{Got, got, bad, unless, mapG, also}
-use Rattle.rules.specs.Spool.{Volume, namesOf, linesOf, unlines, mostInLine}
+use Rattle.rules.specs.Spool.{Volume, linesOf, unlines, mostInLine}
 use Rattle.rules.specs.Lines.{Form, ignored, wrong, close, eof, keyed, formOf}
 use Rattle.rules.specs.RangeClass.{digits}
 use Rattle.rules.specs.Values.{amountAt}
@@ -18,12 +18,11 @@ use Rattle.rules.specs.Rows.{complete, fullAt, shut, refuse}
 use Rattle.rules.specs.Blocks.{elementTable}
 use Rattle.rules.specs.Sets.{Set, withVolume, usedIn}
 use Rattle.rules.specs.VolumesAndTotals.{countedHere}
-use Rattle.rules.specs.Machine.{Line, Env, byAct, inLayer, State, top, file, drawing, layerNames, defines, symbol, hide, elements, figures, successive, texts, placing, skipping, ended, onTop, onElements, stepIn, inElements, afterElements, isIgnored, isClose, isEof, completes, nextVolume, step, Outcome, refused, accepted, thenRun, finish, run}
+use Rattle.rules.specs.Machine.{Line, Env, byAct, inLayer, State, top, file, drawing, layerNames, defines, symbol, hide, elements, figures, successive, texts, placing, skipping, ended, onTop, onElements, stepIn, inElements, afterElements, isIgnored, isClose, isEof, completes, nextVolume, step, accepted, thenRun, run}
 use Rattle.rules.specs.FixedForm.{Text}
-use Rattle.rules.specs.Answers.{numbered, linesOfVolume, nextName, Listed, listed, noLines, ontoLines, listVolume, listVolumes}
+use Rattle.rules.specs.Answers.{numbered, linesOfVolume, nextName, Listed, listed, noLines, listVolume, listVolumes}
 use Rattle.rules.proofs.Runs.{not-accepted}
-use Rattle.rules.proofs.Chains.{and-left, and-right, and-true, clash, never, none-some, unless-got, map-got, also-got}
-use Rattle.promises.specs.PlacesApart.{bareForm, bareLine}
+use Rattle.rules.proofs.Chains.{and-left, and-right, clash, never, unless-got, map-got, also-got, total-append, cond-true}
 use Rattle.promises.proofs.Forms.{Told, form-tells}
 use Rattle.promises.proofs.Frame.{lines-inv}
 use Rattle.promises.proofs.Weights.{weigh}
@@ -80,15 +79,11 @@ nextsOfVolumes (v ∷ vs) = nextName vs ∷ nextsOfVolumes vs
 -- through the last line of a volume that is not the last, the next volume begins
 volume-ends : (e : Env) (l : Line) (s s′ : State) → l .last ≡ true → isNil (l .next) ≡ false → step e l s ≡ got s′ → (t : Set) × (s′ ≡ top t 0)
 volume-ends e l s s′ p q h =
-    let (u, a, b) = map-got nextVolume (also (completes l s) 9 (stepIn e l s)) s′ (chosen (l .last) (mapG nextVolume (also (completes l s) 9 (stepIn e l s))) (stepIn e l s) (got s′) p h) in
+    let (u, a, b) = map-got nextVolume (also (completes l s) 9 (stepIn e l s)) s′ (cond-true (l .last) (mapG nextVolume (also (completes l s) 9 (stepIn e l s))) (stepIn e l s) (got s′) p h) in
     let (c, d) = also-got (completes l s) 9 (stepIn e l s) u a in
     let (t, z) = ends s u (other (isNil (l .next)) (afterElements s && isEof (l .form)) ((inElements s && isClose (l .form)) || (afterElements s && isIgnored (l .form))) true q c) d in
     (t, sym b ∙ z)
   where
-    chosen : {A : Type 0} (b : Bool) (x y z : A) → b ≡ true → cond b x y ≡ z → x ≡ z
-    chosen true x y z p e = e
-    chosen false x y z p e = clash p refl
-
     other : {A : Type 0} (b : Bool) (x y z : A) → b ≡ false → cond b x y ≡ z → y ≡ z
     other true x y z p e = clash refl p
     other false x y z p e = e
@@ -182,10 +177,6 @@ unlines-length (l ∷ t) = length-append l (13 ∷ 10 ∷ unlines t) ∙ omega (
 abbrev pub sizes : List Text → List ℕ
 sizes [] = []
 sizes (t ∷ ts) = map length t ++ sizes ts
-
-total-append : (f : ℕ → ℕ) (a b : List ℕ) → total f (a ++ b) ≡ total f a + total f b
-total-append f [] b = omega arith
-total-append f (n ∷ a) b = let e = total-append f a b in omega arith
 
 text-weight : (t : Text) → total (λ n. n + 2) (map length t) ≡ weigh t
 text-weight [] = refl

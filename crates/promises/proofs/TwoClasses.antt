@@ -1,30 +1,26 @@
 -- Demand 3, proved.
-use Prim.Native.Nat.{ℕ, zero, suc, _/_}
-use mathlib.Core.Bool.{Bool, true, false}
+use Prim.Native.Nat.{ℕ, _/_}
+use mathlib.Core.Bool.{true}
 use mathlib.Core.List.{List, [], _∷_, map}
 use mathlib.Core.Option.{Option, none, some}
-use mathlib.Core.Path.{_≡_, refl, sym, _∙_, ap, ap₂}
+use mathlib.Core.Path.{_≡_, refl, sym, _∙_, ap}
 use native.Mathlib.Omega.{arith}
-use lib.IntN.{ℤ}
 use lib.ListN.{length, length-map}
 use Rattle.rules.specs.declared.Digits.{Digits}
 use Rattle.rules.specs.declared.Refusal.{Refusal}
-use Rattle.rules.specs.declared.Answer.{Answer}
 use Rattle.rules.specs.declared.Answer.the-variants.{Accepted, Refused}
-use Rattle.rules.specs.Base.{isNil}
 use Rattle.rules.specs.Spool.{Volume, volumesOf}
 use Rattle.rules.specs.RangeClass.{classOf}
 use Rattle.rules.specs.Sets.{Set, nothingYet, rangeOf}
-use Rattle.rules.specs.Machine.{Line, Env, State, top, Outcome, refused, accepted, run}
+use Rattle.rules.specs.Machine.{Env, top, Outcome, refused, accepted}
 use Rattle.rules.specs.RecordTable.{width, recordsOf}
-use Rattle.rules.specs.Answers.{Listed, listed, noLines, listVolumes, outcomeOfLines, outcomeOfVolumes, outcomeOf, outcomeAt, digitsOr, recordsIn, answerWith, refusal, readOutcome, readRecords, readAnswer}
+use Rattle.rules.specs.Answers.{Listed, listed, noLines, listVolumes, outcomeOfLines, outcomeOfVolumes, outcomeOf, answerWith, refusal, readOutcome, readRecords, readAnswer}
 use Rattle.rules.proofs.Runs.{not-accepted}
-use Rattle.rules.proofs.Chains.{clash}
-use Rattle.promises.specs.DemandThree.{NotAbove, Classes, unread, LowerAccepts, atOrBefore, HigherRefuses}
+use Rattle.promises.specs.DemandThree.{NotAbove, unread, LowerAccepts, HigherRefuses}
 use Rattle.promises.proofs.Frame.{volumes-inv}
 use Rattle.promises.proofs.Lower.{lowerSet}
 use Rattle.promises.proofs.LowerRecords.{records-lower}
-use Rattle.promises.proofs.LowerRun.{notAfter, notAfter-refl, Sorted, proper, sim-run, refused-too}
+use Rattle.promises.proofs.LowerRun.{notAfter, notAfter-refl, sim-run, refused-too}
 use Rattle.promises.proofs.Listing.{lines-whole, lines-proper}
 
 module _ (low high : Digits) (le : NotAbove low high) (m : Option ℕ) where

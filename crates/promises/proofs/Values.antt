@@ -1,115 +1,23 @@
 -- Laws of values: what is written of a content that was read reads as the same value again, is no longer, has only allowed bytes, and opens nothing.
 use Prim.Native.Nat.{ℕ, suc, _+_, _-_, _≤_}
-use mathlib.Core.Bool.{Bool, true, false, cond, _&&_, _||_, not}
+use mathlib.Core.Bool.{Bool, true, false, cond, _&&_, _||_}
 use mathlib.Core.List.{List, [], _∷_, _++_, map}
 use mathlib.Core.Option.{Option, none, some}
 use mathlib.Core.Path.{_≡_, refl, sym, _∙_, ap, subst}
-use native.Mathlib.Nat.{le-refl}
 use native.Mathlib.Omega.{arith}
 use lib.Dec.{eqb, leb, ltb}
 use lib.IntN.{pos}
 use lib.ListN.{length, getD, length-append, length-map}
 use borrow.Author.Tests.{lt-leb, ltb-true, eqb-true, eq-eqb, ne-eqb}
-use Rattle.rules.specs.Base.{bytes, mapO, isNil, all, same, indexOf, within, Cut, whole, parts, cut, headOnto, split, join}
-use Rattle.rules.specs.RefusalNumbers.{Got, got, bad, mapG, orBad, keep}
+use Rattle.rules.specs.Base.{mapO, isNil, all, same, indexOf, within, Cut, whole, parts, cut, headOnto, split, join}
+use Rattle.rules.specs.RefusalNumbers.{got, mapG, orBad, keep}
 use Rattle.rules.specs.Numbers.{isDigit, readCount, readFixed, isDay, isClock, readDecimal, fixedOnto, fixed, showCount}
-use Rattle.rules.specs.Lines.{singleByte, leadByte, trailByte, allowedFrom, allowed, stem}
-use Rattle.rules.specs.Values.{Num, num, Value, empty, nums, chars, linked, Known, isLetter, lettersAndDigits, byteIn, capital, isLayerId, inBound, Part, count, digit, kindOfLine, range, rangeOfSymbols, day, clock, decimal, symbolName, layerId, servedSymbols, natural, readPart, amount, showPart, readAll, showAll, agree, Kind, values, text, word, volumeName, sheet, ratio, serials, nothing, opens, headed, either, sheets, twoNums, findSheet, showSheet, goodRatio, withOne, ratioParts, readCounts, readRatio, showRatio, mostPartners, readSerials, linkedOf, showSerials, readKind, numsOf, showKind, showContent}
-use Rattle.rules.proofs.Chains.{map-some, and-left, and-right, and-true, and-false, by-cond, clash, same-eq, never, none-some, unless-got, map-got, keep-got, or-got, cons-got, map-unless, map-map, all-weaken, all-append}
+use Rattle.rules.specs.Lines.{allowed, stem}
+use Rattle.rules.specs.Values.{Num, num, Value, nums, chars, linked, Known, isLetter, lettersAndDigits, byteIn, capital, isLayerId, inBound, Part, count, digit, kindOfLine, range, rangeOfSymbols, day, clock, decimal, symbolName, layerId, servedSymbols, natural, readPart, amount, showPart, readAll, showAll, agree, Kind, values, text, word, volumeName, sheet, ratio, serials, nothing, opens, headed, either, sheets, twoNums, findSheet, showSheet, goodRatio, withOne, ratioParts, readCounts, readRatio, showRatio, mostPartners, readSerials, linkedOf, showSerials, readKind, showContent}
+use Rattle.rules.proofs.Chains.{map-some, and-left, and-right, and-true, by-cond, clash, same-eq, never, none-some, unless-got, map-got, keep-got, or-got, cons-got, all-weaken, all-append}
 use Rattle.promises.specs.PlacesApart.{bareValue}
 use Rattle.promises.proofs.Numbers.{within-both, both-within, numeric, free, all-free, free-head, free-tail, cut-none, cut-at, cut-parts, some-full, Again, count-back, fixed-same, decimal-back}
-
--- ── allowed bytes ──
--- a byte that is neither lead nor trail parts what is allowed
-pub allowed-seam : (x : ℕ) → trailByte x ≡ false → leadByte x ≡ false → singleByte x ≡ true → (lead : Bool) (u v : List ℕ)
-    → allowedFrom lead (u ++ x ∷ v) ≡ (allowedFrom lead u && allowed v)
-allowed-seam x t l s true [] v = rw t
-allowed-seam x t l s false [] v = rw (s, l)
-allowed-seam x t l s lead (b ∷ u) v =
-    go (cond lead (trailByte b) (singleByte b || leadByte b)) (allowed-seam x t l s (not lead && leadByte b) u v)
-  where
-    go : (h : Bool) → allowedFrom (not lead && leadByte b) (u ++ x ∷ v) ≡ (allowedFrom (not lead && leadByte b) u && allowed v)
-        → (h && allowedFrom (not lead && leadByte b) (u ++ x ∷ v)) ≡ (h && allowedFrom (not lead && leadByte b) u && allowed v)
-    go true e = e
-    go false e = refl
-
--- the content of an allowed line: `=` is neither lead nor trail
-pub allowed-after : (u c : List ℕ) → allowed (u ++ 61 ∷ c) ≡ true → allowed c ≡ true
-allowed-after u c e = and-right (allowed u) (allowed c) (sym (allowed-seam 61 refl refl refl false u c) ∙ e)
-
--- ── what opens ──
-stem-tail : (b : ℕ) (s : List ℕ) → stem (b ∷ s) ≡ none → stem s ≡ none
-stem-tail b s e = go (same (b ∷ s) (bytes ":{")) (stem s) e
-  where
-    go : (t : Bool) (o : Option (List ℕ)) → cond t (some []) (mapO (λ r. b ∷ r) o) ≡ none → o ≡ none
-    go true o e = none-some (sym e)
-    go false none e = refl
-    go false (some r) e = none-some (sym e)
-
--- the end of a text that opens nothing
-stem-end : (u v : List ℕ) → stem (u ++ v) ≡ none → stem v ≡ none
-stem-end [] v e = e
-stem-end (b ∷ u) v e = stem-end u v (stem-tail b (u ++ v) e)
-
-not-opener : (u v : List ℕ) → same (u ++ 44 ∷ v) (bytes ":{") ≡ false
-not-opener [] v = refl
-not-opener (b ∷ []) v = and-false (eqb b 58)
-not-opener (b ∷ c ∷ []) v = rw (and-false (eqb c 123), and-false (eqb b 58))
-not-opener (b ∷ c ∷ d ∷ u) v = rw (and-false (eqb c 123), and-false (eqb b 58))
-
--- what stands behind a comma opens nothing, so the whole does not
-stem-comma : (u v : List ℕ) → stem v ≡ none → stem (u ++ 44 ∷ v) ≡ none
-stem-comma [] v e = rw e
-stem-comma (b ∷ u) v e = rw (not-opener (b ∷ u) v, stem-comma u v e)
-
-stem-free : (s : List ℕ) → free 58 s ≡ true → stem s ≡ none
-stem-free [] e = refl
-stem-free (b ∷ s) e = rw (free-head 58 b s e, stem-free s (free-tail 58 b s e))
-
--- ── one text for another ──
--- t may stand where s was read: it is no longer, and not empty, of allowed bytes, opening nothing where s is so
-record Stands (s t : List ℕ) : Type 0 where
-  full : isNil s ≡ false → isNil t ≡ false
-  short : length t ≤ length s
-  okay : allowed s ≡ true → allowed t ≡ true
-  shut : stem s ≡ none → stem t ≡ none
-
-stands-same : (s : List ℕ) → Stands s s
-stands-same s = record { full = λ e. e; short = le-refl (length s); okay = λ e. e; shut = λ e. e }
-
--- the bytes that values are written with, but for names and texts: those of numbers, `/`, capitals
-abbrev plain : ℕ → Bool
-plain b = within 45 57 b || within 65 90 b
-
-or-cases : {P : Type 0} (a b : Bool) → (a ≡ true → P) → (b ≡ true → P) → (a || b) ≡ true → P
-or-cases true b f g e = f refl
-or-cases false b f g e = g e
-
-plain-bounds : (b : ℕ) → plain b ≡ true → (45 ≤ b) × (b ≤ 90)
-plain-bounds b e =
-    or-cases (within 45 57 b) (within 65 90 b) (λ w. let (l, h) = within-both 45 57 b w in (l, omega arith)) (λ w. let (l, h) = within-both 65 90 b w in (omega arith, h)) e
-
-allowed-plain : (s : List ℕ) → all plain s ≡ true → allowed s ≡ true
-allowed-plain [] e = refl
-allowed-plain (b ∷ s) e =
-    let (l, h) = plain-bounds b (and-left (plain b) _ e) in
-    rw (both-within 32 126 b (omega arith) (omega arith), lt-leb 129 b (omega arith), lt-leb 224 b (omega arith)) (allowed-plain s (and-right (plain b) _ e))
-
-stands-plain : (s t : List ℕ) → all plain t ≡ true → isNil t ≡ false → length t ≤ length s → Stands s t
-stands-plain s t p n l =
-    record { full = λ e. n; short = l; okay = λ e. allowed-plain t p; shut = λ e. stem-free t (all-free plain 58 refl t p) }
-
-numeric-plain : (s : List ℕ) → all numeric s ≡ true → all plain s ≡ true
-numeric-plain s e = all-weaken numeric plain one s e
-  where
-    low : (b lo hi : ℕ) → 45 ≤ lo → hi ≤ 57 → within lo hi b ≡ true → plain b ≡ true
-    low b lo hi p q w = let (l, h) = within-both lo hi b w in rw (both-within 45 57 b (omega arith) (omega arith))
-
-    one : (b : ℕ) → numeric b ≡ true → plain b ≡ true
-    one b e = or-cases (isDigit b) (within 45 46 b) (low b 48 57 (omega arith) (omega arith)) (low b 45 46 (omega arith) (omega arith)) e
-
-again-stands : {A : Type 0} (r : List ℕ → Option A) (s t : List ℕ) (x : A) → Again r s t x → Stands s t
-again-stands r s t x w = stands-plain s t (numeric-plain t (w .plain)) (w .full) (w .short)
+use Rattle.promises.proofs.Stands.{allowed-seam, stem-tail, stem-end, stem-comma, Stands, stands-same, plain, or-cases, plain-bounds, stands-plain, numeric-plain, again-stands}
 
 -- ── one value ──
 -- what is written of a value that was read from s
@@ -446,125 +354,3 @@ kind-back k nothing at c v n e = never e
 kind-back k (opens i) at c v n e = never e
 kind-back k (headed i p) at c v n e = part-kept k (headed i p) p c v n (λ s. refl) (λ a. refl) e
 kind-back k (either i) at c v n e = part-kept k (either i) (range 0 1) c v n (λ s. refl) (λ a. refl) e
-
--- ── what is known ──
--- parts and kinds that name neither symbols nor layers do not look at what is known
-abbrev pub namelessPart : Part → Bool
-namelessPart count = true
-namelessPart (digit lo hi) = true
-namelessPart kindOfLine = true
-namelessPart (range lo hi) = true
-namelessPart rangeOfSymbols = true
-namelessPart day = true
-namelessPart clock = true
-namelessPart (decimal b) = true
-namelessPart symbolName = false
-namelessPart layerId = false
-
-abbrev pub nameless : Kind → Bool
-nameless (values p ps a) = namelessPart p && all namelessPart ps
-nameless (text n b) = true
-nameless (word n b) = true
-nameless volumeName = true
-nameless sheet = true
-nameless ratio = true
-nameless serials = true
-nameless nothing = true
-nameless (opens i) = true
-nameless (headed i p) = namelessPart p
-nameless (either i) = true
-
-part-nameless : (p : Part) → namelessPart p ≡ true → (k k′ : Known) → ((s : List ℕ) → readPart k p s ≡ readPart k′ p s) × ((a : Num) → showPart k p a ≡ showPart k′ p a)
-part-nameless count e k k′ = (λ s. refl, λ a. refl)
-part-nameless (digit lo hi) e k k′ = (λ s. refl, λ a. refl)
-part-nameless kindOfLine e k k′ = (λ s. refl, λ a. refl)
-part-nameless (range lo hi) e k k′ = (λ s. refl, λ a. refl)
-part-nameless rangeOfSymbols e k k′ = (λ s. refl, λ a. refl)
-part-nameless day e k k′ = (λ s. refl, λ a. refl)
-part-nameless clock e k k′ = (λ s. refl, λ a. refl)
-part-nameless (decimal b) e k k′ = (λ s. refl, λ a. refl)
-part-nameless symbolName e k k′ = clash e refl
-part-nameless layerId e k k′ = clash e refl
-
-read-all-nameless : (ps : List Part) → all namelessPart ps ≡ true → (k k′ : Known) (ss : List (List ℕ)) → readAll k ps ss ≡ readAll k′ ps ss
-read-all-nameless [] e k k′ [] = refl
-read-all-nameless [] e k k′ (s ∷ ss) = refl
-read-all-nameless (p ∷ ps) e k k′ [] = refl
-read-all-nameless (p ∷ ps) e k k′ (s ∷ ss) =
-    rw (part-nameless p (and-left (namelessPart p) _ e) k k′ .0 s, read-all-nameless ps (and-right (namelessPart p) _ e) k k′ ss)
-
-show-all-nameless : (ps : List Part) → all namelessPart ps ≡ true → (k k′ : Known) (v : List Num) → showAll k ps v ≡ showAll k′ ps v
-show-all-nameless [] e k k′ v = refl
-show-all-nameless (p ∷ ps) e k k′ [] = refl
-show-all-nameless (p ∷ ps) e k k′ (a ∷ v) =
-    rw (part-nameless p (and-left (namelessPart p) _ e) k k′ .1 a, show-all-nameless ps (and-right (namelessPart p) _ e) k k′ v)
-
-pub read-nameless : (d : Kind) → nameless d ≡ true → (k k′ : Known) (at : ℕ) (c : List ℕ) → readKind k d at c ≡ readKind k′ d at c
-read-nameless (values p ps a) e k k′ at c = ap (λ g. mapG nums (keep 11 (agree a) g)) (read-all-nameless (p ∷ ps) e k k′ (split 44 c))
-read-nameless (text n b) e k k′ at c = refl
-read-nameless (word n b) e k k′ at c = refl
-read-nameless volumeName e k k′ at c = refl
-read-nameless sheet e k k′ at c = refl
-read-nameless ratio e k k′ at c = refl
-read-nameless serials e k k′ at c = refl
-read-nameless nothing e k k′ at c = refl
-read-nameless (opens i) e k k′ at c = refl
-read-nameless (headed i p) e k k′ at c = ap (mapG (λ n. nums (n ∷ []))) (part-nameless p e k k′ .0 c)
-read-nameless (either i) e k k′ at c = refl
-
-show-kind-nameless : (d : Kind) → nameless d ≡ true → (k k′ : Known) (v : Value) → showKind k d v ≡ showKind k′ d v
-show-kind-nameless (values p ps a) e k k′ v = ap (join 44) (show-all-nameless (p ∷ ps) e k k′ (numsOf v))
-show-kind-nameless (text n b) e k k′ v = refl
-show-kind-nameless (word n b) e k k′ v = refl
-show-kind-nameless volumeName e k k′ v = refl
-show-kind-nameless sheet e k k′ v = refl
-show-kind-nameless ratio e k k′ v = refl
-show-kind-nameless serials e k k′ v = refl
-show-kind-nameless nothing e k k′ v = refl
-show-kind-nameless (opens i) e k k′ v = refl
-show-kind-nameless (headed i p) e k k′ v = part-nameless p e k k′ .1 (getD (numsOf v) 0 (num (pos 0)))
-show-kind-nameless (either i) e k k′ v = refl
-
-pub show-nameless : (d : Kind) → nameless d ≡ true → (k k′ : Known) (v : Value) → showContent k d v ≡ showContent k′ d v
-show-nameless d e k k′ empty = refl
-show-nameless d e k k′ (nums v) = show-kind-nameless d e k k′ (nums v)
-show-nameless d e k k′ (chars at c) = show-kind-nameless d e k k′ (chars at c)
-show-nameless d e k k′ (linked n ps) = show-kind-nameless d e k k′ (linked n ps)
-
--- ── places: the content's place goes into a text alone ──
-pub read-place : (k : Known) (d : Kind) (at : ℕ) (c : List ℕ) → mapG bareValue (readKind k d at c) ≡ readKind k d 0 c
-read-place k (values p ps a) at c = map-map bareValue nums (keep 11 (agree a) (readAll k (p ∷ ps) (split 44 c)))
-read-place k (text n b) at c = map-unless bareValue (all (byteIn b) c && leb (length c) n) 11 (got (chars at c))
-read-place k (word n b) at c = map-unless bareValue (all (byteIn b) c && leb (length c) n) 11 (got (chars at c))
-read-place k volumeName at c = map-unless bareValue (all (byteIn lettersAndDigits) c) 11 (got (chars at (map capital c)))
-read-place k sheet at c = map-map bareValue nums (orBad 11 (findSheet c sheets))
-read-place k ratio at c = map-map bareValue nums (readRatio c)
-read-place k serials at c = go (keep 11 (λ ns. leb (length ns) (mostPartners + 1)) (readSerials (split 44 c)))
-  where
-    go : (g : Got (List ℕ)) → mapG bareValue (mapG linkedOf g) ≡ mapG linkedOf g
-    go (got []) = refl
-    go (got (n ∷ ns)) = refl
-    go (bad n) = refl
-read-place k nothing at c = refl
-read-place k (opens i) at c = refl
-read-place k (headed i p) at c = map-map bareValue (λ n. nums (n ∷ [])) (readPart k p c)
-read-place k (either i) at c = map-map bareValue (λ n. nums (n ∷ [])) (readPart k (range 0 1) c)
-
-pub show-bare : (k : Known) (d : Kind) (v : Value) → showContent k d (bareValue v) ≡ showContent k d v
-show-bare k d empty = refl
-show-bare k d (nums v) = refl
-show-bare k d (chars at c) = go d
-  where
-    go : (d : Kind) → showKind k d (chars 0 c) ≡ showKind k d (chars at c)
-    go (values p ps a) = refl
-    go (text n b) = refl
-    go (word n b) = refl
-    go volumeName = refl
-    go sheet = refl
-    go ratio = refl
-    go serials = refl
-    go nothing = refl
-    go (opens i) = refl
-    go (headed i p) = refl
-    go (either i) = refl
-show-bare k d (linked n ps) = refl

@@ -1,14 +1,14 @@
 -- Laws of chains of tests: taking them apart, and moving a function through them. Each is said once, here.
-use Prim.Native.Nat.{ℕ, zero, suc, min}
-use mathlib.Core.Bool.{Bool, true, false, cond, _&&_, _||_, not, true≢false}
-use mathlib.Core.List.{List, [], _∷_, _++_, map}
+use Prim.Native.Nat.{ℕ, zero, suc, _+_}
+use mathlib.Core.Bool.{Bool, true, false, cond, _&&_, _||_, true≢false}
+use mathlib.Core.List.{List, [], _∷_, _++_, map, append-assoc}
 use mathlib.Core.Option.{Option, none, some}
 use mathlib.Core.Path.{_≡_, refl, sym, _∙_, ap}
 use native.Mathlib.Omega.{arith}
-use lib.Dec.{eqb, leb}
-use lib.ListN.{length}
+use lib.Dec.{eqb}
+use lib.ListN.{set}
 use borrow.Author.Tests.{eqb-true, eq-eqb}
-use Rattle.rules.specs.Base.{all, same, isNone, isNil, mapO}
+use Rattle.rules.specs.Base.{total, flat, all, same, isNil, mapO}
 use Rattle.rules.specs.RefusalNumbers.{Got, got, bad, unless, mapG, andThen, orBad, keep, consG, also}
 
 -- ── tests ──
@@ -35,6 +35,10 @@ or-true false = refl
 pub clash : {P : Type 0} {b : Bool} → b ≡ true → b ≡ false → P
 clash p q = absurd (true≢false (sym p ∙ q))
 
+pub or-left : (a b : Bool) → b ≡ false → (a || b) ≡ true → a ≡ true
+or-left true b q e = refl
+or-left false b q e = clash e q
+
 pub by-cond : {A : Type 0} (P : A → Type 0) (t : Bool) {x y : A} → (t ≡ true → P x) → (t ≡ false → P y) → P (cond t x y)
 by-cond P true f g = f refl
 by-cond P false f g = g refl
@@ -42,6 +46,10 @@ by-cond P false f g = g refl
 pub cond-same : {A : Type 0} (t : Bool) (a : A) → cond t a a ≡ a
 cond-same true a = refl
 cond-same false a = refl
+
+pub cond-true : {A : Type 0} (t : Bool) (x y z : A) → t ≡ true → cond t x y ≡ z → x ≡ z
+cond-true true x y z p e = e
+cond-true false x y z p e = clash p refl
 
 pub ap-cond : {A B : Type 0} (f : A → B) (t : Bool) (a b : A) → f (cond t a b) ≡ cond t (f a) (f b)
 ap-cond f true a b = refl
@@ -161,9 +169,17 @@ module _ {A : Type 0} (P : A → Type 0) where
   on-also false n (got a) h = tt
   on-also false n (bad m) h = tt
 
+  pub on-all : ((a : A) → P a) → (g : Got A) → On P g
+  on-all h (got a) = h a
+  on-all h (bad n) = tt
+
   pub on-got : (g : Got A) (a : A) → On P g → g ≡ got a → P a
   on-got (got b) a h e = let q : b ≡ a = cc in rw (← q) h
   on-got (bad n) a h e = never e
+
+pub on-weaken : {A : Type 0} (P Q : A → Type 0) → ((a : A) → P a → Q a) → (g : Got A) → On P g → On Q g
+on-weaken P Q f (got a) h = f a h
+on-weaken P Q f (bad n) h = tt
 
 -- ── lists ──
 pub all-weaken : {A : Type 0} (p q : A → Bool) → ((a : A) → p a ≡ true → q a ≡ true) → (s : List A) → all p s ≡ true → all q s ≡ true
@@ -194,3 +210,31 @@ nil-map f (a ∷ s) = refl
 pub map-agree : {A B : Type 0} (f g : A → B) → ((a : A) → f a ≡ g a) → (s : List A) → map f s ≡ map g s
 map-agree f g h [] = refl
 map-agree f g h (a ∷ s) = rw (h a, map-agree f g h s)
+
+pub map-same : {A B : Type 0} (g : A → B) (f : A → A) → ((a : A) → g (f a) ≡ g a) → (s : List A) → map g (map f s) ≡ map g s
+map-same g f e s = map-compose g f s ∙ map-agree (λ a. g (f a)) g e s
+
+pub map-set : {A B : Type 0} (f : A → B) (s : List A) (i : ℕ) (a : A) → map f (set s i a) ≡ set (map f s) i (f a)
+map-set f [] i a = refl
+map-set f (b ∷ s) zero a = refl
+map-set f (b ∷ s) (suc i) a = ap (λ u. f b ∷ u) (map-set f s i a)
+
+pub nil-snoc : {A : Type 0} (s : List A) (a : A) → isNil (s ++ a ∷ []) ≡ false
+nil-snoc [] a = refl
+nil-snoc (b ∷ s) a = refl
+
+pub flat-append : {A : Type 0} (a b : List (List A)) → flat (a ++ b) ≡ flat a ++ flat b
+flat-append [] b = refl
+flat-append (u ∷ a) b = ap (λ (s : List _). u ++ s) (flat-append a b) ∙ sym (append-assoc u (flat a) (flat b))
+
+-- ── sums ──
+pub total-append : {A : Type 0} (f : A → ℕ) (s t : List A) → total f (s ++ t) ≡ total f s + total f t
+total-append f [] t = omega arith
+total-append f (a ∷ s) t = omega (arith, total-append f s t)
+
+pub total-more : {A : Type 0} (f : A → ℕ) (s : List A) (a : A) → total f (s ++ a ∷ []) ≡ total f s + f a
+total-more f s a = omega (arith, total-append f s (a ∷ []))
+
+pub total-same : {A : Type 0} (g : A → ℕ) (f : A → A) → ((a : A) → g (f a) ≡ g a) → (s : List A) → total g (map f s) ≡ total g s
+total-same g f e [] = refl
+total-same g f e (a ∷ s) = rw (e a, total-same g f e s)

@@ -1,15 +1,19 @@
--- Laws of tables: finding a row, and a row's facts by one computed test over its table.
-use Prim.Native.Nat.{ℕ, zero, suc}
+-- Laws of tables: finding a row, a row's facts by one computed test over its table, and what a line did that a row took.
+use Prim.Native.Nat.{ℕ, suc, _<_}
 use mathlib.Core.Bool.{Bool, true, false, cond, _&&_, not}
 use mathlib.Core.List.{List, [], _∷_}
-use mathlib.Core.Option.{Option, none, some}
 use mathlib.Core.Path.{_≡_, refl, sym, _∙_, ap, subst}
 use native.Mathlib.Omega.{arith}
-use borrow.Author.Tests.{not-true}
 use lib.ListN.{length, getD}
+use borrow.Author.Tests.{not-true, le-leb}
+use Rattle.rules.specs.declared.Digits.{Digits}
 use Rattle.rules.specs.Base.{all, same}
-use Rattle.rules.specs.Rows.{Rule, Found, absent, found, further, find, Slots, blank}
-use Rattle.rules.proofs.Chains.{and-left, and-right, same-refl}
+use Rattle.rules.specs.RefusalNumbers.{Got, got, bad, unless, andThen}
+use Rattle.rules.specs.Lines.{Rest, hasForm}
+use Rattle.rules.specs.RangeClass.{reaches, digits}
+use Rattle.rules.specs.Values.{Known}
+use Rattle.rules.specs.Rows.{Rule, Found, absent, found, further, find, fits, shapeFor, Act, stay, entry, begin, shut, refuse, orRefuse, readShape, notTwice, actRow}
+use Rattle.rules.proofs.Chains.{and-left, and-right, clash, same-refl, unless-got, then-got, and-true}
 
 -- the row of number i of a table
 pub data Row : List Rule → ℕ → Rule → Type 0 where
@@ -60,3 +64,45 @@ row-find (there {r = r} {q = q} {rs = t} w) e =
 pub row-at : {t : List Rule} {i : ℕ} {r : Rule} → Row t i r → (d : Rule) → getD t i d ≡ r
 row-at here d = refl
 row-at (there w) d = row-at w d
+
+pub row-below : {t : List Rule} {i : ℕ} {r : Rule} → Row t i r → i < length t
+row-below here = omega arith
+row-below (there w) = omega (arith, row-below w)
+
+-- what is known from 000 on is known at every range
+pub reaches-none : (d : Digits) → reaches d (digits 0 0) ≡ true
+reaches-none d = and-true _ _ (le-leb 0 (d .middle) (omega arith)) (le-leb 0 (d .last) (omega arith))
+
+-- ── the act of a row, taken apart ──
+abbrev pub isRefusal : Act → Bool
+isRefusal stay = false
+isRefusal (entry j v) = false
+isRefusal (begin i j v) = false
+isRefusal shut = false
+isRefusal (refuse n) = true
+
+or-act : (g : Got Act) (a : Act) → isRefusal a ≡ false → orRefuse g ≡ a → g ≡ got a
+or-act (got b) a n e = ap got e
+or-act (bad m) a n e = clash (ap isRefusal (sym e)) n
+
+-- what an act that is no refusal says of its line
+pub record Did (k : Known) (d : Digits) (full : Bool) (j : ℕ) (r : Rule) (x : Rest) (a : Act) : Type 0 where
+  pub level : reaches d (r .least) ≡ true
+  pub fit : fits (r .holds) (r .may) (shapeFor r x) ≡ true
+  pub open-yet : full ≡ false
+  pub read : readShape k j r (shapeFor r x) ≡ got a
+
+pub row-did : (k : Known) (d : Digits) (full : Bool) (j : ℕ) (r : Rule) (x : Rest) (a : Act) → isRefusal a ≡ false → actRow k d full j r x ≡ a → Did k d full j r x a
+row-did k d full j r x a n e =
+    let s = shapeFor r x in
+    let last = andThen (readShape k j r s) λ b. unless (not full) 11 (got b) in
+    let twice = unless (notTwice (r .times) full) 7 last in
+    let fitting = unless (fits (r .holds) (r .may) s) 5 twice in
+    let known = unless (reaches d (r .least)) 6 fitting in
+    let (h, e1) = unless-got (hasForm s) 5 known a (or-act (unless (hasForm s) 5 known) a n e) in
+    let (l, e2) = unless-got (reaches d (r .least)) 6 fitting a e1 in
+    let (f, e3) = unless-got (fits (r .holds) (r .may) s) 5 twice a e2 in
+    let (t, e4) = unless-got (notTwice (r .times) full) 7 last a e3 in
+    let (b, g, e5) = then-got (readShape k j r s) (λ b. unless (not full) 11 (got b)) a e4 in
+    let (o, q) = unless-got (not full) 11 (got b) a e5 in
+    record { level = l; fit = f; open-yet = not-true full o; read = g ∙ q }

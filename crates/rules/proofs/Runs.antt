@@ -1,11 +1,12 @@
--- Laws of the reading's steps and outcomes.
-use Prim.Native.Nat.{ℕ, zero, suc}
+-- Laws of the reading's steps and outcomes, and of the set at hand.
+use Prim.Native.Nat.{ℕ}
 use mathlib.Core.Bool.{Bool, true, false, true≢false}
 use mathlib.Core.Path.{_≡_, refl, sym, ap}
-use Rattle.rules.specs.RefusalNumbers.{Got, got, bad, mapG}
+use mathlib.Core.List.{List, [], _∷_, _++_}
+use Rattle.rules.specs.RefusalNumbers.{Got, mapG}
 use Rattle.rules.specs.Values.{Value}
 use Rattle.rules.specs.Rows.{Act, stay, entry, begin, shut, refuse}
-use Rattle.rules.specs.Sets.{Set}
+use Rattle.rules.specs.Sets.{Set, Contents, headOr}
 use Rattle.rules.specs.Machine.{State, top, file, drawing, layerNames, defines, symbol, hide, elements, figures, successive, texts, placing, skipping, ended, byAct, Outcome, refused, accepted, finish}
 
 -- a function moved through an act
@@ -42,3 +43,12 @@ finish-ended (texts s h fs n o) a q = not-accepted q
 finish-ended (placing s h fs n o p) a q = not-accepted q
 finish-ended (skipping s h fs n o d) a q = not-accepted q
 finish-ended (ended s) a q = cc
+
+-- ── the first volume: where the volume at hand is closed, and its FILE_FORMAT whatever else the volume at hand holds ──
+pub head-snoc : (v w : Contents) (vs : List Contents) → headOr v (vs ++ w ∷ []) ≡ headOr w vs
+head-snoc v w [] = refl
+head-snoc v w (u ∷ us) = refl
+
+pub head-file : (v w : Contents) (vs : List Contents) → v .file ≡ w .file → headOr v vs .file ≡ headOr w vs .file
+head-file v w [] e = e
+head-file v w (u ∷ us) e = refl
