@@ -1,0 +1,4 @@
+pub mod SoundEnds
+pub mod VolumeNames
+pub mod VolumePlaces
+pub mod LinePlaces

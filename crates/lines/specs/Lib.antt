@@ -1,0 +1,4 @@
+pub mod LineEnds
+pub mod VolumeNames
+pub mod VolumePlaces
+pub mod LinePlaces

@@ -1,0 +1,40 @@
+// The spool's volumes and the lines of a volume: document 01, "Spool (H)".
+
+// How far a volume is read, byte by byte: so many bytes of a line; just behind a CR; just behind the last 1A; broken.
+pub enum Reached {
+    Inside(u32),
+    Returned,
+    Ended,
+    Broken,
+}
+
+// What stands before a volume: a good head and how many bytes it says follow, or something else.
+pub enum Head {
+    Holds(u32),
+    Bad,
+}
+
+// Where a spool's volumes stand: how many there are, and for each the place of its first byte and its length; zeros behind them.
+// A spool that refusal 2 holds of has none.
+pub struct Layout {
+    pub count: u32,
+    pub places: [u32; 12],
+    pub lengths: [u32; 12],
+}
+
+// A line of a volume, by places in the volume's bytes: its first byte, the CR behind it, and the line after it.
+pub struct LineAt {
+    pub start: u32,
+    pub end: u32,
+    pub next: u32,
+}
+
+pub enum NextLine {
+    End,
+    Line(LineAt),
+}
+
+pub mod ends;
+mod names;
+pub mod places;
+pub mod spool;
