@@ -4,3 +4,4 @@ pub mod Digits
 pub mod Decimals
 pub mod Ints
 pub mod Bounds
+pub mod Written

@@ -1,6 +1,7 @@
-// Bytes and numbers: the leaves of the reader.
+// Bytes and numbers: the leaves of the reader and of the writer.
 pub mod bytes;
 pub mod numbers;
+pub mod write;
 
 // A number without a sign, where one was read.
 pub enum Count {
@@ -17,4 +18,10 @@ pub struct Decimal {
 pub enum Reading {
     Is(Decimal),
     Not,
+}
+
+// How many bytes were written, or that there was no room for them.
+pub enum Wrote {
+    Bytes(usize),
+    Full,
 }
