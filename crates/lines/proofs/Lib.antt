@@ -2,3 +2,4 @@ pub mod SoundEnds
 pub mod VolumeNames
 pub mod VolumePlaces
 pub mod LinePlaces
+pub mod LineForms

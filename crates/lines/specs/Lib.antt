@@ -2,3 +2,4 @@ pub mod LineEnds
 pub mod VolumeNames
 pub mod VolumePlaces
 pub mod LinePlaces
+pub mod LineForms

@@ -35,6 +35,7 @@ pub enum NextLine {
 }
 
 pub mod ends;
+pub mod forms;
 mod names;
 pub mod places;
 pub mod spool;
