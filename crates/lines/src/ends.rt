@@ -1,4 +1,5 @@
 // Rule 3: the ends of a volume's lines.
+use crate::CR;
 use crate::Reached;
 ghost use mathlib.Core.Path.{_≡_};
 ghost use Rattle.rules.specs.Base.{isSome};
@@ -8,8 +9,6 @@ ghost use Rattle.lines.specs.LineEnds.{insideStep, endStep, hasEnded};
 const MOST_IN_LINE: u32 = 512;
 
 const LF: u8 = 10;
-
-const CR: u8 = 13;
 
 const END: u8 = 26;
 

@@ -1,4 +1,6 @@
 // The form of a line: leading blanks, where the key ends, the places of the parts.
+use crate::MOST_BYTES;
+use crate::SPACE;
 use leaves::bytes::allowed;
 use leaves::bytes::same;
 use rules::Equation;
@@ -11,11 +13,6 @@ ghost use Prim.Native.Nat.{_+_, _-_, _<_, _≤_};
 ghost use lib.ListN.{length, drop};
 ghost use Rattle.rules.specs.Lines.{unindent, scan, lineFormOf};
 ghost use Rattle.lines.specs.LineForms.{blankOf, opensHere, keyEndOf, refusedAs, bareForm, equalForm, braceForm, restForm, lineFormAt};
-
-// No spool has more bytes.
-const MOST_BYTES: usize = 61440;
-
-const SPACE: u8 = 32;
 
 const TAB: u8 = 9;
 

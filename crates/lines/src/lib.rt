@@ -34,6 +34,13 @@ pub enum NextLine {
     Line(LineAt),
 }
 
+// No spool has more bytes, and so no volume.
+const MOST_BYTES: usize = 61440;
+
+const CR: u8 = 13;
+
+const SPACE: u8 = 32;
+
 pub mod ends;
 pub mod forms;
 mod names;

@@ -1,4 +1,6 @@
 // The names of volumes.
+use crate::SPACE;
+use leaves::bytes::same;
 ghost use mathlib.Core.Path.{_≡_};
 ghost use mathlib.Core.List.{map};
 ghost use Prim.Native.Nat.{_+_, _≤_, _<_};
@@ -6,8 +8,6 @@ ghost use lib.ListN.{length, getD, drop};
 ghost use Rattle.rules.specs.Base.{same as sameBytes, among, distinct, within as inRange};
 ghost use Rattle.rules.specs.Spool.{nameByte, goodName};
 ghost use Rattle.lines.specs.VolumeNames.{letters, allSpaces, rawName, Ranged};
-
-const SPACE: u8 = 32;
 
 fn within(low: u8, high: u8, b: u8) -> bool
     ensures { λ r. ⌜ r ≡ inRange low high b ⌝ }
@@ -66,22 +66,6 @@ pub(crate) fn good_name(n: &[u8]) -> bool
         return false;
     }
     spaces_from(n, k)
-}
-
-fn same(a: &[u8], b: &[u8]) -> bool
-    ensures { λ r. ⌜ r ≡ sameBytes (now (a .entry)) (now (b .entry)) ⌝ }
-{
-    if a.len() != b.len() {
-        return false;
-    }
-    let mut i = 0;
-    while i < a.len() {
-        if a[i] != b[i] {
-            return false;
-        }
-        i += 1;
-    }
-    true
 }
 
 // The eight name bytes of the volume whose first byte stands at a place.

@@ -1,13 +1,10 @@
 // The lines of a volume one after the other, by place.
+use crate::CR;
 use crate::LineAt;
+use crate::MOST_BYTES;
 use crate::NextLine;
 ghost use mathlib.Core.Path.{_≡_};
 ghost use Rattle.lines.specs.LinePlaces.{crIn, nextIn};
-
-// No spool has more bytes, and so no volume.
-const MOST_BYTES: usize = 61440;
-
-const CR: u8 = 13;
 
 // How many bytes stand before the first CR; all, where there is none.
 fn cr_in(s: &[u8]) -> usize

@@ -1,6 +1,7 @@
 // The volumes of a spool.
 use crate::Head;
 use crate::Layout;
+use crate::MOST_BYTES;
 use crate::names::good_name;
 use crate::names::names_differ;
 ghost use mathlib.Core.Path.{_≡_};
@@ -8,8 +9,6 @@ ghost use Prim.Native.Nat.{_≤_};
 ghost use lib.ListN.{length};
 ghost use Rattle.rules.specs.Spool.{volumesOf};
 ghost use Rattle.lines.specs.VolumePlaces.{headIn, noLayout, layoutOf, walked};
-
-const MOST_BYTES: usize = 61440;
 
 const MOST_VOLUMES: usize = 12;
 

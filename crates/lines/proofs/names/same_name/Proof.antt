@@ -17,7 +17,6 @@ use Rattle.lines.proofs.names.same_name.Tie as tie
 use Rattle.lines.proofs.names.same_name.Reads as reads
 use Rattle.lines.proofs.names.same_name.Lts as lts
 use Rattle.lines.proofs.names.name_at.Reads as name-at-reads
-use Rattle.lines.proofs.names.same.Reads as same-reads
 
 -- src/names.rt:101:10
 name-at-requires : tie.Need-name-at-requires
