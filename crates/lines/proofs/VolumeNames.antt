@@ -8,7 +8,7 @@ use native.Mathlib.Omega.{arith}
 use lib.Dec.{eqb, leb}
 use lib.ListN.{length, getD, take, drop, replicate, drop-of-length-le}
 use borrow.Author.Tests.{eq-eqb, ne-eqb, le-leb, lt-leb, eqb-true, eqb-false}
-use Rattle.rules.proofs.Chains.{and-left, and-right, and-false, same-eq, same-refl, clash}
+use Rattle.rules.proofs.Chains.{and-left, and-right, same-eq, same-refl, clash}
 use Rattle.rules.specs.Base.{all, isNil, isSome, mapO, same, indexOf, among, distinct, within}
 use Rattle.rules.specs.Spool.{nameByte, nameOf, paddedName, goodName}
 use Rattle.lines.specs.VolumeNames.{letters, allSpaces, rawName, Ranged}
@@ -39,22 +39,6 @@ module _ (s : List ℕ) (i : ℕ) where
   pub spaces-end : length s ≤ i → allSpaces (drop i s) ≡ true
   unfolding allSpaces
   spaces-end h = rw (drop-of-length-le s h)
-
-module _ (a b : List ℕ) (i : ℕ) where
-  pub same-step : i < length a → i < length b → getD a i 0 ≡ getD b i 0 → same (drop i a) (drop i b) ≡ same (drop (i + 1) a) (drop (i + 1) b)
-  same-step h k e = rw (at a i h, at b i k, eq-eqb _ _ e)
-
-  pub same-not : i < length a → i < length b → (getD a i 0 ≡ getD b i 0 → ⊥) → same (drop i a) (drop i b) ≡ false
-  same-not h k e = rw (at a i h, at b i k, ne-eqb _ _ e)
-
-  pub same-end : length a ≤ i → length b ≤ i → same (drop i a) (drop i b) ≡ true
-  same-end h k = rw (drop-of-length-le a h, drop-of-length-le b k)
-
-pub same-long : (a b : List ℕ) → (length a ≡ length b → ⊥) → same a b ≡ false
-same-long [] [] h = absurd (h refl)
-same-long [] (y ∷ ys) h = refl
-same-long (x ∷ xs) [] h = refl
-same-long (x ∷ xs) (y ∷ ys) h = rw (same-long xs ys (λ e. h (ap suc e))) (and-false (eqb x y))
 
 -- ── a good name ──
 pub letters-le : (s : List ℕ) → letters s ≤ length s
