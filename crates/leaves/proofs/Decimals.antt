@@ -19,7 +19,7 @@ use Rattle.leaves.specs.Bytes.{upTo, past}
 use Rattle.leaves.specs.Readings.{countOf, readingOf, readRun, wholeOf, fractionOf}
 use Rattle.leaves.specs.declared.Count.the-variants as C
 use Rattle.leaves.specs.declared.Reading.the-variants as R
-use Rattle.leaves.proofs.Pieces.{upTo-take, past-drop, cut-whole, cut-two}
+use Rattle.leaves.proofs.Cuts.{upTo-take, past-drop, cut-whole, cut-two}
 use Rattle.leaves.proofs.Scan.{rest-all}
 use Rattle.leaves.proofs.Digits.{value-lt, ten-most, run-length, OnSome, on-cond, not-is}
 
@@ -27,7 +27,7 @@ use Rattle.leaves.proofs.Digits.{value-lt, ten-most, run-length, OnSome
 one-more : (a w u v : ℕ) → u ≡ w → v ≡ suc w → (a * 10 + 0) * 10 ^ u ≡ a * 10 ^ v
 one-more a w u v p q = rw (p, q, pow-succ' 10 w) (omega arith)
 
-pad-value : (w a : ℕ) (s : List ℕ) → length s ≤ w → valueFrom a (padEnd w s) ≡ valueFrom a s * 10 ^ (w - length s)
+pub pad-value : (w a : ℕ) (s : List ℕ) → length s ≤ w → valueFrom a (padEnd w s) ≡ valueFrom a s * 10 ^ (w - length s)
 pad-value zero a [] h = omega arith
 pad-value zero a (b ∷ s) h = absurd (not-suc-le-zero h)
 pad-value (suc w) a [] h = pad-value w (a * 10 + 0) [] (omega arith) ∙ one-more a w _ _ (omega arith) (omega arith)

@@ -1,7 +1,10 @@
 pub mod Scan
-pub mod Pieces
+pub mod Cuts
 pub mod Digits
 pub mod Decimals
 pub mod Ints
 pub mod Bounds
+pub mod Commas
 pub mod Written
+pub mod Drawings
+pub mod FreeTexts

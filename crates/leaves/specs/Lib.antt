@@ -1,3 +1,6 @@
 pub mod Bytes
 pub mod Readings
+pub mod Pieces
+pub mod Drawing
+pub mod Texts
 pub mod Writing

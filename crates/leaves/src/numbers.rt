@@ -119,7 +119,7 @@ pub fn clock(s: &[u8]) -> Count
 }
 
 // 10 ^ (4 - n): what the last of n digits behind the point counts, in ten-thousandths.
-fn unit(n: usize) -> u64
+pub(crate) fn unit(n: usize) -> u64
     ensures { λ r. ⌜ r ≡ 10 ^ (4 - n) ⌝ }
 {
     if n == 0 {

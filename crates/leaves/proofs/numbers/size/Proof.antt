@@ -7,7 +7,7 @@ use Rattle.leaves.specs.Bytes.{upTo}
 use Rattle.leaves.specs.Readings.{countOf, wholeOf, fractionOf}
 use Rattle.leaves.proofs.Digits.{on-is}
 use Rattle.leaves.proofs.Decimals.{size-whole, size-is, size-first, size-second, fraction-below, whole-below}
-use Rattle.leaves.proofs.Pieces.{upTo-le}
+use Rattle.leaves.proofs.Cuts.{upTo-le}
 use borrow.Author.Needs.{needs}
 use Rattle.leaves.proofs.numbers.size.Statement.{statement}
 use Rattle.leaves.proofs.numbers.size.Tie as tie
