@@ -1,21 +1,22 @@
 -- What the writers do: a text copied byte by byte, digits laid from the last to the first, needless zeros passed over.
 use Prim.Native.Nat.{ℕ, zero, suc, _+_, _-_, _/_, _%_, _<_, _≤_}
 use mathlib.Core.Path.{_≡_, refl, ap, sym, subst, _∙_}
-use mathlib.Core.List.{List, [], _∷_, _++_, append-nil}
+use mathlib.Core.List.{List, [], _∷_, _++_, append-nil, append-assoc}
 use mathlib.Core.Bool.{Bool, true, false, cond}
 use native.Mathlib.Numerals.{add-one}
 use native.Mathlib.Nat.{zero-add}
 use native.Mathlib.Omega.{arith}
-use lib.ListN.{length, getD, take, drop, set, length-set, length-drop, length-append}
-use lib.Seq.{take-suc, take-append-add, drop-append-add, drop-append-le, take-at, take-all, take-length, drop-length, append-snoc, paste, paste-suc, drop-cons, drop-set-lt, getD-set-same}
+use lib.ListN.{length, getD, take, drop, set, length-set, length-drop, length-append, drop-of-length-le}
+use lib.Seq.{take-suc, take-append-add, drop-append-add, drop-append-le, take-at, take-all, take-length, drop-length, append-snoc, paste, paste-suc, drop-cons, drop-set-lt, getD-set-same, drop-at, drop-drop, length-take-le}
 use borrow.Author.Tests.{le-leb, lt-leb, eq-eqb, ne-eqb, leb-true, leb-false}
 use lib.Dec.{leb}
-use borrow.Rule.Slice.PartMut.{putMid}
+use borrow.Rule.Slice.PartMut.{putMid, put-same, same-len-mid}
 use Rattle.leaves.specs.declared.Wrote.{Wrote}
-use Rattle.rules.specs.Numbers.{fixedOnto, fixed, trim, endOnto, trimEnd, showSize}
+use Rattle.rules.specs.Numbers.{fixedOnto, fixed, trim, endOnto, trimEnd, showCount, showSize}
+use Rattle.rules.specs.Values.{showSheet, showRatio}
 use Rattle.leaves.specs.Writing.{Puts, laidSize}
 use Rattle.leaves.specs.declared.Wrote.the-variants as W
-use Rattle.leaves.proofs.Scan.{at}
+use Rattle.leaves.proofs.Scan.{at, rest-all}
 
 -- ── the sentence of a writer, by the text's length ──
 module _ (text before : List ℕ) (n : ℕ) where
@@ -208,3 +209,89 @@ module _ (x : ℕ) (text after : List ℕ) (r : Wrote) where
       let w = was-bytes text s after n (rw (rest-of b s, e) at p) in
       let l : n + 1 ≡ suc (length text) = omega (arith, w .0) in
       subst (λ (q : List ℕ). Puts (x ∷ text) (b ∷ s) (set q 0 x) (W.Bytes (n + 1))) (sym (put-rest b s after)) (rw l (fits (x ∷ text) (b ∷ s) (suc (length text)) refl (omega (arith, w .1)) (x ∷ after) (ap (λ (q : List ℕ). x ∷ q) (w .2))))
+
+-- ── one text behind another ──
+module _ (a b before after : List ℕ) (r : Wrote) (h : length a ≤ length before) (p : Puts b (take (length before - length a) (drop (length a) before)) after r) where
+  rest-put : Puts b (drop (length a) before) after r
+  rest-put = rw (rest-all (length a) before) at p
+
+  part-back : putMid (length a) (length before - length a) before (drop (length a) before) ≡ before
+  part-back =
+      ap (putMid (length a) (length before - length a) before) (sym (rest-all (length a) before)) ∙ put-same (length a) (length before - length a) before
+
+  pub both-full : r ≡ W.Full → Puts (a ++ b) before (putMid (length a) (length before - length a) before after) W.Full
+  both-full e =
+      let w = was-full b (drop (length a) before) after (rw e at rest-put) in
+      rw (w .1, part-back) (full (a ++ b) before (length a + length b) (length-append a b) (omega (arith, w .0, length-drop (length a) before)))
+
+  module _ (m : ℕ) (e : r ≡ W.Bytes m) where
+    both-parts : (length b ≡ m) × (length b ≤ length (drop (length a) before)) × (after ≡ b ++ drop (length b) (drop (length a) before))
+    both-parts = was-bytes b (drop (length a) before) after m (rw e at rest-put)
+
+    pub both-room : length a + m ≤ length before
+    both-room = omega (arith, both-parts .0, both-parts .1, length-drop (length a) before)
+
+    after-length : length after ≡ length (drop (length a) before)
+    after-length = rw (both-parts .2) (omega (arith, length-append b (drop (length b) (drop (length a) before)), length-drop (length b) (drop (length a) before), both-parts .1))
+
+    whole-length : length (putMid (length a) (length before - length a) before after) ≡ length before
+    whole-length = same-len-mid (length a) (length before - length a) before after (after-length ∙ sym (ap (λ (l : List ℕ). length l) (rest-all (length a) before)))
+
+    behind-first : drop (length a) (putMid (length a) (length before - length a) before after) ≡ after
+    behind-first =
+        drop-at (take (length a) before) (after ++ drop (length before - length a) (drop (length a) before)) (length a) (length-take-le (length a) before h)
+        ∙ ap (λ (l : List ℕ). after ++ l) (drop-of-length-le (drop (length a) before) {i = length before - length a} (omega (arith, length-drop (length a) before))) ∙ append-nil after
+
+    pub both-bytes : (last : List ℕ) (q : Wrote) → Puts a (putMid (length a) (length before - length a) before after) last q → Puts (a ++ b) before last (W.Bytes (length a + m))
+    both-bytes last q f =
+        let long : leb (length a) (length (putMid (length a) (length before - length a) before after)) ≡ true = rw whole-length (le-leb (length a) (length before) h) in
+        let front : last ≡ a ++ after = f .memory ∙ rw long (ap (λ (l : List ℕ). a ++ l) behind-first) in
+        let seam : b ++ drop (length b) (drop (length a) before) ≡ b ++ drop (length a + m) before = ap (λ (l : List ℕ). b ++ l) (drop-drop (length b) (length a) before ∙ rw (both-parts .0)) in
+        fits (a ++ b) before (length a + m) (length-append a b ∙ rw (both-parts .0)) both-room last (front ∙ ap (λ (l : List ℕ). a ++ l) (both-parts .2 ∙ seam) ∙ sym (append-assoc a b (drop (length a + m) before)))
+
+-- ── a sheet ──
+trimmed : (d : List ℕ) (z k : ℕ) → k ≡ length d - z → drop z d ≡ trim d → take k (drop z d) ≡ trim d
+trimmed d z k e h = rw e (rest-all z d) ∙ h
+
+module _ (a : ℕ) (x : List ℕ) (e : x ≡ fixed 1 a) where
+  pub name-length : 2 ≡ suc (length (x ++ []))
+  name-length = rw (append-nil x, e) (omega (arith, fixed-length 1 a))
+
+  pub sheet-plain : (n : ℕ) → n ≡ 1 → 65 ∷ (x ++ []) ≡ showSheet n a
+  sheet-plain n h = rw (append-nil x, e, h)
+
+  pub sheet-large : (n : ℕ) → (n ≡ 1 → ⊥) → (d : List ℕ) (z : ℕ) → d ≡ fixed 2 n → drop z d ≡ trim d → take (2 - z) (drop z d) ++ 65 ∷ (x ++ []) ≡ showSheet n a
+  sheet-large n h d z g t =
+      let l : 2 - z ≡ length d - z = rw g (omega (arith, fixed-length 2 n)) in
+      rw (trimmed d z (2 - z) l t, append-nil x, e, g, ne-eqb n 1 h)
+
+-- ── a scale ──
+module _ (q : ℕ) (y : List ℕ) (e : y ≡ fixed 9 q) where
+  pub tail-length : 10 ≤ length (0 ∷ (y ++ []))
+  tail-length = rw (append-nil y, e) (omega (arith, fixed-length 9 q))
+
+  pub tail-digits : take 9 (y ++ []) ≡ fixed 9 q
+  tail-digits = rw (append-nil y, e) (take-all 9 (fixed 9 q) (omega (arith, fixed-length 9 q)))
+
+  module _ (z : ℕ) (h : z ≤ length (take 9 (y ++ []))) where
+    few : z ≤ 9
+    few = omega (arith, rw tail-digits at h, fixed-length 9 q)
+
+    pub slash-length : 10 ≤ length (set (0 ∷ (y ++ [])) z 47)
+    slash-length = rw (length-set (0 ∷ (y ++ [])) z 47) tail-length
+
+    slash-tail : drop z (take 9 (y ++ [])) ≡ trim (take 9 (y ++ [])) → take (10 - z) (drop z (set (0 ∷ (y ++ [])) z 47)) ≡ 47 ∷ showCount 9 q
+    slash-tail t =
+        let digits : y ++ [] ≡ fixed 9 q = append-nil y ∙ e in
+        let tail : drop z (fixed 9 q) ≡ trim (fixed 9 q) = rw tail-digits at t in
+        let l : length (drop z (set (0 ∷ fixed 9 q) z 47)) ≤ 10 - z = omega (arith, length-drop z (set (0 ∷ fixed 9 q) z 47), length-set (0 ∷ fixed 9 q) z 47, fixed-length 9 q) in
+        rw digits (take-all (10 - z) (drop z (set (0 ∷ fixed 9 q) z 47)) l ∙ laid (0 ∷ fixed 9 q) z 47 (omega (arith, few, fixed-length 9 q)) ∙ ap (λ (s : List ℕ). 47 ∷ s) tail)
+
+    pub ratio-both : (p : ℕ) → (q ≡ 1 → ⊥) → (d : List ℕ) (s : ℕ) → d ≡ fixed 9 p → drop s d ≡ trim d → drop z (take 9 (y ++ [])) ≡ trim (take 9 (y ++ []))
+        → take (9 - s) (drop s d) ++ take (10 - z) (drop z (set (0 ∷ (y ++ [])) z 47)) ≡ showRatio p q
+    ratio-both p n d s g u t =
+        let l : 9 - s ≡ length d - s = rw g (omega (arith, fixed-length 9 p)) in
+        rw (trimmed d s (9 - s) l u, slash-tail t, g, ne-eqb q 1 n)
+
+pub ratio-alone : (p q : ℕ) → q ≡ 1 → showCount 9 p ≡ showRatio p q
+ratio-alone p q h = sym (rw h)

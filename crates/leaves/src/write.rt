@@ -4,6 +4,7 @@ ghost use Prim.Native.Nat.{_≤_, _/_, _%_};
 ghost use mathlib.Core.List.{_++_, _∷_};
 ghost use lib.ListN.{length, drop, take};
 ghost use Rattle.rules.specs.Numbers.{fixed, trim, trimEnd, showCount, showSize, showDecimal};
+ghost use Rattle.rules.specs.Values.{showSheet, showRatio};
 ghost use Rattle.leaves.specs.Writing.{Puts, width, laidSize};
 
 // A text at the front of out, where it fits; where it does not, out stays as it is.
@@ -19,6 +20,22 @@ pub fn put(text: &[u8], out: &mut [u8]) -> Wrote
         i += 1;
     }
     Wrote::Bytes(i)
+}
+
+// One text behind the other, where both fit. The second is written first, so that nothing is written where there is no room for both.
+fn put_both(first: &[u8], second: &[u8], out: &mut [u8]) -> Wrote
+    ensures { λ r. ⌜ Puts (now (first .entry) ++ now (second .entry)) (now (out .entry)) (now (out .exit)) r ⌝ }
+{
+    let n = first.len();
+    if out.len() < n {
+        return Wrote::Full;
+    }
+    let rest = put(second, &mut out[n..]);
+    let Wrote::Bytes(m) = rest else {
+        return Wrote::Full;
+    };
+    put(first, out);
+    Wrote::Bytes(n + m)
 }
 
 // All of out as the last digits of n, from the last to the first.
@@ -148,4 +165,36 @@ pub fn put_decimal(z: i64, out: &mut [u8]) -> Wrote
         return put_minus(-(z + 1) as u64 + 1, out);
     }
     put_size(z as u64, out)
+}
+
+// A sheet: its n, if it is not 1, then `A` and its number.
+pub fn put_sheet(n: u64, a: u64, out: &mut [u8]) -> Wrote
+    ensures { λ r. ⌜ Puts (showSheet n a) (now (out .entry)) (now (out .exit)) r ⌝ }
+{
+    let mut name = [b'A'; 2];
+    fill_digits(a, &mut name[1..2]);
+    if n == 1 {
+        return put(&name, out);
+    }
+    let mut digits = [0u8; 2];
+    fill_digits(n, &mut digits);
+    let zeros = needless(&digits);
+    put_both(&digits[zeros..], &name, out)
+}
+
+// A scale: p, and `/` and q if q is not 1. The `/` takes the place before q's first needed digit.
+pub fn put_ratio(p: u64, q: u64, out: &mut [u8]) -> Wrote
+    ensures { λ r. ⌜ Puts (showRatio p q) (now (out .entry)) (now (out .exit)) r ⌝ }
+{
+    let mut first = [0u8; 9];
+    fill_digits(p, &mut first);
+    if q == 1 {
+        return put_trimmed(&first, out);
+    }
+    let mut second = [0u8; 10];
+    fill_digits(q, &mut second[1..10]);
+    let start = needless(&first);
+    let slash = needless(&second[1..10]);
+    second[slash] = b'/';
+    put_both(&first[start..], &second[slash..], out)
 }
