@@ -9,19 +9,21 @@ use native.Mathlib.Nat.{lt-of-lt-of-le}
 use native.Mathlib.Omega.{arith}
 use lib.Dec.{eqb, leb}
 use lib.IntN.{ℤ, pos}
-use lib.ListN.{length, getD, take, drop, length-append, length-drop, take-append-drop}
+use lib.ListN.{List·getD-eq-default, length, getD, take, drop, length-append, length-drop, take-append-drop}
 use lib.Seq.{drop-drop, length-take-le, take-suc, getD-drop}
-use borrow.Author.Tests.{eq-eqb, ne-eqb, eqb-true, le-leb, leb-true, leb-false}
+use borrow.Author.Tests.{eq-eqb, ne-eqb, eqb-true, le-leb, lt-leb, leb-true, leb-false}
 use Rattle.rules.specs.Base.{all, isNil, mapO, whole, parts, cut, onto}
 use Rattle.rules.specs.Numbers.{isDigit, digitRun, valueFrom, value, padEnd, minus, readSize, readDecimal}
-use Rattle.rules.proofs.Chains.{and-left, and-right, and-true, none-some, clash}
+use Rattle.rules.proofs.Chains.{and-left, and-right, and-true, and-false, clash}
 use Rattle.leaves.specs.Bytes.{upTo}
-use Rattle.leaves.specs.Readings.{readingOf}
-use Rattle.leaves.specs.Pieces.{decimalPiece, signLength, DigitsRead, SizeRead}
+use Rattle.leaves.specs.Readings.{readingOf, signOf}
+use Rattle.leaves.specs.Pieces.{decimalPiece, signLength, sizeAt, sizePiece, DigitsRead, RunRead}
 use Rattle.leaves.specs.declared.DecimalPiece.{DecimalPiece}
 use Rattle.leaves.specs.declared.Reading.the-variants as R
+use Rattle.leaves.specs.declared.pieces.SizeEnd.{SizeEnd}
 use Rattle.leaves.specs.declared.pieces.SizePiece.the-variants as P
-use Rattle.leaves.proofs.Scan.{at, upTo-end}
+use Rattle.leaves.proofs.Scan.{at, upTo-end, upTo-hit, upTo-miss}
+use Rattle.leaves.proofs.Cuts.{upTo-none, cut-whole, cut-two}
 use Rattle.leaves.proofs.Digits.{digit-bounds, value-lt, ten-most, OnSome}
 use Rattle.leaves.proofs.Decimals.{pad-value, size-below}
 
@@ -57,6 +59,13 @@ module _ (s : List ℕ) (a i : ℕ) (h : a ≤ i) (k : i ≤ length s) where
 
   run-long : length (take (i - a) (drop a s)) ≡ i - a
   run-long = length-take-le (i - a) (drop a s) (omega (arith, length-drop a s))
+
+-- a run that stops, at a byte that is no digit or where it must
+pub run-stops : (s : List ℕ) (a most v i : ℕ) → DigitsRead s a most (record { value = v; end = i }) → isDigit (getD s i 0) ≡ false → RunRead s a most (record { value = v; end = i })
+run-stops s a most v i r e = record { read = r; stop = λ h. e }
+
+pub run-full : (s : List ℕ) (a most v i : ℕ) → DigitsRead s a most (record { value = v; end = i }) → (i < a + most → length s ≤ i) → RunRead s a most (record { value = v; end = i })
+run-full s a most v i r h = record { read = r; stop = λ k. ap isDigit (List·getD-eq-default s 0 (h k)) }
 
 -- one more digit
 value-snoc : (v : ℕ) (d : List ℕ) (b : ℕ) → valueFrom v (d ++ b ∷ []) ≡ valueFrom v d * 10 + (b - 48)
@@ -104,124 +113,218 @@ module _ (s : List ℕ) (a most v i : ℕ) (r : DigitsRead s a most (record { va
       let h : value d < 10 ^ 8 = lt-of-lt-of-le (value-lt d (r .digits)) (ten-most (length d) 8 (omega (arith, l, r .few, r .start))) in
       rw (r .number) h
 
--- ── the whole number, at a comma or the end ──
-module _ (s : List ℕ) (a i v : ℕ) (r : DigitsRead s a 7 (record { value = v; end = i })) (more : i ≡ a → ⊥) where
-  digits-run : digitRun 1 7 (take (i - a) (drop a s)) ≡ true
-  digits-run =
-      let l = run-long s a i (r .start) (r .room) in
-      digit-run 1 7 (take (i - a) (drop a s)) (r .digits) (omega (arith, l, r .start, more)) (omega (arith, l, r .few))
+-- ── what is no run of digits ──
+not-digits : (d x : List ℕ) (b : ℕ) → isDigit b ≡ false → all isDigit (d ++ b ∷ x) ≡ false
+not-digits [] x b h = rw h
+not-digits (c ∷ d) x b h = rw (not-digits d x b h) (and-false (isDigit c))
 
-  module _ (stop : isNil (upTo 44 (drop i s)) ≡ true) where
-    whole-piece : upTo 44 (drop a s) ≡ take (i - a) (drop a s)
-    whole-piece =
-        ap (upTo 44) (run-rest s a i (r .start) (r .room)) ∙ upTo-digits 44 (omega arith) (take (i - a) (drop a s)) (drop i s) (r .digits)
-        ∙ ap (λ (l : List ℕ). take (i - a) (drop a s) ++ l) (nil (upTo 44 (drop i s)) stop) ∙ append-nil (take (i - a) (drop a s))
+no-run : (lo hi : ℕ) (d x : List ℕ) (b : ℕ) → (length d < hi → isDigit b ≡ false) → digitRun lo hi (d ++ b ∷ x) ≡ false
+no-run lo hi d x b h = go (leb hi (length d)) refl
+  where
+    go : (t : Bool) → leb hi (length d) ≡ t → digitRun lo hi (d ++ b ∷ x) ≡ false
+    go true e =
+        let l = leb-true hi (length d) e in
+        let n : hi < length (d ++ b ∷ x) = omega (arith, length-append d (b ∷ x)) in
+        rw (lt-leb (length (d ++ b ∷ x)) hi n, and-false (leb lo (length (d ++ b ∷ x)))) (and-false (all isDigit (d ++ b ∷ x)))
+    go false e = rw (not-digits d x b (h (leb-false hi (length d) e)))
 
-    whole-read : readSize (upTo 44 (drop a s)) ≡ some (v * 10000)
-    whole-read = ap readSize whole-piece ∙ rw (cut-digits 46 (omega arith) (take (i - a) (drop a s)) (r .digits), digits-run, r .number)
+-- a list that starts with no digit, or is empty
+first-no : (hi : ℕ) (l : List ℕ) → isDigit (getD l 0 0) ≡ false → digitRun 1 hi l ≡ false
+first-no hi [] h = refl
+first-no hi (b ∷ l) h = rw h
 
-    whole-end : i ≡ a + length (upTo 44 (drop a s))
-    whole-end = rw whole-piece (omega (arith, run-long s a i (r .start) (r .room), r .start))
+upTo-first : (c : ℕ) (l : List ℕ) → isDigit (getD l 0 0) ≡ false → isDigit (getD (upTo c l) 0 0) ≡ false
+unfolding upTo
+upTo-first c [] h = refl
+upTo-first c (b ∷ l) h = go (eqb b c)
+  where
+    go : (t : Bool) → isDigit (getD (cond t [] (b ∷ upTo c l)) 0 0) ≡ false
+    go true = refl
+    go false = h
 
-    pub whole-told : SizeRead s a (P.Is (record { value = v * 10000; end = i }))
-    whole-told = (whole-read, whole-end)
+upTo-other : (c b : ℕ) (l : List ℕ) → (b ≡ c → ⊥) → upTo c (b ∷ l) ≡ b ∷ upTo c l
+unfolding upTo
+upTo-other c b l h = rw (ne-eqb b c h)
 
-  -- ── a point and digits behind it ──
-  module _ (j f : ℕ) (point : getD s i 0 ≡ 46) (in-list : i < length s) (q : DigitsRead s (i + 1) 4 (record { value = f; end = j })) (some-digit : j ≡ i + 1 → ⊥) (stop : isNil (upTo 44 (drop j s)) ≡ true) where
-    behind-run : digitRun 1 4 (take (j - (i + 1)) (drop (i + 1) s)) ≡ true
-    behind-run =
-        let l = run-long s (i + 1) j (q .start) (q .room) in
-        digit-run 1 4 (take (j - (i + 1)) (drop (i + 1) s)) (q .digits) (omega (arith, l, q .start, some-digit)) (omega (arith, l, q .few))
+size-none : (p : List ℕ) → digitRun 1 7 (upTo 46 p) ≡ false → readSize p ≡ none
+size-none p h = go (leb (length p) (length (upTo 46 p))) refl
+  where
+    go : (t : Bool) → leb (length p) (length (upTo 46 p)) ≡ t → readSize p ≡ none
+    go true e =
+        let l = leb-true (length p) (length (upTo 46 p)) e in
+        rw (cut-whole 46 p l, rw (upTo-none 46 p l) at h)
+    go false e = rw (cut-two 46 p (leb-false (length p) (length (upTo 46 p)) e), h)
 
-    behind-piece : upTo 44 (drop (i + 1) s) ≡ take (j - (i + 1)) (drop (i + 1) s)
-    behind-piece =
-        ap (upTo 44) (run-rest s (i + 1) j (q .start) (q .room)) ∙ upTo-digits 44 (omega arith) (take (j - (i + 1)) (drop (i + 1) s)) (drop j s) (q .digits)
-        ∙ ap (λ (l : List ℕ). take (j - (i + 1)) (drop (i + 1) s) ++ l) (nil (upTo 44 (drop j s)) stop) ∙ append-nil (take (j - (i + 1)) (drop (i + 1) s))
+-- ── the end of a piece ──
+pub ends-at : (s : List ℕ) (i : ℕ) → i < length s → eqb (getD s i 0) 44 ≡ isNil (upTo 44 (drop i s))
+unfolding upTo
+ends-at s i h = rw (at s i h) (go (eqb (getD s i 0) 44))
+  where
+    go : (t : Bool) → t ≡ isNil (cond t [] (getD s i 0 ∷ upTo 44 (drop (i + 1) s)))
+    go true = refl
+    go false = refl
 
-    at-point : upTo 44 (drop i s) ≡ 46 ∷ upTo 44 (drop (i + 1) s)
-    unfolding upTo
-    at-point = rw (at s i in-list, point)
+pub goes-on : (s : List ℕ) (i : ℕ) → isNil (upTo 44 (drop i s)) ≡ false → i < length s
+goes-on s i e = go (leb (length s) i) refl
+  where
+    go : (t : Bool) → leb (length s) i ≡ t → i < length s
+    go true h = clash (ap isNil (upTo-end 44 s i (leb-true (length s) i h))) e
+    go false h = leb-false (length s) i h
 
-    both-piece : upTo 44 (drop a s) ≡ take (i - a) (drop a s) ++ 46 ∷ take (j - (i + 1)) (drop (i + 1) s)
-    both-piece =
-        ap (upTo 44) (run-rest s a i (r .start) (r .room)) ∙ upTo-digits 44 (omega arith) (take (i - a) (drop a s)) (drop i s) (r .digits)
-        ∙ ap (λ (l : List ℕ). take (i - a) (drop a s) ++ l) (at-point ∙ ap (λ (l : List ℕ). 46 ∷ l) behind-piece)
+on-with : (s : List ℕ) (i : ℕ) → isNil (upTo 44 (drop i s)) ≡ false → upTo 44 (drop i s) ≡ getD s i 0 ∷ upTo 44 (drop (i + 1) s)
+on-with s i e = upTo-miss 44 s i (goes-on s i e) (λ h. clash (ap isNil (upTo-hit 44 s i (goes-on s i e) h)) e)
 
-    behind-value : value (padEnd 4 (take (j - (i + 1)) (drop (i + 1) s))) ≡ f * 10 ^ (4 - (j - (i + 1)))
-    behind-value =
-        let l = run-long s (i + 1) j (q .start) (q .room) in
-        pad-value 4 0 (take (j - (i + 1)) (drop (i + 1) s)) (omega (arith, l, q .few)) ∙ rw (l, q .number)
+-- ── a run, and the piece it starts ──
+module _ (s : List ℕ) (a most v i : ℕ) (r : RunRead s a most (record { value = v; end = i })) where
+  in-piece : upTo 44 (drop a s) ≡ take (i - a) (drop a s) ++ upTo 44 (drop i s)
+  in-piece = ap (upTo 44) (run-rest s a i (r .read .start) (r .read .room)) ∙ upTo-digits 44 (omega arith) (take (i - a) (drop a s)) (drop i s) (r .read .digits)
 
-    both-read : readSize (upTo 44 (drop a s)) ≡ some (v * 10000 + f * 10 ^ (4 - (j - (i + 1))))
-    both-read =
-        ap readSize both-piece
-        ∙ rw (cut-behind 46 (omega arith) (take (i - a) (drop a s)) (take (j - (i + 1)) (drop (i + 1) s)) (r .digits), digits-run, behind-run, behind-value, r .number)
+  all-piece : isNil (upTo 44 (drop i s)) ≡ true → upTo 44 (drop a s) ≡ take (i - a) (drop a s)
+  all-piece e = in-piece ∙ ap (λ (l : List ℕ). take (i - a) (drop a s) ++ l) (nil (upTo 44 (drop i s)) e) ∙ append-nil (take (i - a) (drop a s))
 
-    both-end : j ≡ a + length (upTo 44 (drop a s))
-    both-end =
-        rw both-piece
-        (omega (arith, length-append (take (i - a) (drop a s)) (46 ∷ take (j - (i + 1)) (drop (i + 1) s)), run-long s a i (r .start) (r .room), run-long s (i + 1) j (q .start) (q .room), r .start, q .start))
+  is-run : (i ≡ a → ⊥) → digitRun 1 most (take (i - a) (drop a s)) ≡ true
+  is-run n =
+      let l = run-long s a i (r .read .start) (r .read .room) in
+      digit-run 1 most (take (i - a) (drop a s)) (r .read .digits) (omega (arith, l, r .read .start, n)) (omega (arith, l, r .read .few))
 
-    -- as the code counts it, with what the last digit counts
-    pub both-told : (u : ℕ) → u ≡ 10 ^ (4 - (j - (i + 1))) → SizeRead s a (P.Is (record { value = v * 10000 + f * u; end = j }))
-    both-told u e = (rw e both-read, both-end)
+  -- a byte behind it that is no digit, or one digit too many
+  broken-run : (x : List ℕ) → digitRun 1 most (take (i - a) (drop a s) ++ getD s i 0 ∷ x) ≡ false
+  broken-run x = no-run 1 most (take (i - a) (drop a s)) x (getD s i 0) (λ h. r .stop (omega (arith, run-long s a i (r .read .start) (r .read .room), r .read .start)))
+
+  none-there : 0 < most → i ≡ a → isDigit (getD (upTo 44 (drop a s)) 0 0) ≡ false
+  none-there m e =
+      let z : a + 0 ≡ i = omega arith in
+      upTo-first 44 (drop a s) (rw (getD-drop a s 0 0, z) (r .stop (omega arith)))
+
+-- ── a size, as it is answered ──
+module _ (s : List ℕ) (a : ℕ) where
+  is-size : (v e : ℕ) → readSize (upTo 44 (drop a s)) ≡ some v → e ≡ a + length (upTo 44 (drop a s)) → P.Is (record { value = v; end = e }) ≡ sizePiece a s
+  unfolding sizePiece
+  is-size v e r q = rw (r, q)
+
+  no-size : readSize (upTo 44 (drop a s)) ≡ none → P.Not ≡ sizePiece a s
+  unfolding sizePiece
+  no-size r = rw r
+
+  pub size-was : (z : SizeEnd) → sizePiece a s ≡ P.Is z → (readSize (upTo 44 (drop a s)) ≡ some (z .value)) × (z .end ≡ a + length (upTo 44 (drop a s)))
+  unfolding sizePiece
+  size-was z e = go (readSize (upTo 44 (drop a s))) e
+    where
+      go : (o : Option ℕ) → sizeAt (a + length (upTo 44 (drop a s))) o ≡ P.Is z → (o ≡ some (z .value)) × (z .end ≡ a + length (upTo 44 (drop a s)))
+      go none e = absurd (let n : _≡_ {A = ℕ} 0 1 = cc in omega arith)
+      go (some v) e = let q : record { value = v; end = a + length (upTo 44 (drop a s)) } ≡ z = cc in (ap (λ (y : SizeEnd). some (y .value)) q, ap (λ (y : SizeEnd). y .end) (sym q))
+
+  pub size-was-not : sizePiece a s ≡ P.Not → readSize (upTo 44 (drop a s)) ≡ none
+  unfolding sizePiece
+  size-was-not e = go (readSize (upTo 44 (drop a s))) e
+    where
+      go : (o : Option ℕ) → sizeAt (a + length (upTo 44 (drop a s))) o ≡ P.Not → o ≡ none
+      go none e = refl
+      go (some v) e = absurd (let n : _≡_ {A = ℕ} 0 1 = cc in omega arith)
 
 pub size-some : (s : List ℕ) (n : ℕ) → readSize s ≡ some n → n < 100000000000
 size-some s n e = subst (OnSome (λ m. m < 100000000000)) e (size-below s)
+
+-- ── the whole number ──
+module _ (s : List ℕ) (a v i : ℕ) (r : RunRead s a 7 (record { value = v; end = i })) where
+  pub no-digit-first : i ≡ a → P.Not ≡ sizePiece a s
+  no-digit-first e =
+      no-size s a (size-none (upTo 44 (drop a s)) (first-no 7 (upTo 46 (upTo 44 (drop a s))) (upTo-first 46 (upTo 44 (drop a s)) (none-there s a 7 v i r (omega arith) e))))
+
+  pub whole-alone : (i ≡ a → ⊥) → isNil (upTo 44 (drop i s)) ≡ true → P.Is (record { value = v * 10000; end = i }) ≡ sizePiece a s
+  whole-alone n e =
+      let p = all-piece s a 7 v i r e in
+      is-size s a (v * 10000) i
+      (ap readSize p ∙ rw (cut-digits 46 (omega arith) (take (i - a) (drop a s)) (r .read .digits), is-run s a 7 v i r n, r .read .number))
+      (rw p (omega (arith, run-long s a i (r .read .start) (r .read .room), r .read .start)))
+
+  module _ (on : isNil (upTo 44 (drop i s)) ≡ false) where
+    pub whole-broken : (getD s i 0 ≡ 46 → ⊥) → P.Not ≡ sizePiece a s
+    whole-broken n =
+        let p : upTo 46 (upTo 44 (drop a s)) ≡ take (i - a) (drop a s) ++ getD s i 0 ∷ upTo 46 (upTo 44 (drop (i + 1) s)) =
+        ap (upTo 46) (in-piece s a 7 v i r ∙ ap (λ (l : List ℕ). take (i - a) (drop a s) ++ l) (on-with s i on))
+        ∙ upTo-digits 46 (omega arith) (take (i - a) (drop a s)) (getD s i 0 ∷ upTo 44 (drop (i + 1) s)) (r .read .digits)
+        ∙ ap (λ (l : List ℕ). take (i - a) (drop a s) ++ l) (upTo-other 46 (getD s i 0) (upTo 44 (drop (i + 1) s)) n)
+        in
+        no-size s a (size-none (upTo 44 (drop a s)) (rw p (broken-run s a 7 v i r (upTo 46 (upTo 44 (drop (i + 1) s))))))
+
+    -- ── the digits behind the point ──
+    module _ (point : getD s i 0 ≡ 46) (f j : ℕ) (q : RunRead s (i + 1) 4 (record { value = f; end = j })) where
+      by-point : upTo 44 (drop a s) ≡ take (i - a) (drop a s) ++ 46 ∷ upTo 44 (drop (i + 1) s)
+      by-point =
+          in-piece s a 7 v i r ∙ ap (λ (l : List ℕ). take (i - a) (drop a s) ++ l) (on-with s i on ∙ ap (λ (b : ℕ). b ∷ upTo 44 (drop (i + 1) s)) point)
+
+      two-parts : cut 46 (upTo 44 (drop a s)) ≡ parts (take (i - a) (drop a s)) (upTo 44 (drop (i + 1) s))
+      two-parts = ap (cut 46) by-point ∙ cut-behind 46 (omega arith) (take (i - a) (drop a s)) (upTo 44 (drop (i + 1) s)) (r .read .digits)
+
+      no-fraction : digitRun 1 4 (upTo 44 (drop (i + 1) s)) ≡ false → P.Not ≡ sizePiece a s
+      no-fraction h = no-size s a (rw (two-parts, h, and-false (digitRun 1 7 (take (i - a) (drop a s)))))
+
+      pub no-digit-behind : j ≡ i + 1 → P.Not ≡ sizePiece a s
+      no-digit-behind e = no-fraction (first-no 4 (upTo 44 (drop (i + 1) s)) (none-there s (i + 1) 4 f j q (omega arith) e))
+
+      pub fraction-broken : isNil (upTo 44 (drop j s)) ≡ false → P.Not ≡ sizePiece a s
+      fraction-broken e =
+          let p = in-piece s (i + 1) 4 f j q ∙ ap (λ (l : List ℕ). take (j - (i + 1)) (drop (i + 1) s) ++ l) (on-with s j e) in
+          no-fraction (rw p (broken-run s (i + 1) 4 f j q (upTo 44 (drop (j + 1) s))))
+
+      pub both-parts : (i ≡ a → ⊥) → (j ≡ i + 1 → ⊥) → isNil (upTo 44 (drop j s)) ≡ true → (u : ℕ) → u ≡ 10 ^ (4 - (j - (i + 1)))
+          → P.Is (record { value = v * 10000 + f * u; end = j }) ≡ sizePiece a s
+      both-parts n m e u h =
+          let b = all-piece s (i + 1) 4 f j q e in
+          let l = run-long s (i + 1) j (q .read .start) (q .read .room) in
+          let w : value (padEnd 4 (take (j - (i + 1)) (drop (i + 1) s))) ≡ f * u = pad-value 4 0 (take (j - (i + 1)) (drop (i + 1) s)) (omega (arith, l, q .read .few)) ∙ rw (l, h, q .read .number) in
+          is-size s a (v * 10000 + f * u) j
+          (rw (two-parts, b, is-run s a 7 v i r n, is-run s (i + 1) 4 f j q m, w, r .read .number))
+          (rw (by-point, b) (omega (arith, length-append (take (i - a) (drop a s)) (46 ∷ take (j - (i + 1)) (drop (i + 1) s)), run-long s a i (r .read .start) (r .read .room), l, r .read .start, q .read .start)))
 
 -- ── the sign ──
 -- a piece with this value that ends here
 abbrev pub pieceAt : ℕ → ℤ → DecimalPiece
 pieceAt e z = record { reading = R.Is (record { value = z }); end = e }
 
-module _ (v e : ℕ) where
-  minus-at : (s : List ℕ) → readSize (upTo 44 s) ≡ some v → e ≡ suc (length (upTo 44 s)) → pieceAt e (minus v) ≡ decimalPiece (45 ∷ s)
-  unfolding decimalPiece upTo
-  minus-at s r q = rw (r, q)
+minus-sign : (s : List ℕ) → (readDecimal (upTo 44 (45 ∷ s)) ≡ mapO minus (readSize (upTo 44 s))) × (length (upTo 44 (45 ∷ s)) ≡ 1 + length (upTo 44 s))
+unfolding upTo
+minus-sign s = (refl, omega arith)
 
-  plain-at : (b : ℕ) (s : List ℕ) → eqb b 45 ≡ false → readSize (upTo 44 (b ∷ s)) ≡ some v → e ≡ length (upTo 44 (b ∷ s))
-      → pieceAt e (pos v) ≡ decimalPiece (b ∷ s)
-  unfolding decimalPiece upTo
-  plain-at b s p r q = go (eqb b 44) r q
-    where
-      go : (t : Bool) → readSize (cond t [] (b ∷ upTo 44 s)) ≡ some v → e ≡ length (cond t [] (b ∷ upTo 44 s))
-          → pieceAt e (pos v) ≡ (record { reading = readingOf (readDecimal (cond t [] (b ∷ upTo 44 s))); end = length (cond t [] (b ∷ upTo 44 s)) })
-      go true r q = none-some r
-      go false r q = rw (p, r, q)
-
-  unsigned : (s : List ℕ) → (signLength s ≡ 1 → ⊥) → SizeRead s 0 (P.Is (record { value = v; end = e })) → pieceAt e (pos v) ≡ decimalPiece s
-  unfolding upTo
-  unsigned [] h r = none-some (r .0)
-  unsigned (b ∷ s) h r = plain-at b s (by (eqb b 45) refl h) (r .0) (omega (arith, r .1))
-    where
-      by : (t : Bool) → eqb b 45 ≡ t → (_≡_ {A = ℕ} (cond t 1 0) 1 → ⊥) → eqb b 45 ≡ false
-      by true p g = absurd (g refl)
-      by false p g = p
-
-sign-zero : (s : List ℕ) (k : ℕ) → k ≡ signLength s → (k ≡ 1 → ⊥) → k ≡ 0
-sign-zero [] k g h = g
-sign-zero (b ∷ s) k g h = go (eqb b 45) g
+no-sign : (b : ℕ) (s : List ℕ) → eqb b 45 ≡ false → readDecimal (upTo 44 (b ∷ s)) ≡ mapO pos (readSize (upTo 44 (b ∷ s)))
+unfolding upTo
+no-sign b s h = go (eqb b 44)
   where
-    go : (t : Bool) → k ≡ cond t 1 0 → k ≡ 0
-    go true g = absurd (h g)
-    go false g = g
+    go : (t : Bool) → readDecimal (cond t [] (b ∷ upTo 44 s)) ≡ mapO pos (readSize (cond t [] (b ∷ upTo 44 s)))
+    go true = refl
+    go false = rw h
 
-module _ (s : List ℕ) (k v e : ℕ) (g : k ≡ signLength s) (r : SizeRead s k (P.Is (record { value = v; end = e }))) where
-  pub minus-piece : k ≡ 1 → pieceAt e (minus v) ≡ decimalPiece s
-  minus-piece h = signed s (sym g ∙ h) (rw h at r)
-    where
-      signed : (s : List ℕ) → _≡_ {A = ℕ} (signLength s) 1 → SizeRead s 1 (P.Is (record { value = v; end = e })) → pieceAt e (minus v) ≡ decimalPiece s
-      signed [] h r = absurd (omega (arith, h))
-      signed (b ∷ s) h r = go (eqb b 45) refl h
-        where
-          go : (t : Bool) → eqb b 45 ≡ t → _≡_ {A = ℕ} (cond t 1 0) 1 → pieceAt e (minus v) ≡ decimalPiece (b ∷ s)
-          go true p g = rw (eqb-true b 45 p) (minus-at v e s (r .0) (omega (arith, r .1)))
-          go false p g = absurd (omega (arith, g))
+-- the piece behind its sign
+by-sign : (s : List ℕ) → (readDecimal (upTo 44 s) ≡ mapO (signOf (eqb (signLength s) 1)) (readSize (upTo 44 (drop (signLength s) s)))) × (length (upTo 44 s) ≡ signLength s + length (upTo 44 (drop (signLength s) s)))
+unfolding upTo
+by-sign [] = (refl, omega arith)
+by-sign (b ∷ s) = go (eqb b 45) refl
+  where
+    go : (t : Bool) → eqb b 45 ≡ t
+        → (readDecimal (upTo 44 (b ∷ s)) ≡ mapO (signOf (eqb (cond t 1 0) 1)) (readSize (upTo 44 (drop (cond t 1 0) (b ∷ s))))) × (length (upTo 44 (b ∷ s)) ≡ cond t 1 0 + length (upTo 44 (drop (cond t 1 0) (b ∷ s))))
+    go true e = rw (eqb-true b 45 e) (minus-sign s)
+    go false e = (no-sign b s e, omega arith)
 
-  pub plain-piece : (k ≡ 1 → ⊥) → pieceAt e (pos v) ≡ decimalPiece s
-  plain-piece h =
-      let z = sign-zero s k g h in
-      unsigned v e s (λ (o : signLength s ≡ 1). h (g ∙ o)) (rw z at r)
+module _ (s : List ℕ) (k : ℕ) (g : k ≡ signLength s) where
+  behind-sign : readDecimal (upTo 44 s) ≡ mapO (signOf (eqb k 1)) (readSize (upTo 44 (drop k s)))
+  behind-sign = rw g (by-sign s .0)
+
+  end-behind : length (upTo 44 s) ≡ k + length (upTo 44 (drop k s))
+  end-behind = rw g (by-sign s .1)
+
+  pub not-piece : (e : ℕ) → e ≡ length (upTo 44 s) → sizePiece k s ≡ P.Not → record { reading = R.Not; end = e } ≡ decimalPiece s
+  unfolding decimalPiece
+  not-piece e q h = rw (behind-sign, size-was-not s k h, q)
+
+  module _ (z : SizeEnd) (h : sizePiece k s ≡ P.Is z) where
+    pub minus-piece : k ≡ 1 → pieceAt (z .end) (minus (z .value)) ≡ decimalPiece s
+    unfolding decimalPiece
+    minus-piece o = let w = size-was s k z h in rw (behind-sign, w .0, eq-eqb k 1 o, end-behind, w .1)
+
+    pub plain-piece : (k ≡ 1 → ⊥) → pieceAt (z .end) (pos (z .value)) ≡ decimalPiece s
+    unfolding decimalPiece
+    plain-piece o = let w = size-was s k z h in rw (behind-sign, w .0, ne-eqb k 1 o, end-behind, w .1)
 
 pub sign-none : (s : List ℕ) → length s ≡ 0 → _≡_ {A = ℕ} 0 (signLength s)
 sign-none [] h = refl
@@ -234,22 +337,6 @@ sign-minus (b ∷ s) h e = sym (rw (eq-eqb b 45 e))
 pub sign-other : (s : List ℕ) → (length s ≡ 0 → ⊥) → (getD s 0 0 ≡ 45 → ⊥) → _≡_ {A = ℕ} 0 (signLength s)
 sign-other [] h e = absurd (h refl)
 sign-other (b ∷ s) h e = sym (rw (ne-eqb b 45 e))
-
--- ── the end of a piece ──
-pub goes-on : (s : List ℕ) (i : ℕ) → isNil (upTo 44 (drop i s)) ≡ false → i < length s
-goes-on s i e = go (leb (length s) i) refl
-  where
-    go : (t : Bool) → leb (length s) i ≡ t → i < length s
-    go true h = clash (ap isNil (upTo-end 44 s i (leb-true (length s) i h))) e
-    go false h = leb-false (length s) i h
-
-pub ends-at : (s : List ℕ) (i : ℕ) → i < length s → eqb (getD s i 0) 44 ≡ isNil (upTo 44 (drop i s))
-unfolding upTo
-ends-at s i h = rw (at s i h) (go (eqb (getD s i 0) 44))
-  where
-    go : (t : Bool) → t ≡ isNil (cond t [] (getD s i 0 ∷ upTo 44 (drop (i + 1) s)))
-    go true = refl
-    go false = refl
 
 pub sign-within : (s : List ℕ) → signLength s ≤ length s
 sign-within [] = omega arith

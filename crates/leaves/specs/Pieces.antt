@@ -1,11 +1,11 @@
 -- A decimal before a comma, and what its parts are read as on the way.
-use Prim.Native.Nat.{ℕ, _+_, _-_, _≤_}
+use Prim.Native.Nat.{ℕ, _+_, _-_, _<_, _≤_}
 use mathlib.Core.Path.{_≡_}
-use mathlib.Core.Bool.{Bool, true, cond}
+use mathlib.Core.Bool.{true, false, cond}
 use mathlib.Core.List.{List, [], _∷_}
-use mathlib.Core.Option.{some}
+use mathlib.Core.Option.{Option, none, some}
 use lib.Dec.{eqb}
-use lib.ListN.{length, drop, take}
+use lib.ListN.{length, getD, drop, take}
 use Rattle.rules.specs.Base.{all}
 use Rattle.rules.specs.Numbers.{isDigit, value, readSize, readDecimal}
 use Rattle.leaves.specs.Bytes.{upTo}
@@ -30,7 +30,16 @@ pub record DigitsRead (s : List ℕ) (from most : ℕ) (r : RunEnd) : Type 0 whe
   pub digits : all isDigit (take (r .end - from) (drop from s)) ≡ true
   pub number : r .value ≡ value (take (r .end - from) (drop from s))
 
--- a size from a place on: where one is answered, it is the piece's
-abbrev pub SizeRead : List ℕ → ℕ → SizePiece → Type 0
-SizeRead s from (S.Is z) = (readSize (upTo 44 (drop from s)) ≡ some (z .value)) × (z .end ≡ from + length (upTo 44 (drop from s)))
-SizeRead s from S.Not = Unit {0}
+-- all of it: no digit follows, but where there are as many as may be
+pub record RunRead (s : List ℕ) (from most : ℕ) (r : RunEnd) : Type 0 where
+  pub read : DigitsRead s from most r
+  pub stop : r .end < from + most → isDigit (getD s (r .end) 0) ≡ false
+
+-- a size that ends here, if it is one
+abbrev pub sizeAt : ℕ → Option ℕ → SizePiece
+sizeAt e none = S.Not
+sizeAt e (some v) = S.Is (record { value = v; end = e })
+
+-- the size from a place to the next comma
+unfoldable pub sizePiece : ℕ → List ℕ → SizePiece
+sizePiece from s = sizeAt (from + length (upTo 44 (drop from s))) (readSize (upTo 44 (drop from s)))

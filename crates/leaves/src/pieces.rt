@@ -4,14 +4,13 @@ use crate::DecimalPiece;
 use crate::Reading;
 use crate::bytes::digit;
 use crate::bytes::find;
-use crate::numbers::decimal;
 use crate::numbers::unit;
 ghost use mathlib.Core.Path.{_≡_};
-ghost use Prim.Native.Nat.{_+_, _≤_};
+ghost use Prim.Native.Nat.{_+_, _<_, _≤_};
 ghost use lib.ListN.{length, drop};
 ghost use Rattle.rules.specs.Base.{isNil};
 ghost use Rattle.leaves.specs.Bytes.{upTo};
-ghost use Rattle.leaves.specs.Pieces.{decimalPiece, signLength, DigitsRead, SizeRead};
+ghost use Rattle.leaves.specs.Pieces.{decimalPiece, signLength, sizePiece, RunRead};
 
 // A run of digits: the number, and where it ends.
 struct RunEnd {
@@ -33,7 +32,7 @@ enum SizePiece {
 // where a run from at on ends at the latest
 fn latest(len: usize, at: usize, most: usize) -> usize
     requires { ⌜ at ≤ len ⌝ }
-    ensures { λ r. ⌜ (at ≤ r) × (r ≤ len) × (r ≤ at + most) ⌝ }
+    ensures { λ r. ⌜ (at ≤ r) × (r ≤ len) × (r ≤ at + most) × (r < at + most → len ≤ r) ⌝ }
 {
     if len - at < most {
         return len;
@@ -44,7 +43,7 @@ fn latest(len: usize, at: usize, most: usize) -> usize
 // The digits from at on, no more than `most`.
 fn run(s: &[u8], at: usize, most: usize) -> RunEnd
     requires { ⌜ (at ≤ length (now s)) × (most ≤ 8) ⌝ }
-    ensures { λ r. ⌜ DigitsRead (now (s .entry)) at most r ⌝ }
+    ensures { λ r. ⌜ RunRead (now (s .entry)) at most r ⌝ }
 {
     let last = latest(s.len(), at, most);
     let mut v: u64 = 0;
@@ -70,10 +69,10 @@ fn ends(s: &[u8], i: usize) -> bool
     s[i] == b','
 }
 
-// The decimal without a sign that stands from at to a comma or the end, where it is written as it should be.
+// The decimal without a sign that stands from at to a comma or the end.
 fn size_piece(s: &[u8], at: usize) -> SizePiece
     requires { ⌜ at ≤ length (now s) ⌝ }
-    ensures { λ r. ⌜ SizeRead (now (s .entry)) at r ⌝ }
+    ensures { λ r. ⌜ r ≡ sizePiece at (now (s .entry)) ⌝ }
 {
     let whole = run(s, at, 7);
     let v = whole.value;
@@ -119,26 +118,17 @@ fn behind_sign(s: &[u8]) -> usize
     0
 }
 
-// The piece found first and then read: two passes.
-fn found_piece(s: &[u8]) -> DecimalPiece
-    ensures { λ r. ⌜ r ≡ decimalPiece (now (s .entry)) ⌝ }
-{
-    let e = find(s, b',');
-    DecimalPiece {
-        reading: decimal(&s[..e]),
-        end: e,
-    }
-}
-
-// The decimal before the first comma, and where it ends. One pass serves what is written as it should be; what is not is read once more,
-// and is refused.
+// The decimal before the first comma, and where it ends, in one pass. What is no decimal has its end searched for.
 pub fn decimal_piece(s: &[u8]) -> DecimalPiece
     ensures { λ r. ⌜ r ≡ decimalPiece (now (s .entry)) ⌝ }
 {
     let at = behind_sign(s);
     let size = size_piece(s, at);
     let SizePiece::Is(p) = size else {
-        return found_piece(s);
+        return DecimalPiece {
+            reading: Reading::Not,
+            end: find(s, b','),
+        };
     };
     let z = p.value as i64;
     let e = p.end;
