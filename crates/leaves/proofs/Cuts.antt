@@ -1,8 +1,9 @@
 -- What stands before and behind a byte: as parts of the list, and as the pieces that `split` and `cut` make.
-use Prim.Native.Nat.{ℕ, suc, _<_, _≤_, zero-le, suc-le-suc}
-use mathlib.Core.Path.{_≡_, refl, ap}
+use Prim.Native.Nat.{ℕ, suc, _+_, _<_, _≤_, zero-le, suc-le-suc}
+use mathlib.Core.Path.{_≡_, refl, ap, sym, _∙_}
 use mathlib.Core.List.{List, [], _∷_}
 use mathlib.Core.Bool.{true, false, cond}
+use native.Mathlib.Numerals.{add-one}
 use native.Mathlib.Omega.{arith}
 use lib.Dec.{eqb}
 use lib.ListN.{length, drop, take}
@@ -50,3 +51,16 @@ pub split-more : (c : ℕ) (s : List ℕ) → length (upTo c s) < length s → s
 unfolding upTo past
 split-more c [] = λ h. absurd (omega arith)
 split-more c (b ∷ s) = elim (eqb b c) as (λ t. length (cond t [] (b ∷ upTo c s)) < suc (length s) → cond t ([] ∷ split c s) (headOnto b (split c s)) ≡ cond t [] (b ∷ upTo c s) ∷ split c (cond t s (past c s))) [ true ↦ λ h. refl | false ↦ λ h. ap (headOnto b) (split-more c s (omega arith)) ]
+
+-- ── by the place of c, as code finds it: the first piece, and the pieces behind it ──
+module _ (c : ℕ) (s : List ℕ) (e : ℕ) (p : e ≡ length (upTo c s)) where
+  pub piece-first : take e s ≡ upTo c s
+  piece-first = rw p (upTo-take c s)
+
+  pub piece-last : length s ≤ e → split c s ≡ upTo c s ∷ []
+  piece-last h = split-last c s (rw p at h) ∙ ap (λ (l : List ℕ). l ∷ []) (sym (upTo-none c s (rw p at h)))
+
+  pub piece-more : e < length s → split c s ≡ upTo c s ∷ split c (drop (e + 1) s)
+  piece-more h =
+      let rest : past c s ≡ drop (e + 1) s = rw (add-one, p) (past-drop c s (rw p at h)) in
+      split-more c s (rw p at h) ∙ ap (λ (l : List ℕ). upTo c s ∷ split c l) rest

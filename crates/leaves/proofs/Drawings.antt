@@ -132,29 +132,21 @@ large-none p x y (n ∷ ns) h k =
 abbrev notZero : ℕ → Bool
 notZero n = not (eqb n 0)
 
-large-zero : (p ns : List ℕ) → all notZero ns ≡ true → sheetOf (findSheet (p ++ 65 ∷ 48 ∷ []) (largeSheets ns)) ≡ largeSheet (multiplierIn p ns) 48
-unfolding largeSheet
-large-zero p [] h = refl
-large-zero p (n ∷ ns) h =
-    rw (same-ends p (showCount 2 n) 65 48 65 48, same-ends p (showCount 2 n) 65 48 65 49)
-    (go (same p (showCount 2 n)) (not-true (eqb n 0) (and-left (notZero n) _ h)) (large-zero p ns (and-right (notZero n) _ h)))
+-- z: the last byte is 0, and not 1
+large-digit : (p ns : List ℕ) (y : ℕ) (z : Bool) → eqb y 48 ≡ z → eqb y 49 ≡ not z → all notZero ns ≡ true
+    → sheetOf (findSheet (p ++ 65 ∷ y ∷ []) (largeSheets ns)) ≡ cond (eqb (multiplierIn p ns) 0) S.Not (S.Is (record { multiplier = multiplierIn p ns; number = cond z 0 1 }))
+large-digit p [] y z e f h = refl
+large-digit p (n ∷ ns) y z e f h =
+    rw (same-ends p (showCount 2 n) 65 y 65 48, same-ends p (showCount 2 n) 65 y 65 49, e, f)
+    (go (same p (showCount 2 n)) z (not-true (eqb n 0) (and-left (notZero n) _ h)) (large-digit p ns y z e f (and-right (notZero n) _ h)))
   where
-    go : (t : Bool) → eqb n 0 ≡ false → sheetOf (findSheet (p ++ 65 ∷ 48 ∷ []) (largeSheets ns)) ≡ cond (eqb (multiplierIn p ns) 0) S.Not (S.Is (record { multiplier = multiplierIn p ns; number = 0 }))
-        → sheetOf (cond (t && true) (some (twoNums n 0)) (cond (t && false) (some (twoNums n 1)) (findSheet (p ++ 65 ∷ 48 ∷ []) (largeSheets ns)))) ≡ cond (eqb (cond t n (multiplierIn p ns)) 0) S.Not (S.Is (record { multiplier = cond t n (multiplierIn p ns); number = 0 }))
-    go true z e = rw z
-    go false z e = e
-
-large-one : (p ns : List ℕ) → all notZero ns ≡ true → sheetOf (findSheet (p ++ 65 ∷ 49 ∷ []) (largeSheets ns)) ≡ largeSheet (multiplierIn p ns) 49
-unfolding largeSheet
-large-one p [] h = refl
-large-one p (n ∷ ns) h =
-    rw (same-ends p (showCount 2 n) 65 49 65 48, same-ends p (showCount 2 n) 65 49 65 49, and-false (same p (showCount 2 n)))
-    (go (same p (showCount 2 n)) (not-true (eqb n 0) (and-left (notZero n) _ h)) (large-one p ns (and-right (notZero n) _ h)))
-  where
-    go : (t : Bool) → eqb n 0 ≡ false → sheetOf (findSheet (p ++ 65 ∷ 49 ∷ []) (largeSheets ns)) ≡ cond (eqb (multiplierIn p ns) 0) S.Not (S.Is (record { multiplier = multiplierIn p ns; number = 1 }))
-        → sheetOf (cond (t && true) (some (twoNums n 1)) (findSheet (p ++ 65 ∷ 49 ∷ []) (largeSheets ns))) ≡ cond (eqb (cond t n (multiplierIn p ns)) 0) S.Not (S.Is (record { multiplier = cond t n (multiplierIn p ns); number = 1 }))
-    go true z e = rw z
-    go false z e = e
+    go : (t z : Bool) → eqb n 0 ≡ false
+        → sheetOf (findSheet (p ++ 65 ∷ y ∷ []) (largeSheets ns)) ≡ cond (eqb (multiplierIn p ns) 0) S.Not (S.Is (record { multiplier = multiplierIn p ns; number = cond z 0 1 }))
+        → sheetOf (cond (t && (true && (z && true))) (some (twoNums n 0)) (cond (t && (true && (not z && true))) (some (twoNums n 1)) (findSheet (p ++ 65 ∷ y ∷ []) (largeSheets ns))))
+        ≡ cond (eqb (cond t n (multiplierIn p ns)) 0) S.Not (S.Is (record { multiplier = cond t n (multiplierIn p ns); number = cond z 0 1 }))
+    go true true q e = rw q
+    go true false q e = rw q
+    go false z q e = e
 
 outside : (lo hi y k : ℕ) → within lo hi y ≡ false → lo ≤ k → k ≤ hi → eqb y k ≡ false
 outside lo hi y k h l u = ne-eqb y k (λ e. clash (and-true (leb lo y) (leb y hi) (le-leb lo y (omega arith)) (le-leb y hi (omega arith))) h)
@@ -165,11 +157,12 @@ no-large n y e = rw e (cond-same (eqb n 0) S.Not)
 
 -- any last byte
 pub large-found : (p : List ℕ) (y : ℕ) (ns : List ℕ) → all notZero ns ≡ true → sheetOf (findSheet (p ++ 65 ∷ y ∷ []) (largeSheets ns)) ≡ largeSheet (multiplierIn p ns) y
+unfolding largeSheet
 large-found p y ns h = go (within 48 49 y) refl
   where
     inside : (k : ℕ) → y ≡ 48 + k → k ≤ 1 → sheetOf (findSheet (p ++ 65 ∷ y ∷ []) (largeSheets ns)) ≡ largeSheet (multiplierIn p ns) y
-    inside zero e l = rw e (large-zero p ns h)
-    inside (suc zero) e l = rw e (large-one p ns h)
+    inside zero e l = rw e (large-digit p ns 48 true refl refl h)
+    inside (suc zero) e l = rw e (large-digit p ns 49 false refl refl h)
     inside (suc (suc k)) e l = absurd (omega arith)
 
     go : (t : Bool) → within 48 49 y ≡ t → sheetOf (findSheet (p ++ 65 ∷ y ∷ []) (largeSheets ns)) ≡ largeSheet (multiplierIn p ns) y
