@@ -1,10 +1,9 @@
 -- A decimal before a comma: digits, a point and digits, by the places where they end.
-use Prim.Native.Nat.{ℕ, zero, suc, _+_, _-_, _*_, _^_, _<_, _≤_}
+use Prim.Native.Nat.{ℕ, suc, _+_, _-_, _*_, _^_, _<_, _≤_}
 use mathlib.Core.Path.{_≡_, refl, ap, sym, subst, _∙_}
 use mathlib.Core.List.{List, [], _∷_, _++_, append-nil}
 use mathlib.Core.Bool.{Bool, true, false, cond, _&&_}
 use mathlib.Core.Option.{Option, none, some}
-use native.Mathlib.Numerals.{add-one}
 use native.Mathlib.Nat.{lt-of-lt-of-le}
 use native.Mathlib.Omega.{arith}
 use lib.Dec.{eqb, leb}
@@ -12,11 +11,11 @@ use lib.IntN.{ℤ, pos}
 use lib.ListN.{List·getD-eq-default, length, getD, take, drop, length-append, length-drop, take-append-drop}
 use lib.Seq.{drop-drop, length-take-le, take-suc, getD-drop}
 use borrow.Author.Tests.{eq-eqb, ne-eqb, eqb-true, le-leb, lt-leb, leb-true, leb-false}
-use Rattle.rules.specs.Base.{all, isNil, mapO, whole, parts, cut, onto}
+use Rattle.rules.specs.Base.{all, within, isNil, mapO, whole, parts, cut, onto}
 use Rattle.rules.specs.Numbers.{isDigit, digitRun, valueFrom, value, padEnd, minus, readSize, readDecimal}
 use Rattle.rules.proofs.Chains.{and-left, and-right, and-true, and-false, clash}
-use Rattle.leaves.specs.Bytes.{upTo}
-use Rattle.leaves.specs.Readings.{readingOf, signOf}
+use Rattle.leaves.specs.Bytes.{upTo, past}
+use Rattle.leaves.specs.Readings.{signOf}
 use Rattle.leaves.specs.Pieces.{decimalPiece, signLength, sizeAt, sizePiece, DigitsRead, RunRead}
 use Rattle.leaves.specs.declared.DecimalPiece.{DecimalPiece}
 use Rattle.leaves.specs.declared.Reading.the-variants as R
@@ -345,3 +344,50 @@ sign-within (b ∷ s) = go (eqb b 45)
     go : (t : Bool) → cond t 1 0 ≤ suc (length s)
     go true = omega arith
     go false = omega arith
+
+-- ── a decimal holds no comma ──
+both-no : (a w b x : Bool) → (a && b) ≡ false → ((a && w) && (b && x)) ≡ false
+both-no true w true x h = clash refl h
+both-no true w false x h = and-false (true && w)
+both-no false w b x h = refl
+
+more-no : (t a b : Bool) → (a && b) ≡ false → ((t && a) && b) ≡ false
+more-no true a b h = h
+more-no false a b h = refl
+
+comma-digits : (p : List ℕ) → length (upTo 44 p) < length p → all isDigit p ≡ false
+unfolding upTo
+comma-digits [] = λ h. absurd (omega arith)
+comma-digits (b ∷ p) = go (eqb b 44) refl (comma-digits p)
+  where
+    go : (t : Bool) → eqb b 44 ≡ t → (length (upTo 44 p) < length p → all isDigit p ≡ false) → length (cond t [] (b ∷ upTo 44 p)) < suc (length p) → all isDigit (b ∷ p) ≡ false
+    go true e ih h = rw (eqb-true b 44 e)
+    go false e ih h = rw (ih (omega arith)) (and-false (isDigit b))
+
+comma-parts : (p : List ℕ) → length (upTo 44 p) < length p → (all isDigit (upTo 46 p) && all isDigit (past 46 p)) ≡ false
+unfolding upTo past
+comma-parts [] = λ h. absurd (omega arith)
+comma-parts (b ∷ p) = go (eqb b 44) refl (eqb b 46) refl (comma-parts p)
+  where
+    go : (t : Bool) → eqb b 44 ≡ t → (u : Bool) → eqb b 46 ≡ u → (length (upTo 44 p) < length p → (all isDigit (upTo 46 p) && all isDigit (past 46 p)) ≡ false)
+        → length (cond t [] (b ∷ upTo 44 p)) < suc (length p) → (all isDigit (cond u [] (b ∷ upTo 46 p)) && all isDigit (cond u p (past 46 p))) ≡ false
+    go true e true f ih h = clash f (ap (λ (x : ℕ). eqb x 46) (eqb-true b 44 e))
+    go true e false f ih h = rw (eqb-true b 44 e)
+    go false e true f ih h = comma-digits p (omega arith)
+    go false e false f ih h = more-no (isDigit b) (all isDigit (upTo 46 p)) (all isDigit (past 46 p)) (ih (omega arith))
+
+comma-size : (p : List ℕ) → length (upTo 44 p) < length p → readSize p ≡ none
+comma-size p h = go (leb (length p) (length (upTo 46 p))) refl
+  where
+    go : (t : Bool) → leb (length p) (length (upTo 46 p)) ≡ t → readSize p ≡ none
+    go true e = rw (cut-whole 46 p (leb-true (length p) (length (upTo 46 p)) e), comma-digits p h)
+    go false e =
+        rw (cut-two 46 p (leb-false (length p) (length (upTo 46 p)) e), both-no (all isDigit (upTo 46 p)) (within 1 7 (length (upTo 46 p))) (all isDigit (past 46 p)) (within 1 4 (length (past 46 p))) (comma-parts p h))
+
+pub comma-decimal : (s : List ℕ) → length (upTo 44 s) < length s → readDecimal s ≡ none
+comma-decimal [] h = refl
+comma-decimal (b ∷ s) h = go (eqb b 45) refl
+  where
+    go : (t : Bool) → eqb b 45 ≡ t → cond t (mapO minus (readSize s)) (mapO pos (readSize (b ∷ s))) ≡ none
+    go true e = rw (comma-size s (omega (arith, minus-sign s .1, rw (eqb-true b 45 e) at h)))
+    go false e = rw (comma-size (b ∷ s) h)

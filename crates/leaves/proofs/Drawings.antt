@@ -8,18 +8,17 @@ use native.Mathlib.Numerals.{add-one}
 use native.Mathlib.Omega.{arith}
 use lib.Dec.{eqb, leb, ltb}
 use lib.IntN.{pos}
-use lib.ListN.{length, getD, take, drop, length-append, length-drop, drop-of-length-le, take-append-drop}
+use lib.ListN.{length, getD, take, drop, length-append, drop-of-length-le, take-append-drop}
 use lib.Seq.{length-take-le}
-use borrow.Author.Tests.{eq-eqb, ne-eqb, leb-true, le-leb, lt-ltb, le-ltb, not-true}
+use borrow.Author.Tests.{eq-eqb, ne-eqb, leb-true, le-leb, not-true}
 use Rattle.rules.specs.Base.{all, same, within}
 use Rattle.rules.specs.Numbers.{fixedOnto, showCount, readCount}
-use Rattle.rules.specs.RefusalNumbers.{Got, got, bad, unless, mapG, orBad, keep, consG}
+use Rattle.rules.specs.RefusalNumbers.{got, unless, mapG, orBad, keep, consG}
 use Rattle.rules.specs.Values.{Num, num, multipliers, plainSheets, largeSheets, sheets, twoNums, findSheet, natural, goodRatio, withOne, readRatio}
 use Rattle.rules.proofs.Chains.{and-left, and-right, and-true, and-false, clash, cond-same}
 use Rattle.leaves.specs.Bytes.{upTo, past}
 use Rattle.leaves.specs.Readings.{countOf}
 use Rattle.leaves.specs.Drawing.{sheetOf, multiplierIn, plainSheet, largeSheet, ratioOf, inScale, oneCount, twoCounts}
-use Rattle.leaves.specs.declared.Sheet.{Sheet}
 use Rattle.leaves.specs.declared.Sheet.the-variants as S
 use Rattle.leaves.specs.declared.Ratio.the-variants as R
 use Rattle.leaves.proofs.Scan.{same-long, at, rest-all}

@@ -2,11 +2,11 @@
 use Prim.Native.Nat.{ℕ, zero, suc, _+_, _<_}
 use mathlib.Core.Path.{_≡_, refl, ap, _∙_}
 use native.Mathlib.Omega.{arith}
-use lib.IntN.{ℤ, pos, negsuc, negℤ, sucℤ, _-ℤ_, _+ℤ_, +ℤ-idl, +ℤ-one}
+use lib.IntN.{ℤ, pos, negsuc, negℤ, _-ℤ_, _+ℤ_, +ℤ-idl, +ℤ-one}
 use lib.Signed.{mag, ltZ}
 use mathlib.Core.Bool.{true, false}
 use mathlib.Core.List.{_∷_}
-use borrow.Author.Tests.{ltb-true, ltb-false}
+use borrow.Author.Tests.{ltb-true}
 use mir.Syntax.{w64}
 use mir.Val.{SFits, toZ, ofZ}
 use mir.Facts.{toZ-ofZ}

@@ -143,10 +143,6 @@ module _ (m : ℕ) where
       ap (take 4) (drop-eight (fixed 7 (m / 10000)) (46 ∷ fixed 4 (m % 10000)) (fixed-length 7 (m / 10000)))
       ∙ take-all 4 (fixed 4 (m % 10000)) (omega (arith, fixed-length 4 (m % 10000)))
 
-  pub laid-length : length (laidSize m) ≡ 13
-  unfolding laidSize
-  laid-length = omega (arith, length-append (fixed 7 (m / 10000)) (46 ∷ fixed 4 (m % 10000)), fixed-length 7 (m / 10000), fixed-length 4 (m % 10000))
-
   module _ (z : ℕ) (h : z ≤ 7) (d : drop z (fixed 7 (m / 10000)) ≡ trim (fixed 7 (m / 10000))) where
     pub size-whole : m % 10000 ≡ 0 → take (8 - (1 + z)) (drop (1 + z) (laidSize m)) ≡ showSize m
     unfolding laidSize

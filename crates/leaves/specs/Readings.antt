@@ -1,12 +1,12 @@
 -- Numbers as the leaves answer them, and the readings of digits that the definitions are made of.
-use Prim.Native.Nat.{ℕ, _*_}
+use Prim.Native.Nat.{ℕ}
 use mathlib.Core.Bool.{Bool, true, false, cond}
 use mathlib.Core.List.{List}
 use mathlib.Core.Option.{Option, none, some}
 use lib.Dec.{leb}
 use lib.IntN.{ℤ, pos}
 use Rattle.rules.specs.Base.{all}
-use Rattle.rules.specs.Numbers.{isDigit, digitRun, valueFrom, value, readFixed, isDay, isClock, padEnd, minus}
+use Rattle.rules.specs.Numbers.{isDigit, digitRun, valueFrom, value, readFixed, isDay, isClock, minus}
 use Rattle.leaves.specs.declared.Count.{Count}
 use Rattle.leaves.specs.declared.Count.the-variants as C
 use Rattle.leaves.specs.declared.Reading.{Reading}
@@ -42,13 +42,6 @@ readDay s = kept isDay (readFixed 8 s)
 
 abbrev pub readClock : List ℕ → Option ℕ
 readClock s = kept isClock (readFixed 6 s)
-
--- the digits before and behind a decimal's point, in ten-thousandths
-unfoldable pub wholeOf : List ℕ → Option ℕ
-wholeOf s = cond (digitRun 1 7 s) (some (value s * 10000)) none
-
-unfoldable pub fractionOf : List ℕ → Option ℕ
-fractionOf s = cond (digitRun 1 4 s) (some (value (padEnd 4 s))) none
 
 -- a size with its sign; true: a `-` stood before it
 abbrev pub signOf : Bool → ℕ → ℤ

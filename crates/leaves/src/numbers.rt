@@ -1,15 +1,13 @@
 use crate::Count;
-use crate::Decimal;
 use crate::Reading;
 use crate::bytes::digit;
-use crate::bytes::find;
 use crate::bytes::within;
+use crate::pieces::decimal_piece;
 ghost use mathlib.Core.Path.{_≡_};
-ghost use Prim.Native.Nat.{_-_, _^_, _≤_};
+ghost use Prim.Native.Nat.{_≤_};
 ghost use lib.ListN.{length};
-ghost use Rattle.rules.specs.Base.{mapO};
-ghost use Rattle.rules.specs.Numbers.{readCount, isDay, isClock, readSize, readDecimal};
-ghost use Rattle.leaves.specs.Readings.{countOf, readingOf, runFrom, readRun, readUpToEight, readDay, readClock, wholeOf, fractionOf, signOf};
+ghost use Rattle.rules.specs.Numbers.{readCount, isDay, isClock, readDecimal};
+ghost use Rattle.leaves.specs.Readings.{countOf, readingOf, runFrom, readRun, readUpToEight, readDay, readClock};
 
 // The number that the digits of s write: at most ten, so that it fits.
 fn digits_from(s: &[u8]) -> Count
@@ -118,91 +116,13 @@ pub fn clock(s: &[u8]) -> Count
     Count::Not
 }
 
-// 10 ^ (4 - n): what the last of n digits behind the point counts, in ten-thousandths.
-pub(crate) fn unit(n: usize) -> u64
-    ensures { λ r. ⌜ r ≡ 10 ^ (4 - n) ⌝ }
-{
-    if n == 0 {
-        return 10000;
-    }
-    if n == 1 {
-        return 1000;
-    }
-    if n == 2 {
-        return 100;
-    }
-    if n == 3 {
-        return 10;
-    }
-    1
-}
-
-// The digits before the point, in ten-thousandths.
-fn whole(s: &[u8]) -> Count
-    ensures { λ r. ⌜ r ≡ countOf (wholeOf (now (s .entry))) ⌝ }
-{
-    let d = digits(s, 1, 7);
-    let Count::Is(v) = d else {
-        return Count::Not;
-    };
-    Count::Is(v * 10000)
-}
-
-// The digits behind the point, in ten-thousandths.
-fn fraction(s: &[u8]) -> Count
-    ensures { λ r. ⌜ r ≡ countOf (fractionOf (now (s .entry))) ⌝ }
-{
-    let d = digits(s, 1, 4);
-    let Count::Is(f) = d else {
-        return Count::Not;
-    };
-    Count::Is(f * unit(s.len()))
-}
-
-// A decimal without its sign, in ten-thousandths.
-fn size(s: &[u8]) -> Count
-    ensures { λ r. ⌜ r ≡ countOf (readSize (now (s .entry))) ⌝ }
-{
-    let e = find(s, b'.');
-    if e == s.len() {
-        return whole(s);
-    }
-    let n = e + 1;
-    let w = whole(&s[..e]);
-    let p = fraction(&s[n..]);
-    let Count::Is(v) = w else {
-        return Count::Not;
-    };
-    let Count::Is(f) = p else {
-        return Count::Not;
-    };
-    Count::Is(v + f)
-}
-
-// A decimal whose sign was read before it: -0 is 0.
-fn signed(s: &[u8], negative: bool) -> Reading
-    ensures { λ r. ⌜ r ≡ readingOf (mapO (signOf negative) (readSize (now (s .entry)))) ⌝ }
-{
-    let m = size(s);
-    let Count::Is(v) = m else {
-        return Reading::Not;
-    };
-    let z = v as i64;
-    if negative {
-        return Reading::Is(Decimal { value: -z });
-    }
-    Reading::Is(Decimal { value: z })
-}
-
 // A decimal: an optional `-`, 1 to 7 digits, optionally `.` and 1 to 4 digits.
 pub fn decimal(s: &[u8]) -> Reading
     ensures { λ r. ⌜ r ≡ readingOf (readDecimal (now (s .entry))) ⌝ }
 {
-    if s.len() == 0 {
+    let p = decimal_piece(s);
+    if p.end < s.len() {
         return Reading::Not;
     }
-    if s[0] == b'-' {
-        return signed(&s[1..], true);
-    }
-    signed(s, false)
+    p.reading
 }

@@ -4,9 +4,8 @@ use crate::DecimalPiece;
 use crate::Reading;
 use crate::bytes::digit;
 use crate::bytes::find;
-use crate::numbers::unit;
 ghost use mathlib.Core.Path.{_≡_};
-ghost use Prim.Native.Nat.{_+_, _<_, _≤_};
+ghost use Prim.Native.Nat.{_+_, _-_, _^_, _<_, _≤_};
 ghost use lib.ListN.{length, drop};
 ghost use Rattle.rules.specs.Base.{isNil};
 ghost use Rattle.leaves.specs.Bytes.{upTo};
@@ -57,6 +56,25 @@ fn run(s: &[u8], at: usize, most: usize) -> RunEnd
         i += 1;
     }
     RunEnd { value: v, end: i }
+}
+
+// 10 ^ (4 - n): what the last of n digits behind the point counts, in ten-thousandths.
+fn unit(n: usize) -> u64
+    ensures { λ r. ⌜ r ≡ 10 ^ (4 - n) ⌝ }
+{
+    if n == 0 {
+        return 10000;
+    }
+    if n == 1 {
+        return 1000;
+    }
+    if n == 2 {
+        return 100;
+    }
+    if n == 3 {
+        return 10;
+    }
+    1
 }
 
 // A comma stands at i, or nothing more.

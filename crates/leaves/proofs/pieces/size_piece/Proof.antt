@@ -1,7 +1,6 @@
 use mathlib.Core.Path.{sym, _∙_}
 use native.Mathlib.Omega.{arith}
 use lib.ListN.{drop}
-use Rattle.rules.specs.Numbers.{readSize}
 use Rattle.leaves.specs.Bytes.{upTo}
 use borrow.Author.Tests.{not-true, not-false}
 use Rattle.leaves.proofs.Commas.{run-small, no-digit-first, whole-alone, whole-broken, no-digit-behind, fraction-broken, both-parts, goes-on, size-was, size-some}
@@ -10,7 +9,7 @@ use Rattle.leaves.proofs.pieces.size_piece.Statement.{statement}
 use Rattle.leaves.proofs.pieces.size_piece.Tie as tie
 use Rattle.leaves.proofs.pieces.size_piece.Reads as reads
 use Rattle.leaves.proofs.pieces.size_piece.Lts as lts
-use Rattle.leaves.proofs.numbers.unit.Reads as unit-reads
+use Rattle.leaves.proofs.pieces.unit.Reads as unit-reads
 use Rattle.leaves.proofs.pieces.ends.Reads as ends-reads
 use Rattle.leaves.proofs.pieces.run.Reads as run-reads
 

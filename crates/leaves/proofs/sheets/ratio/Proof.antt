@@ -4,8 +4,7 @@ use native.Mathlib.Omega.{arith}
 use lib.ListN.{length}
 use lib.Seq.{length-take-le}
 use Rattle.leaves.specs.Bytes.{upTo}
-use Rattle.leaves.specs.Drawing.{oneCount, twoCounts}
-use Rattle.leaves.specs.declared.Count.{Count}
+use Rattle.leaves.specs.Drawing.{oneCount}
 use Rattle.leaves.proofs.Cuts.{upTo-le}
 use Rattle.leaves.proofs.Drawings.{ratio-one, ratio-two}
 use borrow.Author.Needs.{needs}

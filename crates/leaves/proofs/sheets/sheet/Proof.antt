@@ -1,9 +1,9 @@
-use Prim.Native.Nat.{ℕ, _-_}
+use Prim.Native.Nat.{_-_}
 use mathlib.Core.Path.{ap, sym, _∙_}
 use native.Mathlib.Omega.{arith}
 use lib.ListN.{length}
 use lib.Seq.{length-take-le}
-use Rattle.leaves.specs.Drawing.{sheetOf, largeSheet}
+use Rattle.leaves.specs.Drawing.{sheetOf}
 use Rattle.leaves.proofs.Drawings.{sheet-short, sheet-other, sheet-alone, sheet-number}
 use borrow.Author.Needs.{needs}
 use Rattle.leaves.proofs.sheets.sheet.Statement.{statement}

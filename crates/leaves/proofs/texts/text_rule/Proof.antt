@@ -1,4 +1,4 @@
-use mathlib.Core.Path.{refl, sym}
+use mathlib.Core.Path.{sym}
 use lib.ListN.{List·getD-eq-default}
 use Rattle.leaves.specs.Texts.{textRules, noText}
 use Rattle.leaves.proofs.FreeTexts.{by-columns}

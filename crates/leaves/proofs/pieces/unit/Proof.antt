@@ -1,8 +1,8 @@
 use Prim.Native.Nat.{_-_}
 use mathlib.Core.Path.{_≡_}
 use native.Mathlib.Omega.{arith}
-use Rattle.leaves.proofs.numbers.unit.Statement.{statement}
-use Rattle.leaves.proofs.numbers.unit.Tie as tie
+use Rattle.leaves.proofs.pieces.unit.Statement.{statement}
+use Rattle.leaves.proofs.pieces.unit.Tie as tie
 
 returns : tie.Need-returns
 returns c = rw (c .if1 .taken)
