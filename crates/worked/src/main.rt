@@ -1,4 +1,4 @@
-// Document 01's worked values, read by the leaves and printed: what each text is worth, or `no`.
+// Document 01's worked values, read and written by the leaves and printed: what each text is worth, or `no`, and what is written of it.
 use leaves::Count;
 use leaves::Ratio;
 use leaves::Reading;
