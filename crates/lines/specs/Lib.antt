@@ -1,5 +1,5 @@
 pub mod LineEnds
 pub mod VolumeNames
 pub mod VolumePlaces
-pub mod LinePlaces
 pub mod LineForms
+pub mod LineLook

@@ -1,16 +1,15 @@
 -- The parts of a line's form that the code finds by place; that they are those of Lines is proved in proofs/LineForms.
-use Prim.Native.Nat.{ℕ, _+_, _-_}
+use Prim.Native.Nat.{ℕ, _+_, _-_, _≤_}
+use mathlib.Core.Path.{_≡_}
 use mathlib.Core.Bool.{Bool, false, cond, _&&_, _||_}
 use mathlib.Core.List.{List, [], _∷_}
-use lib.Dec.{eqb, leb}
-use lib.ListN.{length, take, drop}
+use lib.Dec.{eqb}
+use lib.ListN.{length, drop}
 use Rattle.rules.specs.Base.{bytes, same}
-use Rattle.rules.specs.Spool.{mostBytes}
-use Rattle.rules.specs.Lines.{Scan, neither, atEqual, atBrace, span, formOfRest, withPlaces, lineFormOf}
+use Rattle.rules.specs.Lines.{Scan, neither, atEqual, atBrace, unindent, scan, allowed, singleByte, leadByte, trailByte, span, formOfRest, withPlaces}
 use Rattle.rules.specs.declared.LineForm.{LineForm}
 use Rattle.rules.specs.declared.LineForm.the-variants as L
-use Rattle.lines.specs.declared.forms.KeyEnd.{KeyEnd}
-use Rattle.lines.specs.declared.forms.KeyEnd.the-variants as K
+use Rattle.leaves.specs.Bytes.{upTo}
 
 -- how many bytes the blank in front has: 20 or 09, or the pair 81 40 hex
 unfoldable pub blankOf : List ℕ → ℕ
@@ -24,11 +23,69 @@ opensHere [] = false
 opensHere (b ∷ []) = false
 opensHere (b ∷ c ∷ s) = eqb b 58 && eqb c 123
 
--- how many bytes the key has
+-- how many bytes the character in front has: one that stands alone, or a pair; 0 where none that is allowed stands there
+unfoldable pub charOf : List ℕ → ℕ
+charOf [] = 0
+charOf (b ∷ []) = cond (singleByte b) 1 0
+charOf (b ∷ c ∷ s) = cond (singleByte b) 1 (cond (leadByte b && trailByte c) 2 0)
+
+-- the same of a key: 0 also where it ends
+unfoldable pub keyChar : List ℕ → ℕ
+keyChar [] = 0
+keyChar (b ∷ s) = cond (eqb b 61 || opensHere (b ∷ s)) 0 (charOf (b ∷ s))
+
+-- where a line's key ends: at an `=` or a `:{`, behind so many bytes
+pub data KeyEnd : Type 0 where
+  endless : KeyEnd
+  equalAt : ℕ → KeyEnd
+  braceAt : ℕ → KeyEnd
+
 abbrev pub keyEndOf : Scan → KeyEnd
-keyEndOf neither = K.Neither
-keyEndOf (atEqual k c) = K.Equal (length k)
-keyEndOf (atBrace k c) = K.Brace (length k)
+keyEndOf neither = endless
+keyEndOf (atEqual k c) = equalAt (length k)
+keyEndOf (atBrace k c) = braceAt (length k)
+
+-- behind so many bytes more
+abbrev pub later : ℕ → KeyEnd → KeyEnd
+later i endless = endless
+later i (equalAt n) = equalAt (i + n)
+later i (braceAt n) = braceAt (i + n)
+
+-- the key of the line that starts at a place, by places
+abbrev pub keyFrom : List ℕ → ℕ → KeyEnd
+keyFrom t i = later i (keyEndOf (scan (upTo 13 (drop i t))))
+
+-- whether the line's bytes from a place on are allowed
+abbrev pub cleanFrom : List ℕ → ℕ → Bool
+cleanFrom t i = allowed (upTo 13 (drop i t))
+
+-- the place of the first CR from a place on
+abbrev pub crFrom : List ℕ → ℕ → ℕ
+crFrom t i = i + length (upTo 13 (drop i t))
+
+-- before a place of a line stand its leading blanks
+pub record Blanks (t : List ℕ) (n : ℕ) : Type 0 where
+  pub high : n ≤ length t
+  pub cr : length (upTo 13 t) ≡ crFrom t n
+  pub rest : unindent (upTo 13 t) ≡ upTo 13 (drop n t)
+
+-- between two places of a line stand only allowed characters
+pub record Passed (t : List ℕ) (i j : ℕ) : Type 0 where
+  pub low : i ≤ j
+  pub high : j ≤ length t
+  pub cr : crFrom t i ≡ crFrom t j
+  pub clean : cleanFrom t i ≡ cleanFrom t j
+
+-- all that there are
+pub record CleanRun (t : List ℕ) (i j : ℕ) : Type 0 where
+  pub passed : Passed t i j
+  pub stop : charOf (drop j t) ≡ 0
+
+-- all that there are of the key
+pub record KeyRun (t : List ℕ) (i j : ℕ) : Type 0 where
+  pub passed : Passed t i j
+  pub key : keyFrom t i ≡ keyFrom t j
+  pub stop : keyChar (drop j t) ≡ 0
 
 -- ── forms by places ──
 abbrev pub refusedAs : ℕ → ℕ → ℕ → LineForm
@@ -37,6 +94,11 @@ refusedAs number volume line = L.Refused (record { number = number; volume = vol
 -- a line without a key
 unfoldable pub bareForm : ℕ → ℕ → List ℕ → LineForm
 bareForm volume line s = cond (same s (bytes "}")) L.Close (cond (same s (bytes "EOF")) L.Eof (refusedAs 5 volume line))
+
+-- the same, and perhaps without anything
+unfoldable pub shortForm : ℕ → ℕ → List ℕ → LineForm
+shortForm volume line [] = L.Ignored
+shortForm volume line (b ∷ s) = bareForm volume line (b ∷ s)
 
 abbrev pub equalsAt : ℕ → ℕ → ℕ → ℕ → LineForm
 equalsAt at n rest len = L.Equals (record { key = span at n; rest = span rest len })
@@ -55,7 +117,3 @@ braceForm volume line at n end = cond (eqb (at + n + 2) end) (cond (eqb n 0) (re
 -- a line without its leading blanks, from the place of its first byte
 unfoldable pub restForm : ℕ → ℕ → ℕ → List ℕ → LineForm
 restForm volume line at s = withPlaces volume line (at + length s) (formOfRest s (at + length s))
-
--- the line of a spool from one place to another; places that are none of the spool are those of no line
-unfoldable pub lineFormAt : ℕ → ℕ → ℕ → ℕ → List ℕ → LineForm
-lineFormAt volume line start end s = cond (leb (length s) mostBytes && (leb end (length s) && leb start end)) (lineFormOf volume line start (take (end - start) (drop start s))) L.Ignored

@@ -1,31 +1,30 @@
-// The form of a line: leading blanks, where the key ends, the places of the parts.
+// A line of a volume: its form, by the places of its parts, and where the next line starts.
+use crate::CR;
+use crate::Look;
 use crate::MOST_BYTES;
 use crate::SPACE;
-use leaves::bytes::allowed;
+use crate::Seen;
+use leaves::bytes::find;
 use leaves::bytes::same;
+use leaves::bytes::within;
 use rules::Equation;
 use rules::LineForm;
 use rules::Opener;
 use rules::Refusal;
 use rules::Span;
 ghost use mathlib.Core.Path.{_≡_};
-ghost use Prim.Native.Nat.{_+_, _-_, _<_, _≤_};
+ghost use mathlib.Core.Bool.{_||_};
+ghost use Prim.Native.Nat.{_+_, _<_, _≤_};
 ghost use lib.ListN.{length, drop};
-ghost use Rattle.rules.specs.Lines.{unindent, scan, lineFormOf};
-ghost use Rattle.lines.specs.LineForms.{blankOf, opensHere, keyEndOf, refusedAs, bareForm, equalForm, braceForm, restForm, lineFormAt};
+ghost use Rattle.rules.specs.Base.{within as inRange};
+ghost use Rattle.lines.specs.LineForms.{blankOf, Blanks, opensHere, charOf, keyChar, CleanRun, KeyRun, refusedAs, shortForm, bareForm, equalForm, braceForm};
+ghost use Rattle.lines.specs.LineLook.{seenAt, foundAt, crHere, soundAt, lookFrom, lookIn};
 
 const TAB: u8 = 9;
 
 const WIDE_LEAD: u8 = 129;
 
 const WIDE_TRAIL: u8 = 64;
-
-// Where a line's key ends: at an `=` or a `:{`, behind so many bytes.
-pub enum KeyEnd {
-    Neither,
-    Equal(usize),
-    Brace(usize),
-}
 
 // How many bytes the blank at a place has; 0 where no blank stands there.
 fn blank_at(s: &[u8], i: usize) -> usize
@@ -52,8 +51,8 @@ fn blank_at(s: &[u8], i: usize) -> usize
 }
 
 // How many bytes of leading blanks a line has.
-pub fn indent(s: &[u8]) -> usize
-    ensures { λ r. ⌜ r ≡ length (now (s .entry)) - length (unindent (now (s .entry))) ⌝ }
+fn indent(s: &[u8]) -> usize
+    ensures { λ r. ⌜ Blanks (now (s .entry)) r ⌝ }
 {
     let mut i = 0;
     while i < s.len() {
@@ -81,21 +80,83 @@ fn opens_at(s: &[u8], i: usize) -> bool
     s[next] == b'{'
 }
 
-// "The key ends at the first `=` or `:{`"
-pub fn key_end(s: &[u8]) -> KeyEnd
-    ensures { λ r. ⌜ r ≡ keyEndOf (scan (now (s .entry))) ⌝ }
+// Whether a byte is of one of two runs.
+fn in_either(lo: u64, hi: u64, from: u64, to: u64, b: u8) -> bool
+    ensures { λ r. ⌜ r ≡ (inRange lo hi b || inRange from to b) ⌝ }
 {
-    let mut i = 0;
-    while i < s.len() {
-        if s[i] == b'=' {
-            return KeyEnd::Equal(i);
-        }
-        if opens_at(s, i) {
-            return KeyEnd::Brace(i);
-        }
-        i += 1;
+    let n = b as u64;
+    if within(lo, hi, n) {
+        return true;
     }
-    KeyEnd::Neither
+    within(from, to, n)
+}
+
+// How many bytes the character at a place has: one that stands alone, or a pair; 0 where none that is allowed stands there.
+fn char_at(t: &[u8], i: usize) -> usize
+    requires { ⌜ i < length (now t) ⌝ }
+    ensures { λ r. ⌜ r ≡ charOf (drop i (now (t .entry))) ⌝ }
+{
+    let b = t[i];
+    if in_either(32, 126, 161, 223, b) {
+        return 1;
+    }
+    if !in_either(129, 159, 224, 252, b) {
+        return 0;
+    }
+    let next = i + 1;
+    if t.len() <= next {
+        return 0;
+    }
+    if !in_either(64, 126, 128, 252, t[next]) {
+        return 0;
+    }
+    2
+}
+
+// The same of a key: 0 also where the key ends.
+fn key_char(t: &[u8], i: usize) -> usize
+    requires { ⌜ i < length (now t) ⌝ }
+    ensures { λ r. ⌜ r ≡ keyChar (drop i (now (t .entry))) ⌝ }
+{
+    if t[i] == b'=' {
+        return 0;
+    }
+    if opens_at(t, i) {
+        return 0;
+    }
+    char_at(t, i)
+}
+
+// Over the allowed bytes from a place on.
+fn clean_run(t: &[u8], from: usize) -> usize
+    requires { ⌜ from ≤ length (now t) ⌝ }
+    ensures { λ r. ⌜ CleanRun (now (t .entry)) from r ⌝ }
+{
+    let mut i = from;
+    while i < t.len() {
+        let n = char_at(t, i);
+        if n == 0 {
+            return i;
+        }
+        i += n;
+    }
+    i
+}
+
+// Over the allowed bytes of a key from a place on: "The key ends at the first `=` or `:{`".
+fn key_run(t: &[u8], from: usize) -> usize
+    requires { ⌜ from ≤ length (now t) ⌝ }
+    ensures { λ r. ⌜ KeyRun (now (t .entry)) from r ⌝ }
+{
+    let mut i = from;
+    while i < t.len() {
+        let n = key_char(t, i);
+        if n == 0 {
+            return i;
+        }
+        i += n;
+    }
+    i
 }
 
 fn refused(number: u8, volume: u8, line: u32) -> LineForm
@@ -119,6 +180,16 @@ fn bare_form(s: &[u8], volume: u8, line: u32) -> LineForm
         return LineForm::Eof;
     }
     refused(5, volume, line)
+}
+
+// A line without a key, and perhaps without anything.
+fn short_form(s: &[u8], volume: u8, line: u32) -> LineForm
+    ensures { λ r. ⌜ r ≡ shortForm volume line (now (s .entry)) ⌝ }
+{
+    if s.len() == 0 {
+        return LineForm::Ignored;
+    }
+    bare_form(s, volume, line)
 }
 
 // A key with an `=` behind it, in a line that runs to a place.
@@ -155,54 +226,98 @@ fn brace_form(at: u32, n: u32, end: u32, volume: u8, line: u32) -> LineForm
     })
 }
 
-// A line without its leading blanks, from the place of its first byte.
-fn rest_form(s: &[u8], at: u32, volume: u8, line: u32) -> LineForm
-    requires { ⌜ at + length (now s) < 4294967296 ⌝ }
-    ensures { λ r. ⌜ r ≡ restForm volume line at (now (s .entry)) ⌝ }
+// A line with this form, its CR at a place.
+fn seen(form: LineForm, cr: u32, end: u32) -> Look
+    requires { ⌜ cr < 61440 ⌝ }
+    ensures { λ r. ⌜ r ≡ seenAt form cr end ⌝ }
 {
-    if s.len() == 0 {
-        return LineForm::Ignored;
-    }
-    if !allowed(s) {
-        return refused(4, volume, line);
-    }
-    let end = at + s.len() as u32;
-    match key_end(s) {
-        KeyEnd::Neither => bare_form(s, volume, line),
-        KeyEnd::Equal(n) => equal_form(at, n as u32, end, volume, line),
-        KeyEnd::Brace(n) => brace_form(at, n as u32, end, volume, line),
-    }
+    let next = cr + 2;
+    Look::Line(Seen {
+        form: form,
+        next: next,
+        last: next + 1 == end,
+    })
 }
 
-// A line from the place of its first byte.
-fn form_from(l: &[u8], at: u32, volume: u8, line: u32) -> LineForm
-    requires { ⌜ at + length (now l) < 4294967296 ⌝ }
-    ensures { λ r. ⌜ r ≡ lineFormOf volume line at (now (l .entry)) ⌝ }
+// A line whose form is known, from a place on: only its CR is searched.
+fn unread(form: LineForm, t: &[u8], at: u32, end: u32) -> Look
+    requires { ⌜ at + length (now t) ≤ 61440 ⌝ }
+    ensures { λ r. ⌜ r ≡ foundAt form at end (now (t .entry)) ⌝ }
 {
-    if l.len() == 0 {
-        return LineForm::Ignored;
+    let n = find(t, CR);
+    if n == t.len() {
+        return Look::End;
     }
-    if l[0] == b'#' {
-        return LineForm::Ignored;
-    }
-    let n = indent(l);
-    rest_form(&l[n..], at + n as u32, volume, line)
+    seen(form, at + n as u32, end)
 }
 
-// The form of the spool's line from one place to another; places that are none of the spool are those of no line.
-pub fn line_form(s: &[u8], volume: u8, line: u32, start: u32, end: u32) -> LineForm
-    ensures { λ r. ⌜ r ≡ lineFormAt volume line start end (now (s .entry)) ⌝ }
+fn cr_at(t: &[u8], i: usize) -> bool
+    ensures { λ r. ⌜ r ≡ crHere (drop i (now (t .entry))) ⌝ }
+{
+    if t.len() <= i {
+        return false;
+    }
+    t[i] == CR
+}
+
+// A line with this form, if no byte of it up to its CR is wrong: the allowed ones reach to r.
+fn sound(form: LineForm, t: &[u8], r: usize, at: u32, end: u32, volume: u8, line: u32) -> Look
+    requires { ⌜ (r ≤ length (now t)) × (at + length (now t) ≤ 61440) ⌝ }
+    ensures { λ a. ⌜ a ≡ soundAt form volume line (at + r) end (drop r (now (t .entry))) ⌝ }
+{
+    if cr_at(t, r) {
+        return seen(form, at + r as u32, end);
+    }
+    unread(refused(4, volume, line), &t[r..], at + r as u32, end)
+}
+
+// The line that starts a part of the spool, which runs to a volume's end.
+fn look_from(t: &[u8], at: u32, end: u32, volume: u8, line: u32) -> Look
+    requires { ⌜ at + length (now t) ≤ 61440 ⌝ }
+    ensures { λ r. ⌜ r ≡ lookFrom volume line at end (now (t .entry)) ⌝ }
+{
+    if t.len() == 0 {
+        return Look::End;
+    }
+    if t[0] == b'#' {
+        return unread(LineForm::Ignored, t, at, end);
+    }
+    let n = indent(t);
+    let k = key_run(t, n);
+    if t.len() <= k {
+        return Look::End;
+    }
+    if t[k] == CR {
+        return seen(short_form(&t[n..k], volume, line), at + k as u32, end);
+    }
+    let first = at + n as u32;
+    let size = (k - n) as u32;
+    if t[k] == b'=' {
+        let r = clean_run(t, k + 1);
+        return sound(equal_form(first, size, at + r as u32, volume, line), t, r, at, end, volume, line);
+    }
+    if opens_at(t, k) {
+        let r = clean_run(t, k + 2);
+        return sound(brace_form(first, size, at + r as u32, volume, line), t, r, at, end, volume, line);
+    }
+    unread(refused(4, volume, line), &t[k..], at + k as u32, end)
+}
+
+// The line that starts at a place of a volume, which runs to `end`; places that are none of the spool are those of no line.
+// Bytes that break rule 3 have lines too: each up to the next CR, with one byte behind it.
+pub fn look(s: &[u8], at: u32, end: u32, volume: u8, line: u32) -> Look
+    ensures { λ r. ⌜ r ≡ lookIn volume line at end (now (s .entry)) ⌝ }
 {
     if MOST_BYTES < s.len() {
-        return LineForm::Ignored;
+        return Look::End;
     }
-    let from = start as usize;
+    let from = at as usize;
     let to = end as usize;
     if s.len() < to {
-        return LineForm::Ignored;
+        return Look::End;
     }
     if to < from {
-        return LineForm::Ignored;
+        return Look::End;
     }
-    form_from(&s[from..to], start, volume, line)
+    look_from(&s[from..to], at, end, volume, line)
 }

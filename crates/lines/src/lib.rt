@@ -1,4 +1,5 @@
 // The spool's volumes and the lines of a volume: document 01, "Spool (H)".
+use rules::LineForm;
 
 // How far a volume is read, byte by byte: so many bytes of a line; just behind a CR; just behind the last 1A; broken.
 pub enum Reached {
@@ -22,16 +23,16 @@ pub struct Layout {
     pub lengths: [u32; 12],
 }
 
-// A line of a volume, by places in the volume's bytes: its first byte, the CR behind it, and the line after it.
-pub struct LineAt {
-    pub start: u32,
-    pub end: u32,
+// A line of a volume: its form, the place of the next line's first byte, and whether it is the volume's last.
+pub struct Seen {
+    pub form: LineForm,
     pub next: u32,
+    pub last: bool,
 }
 
-pub enum NextLine {
+pub enum Look {
     End,
-    Line(LineAt),
+    Line(Seen),
 }
 
 // No spool has more bytes, and so no volume.
@@ -44,5 +45,4 @@ const SPACE: u8 = 32;
 pub mod ends;
 pub mod forms;
 mod names;
-pub mod places;
 pub mod spool;
