@@ -3,3 +3,5 @@ pub mod VolumeNames
 pub mod VolumePlaces
 pub mod LineForms
 pub mod LineLook
+pub mod LinesSeen
+pub mod VolumesSeen

@@ -13,7 +13,7 @@ use Rattle.rules.specs.declared.LineForm.{LineForm}
 use Rattle.rules.specs.declared.LineForm.the-variants as L
 use Rattle.rules.specs.Lines.{unindent, Scan, neither, atEqual, atBrace, keyOnto, afterColon, scan, brace, equals, wrong, close, eof, withKey, formFrom, formOfRest, formOf, allowed, withPlaces, lineFormOf}
 use Rattle.lines.specs.LineForms.{blankOf, opensHere, KeyEnd, endless, equalAt, braceAt, later, keyEndOf, refusedAs, bareForm, shortForm, equalForm, braceForm, equalsAt, opensAt, restForm}
-use Rattle.lines.proofs.SoundEnds.{at as by-place}
+use Rattle.leaves.proofs.Scan.{at as by-place}
 
 -- ── leading blanks ──
 pub unindent-stop : (s : List ℕ) → blankOf s ≡ 0 → unindent s ≡ s
@@ -165,6 +165,29 @@ scan-apart (b ∷ s) = go (eqb b 61) (eqb b 58) refl (scan-apart s)
     go true u f h = (refl, refl, omega arith)
     go false true f h = colon s (scan s) (eqb-true b 58 f) h
     go false false f h = apart-onto b s (scan s) h
+
+-- ── the line behind its leading blanks ──
+-- what stands behind some bytes is as many bytes shorter
+pub record Behind (u s : List ℕ) : Type 0 where
+  pub bytes : ℕ
+  pub most : bytes ≤ length s
+  pub rest : u ≡ drop bytes s
+
+behind-one : (b : ℕ) (u s : List ℕ) → Behind u s → Behind u (b ∷ s)
+behind-one b u s h = record { bytes = suc (h .bytes); most = suc-le-suc (h .most); rest = h .rest }
+
+behind-all : (s : List ℕ) → Behind s s
+behind-all s = record { bytes = 0; most = zero-le; rest = refl }
+
+pub unindent-behind : (s : List ℕ) → Behind (unindent s) s
+unindent-behind [] = behind-all []
+unindent-behind (b ∷ []) = elim (eqb b 32 || eqb b 9) as (λ t. Behind (cond t [] (b ∷ [])) (b ∷ [])) [ true ↦ behind-one b [] [] (behind-all []) | false ↦ behind-all (b ∷ []) ]
+unindent-behind (b ∷ c ∷ s) = go (eqb b 32 || eqb b 9) (eqb b 129 && eqb c 64) (unindent-behind (c ∷ s)) (unindent-behind s)
+  where
+    go : (t u : Bool) → Behind (unindent (c ∷ s)) (c ∷ s) → Behind (unindent s) s → Behind (choose t (λ _. unindent (c ∷ s)) (λ _. choose u (λ _. unindent s) (λ _. b ∷ c ∷ s))) (b ∷ c ∷ s)
+    go true u h k = behind-one b _ (c ∷ s) h
+    go false true h k = behind-one b _ (c ∷ s) (behind-one c _ s k)
+    go false false h k = behind-all (b ∷ c ∷ s)
 
 -- ── the form by the end of the key ──
 -- the third argument: the place of the line's first byte

@@ -20,7 +20,8 @@ use Rattle.lines.specs.LineForms.{blankOf, opensHere, charOf, keyChar, K
 use Rattle.lines.specs.LineLook.{seenAt, foundAt, crHere, soundAt, lookFrom, lookIn}
 use Rattle.lines.specs.declared.Look.{Look}
 use Rattle.lines.specs.declared.Look.the-variants.{End, Line}
-use Rattle.lines.proofs.SoundEnds.{at as by-place}
+use Rattle.leaves.proofs.Scan.{at as by-place}
+use Rattle.lines.proofs.SoundEnds.{or-neither}
 use Rattle.lines.proofs.LineForms as forms
 
 -- ── bytes of a kind ──
@@ -55,11 +56,11 @@ single-no-lead b e = go (leadByte b) refl
     go false q = refl
 
 -- ── up to the CR ──
-up-cr : (b : ℕ) (s : List ℕ) → eqb b 13 ≡ true → upTo 13 (b ∷ s) ≡ []
+pub up-cr : (b : ℕ) (s : List ℕ) → eqb b 13 ≡ true → upTo 13 (b ∷ s) ≡ []
 unfolding upTo
 up-cr b s e = rw e
 
-up-more : (b : ℕ) (s : List ℕ) → eqb b 13 ≡ false → upTo 13 (b ∷ s) ≡ b ∷ upTo 13 s
+pub up-more : (b : ℕ) (s : List ℕ) → eqb b 13 ≡ false → upTo 13 (b ∷ s) ≡ b ∷ upTo 13 s
 unfolding upTo
 up-more b s e = rw e
 
@@ -135,10 +136,6 @@ char-key b [] f g = by-cond (KeyStep (b ∷ [])) (singleByte b) (λ e. key-one b
 char-key b (c ∷ s) f g =
     by-cond (KeyStep (b ∷ c ∷ s)) (singleByte b) (λ e. key-one b (c ∷ s) e f g)
     (λ q. by-cond (KeyStep (b ∷ c ∷ s)) (leadByte b && trailByte c) (λ p. key-two b c s (and-left (leadByte b) (trailByte c) p) (and-right (leadByte b) (trailByte c) p)) (λ p. key-none (b ∷ c ∷ s)))
-
-or-neither : (a b : Bool) → (a || b) ≡ false → (a ≡ false) × (b ≡ false)
-or-neither true b e = clash refl e
-or-neither false b e = (refl, e)
 
 key-step : (v : List ℕ) → KeyStep v (keyChar v)
 unfolding keyChar
@@ -457,6 +454,10 @@ later-endless n (braceAt m) e = absurd (let z : _≡_ {A = ℕ} 0 1 = cc in omeg
 
 up-here : (t : List ℕ) (k : ℕ) → k < length t → getD t k 0 ≡ 13 → upTo 13 (drop k t) ≡ []
 up-here t k h e = ap (upTo 13) (by-place t k h) ∙ up-cr (getD t k 0) (drop (k + 1) t) (eq-eqb _ _ e)
+
+pub look-from-found : (volume line at end : ℕ) (t : List ℕ) → lookFrom volume line at end t ≡ foundAt (lineFormOf volume line at (upTo 13 t)) at end t
+unfolding lookFrom
+look-from-found volume line at end t = refl
 
 module _ (volume line at end : ℕ) (t : List ℕ) where
   pub look-empty : length t ≡ 0 → lookFrom volume line at end t ≡ End

@@ -1,34 +1,41 @@
--- The byte machine of rule 3 ends where Spool.linesOf gives lines.
-use Prim.Native.Nat.{ℕ, zero, suc, _+_, _<_, _≤_}
+-- Laws of rule 3 by place: a run of bytes inside a line, and what stands behind it.
+use Prim.Native.Nat.{ℕ, zero, suc, _+_, _-_, _<_, _≤_, zero-le}
 use mathlib.Core.Path.{_≡_, refl, ap, sym, _∙_}
-use mathlib.Core.Bool.{Bool, true, false, cond, _&&_}
+use mathlib.Core.Bool.{Bool, true, false, cond, _&&_, _||_}
 use mathlib.Core.List.{List, [], _∷_}
 use mathlib.Core.Option.{Option, none, some}
-use native.Mathlib.Numerals.{add-one}
 use native.Mathlib.Omega.{arith}
 use lib.Dec.{eqb, leb, ltb}
-use lib.ListN.{length, getD, drop, drop-of-length-le}
-use lib.Seq.{drop-cons}
-use borrow.Author.Tests.{eq-eqb, ne-eqb, le-leb, lt-leb, lt-ltb, le-ltb, eqb-true, eqb-false, ltb-true, ltb-false}
+use lib.ListN.{length, getD, take, drop, drop-of-length-le, length-drop}
+use lib.Seq.{drop-drop, getD-drop, take-all, take-nil}
+use borrow.Author.Tests.{eq-eqb, ne-eqb, le-leb, lt-leb, lt-ltb, le-ltb, eqb-true, eqb-false, leb-true, leb-false}
+use Rattle.rules.proofs.Chains.{and-false, clash}
 use Rattle.rules.specs.Base.{choose, all, isNil, isSome, mapO}
-use Rattle.rules.specs.Spool.{mostInLine, headLine, linesFrom, shortLines, linesOf}
-use Rattle.lines.specs.LineEnds.{insideStep, endStep, endsFrom, hasEnded}
-use Rattle.lines.specs.declared.Reached.{Reached}
-use Rattle.lines.specs.declared.Reached.the-variants.{Inside, Returned, Ended, Broken}
+use Rattle.rules.specs.Spool.{mostInLine, mostVolumes, headLine, linesFrom, shortLines, linesOf}
+use Rattle.leaves.proofs.Scan.{at}
+use Rattle.lines.specs.LineEnds.{endByte, plainRun, lastByte, unsoundFrom, firstUnsound}
+use Rattle.lines.specs.declared.Layout.{Layout}
 
--- ── a byte at a time, by place ──
-pub at : (s : List ℕ) (i : ℕ) → i < length s → drop i s ≡ getD s i 0 ∷ drop (i + 1) s
-at s i h = rw (add-one, drop-cons s i 0)
+-- ── the run ──
+module _ (s : List ℕ) (i : ℕ) where
+  pub run-stop : i < length s → endByte (getD s i 0) ≡ true → plainRun (drop i s) ≡ 0
+  unfolding plainRun
+  run-stop h e = rw (at s i h, e)
 
-pub ends-next : (e : Reached) (s : List ℕ) (i : ℕ) → i < length s → endsFrom e (drop i s) ≡ endsFrom (endStep e (getD s i 0)) (drop (i + 1) s)
-unfolding endsFrom
-ends-next e s i h = rw (at s i h)
+  pub run-more : i < length s → endByte (getD s i 0) ≡ false → plainRun (drop i s) ≡ suc (plainRun (drop (i + 1) s))
+  unfolding plainRun
+  run-more h e = rw (at s i h, e)
 
-pub ends-last : (e : Reached) (s : List ℕ) (i : ℕ) → length s ≤ i → endsFrom e (drop i s) ≡ e
-unfolding endsFrom
-ends-last e s i h = rw (drop-of-length-le s h)
+  pub run-end : length s ≤ i → plainRun (drop i s) ≡ 0
+  unfolding plainRun
+  run-end h = rw (drop-of-length-le s h)
 
--- ── the bridge ──
+pub run-le : (s : List ℕ) → plainRun s ≤ length s
+unfolding plainRun
+run-le [] = zero-le
+run-le (b ∷ s) = elim (endByte b) as (λ t. cond t 0 (suc (plainRun s)) ≤ suc (length s)) [ true ↦ zero-le | false ↦ omega (arith, run-le s) ]
+
+-- ── the lines, where n bytes stand before the first of them ──
 abbrev short : List ℕ → Bool
 short l = leb (length l) mostInLine
 
@@ -59,57 +66,175 @@ sound-more n b none = refl
 sound-more n b (some []) = ne-eqb (n + 1) 0 (omega arith)
 sound-more n b (some (l ∷ ls)) = let e : n + 1 + length l ≡ n + suc (length l) = omega arith in ap (λ k. leb k mostInLine && all short ls) e
 
-sound-long : (n b : ℕ) (o : Option (List (List ℕ))) → mostInLine ≤ n → false ≡ soundAfter n (headLine b o)
-sound-long n b none h = refl
-sound-long n b (some []) h = refl
-sound-long n b (some (l ∷ ls)) h = sym (rw (lt-leb (n + suc (length l)) mostInLine (omega arith)))
+sound-none : (n : ℕ) (o : Option (List (List ℕ))) → mostInLine < n → soundAfter n (mapO (λ ls. [] ∷ ls) o) ≡ false
+sound-none n none h = refl
+sound-none n (some ls) h = rw (lt-leb (n + 0) mostInLine (omega arith))
 
-broken : (s : List ℕ) → hasEnded (endsFrom Broken s) ≡ false
-unfolding endsFrom endStep hasEnded
-broken [] = refl
-broken (b ∷ s) = broken s
-
-over : (n : ℕ) (s : List ℕ) → hasEnded (endsFrom (cond (eqb n 0) Ended Broken) s) ≡ soundAfter n (cond (isNil s) (some []) none)
-unfolding endsFrom endStep hasEnded
-over n [] = elim (eqb n 0) as (λ t. hasEnded (cond t Ended Broken) ≡ t) [ true ↦ refl | false ↦ refl ]
-over n (b ∷ s) = elim (eqb n 0) as (λ t. hasEnded (endsFrom (endStep (cond t Ended Broken) b) s) ≡ false) [ true ↦ broken s | false ↦ broken s ]
-
-abbrev Bridge : List ℕ → Type 0
-Bridge s = (n : ℕ) → n ≤ mostInLine → (hasEnded (endsFrom (Inside n) s) ≡ soundAfter n (linesFrom false s)) × (hasEnded (endsFrom Returned s) ≡ soundAfter n (linesFrom true s))
-
--- a byte inside a line
-inside : (n b : ℕ) (s : List ℕ) → n ≤ mostInLine → Bridge s → hasEnded (endsFrom (insideStep n b) s) ≡ soundAfter n (linesFrom false (b ∷ s))
-unfolding insideStep
-inside n b s h i = cr (eqb b 13)
-  where
-    -- the byte is like any other
-    plain : (t : Bool) → ltb n mostInLine ≡ t → hasEnded (endsFrom (cond t (Inside (n + 1)) Broken) s) ≡ soundAfter n (headLine b (linesFrom false s))
-    plain true q = i (n + 1) (omega (arith, ltb-true n mostInLine q)) .0 ∙ sound-more n b (linesFrom false s)
-    plain false q = broken s ∙ sound-long n b (linesFrom false s) (ltb-false n mostInLine q)
-
-    lf : (t : Bool) → hasEnded (endsFrom (cond t Broken (cond (ltb n mostInLine) (Inside (n + 1)) Broken)) s) ≡ soundAfter n (choose t (λ _. none) λ _. headLine b (linesFrom false s))
-    lf true = broken s
-    lf false = plain (ltb n mostInLine) refl
-
-    end : (t : Bool) → hasEnded (endsFrom (cond t (cond (eqb n 0) Ended Broken) (cond (eqb b 10) Broken (cond (ltb n mostInLine) (Inside (n + 1)) Broken))) s)
-        ≡ soundAfter n (choose t (λ _. cond (isNil s) (some []) none) λ _. choose (eqb b 10) (λ _. none) λ _. headLine b (linesFrom false s))
-    end true = over n s
-    end false = lf (eqb b 10)
-
-    cr : (t : Bool) → hasEnded (endsFrom (cond t Returned (cond (eqb b 26) (cond (eqb n 0) Ended Broken) (cond (eqb b 10) Broken (cond (ltb n mostInLine) (Inside (n + 1)) Broken)))) s)
-        ≡ soundAfter n (choose t (λ _. linesFrom true s) λ _. choose (eqb b 26) (λ _. cond (isNil s) (some []) none) λ _. choose (eqb b 10) (λ _. none) λ _. headLine b (linesFrom false s))
-    cr true = i n h .1
-    cr false = end (eqb b 26)
-
-returned : (b : ℕ) (s : List ℕ) → Bridge s → (n : ℕ) → n ≤ mostInLine → (t : Bool) → hasEnded (endsFrom (cond t (Inside 0) Broken) s) ≡ soundAfter n (choose t (λ _. mapO (λ ls. [] ∷ ls) (linesFrom false s)) (λ _. none))
-returned b s i n h true = i 0 (omega arith) .0 ∙ sound-anew n (linesFrom false s) h
-returned b s i n h false = broken s
-
-bridge : (s : List ℕ) → Bridge s
-unfolding endsFrom endStep hasEnded
-bridge [] = λ n h. (refl, refl)
-bridge (b ∷ s) = λ n h. (inside n b s h (bridge s), returned b s (bridge s) n h (eqb b 10))
-
-pub sound-ends : (s : List ℕ) → hasEnded (endsFrom (Inside 0) s) ≡ isSome (linesOf s)
+sound-is : (s : List ℕ) → isSome (linesOf s) ≡ soundAfter 0 (linesFrom false s)
 unfolding linesOf
-sound-ends s = bridge s 0 (omega arith) .0 ∙ sound-first (linesFrom false s)
+sound-is s = sym (sound-first (linesFrom false s))
+
+pub or-neither : (a b : Bool) → (a || b) ≡ false → (a ≡ false) × (b ≡ false)
+or-neither true b e = clash refl e
+or-neither false b e = (refl, e)
+
+over-run : (n : ℕ) (s : List ℕ) → soundAfter n (linesFrom false s) ≡ soundAfter (n + plainRun s) (linesFrom false (drop (plainRun s) s))
+unfolding plainRun
+over-run n [] = refl
+over-run n (b ∷ s) = go (endByte b) refl (over-run (n + 1) s)
+  where
+    go : (t : Bool) → endByte b ≡ t → soundAfter (n + 1) (linesFrom false s) ≡ soundAfter (n + 1 + plainRun s) (linesFrom false (drop (plainRun s) s))
+        → soundAfter n (linesFrom false (b ∷ s)) ≡ soundAfter (n + cond t 0 (suc (plainRun s))) (linesFrom false (drop (cond t 0 (suc (plainRun s))) (b ∷ s)))
+    go true q ih = let e : n ≡ n + 0 = omega arith in ap (λ k. soundAfter k (linesFrom false (b ∷ s))) e
+    go false q ih =
+        let x = or-neither (eqb b 13) (eqb b 26 || eqb b 10) q in
+        let y = or-neither (eqb b 26) (eqb b 10) (x .1) in
+        let e : n + 1 + plainRun s ≡ n + suc (plainRun s) = omega arith in
+        rw (x .0, y .0, y .1) (sym (sound-more n b (linesFrom false s))) ∙ ih ∙ ap (λ k. soundAfter k (linesFrom false (drop (plainRun s) s))) e
+
+-- the run stops at one of the three bytes
+run-hit : (s : List ℕ) → plainRun s < length s → endByte (getD s (plainRun s) 0) ≡ true
+unfolding plainRun
+run-hit [] h = absurd (omega arith)
+run-hit (b ∷ s) h = go (endByte b) refl h (run-hit s)
+  where
+    go : (t : Bool) → endByte b ≡ t → cond t 0 (suc (plainRun s)) < suc (length s) → (plainRun s < length s → endByte (getD s (plainRun s) 0) ≡ true) → endByte (getD (b ∷ s) (cond t 0 (suc (plainRun s))) 0) ≡ true
+    go true q h ih = q
+    go false q h ih = ih (omega arith)
+
+-- what the byte is that is none of the others
+last-of : (i e b : ℕ) (w : List ℕ) → i ≤ e → endByte b ≡ true → eqb b 13 ≡ false → soundAfter (e - i) (linesFrom false (b ∷ w)) ≡ (eqb b 26 && (eqb e i && isNil w))
+last-of i e b w h q c = rw c (go (eqb b 26) refl)
+  where
+    one : (v : List ℕ) → soundAfter (e - i) (cond (isNil v) (some []) none) ≡ (eqb e i && isNil v)
+    one [] = go (eqb e i) refl
+      where
+        go : (t : Bool) → eqb e i ≡ t → eqb (e - i) 0 ≡ (t && true)
+        go true p = eq-eqb (e - i) 0 (omega (arith, eqb-true e i p))
+        go false p = ne-eqb (e - i) 0 (λ z. eqb-false e i p (omega (arith, z)))
+    one (x ∷ v) = sym (and-false (eqb e i))
+
+    go : (t : Bool) → eqb b 26 ≡ t → soundAfter (e - i) (choose t (λ _. cond (isNil w) (some []) none) λ _. choose (eqb b 10) (λ _. none) λ _. headLine b (linesFrom false w)) ≡ (t && (eqb e i && isNil w))
+    go true p = one w
+    go false p = let z : eqb b 10 ≡ true = sym (ap (λ x. eqb b 10) c) ∙ rw (c, p) at q in rw z
+
+-- the line that starts at i, its first of the three bytes at e
+module _ (s : List ℕ) (i e : ℕ) (z : e ≡ i + plainRun (drop i s)) where
+  behind : isSome (linesOf (drop i s)) ≡ soundAfter (e - i) (linesFrom false (drop e s))
+  behind =
+      let p = plainRun (drop i s) in
+      let n : 0 + p ≡ e - i = omega (arith, z) in
+      sound-is (drop i s) ∙ over-run 0 (drop i s) ∙ ap (λ k. soundAfter k (linesFrom false (drop p (drop i s)))) n
+      ∙ ap (λ u. soundAfter (e - i) (linesFrom false u)) (drop-drop p i s ∙ ap (λ k. drop k s) (sym z))
+
+  pub sound-over : length s ≤ e → isSome (linesOf (drop i s)) ≡ false
+  sound-over h = behind ∙ rw (drop-of-length-le s h)
+
+  pub sound-last : e < length s → (getD s e 0 ≡ 13 → ⊥) → isSome (linesOf (drop i s)) ≡ lastByte i e (drop e s)
+  unfolding lastByte
+  sound-last h c =
+      let hit : endByte (getD s e 0) ≡ true = ap (λ k. endByte (getD s k 0)) z ∙ sym (ap endByte (getD-drop i s (plainRun (drop i s)) 0)) ∙ run-hit (drop i s) (omega (arith, h, z, length-drop i s)) in
+      behind ∙ rw (at s e h) (last-of i e (getD s e 0) (drop (e + 1) s) (omega (arith, z)) hit (ne-eqb _ _ c))
+
+  module _ (h : e < length s) (c : getD s e 0 ≡ 13) where
+    pub sound-cut : length s ≤ e + 1 → isSome (linesOf (drop i s)) ≡ false
+    sound-cut k = behind ∙ rw (at s e h, eq-eqb _ _ c, drop-of-length-le s k)
+
+    module _ (k : e + 1 < length s) where
+      pub sound-no-lf : (getD s (e + 1) 0 ≡ 10 → ⊥) → isSome (linesOf (drop i s)) ≡ false
+      sound-no-lf d = behind ∙ rw (at s e h, eq-eqb _ _ c, at s (e + 1) k, ne-eqb _ _ d)
+
+      pub sound-next : getD s (e + 1) 0 ≡ 10 → e - i ≤ mostInLine → isSome (linesOf (drop i s)) ≡ isSome (linesOf (drop (e + 1 + 1) s))
+      sound-next d m = behind ∙ rw (at s e h, eq-eqb _ _ c, at s (e + 1) k, eq-eqb _ _ d) (sym (sound-anew (e - i) (linesFrom false (drop (e + 1 + 1) s)) m)) ∙ sym (sound-is (drop (e + 1 + 1) s))
+
+    pub sound-wide : mostInLine < e - i → isSome (linesOf (drop i s)) ≡ false
+    sound-wide m = behind ∙ rw (at s e h, eq-eqb _ _ c) (go (drop (e + 1) s))
+      where
+        pick : (q : Bool) (o : Option (List (List ℕ))) → soundAfter (e - i) (choose q (λ _. mapO (λ ls. [] ∷ ls) o) (λ _. none)) ≡ false
+        pick true o = sound-none (e - i) o m
+        pick false o = refl
+
+        go : (t : List ℕ) → soundAfter (e - i) (linesFrom true t) ≡ false
+        go [] = refl
+        go (x ∷ t) = pick (eqb x 10) (linesFrom false t)
+
+-- nothing left, and nothing ended the lines
+pub sound-nothing : (s : List ℕ) (i : ℕ) → length s ≤ i → isSome (linesOf (drop i s)) ≡ false
+unfolding linesOf
+sound-nothing s i h = rw (drop-of-length-le s h)
+
+-- the three bytes as the code tests them
+pub end-high : (b : ℕ) → 26 < b → endByte b ≡ false
+end-high b h = rw (ne-eqb b 13 (λ e. omega (arith, e)), ne-eqb b 26 (λ e. omega (arith, e)), ne-eqb b 10 (λ e. omega (arith, e)))
+
+pub end-cr : (b : ℕ) → b ≡ 13 → endByte b ≡ true
+end-cr b e = rw (eq-eqb b 13 e)
+
+pub end-sub : (b : ℕ) → b ≡ 26 → endByte b ≡ true
+end-sub b e = rw e
+
+pub end-by : (b : ℕ) → (b ≡ 13 → ⊥) → (b ≡ 26 → ⊥) → endByte b ≡ eqb b 10
+end-by b e f = rw (ne-eqb b 13 e, ne-eqb b 26 f)
+
+module _ (s : List ℕ) (i e : ℕ) (h : e < length s) where
+  pub last-not : (getD s e 0 ≡ 26 → ⊥) → lastByte i e (drop e s) ≡ false
+  unfolding lastByte
+  last-not c = rw (at s e h, ne-eqb _ _ c)
+
+  pub last-inside : getD s e 0 ≡ 26 → (e ≡ i → ⊥) → lastByte i e (drop e s) ≡ false
+  unfolding lastByte
+  last-inside c d = rw (at s e h, eq-eqb _ _ c, ne-eqb _ _ d)
+
+  pub last-by : getD s e 0 ≡ 26 → e ≡ i → lastByte i e (drop e s) ≡ eqb (e + 1) (length s)
+  unfolding lastByte
+  last-by c d = rw (at s e h, eq-eqb _ _ c, eq-eqb _ _ d) (go (leb (length s) (e + 1)) refl)
+    where
+      full : (t : List ℕ) → 0 < length t → isNil t ≡ false
+      full [] k = absurd (omega arith)
+      full (x ∷ t) k = refl
+
+      go : (q : Bool) → leb (length s) (e + 1) ≡ q → isNil (drop (e + 1) s) ≡ eqb (e + 1) (length s)
+      go true q = rw (drop-of-length-le s {i = e + 1} (leb-true _ _ q)) (sym (eq-eqb (e + 1) (length s) (omega (arith, leb-true (length s) (e + 1) q))))
+      go false q =
+          let k = leb-false (length s) (e + 1) q in
+          full (drop (e + 1) s) (omega (arith, k, length-drop (e + 1) s)) ∙ sym (ne-eqb (e + 1) (length s) (λ z. omega (arith, z, k)))
+
+-- ── parts of the spool ──
+module _ (s : List ℕ) (p n : ℕ) where
+  pub part-none : length s ≤ p → isSome (linesOf (take n (drop p s))) ≡ false
+  unfolding linesOf
+  part-none h = rw (drop-of-length-le s h, take-nil {A = ℕ} n)
+
+  pub part-all : length s - p < n → take n (drop p s) ≡ drop p s
+  part-all h = take-all n (drop p s) (omega (arith, length-drop p s))
+
+-- ── all volumes ──
+module _ (s : List ℕ) (l : Layout) where
+  pub unsound-none : (k i : ℕ) → l .count ≤ i → unsoundFrom s l k i ≡ 0
+  unfolding unsoundFrom
+  unsound-none zero i h = refl
+  unsound-none (suc k) i h = rw (le-ltb i (l .count) h)
+
+  -- the volume i's lines
+  abbrev pub soundIn : ℕ → Bool
+  soundIn i = isSome (linesOf (take (getD (l .lengths) i 0) (drop (getD (l .places) i 0) s)))
+
+  module _ (i : ℕ) (m : i < mostVolumes) (h : i < l .count) where
+    one-more : mostVolumes - i ≡ suc (mostVolumes - (i + 1))
+    one-more = omega arith
+
+    pub unsound-here : soundIn i ≡ false → unsoundFrom s l (mostVolumes - i) i ≡ i + 1
+    unfolding unsoundFrom
+    unsound-here e = rw (one-more, lt-ltb i (l .count) h, e)
+
+    pub unsound-later : soundIn i ≡ true → unsoundFrom s l (mostVolumes - i) i ≡ unsoundFrom s l (mostVolumes - (i + 1)) (i + 1)
+    unfolding unsoundFrom
+    unsound-later e = rw (one-more, lt-ltb i (l .count) h, e)
+
+  pub unsound-over : (i : ℕ) → mostVolumes ≤ i → unsoundFrom s l (mostVolumes - i) i ≡ 0
+  unfolding unsoundFrom
+  unsound-over i h = let e : mostVolumes - i ≡ 0 = omega arith in rw e
+
+  pub unsound-start : firstUnsound s l ≡ unsoundFrom s l mostVolumes 0
+  unfolding firstUnsound
+  unsound-start = refl

@@ -6,13 +6,16 @@ use mathlib.Core.List.{List, [], _∷_, _++_, map}
 use mathlib.Core.Option.{Option, none, some}
 use native.Mathlib.Omega.{arith}
 use lib.Dec.{eqb, leb}
-use lib.ListN.{length, getD, take, drop, replicate, drop-of-length-le}
+use lib.ListN.{length, getD, take, drop, replicate, drop-of-length-le, length-take}
+use lib.Seq.{take-take}
 use borrow.Author.Tests.{eq-eqb, ne-eqb, le-leb, lt-leb, eqb-true, eqb-false}
-use Rattle.rules.proofs.Chains.{and-left, and-right, same-eq, same-refl, clash}
+use Rattle.leaves.specs.Bytes.{upTo}
+use Rattle.leaves.proofs.Pieces.{upTo-le, upTo-take}
+use Rattle.rules.proofs.Chains.{and-false, and-left, and-right, same-eq, same-refl, clash}
 use Rattle.rules.specs.Base.{all, isNil, isSome, mapO, same, indexOf, among, distinct, within}
 use Rattle.rules.specs.Spool.{nameByte, nameOf, paddedName, goodName}
-use Rattle.lines.specs.VolumeNames.{letters, allSpaces, rawName, Ranged}
-use Rattle.lines.proofs.SoundEnds.{at}
+use Rattle.lines.specs.VolumeNames.{letters, allSpaces, rawName, Ranged, nameAt}
+use Rattle.leaves.proofs.Scan.{at}
 
 -- ── scans ──
 module _ (s : List ℕ) (i : ℕ) where
@@ -130,3 +133,42 @@ module _ (f : ℕ → List ℕ) (ps : List ℕ) (i : ℕ) where
 pub raw-name : (s : List ℕ) (p : ℕ) → take (p - 10 + 8 - (p - 10)) (drop (p - 10) s) ≡ rawName s p
 unfolding rawName
 raw-name s p = let e : p - 10 + 8 - (p - 10) ≡ 8 = omega arith in ap (λ k. take k (drop (p - 10) s)) e
+
+-- ── a name without its spaces ──
+pub name-up : (s : List ℕ) → nameOf s ≡ upTo 32 s
+unfolding upTo
+name-up [] = refl
+name-up (b ∷ s) = ap (λ u. cond (eqb b 32) [] (b ∷ u)) (name-up s)
+
+module _ (s : List ℕ) (p : ℕ) where
+  pub name-low : p < 12 → nameAt s p ≡ []
+  unfolding nameAt
+  name-low h = rw (lt-leb 12 p h)
+
+  pub name-high : length s < p → nameAt s p ≡ []
+  unfolding nameAt
+  name-high h = rw (lt-leb p (length s) h, and-false (leb 12 p))
+
+  pub name-here : 12 ≤ p → p ≤ length s → nameAt s p ≡ nameOf (rawName s p)
+  unfolding nameAt
+  name-here h k = rw (le-leb 12 p h, le-leb p (length s) k)
+
+  -- the eight bytes as the code cuts them, and k bytes before the first space in them
+  module _ (k : ℕ) (z : k ≡ length (upTo 32 (take (p - 10 + 8 - (p - 10)) (drop (p - 10) s)))) where
+    eight : p - 10 + 8 - (p - 10) ≡ 8
+    eight = omega arith
+
+    pub name-short : k ≤ 8
+    name-short =
+        let r = take 8 (drop (p - 10) s) in
+        let e = ap (λ n. length (upTo 32 (take n (drop (p - 10) s)))) eight in
+        omega (arith, z, e, upTo-le 32 r, length-take 8 (drop (p - 10) s))
+
+    pub name-part : 12 ≤ p → p ≤ length s → take (p - 10 + k - (p - 10)) (drop (p - 10) s) ≡ nameAt s p
+    unfolding rawName
+    name-part h j =
+        let r = take 8 (drop (p - 10) s) in
+        let w : p - 10 + k - (p - 10) ≡ length (upTo 32 r) = omega (arith, z, ap (λ n. length (upTo 32 (take n (drop (p - 10) s)))) eight) in
+        let m = name-short in
+        let n : length (upTo 32 r) ≤ 8 = omega (arith, w) in
+        ap (λ i. take i (drop (p - 10) s)) w ∙ sym (take-take (length (upTo 32 r)) 8 (drop (p - 10) s) n) ∙ upTo-take 32 r ∙ sym (name-up r) ∙ sym (name-here h j)

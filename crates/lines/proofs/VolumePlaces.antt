@@ -18,7 +18,7 @@ use Rattle.lines.specs.VolumePlaces.{headIn, walked, zeros, layout, noLa
 use Rattle.lines.specs.declared.Head.{Head}
 use Rattle.lines.specs.declared.Head.the-variants.{Holds, Bad}
 use Rattle.lines.specs.declared.Layout.{Layout}
-use Rattle.lines.proofs.SoundEnds.{at as by-place}
+use Rattle.leaves.proofs.Scan.{at as by-place}
 
 -- ── the head, byte by byte ──
 abbrev pub sizeIn : List ℕ → ℕ

@@ -1,32 +1,33 @@
--- Rule 3, a byte at a time; that it says what Spool.linesOf says is proved in proofs/SoundEnds.
-use Prim.Native.Nat.{ℕ, _+_}
-use mathlib.Core.Bool.{Bool, true, false, cond}
+-- Rule 3 by place; that it says what Spool.linesOf says is proved in proofs/SoundEnds.
+use Prim.Native.Nat.{ℕ, zero, suc, _+_}
+use mathlib.Core.Bool.{Bool, false, cond, _&&_, _||_, not}
 use mathlib.Core.List.{List, [], _∷_}
 use lib.Dec.{eqb, ltb}
-use Rattle.rules.specs.Spool.{mostInLine}
-use Rattle.lines.specs.declared.Reached.{Reached}
-use Rattle.lines.specs.declared.Reached.the-variants.{Inside, Returned, Ended, Broken}
+use lib.ListN.{getD, take, drop}
+use Rattle.rules.specs.Base.{isNil, isSome}
+use Rattle.rules.specs.Spool.{mostVolumes, linesOf}
+use Rattle.lines.specs.declared.Layout.{Layout}
 
--- a byte in a line of which n bytes were read
-unfoldable pub insideStep : ℕ → ℕ → Reached
-insideStep n b =
-    cond (eqb b 13) Returned
-    (cond (eqb b 26) (cond (eqb n 0) Ended Broken)
-    (cond (eqb b 10) Broken
-    (cond (ltb n mostInLine) (Inside (n + 1)) Broken)))
+-- CR, 1A or LF
+abbrev pub endByte : ℕ → Bool
+endByte b = eqb b 13 || (eqb b 26 || eqb b 10)
 
-unfoldable pub endStep : Reached → ℕ → Reached
-endStep (Inside n) b = insideStep n b
-endStep Returned b = cond (eqb b 10) (Inside 0) Broken
-endStep Ended b = Broken
-endStep Broken b = Broken
+-- how many bytes stand before the first of these
+unfoldable pub plainRun : List ℕ → ℕ
+plainRun [] = 0
+plainRun (b ∷ s) = cond (endByte b) 0 (suc (plainRun s))
 
-unfoldable pub endsFrom : Reached → List ℕ → Reached
-endsFrom e [] = e
-endsFrom e (b ∷ s) = endsFrom (endStep e b) s
+-- one byte 1A and no more, at a place where a line starts
+unfoldable pub lastByte : ℕ → ℕ → List ℕ → Bool
+lastByte from at [] = false
+lastByte from at (b ∷ s) = eqb b 26 && (eqb at from && isNil s)
 
-unfoldable pub hasEnded : Reached → Bool
-hasEnded (Inside n) = false
-hasEnded Returned = false
-hasEnded Ended = true
-hasEnded Broken = false
+-- ── rule 3 over all volumes ──
+-- from the volume i on, k at most: its number, counted from 1
+unfoldable pub unsoundFrom : List ℕ → Layout → ℕ → ℕ → ℕ
+unsoundFrom s l zero i = 0
+unsoundFrom s l (suc k) i =
+    cond (ltb i (l .count)) (cond (isSome (linesOf (take (getD (l .lengths) i 0) (drop (getD (l .places) i 0) s)))) (unsoundFrom s l k (i + 1)) (i + 1)) 0
+
+unfoldable pub firstUnsound : List ℕ → Layout → ℕ
+firstUnsound s l = unsoundFrom s l mostVolumes 0

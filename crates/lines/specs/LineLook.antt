@@ -1,10 +1,11 @@
--- One look at a line, of any bytes; that it finds the lines of Spool.linesOf is proved in proofs/Lines.
+-- One look at a line, of any bytes; that it finds the lines of Spool.linesOf is proved in proofs/LinesSeen.
 use Prim.Native.Nat.{ℕ, _+_, _-_}
 use mathlib.Core.Bool.{Bool, false, cond, _&&_}
 use mathlib.Core.List.{List, [], _∷_}
+use mathlib.Core.Option.{Option}
 use lib.Dec.{eqb, leb, ltb}
 use lib.ListN.{length, take, drop}
-use Rattle.rules.specs.Spool.{mostBytes}
+use Rattle.rules.specs.Spool.{mostBytes, linesFrom}
 use Rattle.rules.specs.Lines.{lineFormOf}
 use Rattle.rules.specs.declared.LineForm.{LineForm}
 use Rattle.leaves.specs.Bytes.{upTo}
@@ -35,3 +36,7 @@ lookFrom volume line at end t = foundAt (lineFormOf volume line at (upTo 13 t)) 
 -- the line that starts at a place of a volume, which runs to end; places that are none of the spool are those of no line
 unfoldable pub lookIn : ℕ → ℕ → ℕ → ℕ → List ℕ → Look
 lookIn volume line at end s = cond (leb (length s) mostBytes && (leb end (length s) && leb at end)) (lookFrom volume line at end (take (end - at) (drop at s))) End
+
+-- the lines of the spool from one place to another, whatever their length
+abbrev pub linesIn : List ℕ → ℕ → ℕ → Option (List (List ℕ))
+linesIn s at end = linesFrom false (take (end - at) (drop at s))

@@ -1,75 +1,126 @@
 // Rule 3: the ends of a volume's lines.
 use crate::CR;
-use crate::Reached;
+use crate::Layout;
 ghost use mathlib.Core.Path.{_≡_};
+ghost use Prim.Native.Nat.{_+_, _<_, _≤_};
+ghost use lib.ListN.{length, take, drop};
 ghost use Rattle.rules.specs.Base.{isSome};
 ghost use Rattle.rules.specs.Spool.{linesOf};
-ghost use Rattle.lines.specs.LineEnds.{insideStep, endStep, hasEnded};
+ghost use Rattle.lines.specs.LineEnds.{endByte, plainRun, lastByte, firstUnsound};
 
-const MOST_IN_LINE: u32 = 512;
+const MOST_IN_LINE: usize = 512;
 
 const LF: u8 = 10;
 
 const END: u8 = 26;
 
-// A byte in a line of which n bytes were read: only an empty line may be the end.
-fn inside_step(n: u32, b: u8) -> Reached
-    ensures { λ r. ⌜ r ≡ insideStep n b ⌝ }
+const MOST_VOLUMES: usize = 12;
+
+// CR, LF or 1A: nearly all bytes are greater.
+fn is_end(b: u8) -> bool
+    ensures { λ r. ⌜ r ≡ endByte b ⌝ }
 {
+    if END < b {
+        return false;
+    }
     if b == CR {
-        return Reached::Returned;
+        return true;
     }
     if b == END {
-        if n == 0 {
-            return Reached::Ended;
-        }
-        return Reached::Broken;
+        return true;
     }
-    if b == LF {
-        return Reached::Broken;
-    }
-    if n < MOST_IN_LINE {
-        return Reached::Inside(n + 1);
-    }
-    Reached::Broken
+    b == LF
 }
 
-fn end_step(e: Reached, b: u8) -> Reached
-    ensures { λ r. ⌜ r ≡ endStep e b ⌝ }
+// Where the first of these bytes stands from a place on, or the length.
+fn end_from(s: &[u8], from: usize) -> usize
+    requires { ⌜ from ≤ length (now s) ⌝ }
+    ensures { λ r. ⌜ r ≡ from + plainRun (drop from (now (s .entry))) ⌝ }
 {
-    match e {
-        Reached::Inside(n) => inside_step(n, b),
-        Reached::Returned => {
-            if b == LF {
-                return Reached::Inside(0);
-            }
-            Reached::Broken
+    let mut i = from;
+    while i < s.len() {
+        if is_end(s[i]) {
+            return i;
         }
-        Reached::Ended => Reached::Broken,
-        Reached::Broken => Reached::Broken,
+        i += 1;
     }
+    i
 }
 
-fn has_ended(e: Reached) -> bool
-    ensures { λ r. ⌜ r ≡ hasEnded e ⌝ }
+// A volume's last byte: 1A with nothing behind it, where a line would start.
+fn last_at(s: &[u8], from: usize, e: usize) -> bool
+    requires { ⌜ e < length (now s) ⌝ }
+    ensures { λ r. ⌜ r ≡ lastByte from e (drop e (now (s .entry))) ⌝ }
 {
-    match e {
-        Reached::Inside(_) => false,
-        Reached::Returned => false,
-        Reached::Ended => true,
-        Reached::Broken => false,
+    if s[e] != END {
+        return false;
     }
+    if e != from {
+        return false;
+    }
+    e + 1 == s.len()
 }
 
 // Whether a volume's bytes are lines of at most 512 bytes, each ended by CR LF, and then one byte 1A.
 pub fn sound_lines(s: &[u8]) -> bool
     ensures { λ r. ⌜ r ≡ isSome (linesOf (now (s .entry))) ⌝ }
 {
-    let mut e = Reached::Inside(0);
     let mut i = 0;
     while i < s.len() {
-        e = end_step(e, s[i]);
+        let e = end_from(s, i);
+        if s.len() <= e {
+            return false;
+        }
+        if s[e] != CR {
+            return last_at(s, i, e);
+        }
+        if MOST_IN_LINE < e - i {
+            return false;
+        }
+        let next = e + 1;
+        if s.len() <= next {
+            return false;
+        }
+        if s[next] != LF {
+            return false;
+        }
+        i = next + 1;
+    }
+    false
+}
+
+// The same of so many bytes of the spool from a place on; of all there are, where there are fewer.
+fn sound_at(s: &[u8], place: u32, size: u32) -> bool
+    ensures { λ r. ⌜ r ≡ isSome (linesOf (take size (drop place (now (s .entry))))) ⌝ }
+{
+    let from = place as usize;
+    if s.len() <= from {
+        return false;
+    }
+    let n = size as usize;
+    if s.len() - from < n {
+        return sound_lines(&s[from..]);
+    }
+    let to = from + n;
+    sound_lines(&s[from..to])
+}
+
+// The number, from 1, of the first volume whose lines break rule 3; 0 where none does.
+pub fn first_unsound(s: &[u8], l: Layout) -> u32
+    ensures { λ r. ⌜ r ≡ firstUnsound (now (s .entry)) l ⌝ }
+{
+    let count = l.count as usize;
+    let places = l.places;
+    let lengths = l.lengths;
+    let mut i = 0;
+    while i < MOST_VOLUMES {
+        if count <= i {
+            return 0;
+        }
+        if !sound_at(s, places[i], lengths[i]) {
+            return i as u32 + 1;
+        }
         i += 1;
     }
-    has_ended(e)
+    0
 }

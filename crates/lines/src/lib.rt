@@ -1,14 +1,6 @@
 // The spool's volumes and the lines of a volume: document 01, "Spool (H)".
 use rules::LineForm;
 
-// How far a volume is read, byte by byte: so many bytes of a line; just behind a CR; just behind the last 1A; broken.
-pub enum Reached {
-    Inside(u32),
-    Returned,
-    Ended,
-    Broken,
-}
-
 // What stands before a volume: a good head and how many bytes it says follow, or something else.
 pub enum Head {
     Holds(u32),

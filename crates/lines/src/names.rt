@@ -1,30 +1,23 @@
 // The names of volumes.
 use crate::SPACE;
 use leaves::bytes::same;
+use leaves::bytes::within;
 ghost use mathlib.Core.Path.{_≡_};
 ghost use mathlib.Core.List.{map};
 ghost use Prim.Native.Nat.{_+_, _≤_, _<_};
 ghost use lib.ListN.{length, getD, drop};
-ghost use Rattle.rules.specs.Base.{same as sameBytes, among, distinct, within as inRange};
+ghost use Rattle.rules.specs.Base.{same as sameBytes, among, distinct};
 ghost use Rattle.rules.specs.Spool.{nameByte, goodName};
 ghost use Rattle.lines.specs.VolumeNames.{letters, allSpaces, rawName, Ranged};
-
-fn within(low: u8, high: u8, b: u8) -> bool
-    ensures { λ r. ⌜ r ≡ inRange low high b ⌝ }
-{
-    if b < low {
-        return false;
-    }
-    b <= high
-}
 
 fn name_byte(b: u8) -> bool
     ensures { λ r. ⌜ r ≡ nameByte b ⌝ }
 {
-    if within(b'A', b'Z', b) {
+    let n = b as u64;
+    if within(65, 90, n) {
         return true;
     }
-    within(b'0', b'9', b)
+    within(48, 57, n)
 }
 
 // How many bytes of a name stand in front.

@@ -2,12 +2,15 @@
 use crate::Head;
 use crate::Layout;
 use crate::MOST_BYTES;
+use crate::SPACE;
 use crate::names::good_name;
 use crate::names::names_differ;
+use leaves::bytes::find;
 ghost use mathlib.Core.Path.{_≡_};
 ghost use Prim.Native.Nat.{_≤_};
 ghost use lib.ListN.{length};
 ghost use Rattle.rules.specs.Spool.{volumesOf};
+ghost use Rattle.lines.specs.VolumeNames.{nameAt};
 ghost use Rattle.lines.specs.VolumePlaces.{headIn, noLayout, layoutOf, walked};
 
 const MOST_VOLUMES: usize = 12;
@@ -93,4 +96,21 @@ pub fn volumes(s: &[u8]) -> Layout
         return l;
     }
     no_layout()
+}
+
+// The name of the volume whose first byte stands at a place, without its spaces; nothing where that is no volume's place.
+pub fn volume_name(s: &[u8], place: u32) -> &[u8]
+    ensures { λ r. ⌜ now r ≡ nameAt (now (s .entry)) place ⌝ }
+{
+    let at = place as usize;
+    if at < HEAD_BYTES {
+        return &s[..0];
+    }
+    if s.len() < at {
+        return &s[..0];
+    }
+    let from = at - 10;
+    let to = from + 8;
+    let end = from + find(&s[from..to], SPACE);
+    &s[from..end]
 }

@@ -1,59 +1,87 @@
-use Prim.Native.Nat.{ℕ, suc, _+_, _*_, _-_, _≤_, _<_}
-use mathlib.Core.Path.{_≡_, refl, ap, sym, _∙_}
-use mathlib.Core.Bool.{Bool, true, false, cond, _&&_, not}
-use mathlib.Core.List.{List, [], _∷_}
+use mathlib.Core.Path.{_≡_, sym, _∙_, ap}
 use native.Mathlib.Omega.{arith}
-use lib.Dec.{eqb, leb, ltb}
-use lib.ListN.{length, getD, take, drop}
-use borrow.Author.Tests.{eq-eqb, ne-eqb, le-leb, lt-leb, lt-ltb, le-ltb, not-true, not-false}
-use Rattle.lines.specs.LineEnds.{insideStep, endStep, endsFrom, hasEnded}
-use Rattle.lines.specs.declared.Reached.the-variants.{Inside}
-use Rattle.lines.proofs.SoundEnds.{ends-next, ends-last, sound-ends}
-use borrow.Author.Needs.{needs}
+use Prim.Native.Nat.{_-_, _≤_, _+_}
+use lib.ListN.{length, drop, take, length-drop}
+use mathlib.Core.Path.{refl}
+use Rattle.rules.specs.Base.{isSome}
+use Rattle.rules.specs.Spool.{linesOf}
+use Rattle.lines.proofs.SoundEnds as laws
 use Rattle.lines.proofs.ends.sound_lines.Statement.{statement}
 use Rattle.lines.proofs.ends.sound_lines.Tie as tie
 use Rattle.lines.proofs.ends.sound_lines.Reads as reads
 use Rattle.lines.proofs.ends.sound_lines.Lts as lts
-use Rattle.lines.proofs.ends.end_step.Reads as end-step-reads
-use Rattle.lines.proofs.ends.has_ended.Reads as has-ended-reads
+use Rattle.lines.proofs.ends.end_from.Reads as end-from-reads
+use Rattle.lines.proofs.ends.last_at.Reads as last-at-reads
 
 abbrev Inv-loop : tie.InvT-loop
-Inv-loop s e₀ i₀ e i = (i ≤ length s) × (endsFrom (Inside 0) s ≡ endsFrom e (drop i s))
+Inv-loop s i₀ i = (i ≤ length s) × (isSome (linesOf s) ≡ isSome (linesOf (drop i s)))
 
 abbrev μ-loop : tie.MeasureT-loop
-μ-loop s e₀ i₀ e i = length s - i
+μ-loop s i₀ i = length s - i
 
--- src/ends.rt:68:5
+-- src/ends.rt:69:5
 loop-holds : tie.Need-loop-holds Inv-loop μ-loop
 loop-holds c = (omega arith, refl)
 
--- src/ends.rt:69:25
-shared-slice-read-end-step : tie.Need-shared-slice-read-end-step Inv-loop μ-loop
-shared-slice-read-end-step c = omega arith
+-- src/ends.rt:70:13
+end-from-requires : tie.Need-end-from-requires Inv-loop μ-loop
+end-from-requires c κs = omega arith
 
--- src/ends.rt:69:9
-end-step-requires : tie.Need-end-step-requires Inv-loop μ-loop
-end-step-requires c κs = search needs
+-- src/ends.rt:72:13
+returns : tie.Need-returns Inv-loop μ-loop
+returns c = sym (c .before .before .before .loop .inv .1 ∙ laws.sound-over (c .before .before .before .before .before .args .s .now) (c .before .before .before .loop .i) (c .before .end-from .result) (c .before .end-from .ensures) (c .if1 .taken))
 
--- src/ends.rt:70:9
+-- src/ends.rt:74:12
+shared-slice-read-if2 : tie.Need-shared-slice-read-if2 Inv-loop μ-loop
+shared-slice-read-if2 c = omega arith
+
+-- src/ends.rt:75:13
+last-at-requires : tie.Need-last-at-requires Inv-loop μ-loop
+last-at-requires c κs = omega arith
+
+-- src/ends.rt:75:13
+returns-2 : tie.Need-returns-2 Inv-loop μ-loop
+returns-2 c = c .last-at .ensures ∙ sym (c .before .before .before .before .before .before .loop .inv .1 ∙ laws.sound-last (c .before .before .before .before .before .before .before .before .args .s .now) (c .before .before .before .before .before .before .loop .i) (c .before .before .before .before .end-from .result) (c .before .before .before .before .end-from .ensures) (c .before .before .before .if1 .left) (c .before .if2 .taken))
+
+-- src/ends.rt:77:27
+sub-if3 : tie.Need-sub-if3 Inv-loop μ-loop
+sub-if3 c = omega (arith, c .before .before .before .end-from .ensures)
+
+-- src/ends.rt:78:13
+returns-3 : tie.Need-returns-3 Inv-loop μ-loop
+returns-3 c = sym (c .before .before .before .before .before .before .loop .inv .1 ∙ laws.sound-wide (c .before .before .before .before .before .before .before .before .args .s .now) (c .before .before .before .before .before .before .loop .i) (c .before .before .before .before .end-from .result) (c .before .before .before .before .end-from .ensures) (c .before .before .before .if1 .left) (c .before .if2 .left) (c .if3 .taken))
+
+-- src/ends.rt:80:20
+add-next : tie.Need-add-next Inv-loop μ-loop
+add-next c = omega arith
+
+-- src/ends.rt:82:13
+returns-4 : tie.Need-returns-4 Inv-loop μ-loop
+returns-4 c = sym (c .before .before .before .before .before .before .before .loop .inv .1 ∙ laws.sound-cut (c .before .before .before .before .before .before .before .before .before .args .s .now) (c .before .before .before .before .before .before .before .loop .i) (c .before .before .before .before .before .end-from .result) (c .before .before .before .before .before .end-from .ensures) (c .before .before .before .before .if1 .left) (c .before .before .if2 .left) (c .if4 .taken))
+
+-- src/ends.rt:84:12
+shared-slice-read-if5 : tie.Need-shared-slice-read-if5 Inv-loop μ-loop
+shared-slice-read-if5 c = omega arith
+
+-- src/ends.rt:85:13
+returns-5 : tie.Need-returns-5 Inv-loop μ-loop
+returns-5 c = sym (c .before .before .before .before .before .before .before .before .before .loop .inv .1 ∙ laws.sound-no-lf (c .before .before .before .before .before .before .before .before .before .before .before .args .s .now) (c .before .before .before .before .before .before .before .before .before .loop .i) (c .before .before .before .before .before .before .before .end-from .result) (c .before .before .before .before .before .before .before .end-from .ensures) (c .before .before .before .before .before .before .if1 .left) (c .before .before .before .before .if2 .left) (c .before .before .if4 .left) (c .if5 .taken))
+
+-- src/ends.rt:87:13
 add-i : tie.Need-add-i Inv-loop μ-loop
 add-i c = omega arith
 
--- src/ends.rt:68:5
+-- src/ends.rt:69:5
 loop-less : tie.Need-loop-less Inv-loop μ-loop
-loop-less c = omega arith
+loop-less c = omega (arith, c .before .before .before .before .before .before .before .end-from .ensures)
 
--- src/ends.rt:68:5
+-- src/ends.rt:69:5
 loop-again : tie.Need-loop-again Inv-loop μ-loop
-loop-again c = (omega arith, c .before .before .before .loop .inv .1 ∙ ends-next (c .before .before .before .loop .e) _ (c .before .before .before .loop .i) (c .before .before .loop-test .taken) ∙ ap (λ x. endsFrom x (drop (c .before .before .before .loop .i + 1) (c .before .before .before .before .before .args .s .now))) (sym (c .end-step .ensures)))
+loop-again c = (omega arith, c .before .before .before .before .before .before .before .before .before .loop .inv .1 ∙ laws.sound-next (c .before .before .before .before .before .before .before .before .before .before .before .args .s .now) (c .before .before .before .before .before .before .before .before .before .loop .i) (c .before .before .before .before .before .before .before .end-from .result) (c .before .before .before .before .before .before .before .end-from .ensures) (c .before .before .before .before .before .before .if1 .left) (c .before .before .before .before .if2 .left) (c .before .before .if4 .left) (c .if5 .left) (c .before .before .before .if3 .left))
 
--- src/ends.rt:72:5
-has-ended-requires : tie.Need-has-ended-requires Inv-loop μ-loop
-has-ended-requires c κs = search needs
-
--- src/ends.rt:63:1
-returns : tie.Need-returns Inv-loop μ-loop
-returns c = c .has-ended .ensures ∙ ap hasEnded (sym (c .before .before .loop .inv .1 ∙ ends-last (c .before .before .loop .e) _ (c .before .before .loop .i) (c .before .loop-test .left))) ∙ sound-ends _
+-- src/ends.rt:65:1
+returns-6 : tie.Need-returns-6 Inv-loop μ-loop
+returns-6 c = sym (c .before .loop .inv .1 ∙ laws.sound-nothing (c .before .before .before .args .s .now) (c .before .loop .i) (c .loop-test .left))
 
 pub sound-lines-spec : {M : Type 1} → statement M
 sound-lines-spec =
@@ -62,10 +90,18 @@ sound-lines-spec =
     Inv-loop
     μ-loop
     loop-holds
-    shared-slice-read-end-step
-    end-step-requires
+    end-from-requires
+    returns
+    shared-slice-read-if2
+    last-at-requires
+    returns-2
+    sub-if3
+    returns-3
+    add-next
+    returns-4
+    shared-slice-read-if5
+    returns-5
     add-i
     loop-less
     loop-again
-    has-ended-requires
-    returns)
+    returns-6)

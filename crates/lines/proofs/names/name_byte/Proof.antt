@@ -15,7 +15,6 @@ use Rattle.lines.proofs.names.name_byte.Statement.{statement}
 use Rattle.lines.proofs.names.name_byte.Tie as tie
 use Rattle.lines.proofs.names.name_byte.Reads as reads
 use Rattle.lines.proofs.names.name_byte.Lts as lts
-use Rattle.lines.proofs.names.within.Reads as within-reads
 
 -- src/names.rt:24:8
 within-requires : tie.Need-within-requires
