@@ -1,0 +1,63 @@
+use mathlib.Core.Path.{sym, _∙_, ap}
+use Rattle.tables.specs.Rows.{partsOf}
+use Rattle.tables.proofs.Homes.{lettering-home}
+use Rattle.rules.specs.Rows.{found}
+use Rattle.rules.specs.Figures.{textTable}
+use borrow.Author.Needs.{needs}
+use Rattle.tables.proofs.figures.lettering_row.Statement.{statement}
+use Rattle.tables.proofs.figures.lettering_row.Tie as tie
+use Rattle.tables.proofs.figures.lettering_row.Reads as reads
+use Rattle.tables.proofs.figures.lettering_row.Lts as lts
+use Rattle.tables.proofs.figures.by_home.Reads as by-home-reads
+use Rattle.tables.proofs.keys.is_character.Reads as is-character-reads
+use Rattle.tables.proofs.keys.is_type.Reads as is-type-reads
+use Rattle.tables.proofs.rows.several.Reads as several-reads
+use Rattle.tables.proofs.rows.text.Reads as text-reads
+
+-- src/figures.rt:139:8
+is-type-requires : tie.Need-is-type-requires
+is-type-requires c κs = search needs
+
+-- src/figures.rt:142:13
+by-home-requires : tie.Need-by-home-requires
+by-home-requires c κs = search needs
+
+-- src/figures.rt:140:27
+several-requires : tie.Need-several-requires
+several-requires c κs = search needs
+
+-- src/figures.rt:140:9
+returns : tie.Need-returns
+unfolding textTable partsOf
+returns c = rw (sym (c .before .before .before .is-type .ensures) ∙ c .before .before .if1 .taken, c .several .ensures, c .before .by-home .ensures) (ap (found 0) (lettering-home (c .before .before .before .before .before .args .in-layer) (c .before .before .before .before .before .args .first)))
+
+-- src/figures.rt:148:8
+is-character-requires : tie.Need-is-character-requires
+is-character-requires c κs = search needs
+
+-- src/figures.rt:149:27
+text-requires : tie.Need-text-requires
+text-requires c κs = search needs
+
+-- src/figures.rt:149:9
+returns-2 : tie.Need-returns-2
+unfolding textTable partsOf
+returns-2 c = rw (sym (c .before .before .before .before .is-type .ensures) ∙ c .before .before .before .if1 .left, sym (c .before .before .is-character .ensures) ∙ c .before .if2 .taken, c .text .ensures)
+
+-- src/figures.rt:136:1
+returns-3 : tie.Need-returns-3
+unfolding textTable partsOf
+returns-3 c = rw (sym (c .before .before .before .is-type .ensures) ∙ c .before .before .if1 .left, sym (c .before .is-character .ensures) ∙ c .if2 .left)
+
+pub lettering-row-spec : {M : Type 1} → statement M
+lettering-row-spec =
+    tie.close
+    (tie.spec
+    is-type-requires
+    by-home-requires
+    several-requires
+    returns
+    is-character-requires
+    text-requires
+    returns-2
+    returns-3)

@@ -1,0 +1,102 @@
+-- What the numbers of a row in the code stand for.
+use Prim.Native.Nat.{ℕ, zero, suc, _+_, _/_, _%_}
+use mathlib.Core.Bool.{Bool, true, false, cond}
+use mathlib.Core.List.{List, [], _∷_}
+use lib.Dec.{eqb}
+use Rattle.rules.specs.declared.Digits.{Digits}
+use Rattle.rules.specs.RangeClass.{digits}
+use Rattle.rules.specs.Values.{Part, count, digit, kindOfLine, range, rangeOfSymbols, day, clock, decimal, anySign, notNegative, aboveZero, angle, symbolName, layerId, Across, nothingMore, endsDiffer, arcOfCircle, axesOfEllipse, Kind, values, text, word, volumeName, sheet, ratio, serials, nothing, opens, headed, either}
+use Rattle.rules.specs.Rows.{Times, once, upTo, anyNumber, Rule, Found, absent, found}
+use Rattle.leaves.specs.Bytes.{bytesOf}
+use Rattle.tables.specs.declared.Row.{Row}
+use Rattle.tables.specs.declared.Found.{Found as Finding}
+use Rattle.tables.specs.declared.Found.the-variants as F
+
+-- one value between commas, by its number; any other number is that of a type
+abbrev pub partOf : ℕ → Part
+partOf n =
+    cond (eqb n 1) (decimal anySign)
+    (cond (eqb n 2) (decimal notNegative)
+    (cond (eqb n 3) (decimal aboveZero)
+    (cond (eqb n 4) (decimal angle)
+    (cond (eqb n 5) (digit 0 1)
+    (cond (eqb n 6) (digit 1 5)
+    (cond (eqb n 7) count
+    (cond (eqb n 8) day
+    (cond (eqb n 9) clock
+    (cond (eqb n 10) (range 0 0)
+    (cond (eqb n 11) (range 0 1)
+    (cond (eqb n 12) (range 0 2)
+    (cond (eqb n 13) (range 1 1)
+    (cond (eqb n 14) rangeOfSymbols
+    (cond (eqb n 15) symbolName
+    (cond (eqb n 16) layerId kindOfLine)))))))))))))))
+
+-- n values, two decimal digits each, the first one last
+unfoldable pub partsOf : ℕ → ℕ → List Part
+partsOf zero c = []
+partsOf (suc n) c = partOf (c % 100) ∷ partsOf n (c / 100)
+
+abbrev pub acrossOf : ℕ → Across
+acrossOf n = cond (eqb n 1) endsDiffer (cond (eqb n 2) arcOfCircle (cond (eqb n 3) axesOfEllipse nothingMore))
+
+abbrev pub timesOf : ℕ → Times
+timesOf n = cond (eqb n 0) once (cond (eqb n 255) anyNumber (upTo n))
+
+-- a kind by its number; any other number is that of values
+abbrev pub kindOf : Row → Kind
+kindOf r =
+    cond (eqb (r .kind) 1) (text (r .most) (bytesOf (r .set)))
+    (cond (eqb (r .kind) 2) (word (r .most) (bytesOf (r .set)))
+    (cond (eqb (r .kind) 3) volumeName
+    (cond (eqb (r .kind) 4) sheet
+    (cond (eqb (r .kind) 5) ratio
+    (cond (eqb (r .kind) 6) serials
+    (cond (eqb (r .kind) 7) nothing
+    (cond (eqb (r .kind) 8) (opens (r .inner))
+    (cond (eqb (r .kind) 9) (headed (r .inner) (partOf (r .parts)))
+    (cond (eqb (r .kind) 10) (either (r .inner))
+    (values (partOf (r .parts % 100)) (partsOf (r .count) (r .parts / 100)) (acrossOf (r .across))))))))))))
+
+-- the rule that a row stands for, but for its key and whether it is required: a line does not go by these
+abbrev pub ruleOf : Row → Rule
+ruleOf r = record { key = []; holds = kindOf r; may = r .may; least = r .least; must = false; times = timesOf (r .times); place = r .place; state = r .state }
+
+abbrev pub foundOf : Finding → Found
+foundOf F.Absent = absent
+foundOf (F.Row r) = found (r .number) (ruleOf r)
+
+-- a row that was found, without its key and whether it is required
+abbrev pub forLine : Rule → Rule
+forLine r = record { key = []; holds = r .holds; may = r .may; least = r .least; must = false; times = r .times; place = r .place; state = r .state }
+
+abbrev pub foundForLine : Found → Found
+foundForLine absent = absent
+foundForLine (found j r) = found j (forLine r)
+
+-- ── rows, in the words of the definitions' tables ──
+-- not empty, at every range, once
+abbrev pub plainRow : ℕ → ℕ → ℕ → Row
+plainRow number kind place = record { number = number; kind = kind; parts = 0; count = 0; across = 0; most = 0; set = 0; inner = 0; may = false; least = digits 0 0; times = 0; place = place; state = 0 }
+
+abbrev pub severalRow : ℕ → ℕ → ℕ → ℕ → ℕ → Row
+severalRow number parts more across place = record { number = number; kind = 0; parts = parts; count = more; across = across; most = 0; set = 0; inner = 0; may = false; least = digits 0 0; times = 0; place = place; state = 0 }
+
+abbrev pub textRow : ℕ → ℕ → ℕ → ℕ → ℕ → Row
+textRow number kind most bytes place = record { number = number; kind = kind; parts = 0; count = 0; across = 0; most = most; set = bytes; inner = 0; may = false; least = digits 0 0; times = 0; place = place; state = 0 }
+
+abbrev pub innerRow : ℕ → ℕ → ℕ → ℕ → ℕ → Row
+innerRow number kind parts inner place = record { number = number; kind = kind; parts = parts; count = 0; across = 0; most = 0; set = 0; inner = inner; may = false; least = digits 0 0; times = 0; place = place; state = 0 }
+
+-- rows that differ from that
+abbrev pub emptyRow : Row → Row
+emptyRow r = record { number = r .number; kind = r .kind; parts = r .parts; count = r .count; across = r .across; most = r .most; set = r .set; inner = r .inner; may = true; least = r .least; times = r .times; place = r .place; state = r .state }
+
+abbrev pub timesRow : ℕ → Row → Row
+timesRow n r = record { number = r .number; kind = r .kind; parts = r .parts; count = r .count; across = r .across; most = r .most; set = r .set; inner = r .inner; may = r .may; least = r .least; times = n; place = r .place; state = r .state }
+
+abbrev pub fromRow : ℕ → ℕ → Row → Row
+fromRow m l r = record { number = r .number; kind = r .kind; parts = r .parts; count = r .count; across = r .across; most = r .most; set = r .set; inner = r .inner; may = r .may; least = digits m l; times = r .times; place = r .place; state = r .state }
+
+abbrev pub stateRow : ℕ → Row → Row
+stateRow q r = record { number = r .number; kind = r .kind; parts = r .parts; count = r .count; across = r .across; most = r .most; set = r .set; inner = r .inner; may = r .may; least = r .least; times = r .times; place = r .place; state = q }

@@ -1,0 +1,412 @@
+// The tables of document 01: for each block the row of a key.
+use crate::Found;
+use crate::keys::is_air;
+use crate::keys::is_all_ele;
+use crate::keys::is_all_line;
+use crate::keys::is_arc;
+use crate::keys::is_b_sym;
+use crate::keys::is_base;
+use crate::keys::is_cad;
+use crate::keys::is_circuit;
+use crate::keys::is_corp;
+use crate::keys::is_date;
+use crate::keys::is_drawer;
+use crate::keys::is_drawing_format;
+use crate::keys::is_drawname;
+use crate::keys::is_e_cirno;
+use crate::keys::is_e_sym;
+use crate::keys::is_e_symbol;
+use crate::keys::is_e_wire;
+use crate::keys::is_elec;
+use crate::keys::is_element;
+use crate::keys::is_element_block;
+use crate::keys::is_file_format;
+use crate::keys::is_floor_height;
+use crate::keys::is_hard;
+use crate::keys::is_hide;
+use crate::keys::is_hight;
+use crate::keys::is_layer;
+use crate::keys::is_layer_name;
+use crate::keys::is_make;
+use crate::keys::is_name;
+use crate::keys::is_next_file;
+use crate::keys::is_non;
+use crate::keys::is_os;
+use crate::keys::is_pipe;
+use crate::keys::is_pos;
+use crate::keys::is_project;
+use crate::keys::is_range;
+use crate::keys::is_s_base;
+use crate::keys::is_s_elec;
+use crate::keys::is_scale;
+use crate::keys::is_serial;
+use crate::keys::is_size;
+use crate::keys::is_sym;
+use crate::keys::is_symbol;
+use crate::keys::is_symbol_define;
+use crate::keys::is_tel;
+use crate::keys::is_text;
+use crate::keys::is_this_ele;
+use crate::keys::is_this_line;
+use crate::keys::is_time;
+use crate::keys::is_ver;
+use crate::keys::is_wall;
+use crate::rows::from;
+use crate::rows::inner;
+use crate::rows::may_be_empty;
+use crate::rows::plain;
+use crate::rows::several;
+use crate::rows::text;
+use crate::rows::times;
+use crate::rows::with_state;
+ghost use mathlib.Core.Path.{_≡_};
+ghost use Rattle.rules.specs.Rows.{find};
+ghost use Rattle.rules.specs.Blocks.{topTable, fileTable, rangeTable, baseTable, elecTable, symTable, laterTable, drawingTable, definesTable, symbolTable, elementTable};
+ghost use Rattle.rules.specs.Figures.{placedTable};
+ghost use Rattle.tables.specs.Rows.{foundOf, foundForLine};
+ghost use Rattle.tables.specs.Tables.{headerTexts, behindEight};
+
+// what a row holds
+const TEXT: u8 = 1;
+
+const WORD: u8 = 2;
+
+const NEXT_VOLUME: u8 = 3;
+
+const SHEET: u8 = 4;
+
+const SCALE: u8 = 5;
+
+const SERIALS: u8 = 6;
+
+const NOTHING: u8 = 7;
+
+const OPENS: u8 = 8;
+
+const HEADED: u8 = 9;
+
+const EITHER: u8 = 10;
+
+// the forms of values
+const ANY_SIGN: u64 = 1;
+
+const NOT_NEGATIVE: u64 = 2;
+
+const POSITION: u64 = 6;
+
+const COUNT: u64 = 7;
+
+const DAY: u64 = 8;
+
+const CLOCK: u64 = 9;
+
+const RANGE_0: u64 = 10;
+
+const RANGE_0_1: u64 = 11;
+
+const RANGE_0_2: u64 = 12;
+
+const RANGE_1: u64 = 13;
+
+const SYMBOL_RANGE: u64 = 14;
+
+const LAYER_ID: u64 = 16;
+
+// several forms, the first one last: type,x,y and the like
+const LINE_IN_LAYER: u64 = 2_02_02_02_17;
+
+const LINE_IN_SYMBOL: u64 = 1_01_01_01_17;
+
+const POINT_IN_LAYER: u64 = 2_02_17;
+
+const POINT_IN_SYMBOL: u64 = 1_01_17;
+
+const LETTERING_IN_LAYER: u64 = 5_04_02_03_03_02_02_17;
+
+const LETTERING_IN_SYMBOL: u64 = 5_04_02_03_03_01_01_17;
+
+const PLACING: u64 = 3_04_02_02_15;
+
+const WALL: u64 = 101;
+
+// sets of bytes
+const ANY_BYTES: u8 = 0;
+
+const ASCII: u8 = 1;
+
+const LETTERS_AND_DIGITS: u8 = 2;
+
+const TELEPHONE: u8 = 3;
+
+const CIRCUIT: u8 = 4;
+
+// how often a row may stand
+const ANY_NUMBER: u8 = 255;
+
+// "FILE_FORMAT, DRAWING_FORMAT, SYMBOL_DEFINE, ELEMENT": their order is judged by the reader.
+pub fn top_row(k: &[u8]) -> Found
+    ensures { λ r. ⌜ foundForLine (find (now (k .entry)) topTable) ≡ foundOf r ⌝ }
+{
+    if is_file_format(k) {
+        return Found::Row(times(inner(0, OPENS, 0, 0, 0), ANY_NUMBER));
+    }
+    if is_drawing_format(k) {
+        return Found::Row(times(inner(1, OPENS, 0, 0, 0), ANY_NUMBER));
+    }
+    if is_symbol_define(k) {
+        return Found::Row(times(inner(2, OPENS, 0, 0, 0), ANY_NUMBER));
+    }
+    if is_element_block(k) {
+        return Found::Row(times(inner(3, OPENS, 0, 0, 0), ANY_NUMBER));
+    }
+    Found::Absent
+}
+
+// The eight texts of FILE_FORMAT.
+fn header_text_row(k: &[u8]) -> Found
+    ensures { λ r. ⌜ foundForLine (behindEight (find (now (k .entry)) headerTexts)) ≡ foundOf r ⌝ }
+{
+    if is_cad(k) {
+        return Found::Row(text(8, TEXT, 20, ASCII, 16));
+    }
+    if is_os(k) {
+        return Found::Row(text(9, TEXT, 20, ASCII, 18));
+    }
+    if is_hard(k) {
+        return Found::Row(text(10, TEXT, 20, ASCII, 20));
+    }
+    if is_ver(k) {
+        return Found::Row(text(11, TEXT, 10, ASCII, 22));
+    }
+    if is_corp(k) {
+        return Found::Row(may_be_empty(text(12, TEXT, 40, ANY_BYTES, 24)));
+    }
+    if is_make(k) {
+        return Found::Row(may_be_empty(text(13, TEXT, 40, ANY_BYTES, 26)));
+    }
+    if is_tel(k) {
+        return Found::Row(may_be_empty(text(14, TEXT, 20, TELEPHONE, 28)));
+    }
+    if is_name(k) {
+        return Found::Row(may_be_empty(text(15, TEXT, 20, ANY_BYTES, 30)));
+    }
+    Found::Absent
+}
+
+// FILE_FORMAT of the first volume: its record and the volume's behind it.
+pub fn file_row(k: &[u8]) -> Found
+    ensures { λ r. ⌜ foundForLine (find (now (k .entry)) fileTable) ≡ foundOf r ⌝ }
+{
+    if is_range(k) {
+        return Found::Row(inner(0, OPENS, 0, 1, 0));
+    }
+    if is_all_line(k) {
+        return Found::Row(several(1, COUNT, 0, 0, 12));
+    }
+    if is_this_line(k) {
+        return Found::Row(several(2, COUNT, 0, 0, 37));
+    }
+    if is_all_ele(k) {
+        return Found::Row(several(3, COUNT, 0, 0, 13));
+    }
+    if is_this_ele(k) {
+        return Found::Row(several(4, COUNT, 0, 0, 38));
+    }
+    if is_next_file(k) {
+        return Found::Row(may_be_empty(plain(5, NEXT_VOLUME, 0)));
+    }
+    if is_date(k) {
+        return Found::Row(several(6, DAY, 0, 0, 14));
+    }
+    if is_time(k) {
+        return Found::Row(several(7, CLOCK, 0, 0, 15));
+    }
+    header_text_row(k)
+}
+
+// `range`.
+pub fn range_row(k: &[u8]) -> Found
+    ensures { λ r. ⌜ foundForLine (find (now (k .entry)) rangeTable) ≡ foundOf r ⌝ }
+{
+    if is_base(k) {
+        return Found::Row(inner(0, HEADED, RANGE_1, 2, 0));
+    }
+    if is_arc(k) {
+        return Found::Row(several(1, RANGE_0_1, 0, 0, 6));
+    }
+    if is_elec(k) {
+        return Found::Row(inner(2, EITHER, 0, 3, 7));
+    }
+    if is_air(k) {
+        return Found::Row(several(3, RANGE_0, 0, 0, 0));
+    }
+    if is_pipe(k) {
+        return Found::Row(several(4, RANGE_0, 0, 0, 0));
+    }
+    if is_sym(k) {
+        return Found::Row(inner(5, EITHER, 0, 4, 9));
+    }
+    Found::Absent
+}
+
+// `base=001:{`.
+pub fn base_row(k: &[u8]) -> Found
+    ensures { λ r. ⌜ foundForLine (find (now (k .entry)) baseTable) ≡ foundOf r ⌝ }
+{
+    if is_b_sym(k) {
+        return Found::Row(several(0, RANGE_0_1, 0, 0, 5));
+    }
+    Found::Absent
+}
+
+// `elec=001:{`.
+pub fn elec_row(k: &[u8]) -> Found
+    ensures { λ r. ⌜ foundForLine (find (now (k .entry)) elecTable) ≡ foundOf r ⌝ }
+{
+    if is_e_sym(k) {
+        return Found::Row(several(0, SYMBOL_RANGE, 0, 0, 8));
+    }
+    if is_e_wire(k) {
+        return Found::Row(several(1, RANGE_0, 0, 0, 0));
+    }
+    if is_e_cirno(k) {
+        return Found::Row(several(2, RANGE_0, 0, 0, 0));
+    }
+    Found::Absent
+}
+
+// `sym=001:{`.
+pub fn sym_row(k: &[u8]) -> Found
+    ensures { λ r. ⌜ foundForLine (find (now (k .entry)) symTable) ≡ foundOf r ⌝ }
+{
+    if is_s_base(k) {
+        return Found::Row(several(0, RANGE_0_1, 0, 0, 10));
+    }
+    if is_s_elec(k) {
+        return Found::Row(several(1, RANGE_0_2, 0, 0, 11));
+    }
+    Found::Absent
+}
+
+// FILE_FORMAT of later volumes.
+pub fn later_row(k: &[u8]) -> Found
+    ensures { λ r. ⌜ foundForLine (find (now (k .entry)) laterTable) ≡ foundOf r ⌝ }
+{
+    if is_this_line(k) {
+        return Found::Row(several(0, COUNT, 0, 0, 5));
+    }
+    if is_this_ele(k) {
+        return Found::Row(several(1, COUNT, 0, 0, 6));
+    }
+    if is_next_file(k) {
+        return Found::Row(may_be_empty(plain(2, NEXT_VOLUME, 0)));
+    }
+    if is_date(k) {
+        return Found::Row(several(3, DAY, 0, 0, 0));
+    }
+    if is_time(k) {
+        return Found::Row(several(4, CLOCK, 0, 0, 0));
+    }
+    Found::Absent
+}
+
+// DRAWING_FORMAT; its range is arc.
+pub fn drawing_row(k: &[u8]) -> Found
+    ensures { λ r. ⌜ foundForLine (find (now (k .entry)) drawingTable) ≡ foundOf r ⌝ }
+{
+    if is_size(k) {
+        return Found::Row(plain(0, SHEET, 5));
+    }
+    if is_scale(k) {
+        return Found::Row(plain(1, SCALE, 7));
+    }
+    if is_project(k) {
+        return Found::Row(text(2, TEXT, 60, ANY_BYTES, 12));
+    }
+    if is_drawname(k) {
+        return Found::Row(text(3, TEXT, 60, ANY_BYTES, 14));
+    }
+    if is_date(k) {
+        return Found::Row(several(4, DAY, 0, 0, 9));
+    }
+    if is_drawer(k) {
+        return Found::Row(may_be_empty(text(5, TEXT, 20, ANY_BYTES, 16)));
+    }
+    if is_floor_height(k) {
+        return Found::Row(with_state(
+            from(may_be_empty(several(6, NOT_NEGATIVE, 0, 0, 11)), 0, 1),
+            10,
+        ));
+    }
+    if is_layer_name(k) {
+        return Found::Row(inner(7, OPENS, 0, 1, 0));
+    }
+    Found::Absent
+}
+
+// SYMBOL_DEFINE; its range is S_elec.
+pub fn defines_row(k: &[u8]) -> Found
+    ensures { λ r. ⌜ foundForLine (find (now (k .entry)) definesTable) ≡ foundOf r ⌝ }
+{
+    if is_non(k) {
+        return Found::Row(plain(0, NOTHING, 0));
+    }
+    if is_e_symbol(k) {
+        return Found::Row(from(times(inner(1, OPENS, 0, 1, 0), ANY_NUMBER), 0, 1));
+    }
+    Found::Absent
+}
+
+// E_symbol in SYMBOL_DEFINE; its range is S_elec.
+pub fn symbol_row(k: &[u8]) -> Found
+    ensures { λ r. ⌜ foundForLine (find (now (k .entry)) symbolTable) ≡ foundOf r ⌝ }
+{
+    if is_name(k) {
+        return Found::Row(text(0, WORD, 32, LETTERS_AND_DIGITS, 5));
+    }
+    if is_element(k) {
+        return Found::Row(inner(1, OPENS, 0, 1, 0));
+    }
+    if is_hide(k) {
+        return Found::Row(inner(2, OPENS, 0, 2, 0));
+    }
+    if is_wall(k) {
+        return Found::Row(with_state(from(may_be_empty(several(3, WALL, 1, 0, 8)), 0, 2), 7));
+    }
+    Found::Absent
+}
+
+// ELEMENT.
+pub fn element_row(k: &[u8]) -> Found
+    ensures { λ r. ⌜ foundForLine (find (now (k .entry)) elementTable) ≡ foundOf r ⌝ }
+{
+    if is_layer(k) {
+        return Found::Row(times(inner(0, HEADED, LAYER_ID, 1, 0), ANY_NUMBER));
+    }
+    Found::Absent
+}
+
+// A placed symbol's block; its range is E_sym.
+pub fn placed_row(k: &[u8]) -> Found
+    ensures { λ r. ⌜ foundForLine (find (now (k .entry)) placedTable) ≡ foundOf r ⌝ }
+{
+    if is_symbol(k) {
+        return Found::Row(several(0, PLACING, 4, 0, 5));
+    }
+    if is_text(k) {
+        return Found::Row(with_state(from(inner(1, OPENS, 0, 1, 0), 0, 2), 26));
+    }
+    if is_hight(k) {
+        return Found::Row(with_state(from(may_be_empty(several(2, ANY_SIGN, 0, 0, 10)), 0, 3), 27));
+    }
+    if is_pos(k) {
+        return Found::Row(with_state(from(may_be_empty(several(3, POSITION, 0, 0, 11)), 0, 4), 28));
+    }
+    if is_circuit(k) {
+        return Found::Row(with_state(from(may_be_empty(text(4, WORD, 10, CIRCUIT, 12)), 0, 5), 29));
+    }
+    if is_serial(k) {
+        return Found::Row(with_state(from(plain(5, SERIALS, 14), 1, 0), 30));
+    }
+    Found::Absent
+}

@@ -1,0 +1,152 @@
+// The tables of figures, points, texts and placed symbols: the row of a key.
+use crate::Found;
+use crate::keys::is_character;
+use crate::keys::is_circle;
+use crate::keys::is_e_symbol;
+use crate::keys::is_ellipse;
+use crate::keys::is_line;
+use crate::keys::is_point;
+use crate::keys::is_successive;
+use crate::keys::is_text;
+use crate::keys::is_type;
+use crate::rows::from;
+use crate::rows::inner;
+use crate::rows::several;
+use crate::rows::text;
+use crate::rows::times;
+ghost use mathlib.Core.Path.{_≡_};
+ghost use mathlib.Core.Bool.{cond};
+ghost use Rattle.rules.specs.Rows.{find};
+ghost use Rattle.rules.specs.Figures.{pointTable, textTable, anyOf};
+ghost use Rattle.tables.specs.Rows.{foundOf, foundForLine};
+ghost use Rattle.tables.specs.Tables.{placedRows, figuresTable, behindSix};
+
+const OPENS: u8 = 8;
+
+const TEXT: u8 = 1;
+
+const ANY_NUMBER: u8 = 255;
+
+const MOST_POINTS: u8 = 100;
+
+const MOST_CHARACTERS: u8 = 200;
+
+// several forms, two digits each, the first one last: type,x,y and the like
+const LINE_IN_LAYER: u64 = 2_02_02_02_17;
+
+const LINE_IN_SYMBOL: u64 = 1_01_01_01_17;
+
+const CIRCLE: u64 = 5_04_04_03_01_01_17;
+
+const ELLIPSE: u64 = 5_04_04_04_03_03_01_01_17;
+
+const POINT_IN_LAYER: u64 = 2_02_17;
+
+const POINT_IN_SYMBOL: u64 = 1_01_17;
+
+const LETTERING_IN_LAYER: u64 = 5_04_02_03_03_02_02_17;
+
+const LETTERING_IN_SYMBOL: u64 = 5_04_02_03_03_01_01_17;
+
+const PLACING: u64 = 3_04_02_02_15;
+
+// In layers no coordinate is negative, in symbols any sign stands: the one's forms or the other's.
+fn by_home(in_layer: bool, layers: u64, symbols: u64) -> u64
+    ensures { λ r. ⌜ r ≡ cond in_layer layers symbols ⌝ }
+{
+    if in_layer {
+        return layers;
+    }
+    symbols
+}
+
+// A placed symbol among the figures of a layer: none (0), its block (1), or on one line (2).
+fn placing_row(k: &[u8], placed: u8) -> Found
+    ensures { λ r. ⌜ foundForLine (behindSix (find (now (k .entry)) (anyOf (placedRows placed)))) ≡ foundOf r ⌝ }
+{
+    if placed == 0 {
+        return Found::Absent;
+    }
+    if !is_e_symbol(k) {
+        return Found::Absent;
+    }
+    if placed == 1 {
+        return Found::Row(from(times(inner(6, OPENS, 0, 3, 5), ANY_NUMBER), 0, 1));
+    }
+    Found::Row(from(times(several(6, PLACING, 4, 0, 5), ANY_NUMBER), 0, 1))
+}
+
+// The figures of a layer or of a symbol's `element`, and what else may stand among them.
+pub fn figure_row(k: &[u8], in_layer: bool, placed: u8) -> Found
+    ensures { λ r. ⌜ foundForLine (find (now (k .entry)) (figuresTable in_layer placed)) ≡ foundOf r ⌝ }
+{
+    if is_line(k) {
+        return Found::Row(times(
+            several(0, by_home(in_layer, LINE_IN_LAYER, LINE_IN_SYMBOL), 4, 1, 4),
+            ANY_NUMBER,
+        ));
+    }
+    if is_circle(k) {
+        return Found::Row(times(several(1, CIRCLE, 6, 2, 4), ANY_NUMBER));
+    }
+    if is_ellipse(k) {
+        return Found::Row(times(several(2, ELLIPSE, 8, 3, 4), ANY_NUMBER));
+    }
+    if is_point(k) {
+        return Found::Row(times(
+            several(
+                3,
+                by_home(in_layer, POINT_IN_LAYER, POINT_IN_SYMBOL),
+                2,
+                0,
+                4,
+            ),
+            ANY_NUMBER,
+        ));
+    }
+    if is_successive(k) {
+        return Found::Row(times(inner(4, OPENS, 0, 1, 0), ANY_NUMBER));
+    }
+    if is_text(k) {
+        return Found::Row(times(inner(5, OPENS, 0, 2, 0), ANY_NUMBER));
+    }
+    placing_row(k, placed)
+}
+
+// `successive` or `hide`.
+pub fn point_row(k: &[u8], in_layer: bool) -> Found
+    ensures { λ r. ⌜ foundForLine (find (now (k .entry)) (pointTable in_layer)) ≡ foundOf r ⌝ }
+{
+    if is_point(k) {
+        return Found::Row(times(
+            several(
+                0,
+                by_home(in_layer, POINT_IN_LAYER, POINT_IN_SYMBOL),
+                2,
+                0,
+                4,
+            ),
+            MOST_POINTS,
+        ));
+    }
+    Found::Absent
+}
+
+// `text`, whose two lines go to these places of the record.
+pub fn lettering_row(k: &[u8], in_layer: bool, first: u8, behind: u8) -> Found
+    ensures { λ r. ⌜ foundForLine (find (now (k .entry)) (textTable in_layer first behind)) ≡ foundOf r ⌝ }
+{
+    if is_type(k) {
+        return Found::Row(several(
+            0,
+            by_home(in_layer, LETTERING_IN_LAYER, LETTERING_IN_SYMBOL),
+            7,
+            0,
+            first,
+        ));
+    }
+    if is_character(k) {
+        return Found::Row(text(1, TEXT, MOST_CHARACTERS, 0, behind));
+    }
+    Found::Absent
+}
