@@ -144,7 +144,7 @@ const CIRCUIT: u8 = 4;
 const ANY_NUMBER: u8 = 255;
 
 // "FILE_FORMAT, DRAWING_FORMAT, SYMBOL_DEFINE, ELEMENT": their order is judged by the reader.
-pub fn top_row(k: &[u8]) -> Found
+pub(crate) fn top_row(k: &[u8]) -> Found
     ensures { λ r. ⌜ foundForLine (find (now (k .entry)) topTable) ≡ foundOf r ⌝ }
 {
     if is_file_format(k) {
@@ -194,7 +194,7 @@ fn header_text_row(k: &[u8]) -> Found
 }
 
 // FILE_FORMAT of the first volume: its record and the volume's behind it.
-pub fn file_row(k: &[u8]) -> Found
+pub(crate) fn file_row(k: &[u8]) -> Found
     ensures { λ r. ⌜ foundForLine (find (now (k .entry)) fileTable) ≡ foundOf r ⌝ }
 {
     if is_range(k) {
@@ -225,7 +225,7 @@ pub fn file_row(k: &[u8]) -> Found
 }
 
 // `range`.
-pub fn range_row(k: &[u8]) -> Found
+pub(crate) fn range_row(k: &[u8]) -> Found
     ensures { λ r. ⌜ foundForLine (find (now (k .entry)) rangeTable) ≡ foundOf r ⌝ }
 {
     if is_base(k) {
@@ -250,7 +250,7 @@ pub fn range_row(k: &[u8]) -> Found
 }
 
 // `base=001:{`.
-pub fn base_row(k: &[u8]) -> Found
+pub(crate) fn base_row(k: &[u8]) -> Found
     ensures { λ r. ⌜ foundForLine (find (now (k .entry)) baseTable) ≡ foundOf r ⌝ }
 {
     if is_b_sym(k) {
@@ -260,7 +260,7 @@ pub fn base_row(k: &[u8]) -> Found
 }
 
 // `elec=001:{`.
-pub fn elec_row(k: &[u8]) -> Found
+pub(crate) fn elec_row(k: &[u8]) -> Found
     ensures { λ r. ⌜ foundForLine (find (now (k .entry)) elecTable) ≡ foundOf r ⌝ }
 {
     if is_e_sym(k) {
@@ -276,7 +276,7 @@ pub fn elec_row(k: &[u8]) -> Found
 }
 
 // `sym=001:{`.
-pub fn sym_row(k: &[u8]) -> Found
+pub(crate) fn sym_row(k: &[u8]) -> Found
     ensures { λ r. ⌜ foundForLine (find (now (k .entry)) symTable) ≡ foundOf r ⌝ }
 {
     if is_s_base(k) {
@@ -289,7 +289,7 @@ pub fn sym_row(k: &[u8]) -> Found
 }
 
 // FILE_FORMAT of later volumes.
-pub fn later_row(k: &[u8]) -> Found
+pub(crate) fn later_row(k: &[u8]) -> Found
     ensures { λ r. ⌜ foundForLine (find (now (k .entry)) laterTable) ≡ foundOf r ⌝ }
 {
     if is_this_line(k) {
@@ -311,7 +311,7 @@ pub fn later_row(k: &[u8]) -> Found
 }
 
 // DRAWING_FORMAT; its range is arc.
-pub fn drawing_row(k: &[u8]) -> Found
+pub(crate) fn drawing_row(k: &[u8]) -> Found
     ensures { λ r. ⌜ foundForLine (find (now (k .entry)) drawingTable) ≡ foundOf r ⌝ }
 {
     if is_size(k) {
@@ -345,7 +345,7 @@ pub fn drawing_row(k: &[u8]) -> Found
 }
 
 // SYMBOL_DEFINE; its range is S_elec.
-pub fn defines_row(k: &[u8]) -> Found
+pub(crate) fn defines_row(k: &[u8]) -> Found
     ensures { λ r. ⌜ foundForLine (find (now (k .entry)) definesTable) ≡ foundOf r ⌝ }
 {
     if is_non(k) {
@@ -358,7 +358,7 @@ pub fn defines_row(k: &[u8]) -> Found
 }
 
 // E_symbol in SYMBOL_DEFINE; its range is S_elec.
-pub fn symbol_row(k: &[u8]) -> Found
+pub(crate) fn symbol_row(k: &[u8]) -> Found
     ensures { λ r. ⌜ foundForLine (find (now (k .entry)) symbolTable) ≡ foundOf r ⌝ }
 {
     if is_name(k) {
@@ -377,7 +377,7 @@ pub fn symbol_row(k: &[u8]) -> Found
 }
 
 // ELEMENT.
-pub fn element_row(k: &[u8]) -> Found
+pub(crate) fn element_row(k: &[u8]) -> Found
     ensures { λ r. ⌜ foundForLine (find (now (k .entry)) elementTable) ≡ foundOf r ⌝ }
 {
     if is_layer(k) {
@@ -387,7 +387,7 @@ pub fn element_row(k: &[u8]) -> Found
 }
 
 // A placed symbol's block; its range is E_sym.
-pub fn placed_row(k: &[u8]) -> Found
+pub(crate) fn placed_row(k: &[u8]) -> Found
     ensures { λ r. ⌜ foundForLine (find (now (k .entry)) placedTable) ≡ foundOf r ⌝ }
 {
     if is_symbol(k) {

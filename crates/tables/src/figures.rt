@@ -77,7 +77,7 @@ fn placing_row(k: &[u8], placed: u8) -> Found
 }
 
 // The figures of a layer or of a symbol's `element`, and what else may stand among them.
-pub fn figure_row(k: &[u8], in_layer: bool, placed: u8) -> Found
+pub(crate) fn figure_row(k: &[u8], in_layer: bool, placed: u8) -> Found
     ensures { λ r. ⌜ foundForLine (find (now (k .entry)) (figuresTable in_layer placed)) ≡ foundOf r ⌝ }
 {
     if is_line(k) {
@@ -114,7 +114,7 @@ pub fn figure_row(k: &[u8], in_layer: bool, placed: u8) -> Found
 }
 
 // `successive` or `hide`.
-pub fn point_row(k: &[u8], in_layer: bool) -> Found
+pub(crate) fn point_row(k: &[u8], in_layer: bool) -> Found
     ensures { λ r. ⌜ foundForLine (find (now (k .entry)) (pointTable in_layer)) ≡ foundOf r ⌝ }
 {
     if is_point(k) {
@@ -133,7 +133,7 @@ pub fn point_row(k: &[u8], in_layer: bool) -> Found
 }
 
 // `text`, whose two lines go to these places of the record.
-pub fn lettering_row(k: &[u8], in_layer: bool, first: u8, behind: u8) -> Found
+pub(crate) fn lettering_row(k: &[u8], in_layer: bool, first: u8, behind: u8) -> Found
     ensures { λ r. ⌜ foundForLine (find (now (k .entry)) (textTable in_layer first behind)) ≡ foundOf r ⌝ }
 {
     if is_type(k) {

@@ -1,7 +1,8 @@
 // Document 01's tables of keys, as the code asks for them: the row of a key, and which rows a block must have.
-pub mod blocks;
-pub mod figures;
+mod blocks;
+mod figures;
 mod keys;
+pub mod lookup;
 mod rows;
 
 use rules::Digits;
