@@ -15,7 +15,7 @@ use Rattle.rules.specs.declared.LineForm.{LineForm}
 use Rattle.rules.specs.declared.LineForm.the-variants as L
 use Rattle.rules.specs.Lines.{unindent, scan, allowed, allowedFrom, singleByte, leadByte, trailByte, lineFormOf}
 use Rattle.leaves.specs.Bytes.{upTo}
-use Rattle.leaves.proofs.Pieces.{upTo-le, upTo-take}
+use Rattle.leaves.proofs.Cuts.{upTo-le, upTo-take}
 use Rattle.lines.specs.LineForms.{blankOf, opensHere, charOf, keyChar, KeyEnd, endless, equalAt, braceAt, keyEndOf, later, keyFrom, cleanFrom, crFrom, Blanks, Passed, CleanRun, KeyRun, refusedAs, bareForm, shortForm, equalForm, braceForm, restForm}
 use Rattle.lines.specs.LineLook.{seenAt, foundAt, crHere, soundAt, lookFrom, lookIn}
 use Rattle.lines.specs.declared.Look.{Look}

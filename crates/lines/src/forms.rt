@@ -294,11 +294,27 @@ fn look_from(t: &[u8], at: u32, end: u32, volume: u8, line: u32) -> Look
     let size = (k - n) as u32;
     if t[k] == b'=' {
         let r = clean_run(t, k + 1);
-        return sound(equal_form(first, size, at + r as u32, volume, line), t, r, at, end, volume, line);
+        return sound(
+            equal_form(first, size, at + r as u32, volume, line),
+            t,
+            r,
+            at,
+            end,
+            volume,
+            line,
+        );
     }
     if opens_at(t, k) {
         let r = clean_run(t, k + 2);
-        return sound(brace_form(first, size, at + r as u32, volume, line), t, r, at, end, volume, line);
+        return sound(
+            brace_form(first, size, at + r as u32, volume, line),
+            t,
+            r,
+            at,
+            end,
+            volume,
+            line,
+        );
     }
     unread(refused(4, volume, line), &t[k..], at + k as u32, end)
 }

@@ -1,6 +1,6 @@
 use mathlib.Core.Path.{_≡_, sym, _∙_, ap}
 use native.Mathlib.Omega.{arith}
-use Rattle.leaves.proofs.Pieces.{upTo-le}
+use Rattle.leaves.proofs.Cuts.{upTo-le}
 use Rattle.lines.proofs.LineLook as laws
 use borrow.Author.Needs.{needs}
 use Rattle.lines.proofs.forms.unread.Statement.{statement}
