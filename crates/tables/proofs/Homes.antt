@@ -13,24 +13,24 @@ use Rattle.tables.specs.Tables.{placedRows, behindSix}
 
 pub line-home : (b : Bool) →
     forLine (repeated anyNumber (row "line" (values kindOfLine (coordinate b ∷ coordinate b ∷ coordinate b ∷ coordinate b ∷ []) endsDiffer) 4))
-    ≡ ruleOf (timesRow 255 (severalRow 0 (cond b 202020217 101010117) 4 1 4))
+    ≡ ruleOf (timesRow 255 (severalRow 0 (cond b 2121212117 2020202017) 4 1 4))
 unfolding partsOf
 line-home true = refl
 line-home false = refl
 
-pub point-home : (b : Bool) → forLine (repeated anyNumber (row "point" (pointKind b) 4)) ≡ ruleOf (timesRow 255 (severalRow 3 (cond b 20217 10117) 2 0 4))
+pub point-home : (b : Bool) → forLine (repeated anyNumber (row "point" (pointKind b) 4)) ≡ ruleOf (timesRow 255 (severalRow 3 (cond b 212117 202017) 2 0 4))
 unfolding partsOf
 point-home true = refl
 point-home false = refl
 
-pub points-home : (b : Bool) → forLine (repeated (upTo mostPoints) (row "point" (pointKind b) 4)) ≡ ruleOf (timesRow 100 (severalRow 0 (cond b 20217 10117) 2 0 4))
+pub points-home : (b : Bool) → forLine (repeated (upTo mostPoints) (row "point" (pointKind b) 4)) ≡ ruleOf (timesRow 100 (severalRow 0 (cond b 212117 202017) 2 0 4))
 unfolding partsOf
 points-home true = refl
 points-home false = refl
 
 pub lettering-home : (b : Bool) (p : ℕ) →
     forLine (row "type" (values kindOfLine (coordinate b ∷ coordinate b ∷ decimal aboveZero ∷ decimal aboveZero ∷ decimal notNegative ∷ decimal angle ∷ flag ∷ []) nothingMore) p)
-    ≡ ruleOf (severalRow 0 (cond b 504020303020217 504020303010117) 7 0 p)
+    ≡ ruleOf (severalRow 0 (cond b 523212222212117 523212222202017) 7 0 p)
 unfolding partsOf
 lettering-home true p = refl
 lettering-home false p = refl
@@ -42,7 +42,7 @@ no-placing k (suc zero) e = rw e
 no-placing k (suc (suc n)) e = rw e
 
 pub one-line : (k : List ℕ) (n : ℕ) → (n ≡ 0 → ⊥) → (n ≡ 1 → ⊥) → same k (bytes "E_symbol") ≡ true
-    → foundForLine (behindSix (find k (anyOf (placedRows n)))) ≡ found 6 (ruleOf (fromRow 0 1 (timesRow 255 (severalRow 6 304020215 4 0 5))))
+    → foundForLine (behindSix (find k (anyOf (placedRows n)))) ≡ found 6 (ruleOf (fromRow 0 1 (timesRow 255 (severalRow 6 2223212115 4 0 5))))
 unfolding partsOf
 one-line k zero a b e = absurd (a refl)
 one-line k (suc zero) a b e = absurd (b refl)

@@ -2,24 +2,24 @@
 use Prim.Native.Nat.{ℕ, zero, suc, _+_, _/_, _%_}
 use mathlib.Core.Bool.{Bool, true, false, cond}
 use mathlib.Core.List.{List, [], _∷_}
-use lib.Dec.{eqb}
+use lib.Dec.{eqb, ltb}
 use Rattle.rules.specs.declared.Digits.{Digits}
 use Rattle.rules.specs.RangeClass.{digits}
-use Rattle.rules.specs.Values.{Part, count, digit, kindOfLine, range, rangeOfSymbols, day, clock, decimal, anySign, notNegative, aboveZero, angle, symbolName, layerId, Across, nothingMore, endsDiffer, arcOfCircle, axesOfEllipse, Kind, values, text, word, volumeName, sheet, ratio, serials, nothing, opens, headed, either}
+use Rattle.rules.specs.Values.{Part, count, digit, kindOfLine, range, rangeOfSymbols, day, clock, decimal, Bound, anySign, notNegative, aboveZero, angle, symbolName, layerId, Across, nothingMore, endsDiffer, arcOfCircle, axesOfEllipse, Kind, values, text, word, volumeName, sheet, ratio, serials, nothing, opens, headed, either}
 use Rattle.rules.specs.Rows.{Times, once, upTo, anyNumber, Rule, Found, absent, found}
 use Rattle.leaves.specs.Bytes.{bytesOf}
 use Rattle.tables.specs.declared.Row.{Row}
 use Rattle.tables.specs.declared.Found.{Found as Finding}
 use Rattle.tables.specs.declared.Found.the-variants as F
 
--- one value between commas, by its number; any other number is that of a type
-abbrev pub partOf : ℕ → Part
-partOf n =
-    cond (eqb n 1) (decimal anySign)
-    (cond (eqb n 2) (decimal notNegative)
-    (cond (eqb n 3) (decimal aboveZero)
-    (cond (eqb n 4) (decimal angle)
-    (cond (eqb n 5) (digit 0 1)
+-- the sign and limit of a decimal, by its number
+abbrev pub boundOf : ℕ → Bound
+boundOf n = cond (eqb n 20) anySign (cond (eqb n 21) notNegative (cond (eqb n 22) aboveZero angle))
+
+-- a value that is no decimal; any other number is that of a type
+abbrev pub wholeOf : ℕ → Part
+wholeOf n =
+    cond (eqb n 5) (digit 0 1)
     (cond (eqb n 6) (digit 1 5)
     (cond (eqb n 7) count
     (cond (eqb n 8) day
@@ -30,7 +30,11 @@ partOf n =
     (cond (eqb n 13) (range 1 1)
     (cond (eqb n 14) rangeOfSymbols
     (cond (eqb n 15) symbolName
-    (cond (eqb n 16) layerId kindOfLine)))))))))))))))
+    (cond (eqb n 16) layerId kindOfLine)))))))))))
+
+-- one value between commas, by its number
+abbrev pub partOf : ℕ → Part
+partOf n = cond (ltb n 20) (wholeOf n) (decimal (boundOf n))
 
 -- n values, two decimal digits each, the first one last
 unfoldable pub partsOf : ℕ → ℕ → List Part

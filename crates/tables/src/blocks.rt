@@ -88,9 +88,9 @@ const HEADED: u8 = 9;
 const EITHER: u8 = 10;
 
 // the forms of values
-const ANY_SIGN: u64 = 1;
+const ANY_SIGN: u64 = 20;
 
-const NOT_NEGATIVE: u64 = 2;
+const NOT_NEGATIVE: u64 = 21;
 
 const POSITION: u64 = 6;
 
@@ -125,9 +125,9 @@ const LETTERING_IN_LAYER: u64 = 5_04_02_03_03_02_02_17;
 
 const LETTERING_IN_SYMBOL: u64 = 5_04_02_03_03_01_01_17;
 
-const PLACING: u64 = 3_04_02_02_15;
+const PLACING: u64 = 22_23_21_21_15;
 
-const WALL: u64 = 101;
+const WALL: u64 = 20_20;
 
 // sets of bytes
 const ANY_BYTES: u8 = 0;

@@ -32,23 +32,23 @@ const MOST_POINTS: u8 = 100;
 const MOST_CHARACTERS: u8 = 200;
 
 // several forms, two digits each, the first one last: type,x,y and the like
-const LINE_IN_LAYER: u64 = 2_02_02_02_17;
+const LINE_IN_LAYER: u64 = 21_21_21_21_17;
 
-const LINE_IN_SYMBOL: u64 = 1_01_01_01_17;
+const LINE_IN_SYMBOL: u64 = 20_20_20_20_17;
 
-const CIRCLE: u64 = 5_04_04_03_01_01_17;
+const CIRCLE: u64 = 5_23_23_22_20_20_17;
 
-const ELLIPSE: u64 = 5_04_04_04_03_03_01_01_17;
+const ELLIPSE: u64 = 5_23_23_23_22_22_20_20_17;
 
-const POINT_IN_LAYER: u64 = 2_02_17;
+const POINT_IN_LAYER: u64 = 21_21_17;
 
-const POINT_IN_SYMBOL: u64 = 1_01_17;
+const POINT_IN_SYMBOL: u64 = 20_20_17;
 
-const LETTERING_IN_LAYER: u64 = 5_04_02_03_03_02_02_17;
+const LETTERING_IN_LAYER: u64 = 5_23_21_22_22_21_21_17;
 
-const LETTERING_IN_SYMBOL: u64 = 5_04_02_03_03_01_01_17;
+const LETTERING_IN_SYMBOL: u64 = 5_23_21_22_22_20_20_17;
 
-const PLACING: u64 = 3_04_02_02_15;
+const PLACING: u64 = 22_23_21_21_15;
 
 // In layers no coordinate is negative, in symbols any sign stands: the one's forms or the other's.
 fn by_home(in_layer: bool, layers: u64, symbols: u64) -> u64
