@@ -19,7 +19,7 @@ use Rattle.rules.specs.declared.LineForm.{LineForm}
 use Rattle.rules.specs.declared.LineForm.the-variants as L
 use Rattle.rules.specs.Lines.{unindent, Scan, neither, atEqual, atBrace, scan, allowed, Rest, brace, equals, Form, ignored, wrong, close, eof, keyed, withKey, formFrom, formOfRest, formOf, bytesAt, formIn, span, withPlaces, lineFormOf}
 use Rattle.leaves.specs.Bytes.{upTo}
-use Rattle.leaves.proofs.Pieces.{upTo-le, upTo-take}
+use Rattle.leaves.proofs.Cuts.{upTo-le, upTo-take}
 use Rattle.lines.specs.LineLook.{seenAt, foundAt, lookFrom, lookIn, linesIn}
 use Rattle.lines.specs.declared.Seen.{Seen}
 use Rattle.lines.specs.declared.Look.{Look}

@@ -10,7 +10,7 @@ use lib.ListN.{length, getD, take, drop, replicate, drop-of-length-le, length-ta
 use lib.Seq.{take-take}
 use borrow.Author.Tests.{eq-eqb, ne-eqb, le-leb, lt-leb, eqb-true, eqb-false}
 use Rattle.leaves.specs.Bytes.{upTo}
-use Rattle.leaves.proofs.Pieces.{upTo-le, upTo-take}
+use Rattle.leaves.proofs.Cuts.{upTo-le, upTo-take}
 use Rattle.rules.proofs.Chains.{and-false, and-left, and-right, same-eq, same-refl, clash}
 use Rattle.rules.specs.Base.{all, isNil, isSome, mapO, same, indexOf, among, distinct, within}
 use Rattle.rules.specs.Spool.{nameByte, nameOf, paddedName, goodName}
