@@ -151,14 +151,19 @@ first-put r v l f c =
 module _ (r q : Rule) (c : clearRows r q ≡ true) where
   abbrev k : ℕ
   k = columns (r .holds)
+
   abbrev m : ℕ
   m = columns (q .holds)
+
   abbrev c₁ : Bool
   c₁ = clear (r .place) k (q .place) m
+
   abbrev c₂ : Bool
   c₂ = clear (r .place) k (q .state) 1
+
   abbrev c₃ : Bool
   c₃ = clear (r .state) 1 (q .place) m
+
   abbrev c₄ : Bool
   c₄ = clear (r .state) 1 (q .state) 1
 
@@ -181,8 +186,8 @@ module _ (r q : Rule) (c : clearRows r q ≡ true) where
       let kz : length zs ≤ k = omega (arith, length-padded k (numbersOf o)) in
       let kw = fills-le (q .holds) ws f in
       ap (putState (r .state) (stateOf o))
-        (state-comm (r .place) (q .state) k zs (given v) (putNumbers (q .place) ws l) kz place-state
-        ∙ ap (putState (q .state) (given v)) (numbers-comm (r .place) (q .place) k m zs ws l kz kw places))
+      (state-comm (r .place) (q .state) k zs (given v) (putNumbers (q .place) ws l) kz place-state
+      ∙ ap (putState (q .state) (given v)) (numbers-comm (r .place) (q .place) k m zs ws l kz kw places))
       ∙ states-comm (r .state) (q .state) (stateOf o) (given v) (putNumbers (q .place) ws (putNumbers (r .place) zs l)) states
       ∙ ap (putState (q .state) (given v)) (numbers-state (r .state) (q .place) m ws (stateOf o) (putNumbers (r .place) zs l) kw state-place)
 
@@ -245,11 +250,11 @@ parts-set (t ∷ ts) h q (suc i) j v b s l m e f c =
     let d = and-right (clearTable t) _ c in
     let r = ruleAt (getD ts i []) j in
     let k = all-at (λ u. all (λ w. clearRows w u) t) (getD ts i []) j m
-              (all-of (λ u. all (λ y. all (λ w. clearRows w y) t) u) ts i (omega arith) (and-left (all (λ u. all (λ y. all (λ w. clearRows w y) t) u) ts) _ d)) in
+    (all-of (λ u. all (λ y. all (λ w. clearRows w y) t) u) ts i (omega arith) (and-left (all (λ u. all (λ y. all (λ w. clearRows w y) t) u) ts) _ d)) in
     ap (λ (n : ℕ). putParts q (t ∷ ts) (enter h n j v) b) z
     ∙ ap (λ (u : Slots). putSlots t u (putParts (suc q) ts (set h p x) b)) (getD-set-other h p q x [] (λ w. absurd (omega arith)))
     ∙ ap (putSlots t (partOf h q))
-      (parts-set ts h (suc q) i j v b (s .2) (omega arith) m (rw (← z) e) f (and-right (all (λ u. all (λ y. all (λ w. clearRows w y) t) u) ts) _ d))
+    (parts-set ts h (suc q) i j v b (s .2) (omega arith) m (rw (← z) e) f (and-right (all (λ u. all (λ y. all (λ w. clearRows w y) t) u) ts) _ d))
     ∙ slots-comm t r (partOf h q) v (putParts (suc q) ts h b) k f
 
 pub held-set : (ts : List (List Rule)) (h : Held) (p j : ℕ) (v : Value) (b : List ℤ) → Shaped 0 ts h → p < length ts → j < length (getD ts p [])
