@@ -2,3 +2,4 @@ pub mod Puts
 pub mod Steps
 pub mod Walked
 pub mod Openers
+pub mod Entered
