@@ -2,4 +2,5 @@ pub mod Puts
 pub mod Steps
 pub mod Walked
 pub mod Openers
-pub mod Entered
+pub mod RowsTaken
+pub mod Turned

@@ -117,7 +117,7 @@ read-begin k j r formless a h e = never e
 
 -- ── over a table ──
 module _ (P : Act → Bool) (K : Kind → Bool) (quiet : (n : ℕ) → P (refuse n) ≡ false)
-  (reads : (k : Known) (d : Digits) (full : Bool) (j : ℕ) (r : Rule) (x : Rest) (a : Act) → K (r .holds) ≡ true → Did k d full j r x a → P a ≡ false) where
+    (reads : (k : Known) (d : Digits) (full : Bool) (j : ℕ) (r : Rule) (x : Rest) (a : Act) → K (r .holds) ≡ true → Did k d full j r x a → P a ≡ false) where
   refusal-quiet : (a : Act) → isRefusal a ≡ true → P a ≡ false
   refusal-quiet stay e = clash e refl
   refusal-quiet (entry j v) e = clash e refl

@@ -1,6 +1,8 @@
 // The drawing: the blocks of a set, read and written.
 mod walk;
 
+use rules::Refusal;
+
 // A volume: its number, from 1, and the place just behind its bytes.
 pub(crate) struct Volume {
     pub(crate) number: u8,
@@ -11,4 +13,32 @@ pub(crate) struct Volume {
 pub(crate) struct Pos {
     pub(crate) at: u32,
     pub(crate) line: u32,
+}
+
+// A line whose row is told, and where the reading stands behind it.
+pub(crate) struct Entered {
+    pub(crate) pos: Pos,
+    pub(crate) row: u8,
+}
+
+// A line that opens an inner block.
+pub(crate) struct Begun {
+    pub(crate) pos: Pos,
+    pub(crate) block: u8,
+    pub(crate) row: u8,
+}
+
+// What one line did in its block, or the refusal.
+pub(crate) enum Turn {
+    Stay(Pos),
+    Entry(Entered),
+    Begin(Begun),
+    Shut(Pos),
+    Stop(Refusal),
+}
+
+// A block read to its end, or the refusal.
+pub(crate) enum Left {
+    Go(Pos),
+    Stop(Refusal),
 }
