@@ -4,3 +4,4 @@ pub mod Walked
 pub mod Openers
 pub mod RowsTaken
 pub mod Turned
+pub mod ClassDigits

@@ -1,3 +1,4 @@
 pub mod Placing
 pub mod Walk
 pub mod Turns
+pub mod Classes

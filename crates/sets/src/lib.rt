@@ -1,6 +1,8 @@
 // The drawing: the blocks of a set, read and written.
+mod classes;
 mod walk;
 
+use rules::Digits;
 use rules::Refusal;
 
 // A volume: its number, from 1, and the place just behind its bytes.
@@ -41,4 +43,10 @@ pub(crate) enum Turn {
 pub(crate) enum Left {
     Go(Pos),
     Stop(Refusal),
+}
+
+// A range class, where the number is one of the ten.
+pub(crate) enum Class {
+    Is(Digits),
+    Not,
 }
