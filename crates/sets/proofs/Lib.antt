@@ -5,3 +5,5 @@ pub mod Openers
 pub mod RowsTaken
 pub mod Turned
 pub mod ClassDigits
+pub mod Stores
+pub mod MarkScan

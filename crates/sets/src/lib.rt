@@ -1,5 +1,7 @@
 // The drawing: the blocks of a set, read and written.
 mod classes;
+mod serials;
+mod table;
 mod walk;
 
 use rules::Digits;
