@@ -1,0 +1,229 @@
+-- The values of a line, one after the other, and the rules across them.
+use Prim.Native.Nat.{ℕ, zero, suc, _+_, _-_, _/_, _%_, _<_, _≤_, min}
+use mathlib.Core.Path.{_≡_, refl, ap, sym, subst, _∙_}
+use mathlib.Core.Bool.{Bool, true, false, cond, _&&_, not}
+use mathlib.Core.List.{List, [], _∷_, map}
+use mathlib.Core.Option.{Option, none, some}
+use native.Mathlib.Omega.{arith}
+use native.Mathlib.Numerals.{add-one, sub-one}
+use lib.IntN.{ℤ, pos}
+use lib.Dec.{eqb, leb}
+use lib.ListN.{length, getD, take, drop, set, length-set}
+use lib.Seq.{sets, getD-set-same, getD-set-other}
+use Rattle.rules.specs.Base.{split, headOnto, isNil, within, indexOf}
+use Rattle.rules.specs.Numbers.{readCount, readFixed, isDay, isClock, readDecimal}
+use Rattle.rules.specs.RefusalNumbers.{Got, got, bad, unless, mapG, orBad, keep, consG, andThen}
+use Rattle.rules.specs.Values.{Num, num, natural, Known, Part, count, digit, kindOfLine, range, rangeOfSymbols, day, clock, decimal, symbolName, layerId, readPart, readAll, readKind, values, nums, Value, Across, nothingMore, endsDiffer, arcOfCircle, axesOfEllipse, valueAt, agree, isLayerId, servedSymbols, inBound}
+use Rattle.rules.specs.RecordTable.{numbers}
+use Rattle.leaves.specs.Bytes.{upTo, past}
+use Rattle.leaves.proofs.Scan.{rest-all}
+use Rattle.leaves.proofs.Cuts.{upTo-none, past-drop, split-last, split-more}
+use Rattle.tables.specs.Rows.{partOf, partsOf}
+use Rattle.entries.specs.Parts.{valOf}
+use Rattle.entries.specs.Entering.{putOf, On, Puts, doneOf, putVal, leastOf, plainly, lastOf, numberFrom, agreeFrom}
+use Rattle.entries.specs.declared.Val.{Val}
+use Rattle.entries.specs.declared.Val.the-variants as Vs
+use Rattle.entries.specs.declared.Put.{Put}
+use Rattle.entries.specs.declared.Put.the-variants.{Done, Refused}
+
+-- ── the numbers at the places from p on ──
+module _ (d : ℤ) where
+  sets-below : (t : List ℤ) (p q : ℕ) (vs : List ℤ) → q < p → getD (sets t p vs) q d ≡ getD t q d
+  sets-below t p q [] h = refl
+  sets-below t p q (z ∷ vs) h = sets-below (set t p z) (suc p) q vs (omega arith) ∙ getD-set-other t p q z d (λ (e : q ≡ p). omega arith)
+
+  pub sets-at : (vs t : List ℤ) (p i : ℕ) → i < length vs → p + length vs ≤ length t → getD (sets t p vs) (p + i) d ≡ getD vs i d
+  sets-at [] t p i h l = absurd (omega arith)
+  sets-at (z ∷ vs) t p zero h l =
+      let e : p + 0 ≡ p = omega arith in
+      rw e (sets-below (set t p z) (suc p) p vs (omega arith) ∙ getD-set-same t p z d (omega arith))
+  sets-at (z ∷ vs) t p (suc i) h l =
+      let e : p + suc i ≡ suc p + i = omega arith in
+      rw e (sets-at vs (set t p z) (suc p) i (omega arith) (omega (arith, length-set t p z)))
+
+value-map : (v : List Num) (i : ℕ) → getD (plainly v) i (pos 0) ≡ valueAt v i
+value-map [] i = refl
+value-map (n ∷ v) zero = refl
+value-map (n ∷ v) (suc i) = value-map v i
+
+map-long : (v : List Num) → length (plainly v) ≡ length v
+map-long [] = refl
+map-long (n ∷ v) = ap suc (map-long v)
+
+module _ (v : List Num) (t : List ℤ) (p : ℕ) (l : p + length v ≤ length t) where
+  number-at : (i : ℕ) → i < length v → numberFrom p (sets t p (plainly v)) i ≡ valueAt v i
+  number-at i h = sets-at (pos 0) (plainly v) t p i (omega (arith, h, map-long v)) (omega (arith, l, map-long v)) ∙ value-map v i
+
+  agree-is : (a : Across) → lastOf a < length v → agreeFrom a p (sets t p (plainly v)) ≡ agree a v
+  agree-is nothingMore h = refl
+  agree-is endsDiffer h = rw (number-at 1 (omega arith), number-at 2 (omega arith), number-at 3 (omega arith), number-at 4 (omega arith))
+  agree-is arcOfCircle h = rw (number-at 4 (omega arith), number-at 5 (omega arith))
+  agree-is axesOfEllipse h = rw (number-at 3 (omega arith), number-at 4 (omega arith), number-at 5 (omega arith), number-at 6 (omega arith))
+
+-- ── no value has a smaller number than 10 ──
+abbrev TenUp : {A : Type 0} → Got A → Type 0
+TenUp (got a) = Unit {0}
+TenUp (bad n) = 10 ≤ n
+
+ten-unless : {A : Type 0} (t : Bool) (n : ℕ) (g : Got A) → 10 ≤ n → TenUp g → TenUp (unless t n g)
+ten-unless true n g h k = k
+ten-unless false n g h k = h
+
+ten-or : (n : ℕ) (o : Option ℕ) → 10 ≤ n → TenUp (natural (orBad n o))
+ten-or n none h = h
+ten-or n (some a) h = tt
+
+ten-kept : (n : ℕ) (p : ℕ → Bool) (o : Option ℕ) → 10 ≤ n → TenUp (natural (keep n p (orBad 10 o)))
+ten-kept n p none h = omega arith
+ten-kept n p (some a) h = go (p a)
+  where
+    go : (t : Bool) → TenUp (natural (unless t n (got a)))
+    go true = tt
+    go false = h
+
+ten-decimal : (p : ℤ → Bool) (o : Option ℤ) → TenUp (mapG num (keep 11 p (orBad 10 o)))
+ten-decimal p none = omega arith
+ten-decimal p (some a) = go (p a)
+  where
+    go : (t : Bool) → TenUp (mapG num (unless t 11 (got a)))
+    go true = tt
+    go false = omega arith
+
+ten-part : (k : Known) (p : Part) (s : List ℕ) → TenUp (readPart k p s)
+ten-part k count s = ten-or 10 (readCount 9 s) (omega arith)
+ten-part k (digit lo hi) s = ten-kept 11 (within lo hi) (readFixed 1 s) (omega arith)
+ten-part k kindOfLine s = ten-or 10 (readFixed 4 s) (omega arith)
+ten-part k (range lo hi) s = ten-kept 12 (within lo hi) (readFixed 3 s) (omega arith)
+ten-part k rangeOfSymbols s = ten-kept 12 servedSymbols (readFixed 3 s) (omega arith)
+ten-part k day s = ten-kept 10 isDay (readFixed 8 s) (omega arith)
+ten-part k clock s = ten-kept 10 isClock (readFixed 6 s) (omega arith)
+ten-part k (decimal b) s = ten-decimal (inBound b) (readDecimal s)
+ten-part k symbolName s = ten-or 13 (indexOf s (k .symbols)) (omega arith)
+ten-part k layerId s = ten-unless (isLayerId s) 11 (natural (orBad 14 (indexOf s (k .layers)))) (omega arith) (ten-or 14 (indexOf s (k .layers)) (omega arith))
+
+ten-cons : (g : Got Num) → TenUp g → consG g (bad 10) ≡ bad 10
+ten-cons (got n) h = refl
+ten-cons (bad m) h = let e : min m 10 ≡ 10 = omega arith in rw e
+
+-- ── one after the other ──
+cons-put : (g : Got Num) (x : Got (List Num)) (t t₂ : List ℤ) (p : ℕ) (r : Put) → Puts x (λ v. sets (putVal (valOf g) p t) (suc p) (plainly v)) t₂ r
+    → Puts (consG g x) (λ v. sets t p (plainly v)) t₂ (leastOf (doneOf (valOf g)) r)
+cons-put (got n) (got s) t t₂ p r h = record { eq = h .eq; filled = h .filled }
+cons-put (got n) (bad m) t t₂ p r h = record { eq = h .eq; filled = tt }
+cons-put (bad m) (got s) t t₂ p r h = record { eq = ap (leastOf (Refused m)) (h .eq); filled = tt }
+cons-put (bad m) (bad n) t t₂ p r h = record { eq = ap (leastOf (Refused m)) (h .eq); filled = tt }
+
+last-put : (g : Got Num) (t : List ℤ) (p : ℕ) → Puts (consG g (got [])) (λ v. sets t p (plainly v)) (putVal (valOf g) p t) (doneOf (valOf g))
+last-put (got n) t p = record { eq = refl; filled = refl }
+last-put (bad m) t p = record { eq = refl; filled = tt }
+
+pub put-long : (v : Val) (p : ℕ) (t : List ℤ) → length (putVal v p t) ≡ length t
+put-long (Vs.Is z) p t = length-set t p z
+put-long (Vs.Bad n) p t = refl
+
+parts-none : (n c : ℕ) → n ≡ 0 → partsOf n c ≡ []
+unfolding partsOf
+parts-none n c e = rw e
+
+parts-more : (n c : ℕ) → (n ≡ 0 → ⊥) → partsOf n c ≡ partOf (c % 100) ∷ partsOf (n - 1) (c / 100)
+unfolding partsOf
+parts-more zero c h = absurd (h refl)
+parts-more (suc n) c h = rw sub-one
+
+head-some : (b : ℕ) (ss : List (List ℕ)) → isNil (headOnto b ss) ≡ false
+head-some b [] = refl
+head-some b (u ∷ us) = refl
+
+some-split : (s : List ℕ) → isNil (split 44 s) ≡ false
+some-split [] = refl
+some-split (b ∷ s) = elim (eqb b 44) as (λ t. isNil (cond t ([] ∷ split 44 s) (headOnto b (split 44 s))) ≡ false) [ true ↦ refl | false ↦ head-some b (split 44 s) ]
+
+split-some : (s : List ℕ) (k : Known) → readAll k [] (split 44 s) ≡ bad 10
+split-some s k = go (split 44 s) (some-split s)
+  where
+    go : (ss : List (List ℕ)) → isNil ss ≡ false → readAll k [] ss ≡ bad 10
+    go [] e = absurd (let z : _≡_ {A = ℕ} 0 1 = cc in omega arith)
+    go (u ∷ us) e = refl
+
+module _ (k : Known) (parts more : ℕ) (c : List ℕ) where
+  abbrev pub wanted : Got (List Num)
+  wanted = readAll k (partOf (parts % 100) ∷ partsOf more (parts / 100)) (split 44 c)
+
+  pub too-many : (w : List Num → List ℤ) (t : List ℤ) → length (upTo 44 c) < length c → more ≡ 0 → Puts wanted w t (Refused 10)
+  too-many w t l z =
+      rw (parts-none more (parts / 100) z, split-more 44 c l, split-some (past 44 c) k, ten-cons (readPart k (partOf (parts % 100)) (upTo 44 c)) (ten-part k (partOf (parts % 100)) (upTo 44 c)))
+      (record { eq = refl; filled = tt })
+
+  pub too-few : (w : List Num → List ℤ) (t : List ℤ) → length c ≤ length (upTo 44 c) → (more ≡ 0 → ⊥) → Puts wanted w t (Refused 10)
+  too-few w t l z =
+      rw (parts-more more (parts / 100) z, split-last 44 c l, ten-cons (readPart k (partOf (parts % 100)) c) (ten-part k (partOf (parts % 100)) c))
+      (record { eq = refl; filled = tt })
+
+  module _ (v : Val) (p : ℕ) (t : List ℤ) (told : v ≡ valOf (readPart k (partOf (parts % 100)) (upTo 44 c))) where
+    pub the-last : (t₂ : List ℤ) (a : Put) → length c ≤ length (upTo 44 c) → more ≡ 0 → a ≡ doneOf v → t₂ ≡ putVal v p t → Puts wanted (λ v. sets t p (plainly v)) t₂ a
+    the-last t₂ a l z e f =
+        rw (parts-none more (parts / 100) z, split-last 44 c l, e, f, told, upTo-none 44 c l) (last-put (readPart k (partOf (parts % 100)) c) t p)
+
+    pub and-more : (e : ℕ) (t₁ t₂ : List ℤ) (a r b : Put) → e ≡ length (upTo 44 c) → e < length c → (more ≡ 0 → ⊥) → a ≡ doneOf v → t₁ ≡ putVal v p t → b ≡ leastOf a r
+        → Puts (readAll k (partOf (parts / 100 % 100) ∷ partsOf (more - 1) (parts / 100 / 100)) (split 44 (take (length c - (e + 1)) (drop (e + 1) c)))) (λ v. sets t₁ (p + 1) (plainly v)) t₂ r
+        → Puts wanted (λ v. sets t p (plainly v)) t₂ b
+    and-more e t₁ t₂ a r b q l z d f o h =
+        let l₁ : length (upTo 44 c) < length c = omega arith in
+        let h₁ = rw (rest-all (e + 1) c, add-one e, q, add-one p, f, told) at h in
+        rw (parts-more more (parts / 100) z, split-more 44 c l₁, past-drop 44 c l₁, o, d, told)
+        (cons-put (readPart k (partOf (parts % 100)) (upTo 44 c)) (readAll k (partOf (parts / 100 % 100) ∷ partsOf (more - 1) (parts / 100 / 100)) (split 44 (drop (suc (length (upTo 44 c))) c))) t t₂ p r h₁)
+
+-- ── the rules across them ──
+long-cons : (g : Got Num) (x : Got (List Num)) (n : ℕ) → On (λ v. length v ≡ n) x → On (λ v. length v ≡ suc n) (consG g x)
+long-cons (got a) (got s) n h = ap suc h
+long-cons (got a) (bad m) n h = tt
+long-cons (bad m) (got s) n h = tt
+long-cons (bad m) (bad o) n h = tt
+
+long-all : (k : Known) (ps : List Part) (ss : List (List ℕ)) → On (λ v. length v ≡ length ps) (readAll k ps ss)
+long-all k [] [] = refl
+long-all k [] (s ∷ ss) = tt
+long-all k (p ∷ ps) [] = tt
+long-all k (p ∷ ps) (s ∷ ss) = long-cons (readPart k p s) (readAll k ps ss) (length ps) (long-all k ps ss)
+
+pub parts-long : (n c : ℕ) → length (partsOf n c) ≡ n
+unfolding partsOf
+parts-long zero c = refl
+parts-long (suc n) c = ap suc (parts-long n (c / 100))
+
+pub done-not : {P : Type 0} (n : ℕ) → Done ≡ Refused n → P
+done-not n e = absurd (let z : _≡_ {A = ℕ} 0 1 = cc in omega arith)
+
+-- a refusal on the way is the answer
+pub put-bad : {A B : Type 0} (g : Got A) (f : A → Got B) (w : A → List ℤ) (w′ : B → List ℤ) (t t′ : List ℤ) (a : Put) (n : ℕ) → a ≡ Refused n → Puts g w t a → Puts (andThen g f) w′ t′ a
+put-bad (got v) f w w′ t t′ a n e h = done-not n (sym (h .eq) ∙ e)
+put-bad (bad m) f w w′ t t′ a n e h = record { eq = h .eq; filled = tt }
+
+keep-then : {A B : Type 0} (m : ℕ) (q : A → Bool) (f : A → B) (g : Got A) → mapG f (keep m q g) ≡ andThen g (λ a. mapG f (unless (q a) m (got a)))
+keep-then m q f (got a) = refl
+keep-then m q f (bad n) = refl
+
+module _ (ac : Across) (t t₁ : List ℤ) (p n : ℕ) (a : Put) where
+  across-by : (g : Got (List Num)) (b : Bool) → On (λ v. length v ≡ n) g → Puts g (λ v. sets t p (plainly v)) t₁ a → a ≡ Done → lastOf ac < n → p + n ≤ length t → agreeFrom ac p t₁ ≡ b
+      → Puts (mapG nums (keep 11 (agree ac) g)) (λ v. sets t p (numbers v)) t₁ (cond b Done (Refused 11))
+  across-by (bad m) b s h d l r e = done-not m (sym d ∙ h .eq)
+  across-by (got v) b s h d l r e = go b (sym (agree-is v t p (omega (arith, s, r)) ac (omega (arith, s, l))) ∙ ap (agreeFrom ac p) (sym (h .filled)) ∙ e)
+    where
+      go : (b : Bool) → agree ac v ≡ b → Puts (mapG nums (keep 11 (agree ac) (got v))) (λ v. sets t p (numbers v)) t₁ (cond b Done (Refused 11))
+      go true q = rw q (record { eq = refl; filled = h .filled })
+      go false q = rw q (record { eq = refl; filled = tt })
+
+module _ (k : Known) (q : Part) (more rest : ℕ) (ss : List (List ℕ)) (ac : Across) (t t₁ : List ℤ) (p : ℕ) (a : Put)
+    (h : Puts (readAll k (q ∷ partsOf more rest) ss) (λ v. sets t p (plainly v)) t₁ a) where
+  abbrev pub across : Got Value
+  across = mapG nums (keep 11 (agree ac) (readAll k (q ∷ partsOf more rest) ss))
+
+  pub across-refused : (n : ℕ) → a ≡ Refused n → Puts across (λ v. sets t p (numbers v)) t₁ a
+  across-refused n e =
+      rw (keep-then 11 (agree ac) nums (readAll k (q ∷ partsOf more rest) ss))
+      (put-bad (readAll k (q ∷ partsOf more rest) ss) (λ (v : List Num). mapG nums (unless (agree ac v) 11 (got v))) (λ v. sets t p (plainly v)) (λ v. sets t p (numbers v)) t₁ t₁ a n e h)
+
+  pub across-told : (b : Bool) → a ≡ Done → lastOf ac ≤ more → p + more < length t → agreeFrom ac p t₁ ≡ b → Puts across (λ v. sets t p (numbers v)) t₁ (cond b Done (Refused 11))
+  across-told b d l r e =
+      let s : On (λ v. length v ≡ suc (length (partsOf more rest))) (readAll k (q ∷ partsOf more rest) ss) = long-all k (q ∷ partsOf more rest) ss in
+      across-by ac t t₁ p (suc more) a (readAll k (q ∷ partsOf more rest) ss) b (rw (parts-long more rest) at s) h d (omega arith) (omega arith) e

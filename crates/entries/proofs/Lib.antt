@@ -1,0 +1,3 @@
+pub mod NameScan
+pub mod OneValue
+pub mod EachValue

@@ -1,0 +1,169 @@
+// One value between commas.
+use crate::Index;
+use crate::Piece;
+use crate::Val;
+use crate::names::index_of;
+use leaves::Count;
+use leaves::Reading;
+use leaves::bytes::find;
+use leaves::bytes::is_layer_id;
+use leaves::bytes::within;
+use leaves::numbers::clock;
+use leaves::numbers::count;
+use leaves::numbers::day;
+use leaves::numbers::fixed;
+use leaves::pieces::decimal_piece;
+ghost use mathlib.Core.Path.{_≡_};
+ghost use mathlib.Core.List.{[]};
+ghost use Prim.Native.Nat.{_<_, _≤_};
+ghost use lib.ListN.{length};
+ghost use Rattle.rules.specs.Base.{within as inRange};
+ghost use Rattle.rules.specs.Values.{servedSymbols, inBound, layerId, readPart};
+ghost use Rattle.tables.specs.Rows.{boundOf, wholeOf};
+ghost use Rattle.entries.specs.Names.{knownIn};
+ghost use Rattle.entries.specs.Parts.{valOf, countVal, readingVal, indexVal, PieceIs};
+
+// A number within limits; beyond them it has a refusal of its own.
+fn limited(n: Count, lo: u64, hi: u64, otherwise: u8) -> Val
+    requires { ⌜ hi < 100000000000 ⌝ }
+    ensures { λ r. ⌜ r ≡ countVal (inRange lo hi) otherwise n ⌝ }
+{
+    let Count::Is(v) = n else {
+        return Val::Bad(10);
+    };
+    if within(lo, hi, v) {
+        return Val::Is(v as i64);
+    }
+    Val::Bad(otherwise)
+}
+
+// E_sym: 000 to 005 or 011 to 015.
+fn served(n: Count) -> Val
+    ensures { λ r. ⌜ r ≡ countVal servedSymbols 12 n ⌝ }
+{
+    let Count::Is(v) = n else {
+        return Val::Bad(10);
+    };
+    if within(0, 5, v) {
+        return Val::Is(v as i64);
+    }
+    if within(11, 15, v) {
+        return Val::Is(v as i64);
+    }
+    Val::Bad(12)
+}
+
+// The sign and limit of a decimal: 20 any sign, 21 not negative, 22 above zero, else an angle.
+fn in_bound(bound: u64, z: i64) -> bool
+    ensures { λ r. ⌜ r ≡ inBound (boundOf bound) z ⌝ }
+{
+    if bound == 20 {
+        return true;
+    }
+    if bound == 21 {
+        return 0 <= z;
+    }
+    if bound == 22 {
+        return 0 < z;
+    }
+    if 0 <= z {
+        return z <= 3600000;
+    }
+    false
+}
+
+fn bounded(bound: u64, r: Reading) -> Val
+    ensures { λ v. ⌜ v ≡ readingVal (inBound (boundOf bound)) r ⌝ }
+{
+    let Reading::Is(d) = r else {
+        return Val::Bad(10);
+    };
+    let z = d.value;
+    if in_bound(bound, z) {
+        return Val::Is(z);
+    }
+    Val::Bad(11)
+}
+
+fn numbered(i: Index, otherwise: u8) -> Val
+    ensures { λ r. ⌜ r ≡ indexVal otherwise i ⌝ }
+{
+    match i {
+        Index::At(n) => Val::Is(n as i64),
+        Index::None => Val::Bad(otherwise),
+    }
+}
+
+fn layer(s: &[u8], layers: &[u32], c: &[u8]) -> Val
+    requires { ⌜ length (now layers) ≤ 65536 ⌝ }
+    ensures { λ r. ⌜ r ≡ valOf (readPart (knownIn (now (s .entry)) [] (now (layers .entry))) layerId (now (c .entry))) ⌝ }
+{
+    if !is_layer_id(c) {
+        return Val::Bad(11);
+    }
+    numbered(index_of(s, layers, c), 14)
+}
+
+// A value that is no decimal, from all its bytes.
+fn whole(code: u64, s: &[u8], symbols: &[u32], layers: &[u32], c: &[u8]) -> Val
+    requires { ⌜ (length (now symbols) ≤ 65536) × (length (now layers) ≤ 65536) ⌝ }
+    ensures { λ r. ⌜ r ≡ valOf (readPart (knownIn (now (s .entry)) (now (symbols .entry)) (now (layers .entry))) (wholeOf code) (now (c .entry))) ⌝ }
+{
+    if code == 5 {
+        return limited(fixed(c, 1), 0, 1, 11);
+    }
+    if code == 6 {
+        return limited(fixed(c, 1), 1, 5, 11);
+    }
+    if code == 7 {
+        return limited(count(c), 0, 999999999, 10);
+    }
+    if code == 8 {
+        return limited(day(c), 0, 99999999, 10);
+    }
+    if code == 9 {
+        return limited(clock(c), 0, 999999, 10);
+    }
+    if code == 10 {
+        return limited(fixed(c, 3), 0, 0, 12);
+    }
+    if code == 11 {
+        return limited(fixed(c, 3), 0, 1, 12);
+    }
+    if code == 12 {
+        return limited(fixed(c, 3), 0, 2, 12);
+    }
+    if code == 13 {
+        return limited(fixed(c, 3), 1, 1, 12);
+    }
+    if code == 14 {
+        return served(fixed(c, 3));
+    }
+    if code == 15 {
+        return numbered(index_of(s, symbols, c), 13);
+    }
+    if code == 16 {
+        return layer(s, layers, c);
+    }
+    limited(fixed(c, 4), 0, 9999, 10)
+}
+
+// The value in front of the first comma, and where it ends.
+pub(crate) fn piece(code: u64, s: &[u8], symbols: &[u32], layers: &[u32], c: &[u8]) -> Piece
+    requires { ⌜ (length (now symbols) ≤ 65536) × (length (now layers) ≤ 65536) ⌝ }
+    ensures { λ r. ⌜ PieceIs (knownIn (now (s .entry)) (now (symbols .entry)) (now (layers .entry))) code (now (c .entry)) r ⌝ }
+{
+    if 20 <= code {
+        let d = decimal_piece(c);
+        let reading = d.reading;
+        return Piece {
+            val: bounded(code, reading),
+            end: d.end,
+        };
+    }
+    let e = find(c, b',');
+    Piece {
+        val: whole(code, s, symbols, layers, &c[..e]),
+        end: e,
+    }
+}

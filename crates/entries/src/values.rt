@@ -1,0 +1,128 @@
+// All values of a line.
+use crate::Put;
+use crate::Val;
+use crate::parts::piece;
+use tables::Row;
+ghost use mathlib.Core.Path.{_≡_};
+ghost use mathlib.Core.List.{_∷_};
+ghost use Prim.Native.Nat.{_+_, _/_, _%_, _<_, _≤_};
+ghost use lib.IntN.{pos};
+ghost use lib.Signed.{ltZ};
+ghost use lib.ListN.{length, getD};
+ghost use lib.Seq.{sets};
+ghost use Rattle.rules.specs.Base.{split};
+ghost use Rattle.rules.specs.Values.{readAll, readKind, values, equalZ};
+ghost use Rattle.rules.specs.RecordTable.{numbers};
+ghost use Rattle.tables.specs.Rows.{partOf, partsOf, acrossOf};
+ghost use Rattle.entries.specs.Names.{knownIn};
+ghost use Rattle.entries.specs.Entering.{Puts, doneOf, putVal, leastOf, plainly, lastOf, agreeFrom};
+
+// A value to its place, where it is one.
+pub(crate) fn put_value(v: Val, p: usize, rec: &mut [i64]) -> Put
+    requires { ⌜ p < length (now rec) ⌝ }
+    ensures { λ r. ⌜ (r ≡ doneOf v) × (now (rec .exit) ≡ putVal v p (now (rec .entry))) ⌝ }
+{
+    match v {
+        Val::Is(z) => {
+            rec[p] = z;
+            Put::Done
+        }
+        Val::Bad(m) => Put::Refused(m),
+    }
+}
+
+// The smaller of two numbers on one line.
+fn least(a: Put, b: Put) -> Put
+    ensures { λ r. ⌜ r ≡ leastOf a b ⌝ }
+{
+    let Put::Refused(m) = a else {
+        return b;
+    };
+    let Put::Refused(n) = b else {
+        return a;
+    };
+    if n < m {
+        return b;
+    }
+    a
+}
+
+// The values of c by their forms: one, and so many more; they go to the places from p on. A wrong count of values is 10, and no
+// value has a smaller number.
+fn each(parts: u64, more: u8, s: &[u8], symbols: &[u32], layers: &[u32], c: &[u8], p: usize, rec: &mut [i64]) -> Put
+    requires { ⌜ (length (now symbols) ≤ 65536) × (length (now layers) ≤ 65536) × (p + more < length (now rec)) ⌝ }
+    ensures { λ r. ⌜ Puts (readAll (knownIn (now (s .entry)) (now (symbols .entry)) (now (layers .entry))) (partOf (parts % 100) ∷ partsOf more (parts / 100)) (split 44 (now (c .entry)))) (λ v. sets (now (rec .entry)) p (plainly v)) (now (rec .exit)) r ⌝ }
+{
+    let a = piece(parts % 100, s, symbols, layers, c);
+    let v = a.val;
+    let e = a.end;
+    if e < c.len() {
+        if more == 0 {
+            return Put::Refused(10);
+        }
+        let first = put_value(v, p, rec);
+        let rest = each(parts / 100, more - 1, s, symbols, layers, &c[e + 1..], p + 1, rec);
+        return least(first, rest);
+    }
+    if more != 0 {
+        return Put::Refused(10);
+    }
+    put_value(v, p, rec)
+}
+
+fn equal_at(rec: &[i64], i: usize, j: usize) -> bool
+    requires { ⌜ (i < length (now rec)) × (j < length (now rec)) ⌝ }
+    ensures { λ r. ⌜ r ≡ equalZ (getD (now (rec .entry)) i (pos 0)) (getD (now (rec .entry)) j (pos 0)) ⌝ }
+{
+    let a = rec[i];
+    let b = rec[j];
+    if a <= b {
+        return b <= a;
+    }
+    false
+}
+
+fn less_at(rec: &[i64], i: usize, j: usize) -> bool
+    requires { ⌜ (i < length (now rec)) × (j < length (now rec)) ⌝ }
+    ensures { λ r. ⌜ r ≡ ltZ (getD (now (rec .entry)) i (pos 0)) (getD (now (rec .entry)) j (pos 0)) ⌝ }
+{
+    rec[i] < rec[j]
+}
+
+// The rules across the values of a line: 1 of a line's ends, 2 of a circle's arc, 3 of an ellipse.
+fn agree(across: u8, rec: &[i64], p: usize) -> bool
+    requires { ⌜ p + lastOf (acrossOf across) < length (now rec) ⌝ }
+    ensures { λ r. ⌜ r ≡ agreeFrom (acrossOf across) p (now (rec .entry)) ⌝ }
+{
+    if across == 1 {
+        if equal_at(rec, p + 1, p + 3) {
+            return !equal_at(rec, p + 2, p + 4);
+        }
+        return true;
+    }
+    if across == 2 {
+        return !equal_at(rec, p + 4, p + 5);
+    }
+    if across == 3 {
+        if less_at(rec, p + 4, p + 3) {
+            return !equal_at(rec, p + 5, p + 6);
+        }
+        return false;
+    }
+    true
+}
+
+// A row's values; the rules across them are 11.
+pub(crate) fn values(row: Row, s: &[u8], symbols: &[u32], layers: &[u32], c: &[u8], p: usize, rec: &mut [i64]) -> Put
+    requires { ⌜ (length (now symbols) ≤ 65536) × (length (now layers) ≤ 65536) × (p + row .count < length (now rec)) × (lastOf (acrossOf (row .across)) ≤ row .count) ⌝ }
+    ensures { λ r. ⌜ Puts (readKind (knownIn (now (s .entry)) (now (symbols .entry)) (now (layers .entry))) (values (partOf (row .parts % 100)) (partsOf (row .count) (row .parts / 100)) (acrossOf (row .across))) 0 (now (c .entry))) (λ v. sets (now (rec .entry)) p (numbers v)) (now (rec .exit)) r ⌝ }
+{
+    let a = each(row.parts, row.count, s, symbols, layers, c, p, rec);
+    let Put::Done = a else {
+        return a;
+    };
+    if agree(row.across, rec, p) {
+        return Put::Done;
+    }
+    Put::Refused(11)
+}
