@@ -7,7 +7,9 @@ use Rattle.rules.specs.declared.Digits.{Digits}
 use Rattle.rules.specs.RangeClass.{digits}
 use Rattle.rules.specs.Values.{Part, count, digit, kindOfLine, range, rangeOfSymbols, day, clock, decimal, Bound, anySign, notNegative, aboveZero, angle, symbolName, layerId, Across, nothingMore, endsDiffer, arcOfCircle, axesOfEllipse, Kind, values, text, word, volumeName, sheet, ratio, serials, nothing, opens, headed, either}
 use Rattle.rules.specs.Rows.{Times, once, upTo, anyNumber, Rule, Found, absent, found}
+use lib.ListN.{getD}
 use Rattle.leaves.specs.Bytes.{bytesOf}
+use Rattle.leaves.specs.Texts.{textRules, noText}
 use Rattle.tables.specs.declared.Row.{Row}
 use Rattle.tables.specs.declared.Found.{Found as Finding}
 use Rattle.tables.specs.declared.Found.the-variants as F
@@ -88,6 +90,10 @@ severalRow number parts more across place = record { number = number; kind = 0; 
 
 abbrev pub textRow : ℕ → ℕ → ℕ → ℕ → ℕ → Row
 textRow number kind most bytes place = record { number = number; kind = kind; parts = 0; count = 0; across = 0; most = most; set = bytes; inner = 0; may = false; least = digits 0 0; times = 0; place = place; state = 0 }
+
+-- a free text, by its number among them
+abbrev pub freeRow : ℕ → ℕ → ℕ → Row
+freeRow number key place = let t = getD textRules key noText in textRow number 1 (t .most) (t .set) place
 
 abbrev pub innerRow : ℕ → ℕ → ℕ → ℕ → ℕ → Row
 innerRow number kind parts inner place = record { number = number; kind = kind; parts = parts; count = 0; across = 0; most = 0; set = 0; inner = inner; may = false; least = digits 0 0; times = 0; place = place; state = 0 }

@@ -51,6 +51,7 @@ use crate::keys::is_this_line;
 use crate::keys::is_time;
 use crate::keys::is_ver;
 use crate::keys::is_wall;
+use crate::rows::free_text;
 use crate::rows::from;
 use crate::rows::inner;
 use crate::rows::may_be_empty;
@@ -67,8 +68,6 @@ ghost use Rattle.tables.specs.Rows.{foundOf, foundForLine};
 ghost use Rattle.tables.specs.Tables.{headerTexts, behindEight};
 
 // what a row holds
-const TEXT: u8 = 1;
-
 const WORD: u8 = 2;
 
 const NEXT_VOLUME: u8 = 3;
@@ -129,14 +128,31 @@ const PLACING: u64 = 22_23_21_21_15;
 
 const WALL: u64 = 20_20;
 
+// the free texts, by their numbers in TEXT_LIMITS
+const CAD: u8 = 0;
+
+const OS: u8 = 1;
+
+const HARD: u8 = 2;
+
+const VER: u8 = 3;
+
+const CORP: u8 = 4;
+
+const MAKE: u8 = 5;
+
+const TEL: u8 = 6;
+
+const NAME: u8 = 7;
+
+const PROJECT: u8 = 8;
+
+const DRAWNAME: u8 = 9;
+
+const DRAWER: u8 = 10;
+
 // sets of bytes
-const ANY_BYTES: u8 = 0;
-
-const ASCII: u8 = 1;
-
 const LETTERS_AND_DIGITS: u8 = 2;
-
-const TELEPHONE: u8 = 3;
 
 const CIRCUIT: u8 = 4;
 
@@ -167,28 +183,28 @@ fn header_text_row(k: &[u8]) -> Found
     ensures { λ r. ⌜ foundForLine (behindEight (find (now (k .entry)) headerTexts)) ≡ foundOf r ⌝ }
 {
     if is_cad(k) {
-        return Found::Row(text(8, TEXT, 20, ASCII, 16));
+        return Found::Row(free_text(8, CAD, 16));
     }
     if is_os(k) {
-        return Found::Row(text(9, TEXT, 20, ASCII, 18));
+        return Found::Row(free_text(9, OS, 18));
     }
     if is_hard(k) {
-        return Found::Row(text(10, TEXT, 20, ASCII, 20));
+        return Found::Row(free_text(10, HARD, 20));
     }
     if is_ver(k) {
-        return Found::Row(text(11, TEXT, 10, ASCII, 22));
+        return Found::Row(free_text(11, VER, 22));
     }
     if is_corp(k) {
-        return Found::Row(may_be_empty(text(12, TEXT, 40, ANY_BYTES, 24)));
+        return Found::Row(may_be_empty(free_text(12, CORP, 24)));
     }
     if is_make(k) {
-        return Found::Row(may_be_empty(text(13, TEXT, 40, ANY_BYTES, 26)));
+        return Found::Row(may_be_empty(free_text(13, MAKE, 26)));
     }
     if is_tel(k) {
-        return Found::Row(may_be_empty(text(14, TEXT, 20, TELEPHONE, 28)));
+        return Found::Row(may_be_empty(free_text(14, TEL, 28)));
     }
     if is_name(k) {
-        return Found::Row(may_be_empty(text(15, TEXT, 20, ANY_BYTES, 30)));
+        return Found::Row(may_be_empty(free_text(15, NAME, 30)));
     }
     Found::Absent
 }
@@ -321,16 +337,16 @@ pub(crate) fn drawing_row(k: &[u8]) -> Found
         return Found::Row(plain(1, SCALE, 7));
     }
     if is_project(k) {
-        return Found::Row(text(2, TEXT, 60, ANY_BYTES, 12));
+        return Found::Row(free_text(2, PROJECT, 12));
     }
     if is_drawname(k) {
-        return Found::Row(text(3, TEXT, 60, ANY_BYTES, 14));
+        return Found::Row(free_text(3, DRAWNAME, 14));
     }
     if is_date(k) {
         return Found::Row(several(4, DAY, 0, 0, 9));
     }
     if is_drawer(k) {
-        return Found::Row(may_be_empty(text(5, TEXT, 20, ANY_BYTES, 16)));
+        return Found::Row(may_be_empty(free_text(5, DRAWER, 16)));
     }
     if is_floor_height(k) {
         return Found::Row(with_state(

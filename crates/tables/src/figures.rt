@@ -9,10 +9,10 @@ use crate::keys::is_point;
 use crate::keys::is_successive;
 use crate::keys::is_text;
 use crate::keys::is_type;
+use crate::rows::free_text;
 use crate::rows::from;
 use crate::rows::inner;
 use crate::rows::several;
-use crate::rows::text;
 use crate::rows::times;
 ghost use mathlib.Core.Path.{_≡_};
 ghost use mathlib.Core.Bool.{cond};
@@ -23,13 +23,12 @@ ghost use Rattle.tables.specs.Tables.{placedRows, figuresTable, behindSi
 
 const OPENS: u8 = 8;
 
-const TEXT: u8 = 1;
-
 const ANY_NUMBER: u8 = 255;
 
 const MOST_POINTS: u8 = 100;
 
-const MOST_CHARACTERS: u8 = 200;
+// by its number in TEXT_LIMITS
+const CHARACTER: u8 = 11;
 
 // several forms, two digits each, the first one last: type,x,y and the like
 const LINE_IN_LAYER: u64 = 21_21_21_21_17;
@@ -146,7 +145,7 @@ pub(crate) fn lettering_row(k: &[u8], in_layer: bool, first: u8, behind: u8) -> 
         ));
     }
     if is_character(k) {
-        return Found::Row(text(1, TEXT, MOST_CHARACTERS, 0, behind));
+        return Found::Row(free_text(1, CHARACTER, behind));
     }
     Found::Absent
 }

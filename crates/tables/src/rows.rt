@@ -1,8 +1,9 @@
 // Rows, in the words of document 01's tables.
 use crate::Row;
+use leaves::texts::text_rule;
 use rules::Digits;
 ghost use mathlib.Core.Path.{_≡_};
-ghost use Rattle.tables.specs.Rows.{plainRow, severalRow, textRow, innerRow, emptyRow, timesRow, fromRow, stateRow};
+ghost use Rattle.tables.specs.Rows.{plainRow, severalRow, textRow, freeRow, innerRow, emptyRow, timesRow, fromRow, stateRow};
 
 // A row without values, text or inner block: not empty, at every range, once.
 pub(crate) fn plain(number: u8, kind: u8, place: u8) -> Row
@@ -65,6 +66,14 @@ pub(crate) fn text(number: u8, kind: u8, most: u8, set: u8, place: u8) -> Row
         place: place,
         state: 0,
     }
+}
+
+// A free text, by its number in the constant table of byte limits.
+pub(crate) fn free_text(number: u8, key: u8, place: u8) -> Row
+    ensures { λ r. ⌜ r ≡ freeRow number key place ⌝ }
+{
+    let rule = text_rule(key);
+    text(number, 1, rule.most, rule.set, place)
 }
 
 // A row that opens an inner block, with a value or without.

@@ -1,3 +1,4 @@
+use Rattle.leaves.specs.Texts.{textRules}
 use mathlib.Core.Path.{sym, _∙_, ap}
 use Rattle.tables.specs.Rows.{partsOf}
 use Rattle.tables.proofs.Homes.{lettering-home}
@@ -12,7 +13,7 @@ use Rattle.tables.proofs.figures.by_home.Reads as by-home-reads
 use Rattle.tables.proofs.keys.is_character.Reads as is-character-reads
 use Rattle.tables.proofs.keys.is_type.Reads as is-type-reads
 use Rattle.tables.proofs.rows.several.Reads as several-reads
-use Rattle.tables.proofs.rows.text.Reads as text-reads
+use Rattle.tables.proofs.rows.free_text.Reads as free-text-reads
 
 -- src/figures.rt:139:8
 is-type-requires : tie.Need-is-type-requires
@@ -28,7 +29,7 @@ several-requires c κs = search needs
 
 -- src/figures.rt:140:9
 returns : tie.Need-returns
-unfolding textTable partsOf
+unfolding textTable partsOf textRules
 returns c = rw (sym (c .before .before .before .is-type .ensures) ∙ c .before .before .if1 .taken, c .several .ensures, c .before .by-home .ensures) (ap (found 0) (lettering-home (c .before .before .before .before .before .args .in-layer) (c .before .before .before .before .before .args .first)))
 
 -- src/figures.rt:148:8
@@ -36,17 +37,17 @@ is-character-requires : tie.Need-is-character-requires
 is-character-requires c κs = search needs
 
 -- src/figures.rt:149:27
-text-requires : tie.Need-text-requires
-text-requires c κs = search needs
+free-text-requires : tie.Need-free-text-requires
+free-text-requires c κs = search needs
 
 -- src/figures.rt:149:9
 returns-2 : tie.Need-returns-2
-unfolding textTable partsOf
-returns-2 c = rw (sym (c .before .before .before .before .is-type .ensures) ∙ c .before .before .before .if1 .left, sym (c .before .before .is-character .ensures) ∙ c .before .if2 .taken, c .text .ensures)
+unfolding textTable partsOf textRules
+returns-2 c = rw (sym (c .before .before .before .before .is-type .ensures) ∙ c .before .before .before .if1 .left, sym (c .before .before .is-character .ensures) ∙ c .before .if2 .taken, c .free-text .ensures)
 
 -- src/figures.rt:136:1
 returns-3 : tie.Need-returns-3
-unfolding textTable partsOf
+unfolding textTable partsOf textRules
 returns-3 c = rw (sym (c .before .before .before .is-type .ensures) ∙ c .before .before .if1 .left, sym (c .before .is-character .ensures) ∙ c .if2 .left)
 
 pub lettering-row-spec : {M : Type 1} → statement M
@@ -58,6 +59,6 @@ lettering-row-spec =
     several-requires
     returns
     is-character-requires
-    text-requires
+    free-text-requires
     returns-2
     returns-3)

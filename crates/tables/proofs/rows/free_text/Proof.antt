@@ -1,0 +1,23 @@
+use mathlib.Core.Path.{_∙_}
+use borrow.Author.Needs.{needs}
+use Rattle.tables.proofs.rows.free_text.Statement.{statement}
+use Rattle.tables.proofs.rows.free_text.Tie as tie
+use Rattle.tables.proofs.rows.free_text.Reads as reads
+use Rattle.tables.proofs.rows.free_text.Lts as lts
+use Rattle.leaves.proofs.texts.text_rule.Reads as text-rule-reads
+use Rattle.tables.proofs.rows.text.Reads as text-reads
+
+-- src/rows.rt:75:9
+text-rule-requires : tie.Need-text-rule-requires
+text-rule-requires c κs = search needs
+
+-- src/rows.rt:76:5
+text-requires : tie.Need-text-requires
+text-requires c κs = search needs
+
+-- src/rows.rt:72:1
+returns : tie.Need-returns
+returns c = c .text .ensures ∙ rw (c .before .text-rule .ensures)
+
+pub free-text-spec : {M : Type 1} → statement M
+free-text-spec = tie.close (tie.spec text-rule-requires text-requires returns)
