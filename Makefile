@@ -1,7 +1,8 @@
 # make rules   prove the definitions of document 01 and compute its sample rulings
 # make test    the gate: layout, broken rules refused, then every proof, must-fail edit and program from nothing (rt ci)
+# make bench   ns per byte of splitting a spool, beside plain C: figures, no test
 
-.PHONY: rules test layout broken-rules
+.PHONY: rules test layout broken-rules bench
 
 rules:
 	rt check rules
@@ -14,3 +15,8 @@ broken-rules:
 
 test: layout broken-rules
 	rt ci
+
+bench:
+	rt staticlib linebench
+	clang -O2 -o target/split bench/split.c target/staticlib/liblinebench.a
+	target/split

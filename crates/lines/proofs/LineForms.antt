@@ -1,6 +1,6 @@
 -- Laws of a line's form by place: leading blanks, and the end of the key.
 use Prim.Native.Nat.{ℕ, suc, _+_, _-_, _<_, _≤_, zero-le, suc-le-suc}
-use mathlib.Core.Path.{_≡_, refl, ap, sym, _∙_}
+use mathlib.Core.Path.{_≡_, refl, ap, _∙_}
 use mathlib.Core.Bool.{Bool, true, false, cond, _&&_, _||_}
 use mathlib.Core.List.{List, [], _∷_}
 use native.Mathlib.Omega.{arith}

@@ -1,5 +1,5 @@
 -- Laws of one look at a line: the runs of its bytes, and what they make of its form.
-use Prim.Native.Nat.{ℕ, suc, _+_, _-_, _<_, _≤_}
+use Prim.Native.Nat.{ℕ, _+_, _-_, _<_, _≤_}
 use mathlib.Core.Path.{_≡_, refl, ap, sym, _∙_}
 use mathlib.Core.Bool.{Bool, true, false, cond, _&&_, _||_, not}
 use mathlib.Core.List.{List, [], _∷_}
@@ -7,19 +7,18 @@ use native.Mathlib.Omega.{arith}
 use lib.Dec.{eqb, leb, ltb}
 use lib.ListN.{length, getD, take, drop, drop-of-length-le, length-drop}
 use lib.Seq.{drop-drop}
-use borrow.Author.Tests.{eq-eqb, ne-eqb, eqb-true, le-leb, lt-leb, lt-ltb, le-ltb, leb-true, leb-false, ltb-true, ltb-false}
+use borrow.Author.Tests.{eq-eqb, ne-eqb, eqb-true, le-leb, lt-leb, lt-ltb, le-ltb, leb-true, leb-false, ltb-true, ltb-false, not-true}
 use Rattle.rules.proofs.Chains.{and-left, and-right, and-false, or-true, clash, by-cond}
-use Rattle.rules.specs.Base.{choose, within}
+use Rattle.rules.specs.Base.{within}
 use Rattle.rules.specs.Spool.{mostBytes}
 use Rattle.rules.specs.declared.LineForm.{LineForm}
 use Rattle.rules.specs.declared.LineForm.the-variants as L
 use Rattle.rules.specs.Lines.{unindent, scan, allowed, allowedFrom, singleByte, leadByte, trailByte, lineFormOf}
 use Rattle.leaves.specs.Bytes.{upTo}
-use Rattle.leaves.proofs.Cuts.{upTo-le, upTo-take}
-use Rattle.lines.specs.LineForms.{blankOf, opensHere, charOf, keyChar, KeyEnd, endless, equalAt, braceAt, keyEndOf, later, keyFrom, cleanFrom, crFrom, Blanks, Passed, CleanRun, KeyRun, refusedAs, bareForm, shortForm, equalForm, braceForm, restForm}
+use Rattle.leaves.proofs.Cuts.{upTo-take}
+use Rattle.lines.specs.LineForms.{blankOf, opensHere, charOf, keyChar, KeyEnd, endless, equalAt, braceAt, keyEndOf, later, keyFrom, cleanFrom, crFrom, keyByte, Blanks, Passed, KeyPassed, CleanRun, KeyRun, refusedAs, bareForm, shortForm, equalForm, braceForm, restForm}
 use Rattle.lines.specs.LineLook.{seenAt, foundAt, crHere, soundAt, lookFrom, lookIn}
-use Rattle.lines.specs.declared.Look.{Look}
-use Rattle.lines.specs.declared.Look.the-variants.{End, Line}
+use Rattle.lines.specs.declared.Look.the-variants.{End}
 use Rattle.leaves.proofs.Scan.{at as by-place}
 use Rattle.lines.proofs.SoundEnds.{or-neither}
 use Rattle.lines.proofs.LineForms as forms
@@ -54,6 +53,9 @@ single-no-lead b e = go (leadByte b) refl
         (λ h k. either 129 159 224 252 b q (λ m n. omega arith) (λ m n. omega arith))
         (λ h k. either 129 159 224 252 b q (λ m n. omega arith) (λ m n. omega arith)))
     go false q = refl
+
+single-plain : (b : ℕ) → within 32 126 b ≡ true → singleByte b ≡ true
+single-plain b e = rw e
 
 -- ── up to the CR ──
 pub up-cr : (b : ℕ) (s : List ℕ) → eqb b 13 ≡ true → upTo 13 (b ∷ s) ≡ []
@@ -199,23 +201,63 @@ module _ (t : List ℕ) (i : ℕ) where
         clean = p .clean ∙ w .clean ∙ ap (λ u. allowed (upTo 13 u)) d;
       }
 
+  pub passed-on : (j k : ℕ) → Passed t i j → Passed t j k → Passed t i k
+  passed-on j k p q =
+      let a = p .low in
+      let b = q .low in
+      record { low = omega arith; high = q .high; cr = p .cr ∙ q .cr; clean = p .clean ∙ q .clean }
+
+  -- a byte of printing ASCII
+  pub plain-passed : (j : ℕ) → j < length t → within 32 126 (getD t j 0) ≡ true → Passed t i j → Passed t i (j + 1)
+  plain-passed j h e p = passed-step j 1 p (rw (by-place t j h) (step-one (getD t j 0) (drop (j + 1) t) (single-plain (getD t j 0) e)))
+
+  pub key-on : (j k : ℕ) → KeyPassed t i j → KeyPassed t j k → KeyPassed t i k
+  key-on j k p q = record { passed = passed-on j k (p .passed) (q .passed); key = p .key ∙ q .key }
+
+  pub key-none-yet : i ≤ length t → KeyPassed t i i
+  key-none-yet h = record { passed = passed-none h; key = refl }
+
+  pub plain-key-passed : (j : ℕ) → j < length t → keyByte (getD t j 0) ≡ true → KeyPassed t i j → KeyPassed t i (j + 1)
+  plain-key-passed j h e p =
+      let b = getD t j 0 in
+      let u = drop (j + 1) t in
+      let f = not-true (eqb b 61) (and-left (not (eqb b 61)) (not (eqb b 58) && within 32 126 b) e) in
+      let w = and-right (not (eqb b 61)) (not (eqb b 58) && within 32 126 b) e in
+      let g = not-true (eqb b 58) (and-left (not (eqb b 58)) (within 32 126 b) w) in
+      let x = and-right (not (eqb b 58)) (within 32 126 b) w in
+      let step : KeyStep (drop j t) 1 = rw (by-place t j h) (key-one b u (single-plain b x) f (opens-other b u g)) in
+      record {
+        passed = plain-passed j h x (p .passed);
+        key = p .key ∙ ap (later j) step ∙ forms.later-later j 1 (keyEndOf (scan (upTo 13 (drop 1 (drop j t))))) ∙ ap (λ u. later (j + 1) (keyEndOf (scan (upTo 13 u)))) (drop-drop 1 j t);
+      }
+
   module _ (j : ℕ) where
     pub char-passed : Passed t i j → Passed t i (j + charOf (drop j t))
     char-passed p = passed-step j (charOf (drop j t)) p (char-step (drop j t))
 
-    pub key-passed : Passed t i j → Passed t i (j + keyChar (drop j t))
-    key-passed p = passed-step j (keyChar (drop j t)) p (key-char-step (drop j t))
-
-    pub key-more : keyFrom t i ≡ keyFrom t j → keyFrom t i ≡ keyFrom t (j + keyChar (drop j t))
+    key-more : keyFrom t i ≡ keyFrom t j → keyFrom t i ≡ keyFrom t (j + keyChar (drop j t))
     key-more e =
         let n = keyChar (drop j t) in
         e ∙ ap (later j) (key-step (drop j t)) ∙ forms.later-later j n (keyEndOf (scan (upTo 13 (drop n (drop j t))))) ∙ ap (λ u. later (j + n) (keyEndOf (scan (upTo 13 u)))) (drop-drop n j t)
+
+    pub key-passed : KeyPassed t i j → KeyPassed t i (j + keyChar (drop j t))
+    key-passed p = record { passed = passed-step j (keyChar (drop j t)) (p .passed) (key-char-step (drop j t)); key = key-more (p .key) }
 
 pub char-le : (t : List ℕ) (i : ℕ) → i ≤ length t → i + charOf (drop i t) ≤ length t
 char-le t i h = char-passed t i i (passed-none t i h) .high
 
 pub key-le : (t : List ℕ) (i : ℕ) → i ≤ length t → i + keyChar (drop i t) ≤ length t
-key-le t i h = key-passed t i i (passed-none t i h) .high
+key-le t i h = key-passed t i i (key-none-yet t i h) .passed .high
+
+-- the byte of a key as the code tests it
+pub byte-equal : (b : ℕ) → b ≡ 61 → keyByte b ≡ false
+byte-equal b e = rw e
+
+pub byte-colon : (b : ℕ) → b ≡ 58 → keyByte b ≡ false
+byte-colon b e = rw e
+
+pub byte-other : (b : ℕ) → (b ≡ 61 → ⊥) → (b ≡ 58 → ⊥) → keyByte b ≡ within 32 126 b
+byte-other b e f = rw (ne-eqb b 61 e, ne-eqb b 58 f)
 
 pub char-end : (t : List ℕ) (i : ℕ) → length t ≤ i → charOf (drop i t) ≡ 0
 unfolding charOf

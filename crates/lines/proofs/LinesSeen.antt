@@ -1,30 +1,31 @@
 -- What a look finds of the lines of a volume: laws for those who walk from line to line.
 use Prim.Native.Nat.{ℕ, zero, suc, _+_, _-_, _<_, _≤_}
 use mathlib.Core.Path.{_≡_, refl, ap, sym, subst, _∙_}
-use mathlib.Core.Bool.{Bool, true, false, cond, _&&_}
+use mathlib.Core.Bool.{Bool, true, false, cond}
 use mathlib.Core.List.{List, [], _∷_}
 use mathlib.Core.Option.{Option, none, some}
 use native.Mathlib.Omega.{arith}
 use lib.Dec.{eqb, leb, ltb}
-use lib.ListN.{length, getD, take, drop, drop-of-length-le, length-drop}
-use lib.Seq.{drop-drop, take-nil, take-take, take-length, length-take-le}
-use borrow.Author.Tests.{eq-eqb, ne-eqb, eqb-true, eqb-false, leb-true, leb-false, ltb-true, ltb-false, lt-ltb, le-ltb}
-use Rattle.rules.proofs.Chains.{none-some, and-left, and-right, by-cond}
+use lib.ListN.{length, take, drop, drop-of-length-le, length-drop}
+use lib.Seq.{drop-drop, take-nil, take-take, length-take-le}
+use borrow.Author.Tests.{eq-eqb, ne-eqb, eqb-true, eqb-false, leb-true, leb-false, ltb-true, ltb-false}
+use Rattle.rules.proofs.Chains.{none-some, by-cond}
 use Rattle.rules.specs.Base.{choose, bytes, isNil, mapO, all, same}
 use Rattle.rules.specs.Spool.{mostBytes, mostInLine, headLine, linesFrom, shortLines, linesOf}
+use Rattle.rules.specs.Answers.{numbered}
 use Rattle.rules.specs.declared.Opener.{Opener}
 use Rattle.rules.specs.declared.Equation.{Equation}
 use Rattle.rules.specs.declared.Refusal.{Refusal}
 use Rattle.rules.specs.declared.LineForm.{LineForm}
 use Rattle.rules.specs.declared.LineForm.the-variants as L
-use Rattle.rules.specs.Lines.{unindent, Scan, neither, atEqual, atBrace, scan, allowed, Rest, brace, equals, Form, ignored, wrong, close, eof, keyed, withKey, formFrom, formOfRest, formOf, bytesAt, formIn, span, withPlaces, lineFormOf}
+use Rattle.rules.specs.Lines.{unindent, Scan, neither, atEqual, atBrace, scan, allowed, brace, equals, Form, ignored, wrong, close, eof, keyed, withKey, formFrom, formOfRest, formOf, formIn, withPlaces, lineFormOf}
 use Rattle.leaves.specs.Bytes.{upTo}
 use Rattle.leaves.proofs.Cuts.{upTo-le, upTo-take}
-use Rattle.lines.specs.LineLook.{seenAt, foundAt, lookFrom, lookIn, linesIn}
+use Rattle.lines.specs.LineLook.{seenAt, lookIn, linesIn}
 use Rattle.lines.specs.declared.Seen.{Seen}
 use Rattle.lines.specs.declared.Look.{Look}
 use Rattle.lines.specs.declared.Look.the-variants.{End, Line}
-use Rattle.lines.proofs.LineForms.{Around, Apart, scan-apart, Behind, unindent-behind}
+use Rattle.lines.proofs.LineForms.{Around, Apart, scan-apart, unindent-behind}
 use Rattle.lines.proofs.LineLook.{up-cr, up-more, look-long, look-behind, look-turned, look-part, look-from-found, found-none, found-some}
 
 -- ── the first line of some bytes ──
@@ -428,6 +429,11 @@ module _ (volume line at end : ℕ) (s : List ℕ) (ls : List (List ℕ)) (h : l
           let a : w .line ≡ l = cc in
           let b : w .others ≡ us = cc in
           record { seen = f; answer = p; follows = subst (λ (x : List ℕ). Follows s at end x us f) a (subst (λ (x : List (List ℕ)). Follows s at end (w .line) x f) b (w .follows)) }
+
+-- the definition's lines from there: the one seen, and those from the next place on
+pub found-numbered : (s : List ℕ) (at end : ℕ) (ls : List (List ℕ)) (f : Seen) (w : Found s at end ls f) (v n : ℕ) (name : List ℕ)
+    → numbered v name n at ls ≡ record { volume = v; line = n; last = f .last; next = name; form = formIn s (f .form) } ∷ numbered v name (suc n) (f .next) (w .others)
+found-numbered s at end ls f w v n name = ap (numbered v name n at) (w .lines) ∙ sym (rw (w .follows .form, w .follows .last, w .follows .next))
 
 -- ── the start of a walk ──
 -- the limit of a line's length is tested before

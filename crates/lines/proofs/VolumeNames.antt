@@ -1,20 +1,20 @@
 -- Laws of volumes' names: a scan's step by place, and what a good name is, as the code tests it.
 use Prim.Native.Nat.{ℕ, zero, suc, _+_, _-_, _<_, _≤_, zero-le}
 use mathlib.Core.Path.{_≡_, refl, ap, sym, _∙_}
-use mathlib.Core.Bool.{Bool, true, false, cond, _&&_, _||_, not}
+use mathlib.Core.Bool.{Bool, true, false, cond, _&&_, not}
 use mathlib.Core.List.{List, [], _∷_, _++_, map}
 use mathlib.Core.Option.{Option, none, some}
 use native.Mathlib.Omega.{arith}
 use lib.Dec.{eqb, leb}
 use lib.ListN.{length, getD, take, drop, replicate, drop-of-length-le, length-take}
 use lib.Seq.{take-take}
-use borrow.Author.Tests.{eq-eqb, ne-eqb, le-leb, lt-leb, eqb-true, eqb-false}
+use borrow.Author.Tests.{eq-eqb, ne-eqb, le-leb, lt-leb, eqb-true}
 use Rattle.leaves.specs.Bytes.{upTo}
 use Rattle.leaves.proofs.Cuts.{upTo-le, upTo-take}
-use Rattle.rules.proofs.Chains.{and-false, and-left, and-right, same-eq, same-refl, clash}
-use Rattle.rules.specs.Base.{all, isNil, isSome, mapO, same, indexOf, among, distinct, within}
+use Rattle.rules.proofs.Chains.{and-false, clash}
+use Rattle.rules.specs.Base.{all, isNil, isSome, mapO, same, indexOf, among, distinct}
 use Rattle.rules.specs.Spool.{nameByte, nameOf, paddedName, goodName}
-use Rattle.lines.specs.VolumeNames.{letters, allSpaces, rawName, Ranged, nameAt}
+use Rattle.lines.specs.VolumeNames.{letters, allSpaces, rawName, nameAt}
 use Rattle.leaves.proofs.Scan.{at}
 
 -- ── scans ──

@@ -2,13 +2,12 @@
 use Prim.Native.Nat.{ℕ, zero, suc, _+_, _*_, _-_, _<_, _≤_}
 use mathlib.Core.Path.{_≡_, refl, ap, sym, subst, _∙_}
 use mathlib.Core.Bool.{Bool, true, false, cond, _&&_, not}
-use mathlib.Core.List.{List, [], _∷_, _++_, map}
+use mathlib.Core.List.{List, [], _∷_, map}
 use mathlib.Core.Option.{Option, none, some}
-use native.Mathlib.Numerals.{add-one}
 use native.Mathlib.Omega.{arith}
 use lib.Dec.{eqb, leb}
-use lib.ListN.{length, getD, take, drop, set, replicate, length-drop, length-take, drop-of-length-le, length-map, length-replicate, length-set}
-use lib.Seq.{drop-cons, drop-drop, take-take, getD-take, length-take-le, sets, sets-eq, length-sets, take-at, take-all}
+use lib.ListN.{length, getD, take, drop, set, length-drop, length-take, drop-of-length-le, length-map, length-set}
+use lib.Seq.{drop-drop, take-take, getD-take, length-take-le, sets, sets-eq, length-sets, take-at, take-all}
 use borrow.Author.Tests.{eq-eqb, eqb-true, ne-eqb, le-leb, lt-leb, leb-true, leb-false}
 use Rattle.rules.proofs.Chains.{and-left, and-right, and-true, and-false, cond-same, ap-cond, same-eq, same-refl, none-some}
 use Rattle.rules.specs.Base.{choose, all, isNil, isSome, mapO, same, indexOf, among, distinct, within}

@@ -1,7 +1,7 @@
 -- What a layout says of each volume of a spool: laws for those who walk from volume to volume.
 use Prim.Native.Nat.{ℕ, zero, suc, _+_, _-_, _<_, _≤_}
 use mathlib.Core.Path.{_≡_, refl, ap, sym, subst, _∙_}
-use mathlib.Core.Bool.{Bool, true, false, cond}
+use mathlib.Core.Bool.{false}
 use mathlib.Core.List.{List, [], _∷_, _++_, map}
 use mathlib.Core.Option.{Option, none, some}
 use native.Mathlib.Omega.{arith}
@@ -9,14 +9,14 @@ use lib.ListN.{length, getD, take, drop, length-drop}
 use lib.Seq.{getD-take, drop-drop}
 use Rattle.rules.specs.Base.{isSome}
 use Rattle.rules.specs.Machine as M
-use Rattle.rules.specs.Answers.{Listed, listed, noLines, nextName, linesOfVolume, listVolume, listVolumes}
+use Rattle.rules.specs.Answers.{listed, noLines, nextName, linesOfVolume, listVolumes}
 use Rattle.rules.specs.Spool.{mostVolumes, Volume, linesFrom, linesOf, volumesOf}
 use Rattle.lines.specs.LineLook.{linesIn}
 use Rattle.lines.specs.VolumePlaces.{layoutOf}
 use Rattle.lines.specs.VolumeNames.{nameAt}
 use Rattle.lines.specs.LineEnds.{unsoundFrom, firstUnsound}
 use Rattle.lines.specs.declared.Layout.{Layout}
-use Rattle.lines.proofs.VolumePlaces.{Placed, AllPlaced, Laid, volumes-laid}
+use Rattle.lines.proofs.VolumePlaces.{Placed, AllPlaced, volumes-laid}
 use Rattle.lines.proofs.VolumeNames.{name-here}
 use Rattle.lines.proofs.SoundEnds.{soundIn, unsound-none, unsound-here, unsound-later, unsound-start}
 use Rattle.lines.proofs.LinesSeen.{lines-of}

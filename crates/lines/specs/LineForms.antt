@@ -1,11 +1,11 @@
 -- The parts of a line's form that the code finds by place; that they are those of Lines is proved in proofs/LineForms.
 use Prim.Native.Nat.{ℕ, _+_, _-_, _≤_}
 use mathlib.Core.Path.{_≡_}
-use mathlib.Core.Bool.{Bool, false, cond, _&&_, _||_}
+use mathlib.Core.Bool.{Bool, false, cond, _&&_, _||_, not}
 use mathlib.Core.List.{List, [], _∷_}
 use lib.Dec.{eqb}
 use lib.ListN.{length, drop}
-use Rattle.rules.specs.Base.{bytes, same}
+use Rattle.rules.specs.Base.{bytes, same, within}
 use Rattle.rules.specs.Lines.{Scan, neither, atEqual, atBrace, unindent, scan, allowed, singleByte, leadByte, trailByte, span, formOfRest, withPlaces}
 use Rattle.rules.specs.declared.LineForm.{LineForm}
 use Rattle.rules.specs.declared.LineForm.the-variants as L
@@ -33,6 +33,10 @@ charOf (b ∷ c ∷ s) = cond (singleByte b) 1 (cond (leadByte b && trailByte c)
 unfoldable pub keyChar : List ℕ → ℕ
 keyChar [] = 0
 keyChar (b ∷ s) = cond (eqb b 61 || opensHere (b ∷ s)) 0 (charOf (b ∷ s))
+
+-- printing ASCII that cannot end a key
+abbrev pub keyByte : ℕ → Bool
+keyByte b = not (eqb b 61) && (not (eqb b 58) && within 32 126 b)
 
 -- where a line's key ends: at an `=` or a `:{`, behind so many bytes
 pub data KeyEnd : Type 0 where
@@ -75,6 +79,11 @@ pub record Passed (t : List ℕ) (i j : ℕ) : Type 0 where
   pub high : j ≤ length t
   pub cr : crFrom t i ≡ crFrom t j
   pub clean : cleanFrom t i ≡ cleanFrom t j
+
+-- the same in a key, which does not end between them
+pub record KeyPassed (t : List ℕ) (i j : ℕ) : Type 0 where
+  pub passed : Passed t i j
+  pub key : keyFrom t i ≡ keyFrom t j
 
 -- all that there are
 pub record CleanRun (t : List ℕ) (i j : ℕ) : Type 0 where

@@ -1,6 +1,7 @@
 // Rule 3: the ends of a volume's lines.
 use crate::CR;
 use crate::Layout;
+use crate::MOST_VOLUMES;
 ghost use mathlib.Core.Path.{_≡_};
 ghost use Prim.Native.Nat.{_+_, _<_, _≤_};
 ghost use lib.ListN.{length, take, drop};
@@ -13,8 +14,6 @@ const MOST_IN_LINE: usize = 512;
 const LF: u8 = 10;
 
 const END: u8 = 26;
-
-const MOST_VOLUMES: usize = 12;
 
 // CR, LF or 1A: nearly all bytes are greater.
 fn is_end(b: u8) -> bool

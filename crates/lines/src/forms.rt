@@ -17,7 +17,7 @@ ghost use mathlib.Core.Bool.{_||_};
 ghost use Prim.Native.Nat.{_+_, _<_, _≤_};
 ghost use lib.ListN.{length, drop};
 ghost use Rattle.rules.specs.Base.{within as inRange};
-ghost use Rattle.lines.specs.LineForms.{blankOf, Blanks, opensHere, charOf, keyChar, CleanRun, KeyRun, refusedAs, shortForm, bareForm, equalForm, braceForm};
+ghost use Rattle.lines.specs.LineForms.{blankOf, Blanks, opensHere, charOf, keyChar, keyByte, Passed, KeyPassed, CleanRun, KeyRun, refusedAs, shortForm, bareForm, equalForm, braceForm};
 ghost use Rattle.lines.specs.LineLook.{seenAt, foundAt, crHere, soundAt, lookFrom, lookIn};
 
 const TAB: u8 = 9;
@@ -80,15 +80,21 @@ fn opens_at(s: &[u8], i: usize) -> bool
     s[next] == b'{'
 }
 
+// Whether a byte is of a run.
+fn in_run(lo: u64, hi: u64, b: u8) -> bool
+    ensures { λ r. ⌜ r ≡ inRange lo hi b ⌝ }
+{
+    within(lo, hi, b as u64)
+}
+
 // Whether a byte is of one of two runs.
 fn in_either(lo: u64, hi: u64, from: u64, to: u64, b: u8) -> bool
     ensures { λ r. ⌜ r ≡ (inRange lo hi b || inRange from to b) ⌝ }
 {
-    let n = b as u64;
-    if within(lo, hi, n) {
+    if in_run(lo, hi, b) {
         return true;
     }
-    within(from, to, n)
+    in_run(from, to, b)
 }
 
 // How many bytes the character at a place has: one that stands alone, or a pair; 0 where none that is allowed stands there.
@@ -127,18 +133,61 @@ fn key_char(t: &[u8], i: usize) -> usize
     char_at(t, i)
 }
 
+// Over printing ASCII from a place on: nearly all bytes are of these, so the loop tests nothing else.
+fn plain_run(t: &[u8], from: usize) -> usize
+    requires { ⌜ from ≤ length (now t) ⌝ }
+    ensures { λ r. ⌜ Passed (now (t .entry)) from r ⌝ }
+{
+    let mut i = from;
+    while i < t.len() {
+        if !in_run(32, 126, t[i]) {
+            return i;
+        }
+        i += 1;
+    }
+    i
+}
+
+// Printing ASCII that cannot end a key.
+fn key_byte(b: u8) -> bool
+    ensures { λ r. ⌜ r ≡ keyByte b ⌝ }
+{
+    if b == b'=' {
+        return false;
+    }
+    if b == b':' {
+        return false;
+    }
+    in_run(32, 126, b)
+}
+
+// The same over these, from a place on.
+fn plain_key(t: &[u8], from: usize) -> usize
+    requires { ⌜ from ≤ length (now t) ⌝ }
+    ensures { λ r. ⌜ KeyPassed (now (t .entry)) from r ⌝ }
+{
+    let mut i = from;
+    while i < t.len() {
+        if !key_byte(t[i]) {
+            return i;
+        }
+        i += 1;
+    }
+    i
+}
+
 // Over the allowed bytes from a place on.
 fn clean_run(t: &[u8], from: usize) -> usize
     requires { ⌜ from ≤ length (now t) ⌝ }
     ensures { λ r. ⌜ CleanRun (now (t .entry)) from r ⌝ }
 {
-    let mut i = from;
+    let mut i = plain_run(t, from);
     while i < t.len() {
         let n = char_at(t, i);
         if n == 0 {
             return i;
         }
-        i += n;
+        i = plain_run(t, i + n);
     }
     i
 }
@@ -148,13 +197,13 @@ fn key_run(t: &[u8], from: usize) -> usize
     requires { ⌜ from ≤ length (now t) ⌝ }
     ensures { λ r. ⌜ KeyRun (now (t .entry)) from r ⌝ }
 {
-    let mut i = from;
+    let mut i = plain_key(t, from);
     while i < t.len() {
         let n = key_char(t, i);
         if n == 0 {
             return i;
         }
-        i += n;
+        i = plain_key(t, i + n);
     }
     i
 }
@@ -251,6 +300,7 @@ fn unread(form: LineForm, t: &[u8], at: u32, end: u32) -> Look
     seen(form, at + n as u32, end)
 }
 
+// Whether a CR stands at a place.
 fn cr_at(t: &[u8], i: usize) -> bool
     ensures { λ r. ⌜ r ≡ crHere (drop i (now (t .entry))) ⌝ }
 {

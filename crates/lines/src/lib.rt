@@ -30,6 +30,8 @@ pub enum Look {
 // No spool has more bytes, and so no volume.
 const MOST_BYTES: usize = 61440;
 
+const MOST_VOLUMES: usize = 12;
+
 const CR: u8 = 13;
 
 const SPACE: u8 = 32;

@@ -2,6 +2,7 @@
 use crate::Head;
 use crate::Layout;
 use crate::MOST_BYTES;
+use crate::MOST_VOLUMES;
 use crate::SPACE;
 use crate::names::good_name;
 use crate::names::names_differ;
@@ -12,8 +13,6 @@ ghost use lib.ListN.{length};
 ghost use Rattle.rules.specs.Spool.{volumesOf};
 ghost use Rattle.lines.specs.VolumeNames.{nameAt};
 ghost use Rattle.lines.specs.VolumePlaces.{headIn, noLayout, layoutOf, walked};
-
-const MOST_VOLUMES: usize = 12;
 
 const HEAD_BYTES: usize = 12;
 

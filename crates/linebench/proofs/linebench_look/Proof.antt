@@ -4,48 +4,34 @@ use Rattle.linebench.specs.Packed.{packed}
 use borrow.Author.Needs.{needs}
 use Rattle.linebench.proofs.linebench_look.Statement.{statement}
 use Rattle.linebench.proofs.linebench_look.Tie as tie
-use Rattle.linebench.proofs.linebench_look.Reads as reads
-use Rattle.linebench.proofs.linebench_look.Lts as lts
-use Rattle.linebench.proofs.kind_of.Reads as kind-of-reads
-use Rattle.lines.proofs.forms.look.Reads as look-reads
 
--- src/lib.rt:41:11
 look-requires : tie.Need-look-requires
 look-requires c κs = search needs
 
--- src/lib.rt:42:22
 enum-told : tie.Need-enum-told
 enum-told c = search needs
 
--- src/lib.rt:43:20
 enum-known-f : tie.Need-enum-known-f
 enum-known-f c = search needs
 
--- src/lib.rt:45:13
 cast-result : tie.Need-cast-result
 cast-result c = search needs
 
--- src/lib.rt:45:13
 mul-result : tie.Need-mul-result
 mul-result c = search needs
 
--- src/lib.rt:45:42
 kind-of-requires : tie.Need-kind-of-requires
 kind-of-requires c κs = search needs
 
--- src/lib.rt:45:42
 cast-result-2 : tie.Need-cast-result-2
 cast-result-2 c = search needs
 
--- src/lib.rt:45:13
 add-result : tie.Need-add-result
 add-result c = search needs
 
--- src/lib.rt:37:1
 returns : tie.Need-returns
 returns c = ap packed (sym (c .enum-told .given .1) ∙ c .before .before .look .ensures)
 
--- src/lib.rt:37:1
 returns-2 : tie.Need-returns-2
 returns-2 c = ap (λ k. c .before .before .before .f .given .0 .0 .next * 4294967296 + k) (c .kind-of .ensures) ∙ ap packed (sym (c .before .before .before .f .given .1) ∙ c .before .before .before .before .before .look .ensures)
 

@@ -3,20 +3,13 @@ use Rattle.lines.specs.LineEnds.{firstUnsound}
 use borrow.Author.Needs.{needs}
 use Rattle.linebench.proofs.linebench_unsound.Statement.{statement}
 use Rattle.linebench.proofs.linebench_unsound.Tie as tie
-use Rattle.linebench.proofs.linebench_unsound.Reads as reads
-use Rattle.linebench.proofs.linebench_unsound.Lts as lts
-use Rattle.lines.proofs.ends.first_unsound.Reads as first-unsound-reads
-use Rattle.lines.proofs.spool.volumes.Reads as volumes-reads
 
--- src/lib.rt:19:22
 volumes-requires : tie.Need-volumes-requires
 volumes-requires c κs = search needs
 
--- src/lib.rt:19:5
 first-unsound-requires : tie.Need-first-unsound-requires
 first-unsound-requires c κs = search needs
 
--- src/lib.rt:15:1
 returns : tie.Need-returns
 returns c = c .first-unsound .ensures ∙ ap (firstUnsound (c .before .before .before .args .s .now)) (c .before .volumes .ensures)
 

@@ -1,14 +1,11 @@
-use mathlib.Core.Path.{_≡_, sym, _∙_, ap}
+use mathlib.Core.Path.{_≡_, sym, _∙_}
 use native.Mathlib.Omega.{arith}
 use Prim.Native.Nat.{_-_, _≤_, _+_}
-use lib.ListN.{length, drop, take, length-drop}
+use lib.ListN.{length, drop}
 use Rattle.lines.specs.LineEnds.{plainRun}
 use Rattle.lines.proofs.SoundEnds as laws
 use Rattle.lines.proofs.ends.end_from.Statement.{statement}
 use Rattle.lines.proofs.ends.end_from.Tie as tie
-use Rattle.lines.proofs.ends.end_from.Reads as reads
-use Rattle.lines.proofs.ends.end_from.Lts as lts
-use Rattle.lines.proofs.ends.is_end.Reads as is-end-reads
 
 abbrev Inv-loop : tie.InvT-loop
 Inv-loop s from i₀ i = (i ≤ length s) × (from + plainRun (drop from s) ≡ i + plainRun (drop i s))
@@ -16,35 +13,27 @@ Inv-loop s from i₀ i = (i ≤ length s) × (from + plainRun (drop from s) ≡ 
 abbrev μ-loop : tie.MeasureT-loop
 μ-loop s from i₀ i = length s - i
 
--- src/ends.rt:41:5
 loop-holds : tie.Need-loop-holds Inv-loop μ-loop
 loop-holds c = (c .before .pre, omega arith)
 
--- src/ends.rt:42:19
 shared-slice-read-is-end : tie.Need-shared-slice-read-is-end Inv-loop μ-loop
 shared-slice-read-is-end c = omega arith
 
--- src/ends.rt:42:12
 is-end-requires : tie.Need-is-end-requires Inv-loop μ-loop
 is-end-requires c κs = tt
 
--- src/ends.rt:43:13
 returns : tie.Need-returns Inv-loop μ-loop
 returns c = omega (arith, c .before .before .before .before .loop .inv .1, laws.run-stop (c .before .before .before .before .before .before .args .s .now) (c .before .before .before .before .loop .i) (c .before .before .before .loop-test .taken) (sym (c .before .is-end .ensures) ∙ c .if1 .taken))
 
--- src/ends.rt:45:9
 add-i : tie.Need-add-i Inv-loop μ-loop
 add-i c = omega arith
 
--- src/ends.rt:41:5
 loop-less : tie.Need-loop-less Inv-loop μ-loop
 loop-less c = omega arith
 
--- src/ends.rt:41:5
 loop-again : tie.Need-loop-again Inv-loop μ-loop
 loop-again c = (omega arith, omega (arith, c .before .before .before .before .loop .inv .1, laws.run-more (c .before .before .before .before .before .before .args .s .now) (c .before .before .before .before .loop .i) (c .before .before .before .loop-test .taken) (sym (c .before .is-end .ensures) ∙ c .if1 .left)))
 
--- src/ends.rt:36:1
 returns-2 : tie.Need-returns-2 Inv-loop μ-loop
 returns-2 c = omega (arith, c .before .loop .inv .1, laws.run-end (c .before .before .before .args .s .now) (c .before .loop .i) (c .loop-test .left))
 

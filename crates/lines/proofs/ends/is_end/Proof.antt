@@ -1,24 +1,17 @@
-use mathlib.Core.Path.{_≡_, sym, _∙_, ap}
-use native.Mathlib.Omega.{arith}
+use mathlib.Core.Path.{sym}
 use Rattle.lines.proofs.SoundEnds as laws
 use Rattle.lines.proofs.ends.is_end.Statement.{statement}
 use Rattle.lines.proofs.ends.is_end.Tie as tie
-use Rattle.lines.proofs.ends.is_end.Reads as reads
-use Rattle.lines.proofs.ends.is_end.Lts as lts
 
--- src/ends.rt:24:9
 returns : tie.Need-returns
 returns c = sym (laws.end-high (c .before .args .b) (c .if1 .taken))
 
--- src/ends.rt:27:9
 returns-2 : tie.Need-returns-2
 returns-2 c = sym (laws.end-cr (c .before .before .args .b) (c .if2 .taken))
 
--- src/ends.rt:30:9
 returns-3 : tie.Need-returns-3
 returns-3 c = sym (laws.end-sub (c .before .before .before .args .b) (c .if3 .taken))
 
--- src/ends.rt:20:1
 returns-4 : tie.Need-returns-4
 returns-4 c = sym (laws.end-by (c .before .before .before .args .b) (c .before .if2 .left) (c .if3 .left))
 

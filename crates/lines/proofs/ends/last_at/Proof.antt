@@ -1,29 +1,21 @@
-use mathlib.Core.Path.{_≡_, sym, _∙_, ap}
-use native.Mathlib.Omega.{arith}
+use mathlib.Core.Path.{sym}
 use Rattle.lines.proofs.SoundEnds as laws
 use borrow.Author.Needs.{needs}
 use Rattle.lines.proofs.ends.last_at.Statement.{statement}
 use Rattle.lines.proofs.ends.last_at.Tie as tie
-use Rattle.lines.proofs.ends.last_at.Reads as reads
-use Rattle.lines.proofs.ends.last_at.Lts as lts
 
--- src/ends.rt:55:8
 shared-slice-read-if1 : tie.Need-shared-slice-read-if1
 shared-slice-read-if1 c = search needs
 
--- src/ends.rt:56:9
 returns : tie.Need-returns
 returns c = sym (laws.last-not (c .before .before .args .s .now) (c .before .before .args .from) (c .before .before .args .e) (c .before .before .pre) (c .if1 .taken))
 
--- src/ends.rt:59:9
 returns-2 : tie.Need-returns-2
 returns-2 c = sym (laws.last-inside (c .before .before .before .args .s .now) (c .before .before .before .args .from) (c .before .before .before .args .e) (c .before .before .before .pre) (c .before .if1 .left) (c .if2 .taken))
 
--- src/ends.rt:61:5
 add-result : tie.Need-add-result
 add-result c = search needs
 
--- src/ends.rt:51:1
 returns-3 : tie.Need-returns-3
 returns-3 c = sym (laws.last-by (c .before .before .before .args .s .now) (c .before .before .before .args .from) (c .before .before .before .args .e) (c .before .before .before .pre) (c .before .if1 .left) (c .if2 .left))
 

@@ -1,67 +1,51 @@
 use mathlib.Core.Path.{_≡_, sym, _∙_, ap}
 use native.Mathlib.Omega.{arith}
-use Prim.Native.Nat.{_-_, _≤_, _+_}
-use lib.ListN.{length, drop, take, length-drop}
+use Prim.Native.Nat.{_-_, _+_}
+use lib.ListN.{drop, take}
 use Rattle.rules.specs.Base.{isSome}
-use Rattle.rules.specs.Spool.{linesOf, mostVolumes}
+use Rattle.rules.specs.Spool.{linesOf}
 use Rattle.lines.proofs.VolumePlaces.{tail-is}
 use Rattle.lines.proofs.SoundEnds as laws
 use borrow.Author.Needs.{needs}
 use Rattle.lines.proofs.ends.sound_at.Statement.{statement}
 use Rattle.lines.proofs.ends.sound_at.Tie as tie
-use Rattle.lines.proofs.ends.sound_at.Reads as reads
-use Rattle.lines.proofs.ends.sound_at.Lts as lts
-use Rattle.lines.proofs.ends.sound_lines.Reads as sound-lines-reads
 
--- src/ends.rt:98:9
 returns : tie.Need-returns
 returns c = sym (laws.part-none (c .before .before .args .s .now) (c .before .before .args .place) (c .before .before .args .size) (c .if1 .taken))
 
--- src/ends.rt:101:8
 sub-if2 : tie.Need-sub-if2
 sub-if2 c = search needs
 
--- src/ends.rt:102:28
 sub-sound-lines : tie.Need-sub-sound-lines
 sub-sound-lines c = search needs
 
--- src/ends.rt:102:28
 part-sound-lines-start : tie.Need-part-sound-lines-start
 part-sound-lines-start c = search needs
 
--- src/ends.rt:102:28
 part-sound-lines-end : tie.Need-part-sound-lines-end
 part-sound-lines-end c = search needs
 
--- src/ends.rt:102:9
 sound-lines-requires : tie.Need-sound-lines-requires
 sound-lines-requires c κs = search needs
 
--- src/ends.rt:102:9
 returns-2 : tie.Need-returns-2
 returns-2 c = c .sound-lines .ensures ∙ ap (λ t. isSome (linesOf t)) (tail-is (c .before .before .before .before .before .args .s .now) (c .before .before .before .before .before .args .place) ∙ sym (laws.part-all (c .before .before .before .before .before .args .s .now) (c .before .before .before .before .before .args .place) (c .before .before .before .before .before .args .size) (c .before .before .if2 .taken)))
 
--- src/ends.rt:104:14
 add-to : tie.Need-add-to
 add-to c = search needs
 
--- src/ends.rt:105:17
 sub-sound-lines-2 : tie.Need-sub-sound-lines-2
 sub-sound-lines-2 c = search needs
 
--- src/ends.rt:105:17
 part-sound-lines-start-2 : tie.Need-part-sound-lines-start-2
 part-sound-lines-start-2 c = search needs
 
--- src/ends.rt:105:17
 part-sound-lines-end-2 : tie.Need-part-sound-lines-end-2
 part-sound-lines-end-2 c = search needs
 
--- src/ends.rt:105:5
 sound-lines-requires-2 : tie.Need-sound-lines-requires-2
 sound-lines-requires-2 c κs = search needs
 
--- src/ends.rt:93:1
 returns-3 : tie.Need-returns-3
 returns-3 c = c .sound-lines2 .ensures ∙ (let e : (c .before .before .before .before .before .args .place) + (c .before .before .before .before .before .args .size) - (c .before .before .before .before .before .args .place) ≡ (c .before .before .before .before .before .args .size) = omega arith in ap (λ k. isSome (linesOf (take k (drop (c .before .before .before .before .before .args .place) (c .before .before .before .before .before .args .s .now))))) e)
 

@@ -4,37 +4,29 @@ use borrow.Author.Needs.{needs}
 use Rattle.lines.proofs.forms.bare_form.Statement.{statement}
 use Rattle.lines.proofs.forms.bare_form.Tie as tie
 
--- src/forms.rt:118:16
 slice-aggregate-same : tie.Need-slice-aggregate-same
 slice-aggregate-same c = search needs
 
--- src/forms.rt:118:8
 same-requires : tie.Need-same-requires
 same-requires c κs = search needs
 
--- src/forms.rt:119:9
 returns : tie.Need-returns
 unfolding bareForm
 returns c = sym (rw (sym (c .before .same .ensures) ∙ c .if1 .taken))
 
--- src/forms.rt:121:16
 slice-aggregate-same-2 : tie.Need-slice-aggregate-same-2
 slice-aggregate-same-2 c = search needs
 
--- src/forms.rt:121:8
 same-requires-2 : tie.Need-same-requires-2
 same-requires-2 c κs = search needs
 
--- src/forms.rt:122:9
 returns-2 : tie.Need-returns-2
 unfolding bareForm
 returns-2 c = sym (rw (sym (c .before .before .before .before .same .ensures) ∙ c .before .before .before .if1 .left, sym (c .before .same2 .ensures) ∙ c .if2 .taken))
 
--- src/forms.rt:124:5
 refused-requires : tie.Need-refused-requires
 refused-requires c κs = search needs
 
--- src/forms.rt:115:1
 returns-3 : tie.Need-returns-3
 unfolding bareForm
 returns-3 c = c .refused .ensures ∙ sym (rw (sym (c .before .before .before .before .before .same .ensures) ∙ c .before .before .before .before .if1 .left, sym (c .before .before .same2 .ensures) ∙ c .before .if2 .left))

@@ -5,47 +5,36 @@ use borrow.Author.Needs.{needs}
 use Rattle.lines.proofs.forms.blank_at.Statement.{statement}
 use Rattle.lines.proofs.forms.blank_at.Tie as tie
 
--- src/forms.rt:28:8
 shared-slice-read-if1 : tie.Need-shared-slice-read-if1
 shared-slice-read-if1 c = search needs
 
--- src/forms.rt:29:9
 returns : tie.Need-returns
 returns c = sym (laws.blank-space (c .before .before .args .s .now) (c .before .before .args .i) (omega arith) (c .if1 .taken))
 
--- src/forms.rt:31:8
 shared-slice-read-if2 : tie.Need-shared-slice-read-if2
 shared-slice-read-if2 c = search needs
 
--- src/forms.rt:32:9
 returns-2 : tie.Need-returns-2
 returns-2 c = sym (laws.blank-tab (c .before .before .before .before .args .s .now) (c .before .before .before .before .args .i) (omega arith) (c .if2 .taken))
 
--- src/forms.rt:34:8
 shared-slice-read-if3 : tie.Need-shared-slice-read-if3
 shared-slice-read-if3 c = search needs
 
--- src/forms.rt:35:9
 returns-3 : tie.Need-returns-3
 returns-3 c = sym (laws.blank-other (c .before .before .before .before .before .before .args .s .now) (c .before .before .before .before .before .before .args .i) (omega arith) (c .before .before .before .before .if1 .left) (c .before .before .if2 .left) (c .if3 .taken))
 
--- src/forms.rt:37:16
 add-next : tie.Need-add-next
 add-next c = search needs
 
--- src/forms.rt:39:9
 returns-4 : tie.Need-returns-4
 returns-4 c = sym (laws.blank-last (c .before .before .before .before .before .before .before .args .s .now) (c .before .before .before .before .before .before .before .args .i) (omega arith) (c .before .before .before .before .before .if1 .left) (c .before .before .before .if2 .left) (c .if4 .taken))
 
--- src/forms.rt:41:8
 shared-slice-read-if5 : tie.Need-shared-slice-read-if5
 shared-slice-read-if5 c = search needs
 
--- src/forms.rt:42:9
 returns-5 : tie.Need-returns-5
 returns-5 c = sym (laws.blank-half (c .before .before .before .before .before .before .before .before .before .args .s .now) (c .before .before .before .before .before .before .before .before .before .args .i) (omega arith) (c .before .before .before .before .before .before .before .if1 .left) (c .before .before .before .before .before .if2 .left) (c .before .before .before .if3 .left) (c .before .before .if4 .left) (c .if5 .taken))
 
--- src/forms.rt:24:1
 returns-6 : tie.Need-returns-6
 returns-6 c = sym (laws.blank-wide (c .before .before .before .before .before .before .before .before .before .args .s .now) (c .before .before .before .before .before .before .before .before .before .args .i) (omega arith) (c .before .before .before .before .before .before .before .if1 .left) (c .before .before .before .before .before .if2 .left) (c .before .before .before .if3 .left) (c .before .before .if4 .left) (c .if5 .left))
 

@@ -5,33 +5,26 @@ use borrow.Author.Needs.{needs}
 use Rattle.lines.proofs.forms.brace_form.Statement.{statement}
 use Rattle.lines.proofs.forms.brace_form.Tie as tie
 
--- src/forms.rt:153:8
 add-if1 : tie.Need-add-if1
 add-if1 c = search needs
 
--- src/forms.rt:153:8
 add-if1-2 : tie.Need-add-if1-2
 add-if1-2 c = search needs
 
--- src/forms.rt:154:9
 refused-requires : tie.Need-refused-requires
 refused-requires c κs = search needs
 
--- src/forms.rt:154:9
 returns : tie.Need-returns
 unfolding braceForm
 returns c = c .refused .ensures ∙ sym (rw (ne-eqb _ _ (c .before .if1 .taken)))
 
--- src/forms.rt:157:9
 refused-requires-2 : tie.Need-refused-requires-2
 refused-requires-2 c κs = search needs
 
--- src/forms.rt:157:9
 returns-2 : tie.Need-returns-2
 unfolding braceForm
 returns-2 c = c .refused2 .ensures ∙ sym (rw (eq-eqb _ _ (c .before .before .if1 .left), eq-eqb _ _ (c .before .if2 .taken)))
 
--- src/forms.rt:149:1
 returns-3 : tie.Need-returns-3
 unfolding braceForm
 returns-3 c = sym (rw (eq-eqb _ _ (c .before .if1 .left), ne-eqb _ _ (c .if2 .left)))

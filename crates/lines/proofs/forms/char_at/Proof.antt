@@ -1,4 +1,4 @@
-use mathlib.Core.Path.{_≡_, sym, _∙_, ap}
+use mathlib.Core.Path.{sym, _∙_, ap}
 use native.Mathlib.Omega.{arith}
 use borrow.Author.Tests.{not-true, not-false}
 use mathlib.Core.Bool.{cond}
@@ -6,51 +6,37 @@ use Rattle.lines.proofs.LineLook as laws
 use borrow.Author.Needs.{needs}
 use Rattle.lines.proofs.forms.char_at.Statement.{statement}
 use Rattle.lines.proofs.forms.char_at.Tie as tie
-use Rattle.lines.proofs.forms.char_at.Reads as reads
-use Rattle.lines.proofs.forms.char_at.Lts as lts
-use Rattle.lines.proofs.forms.in_either.Reads as in-either-reads
 
--- src/forms.rt:100:13
 shared-slice-read-b : tie.Need-shared-slice-read-b
 shared-slice-read-b c = search needs
 
--- src/forms.rt:101:8
 in-either-requires : tie.Need-in-either-requires
 in-either-requires c κs = search needs
 
--- src/forms.rt:102:9
 returns : tie.Need-returns
 returns c = sym (laws.char-alone (c .before .before .before .before .args .t .now) (c .before .before .before .before .args .i) (omega arith) (sym (c .before .in-either .ensures) ∙ c .if1 .taken))
 
--- src/forms.rt:104:9
 in-either-requires-2 : tie.Need-in-either-requires-2
 in-either-requires-2 c κs = search needs
 
--- src/forms.rt:105:9
 returns-2 : tie.Need-returns-2
 returns-2 c = sym (laws.char-none (c .before .before .before .before .before .before .args .t .now) (c .before .before .before .before .before .before .args .i) (omega arith) (sym (c .before .before .before .in-either .ensures) ∙ c .before .before .if1 .left) (sym (c .before .in-either2 .ensures) ∙ not-true _ (c .if2 .taken)))
 
--- src/forms.rt:107:16
 add-next : tie.Need-add-next
 add-next c = search needs
 
--- src/forms.rt:109:9
 returns-3 : tie.Need-returns-3
 returns-3 c = sym (laws.char-last (c .before .before .before .before .before .before .before .args .t .now) (c .before .before .before .before .before .before .before .args .i) (omega arith) (sym (c .before .before .before .before .in-either .ensures) ∙ c .before .before .before .if1 .left) (c .if3 .taken))
 
--- src/forms.rt:111:38
 shared-slice-read-in-either : tie.Need-shared-slice-read-in-either
 shared-slice-read-in-either c = search needs
 
--- src/forms.rt:111:9
 in-either-requires-3 : tie.Need-in-either-requires-3
 in-either-requires-3 c κs = search needs
 
--- src/forms.rt:112:9
 returns-4 : tie.Need-returns-4
 returns-4 c = sym (laws.char-pair (c .before .before .before .before .before .before .before .before .before .before .args .t .now) (c .before .before .before .before .before .before .before .before .before .before .args .i) (omega arith) (sym (c .before .before .before .before .before .before .before .in-either .ensures) ∙ c .before .before .before .before .before .before .if1 .left) (sym (c .before .before .before .before .before .in-either2 .ensures) ∙ not-false _ (c .before .before .before .before .if2 .left)) (c .before .before .before .if3 .left) ∙ ap (λ b. cond b 2 0) (sym (c .before .in-either3 .ensures) ∙ not-true _ (c .if4 .taken)))
 
--- src/forms.rt:96:1
 returns-5 : tie.Need-returns-5
 returns-5 c = sym (laws.char-pair (c .before .before .before .before .before .before .before .before .before .before .args .t .now) (c .before .before .before .before .before .before .before .before .before .before .args .i) (omega arith) (sym (c .before .before .before .before .before .before .before .in-either .ensures) ∙ c .before .before .before .before .before .before .if1 .left) (sym (c .before .before .before .before .before .in-either2 .ensures) ∙ not-false _ (c .before .before .before .before .if2 .left)) (c .before .before .before .if3 .left) ∙ ap (λ b. cond b 2 0) (sym (c .before .in-either3 .ensures) ∙ not-false _ (c .if4 .left)))
 

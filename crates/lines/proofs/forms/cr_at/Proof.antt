@@ -1,20 +1,15 @@
-use mathlib.Core.Path.{_≡_, sym, _∙_, ap}
+use mathlib.Core.Path.{sym}
 use Rattle.lines.proofs.LineLook as laws
 use borrow.Author.Needs.{needs}
 use Rattle.lines.proofs.forms.cr_at.Statement.{statement}
 use Rattle.lines.proofs.forms.cr_at.Tie as tie
-use Rattle.lines.proofs.forms.cr_at.Reads as reads
-use Rattle.lines.proofs.forms.cr_at.Lts as lts
 
--- src/forms.rt:259:9
 returns : tie.Need-returns
 returns c = sym (laws.cr-none (c .before .args .t .now) (c .before .args .i) (c .if1 .taken))
 
--- src/forms.rt:261:5
 shared-slice-read-result : tie.Need-shared-slice-read-result
 shared-slice-read-result c = search needs
 
--- src/forms.rt:255:1
 returns-2 : tie.Need-returns-2
 returns-2 c = sym (laws.cr-by (c .before .before .args .t .now) (c .before .before .args .i) (c .before .if1 .left))
 

@@ -5,28 +5,22 @@ use borrow.Author.Needs.{needs}
 use Rattle.lines.proofs.forms.equal_form.Statement.{statement}
 use Rattle.lines.proofs.forms.equal_form.Tie as tie
 
--- src/forms.rt:133:9
 refused-requires : tie.Need-refused-requires
 refused-requires c κs = search needs
 
--- src/forms.rt:133:9
 returns : tie.Need-returns
 unfolding equalForm
 returns c = c .refused .ensures ∙ sym (rw (eq-eqb _ _ (c .before .if1 .taken)))
 
--- src/forms.rt:135:16
 add-rest : tie.Need-add-rest
 add-rest c = search needs
 
--- src/forms.rt:135:16
 add-rest-2 : tie.Need-add-rest-2
 add-rest-2 c = search needs
 
--- src/forms.rt:143:18
 sub-t8 : tie.Need-sub-t8
 sub-t8 c = search needs
 
--- src/forms.rt:128:1
 returns-2 : tie.Need-returns-2
 unfolding equalForm
 returns-2 c = sym (rw (ne-eqb _ _ (c .if1 .left)))

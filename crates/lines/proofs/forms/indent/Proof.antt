@@ -1,7 +1,7 @@
 use Prim.Native.Nat.{_-_, _≤_}
-use mathlib.Core.Path.{_≡_, refl, sym, _∙_}
+use mathlib.Core.Path.{sym, _∙_}
 use native.Mathlib.Omega.{arith}
-use lib.ListN.{length, drop, length-drop}
+use lib.ListN.{length}
 use Rattle.lines.proofs.LineLook as laws
 use Rattle.lines.proofs.forms.indent.Statement.{statement}
 use Rattle.lines.proofs.forms.indent.Tie as tie
@@ -12,31 +12,24 @@ Inv-loop s i₀ i = (i ≤ length s) × laws.BlanksYet s i
 abbrev μ-loop : tie.MeasureT-loop
 μ-loop s i₀ i = length s - i
 
--- src/forms.rt:52:5
 loop-holds : tie.Need-loop-holds Inv-loop μ-loop
 loop-holds c = (omega arith, laws.blanks-start (c .before .args .s .now))
 
--- src/forms.rt:53:13
 blank-at-requires : tie.Need-blank-at-requires Inv-loop μ-loop
 blank-at-requires c κs = omega arith
 
--- src/forms.rt:55:13
 returns : tie.Need-returns Inv-loop μ-loop
 returns c = laws.blanks-stop (c .before .before .before .before .before .args .s .now) (c .before .before .before .loop .i) (c .before .before .before .loop .inv .1) (sym (c .before .blank-at .ensures) ∙ c .if1 .taken)
 
--- src/forms.rt:57:9
 add-i : tie.Need-add-i Inv-loop μ-loop
 add-i c = omega (arith, c .before .blank-at .ensures, laws.blanks-le (c .before .before .before .before .before .args .s .now) (c .before .before .before .loop .i) (c .before .before .before .loop .inv .1))
 
--- src/forms.rt:52:5
 loop-less : tie.Need-loop-less Inv-loop μ-loop
 loop-less c = omega (arith, c .before .blank-at .ensures, laws.blanks-le (c .before .before .before .before .before .args .s .now) (c .before .before .before .loop .i) (c .before .before .before .loop .inv .1))
 
--- src/forms.rt:52:5
 loop-again : tie.Need-loop-again Inv-loop μ-loop
 loop-again c = (omega (arith, c .before .blank-at .ensures, laws.blanks-le (c .before .before .before .before .before .args .s .now) (c .before .before .before .loop .i) (c .before .before .before .loop .inv .1)), rw (c .before .blank-at .ensures) (laws.blanks-more (c .before .before .before .before .before .args .s .now) (c .before .before .before .loop .i) (c .before .before .before .loop .inv .1)))
 
--- src/forms.rt:48:1
 returns-2 : tie.Need-returns-2 Inv-loop μ-loop
 returns-2 c = laws.blanks-end (c .before .before .before .args .s .now) (c .before .loop .i) (c .before .loop .inv .1) (c .loop-test .left)
 

@@ -1,35 +1,25 @@
-use mathlib.Core.Path.{_≡_, sym, _∙_, ap}
+use mathlib.Core.Path.{sym, _∙_}
 use native.Mathlib.Omega.{arith}
 use Rattle.lines.proofs.LineLook as laws
 use borrow.Author.Needs.{needs}
 use Rattle.lines.proofs.forms.key_char.Statement.{statement}
 use Rattle.lines.proofs.forms.key_char.Tie as tie
-use Rattle.lines.proofs.forms.key_char.Reads as reads
-use Rattle.lines.proofs.forms.key_char.Lts as lts
-use Rattle.lines.proofs.forms.char_at.Reads as char-at-reads
-use Rattle.lines.proofs.forms.opens_at.Reads as opens-at-reads
 
--- src/forms.rt:122:8
 shared-slice-read-if1 : tie.Need-shared-slice-read-if1
 shared-slice-read-if1 c = search needs
 
--- src/forms.rt:123:9
 returns : tie.Need-returns
 returns c = sym (laws.key-equal (c .before .before .before .args .t .now) (c .before .before .before .args .i) (omega arith) (c .if1 .taken))
 
--- src/forms.rt:125:8
 opens-at-requires : tie.Need-opens-at-requires
 opens-at-requires c κs = search needs
 
--- src/forms.rt:126:9
 returns-2 : tie.Need-returns-2
 returns-2 c = sym (laws.key-opens (c .before .before .before .before .before .args .t .now) (c .before .before .before .before .before .args .i) (omega arith) (c .before .before .if1 .left) (sym (c .before .opens-at .ensures) ∙ c .if2 .taken))
 
--- src/forms.rt:128:5
 char-at-requires : tie.Need-char-at-requires
 char-at-requires c κs = search needs
 
--- src/forms.rt:118:1
 returns-3 : tie.Need-returns-3
 returns-3 c = c .char-at .ensures ∙ sym (laws.key-char (c .before .before .before .before .before .before .args .t .now) (c .before .before .before .before .before .before .args .i) (omega arith) (c .before .before .before .if1 .left) (sym (c .before .before .opens-at .ensures) ∙ c .before .if2 .left))
 

@@ -1,6 +1,6 @@
-use mathlib.Core.Path.{_≡_, sym, _∙_, ap}
+use mathlib.Core.Path.{sym, _∙_, ap}
 use native.Mathlib.Omega.{arith}
-use Prim.Native.Nat.{_-_, _≤_, _+_}
+use Prim.Native.Nat.{_-_, _+_}
 use lib.ListN.{length, drop, take}
 use Rattle.lines.specs.LineLook.{seenAt, foundAt, soundAt}
 use Rattle.lines.specs.LineForms.{refusedAs}
@@ -9,193 +9,136 @@ use Rattle.lines.proofs.LineLook as laws
 use borrow.Author.Needs.{needs}
 use Rattle.lines.proofs.forms.look_from.Statement.{statement}
 use Rattle.lines.proofs.forms.look_from.Tie as tie
-use Rattle.lines.proofs.forms.look_from.Reads as reads
-use Rattle.lines.proofs.forms.look_from.Lts as lts
-use Rattle.lines.proofs.forms.brace_form.Reads as brace-form-reads
-use Rattle.lines.proofs.forms.clean_run.Reads as clean-run-reads
-use Rattle.lines.proofs.forms.equal_form.Reads as equal-form-reads
-use Rattle.lines.proofs.forms.indent.Reads as indent-reads
-use Rattle.lines.proofs.forms.key_run.Reads as key-run-reads
-use Rattle.lines.proofs.forms.opens_at.Reads as opens-at-reads
-use Rattle.lines.proofs.forms.refused.Reads as refused-reads
-use Rattle.lines.proofs.forms.seen.Reads as seen-reads
-use Rattle.lines.proofs.forms.short_form.Reads as short-form-reads
-use Rattle.lines.proofs.forms.sound.Reads as sound-reads
-use Rattle.lines.proofs.forms.unread.Reads as unread-reads
 
--- src/forms.rt:281:9
 returns : tie.Need-returns
 returns c = sym (laws.look-empty (c .before .before .args .volume) (c .before .before .args .line) (c .before .before .args .at) (c .before .before .args .end) (c .before .before .args .t .now) (c .if1 .taken))
 
--- src/forms.rt:283:8
 shared-slice-read-if2 : tie.Need-shared-slice-read-if2
 shared-slice-read-if2 c = search needs
 
--- src/forms.rt:284:9
 unread-requires : tie.Need-unread-requires
 unread-requires c κs = search needs
 
--- src/forms.rt:284:9
 returns-2 : tie.Need-returns-2
 returns-2 c = c .unread .ensures ∙ laws.look-comment (c .before .before .before .before .before .args .volume) (c .before .before .before .before .before .args .line) (c .before .before .before .before .before .args .at) (c .before .before .before .before .before .args .end) (c .before .before .before .before .before .args .t .now) (omega (arith, c .before .before .before .if1 .left)) (c .before .if2 .taken)
 
--- src/forms.rt:286:9
 indent-requires : tie.Need-indent-requires
 indent-requires c κs = search needs
 
--- src/forms.rt:287:9
 key-run-requires : tie.Need-key-run-requires
 key-run-requires c κs = search needs
 
--- src/forms.rt:289:9
 returns-3 : tie.Need-returns-3
 returns-3 c = sym (laws.look-over (c .before .before .before .before .before .before .before .args .volume) (c .before .before .before .before .before .before .before .args .line) (c .before .before .before .before .before .before .before .args .at) (c .before .before .before .before .before .before .before .args .end) (c .before .before .before .before .before .before .before .args .t .now) (c .before .before .indent .result) (c .before .key-run .result) (c .before .before .indent .ensures) (c .before .key-run .ensures) (c .before .before .before .if2 .left) (c .if3 .taken))
 
--- src/forms.rt:291:8
 shared-slice-read-if4 : tie.Need-shared-slice-read-if4
 shared-slice-read-if4 c = search needs
 
--- src/forms.rt:292:32
 sub-short-form : tie.Need-sub-short-form
 sub-short-form c = search needs
 
--- src/forms.rt:292:32
 part-short-form-start : tie.Need-part-short-form-start
 part-short-form-start c = search needs
 
--- src/forms.rt:292:32
 part-short-form-end : tie.Need-part-short-form-end
 part-short-form-end c = search needs
 
--- src/forms.rt:292:21
 short-form-requires : tie.Need-short-form-requires
 short-form-requires c κs = search needs
 
--- src/forms.rt:292:62
 cast-seen : tie.Need-cast-seen
 cast-seen c = search needs
 
--- src/forms.rt:292:57
 add-seen : tie.Need-add-seen
 add-seen c = search needs
 
--- src/forms.rt:292:9
 seen-requires : tie.Need-seen-requires
 seen-requires c κs = search needs
 
--- src/forms.rt:292:9
 returns-4 : tie.Need-returns-4
 returns-4 c = c .seen .ensures ∙ ap (λ f. seenAt f ((c .before .before .before .before .before .before .before .before .before .before .before .before .args .at) + (c .before .before .before .before .before .before .key-run .result)) (c .before .before .before .before .before .before .before .before .before .before .before .before .args .end)) (c .before .short-form .ensures) ∙ laws.look-short (c .before .before .before .before .before .before .before .before .before .before .before .before .args .volume) (c .before .before .before .before .before .before .before .before .before .before .before .before .args .line) (c .before .before .before .before .before .before .before .before .before .before .before .before .args .at) (c .before .before .before .before .before .before .before .before .before .before .before .before .args .end) (c .before .before .before .before .before .before .before .before .before .before .before .before .args .t .now) (c .before .before .before .before .before .before .before .indent .result) (c .before .before .before .before .before .before .key-run .result) (c .before .before .before .before .before .before .before .indent .ensures) (c .before .before .before .before .before .before .key-run .ensures) (c .before .before .before .before .before .before .before .before .if2 .left) (c .before .before .before .before .before .if3 .left) (c .before .before .before .if4 .taken)
 
--- src/forms.rt:294:22
 cast-first : tie.Need-cast-first
 cast-first c = search needs
 
--- src/forms.rt:294:17
 add-first : tie.Need-add-first
 add-first c = search needs
 
--- src/forms.rt:295:17
 sub-size : tie.Need-sub-size
 sub-size c = search needs
 
--- src/forms.rt:295:16
 cast-size : tie.Need-cast-size
 cast-size c = search needs
 
--- src/forms.rt:296:8
 shared-slice-read-if5 : tie.Need-shared-slice-read-if5
 shared-slice-read-if5 c = search needs
 
--- src/forms.rt:297:30
 add-clean-run : tie.Need-add-clean-run
 add-clean-run c = search needs
 
--- src/forms.rt:297:13
 clean-run-requires : tie.Need-clean-run-requires
 clean-run-requires c κs = search needs
 
--- src/forms.rt:298:51
 cast-equal-form : tie.Need-cast-equal-form
 cast-equal-form c = search needs
 
--- src/forms.rt:298:46
 add-equal-form : tie.Need-add-equal-form
 add-equal-form c = search needs
 
--- src/forms.rt:298:22
 equal-form-requires : tie.Need-equal-form-requires
 equal-form-requires c κs = search needs
 
--- src/forms.rt:298:9
 sound-requires : tie.Need-sound-requires
 sound-requires c κs = search needs
 
--- src/forms.rt:298:9
 returns-5 : tie.Need-returns-5
 returns-5 c = c .sound .ensures ∙ ap (λ f. soundAt f (c .before .before .before .before .before .before .before .before .before .before .before .before .before .before .args .volume) (c .before .before .before .before .before .before .before .before .before .before .before .before .before .before .args .line) ((c .before .before .before .before .before .before .before .before .before .before .before .before .before .before .args .at) + c .before .before .clean-run .result) (c .before .before .before .before .before .before .before .before .before .before .before .before .before .before .args .end) (drop (c .before .before .clean-run .result) (c .before .before .before .before .before .before .before .before .before .before .before .before .before .before .args .t .now))) (c .before .equal-form .ensures) ∙ laws.look-equal (c .before .before .before .before .before .before .before .before .before .before .before .before .before .before .args .volume) (c .before .before .before .before .before .before .before .before .before .before .before .before .before .before .args .line) (c .before .before .before .before .before .before .before .before .before .before .before .before .before .before .args .at) (c .before .before .before .before .before .before .before .before .before .before .before .before .before .before .args .end) (c .before .before .before .before .before .before .before .before .before .before .before .before .before .before .args .t .now) (c .before .before .before .before .before .before .before .before .before .indent .result) (c .before .before .before .before .before .before .before .before .key-run .result) (c .before .before .before .before .before .before .before .before .before .indent .ensures) (c .before .before .before .before .before .before .before .before .key-run .ensures) (c .before .before .before .before .before .before .before .before .before .before .if2 .left) (c .before .before .clean-run .result) (c .before .before .before .before .before .before .before .if3 .left) (c .before .before .before .if5 .taken) (c .before .before .clean-run .ensures)
 
--- src/forms.rt:300:8
 opens-at-requires : tie.Need-opens-at-requires
 opens-at-requires c κs = search needs
 
--- src/forms.rt:301:30
 add-clean-run-2 : tie.Need-add-clean-run-2
 add-clean-run-2 c = search needs
 
--- src/forms.rt:301:13
 clean-run-requires-2 : tie.Need-clean-run-requires-2
 clean-run-requires-2 c κs = laws.opens-inside (c .before .before .before .before .before .before .before .before .before .before .before .before .before .args .t .now) (c .before .before .before .before .before .before .before .key-run .result) (sym (c .before .opens-at .ensures) ∙ c .if6 .taken)
 
--- src/forms.rt:302:51
 cast-brace-form : tie.Need-cast-brace-form
 cast-brace-form c = search needs
 
--- src/forms.rt:302:46
 add-brace-form : tie.Need-add-brace-form
 add-brace-form c = search needs
 
--- src/forms.rt:302:22
 brace-form-requires : tie.Need-brace-form-requires
 brace-form-requires c κs = search needs
 
--- src/forms.rt:302:9
 sound-requires-2 : tie.Need-sound-requires-2
 sound-requires-2 c κs = search needs
 
--- src/forms.rt:302:9
 returns-6 : tie.Need-returns-6
 returns-6 c = c .sound2 .ensures ∙ ap (λ f. soundAt f (c .before .before .before .before .before .before .before .before .before .before .before .before .before .before .before .before .args .volume) (c .before .before .before .before .before .before .before .before .before .before .before .before .before .before .before .before .args .line) ((c .before .before .before .before .before .before .before .before .before .before .before .before .before .before .before .before .args .at) + c .before .before .clean-run2 .result) (c .before .before .before .before .before .before .before .before .before .before .before .before .before .before .before .before .args .end) (drop (c .before .before .clean-run2 .result) (c .before .before .before .before .before .before .before .before .before .before .before .before .before .before .before .before .args .t .now))) (c .before .brace-form .ensures) ∙ laws.look-brace (c .before .before .before .before .before .before .before .before .before .before .before .before .before .before .before .before .args .volume) (c .before .before .before .before .before .before .before .before .before .before .before .before .before .before .before .before .args .line) (c .before .before .before .before .before .before .before .before .before .before .before .before .before .before .before .before .args .at) (c .before .before .before .before .before .before .before .before .before .before .before .before .before .before .before .before .args .end) (c .before .before .before .before .before .before .before .before .before .before .before .before .before .before .before .before .args .t .now) (c .before .before .before .before .before .before .before .before .before .before .before .indent .result) (c .before .before .before .before .before .before .before .before .before .before .key-run .result) (c .before .before .before .before .before .before .before .before .before .before .before .indent .ensures) (c .before .before .before .before .before .before .before .before .before .before .key-run .ensures) (c .before .before .before .before .before .before .before .before .before .before .before .before .if2 .left) (c .before .before .clean-run2 .result) (sym (c .before .before .before .before .opens-at .ensures) ∙ c .before .before .before .if6 .taken) (c .before .before .clean-run2 .ensures)
 
--- src/forms.rt:304:12
 refused-requires : tie.Need-refused-requires
 refused-requires c κs = search needs
 
--- src/forms.rt:304:38
 sub-unread : tie.Need-sub-unread
 sub-unread c = search needs
 
--- src/forms.rt:304:38
 part-unread-start : tie.Need-part-unread-start
 part-unread-start c = search needs
 
--- src/forms.rt:304:38
 part-unread-end : tie.Need-part-unread-end
 part-unread-end c = search needs
 
--- src/forms.rt:304:52
 cast-unread : tie.Need-cast-unread
 cast-unread c = search needs
 
--- src/forms.rt:304:47
 add-unread : tie.Need-add-unread
 add-unread c = search needs
 
--- src/forms.rt:304:5
 unread-requires-2 : tie.Need-unread-requires-2
 unread-requires-2 c κs = search needs
 
--- src/forms.rt:276:1
 returns-7 : tie.Need-returns-7
 returns-7 c = c .unread2 .ensures ∙ ap (λ f. foundAt f ((c .before .before .before .before .before .before .before .before .before .before .before .before .before .before .before .before .args .at) + (c .before .before .before .before .before .before .before .before .before .before .key-run .result)) (c .before .before .before .before .before .before .before .before .before .before .before .before .before .before .before .before .args .end) (take (length (c .before .before .before .before .before .before .before .before .before .before .before .before .before .before .before .before .args .t .now) - (c .before .before .before .before .before .before .before .before .before .before .key-run .result)) (drop (c .before .before .before .before .before .before .before .before .before .before .key-run .result) (c .before .before .before .before .before .before .before .before .before .before .before .before .before .before .before .before .args .t .now)))) (c .before .before .refused .ensures) ∙ ap (foundAt (refusedAs 4 (c .before .before .before .before .before .before .before .before .before .before .before .before .before .before .before .before .args .volume) (c .before .before .before .before .before .before .before .before .before .before .before .before .before .before .before .before .args .line)) ((c .before .before .before .before .before .before .before .before .before .before .before .before .before .before .before .before .args .at) + (c .before .before .before .before .before .before .before .before .before .before .key-run .result)) (c .before .before .before .before .before .before .before .before .before .before .before .before .before .before .before .before .args .end)) (tail-is (c .before .before .before .before .before .before .before .before .before .before .before .before .before .before .before .before .args .t .now) (c .before .before .before .before .before .before .before .before .before .before .key-run .result)) ∙ laws.look-wrong (c .before .before .before .before .before .before .before .before .before .before .before .before .before .before .before .before .args .volume) (c .before .before .before .before .before .before .before .before .before .before .before .before .before .before .before .before .args .line) (c .before .before .before .before .before .before .before .before .before .before .before .before .before .before .before .before .args .at) (c .before .before .before .before .before .before .before .before .before .before .before .before .before .before .before .before .args .end) (c .before .before .before .before .before .before .before .before .before .before .before .before .before .before .before .before .args .t .now) (c .before .before .before .before .before .before .before .before .before .before .before .indent .result) (c .before .before .before .before .before .before .before .before .before .before .key-run .result) (c .before .before .before .before .before .before .before .before .before .before .before .indent .ensures) (c .before .before .before .before .before .before .before .before .before .before .key-run .ensures) (c .before .before .before .before .before .before .before .before .before .before .before .before .if2 .left) (c .before .before .before .before .before .before .before .before .before .if3 .left) (c .before .before .before .before .before .before .before .if4 .left) (c .before .before .before .before .before .if5 .left) (sym (c .before .before .before .before .opens-at .ensures) ∙ c .before .before .before .if6 .left)
 

@@ -1,70 +1,51 @@
-use mathlib.Core.Path.{_≡_, sym, _∙_, ap}
+use mathlib.Core.Path.{sym, _∙_, ap}
 use native.Mathlib.Omega.{arith}
-use Prim.Native.Nat.{_-_, _≤_, _+_}
+use Prim.Native.Nat.{_-_, _+_}
 use lib.ListN.{length, drop, take}
-use Rattle.lines.specs.LineLook.{seenAt, foundAt, soundAt}
+use Rattle.lines.specs.LineLook.{foundAt}
 use Rattle.lines.specs.LineForms.{refusedAs}
 use Rattle.lines.proofs.VolumePlaces.{tail-is}
 use Rattle.lines.proofs.LineLook as laws
 use borrow.Author.Needs.{needs}
 use Rattle.lines.proofs.forms.sound.Statement.{statement}
 use Rattle.lines.proofs.forms.sound.Tie as tie
-use Rattle.lines.proofs.forms.sound.Reads as reads
-use Rattle.lines.proofs.forms.sound.Lts as lts
-use Rattle.lines.proofs.forms.cr_at.Reads as cr-at-reads
-use Rattle.lines.proofs.forms.refused.Reads as refused-reads
-use Rattle.lines.proofs.forms.seen.Reads as seen-reads
-use Rattle.lines.proofs.forms.unread.Reads as unread-reads
 
--- src/forms.rt:269:8
 cr-at-requires : tie.Need-cr-at-requires
 cr-at-requires c κs = search needs
 
--- src/forms.rt:270:32
 cast-seen : tie.Need-cast-seen
 cast-seen c = search needs
 
--- src/forms.rt:270:27
 add-seen : tie.Need-add-seen
 add-seen c = search needs
 
--- src/forms.rt:270:9
 seen-requires : tie.Need-seen-requires
 seen-requires c κs = omega (arith, laws.cr-inside (c .before .before .before .args .t .now) (c .before .before .before .args .r) (sym (c .before .cr-at .ensures) ∙ c .if1 .taken))
 
--- src/forms.rt:270:9
 returns : tie.Need-returns
 returns c = c .seen .ensures ∙ laws.sound-cr (c .before .before .before .before .args .form) (c .before .before .before .before .args .volume) (c .before .before .before .before .args .line) (c .before .before .before .before .args .at + c .before .before .before .before .args .r) (c .before .before .before .before .args .end) (drop (c .before .before .before .before .args .r) (c .before .before .before .before .args .t .now)) (sym (c .before .before .cr-at .ensures) ∙ c .before .if1 .taken)
 
--- src/forms.rt:272:12
 refused-requires : tie.Need-refused-requires
 refused-requires c κs = search needs
 
--- src/forms.rt:272:38
 sub-unread : tie.Need-sub-unread
 sub-unread c = search needs
 
--- src/forms.rt:272:38
 part-unread-start : tie.Need-part-unread-start
 part-unread-start c = search needs
 
--- src/forms.rt:272:38
 part-unread-end : tie.Need-part-unread-end
 part-unread-end c = search needs
 
--- src/forms.rt:272:52
 cast-unread : tie.Need-cast-unread
 cast-unread c = search needs
 
--- src/forms.rt:272:47
 add-unread : tie.Need-add-unread
 add-unread c = search needs
 
--- src/forms.rt:272:5
 unread-requires : tie.Need-unread-requires
 unread-requires c κs = search needs
 
--- src/forms.rt:265:1
 returns-2 : tie.Need-returns-2
 returns-2 c = c .unread .ensures ∙ ap (λ f. foundAt f (c .before .before .before .before .before .before .args .at + c .before .before .before .before .before .before .args .r) (c .before .before .before .before .before .before .args .end) (take (length (c .before .before .before .before .before .before .args .t .now) - c .before .before .before .before .before .before .args .r) (drop (c .before .before .before .before .before .before .args .r) (c .before .before .before .before .before .before .args .t .now)))) (c .before .before .refused .ensures) ∙ ap (foundAt (refusedAs 4 (c .before .before .before .before .before .before .args .volume) (c .before .before .before .before .before .before .args .line)) (c .before .before .before .before .before .before .args .at + c .before .before .before .before .before .before .args .r) (c .before .before .before .before .before .before .args .end)) (tail-is (c .before .before .before .before .before .before .args .t .now) (c .before .before .before .before .before .before .args .r)) ∙ laws.sound-not (c .before .before .before .before .before .before .args .form) (c .before .before .before .before .before .before .args .volume) (c .before .before .before .before .before .before .args .line) (c .before .before .before .before .before .before .args .at + c .before .before .before .before .before .before .args .r) (c .before .before .before .before .before .before .args .end) (drop (c .before .before .before .before .before .before .args .r) (c .before .before .before .before .before .before .args .t .now)) (sym (c .before .before .before .before .cr-at .ensures) ∙ c .before .before .before .if1 .left)
 

@@ -2,10 +2,7 @@ use mathlib.Core.Path.{refl}
 use Rattle.lines.specs.VolumePlaces.{zeros, noLayout}
 use Rattle.lines.proofs.spool.no_layout.Statement.{statement}
 use Rattle.lines.proofs.spool.no_layout.Tie as tie
-use Rattle.lines.proofs.spool.no_layout.Reads as reads
-use Rattle.lines.proofs.spool.no_layout.Lts as lts
 
--- src/spool.rt:39:1
 returns : tie.Need-returns
 unfolding zeros noLayout
 returns c = refl

@@ -1,68 +1,45 @@
-use Prim.Native.Nat.{ℕ, suc, _+_, _*_, _-_, _≤_, _<_}
-use mathlib.Core.Path.{_≡_, refl, ap, sym, _∙_}
-use mathlib.Core.Bool.{Bool, true, false, cond, _&&_, not}
-use mathlib.Core.List.{List, [], _∷_}
+use Prim.Native.Nat.{_-_}
+use mathlib.Core.Path.{sym, _∙_}
 use native.Mathlib.Omega.{arith}
-use lib.Dec.{eqb, leb, ltb}
-use lib.ListN.{length, getD, take, drop}
-use borrow.Author.Tests.{eq-eqb, ne-eqb, le-leb, lt-leb, lt-ltb, le-ltb, not-true, not-false}
-use Rattle.lines.specs.VolumePlaces.{headIn, walked, layoutOf, noLayout}
 use Rattle.lines.proofs.VolumePlaces as laws
 use lib.Seq.{length-take-le}
 use borrow.Author.Needs.{needs}
 use Rattle.lines.proofs.spool.volumes.Statement.{statement}
 use Rattle.lines.proofs.spool.volumes.Tie as tie
-use Rattle.lines.proofs.spool.volumes.Reads as reads
-use Rattle.lines.proofs.spool.volumes.Lts as lts
-use Rattle.lines.proofs.names.names_differ.Reads as names-differ-reads
-use Rattle.lines.proofs.spool.no_layout.Reads as no-layout-reads
-use Rattle.lines.proofs.spool.walk.Reads as walk-reads
 
--- src/spool.rt:83:9
 no-layout-requires : tie.Need-no-layout-requires
 no-layout-requires c κs = search needs
 
--- src/spool.rt:83:9
 returns : tie.Need-returns
 returns c = c .no-layout .ensures ∙ sym (laws.volumes-empty (c .before .before .before .args .s .now) (c .before .if1 .taken))
 
--- src/spool.rt:86:9
 no-layout-requires-2 : tie.Need-no-layout-requires-2
 no-layout-requires-2 c κs = search needs
 
--- src/spool.rt:86:9
 returns-2 : tie.Need-returns-2
 returns-2 c = c .no-layout2 .ensures ∙ sym (laws.volumes-long (c .before .before .before .before .args .s .now) (c .before .if2 .taken))
 
--- src/spool.rt:88:9
 walk-requires : tie.Need-walk-requires
 walk-requires c κs = search needs
 
--- src/spool.rt:89:17
 cast-count : tie.Need-cast-count
 cast-count c = omega arith
 
--- src/spool.rt:91:24
 array-share-prefix-places : tie.Need-array-share-prefix-places
 array-share-prefix-places c = let t = laws.layout-told (c .before .before .before .before .before .before .args .s .now) (c .before .before .walk .result) (c .before .before .walk .ensures) in omega (arith, t .0, t .1)
 
--- src/spool.rt:91:24
 slice-aggregate-names-differ : tie.Need-slice-aggregate-names-differ
 slice-aggregate-names-differ c = let t = laws.layout-told (c .before .before .before .before .before .before .before .args .s .now) (c .before .before .before .walk .result) (c .before .before .before .walk .ensures) in sym (length-take-le (c .before .before .before .walk .result .count) (c .before .before .before .walk .result .places) (omega (arith, t .0, t .1)))
 
--- src/spool.rt:91:8
 names-differ-requires : tie.Need-names-differ-requires
 names-differ-requires c κs = laws.layout-told (c .before .before .before .before .before .before .before .args .s .now) (c .before .before .before .walk .result) (c .before .before .before .walk .ensures) .2
 
--- src/spool.rt:92:9
 returns-3 : tie.Need-returns-3
 returns-3 c = sym (laws.volumes-differ (c .before .before .before .before .before .before .before .before .before .args .s .now) (c .before .before .before .before .before .walk .result) (c .before .before .before .before .before .walk .ensures) (omega (arith, c .before .before .before .before .before .before .before .if1 .left)) (c .before .before .before .before .before .before .if2 .left) (sym (c .before .names-differ .ensures) ∙ c .if3 .taken))
 
--- src/spool.rt:94:5
 no-layout-requires-3 : tie.Need-no-layout-requires-3
 no-layout-requires-3 c κs = search needs
 
--- src/spool.rt:79:1
 returns-4 : tie.Need-returns-4
 returns-4 c = c .no-layout3 .ensures ∙ sym (laws.volumes-again (c .before .before .before .before .before .before .before .before .before .before .args .s .now) (c .before .before .before .before .before .before .walk .result) (c .before .before .before .before .before .before .walk .ensures) (omega (arith, c .before .before .before .before .before .before .before .before .if1 .left)) (c .before .before .before .before .before .before .before .if2 .left) (sym (c .before .before .names-differ .ensures) ∙ c .before .if3 .left))
 

@@ -1,20 +1,12 @@
-use Prim.Native.Nat.{ℕ, suc, _+_, _*_, _-_, _≤_, _<_}
-use mathlib.Core.Path.{_≡_, refl, ap, sym, _∙_}
-use mathlib.Core.Bool.{Bool, true, false, cond, _&&_, not}
-use mathlib.Core.List.{List, [], _∷_}
+use Prim.Native.Nat.{_-_}
+use mathlib.Core.Path.{ap, sym, _∙_}
 use native.Mathlib.Omega.{arith}
-use lib.Dec.{eqb, leb, ltb}
-use lib.ListN.{length, getD, take, drop}
-use borrow.Author.Tests.{eq-eqb, ne-eqb, le-leb, lt-leb, lt-ltb, le-ltb, not-true, not-false}
-use Rattle.lines.specs.VolumePlaces.{headIn, walked, zeros, layoutOf, noLayout}
+use lib.ListN.{length}
+use Rattle.lines.specs.VolumePlaces.{headIn}
 use Rattle.lines.proofs.VolumePlaces as laws
 use borrow.Author.Needs.{needs}
 use Rattle.lines.proofs.spool.walk.Statement.{statement}
 use Rattle.lines.proofs.spool.walk.Tie as tie
-use Rattle.lines.proofs.spool.walk.Reads as reads
-use Rattle.lines.proofs.spool.walk.Lts as lts
-use Rattle.lines.proofs.spool.head_of.Reads as head-of-reads
-use Rattle.lines.proofs.spool.no_layout.Reads as no-layout-reads
 
 abbrev Inv-loop : tie.InvT-loop
 Inv-loop s places₀ lengths₀ count₀ at₀ places lengths count at = laws.Walked s count at places lengths
@@ -22,99 +14,75 @@ Inv-loop s places₀ lengths₀ count₀ at₀ places lengths count at = laws.Wa
 abbrev μ-loop : tie.MeasureT-loop
 μ-loop s places₀ lengths₀ count₀ at₀ places lengths count at = length s - at
 
--- src/spool.rt:58:5
 loop-holds : tie.Need-loop-holds Inv-loop μ-loop
 loop-holds c = laws.walk-starts _ _ _ laws.twelve laws.twelve
 
--- src/spool.rt:60:13
 no-layout-requires : tie.Need-no-layout-requires Inv-loop μ-loop
 no-layout-requires c κs = search needs
 
--- src/spool.rt:60:13
 returns : tie.Need-returns Inv-loop μ-loop
 returns c = c .no-layout .ensures ∙ sym (laws.walk-full _ _ _ _ _ (c .before .before .before .loop .inv) (c .before .before .loop-test .taken) (c .before .if1 .taken))
 
--- src/spool.rt:62:38
 sub-head-of : tie.Need-sub-head-of Inv-loop μ-loop
 sub-head-of c = omega arith
 
--- src/spool.rt:62:38
 part-head-of-start : tie.Need-part-head-of-start Inv-loop μ-loop
 part-head-of-start c = omega arith
 
--- src/spool.rt:62:38
 part-head-of-end : tie.Need-part-head-of-end Inv-loop μ-loop
 part-head-of-end c = omega arith
 
--- src/spool.rt:62:30
 head-of-requires : tie.Need-head-of-requires Inv-loop μ-loop
 head-of-requires c κs = search needs
 
--- src/spool.rt:62:25
 enum-known-n : tie.Need-enum-known-n Inv-loop μ-loop
 enum-known-n c = search needs
 
--- src/spool.rt:63:13
 enum-told : tie.Need-enum-told Inv-loop μ-loop
 enum-told c = search needs
 
--- src/spool.rt:63:13
 no-layout-requires-2 : tie.Need-no-layout-requires-2 Inv-loop μ-loop
 no-layout-requires-2 c κs = search needs
 
--- src/spool.rt:63:13
 returns-2 : tie.Need-returns-2 Inv-loop μ-loop
 returns-2 c = c .no-layout2 .ensures ∙ sym (laws.walk-bad _ _ _ _ _ (c .before .before .before .before .before .before .before .loop .inv) (c .before .before .before .before .before .before .loop-test .taken) (c .before .before .before .before .before .if1 .left) (sym (ap headIn (laws.tail-is (c .before .before .before .before .before .before .before .before .before .args .s .now) (c .before .before .before .before .before .before .before .loop .at))) ∙ sym (c .before .before .before .head-of .ensures) ∙ c .before .enum-told .given .1))
 
--- src/spool.rt:65:20
 add-body : tie.Need-add-body Inv-loop μ-loop
 add-body c = omega arith
 
--- src/spool.rt:66:25
 cast-places : tie.Need-cast-places Inv-loop μ-loop
 cast-places c = omega arith
 
--- src/spool.rt:66:9
 mul-places : tie.Need-mul-places Inv-loop μ-loop
 mul-places c = omega arith
 
--- src/spool.rt:66:9
 array-write-places : tie.Need-array-write-places Inv-loop μ-loop
 array-write-places c = omega arith
 
--- src/spool.rt:67:9
 mul-lengths : tie.Need-mul-lengths Inv-loop μ-loop
 mul-lengths c = omega arith
 
--- src/spool.rt:67:9
 array-write-lengths : tie.Need-array-write-lengths Inv-loop μ-loop
 array-write-lengths c = omega arith
 
--- src/spool.rt:68:9
 add-count : tie.Need-add-count Inv-loop μ-loop
 add-count c = omega arith
 
--- src/spool.rt:69:21
 cast-at : tie.Need-cast-at Inv-loop μ-loop
 cast-at c = omega arith
 
--- src/spool.rt:69:14
 add-at : tie.Need-add-at Inv-loop μ-loop
 add-at c = omega arith
 
--- src/spool.rt:58:5
 loop-less : tie.Need-loop-less Inv-loop μ-loop
 loop-less c = omega (arith, c .before .before .before .before .before .before .loop-test .taken)
 
--- src/spool.rt:58:5
 loop-again : tie.Need-loop-again Inv-loop μ-loop
 loop-again c = laws.walk-more _ _ _ _ _ (c .before .before .before .before .before .before .before .loop .inv) _ (c .before .before .before .before .before .before .loop-test .taken) (c .before .before .before .before .before .if1 .left) (sym (ap headIn (laws.tail-is (c .before .before .before .before .before .before .before .before .before .args .s .now) (c .before .before .before .before .before .before .before .loop .at))) ∙ sym (c .before .before .before .head-of .ensures) ∙ c .before .n .given .1)
 
--- src/spool.rt:72:16
 cast-t19 : tie.Need-cast-t19 Inv-loop μ-loop
 cast-t19 c = omega arith
 
--- src/spool.rt:50:1
 returns-3 : tie.Need-returns-3 Inv-loop μ-loop
 returns-3 c = sym (laws.walk-ends _ _ _ _ _ (c .before .loop .inv) (c .loop-test .left))
 
