@@ -7,3 +7,4 @@ pub mod Turned
 pub mod ClassDigits
 pub mod Stores
 pub mod MarkScan
+pub mod Reaching

@@ -2,3 +2,4 @@ pub mod Placing
 pub mod Walk
 pub mod Turns
 pub mod Classes
+pub mod Reach
