@@ -1,3 +1,5 @@
 pub mod NameScan
 pub mod OneValue
 pub mod EachValue
+pub mod ByKind
+pub mod ByShape

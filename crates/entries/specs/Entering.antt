@@ -1,14 +1,17 @@
 -- What is entered into the lent numbers, and what is answered about it.
 use Prim.Native.Nat.{ℕ, zero, suc, _+_, _≤_, min}
 use mathlib.Core.Path.{_≡_}
-use mathlib.Core.Bool.{Bool, true, cond, _&&_, not}
+use mathlib.Core.Bool.{Bool, true, _&&_, not}
 use mathlib.Core.List.{List, [], _∷_, map}
 use lib.Dec.{leb}
 use lib.IntN.{ℤ, pos}
 use lib.Signed.{ltZ}
 use lib.ListN.{length, getD, set}
 use Rattle.rules.specs.RefusalNumbers.{Got, got, bad}
-use Rattle.rules.specs.Values.{Num, Across, nothingMore, endsDiffer, arcOfCircle, axesOfEllipse, equalZ}
+use Rattle.rules.specs.Base.{split}
+use Rattle.rules.specs.Values.{Num, Across, nothingMore, endsDiffer, arcOfCircle, axesOfEllipse, equalZ, Kind, values, text, word, volumeName, sheet, ratio, serials, nothing, opens, headed, either, readSerials}
+use Rattle.leaves.specs.declared.Count.{Count}
+use Rattle.leaves.specs.declared.Count.the-variants as C
 use Rattle.entries.specs.declared.Val.{Val}
 use Rattle.entries.specs.declared.Val.the-variants as Vs
 use Rattle.entries.specs.declared.Put.{Put}
@@ -62,3 +65,26 @@ agreeFrom nothingMore p t = true
 agreeFrom endsDiffer p t = not (equalZ (numberFrom p t 1) (numberFrom p t 3) && equalZ (numberFrom p t 2) (numberFrom p t 4))
 agreeFrom arcOfCircle p t = not (equalZ (numberFrom p t 4) (numberFrom p t 5))
 agreeFrom axesOfEllipse p t = ltZ (numberFrom p t 4) (numberFrom p t 3) && not (equalZ (numberFrom p t 5) (numberFrom p t 6))
+
+-- ── kinds ──
+-- the rule across a row's values speaks of values that the row has
+abbrev pub settled : Kind → Bool
+settled (values p ps a) = leb (lastOf a) (length ps)
+settled (text n b) = true
+settled (word n b) = true
+settled volumeName = true
+settled sheet = true
+settled ratio = true
+settled serials = true
+settled nothing = true
+settled (opens i) = true
+settled (headed i p) = true
+settled (either i) = true
+
+-- how many serial numbers stand between commas, where all are such
+abbrev pub longOf : Got (List ℕ) → Count
+longOf (got ns) = C.Is (length ns)
+longOf (bad n) = C.Not
+
+unfoldable pub serialsIn : List ℕ → Count
+serialsIn c = longOf (readSerials (split 44 c))

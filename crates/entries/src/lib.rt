@@ -1,7 +1,11 @@
 // What one line enters into its block and its record.
+mod contents;
 pub mod names;
 mod parts;
+mod shapes;
 mod values;
+
+use rules::Span;
 
 // One value between commas, or its refusal.
 pub(crate) enum Val {
@@ -25,4 +29,34 @@ pub enum Index {
 pub(crate) enum Put {
     Done,
     Refused(u8),
+}
+
+// What follows a key: `:{`, or `=` and the rest of the line.
+pub enum Rest {
+    Brace,
+    Equals(Span),
+}
+
+// What a line with a key is, by the places of its content.
+pub(crate) enum Shape {
+    Opener,
+    NoContent,
+    Content(Span),
+    Opening(Span),
+    Formless,
+}
+
+// The inner block that a line opens, and the line's row.
+pub struct Inner {
+    pub block: u8,
+    pub row: u8,
+}
+
+// What a line does in its block: nothing, a row's line entered, the same and an inner block opened, the block closed, a refusal.
+pub enum Next {
+    Stay,
+    Entry(u8),
+    Begin(Inner),
+    Shut,
+    Refuse(u8),
 }

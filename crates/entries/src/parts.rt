@@ -11,6 +11,7 @@ use leaves::bytes::within;
 use leaves::numbers::clock;
 use leaves::numbers::count;
 use leaves::numbers::day;
+use leaves::numbers::decimal;
 use leaves::numbers::fixed;
 use leaves::pieces::decimal_piece;
 ghost use mathlib.Core.Path.{_≡_};
@@ -19,7 +20,7 @@ ghost use Prim.Native.Nat.{_<_, _≤_};
 ghost use lib.ListN.{length};
 ghost use Rattle.rules.specs.Base.{within as inRange};
 ghost use Rattle.rules.specs.Values.{servedSymbols, inBound, layerId, readPart};
-ghost use Rattle.tables.specs.Rows.{boundOf, wholeOf};
+ghost use Rattle.tables.specs.Rows.{boundOf, wholeOf, partOf};
 ghost use Rattle.entries.specs.Names.{knownIn};
 ghost use Rattle.entries.specs.Parts.{valOf, countVal, readingVal, indexVal, PieceIs};
 
@@ -146,6 +147,17 @@ fn whole(code: u64, s: &[u8], symbols: &[u32], layers: &[u32], c: &[u8]) -> Val
         return layer(s, layers, c);
     }
     limited(fixed(c, 4), 0, 9999, 10)
+}
+
+// A value from all its bytes.
+pub(crate) fn single(code: u64, s: &[u8], symbols: &[u32], layers: &[u32], c: &[u8]) -> Val
+    requires { ⌜ (length (now symbols) ≤ 65536) × (length (now layers) ≤ 65536) ⌝ }
+    ensures { λ r. ⌜ r ≡ valOf (readPart (knownIn (now (s .entry)) (now (symbols .entry)) (now (layers .entry))) (partOf code) (now (c .entry))) ⌝ }
+{
+    if 20 <= code {
+        return bounded(code, decimal(c));
+    }
+    whole(code, s, symbols, layers, c)
 }
 
 // The value in front of the first comma, and where it ends.

@@ -8,3 +8,4 @@ pub mod ClassDigits
 pub mod Stores
 pub mod MarkScan
 pub mod Reaching
+pub mod Marks

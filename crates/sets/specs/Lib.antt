@@ -3,3 +3,4 @@ pub mod Walk
 pub mod Turns
 pub mod Classes
 pub mod Reach
+pub mod Texts

@@ -1,0 +1,12 @@
+use Rattle.entries.proofs.ByShape.{free-is}
+use Rattle.entries.proofs.shapes.is_free.Statement.{statement}
+use Rattle.entries.proofs.shapes.is_free.Tie as tie
+use Rattle.entries.proofs.shapes.is_free.Reads as reads
+use Rattle.entries.proofs.shapes.is_free.Lts as lts
+
+-- src/shapes.rt:160:1
+returns : tie.Need-returns
+returns c = free-is (c .before .args .row)
+
+pub is-free-spec : {M : Type 1} → statement M
+is-free-spec = tie.close (tie.spec returns)

@@ -1,0 +1,30 @@
+-- What a line with a key is, by places.
+use Prim.Native.Nat.{ℕ, _-_}
+use mathlib.Core.Bool.{Bool, cond, _&&_}
+use mathlib.Core.List.{List}
+use lib.Dec.{eqb, leb}
+use lib.ListN.{length, getD}
+use Rattle.rules.specs.Lines.{Rest, brace, equals, Shape, opener, noContent, content, opening, formless, shapeOf, freeShapeOf, bytesAt}
+use Rattle.entries.specs.declared.Rest.{Rest as Behind}
+use Rattle.entries.specs.declared.Rest.the-variants as B
+use Rattle.entries.specs.declared.Shape.{Shape as Placed}
+use Rattle.entries.specs.declared.Shape.the-variants as P
+
+abbrev pub restIn : List ℕ → Behind → Rest
+restIn s B.Brace = brace
+restIn s (B.Equals p) = equals (p .at) (bytesAt s p)
+
+abbrev pub shapeIn : List ℕ → Placed → Shape
+shapeIn s P.Opener = opener
+shapeIn s P.NoContent = noContent
+shapeIn s (P.Content p) = content (p .at) (bytesAt s p)
+shapeIn s (P.Opening p) = opening (p .at) (bytesAt s p)
+shapeIn s P.Formless = formless
+
+-- with free text behind the key, or without
+abbrev pub shapeBy : Bool → Rest → Shape
+shapeBy free c = cond free (freeShapeOf c) (shapeOf c)
+
+-- the last two bytes are `:{`
+unfoldable pub endsOpen : List ℕ → Bool
+endsOpen c = leb 2 (length c) && (eqb (getD c (length c - 2) 0) 58 && eqb (getD c (length c - 1) 0) 123)

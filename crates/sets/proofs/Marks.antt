@@ -1,0 +1,32 @@
+-- Slots and the marks of what has been.
+use Prim.Native.Nat.{ℕ, zero, suc, _<_}
+use mathlib.Core.Bool.{Bool, true, false}
+use mathlib.Core.List.{List, [], _∷_, map}
+use mathlib.Core.Option.{Option, none, some}
+use mathlib.Core.Path.{_≡_, refl, ap}
+use lib.ListN.{length, getD, set}
+use Rattle.rules.specs.Base.{isSome}
+use Rattle.rules.specs.Values.{Value}
+use Rattle.rules.specs.Rows.{Rule, Slots, blank, marks}
+use Rattle.rules.proofs.Chains.{clash}
+
+-- a slot entered is a mark set
+pub marks-set : (o : Slots) (j : ℕ) (v : Value) → marks (set o j (some v)) ≡ set (marks o) j true
+marks-set [] j v = refl
+marks-set (x ∷ o) zero v = refl
+marks-set (x ∷ o) (suc j) v = ap (λ (s : List Bool). isSome x ∷ s) (marks-set o j v)
+
+-- a row without a mark has an empty slot
+pub mark-free : (o : Slots) (j : ℕ) → getD (marks o) j false ≡ false → getD o j none ≡ none
+mark-free [] j e = refl
+mark-free (none ∷ o) zero e = refl
+mark-free (some v ∷ o) zero e = clash refl e
+mark-free (x ∷ o) (suc j) e = mark-free o j e
+
+pub marks-length : (o : Slots) → length (marks o) ≡ length o
+marks-length [] = refl
+marks-length (x ∷ o) = ap suc (marks-length o)
+
+pub blank-length : (t : List Rule) → length (blank t) ≡ length t
+blank-length [] = refl
+blank-length (r ∷ t) = ap suc (blank-length t)
