@@ -9,3 +9,4 @@ pub mod Stores
 pub mod MarkScan
 pub mod Reaching
 pub mod Marks
+pub mod TextLoop
