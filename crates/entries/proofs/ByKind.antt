@@ -150,7 +150,7 @@ add-twice : (n : ℕ) (k : Count) → addTo n (addTo 1 k) ≡ addTo (n + 1) k
 add-twice n (C.Is m) = let e : n + (1 + m) ≡ n + 1 + m = omega arith in ap C.Is e
 add-twice n C.Not = refl
 
-split-head : (d : List ℕ) → split 44 d ≡ upTo 44 d ∷ drop 1 (split 44 d)
+pub split-head : (d : List ℕ) → split 44 d ≡ upTo 44 d ∷ drop 1 (split 44 d)
 split-head d = go (leb (length d) (length (upTo 44 d))) refl
   where
     go : (t : Bool) → leb (length d) (length (upTo 44 d)) ≡ t → split 44 d ≡ upTo 44 d ∷ drop 1 (split 44 d)

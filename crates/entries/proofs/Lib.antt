@@ -3,3 +3,4 @@ pub mod OneValue
 pub mod EachValue
 pub mod ByKind
 pub mod ByShape
+pub mod LineActs

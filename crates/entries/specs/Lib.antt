@@ -2,3 +2,4 @@ pub mod Names
 pub mod Parts
 pub mod Entering
 pub mod Shapes
+pub mod Acts

@@ -126,7 +126,16 @@ fn put_serials(c: &[u8], p: usize, rec: &mut [i64]) -> Put
 }
 
 // A content that is not empty, by its row; its numbers go to the places from p on.
-pub(crate) fn read_kind(row: Row, at: u32, s: &[u8], symbols: &[u32], layers: &[u32], c: &[u8], p: usize, rec: &mut [i64]) -> Put
+pub(crate) fn read_kind(
+    row: Row,
+    at: u32,
+    s: &[u8],
+    symbols: &[u32],
+    layers: &[u32],
+    c: &[u8],
+    p: usize,
+    rec: &mut [i64],
+) -> Put
     requires { ⌜ (length (now symbols) ≤ 65536) × (length (now layers) ≤ 65536) × (length (now c) ≤ 61440) × (p + columns (kindOf row) ≤ length (now rec)) × (settled (kindOf row) ≡ true) ⌝ }
     ensures { λ r. ⌜ Puts (readKind (knownIn (now (s .entry)) (now (symbols .entry)) (now (layers .entry))) (kindOf row) at (now (c .entry))) (λ v. sets (now (rec .entry)) p (numbers v)) (now (rec .exit)) r ⌝ }
 {

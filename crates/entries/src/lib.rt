@@ -1,5 +1,6 @@
 // What one line enters into its block and its record.
 mod contents;
+pub mod lines;
 pub mod names;
 mod parts;
 mod shapes;

@@ -6,6 +6,7 @@ use leaves::bytes::same;
 use rules::Span;
 use tables::Row;
 ghost use mathlib.Core.Path.{_≡_};
+ghost use mathlib.Core.Bool.{_||_};
 ghost use mathlib.Core.List.{[]};
 ghost use Rattle.rules.specs.Lines.{hasForm, equals, bytesAt};
 ghost use Rattle.rules.specs.Values.{isFree};
@@ -112,6 +113,19 @@ fn is_opening(shape: Shape) -> bool
 {
     match shape {
         Shape::Opener => false,
+        Shape::NoContent => false,
+        Shape::Content(_) => false,
+        Shape::Opening(_) => true,
+        Shape::Formless => false,
+    }
+}
+
+// A line that opens a block, where it has the form that its row asks for.
+pub(crate) fn opens_block(shape: Shape) -> bool
+    ensures { λ r. ⌜ r ≡ (isOpener (shapeIn [] shape) || isOpening (shapeIn [] shape)) ⌝ }
+{
+    match shape {
+        Shape::Opener => true,
         Shape::NoContent => false,
         Shape::Content(_) => false,
         Shape::Opening(_) => true,

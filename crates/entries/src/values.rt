@@ -49,7 +49,16 @@ fn least(a: Put, b: Put) -> Put
 
 // The values of c by their forms: one, and so many more; they go to the places from p on. A wrong count of values is 10, and no
 // value has a smaller number.
-fn each(parts: u64, more: u8, s: &[u8], symbols: &[u32], layers: &[u32], c: &[u8], p: usize, rec: &mut [i64]) -> Put
+fn each(
+    parts: u64,
+    more: u8,
+    s: &[u8],
+    symbols: &[u32],
+    layers: &[u32],
+    c: &[u8],
+    p: usize,
+    rec: &mut [i64],
+) -> Put
     requires { ⌜ (length (now symbols) ≤ 65536) × (length (now layers) ≤ 65536) × (p + more < length (now rec)) ⌝ }
     ensures { λ r. ⌜ Puts (readAll (knownIn (now (s .entry)) (now (symbols .entry)) (now (layers .entry))) (partOf (parts % 100) ∷ partsOf more (parts / 100)) (split 44 (now (c .entry)))) (λ v. sets (now (rec .entry)) p (plainly v)) (now (rec .exit)) r ⌝ }
 {
@@ -61,7 +70,16 @@ fn each(parts: u64, more: u8, s: &[u8], symbols: &[u32], layers: &[u32], c: &[u8
             return Put::Refused(10);
         }
         let first = put_value(v, p, rec);
-        let rest = each(parts / 100, more - 1, s, symbols, layers, &c[e + 1..], p + 1, rec);
+        let rest = each(
+            parts / 100,
+            more - 1,
+            s,
+            symbols,
+            layers,
+            &c[e + 1..],
+            p + 1,
+            rec,
+        );
         return least(first, rest);
     }
     if more != 0 {
@@ -113,7 +131,15 @@ fn agree(across: u8, rec: &[i64], p: usize) -> bool
 }
 
 // A row's values; the rules across them are 11.
-pub(crate) fn values(row: Row, s: &[u8], symbols: &[u32], layers: &[u32], c: &[u8], p: usize, rec: &mut [i64]) -> Put
+pub(crate) fn values(
+    row: Row,
+    s: &[u8],
+    symbols: &[u32],
+    layers: &[u32],
+    c: &[u8],
+    p: usize,
+    rec: &mut [i64],
+) -> Put
     requires { ⌜ (length (now symbols) ≤ 65536) × (length (now layers) ≤ 65536) × (p + row .count < length (now rec)) × (lastOf (acrossOf (row .across)) ≤ row .count) ⌝ }
     ensures { λ r. ⌜ Puts (readKind (knownIn (now (s .entry)) (now (symbols .entry)) (now (layers .entry))) (values (partOf (row .parts % 100)) (partsOf (row .count) (row .parts / 100)) (acrossOf (row .across))) 0 (now (c .entry))) (λ v. sets (now (rec .entry)) p (numbers v)) (now (rec .exit)) r ⌝ }
 {

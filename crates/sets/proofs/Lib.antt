@@ -10,3 +10,4 @@ pub mod MarkScan
 pub mod Reaching
 pub mod Marks
 pub mod TextLoop
+pub mod NextTurns

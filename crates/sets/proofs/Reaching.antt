@@ -36,7 +36,7 @@ Then w st p ls (got st′) q = Reach w st p ls st′ q
 Then w st p ls (bad n) q = Refuses w st p ls (stopAt (w .volume) q n)
 
 module _ (w : Way) (st : State) (p : Pos) (ls : List (List ℕ)) (short : Bool) (acts : Form → Act) (put : Act → Type 0) (r : Turn) (m : TurnMet w p ls short acts put r)
-  (ent : ℕ → Value → Got State) (beg : ℕ → ℕ → Value → Got State) (cls : Unit {0} → Got State) where
+    (ent : ℕ → Value → Got State) (beg : ℕ → ℕ → Value → Got State) (cls : Unit {0} → Got State) where
   abbrev line : Line
   line = lineAt (w .volume) (w .next) p (m .line) (m .others)
 

@@ -2,6 +2,7 @@
 mod classes;
 mod serials;
 mod table;
+mod turns;
 mod walk;
 
 use rules::Digits;

@@ -1,0 +1,20 @@
+use borrow.Author.Tests.{ne-eqb}
+use mathlib.Core.Path.{_≡_, refl}
+use mathlib.Core.Bool.{Bool, true, false, cond}
+use Rattle.entries.proofs.LineActs.{not-once}
+use borrow.Author.Needs.{needs}
+use Rattle.entries.proofs.lines.twice.Statement.{statement}
+use Rattle.entries.proofs.lines.twice.Tie as tie
+use Rattle.entries.proofs.lines.twice.Reads as reads
+use Rattle.entries.proofs.lines.twice.Lts as lts
+
+-- src/lines.rt:109:9
+returns : tie.Need-returns
+returns c = search needs
+
+-- src/lines.rt:105:1
+returns-2 : tie.Need-returns-2
+returns-2 c = not-once (c .before .args .times) (c .before .args .full) (c .if1 .left)
+
+pub twice-spec : {M : Type 1} → statement M
+twice-spec = tie.close (tie.spec returns returns-2)

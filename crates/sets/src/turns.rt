@@ -1,0 +1,83 @@
+// One line of a block.
+use crate::Begun;
+use crate::Entered;
+use crate::Pos;
+use crate::Turn;
+use crate::Volume;
+use entries::Next;
+use rules::Refusal;
+ghost use mathlib.Core.Path.{_≡_};
+ghost use Rattle.sets.specs.declared.Turn.the-variants as T;
+ghost use Rattle.sets.specs.Turns.{stopAt, shortNext, earlyNext, onNext, turnedOf};
+
+// A block that may not close yet: something required is missing.
+fn too_few(short: bool, next: Next) -> Next
+    ensures { λ r. ⌜ r ≡ shortNext short next ⌝ }
+{
+    match next {
+        Next::Stay => Next::Stay,
+        Next::Entry(row) => Next::Entry(row),
+        Next::Begin(inner) => Next::Begin(inner),
+        Next::Shut => {
+            if short {
+                return Next::Refuse(8);
+            }
+            Next::Shut
+        }
+        Next::Refuse(n) => Next::Refuse(n),
+    }
+}
+
+// The number of a volume's last line in a block, which has not closed: 9, or the line's own where that is smaller.
+fn early(next: Next) -> u8
+    ensures { λ r. ⌜ r ≡ earlyNext next ⌝ }
+{
+    match next {
+        Next::Stay => 9,
+        Next::Entry(_) => 9,
+        Next::Begin(_) => 9,
+        Next::Shut => 9,
+        Next::Refuse(n) => {
+            if n <= 9 {
+                return n;
+            }
+            9
+        }
+    }
+}
+
+// A refusal of the line behind which q stands.
+pub(crate) fn stopped(v: Volume, q: Pos, number: u8) -> Turn
+    ensures { λ r. ⌜ r ≡ T.Stop (stopAt v q number) ⌝ }
+{
+    Turn::Stop(Refusal {
+        number: number,
+        volume: v.number,
+        line: q.line,
+    })
+}
+
+fn going(v: Volume, q: Pos, next: Next) -> Turn
+    ensures { λ r. ⌜ r ≡ onNext v q next ⌝ }
+{
+    match next {
+        Next::Stay => Turn::Stay(q),
+        Next::Entry(row) => Turn::Entry(Entered { pos: q, row: row }),
+        Next::Begin(inner) => Turn::Begin(Begun {
+            pos: q,
+            block: inner.block,
+            row: inner.row,
+        }),
+        Next::Shut => Turn::Shut(q),
+        Next::Refuse(n) => stopped(v, q, n),
+    }
+}
+
+fn turned(v: Volume, q: Pos, last: bool, next: Next) -> Turn
+    ensures { λ r. ⌜ r ≡ turnedOf v q last next ⌝ }
+{
+    if last {
+        return stopped(v, q, early(next));
+    }
+    going(v, q, next)
+}
