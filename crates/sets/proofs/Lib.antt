@@ -11,3 +11,4 @@ pub mod Reaching
 pub mod Marks
 pub mod TextLoop
 pub mod NextTurns
+pub mod StemEnds

@@ -4,3 +4,4 @@ pub mod Turns
 pub mod Classes
 pub mod Reach
 pub mod Texts
+pub mod SkippedLines

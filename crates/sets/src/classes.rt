@@ -45,7 +45,7 @@ pub(crate) fn exceeds(d: Digits, c: Digits) -> bool
     c.last < d.last
 }
 
-fn less(a: u8, b: u8) -> u8
+pub(crate) fn less(a: u8, b: u8) -> u8
     ensures { λ r. ⌜ r ≡ lessOf a b ⌝ }
 {
     if a < b {

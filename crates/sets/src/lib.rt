@@ -1,6 +1,7 @@
 // The drawing: the blocks of a set, read and written.
 mod classes;
 mod serials;
+mod skip;
 mod table;
 mod turns;
 mod walk;
@@ -52,4 +53,12 @@ pub(crate) enum Left {
 pub(crate) enum Class {
     Is(Digits),
     Not,
+}
+
+// What a skipped line does: nothing, it opens a block, it closes one; or its refusal.
+pub(crate) enum Skipped {
+    Passes,
+    Deeper,
+    Shut,
+    Refuse(u8),
 }

@@ -1,0 +1,77 @@
+// Skipped lines: "A skipped opener takes all lines to its own `}`".
+use crate::Left;
+use crate::Pos;
+use crate::Skipped;
+use crate::Volume;
+use crate::classes::less;
+use crate::walk::next_line;
+use entries::names::part;
+use leaves::bytes::same;
+use rules::Equation;
+use rules::LineForm;
+use rules::Refusal;
+ghost use mathlib.Core.Path.{_≡_};
+ghost use Rattle.rules.specs.Base.{isSome};
+ghost use Rattle.rules.specs.Lines.{stem, equals, bytesAt, formIn};
+ghost use Rattle.rules.specs.RangeClass.{skipOf};
+ghost use Rattle.sets.specs.SkippedLines.{skippedAs, skipContent, skippedBy, earlySkip, SkipReady, SkipMet};
+
+// Content that ends in `:{`.
+fn ends_open(c: &[u8]) -> bool
+    ensures { λ r. ⌜ r ≡ isSome (stem (now (c .entry))) ⌝ }
+{
+    let n = c.len();
+    if n < 2 {
+        return false;
+    }
+    same(&c[n - 2..], b":{")
+}
+
+// "nor is content [empty], so `key=:{` is no form"
+fn skip_content(c: &[u8]) -> Skipped
+    ensures { λ r. ⌜ r ≡ skipContent (now (c .entry)) ⌝ }
+{
+    if !ends_open(c) {
+        return Skipped::Passes;
+    }
+    if c.len() == 2 {
+        return Skipped::Refuse(5);
+    }
+    Skipped::Deeper
+}
+
+// "on any skipped line `character=` never opens"
+fn skip_equation(s: &[u8], q: Equation) -> Skipped
+    ensures { λ r. ⌜ r ≡ skippedAs (skipOf (bytesAt (now (s .entry)) (q .key)) (equals (q .rest .at) (bytesAt (now (s .entry)) (q .rest)))) ⌝ }
+{
+    if same(part(s, q.key), b"character") {
+        return Skipped::Passes;
+    }
+    skip_content(part(s, q.rest))
+}
+
+// What a skipped line does. It has some form, or it is refused.
+pub(crate) fn skip_line(s: &[u8], form: LineForm) -> Skipped
+    ensures { λ r. ⌜ r ≡ skippedBy (formIn (now (s .entry)) form) ⌝ }
+{
+    match form {
+        LineForm::Ignored => Skipped::Passes,
+        LineForm::Close => Skipped::Shut,
+        LineForm::Eof => Skipped::Refuse(9),
+        LineForm::Opens(_) => Skipped::Deeper,
+        LineForm::Equals(q) => skip_equation(s, q),
+        LineForm::Refused(r) => Skipped::Refuse(r.number),
+    }
+}
+
+// The number of a volume's last line: the block has not closed.
+fn early_skip(did: Skipped) -> u8
+    ensures { λ r. ⌜ r ≡ earlySkip did ⌝ }
+{
+    match did {
+        Skipped::Passes => 9,
+        Skipped::Deeper => 9,
+        Skipped::Shut => 9,
+        Skipped::Refuse(n) => less(n, 9),
+    }
+}
