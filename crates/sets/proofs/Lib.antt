@@ -12,3 +12,4 @@ pub mod Marks
 pub mod TextLoop
 pub mod NextTurns
 pub mod StemEnds
+pub mod SkipRun

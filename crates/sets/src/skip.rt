@@ -75,3 +75,73 @@ fn early_skip(did: Skipped) -> u8
         Skipped::Refuse(n) => less(n, 9),
     }
 }
+
+// From just inside a skipped block to just past its `}`. An inner block is skipped by a call of itself: `left` blocks may be open in
+// each other, this one counted.
+pub(crate) fn skip_block(s: &[u8], v: Volume, p: Pos, left: u8) -> Left
+    requires { ⌜ SkipReady p left ⌝ }
+    ensures { λ r. ⌜ SkipMet (now (s .entry)) v p left r ⌝ }
+{
+    let mut at = p.at;
+    let mut line = p.line;
+    loop {
+        let seen = next_line(
+            s,
+            v,
+            Pos {
+                at: at,
+                line: line,
+            },
+        );
+        let form = seen.form;
+        let did = skip_line(s, form);
+        at = seen.next;
+        line += 1;
+        if seen.last {
+            return Left::Stop(Refusal {
+                number: early_skip(did),
+                volume: v.number,
+                line: line,
+            });
+        }
+        match did {
+            Skipped::Passes => {}
+            Skipped::Shut => {
+                return Left::Go(Pos {
+                    at: at,
+                    line: line,
+                });
+            }
+            Skipped::Refuse(n) => {
+                return Left::Stop(Refusal {
+                    number: n,
+                    volume: v.number,
+                    line: line,
+                });
+            }
+            Skipped::Deeper => {
+                if left == 1 {
+                    return Left::Stop(Refusal {
+                        number: 18,
+                        volume: v.number,
+                        line: line,
+                    });
+                }
+                let r = skip_block(
+                    s,
+                    v,
+                    Pos {
+                        at: at,
+                        line: line,
+                    },
+                    left - 1,
+                );
+                let Left::Go(q) = r else {
+                    return r;
+                };
+                at = q.at;
+                line = q.line;
+            }
+        }
+    }
+}
