@@ -12,4 +12,5 @@ pub mod Marks
 pub mod TextLoop
 pub mod NextTurns
 pub mod StemEnds
+pub mod SeenLines
 pub mod SkipRun

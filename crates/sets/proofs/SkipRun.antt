@@ -1,99 +1,31 @@
 -- Skipping a block: what one line does to the loop's invariant and to the contract, over plain variables.
-use Prim.Native.Nat.{ℕ, zero, suc, _+_, _-_, _<_, _≤_, min}
-use mathlib.Core.Bool.{Bool, true, false, cond}
-use mathlib.Core.List.{List, [], _∷_}
+use Prim.Native.Nat.{ℕ, zero, suc, _+_, _-_, _<_, _≤_}
+use mathlib.Core.Bool.{Bool, true, false}
+use mathlib.Core.List.{List, _∷_}
 use mathlib.Core.Path.{_≡_, refl, sym, _∙_, ap, subst}
 use native.Mathlib.Omega.{arith}
-use lib.Dec.{leb, ltb}
-use lib.ListN.{length}
-use borrow.Author.Tests.{leb-true, leb-false, lt-ltb, le-ltb}
+use lib.Dec.{ltb}
+use borrow.Author.Tests.{lt-ltb, le-ltb}
 use Rattle.rules.specs.declared.Refusal.{Refusal}
 use Rattle.rules.specs.Base.{isNil}
-use Rattle.rules.specs.Spool.{mostBytes}
 use Rattle.rules.specs.RefusalNumbers.{Got, got, bad, unless}
-use Rattle.rules.specs.Lines.{Form, ignored, wrong, close, eof, keyed, formOf, formIn}
+use Rattle.rules.specs.Lines.{Form, ignored, wrong, close, eof, keyed, formIn}
 use Rattle.rules.specs.RangeClass.{Skip, passes, deeper, noForm, skipOf, mostDepth}
 use Rattle.rules.specs.Rows.{Held}
 use Rattle.rules.specs.Sets.{Set, Figure}
-use Rattle.rules.specs.Machine.{Line, Env, State, placing, skipping, bySkip, skipDeeper, skipShut, onSkipping, stepIn, refused, run}
-use Rattle.rules.proofs.Chains.{clash}
-use Rattle.lines.specs.LineLook.{lookIn}
+use Rattle.rules.specs.Machine.{Line, Env, State, skipping, bySkip, skipDeeper, skipShut, onSkipping, stepIn, refused, run}
 use Rattle.lines.specs.declared.Seen.{Seen}
-use Rattle.lines.specs.declared.Look.{Look}
-use Rattle.lines.specs.declared.Look.the-variants as K
-use Rattle.lines.proofs.LineLook.{look-long, look-behind}
-use Rattle.lines.proofs.LinesSeen.{look-forward}
 use Rattle.sets.specs.declared.Volume.{Volume}
 use Rattle.sets.specs.declared.Pos.{Pos}
 use Rattle.sets.specs.declared.Left.{Left}
 use Rattle.sets.specs.declared.Left.the-variants as L
 use Rattle.sets.specs.declared.Skipped.{Skipped}
 use Rattle.sets.specs.declared.Skipped.the-variants as S
-use Rattle.sets.specs.Walk.{seenOr, seenFrom, At, behind, todo, lineAt, Next}
+use Rattle.sets.specs.Walk.{seenFrom, At, todo}
 use Rattle.sets.specs.Turns.{stopAt}
-use Rattle.sets.specs.SkippedLines.{skippedAs, skippedBy, earlySkip, InPlaced, skipped, unskipped, Came, Refused, CameOr, Low, Further, SkipReady, SkipMet}
+use Rattle.sets.specs.SkippedLines.{skippedAs, skippedBy, earlySkip, InPlaced, skipped, unskipped, Came, Refused, CameOr, Low, SkipReady, SkipMet}
 use Rattle.sets.proofs.Steps.{early, step-on, step-refused, step-early}
-use Rattle.sets.proofs.Walked.{next-seen, todo-cons}
-
--- ── the line that was seen ──
--- the reading behind it
-abbrev pub past : Pos → Seen → Pos
-past p f = record { at = f .next; line = p .line + 1 }
-
-abbrev seenLine : List ℕ → Volume → List ℕ → Pos → Seen → Line
-seenLine s v next p f = record { volume = v .number; line = p .line + 1; last = f .last; next = next; form = formIn s (f .form) }
-
-record Passed (s : List ℕ) (v : Volume) (p : Pos) (ls : List (List ℕ)) (f : Seen) : Type 0 where
-  others : List (List ℕ)
-  at : At s v (past p f) others
-  last : f .last ≡ isNil others
-  cons : (next : List ℕ) (more : List Line) → todo v next p ls more ≡ seenLine s v next p f ∷ todo v next (past p f) others more
-
-passed-line : (s : List ℕ) (v : Volume) (p : Pos) (ls : List (List ℕ)) (f : Seen) → f ≡ seenFrom s v p → At s v p ls → isNil ls ≡ false → Passed s v p ls f
-passed-line s v p ls f e a n =
-    let x = subst (λ (g : Seen). Next s v p ls g) (sym e) (next-seen s v p ls a n) in
-    let l = x .line in
-    let us = x .others in
-    let z : record { at = p .at + length l + 2; line = p .line + 1 } ≡ past p f = ap (λ (m : ℕ). record { at = m; line = p .line + 1 }) (sym (x .next)) in
-    let u : suc (p .line) ≡ p .line + 1 = omega arith in
-    record {
-      others = us;
-      at = subst (λ (q : Pos). At s v q us) z (x .at);
-      last = x .last;
-      cons = λ next more.
-          ap (λ (ws : List (List ℕ)). todo v next p ws more) (x .lines)
-          ∙ todo-cons v next p l us more
-          ∙ ap (λ (q : Pos). lineAt v next p l us ∷ todo v next q us more) z
-          ∙ ap (λ (m : ℕ). record { volume = v .number; line = m; last = isNil us; next = next; form = formOf (p .at) l } ∷ todo v next (past p f) us more) u
-          ∙ ap (λ (b : Bool). record { volume = v .number; line = p .line + 1; last = b; next = next; form = formOf (p .at) l } ∷ todo v next (past p f) us more) (sym (x .last))
-          ∙ ap (λ (g : Form). record { volume = v .number; line = p .line + 1; last = f .last; next = next; form = g } ∷ todo v next (past p f) us more) (sym (x .form));
-    }
-
-abbrev Forward : Volume → Pos → Seen → Type 0
-Forward v p g = (p .at < g .next) × (g .next ≤ v .end + 1) × (g .next ≤ 61441)
-
--- whatever the bytes: a line that is not the last goes on, and stays in the spool's places
-pub seen-forward : (s : List ℕ) (v : Volume) (p : Pos) (f : Seen) → f ≡ seenFrom s v p → f .last ≡ false → Forward v p f
-seen-forward s v p f e n = subst (Forward v p) (sym e) (go (lookIn (v .number) (p .line + 1) (p .at) (v .end) s) refl (ap (λ (g : Seen). g .last) (sym e) ∙ n))
-  where
-    none-seen : {P : Type 0} {g : Seen} → K.End ≡ K.Line g → P
-    none-seen e = absurd (let z : _≡_ {A = ℕ} 0 1 = cc in omega arith)
-
-    short : (g : Seen) → lookIn (v .number) (p .line + 1) (p .at) (v .end) s ≡ K.Line g → (b : Bool) → leb (length s) mostBytes ≡ b → length s ≤ mostBytes
-    short g q true h = leb-true (length s) mostBytes h
-    short g q false h = none-seen (sym (look-long (v .number) (p .line + 1) (p .at) (v .end) s (leb-false (length s) mostBytes h)) ∙ q)
-
-    inside : (g : Seen) → lookIn (v .number) (p .line + 1) (p .at) (v .end) s ≡ K.Line g → (b : Bool) → leb (v .end) (length s) ≡ b → v .end ≤ length s
-    inside g q true h = leb-true (v .end) (length s) h
-    inside g q false h = none-seen (sym (look-behind (v .number) (p .line + 1) (p .at) (v .end) s (leb-false (v .end) (length s) h)) ∙ q)
-
-    go : (r : Look) → lookIn (v .number) (p .line + 1) (p .at) (v .end) s ≡ r → seenOr (p .at) r .last ≡ false → Forward v p (seenOr (p .at) r)
-    go K.End q h = clash refl h
-    go (K.Line g) q h =
-        let w = look-forward (v .number) (p .line + 1) (p .at) (v .end) s g q in
-        let a = short g q (leb (length s) mostBytes) refl in
-        let b = inside g q (leb (v .end) (length s)) refl in
-        (w .0, w .1, omega (arith, w .1))
+use Rattle.sets.proofs.SeenLines.{past, seenLine, Passed, passed-line, seen-forward, low-past}
 
 -- ── a line in a skipped block ──
 -- what it does to the machine
@@ -167,56 +99,54 @@ module _ (s : List ℕ) (v : Volume) (left : ℕ) (p q : Pos) (g : Going s v lef
   acts : (e : Env) (t : Set) (h : ℕ) (fs : List Figure) (n : ℕ) (o : Held) (next : List ℕ) → stepIn e (lineOf next) (skipped d t h fs n o) ≡ turn t h fs n o d did
   acts e t h fs n o next = turns t h fs n o d (formIn s (f .form)) ∙ ap (turn t h fs n o d) (sym z)
 
-  -- a line that is not the last: the machine goes on
-  goes : f .last ≡ false → (to : InPlaced) → ((t : Set) (h : ℕ) (fs : List Figure) (n : ℕ) (o : Held) → turn t h fs n o d did ≡ got (to t h fs n o))
-      → (ls : List (List ℕ)) → At s v p ls → isNil ls ≡ false → Came s v p ls (skipped d) to (past q f)
-  goes l to y ls a n =
-      let x = g .came ls a n in
-      let u = passed-line s v q (x .rest) f w (x .at) (x .some-left) in
-      record {
-        rest = u .others;
-        at = u .at;
-        some-left = sym (u .last) ∙ l;
-        eq = λ e t h fs k o next more.
-            x .eq e t h fs k o next more
-            ∙ ap (run e (skipped d t h fs k o)) (u .cons next more)
-            ∙ step-on e (skipped d t h fs k o) (lineOf next) (todo v next (past q f) (u .others) more) (to t h fs k o) l (acts e t h fs k o next ∙ y t h fs k o);
-      }
+  -- the run from p is the run from this line
+  module _ (ls : List (List ℕ)) (a : At s v p ls) (n : isNil ls ≡ false) where
+    abbrev here : Came s v p ls (skipped d) (skipped d) q
+    here = g .came ls a n
 
-  -- or it refuses
-  stops : f .last ≡ false → (m : ℕ) → ((t : Set) (h : ℕ) (fs : List Figure) (n : ℕ) (o : Held) → turn t h fs n o d did ≡ bad m)
-      → (ls : List (List ℕ)) → At s v p ls → isNil ls ≡ false → Refused v p ls (skipped d) (stopAt v (past q f) m)
-  stops l m y ls a n =
-      let x = g .came ls a n in
-      let u = passed-line s v q (x .rest) f w (x .at) (x .some-left) in
-      record {
-        eq = λ e t h fs k o next more.
-            x .eq e t h fs k o next more
-            ∙ ap (run e (skipped d t h fs k o)) (u .cons next more)
-            ∙ step-refused e (skipped d t h fs k o) (lineOf next) (todo v next (past q f) (u .others) more) m l (acts e t h fs k o next ∙ y t h fs k o);
-      }
+    abbrev this : Passed s v q (here .rest) f
+    this = passed-line s v q (here .rest) f w (here .at) (here .some-left)
 
-  -- the volume's last line
+    abbrev behind-it : List ℕ → List Line → List Line
+    behind-it next more = todo v next (past q f) (this .others) more
+
+    comes : (e : Env) (t : Set) (h : ℕ) (fs : List Figure) (k : ℕ) (o : Held) (next : List ℕ) (more : List Line)
+        → run e (skipped d t h fs k o) (todo v next p ls more) ≡ run e (skipped d t h fs k o) (lineOf next ∷ behind-it next more)
+    comes e t h fs k o next more = here .eq e t h fs k o next more ∙ ap (run e (skipped d t h fs k o)) (this .cons next more)
+
+    -- it is not the last: the machine goes on
+    goes : f .last ≡ false → (to : InPlaced) → ((t : Set) (h : ℕ) (fs : List Figure) (k : ℕ) (o : Held) → turn t h fs k o d did ≡ got (to t h fs k o)) → Came s v p ls (skipped d) to (past q f)
+    goes l to y =
+        record {
+          rest = this .others;
+          at = this .at;
+          some-left = sym (this .last) ∙ l;
+          eq = λ e t h fs k o next more.
+              comes e t h fs k o next more ∙ step-on e (skipped d t h fs k o) (lineOf next) (behind-it next more) (to t h fs k o) l (acts e t h fs k o next ∙ y t h fs k o);
+        }
+
+    -- or it refuses
+    stops : f .last ≡ false → (m : ℕ) → ((t : Set) (h : ℕ) (fs : List Figure) (k : ℕ) (o : Held) → turn t h fs k o d did ≡ bad m) → Refused v p ls (skipped d) (stopAt v (past q f) m)
+    stops l m y =
+        record {
+          eq = λ e t h fs k o next more.
+              comes e t h fs k o next more ∙ step-refused e (skipped d t h fs k o) (lineOf next) (behind-it next more) m l (acts e t h fs k o next ∙ y t h fs k o);
+        }
+
+    -- it is the last of its volume
+    ends : f .last ≡ true → (m : ℕ) → m ≡ earlySkip did → Refused v p ls (skipped d) (stopAt v (past q f) m)
+    ends l m y =
+        record {
+          eq = λ e t h fs k o next more.
+              comes e t h fs k o next more
+              ∙ step-early e (skipped d t h fs k o) (lineOf next) (behind-it next more) refl l
+              ∙ ap (λ (x : ℕ). refused x (v .number) (q .line + 1)) (ap early (acts e t h fs k o next) ∙ early-turn t h fs k o d deep did ∙ sym y);
+        }
+
   pub at-last : f .last ≡ true → (m : ℕ) → m ≡ earlySkip did → SkipMet s v p left (L.Stop (stopAt v (past q f) m))
-  at-last l m y =
-      record {
-        met = λ ls a n.
-            let x = g .came ls a n in
-            let u = passed-line s v q (x .rest) f w (x .at) (x .some-left) in
-            record {
-              eq = λ e t h fs k o next more.
-                  x .eq e t h fs k o next more
-                  ∙ ap (run e (skipped d t h fs k o)) (u .cons next more)
-                  ∙ step-early e (skipped d t h fs k o) (lineOf next) (todo v next (past q f) (u .others) more) refl l
-                  ∙ ap (λ (m : ℕ). refused m (v .number) (q .line + 1)) (ap early (acts e t h fs k o next) ∙ early-turn t h fs k o d deep did ∙ sym y);
-            };
-        further = tt;
-      }
+  at-last l m y = record { met = λ ls a n. ends ls a n l m y; further = tt }
 
   module _ (l : f .last ≡ false) where
-    low-past : Low (past q f)
-    low-past = let m = seen-forward s v q f w l in let a = g .low .line in record { line = omega (arith, m .0); at = m .2 }
-
     onward : (r : Pos) → past q f .at ≤ r .at → p .at < r .at
     onward r h = let m = seen-forward s v q f w l in let a = g .on in omega (arith, m .0)
 
@@ -228,8 +158,8 @@ module _ (s : List ℕ) (v : Volume) (left : ℕ) (p q : Pos) (g : Going s v lef
         let m = seen-forward s v q f w l in
         let a = g .on in
         record {
-          came = goes l (skipped d) (λ t h fs n o. ap (turn t h fs n o d) (sym y));
-          low = low-past;
+          came = λ ls a n. goes ls a n l (skipped d) (λ t h fs k o. ap (turn t h fs k o d) (sym y));
+          low = low-past s v q f w l (g .low);
           on = omega (arith, m .0);
           one = g .one;
           four = g .four;
@@ -238,15 +168,15 @@ module _ (s : List ℕ) (v : Volume) (left : ℕ) (p q : Pos) (g : Going s v lef
     pub shut : S.Shut ≡ did → SkipMet s v p left (L.Go (past q f))
     shut y =
         let m = seen-forward s v q f w l in
-        record { met = goes l (unskipped d) (turned-to y); further = (low-past, onward (past q f) (omega arith), m .1) }
+        record { met = λ ls a n. goes ls a n l (unskipped d) (turned-to y); further = (low-past s v q f w l (g .low), onward (past q f) (omega arith), m .1) }
 
     pub refuses : (m : ℕ) → S.Refuse m ≡ did → SkipMet s v p left (L.Stop (stopAt v (past q f) m))
-    refuses m y = record { met = stops l m (λ t h fs n o. ap (turn t h fs n o d) (sym y)); further = tt }
+    refuses m y = record { met = λ ls a n. stops ls a n l m (λ t h fs k o. ap (turn t h fs k o d) (sym y)); further = tt }
 
     pub too-deep : S.Deeper ≡ did → left ≡ 1 → SkipMet s v p left (L.Stop (stopAt v (past q f) 18))
     too-deep y h =
         let x : mostDepth ≤ d = omega arith in
-        record { met = stops l 18 (λ t k fs n o. ap (turn t k fs n o d) (sym y) ∙ rw (le-ltb d mostDepth x) refl); further = tt }
+        record { met = λ ls a n. stops ls a n l 18 (λ t k fs m o. ap (turn t k fs m o d) (sym y) ∙ rw (le-ltb d mostDepth x) refl); further = tt }
 
     -- the inner block
     module _ (y : S.Deeper ≡ did) (h : left ≡ 1 → ⊥) where
@@ -257,7 +187,7 @@ module _ (s : List ℕ) (v : Volume) (left : ℕ) (p q : Pos) (g : Going s v lef
       deeper-by = let a = fewer in let b = g .four in omega arith
 
       pub inner-ready : SkipReady (past q f) (left - 1)
-      inner-ready = let a = fewer in let b = g .four in record { low = low-past; one = omega arith; four = omega arith }
+      inner-ready = let a = fewer in let b = g .four in record { low = low-past s v q f w l (g .low); one = omega arith; four = omega arith }
 
       opened : (t : Set) (k : ℕ) (fs : List Figure) (n : ℕ) (o : Held) → turn t k fs n o d did ≡ got (skipped (suc d) t k fs n o)
       opened t k fs n o = let a = fewer in let x : d < mostDepth = omega arith in ap (turn t k fs n o d) (sym y) ∙ rw (lt-ltb d mostDepth x) refl
@@ -270,7 +200,7 @@ module _ (s : List ℕ) (v : Volume) (left : ℕ) (p q : Pos) (g : Going s v lef
       inner-stops x k =
           record {
             met = λ ls a n.
-                let c = goes l (skipped (suc d)) opened ls a n in
+                let c = goes ls a n l (skipped (suc d)) opened in
                 let i = inner (L.Stop x) k (c .rest) (c .at) (c .some-left) in
                 record { eq = λ e t h fs m o next more. c .eq e t h fs m o next more ∙ i .eq e t h fs m o next more };
             further = tt;
@@ -283,7 +213,7 @@ module _ (s : List ℕ) (v : Volume) (left : ℕ) (p q : Pos) (g : Going s v lef
           let b = onward r (omega arith) in
           record {
             came = λ ls a n.
-                let c = goes l (skipped (suc d)) opened ls a n in
+                let c = goes ls a n l (skipped (suc d)) opened in
                 let i = inner (L.Go r) k (c .rest) (c .at) (c .some-left) in
                 record {
                   rest = i .rest;

@@ -5,11 +5,11 @@ use mathlib.Core.Path.{_≡_}
 use mathlib.Core.List.{List}
 use Rattle.rules.specs.declared.Refusal.{Refusal}
 use Rattle.rules.specs.Base.{isNil}
-use Rattle.rules.specs.Lines.{Rest, equals, Form, ignored, wrong, close, eof, keyed, shapeOf}
+use Rattle.rules.specs.Lines.{equals, Form, ignored, wrong, close, eof, keyed, shapeOf}
 use Rattle.rules.specs.RangeClass.{Skip, passes, deeper, noForm, skipShape, skipOf}
 use Rattle.rules.specs.Rows.{Held}
 use Rattle.rules.specs.Sets.{Set, Figure}
-use Rattle.rules.specs.Machine.{Line, Env, State, placing, skipping, Outcome, refused, run}
+use Rattle.rules.specs.Machine.{Line, Env, State, placing, skipping, refused, run}
 use Rattle.sets.specs.declared.Volume.{Volume}
 use Rattle.sets.specs.declared.Pos.{Pos}
 use Rattle.sets.specs.declared.Left.{Left}

@@ -85,14 +85,7 @@ pub(crate) fn skip_block(s: &[u8], v: Volume, p: Pos, left: u8) -> Left
     let mut at = p.at;
     let mut line = p.line;
     loop {
-        let seen = next_line(
-            s,
-            v,
-            Pos {
-                at: at,
-                line: line,
-            },
-        );
+        let seen = next_line(s, v, Pos { at: at, line: line });
         let form = seen.form;
         let did = skip_line(s, form);
         at = seen.next;
@@ -107,10 +100,7 @@ pub(crate) fn skip_block(s: &[u8], v: Volume, p: Pos, left: u8) -> Left
         match did {
             Skipped::Passes => {}
             Skipped::Shut => {
-                return Left::Go(Pos {
-                    at: at,
-                    line: line,
-                });
+                return Left::Go(Pos { at: at, line: line });
             }
             Skipped::Refuse(n) => {
                 return Left::Stop(Refusal {
@@ -127,15 +117,7 @@ pub(crate) fn skip_block(s: &[u8], v: Volume, p: Pos, left: u8) -> Left
                         line: line,
                     });
                 }
-                let r = skip_block(
-                    s,
-                    v,
-                    Pos {
-                        at: at,
-                        line: line,
-                    },
-                    left - 1,
-                );
+                let r = skip_block(s, v, Pos { at: at, line: line }, left - 1);
                 let Left::Go(q) = r else {
                     return r;
                 };

@@ -1,8 +1,9 @@
 use Prim.Native.Nat.{_+_, _-_}
-use mathlib.Core.Path.{sym, _∙_, ap}
+use mathlib.Core.Path.{sym}
 use native.Mathlib.Omega.{arith}
 use borrow.Author.Needs.{needs}
-use Rattle.sets.proofs.SkipRun.{Going, start, seen-forward, at-last, stays, shut, refuses, too-deep, inner-ready, inner-stops, goes-on}
+use Rattle.sets.proofs.SeenLines.{seen-forward}
+use Rattle.sets.proofs.SkipRun.{Going, start, at-last, stays, shut, refuses, too-deep, inner-ready, inner-stops, goes-on}
 use Prim.Native.Nat.{ℕ, _<_}
 use borrow.Fn.Kinds.{In}
 use borrow.Fn.PlainCycle.{Measures, is, falls, and}

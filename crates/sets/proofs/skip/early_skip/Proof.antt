@@ -3,9 +3,6 @@ use Rattle.sets.specs.SkippedLines.{earlySkip}
 use borrow.Author.Needs.{needs}
 use Rattle.sets.proofs.skip.early_skip.Statement.{statement}
 use Rattle.sets.proofs.skip.early_skip.Tie as tie
-use Rattle.sets.proofs.skip.early_skip.Reads as reads
-use Rattle.sets.proofs.skip.early_skip.Lts as lts
-use Rattle.sets.proofs.classes.less.Reads as less-reads
 
 -- src/skip.rt:72:28
 enum-told : tie.Need-enum-told

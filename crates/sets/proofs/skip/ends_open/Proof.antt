@@ -1,12 +1,9 @@
-use mathlib.Core.Path.{sym, _∙_, ap}
+use mathlib.Core.Path.{sym, _∙_}
 use native.Mathlib.Omega.{arith}
 use Rattle.sets.proofs.StemEnds.{too-short, last-two}
 use borrow.Author.Needs.{needs}
 use Rattle.sets.proofs.skip.ends_open.Statement.{statement}
 use Rattle.sets.proofs.skip.ends_open.Tie as tie
-use Rattle.sets.proofs.skip.ends_open.Reads as reads
-use Rattle.sets.proofs.skip.ends_open.Lts as lts
-use Rattle.leaves.proofs.bytes.same.Reads as same-reads
 
 -- src/skip.rt:25:9
 returns : tie.Need-returns

@@ -1,12 +1,9 @@
-use mathlib.Core.Path.{sym, _∙_, ap}
+use mathlib.Core.Path.{sym, _∙_}
 use borrow.Author.Tests.{not-true, not-false}
 use Rattle.sets.proofs.StemEnds.{content-passes, content-formless, content-opens}
 use borrow.Author.Needs.{needs}
 use Rattle.sets.proofs.skip.skip_content.Statement.{statement}
 use Rattle.sets.proofs.skip.skip_content.Tie as tie
-use Rattle.sets.proofs.skip.skip_content.Reads as reads
-use Rattle.sets.proofs.skip.skip_content.Lts as lts
-use Rattle.sets.proofs.skip.ends_open.Reads as ends-open-reads
 
 -- src/skip.rt:34:9
 ends-open-requires : tie.Need-ends-open-requires

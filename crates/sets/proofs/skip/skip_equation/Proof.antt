@@ -7,11 +7,6 @@ use Rattle.sets.proofs.StemEnds.{free, not-free}
 use borrow.Author.Needs.{needs}
 use Rattle.sets.proofs.skip.skip_equation.Statement.{statement}
 use Rattle.sets.proofs.skip.skip_equation.Tie as tie
-use Rattle.sets.proofs.skip.skip_equation.Reads as reads
-use Rattle.sets.proofs.skip.skip_equation.Lts as lts
-use Rattle.entries.proofs.names.part.Reads as part-reads
-use Rattle.leaves.proofs.bytes.same.Reads as same-reads
-use Rattle.sets.proofs.skip.skip_content.Reads as skip-content-reads
 
 -- src/skip.rt:47:13
 part-requires : tie.Need-part-requires

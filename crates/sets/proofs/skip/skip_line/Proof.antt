@@ -5,9 +5,6 @@ use Rattle.sets.specs.SkippedLines.{skippedBy}
 use borrow.Author.Needs.{needs}
 use Rattle.sets.proofs.skip.skip_line.Statement.{statement}
 use Rattle.sets.proofs.skip.skip_line.Tie as tie
-use Rattle.sets.proofs.skip.skip_line.Reads as reads
-use Rattle.sets.proofs.skip.skip_line.Lts as lts
-use Rattle.sets.proofs.skip.skip_equation.Reads as skip-equation-reads
 
 -- src/skip.rt:58:30
 enum-told : tie.Need-enum-told
