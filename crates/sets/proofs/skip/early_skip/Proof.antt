@@ -26,15 +26,15 @@ less-requires c κs = search needs
 
 -- src/skip.rt:68:1
 returns : tie.Need-returns
-returns c = search needs
+returns c = sym (ap earlySkip (c .enum-told .given .1))
 
 -- src/skip.rt:68:1
 returns-2 : tie.Need-returns-2
-returns-2 c = search needs
+returns-2 c = sym (ap earlySkip (c .enum-told2 .given .1))
 
 -- src/skip.rt:68:1
 returns-3 : tie.Need-returns-3
-returns-3 c = search needs
+returns-3 c = sym (ap earlySkip (c .enum-told3 .given .1))
 
 -- src/skip.rt:68:1
 returns-4 : tie.Need-returns-4

@@ -36,15 +36,15 @@ enum-known-form-2 c = search needs
 
 -- src/skip.rt:54:1
 returns : tie.Need-returns
-returns c = search needs
+returns c = sym (ap (λ (f : LineForm). skippedBy (formIn (c .before .before .before .args .s .now) f)) (c .enum-told .given .1))
 
 -- src/skip.rt:54:1
 returns-2 : tie.Need-returns-2
-returns-2 c = search needs
+returns-2 c = sym (ap (λ (f : LineForm). skippedBy (formIn (c .before .before .before .args .s .now) f)) (c .enum-told2 .given .1))
 
 -- src/skip.rt:54:1
 returns-3 : tie.Need-returns-3
-returns-3 c = search needs
+returns-3 c = sym (ap (λ (f : LineForm). skippedBy (formIn (c .before .before .before .args .s .now) f)) (c .enum-told3 .given .1))
 
 -- src/skip.rt:54:1
 returns-4 : tie.Need-returns-4
