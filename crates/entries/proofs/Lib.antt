@@ -4,3 +4,4 @@ pub mod EachValue
 pub mod ByKind
 pub mod ByShape
 pub mod LineActs
+pub mod TableActs

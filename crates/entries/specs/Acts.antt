@@ -1,9 +1,9 @@
 -- What a line does in its block, and what it leaves in the lent numbers.
 use Prim.Native.Nat.{ℕ, zero, suc, _+_}
 use mathlib.Core.Path.{_≡_}
-use mathlib.Core.Bool.{Bool, true, false, _&&_, not}
+use mathlib.Core.Bool.{Bool, true, false, _&&_, _||_, not}
 use mathlib.Core.List.{List}
-use lib.Dec.{leb, ltb}
+use lib.Dec.{eqb, leb, ltb}
 use lib.IntN.{ℤ}
 use lib.ListN.{length}
 use lib.Seq.{sets}
@@ -82,3 +82,7 @@ nextFor false j i formless = N.Entry j
 -- ── what a block must have ──
 abbrev pub wanted : Digits → Rule → Bool
 wanted d r = r .must && reaches d (r .least)
+
+-- the tables of which no row is required, by number
+abbrev pub needsNone : ℕ → Bool
+needsNone n = eqb n 0 || (eqb n 8 || (leb 10 n && leb n 15))

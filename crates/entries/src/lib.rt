@@ -1,4 +1,5 @@
 // What one line enters into its block and its record.
+pub mod acts;
 mod contents;
 pub mod lines;
 pub mod names;

@@ -109,7 +109,7 @@ fn put_shape(
 }
 
 // Digits of a range or class that have at least what is asked for.
-fn reaches(d: Digits, least: Digits) -> bool
+pub(crate) fn reaches(d: Digits, least: Digits) -> bool
     ensures { λ r. ⌜ r ≡ reaches d least ⌝ }
 {
     if least.middle <= d.middle {

@@ -1,0 +1,25 @@
+use Rattle.rules.specs.Blocks.{drawingTable}
+use Rattle.tables.specs.Tables.{tableOf}
+use Rattle.entries.proofs.TableActs.{drawing-wanted}
+use borrow.Author.Needs.{needs}
+use Rattle.entries.proofs.acts.drawing_wants.Statement.{statement}
+use Rattle.entries.proofs.acts.drawing_wants.Tie as tie
+use Rattle.entries.proofs.acts.drawing_wants.Reads as reads
+use Rattle.entries.proofs.acts.drawing_wants.Lts as lts
+use Rattle.entries.proofs.lines.reaches.Reads as reaches-reads
+
+-- src/acts.rt:33:9
+reaches-requires : tie.Need-reaches-requires
+reaches-requires c κs = search needs
+
+-- src/acts.rt:33:9
+returns : tie.Need-returns
+unfolding tableOf drawingTable
+returns c = rw (c .before .if1 .taken) (c .reaches .ensures)
+
+-- src/acts.rt:28:1
+returns-2 : tie.Need-returns-2
+returns-2 c = drawing-wanted (c .before .args .d) (c .before .args .row) (c .before .pre) (c .if1 .left)
+
+pub drawing-wants-spec : {M : Type 1} → statement M
+drawing-wants-spec = tie.close (tie.spec reaches-requires returns returns-2)

@@ -1,0 +1,242 @@
+// What one line does in a block of a table.
+use crate::Next;
+use crate::Rest;
+use crate::lines::act_row;
+use crate::lines::reaches;
+use crate::names::part;
+use crate::shapes::has_form;
+use crate::shapes::shape_for;
+use rules::Digits;
+use rules::LineForm;
+use rules::Span;
+use tables::Found;
+use tables::lookup::row_of;
+ghost use mathlib.Core.Path.{_≡_};
+ghost use mathlib.Core.Bool.{true, false, cond, not};
+ghost use Prim.Native.Nat.{_<_, _≤_};
+ghost use lib.ListN.{length, getD};
+ghost use Rattle.rules.specs.Base.{all};
+ghost use Rattle.rules.specs.Lines.{bytesAt, formIn};
+ghost use Rattle.rules.specs.Rows.{find, present, complete, actUnknown, actFound, act, shut, refuse};
+ghost use Rattle.rules.specs.RecordTable.{ruleAt};
+ghost use Rattle.tables.specs.Tables.{tableOf};
+ghost use Rattle.entries.specs.Names.{knownIn};
+ghost use Rattle.entries.specs.Shapes.{restIn};
+ghost use Rattle.entries.specs.Acts.{roomy, nextOf, Acts, wanted, needsNone};
+
+// DRAWING_FORMAT's rows: floor_height from 001 on.
+fn drawing_wants(row: usize, d: Digits) -> bool
+    requires { ⌜ row < 8 ⌝ }
+    ensures { λ r. ⌜ r ≡ wanted d (ruleAt (tableOf 7) row) ⌝ }
+{
+    if row == 6 {
+        return reaches(d, Digits { middle: 0, last: 1 });
+    }
+    true
+}
+
+// A symbol's rows: wall from 002 on.
+fn symbol_wants(row: usize, d: Digits) -> bool
+    requires { ⌜ row < 4 ⌝ }
+    ensures { λ r. ⌜ r ≡ wanted d (ruleAt (tableOf 9) row) ⌝ }
+{
+    if row == 3 {
+        return reaches(d, Digits { middle: 0, last: 2 });
+    }
+    true
+}
+
+// A placed symbol's rows, by the digits from which on each is required.
+fn placed_wants(row: usize, d: Digits) -> bool
+    requires { ⌜ row < 6 ⌝ }
+    ensures { λ r. ⌜ r ≡ wanted d (ruleAt (tableOf 18) row) ⌝ }
+{
+    if row == 0 {
+        return true;
+    }
+    if row == 2 {
+        return reaches(d, Digits { middle: 0, last: 3 });
+    }
+    if row == 3 {
+        return reaches(d, Digits { middle: 0, last: 4 });
+    }
+    if row == 4 {
+        return reaches(d, Digits { middle: 0, last: 5 });
+    }
+    if row == 5 {
+        return reaches(d, Digits { middle: 1, last: 0 });
+    }
+    false
+}
+
+// Blocks that need not have any of their rows: those outside all blocks, of definitions, layers, figures and points.
+fn needs_none(table: u8) -> bool
+    ensures { λ r. ⌜ r ≡ needsNone table ⌝ }
+{
+    if table == 0 {
+        return true;
+    }
+    if table == 8 {
+        return true;
+    }
+    if 10 <= table {
+        return table <= 15;
+    }
+    false
+}
+
+// A row that a block must have in a file of the range d.
+fn wants(table: u8, row: usize, d: Digits) -> bool
+    requires { ⌜ row < length (tableOf table) ⌝ }
+    ensures { λ r. ⌜ r ≡ wanted d (ruleAt (tableOf table) row) ⌝ }
+{
+    if needs_none(table) {
+        return false;
+    }
+    if table == 2 {
+        return row == 0;
+    }
+    if table == 18 {
+        return placed_wants(row, d);
+    }
+    if table == 7 {
+        return drawing_wants(row, d);
+    }
+    if table == 9 {
+        return symbol_wants(row, d);
+    }
+    true
+}
+
+fn there(table: u8, row: usize, d: Digits, full: bool) -> bool
+    requires { ⌜ row < length (tableOf table) ⌝ }
+    ensures { λ r. ⌜ r ≡ present d (ruleAt (tableOf table) row) full ⌝ }
+{
+    if full {
+        return true;
+    }
+    !wants(table, row, d)
+}
+
+// All required rows are there.
+pub fn complete(table: u8, d: Digits, full: &[bool]) -> bool
+    requires { ⌜ length (now full) ≡ length (tableOf table) ⌝ }
+    ensures { λ r. ⌜ r ≡ complete d (tableOf table) (now (full .entry)) ⌝ }
+{
+    let mut i = 0;
+    while i < full.len() {
+        if !there(table, i, d, full[i]) {
+            return false;
+        }
+        i += 1;
+    }
+    true
+}
+
+fn close(table: u8, d: Digits, full: &[bool]) -> Next
+    requires { ⌜ length (now full) ≡ length (tableOf table) ⌝ }
+    ensures { λ r. ⌜ r ≡ nextOf (cond (complete d (tableOf table) (now (full .entry))) shut (refuse 8)) ⌝ }
+{
+    if complete(table, d, full) {
+        return Next::Shut;
+    }
+    Next::Refuse(8)
+}
+
+fn mark(full: &[bool], row: u8) -> bool
+    ensures { λ r. ⌜ r ≡ getD (now (full .entry)) row false ⌝ }
+{
+    let i = row as usize;
+    if i < full.len() {
+        return full[i];
+    }
+    false
+}
+
+// A key that is not known here: 6, and 5 where the line has no form.
+fn unknown(s: &[u8], rest: Rest) -> Next
+    ensures { λ r. ⌜ r ≡ nextOf (actUnknown (restIn (now (s .entry)) rest)) ⌝ }
+{
+    if has_form(shape_for(s, false, rest)) {
+        return Next::Refuse(6);
+    }
+    Next::Refuse(5)
+}
+
+fn act_key(
+    table: u8,
+    s: &[u8],
+    symbols: &[u32],
+    layers: &[u32],
+    d: Digits,
+    full: &[bool],
+    key: Span,
+    rest: Rest,
+    dump: usize,
+    rec: &mut [i64],
+) -> Next
+    requires { ⌜ (length (now s) ≤ 61440) × (length (now symbols) ≤ 65536) × (length (now layers) ≤ 65536) × (all (roomy dump (length (now rec))) (tableOf table) ≡ true) ⌝ }
+    ensures { λ r. ⌜ Acts (ruleAt (tableOf table)) dump (now (rec .entry)) (actFound (knownIn (now (s .entry)) (now (symbols .entry)) (now (layers .entry))) d (now (full .entry)) (restIn (now (s .entry)) rest) (find (bytesAt (now (s .entry)) key) (tableOf table))) (now (rec .exit)) r ⌝ }
+{
+    match row_of(table, part(s, key)) {
+        Found::Absent => unknown(s, rest),
+        Found::Row(row) => {
+            let had = mark(full, row.number);
+            act_row(row, s, symbols, layers, d, had, rest, dump, rec)
+        }
+    }
+}
+
+// A line in a block of a table, in a file of the range d; `full` tells for each row whether it has had all it may have.
+pub fn act(
+    table: u8,
+    s: &[u8],
+    symbols: &[u32],
+    layers: &[u32],
+    d: Digits,
+    full: &[bool],
+    form: LineForm,
+    dump: usize,
+    rec: &mut [i64],
+) -> Next
+    requires { ⌜ (length (now s) ≤ 61440) × (length (now symbols) ≤ 65536) × (length (now layers) ≤ 65536) × (length (now full) ≡ length (tableOf table)) × (all (roomy dump (length (now rec))) (tableOf table) ≡ true) ⌝ }
+    ensures { λ r. ⌜ Acts (ruleAt (tableOf table)) dump (now (rec .entry)) (act (knownIn (now (s .entry)) (now (symbols .entry)) (now (layers .entry))) (tableOf table) d (now (full .entry)) (formIn (now (s .entry)) form)) (now (rec .exit)) r ⌝ }
+{
+    match form {
+        LineForm::Ignored => Next::Stay,
+        LineForm::Close => close(table, d, full),
+        LineForm::Eof => Next::Refuse(9),
+        LineForm::Opens(o) => {
+            let key = o.key;
+            act_key(
+                table,
+                s,
+                symbols,
+                layers,
+                d,
+                full,
+                key,
+                Rest::Brace,
+                dump,
+                rec,
+            )
+        }
+        LineForm::Equals(q) => {
+            let key = q.key;
+            let rest = q.rest;
+            act_key(
+                table,
+                s,
+                symbols,
+                layers,
+                d,
+                full,
+                key,
+                Rest::Equals(rest),
+                dump,
+                rec,
+            )
+        }
+        LineForm::Refused(r) => Next::Refuse(r.number),
+    }
+}
