@@ -14,3 +14,4 @@ pub mod NextTurns
 pub mod StemEnds
 pub mod SeenLines
 pub mod SkipRun
+pub mod OneTurn

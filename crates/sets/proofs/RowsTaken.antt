@@ -115,7 +115,7 @@ shape-taken k j r (opening at c) a e =
 shape-taken k j r formless a e = never e
 
 -- what any act says of the table that it is an act of
-abbrev TableTaken : List Rule → List Bool → Act → Type 0
+abbrev pub TableTaken : List Rule → List Bool → Act → Type 0
 TableTaken t full stay = Unit {0}
 TableTaken t full (entry j v) = Taken t full j v
 TableTaken t full (begin i j v) = Taken t full j v

@@ -1,7 +1,7 @@
 pub mod Placing
 pub mod Walk
 pub mod Turns
+pub mod SkippedLines
 pub mod Classes
 pub mod Reach
 pub mod Texts
-pub mod SkippedLines

@@ -4,11 +4,22 @@ use crate::Entered;
 use crate::Pos;
 use crate::Turn;
 use crate::Volume;
+use crate::walk::next_line;
 use entries::Next;
+use entries::acts::act;
+use rules::Digits;
 use rules::Refusal;
 ghost use mathlib.Core.Path.{_≡_};
+ghost use mathlib.Core.Bool.{true};
+ghost use Prim.Native.Nat.{_≤_};
+ghost use lib.ListN.{length};
+ghost use Rattle.rules.specs.Base.{all};
+ghost use Rattle.tables.specs.Tables.{tableOf};
+ghost use Rattle.entries.specs.Acts.{roomy};
 ghost use Rattle.sets.specs.declared.Turn.the-variants as T;
 ghost use Rattle.sets.specs.Turns.{stopAt, shortNext, earlyNext, onNext, turnedOf};
+ghost use Rattle.sets.specs.SkippedLines.{Low};
+ghost use Rattle.sets.specs.Reach.{TurnPromise};
 
 // A block that may not close yet: something required is missing.
 fn too_few(short: bool, next: Next) -> Next
@@ -80,4 +91,32 @@ fn turned(v: Volume, q: Pos, last: bool, next: Next) -> Turn
         return stopped(v, q, early(next));
     }
     going(v, q, next)
+}
+
+// The next line of a block of a table, in a file of the range d: what it did, with its numbers in the lent record. `full` tells which rows
+// have had all they may have, `short` that the block may not close yet; a row without a place of its own goes to `dump`.
+pub(crate) fn turn(
+    table: u8,
+    s: &[u8],
+    symbols: &[u32],
+    layers: &[u32],
+    v: Volume,
+    p: Pos,
+    d: Digits,
+    full: &[bool],
+    short: bool,
+    dump: usize,
+    rec: &mut [i64],
+) -> Turn
+    requires { ⌜ (length (now s) ≤ 61440) × (length (now symbols) ≤ 65536) × (length (now layers) ≤ 65536) × (length (now full) ≡ length (tableOf table)) × (all (roomy dump (length (now rec))) (tableOf table) ≡ true) × Low p ⌝ }
+    ensures { λ r. ⌜ TurnPromise (now (s .entry)) (now (symbols .entry)) (now (layers .entry)) v p table d (now (full .entry)) short dump (now (rec .entry)) (now (rec .exit)) r ⌝ }
+{
+    let seen = next_line(s, v, p);
+    let form = seen.form;
+    let next = act(table, s, symbols, layers, d, full, form, dump, rec);
+    let q = Pos {
+        at: seen.next,
+        line: p.line + 1,
+    };
+    turned(v, q, seen.last, too_few(short, next))
 }
