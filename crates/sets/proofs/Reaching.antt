@@ -55,7 +55,7 @@ module _ (w : Way) (st : State) (p : Pos) (ls : List (List ℕ)) (short : Bool) 
 
   -- what the answer says
   abbrev pub Turns : Turn → Type 0
-  Turns (T.Stay x) = Reach w st p ls st x
+  Turns (T.Stay x) = (a ≡ stay) × Reach w st p ls st x
   Turns (T.Entry x) = (v : Value) × (a ≡ entry (x .row) v) × (x .pos ≡ q) × Then w st p ls (ent (x .row) v) (x .pos)
   Turns (T.Begin x) = (v : Value) × (a ≡ begin (x .block) (x .row) v) × (x .pos ≡ q) × Then w st p ls (beg (x .block) (x .row) v) (x .pos)
   Turns (T.Shut x) = (a ≡ shut) × (x ≡ q) × Then w st p ls (cls tt) x
@@ -73,7 +73,7 @@ module _ (w : Way) (st : State) (p : Pos) (ls : List (List ℕ)) (short : Bool) 
     to-then (bad k) e = whole ∙ e ∙ ap (λ (x : ℕ). refused k (w .volume .number) x) (omega arith)
 
     on-act : (b : Act) → a ≡ b → (z : Turned (w .env) st line left a ent beg cls (onTurn (w .volume) q (shortAct short b))) → Turns (onTurn (w .volume) q (shortAct short b))
-    on-act stay e z = to-state st z
+    on-act stay e z = (z .0, to-state st (z .1))
     on-act (entry j v) e z = (z .0, z .1, refl, to-then (ent j (z .0)) (z .2))
     on-act (begin i j v) e z = (z .0, z .1, refl, to-then (beg i j (z .0)) (z .2))
     on-act shut e z = go short z

@@ -103,16 +103,19 @@ module _ (w : Way) (S : Set) (h : Home) (fs : List Figure) (n : ℕ) (p₀ : Pos
     abbrev Met : Turn → Type 0
     Met r = TurnMet w p (g .reach .rest) false (actsIn o) put r
 
-    pub on-stay : (q : Pos) → Met (T.Stay q) → Going q ms rec
-    on-stay q m = record {
-      own = o;
-      sized = g .sized;
-      reach =
-          reach-on w (begunText S h fs n) p₀ ls₀ (texts S h fs n o) p (texts S h fs n o) q (g .reach)
-          (turns w (texts S h fs n o) p (g .reach .rest) false (actsIn o) put (T.Stay q) m (enters o) opens (closes o) (text-line o _));
-      marked = g .marked;
-      filled = g .filled;
-    }
+    pub on-stay : (q : Pos) (m : Met (T.Stay q)) → (actsIn o (formOf (p .at) (m .line)) ≡ stay) × Going q ms rec
+    on-stay q m =
+        let (e, z) = turns w (texts S h fs n o) p (g .reach .rest) false (actsIn o) put (T.Stay q) m (enters o) opens (closes o) (text-line o _) in
+        (
+          e,
+          record {
+            own = o;
+            sized = g .sized;
+            reach = reach-on w (begunText S h fs n) p₀ ls₀ (texts S h fs n o) p (texts S h fs n o) q (g .reach) z;
+            marked = g .marked;
+            filled = g .filled;
+          },
+        )
 
     pub on-entry : (x : Entered) (m : Met (T.Entry x)) (rec₁ : List ℤ) → ((v : Value) → actsIn o (formOf (p .at) (m .line)) ≡ entry (x .row) v → rec₁ ≡ putValue (ruleAt rows (x .row)) v rec)
         → Going (x .pos) (set ms (x .row) true) rec₁
@@ -133,14 +136,17 @@ module _ (w : Way) (S : Set) (h : Home) (fs : List Figure) (n : ℕ) (p₀ : Pos
     on-begin x m =
         let (v, e, q, z) = turns w (texts S h fs n o) p (g .reach .rest) false (actsIn o) put (T.Begin x) m (enters o) opens (closes o) (text-line o _) in g .reach .eq ∙ z
 
-    pub on-shut : (q : Pos) → Met (T.Shut q) → TextGo w S h fs n p₀ ls₀ rec₀ rec q
+    pub on-shut : (q : Pos) (m : Met (T.Shut q)) → (actsIn o (formOf (p .at) (m .line)) ≡ shut) × TextGo w S h fs n p₀ ls₀ rec₀ rec q
     on-shut q m =
         let (e, y, z) = turns w (texts S h fs n o) p (g .reach .rest) false (actsIn o) put (T.Shut q) m (enters o) opens (closes o) (text-line o _) in
-        record {
-          own = o;
-          reach = reach-on w (begunText S h fs n) p₀ ls₀ (texts S h fs n o) p (figures S h (fs ++ lettering n o ∷ [])) q (g .reach) z;
-          filled = g .filled ∙ same-rows (isLayer h) o rec₀;
-        }
+        (
+          e,
+          record {
+            own = o;
+            reach = reach-on w (begunText S h fs n) p₀ ls₀ (texts S h fs n o) p (figures S h (fs ++ lettering n o ∷ [])) q (g .reach) z;
+            filled = g .filled ∙ same-rows (isLayer h) o rec₀;
+          },
+        )
 
     pub on-stop : (f : Refusal) → Met (T.Stop f) → Refuses w (begunText S h fs n) p₀ ls₀ f
     on-stop f m = g .reach .eq ∙ turns w (texts S h fs n o) p (g .reach .rest) false (actsIn o) put (T.Stop f) m (enters o) opens (closes o) (text-line o _)

@@ -27,7 +27,7 @@ pub record Block (e : Env) (st : State) (l : Line) (short : Bool) (a : Act) (ent
 module _ (e : Env) (st : State) (l : Line) (ls : List Line) (a : Act) (ent : ℕ → Value → Got State) (beg : ℕ → ℕ → Value → Got State) (cls : Unit {0} → Got State) where
   -- what the answer says of the reading
   abbrev pub Turned : Turn → Type 0
-  Turned (T.Stay q) = run e st (l ∷ ls) ≡ run e st ls
+  Turned (T.Stay q) = (a ≡ stay) × (run e st (l ∷ ls) ≡ run e st ls)
   Turned (T.Entry x) = (v : Value) × (a ≡ entry (x .row) v) × (run e st (l ∷ ls) ≡ thenRun (ent (x .row) v) l (λ s. run e s ls))
   Turned (T.Begin x) = (v : Value) × (a ≡ begin (x .block) (x .row) v) × (run e st (l ∷ ls) ≡ thenRun (beg (x .block) (x .row) v) l (λ s. run e s ls))
   Turned (T.Shut q) = (a ≡ shut) × (run e st (l ∷ ls) ≡ thenRun (cls tt) l (λ s. run e s ls))
@@ -58,7 +58,7 @@ module _ (e : Env) (st : State) (l : Line) (ls : List Line) (v : Volume) (q : Po
   at-last (refuse n) b h = refl
 
   on-line : (a : Act) → Block e st l short a ent beg cls → l .last ≡ false → Turned e st l ls a ent beg cls (onTurn v q (shortAct short a))
-  on-line stay b h = not-last e st l ls stay ent beg cls h (got st) (b .steps)
+  on-line stay b h = (refl, not-last e st l ls stay ent beg cls h (got st) (b .steps))
   on-line (entry j x) b h = (x, refl, not-last e st l ls (entry j x) ent beg cls h (ent j x) (b .steps))
   on-line (begin i j x) b h = (x, refl, not-last e st l ls (begin i j x) ent beg cls h (beg i j x) (b .steps))
   on-line shut b h = go short refl

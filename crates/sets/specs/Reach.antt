@@ -19,6 +19,8 @@ use Rattle.sets.specs.declared.Volume.{Volume}
 use Rattle.sets.specs.declared.Pos.{Pos}
 use Rattle.sets.specs.declared.Turn.{Turn}
 use Rattle.sets.specs.declared.Turn.the-variants as T
+use Rattle.sets.specs.declared.Left.{Left}
+use Rattle.sets.specs.declared.Left.the-variants as L
 use Rattle.sets.specs.Walk.{At, behind, todo}
 use Rattle.sets.specs.Turns.{shortAct, turnOf}
 use Rattle.sets.specs.SkippedLines.{Low}
@@ -63,6 +65,10 @@ pub record TurnMet (w : Way) (p : Pos) (ls : List (List ℕ)) (short : Bool) (ac
 -- whatever the lines: behind p, and within the volume's places
 abbrev pub Onward : Volume → Pos → Pos → Type 0
 Onward v p q = Low q × (p .at < q .at) × (q .at ≤ v .end + 1)
+
+abbrev pub LeftOn : Volume → Pos → Left → Type 0
+LeftOn v p (L.Go q) = Onward v p q
+LeftOn v p (L.Stop f) = Unit {0}
 
 -- a line's row is one of n
 abbrev pub TurnOn : Volume → Pos → ℕ → Turn → Type 0

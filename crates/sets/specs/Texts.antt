@@ -8,7 +8,7 @@ use Rattle.rules.specs.Base.{isNil}
 use Rattle.rules.specs.Rows.{Rule, Slots, blank}
 use Rattle.rules.specs.Figures.{textTable}
 use Rattle.rules.specs.Sets.{Figure, lettering, Set, knownOf}
-use Rattle.rules.specs.Machine.{Home, isLayer, State, figures, texts}
+use Rattle.rules.specs.Machine.{Line, Env, Home, isLayer, State, figures, texts}
 use Rattle.rules.specs.RecordTable.{putSlots}
 use Rattle.entries.specs.Names.{knownIn}
 use Rattle.sets.specs.declared.Volume.{Volume}
@@ -16,7 +16,7 @@ use Rattle.sets.specs.declared.Pos.{Pos}
 use Rattle.sets.specs.declared.Left.{Left}
 use Rattle.sets.specs.declared.Left.the-variants as L
 use Rattle.sets.specs.Walk.{At}
-use Rattle.sets.specs.Reach.{Way, Reach, Refuses}
+use Rattle.sets.specs.Reach.{Way, way, Reach, Refuses, LeftOn}
 
 abbrev pub textRows : Bool → List Rule
 textRows inLayer = textTable inLayer 4 12
@@ -34,16 +34,15 @@ abbrev pub TextOut : Way → Set → Home → List Figure → ℕ → Pos → Li
 TextOut w S h fs n p ls rec₀ rec₁ (L.Go q) = TextGo w S h fs n p ls rec₀ rec₁ q
 TextOut w S h fs n p ls rec₀ rec₁ (L.Stop f) = Refuses w (begunText S h fs n) p ls f
 
--- what the reading is where a text has begun: in any set with these names, among any figures of a layer or of a symbol
-pub record TextHere (w : Way) (s : List ℕ) (symbols layers : List ℕ) (v : Volume) (inLayer : Bool) (p : Pos) (rec₀ : List ℤ) (S : Set) (h : Home) (ls : List (List ℕ)) : Type 0 where
-  pub spool : w .spool ≡ s
-  pub volume : w .volume ≡ v
+-- where a text has begun: in any set with these names, among the figures of a layer or of a symbol
+pub record TextHere (s symbols layers : List ℕ) (v : Volume) (inLayer : Bool) (p : Pos) (rec₀ : List ℤ) (S : Set) (h : Home) (ls : List (List ℕ)) : Type 0 where
   pub home : isLayer h ≡ inLayer
   pub names : knownOf S ≡ knownIn s symbols layers
-  pub at : At (w .spool) (w .volume) p ls
+  pub at : At s v p ls
   pub some : isNil ls ≡ false
   pub clean : putSlots (textRows true) (blank (textRows true)) rec₀ ≡ rec₀
 
-abbrev pub TextMet : List ℕ → List ℕ → List ℕ → Volume → Bool → Pos → List ℤ → List ℤ → Left → Type 0
-TextMet s symbols layers v inLayer p rec₀ rec₁ r =
-    (w : Way) (S : Set) (h : Home) (fs : List Figure) (n : ℕ) (ls : List (List ℕ)) → TextHere w s symbols layers v inLayer p rec₀ S h ls → TextOut w S h fs n p ls rec₀ rec₁ r
+pub record TextPromise (s symbols layers : List ℕ) (v : Volume) (inLayer : Bool) (p : Pos) (rec₀ rec₁ : List ℤ) (r : Left) : Type 0 where
+  pub further : LeftOn v p r
+  pub met : (e : Env) (next : List ℕ) (more : List Line) (S : Set) (h : Home) (fs : List Figure) (n : ℕ) (ls : List (List ℕ)) → TextHere s symbols layers v inLayer p rec₀ S h ls
+      → TextOut (way e s v next more) S h fs n p ls rec₀ rec₁ r
