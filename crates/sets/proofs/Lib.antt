@@ -15,3 +15,4 @@ pub mod StemEnds
 pub mod SeenLines
 pub mod SkipRun
 pub mod OneTurn
+pub mod TextSteps

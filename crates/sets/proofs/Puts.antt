@@ -200,7 +200,7 @@ slots-comm (r ∷ t) q s v l c f =
     ap (putSlot r (firstSlot s)) (slots-comm t q (otherSlots s) v l (and-right (clearRows r q) _ c) f)
     ∙ slot-comm r q (and-left (clearRows r q) _ c) (firstSlot s) v (putSlots t (otherSlots s) l) f
 
-all-at : (p : Rule → Bool) (t : List Rule) (j : ℕ) → j < length t → all p t ≡ true → p (ruleAt t j) ≡ true
+pub all-at : (p : Rule → Bool) (t : List Rule) (j : ℕ) → j < length t → all p t ≡ true → p (ruleAt t j) ≡ true
 all-at p [] j h e = absurd (omega arith)
 all-at p (r ∷ t) zero h e = and-left (p r) (all p t) e
 all-at p (r ∷ t) (suc j) h e = all-at p t j (omega arith) (and-right (p r) (all p t) e)

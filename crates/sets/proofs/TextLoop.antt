@@ -105,8 +105,7 @@ module _ (w : Way) (S : Set) (h : Home) (fs : List Figure) (n : ℕ) (p₀ : Pos
 
     pub on-stay : (q : Pos) (m : Met (T.Stay q)) → (actsIn o (formOf (p .at) (m .line)) ≡ stay) × Going q ms rec
     on-stay q m =
-        let (e, z) = turns w (texts S h fs n o) p (g .reach .rest) false (actsIn o) put (T.Stay q) m (enters o) opens (closes o) (text-line o _) in
-        (
+        let (e, z) = turns w (texts S h fs n o) p (g .reach .rest) false (actsIn o) put (T.Stay q) m (enters o) opens (closes o) (text-line o _) in (
           e,
           record {
             own = o;
@@ -138,8 +137,7 @@ module _ (w : Way) (S : Set) (h : Home) (fs : List Figure) (n : ℕ) (p₀ : Pos
 
     pub on-shut : (q : Pos) (m : Met (T.Shut q)) → (actsIn o (formOf (p .at) (m .line)) ≡ shut) × TextGo w S h fs n p₀ ls₀ rec₀ rec q
     on-shut q m =
-        let (e, y, z) = turns w (texts S h fs n o) p (g .reach .rest) false (actsIn o) put (T.Shut q) m (enters o) opens (closes o) (text-line o _) in
-        (
+        let (e, y, z) = turns w (texts S h fs n o) p (g .reach .rest) false (actsIn o) put (T.Shut q) m (enters o) opens (closes o) (text-line o _) in (
           e,
           record {
             own = o;

@@ -21,6 +21,10 @@ use Rattle.sets.specs.Reach.{Way, way, Reach, Refuses, LeftOn}
 abbrev pub textRows : Bool → List Rule
 textRows inLayer = textTable inLayer 4 12
 
+abbrev pub textTableOf : Bool → ℕ
+textTableOf true = 16
+textTableOf false = 17
+
 -- the text begun, with nothing in it
 abbrev pub begunText : Set → Home → List Figure → ℕ → State
 begunText S h fs n = texts S h fs n (blank (textRows (isLayer h)))

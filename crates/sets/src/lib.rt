@@ -3,6 +3,7 @@ mod classes;
 mod serials;
 mod skip;
 mod table;
+mod texts;
 mod turns;
 mod walk;
 
