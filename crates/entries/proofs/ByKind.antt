@@ -1,5 +1,5 @@
 -- A content by what its row holds: texts, sheets, scales, serial numbers, one value.
-use Prim.Native.Nat.{ℕ, zero, suc, _+_, _-_, _/_, _%_, _<_, _≤_, min}
+use Prim.Native.Nat.{ℕ, suc, _+_, _-_, _/_, _%_, _<_, _≤_}
 use mathlib.Core.Path.{_≡_, refl, ap, sym, subst, _∙_}
 use mathlib.Core.Bool.{Bool, true, false, cond}
 use mathlib.Core.List.{List, [], _∷_, map}
@@ -59,17 +59,17 @@ pub name-put : (t t₁ : List ℤ) (p at : ℕ) (c : List ℕ) → t₁ ≡ sets
 name-put t t₁ p at c e = rw (capital-long c) e
 
 -- ── sheets and scales: two natural numbers ──
-abbrev Two : List Num → Type 0
+abbrev pub Two : List Num → Type 0
 Two v = v ≡ twoNums (numberAt v 0) (numberAt v 1)
 
-abbrev OnSome : Option (List Num) → Type 0
+abbrev pub OnSome : Option (List Num) → Type 0
 OnSome none = Unit {0}
 OnSome (some v) = Two v
 
 two-filled : (v : List Num) (t : List ℤ) (p a b : ℕ) → Two v → numberAt v 0 ≡ a → numberAt v 1 ≡ b → sets t p (pos a ∷ pos b ∷ []) ≡ sets t p (numbers (nums v))
 two-filled v t p a b h e f = rw (← e, ← f) (ap (λ (u : List Num). sets t p (numbers (nums u))) (sym h))
 
-sheets-two : (c : List ℕ) (l : List (List ℕ × ℕ × ℕ)) → OnSome (findSheet c l)
+pub sheets-two : (c : List ℕ) (l : List (List ℕ × ℕ × ℕ)) → OnSome (findSheet c l)
 sheets-two c [] = tt
 sheets-two c (a ∷ l) = elim (same c (a .0)) as (λ t. OnSome (cond t (some (twoNums (a .1) (a .2))) (findSheet c l))) [ true ↦ refl | false ↦ sheets-two c l ]
 
@@ -108,7 +108,7 @@ two-counts none (some n) = tt
 two-counts (some m) none = tt
 two-counts (some m) (some n) = two-kept m n (goodRatio (twoNums m n))
 
-ratio-two : (s : List ℕ) → On Two (readRatio s)
+pub ratio-two : (s : List ℕ) → On Two (readRatio s)
 ratio-two s = go (cut 47 s)
   where
     go : (k : Cut) → On Two (mapG withOne (keep 11 goodRatio (readCounts (ratioParts k (s ∷ [])))))
@@ -150,7 +150,7 @@ add-twice : (n : ℕ) (k : Count) → addTo n (addTo 1 k) ≡ addTo (n + 1) k
 add-twice n (C.Is m) = let e : n + (1 + m) ≡ n + 1 + m = omega arith in ap C.Is e
 add-twice n C.Not = refl
 
-pub split-head : (d : List ℕ) → split 44 d ≡ upTo 44 d ∷ drop 1 (split 44 d)
+split-head : (d : List ℕ) → split 44 d ≡ upTo 44 d ∷ drop 1 (split 44 d)
 split-head d = go (leb (length d) (length (upTo 44 d))) refl
   where
     go : (t : Bool) → leb (length d) (length (upTo 44 d)) ≡ t → split 44 d ≡ upTo 44 d ∷ drop 1 (split 44 d)
@@ -267,6 +267,23 @@ module _ (c : List ℕ) (t t₁ : List ℤ) (p : ℕ) where
       go none (bad m) b = absurd (let q : _≡_ {A = ℕ} 0 1 = cc in omega arith)
       go (some m) (got ns) b = let z : n ≡ suc (length ns) = cc in omega arith
       go (some m) (bad k) b = absurd (let q : _≡_ {A = ℕ} 0 1 = cc in omega arith)
+
+-- what holds of every serial number with partners holds of what is read
+module _ (Q : Value → Type 0) (every : (n : ℕ) (ns : List ℕ) → Q (linked n ns)) where
+  on-linked : (n : ℕ) (ns : List ℕ) (t : Bool) → On Q (mapG linkedOf (unless t 11 (got (n ∷ ns))))
+  on-linked n ns true = every n ns
+  on-linked n ns false = tt
+
+  on-serials : (q : List ℕ → Bool) (o : Option ℕ) (x : Got (List ℕ)) → On Q (mapG linkedOf (keep 11 q (consG (orBad 10 o) x)))
+  on-serials q none (got ns) = tt
+  on-serials q none (bad m) = tt
+  on-serials q (some n) (got ns) = on-linked n ns (q (n ∷ ns))
+  on-serials q (some n) (bad m) = tt
+
+  pub on-linked-in : (c : List ℕ) → On Q (linkedIn (readSerials (split 44 c)))
+  on-linked-in c =
+      let q : List ℕ → Bool = λ ns. leb (length ns) (mostPartners + 1) in
+      subst (λ (ss : List (List ℕ)). On Q (mapG linkedOf (keep 11 q (readSerials ss)))) (sym (split-head c)) (on-serials q (readCount 10 (upTo 44 c)) (readSerials (drop 1 (split 44 c))))
 
 -- ── a row that holds values ──
 module _ (r : Row) (h1 : r .kind ≡ 1 → ⊥) (h2 : r .kind ≡ 2 → ⊥) (h3 : r .kind ≡ 3 → ⊥) (h4 : r .kind ≡ 4 → ⊥) (h5 : r .kind ≡ 5 → ⊥) (h6 : r .kind ≡ 6 → ⊥) (h7 : r .kind ≡ 7 → ⊥)

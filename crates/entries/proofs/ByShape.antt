@@ -1,6 +1,6 @@
 -- What a line with a key is: content that opens, by its last two bytes; the form that a row asks for.
-use Prim.Native.Nat.{ℕ, zero, suc, _+_, _-_, _/_, _%_, _<_, _≤_, min}
-use mathlib.Core.Path.{_≡_, refl, ap, sym, subst, _∙_}
+use Prim.Native.Nat.{ℕ, suc, _-_, _/_, _%_, _<_, _≤_}
+use mathlib.Core.Path.{_≡_, refl, ap, sym, _∙_}
 use mathlib.Core.Bool.{Bool, true, false, cond, _&&_, _||_}
 use mathlib.Core.List.{List, [], _∷_}
 use mathlib.Core.Option.{Option, none, some}
@@ -10,7 +10,7 @@ use lib.ListN.{length, getD, take, drop, length-take}
 use lib.Seq.{take-take}
 use borrow.Author.Tests.{eqb-true, ne-eqb, le-leb, lt-leb, leb-true}
 use Rattle.rules.specs.Base.{bytes, mapO, same}
-use Rattle.rules.specs.Lines.{Rest, equals, Shape, opener, noContent, content, opening, formless, byStem, stem, shapeOf, freeShapeOf, bytesAt, span}
+use Rattle.rules.specs.Lines.{equals, Shape, noContent, content, opening, formless, byStem, stem, bytesAt}
 use Rattle.rules.specs.Values.{Kind, values, text, word, volumeName, sheet, ratio, serials, nothing, opens, headed, either, isFree}
 use Rattle.rules.specs.Rows.{isContent, isEmpty, fits, innerOf}
 use Rattle.rules.specs.declared.Span.{Span}

@@ -1,26 +1,26 @@
 -- The values of a line, one after the other, and the rules across them.
 use Prim.Native.Nat.{ℕ, zero, suc, _+_, _-_, _/_, _%_, _<_, _≤_, min}
-use mathlib.Core.Path.{_≡_, refl, ap, sym, subst, _∙_}
-use mathlib.Core.Bool.{Bool, true, false, cond, _&&_, not}
-use mathlib.Core.List.{List, [], _∷_, map}
+use mathlib.Core.Path.{_≡_, refl, ap, sym, _∙_}
+use mathlib.Core.Bool.{Bool, true, false, cond}
+use mathlib.Core.List.{List, [], _∷_}
 use mathlib.Core.Option.{Option, none, some}
 use native.Mathlib.Omega.{arith}
 use native.Mathlib.Numerals.{add-one, sub-one}
 use lib.IntN.{ℤ, pos}
-use lib.Dec.{eqb, leb}
+use lib.Dec.{eqb}
 use lib.ListN.{length, getD, take, drop, set, length-set}
 use lib.Seq.{sets, getD-set-same, getD-set-other}
 use Rattle.rules.specs.Base.{split, headOnto, isNil, within, indexOf}
 use Rattle.rules.specs.Numbers.{readCount, readFixed, isDay, isClock, readDecimal}
 use Rattle.rules.specs.RefusalNumbers.{Got, got, bad, unless, mapG, orBad, keep, consG, andThen}
-use Rattle.rules.specs.Values.{Num, num, natural, Known, Part, count, digit, kindOfLine, range, rangeOfSymbols, day, clock, decimal, symbolName, layerId, readPart, readAll, readKind, values, nums, Value, Across, nothingMore, endsDiffer, arcOfCircle, axesOfEllipse, valueAt, agree, isLayerId, servedSymbols, inBound}
+use Rattle.rules.specs.Values.{Num, num, natural, Known, Part, count, digit, kindOfLine, range, rangeOfSymbols, day, clock, decimal, symbolName, layerId, readPart, readAll, nums, Value, Across, nothingMore, endsDiffer, arcOfCircle, axesOfEllipse, valueAt, agree, isLayerId, servedSymbols, inBound}
 use Rattle.rules.specs.RecordTable.{numbers}
 use Rattle.leaves.specs.Bytes.{upTo, past}
 use Rattle.leaves.proofs.Scan.{rest-all}
 use Rattle.leaves.proofs.Cuts.{upTo-none, past-drop, split-last, split-more}
 use Rattle.tables.specs.Rows.{partOf, partsOf}
 use Rattle.entries.specs.Parts.{valOf}
-use Rattle.entries.specs.Entering.{putOf, On, Puts, doneOf, putVal, leastOf, plainly, lastOf, numberFrom, agreeFrom}
+use Rattle.entries.specs.Entering.{On, Puts, doneOf, putVal, leastOf, plainly, lastOf, numberFrom, agreeFrom}
 use Rattle.entries.specs.declared.Val.{Val}
 use Rattle.entries.specs.declared.Val.the-variants as Vs
 use Rattle.entries.specs.declared.Put.{Put}
@@ -46,7 +46,7 @@ value-map [] i = refl
 value-map (n ∷ v) zero = refl
 value-map (n ∷ v) (suc i) = value-map v i
 
-map-long : (v : List Num) → length (plainly v) ≡ length v
+pub map-long : (v : List Num) → length (plainly v) ≡ length v
 map-long [] = refl
 map-long (n ∷ v) = ap suc (map-long v)
 
@@ -180,7 +180,7 @@ long-cons (got a) (bad m) n h = tt
 long-cons (bad m) (got s) n h = tt
 long-cons (bad m) (bad o) n h = tt
 
-long-all : (k : Known) (ps : List Part) (ss : List (List ℕ)) → On (λ v. length v ≡ length ps) (readAll k ps ss)
+pub long-all : (k : Known) (ps : List Part) (ss : List (List ℕ)) → On (λ v. length v ≡ length ps) (readAll k ps ss)
 long-all k [] [] = refl
 long-all k [] (s ∷ ss) = tt
 long-all k (p ∷ ps) [] = tt

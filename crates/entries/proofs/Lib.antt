@@ -5,3 +5,4 @@ pub mod ByKind
 pub mod ByShape
 pub mod LineActs
 pub mod TableActs
+pub mod Widths

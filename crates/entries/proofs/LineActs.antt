@@ -1,9 +1,8 @@
 -- A line with a key of a row: its numbers and state, and what it does.
 use Prim.Native.Nat.{ℕ, zero, suc, _+_, _<_, _≤_}
-use mathlib.Core.Path.{_≡_, refl, ap, sym, subst, _∙_}
+use mathlib.Core.Path.{_≡_, refl, ap, sym, _∙_}
 use mathlib.Core.Bool.{Bool, true, false, cond, _&&_, _||_, not}
 use mathlib.Core.List.{List, [], _∷_}
-use mathlib.Core.Option.{Option, none, some}
 use native.Mathlib.Omega.{arith}
 use lib.Dec.{eqb, leb, ltb}
 use lib.IntN.{ℤ, pos}
@@ -11,27 +10,24 @@ use lib.ListN.{length, drop, set, length-take, length-drop}
 use lib.Seq.{sets}
 use borrow.Author.Tests.{leb-true, ltb-true, ne-eqb}
 use Rattle.rules.specs.Base.{all, split}
-use Rattle.rules.specs.RefusalNumbers.{Got, got, bad, unless, mapG, orBad, keep, consG, andThen}
-use Rattle.rules.specs.Numbers.{readCount}
+use Rattle.rules.specs.RefusalNumbers.{Got, got, bad, unless, mapG, orBad, keep, andThen}
 use Rattle.rules.specs.Lines.{Shape, opener, noContent, content, opening, formless, bytesAt}
-use Rattle.rules.specs.Values.{Num, Known, Value, empty, nums, chars, linkedOf, Kind, values, text, word, volumeName, sheet, ratio, serials, nothing, opens, headed, either, readKind, readPart, range, readAll, readRatio, readSerials, findSheet, sheets, agree, byteIn, lettersAndDigits, capital, mostPartners}
+use Rattle.rules.specs.Values.{Num, Known, Value, empty, nums, chars, Kind, values, text, word, volumeName, sheet, ratio, serials, nothing, opens, headed, either, readKind, readPart, range, readAll, readRatio, findSheet, sheets, agree, byteIn, lettersAndDigits}
 use Rattle.rules.specs.RecordTable.{numbers, given, columns, putState}
 use Rattle.rules.specs.Rows.{Rule, Act, entry, begin, orRefuse, isOpener, isOpening, readShape, innerOf, notTwice, anyNumber, upTo}
 use Rattle.rules.proofs.Chains.{and-left, and-right}
 use Rattle.rules.specs.declared.Span.{Span}
-use Rattle.leaves.specs.Bytes.{upTo as before}
 use Rattle.tables.specs.Rows.{timesOf}
 use Rattle.entries.specs.Entering.{On, Puts, settled}
 use Rattle.entries.specs.Shapes.{shapeIn}
-use Rattle.entries.specs.Acts.{placeOf, putLine, roomy, valueOf, nextOf, Acts, nextFor}
+use Rattle.entries.specs.Acts.{placeOf, putLine, roomy, valueOf, Acts, nextFor}
 use Rattle.entries.specs.declared.Shape.{Shape as Placed}
 use Rattle.entries.specs.declared.Shape.the-variants as P
-use Rattle.entries.specs.declared.Next.{Next}
 use Rattle.entries.specs.declared.Next.the-variants as N
 use Rattle.entries.specs.declared.Put.{Put}
 use Rattle.entries.specs.declared.Put.the-variants.{Done, Refused}
 use Rattle.entries.proofs.EachValue.{done-not}
-use Rattle.entries.proofs.ByKind.{split-head}
+use Rattle.entries.proofs.ByKind.{on-linked-in}
 
 -- ── places ──
 pub place-some : (p dump : ℕ) → (p ≡ 0 → ⊥) → p ≡ placeOf p dump
@@ -67,16 +63,6 @@ given-unless : (t : Bool) (n : ℕ) (v : Value) → given v ≡ pos 2 → Given 
 given-unless true n v h = h
 given-unless false n v h = tt
 
-given-linked : (n : ℕ) (ns : List ℕ) (t : Bool) → Given (mapG linkedOf (unless t 11 (got (n ∷ ns))))
-given-linked n ns true = refl
-given-linked n ns false = tt
-
-given-serials : (q : List ℕ → Bool) (o : Option ℕ) (x : Got (List ℕ)) → Given (mapG linkedOf (keep 11 q (consG (orBad 10 o) x)))
-given-serials q none (got ns) = tt
-given-serials q none (bad m) = tt
-given-serials q (some n) (got ns) = given-linked n ns (q (n ∷ ns))
-given-serials q (some n) (bad m) = tt
-
 pub given-kind : (k : Known) (d : Kind) (at : ℕ) (c : List ℕ) → Given (readKind k d at c)
 given-kind k (values p ps a) at c = given-map nums (λ _. refl) (keep 11 (agree a) (readAll k (p ∷ ps) (split 44 c)))
 given-kind k (text n b) at c = given-unless (all (byteIn b) c && leb (length c) n) 11 (chars at c) refl
@@ -84,9 +70,7 @@ given-kind k (word n b) at c = given-unless (all (byteIn b) c && leb (length c) 
 given-kind k volumeName at c = given-unless (all (byteIn lettersAndDigits) c) 11 (chars at _) refl
 given-kind k sheet at c = given-map nums (λ _. refl) (orBad 11 (findSheet c sheets))
 given-kind k ratio at c = given-map nums (λ _. refl) (readRatio c)
-given-kind k serials at c =
-    let q : List ℕ → Bool = λ ns. leb (length ns) (mostPartners + 1) in
-    subst (λ (ss : List (List ℕ)). Given (mapG linkedOf (keep 11 q (readSerials ss)))) (sym (split-head c)) (given-serials q (readCount 10 (before 44 c)) (readSerials (drop 1 (split 44 c))))
+given-kind k serials at c = on-linked-in (λ v. given v ≡ pos 2) (λ _ _. refl) c
 given-kind k nothing at c = tt
 given-kind k (opens i) at c = tt
 given-kind k (headed i p) at c = given-map (λ (n : Num). nums (n ∷ [])) (λ _. refl) (readPart k p c)

@@ -1,6 +1,6 @@
 -- One value between commas: what the code tests of a number that was read, and the definition's reading of the form.
-use Prim.Native.Nat.{ℕ, zero, suc, _+_, _<_, _≤_, zero-le}
-use mathlib.Core.Path.{_≡_, refl, ap, sym, _∙_}
+use Prim.Native.Nat.{ℕ, suc, _+_, _<_, _≤_, zero-le}
+use mathlib.Core.Path.{_≡_, refl, ap, _∙_}
 use mathlib.Core.Bool.{Bool, true, false, cond, _||_}
 use mathlib.Core.List.{List, [], _∷_}
 use mathlib.Core.Option.{Option, none, some}
@@ -12,9 +12,9 @@ use mir.Syntax.{w64}
 use mir.Val.{toZ}
 use borrow.Author.Tests.{le-leb, leb-true, lt-ltb, le-ltb}
 use Rattle.rules.specs.Base.{same, mapO, indexOf, within}
-use Rattle.rules.specs.RefusalNumbers.{Got, got, bad, unless, mapG, orBad, keep}
+use Rattle.rules.specs.RefusalNumbers.{Got, got, unless, mapG, orBad, keep}
 use Rattle.rules.specs.Numbers.{readCount, readFixed, isDay, isClock, readDecimal}
-use Rattle.rules.specs.Values.{Num, num, natural, inBound, Known, readPart}
+use Rattle.rules.specs.Values.{num, natural, inBound, Known, readPart}
 use Rattle.rules.proofs.Chains.{and-right}
 use Rattle.leaves.specs.Readings.{countOf, readingOf, kept, readUpToEight, readDay, readClock}
 use Rattle.leaves.specs.declared.Count.{Count}
@@ -26,7 +26,7 @@ use Rattle.leaves.specs.Pieces.{decimalPiece}
 use Rattle.leaves.specs.declared.DecimalPiece.{DecimalPiece}
 use Rattle.leaves.proofs.Cuts.{upTo-take}
 use Rattle.leaves.proofs.Ints.{pos-back}
-use Rattle.tables.specs.Rows.{boundOf, wholeOf, partOf}
+use Rattle.tables.specs.Rows.{boundOf, wholeOf}
 use Rattle.leaves.proofs.Bounds.{count-below, fixed-below, day-below, clock-below}
 use Rattle.entries.specs.Names.{indexFrom}
 use Rattle.entries.specs.Parts.{valOf, countVal, readingVal, indexVal, PieceIs}

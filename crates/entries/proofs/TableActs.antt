@@ -5,29 +5,29 @@ use mathlib.Core.Bool.{Bool, true, false, cond, _&&_, _||_, not}
 use mathlib.Core.List.{List, [], _∷_}
 use native.Mathlib.Omega.{arith}
 use native.Mathlib.Numerals.{add-one}
-use lib.Dec.{eqb, leb}
+use lib.Dec.{eqb}
 use lib.IntN.{ℤ}
 use lib.ListN.{length, getD, drop, drop-of-length-le}
 use lib.Seq.{drop-cons}
-use borrow.Author.Tests.{eqb-true, ne-eqb, not-true}
+use borrow.Author.Tests.{eqb-true, ne-eqb, not-true, le-leb, lt-ltb}
 use Rattle.rules.specs.declared.Digits.{Digits}
-use Rattle.rules.specs.Base.{all}
+use Rattle.rules.specs.Base.{all, within}
 use Rattle.rules.specs.RefusalNumbers.{Got, got, bad, unless, mapG, andThen}
-use Rattle.rules.specs.RangeClass.{digits, reaches}
+use Rattle.rules.specs.RangeClass.{reaches}
 use Rattle.rules.specs.Lines.{Rest, Shape, opener, noContent, content, opening, formless, shapeOf, hasForm}
 use Rattle.rules.specs.Values.{Known, Value, readKind}
 use Rattle.rules.specs.Rows.{Rule, Act, stay, entry, begin, shut, refuse, orRefuse, innerOf, readShape, shapeFor, fits, notTwice, actRow, actUnknown, actFound, Found, absent, found, find, present, complete}
-use Rattle.rules.specs.RecordTable.{ruleAt}
+use Rattle.rules.specs.RecordTable.{ruleAt, columns}
 use Rattle.rules.specs.Blocks.{topTable, fileTable, rangeTable, baseTable, elecTable, symTable, laterTable, drawingTable, definesTable, symbolTable, elementTable}
 use Rattle.rules.specs.Figures.{layerTable, figureTable, pointTable, textTable, placedTable}
-use Rattle.rules.proofs.Chains.{and-left, and-right, or-true, by-cond}
-use Rattle.rules.proofs.Rows.{Row as RowIn, here, there, found-row, row-all, row-at, reaches-none}
+use Rattle.rules.proofs.Chains.{and-left, and-right, or-true, by-cond, all-weaken}
+use Rattle.rules.proofs.Rows.{found-row, row-all, row-at, reaches-none}
 use Rattle.tables.specs.Tables.{tableOf}
 use Rattle.tables.specs.Rows.{ruleOf, forLine, foundForLine}
 use Rattle.tables.specs.declared.Row.{Row}
-use Rattle.entries.specs.Acts.{putLine, roomy, nextOf, Entered, Acts, wanted, needsNone}
+use Rattle.entries.specs.Acts.{placeOf, putLine, roomy, nextOf, Entered, Acts, wanted, needsNone}
 use Rattle.entries.specs.declared.Next.{Next}
-use Rattle.entries.specs.declared.Next.the-variants as N
+use Rattle.entries.proofs.LineActs.{room-place, room-state, room-settled}
 
 -- ── a table by its number ──
 by-table : (P : ℕ → List Rule → Type 0) (n : ℕ) → P 0 topTable → P 1 fileTable → P 2 rangeTable → P 3 baseTable → P 4 elecTable → P 5 symTable → P 6 laterTable → P 7 drawingTable → P 8 definesTable → P 9 symbolTable → P 10 elementTable → P 11 (layerTable false) → P 12 (layerTable true) → P 13 figureTable → P 14 (pointTable true) → P 15 (pointTable false) → P 16 (textTable true 4 12) → P 17 (textTable false 4 12) → P 18 placedTable → P 19 (textTable true 16 24) → P n [] → P n (tableOf n)
@@ -243,6 +243,10 @@ line-shape k j r formless = refl
 line-row : (k : Known) (d : Digits) (full : Bool) (j : ℕ) (r : Rule) (c : Rest) → actRow k d full j (forLine r) c ≡ actRow k d full j r c
 line-row k d full j r c = rw (line-shape k j r (shapeFor r c))
 
+pub found-line : (k : Known) (d : Digits) (full : List Bool) (c : Rest) (f : Found) → actFound k d full c (foundForLine f) ≡ actFound k d full c f
+found-line k d full c absent = refl
+found-line k d full c (found j r) = line-row k d (getD full j false) j r c
+
 -- what was found is a row of the table
 module _ (t : List Rule) (key : List ℕ) (row : Row) (same-row : foundForLine (find key t) ≡ found (row .number) (ruleOf row)) where
   pub row-room : (dump n : ℕ) → all (roomy dump n) t ≡ true → roomy dump n (ruleOf row) ≡ true
@@ -278,3 +282,28 @@ no-mark (b ∷ full) (suc i) h = no-mark full i (omega arith)
 pub closed-acts : (rule : ℕ → Rule) (dump : ℕ) (t : List ℤ) (b : Bool) (n : Next) → n ≡ nextOf (cond b shut (refuse 8)) → Acts rule dump t (cond b shut (refuse 8)) t n
 closed-acts rule dump t true n e = record { eq = e; entered = refl }
 closed-acts rule dump t false n e = record { eq = e; entered = tt }
+
+-- ── room for the rows of a table ──
+pub room-more : (dump m n : ℕ) (t : List Rule) → m ≤ n → all (roomy dump m) t ≡ true → all (roomy dump n) t ≡ true
+room-more dump m n t h = all-weaken (roomy dump m) (roomy dump n) wider t
+  where
+    wider : (r : Rule) → roomy dump m r ≡ true → roomy dump n r ≡ true
+    wider r e =
+        let p = room-place dump m r e in
+        let q = room-state dump m r e in
+        rw (le-leb (placeOf (r .place) dump + columns (r .holds)) n (omega (arith, p)), lt-ltb (r .state) n (omega (arith, q)), room-settled dump m r e)
+
+-- the first FILE_FORMAT and its inner parts: two records, and two numbers behind them
+pub room-file : (n : ℕ) → all (roomy 64 66) (tableOf n) ≡ true
+unfolding topTable fileTable rangeTable baseTable elecTable symTable laterTable drawingTable definesTable symbolTable elementTable layerTable figureTable pointTable textTable placedTable
+room-file n = by-table (λ n t. all (roomy 64 66) t ≡ true) n refl refl refl refl refl refl refl refl refl refl refl refl refl refl refl refl refl refl refl refl refl
+
+-- one record, and two numbers behind it
+pub room-volume : (n : ℕ) → (eqb n 1 || all (roomy 32 34) (tableOf n)) ≡ true
+unfolding topTable fileTable rangeTable baseTable elecTable symTable laterTable drawingTable definesTable symbolTable elementTable layerTable figureTable pointTable textTable placedTable
+room-volume n = by-table (λ n t. (eqb n 1 || all (roomy 32 34) t) ≡ true) n refl refl refl refl refl refl refl refl refl refl refl refl refl refl refl refl refl refl refl refl (or-true (eqb n 1))
+
+-- one record alone, where every row with numbers has its place
+pub room-record : (n : ℕ) → (within 1 6 n || (eqb n 10 || all (roomy 32 32) (tableOf n))) ≡ true
+unfolding topTable fileTable rangeTable baseTable elecTable symTable laterTable drawingTable definesTable symbolTable elementTable layerTable figureTable pointTable textTable placedTable
+room-record n = by-table (λ n t. (within 1 6 n || (eqb n 10 || all (roomy 32 32) t)) ≡ true) n refl refl refl refl refl refl refl refl refl refl refl refl refl refl refl refl refl refl refl refl (rw (or-true (eqb n 10)) (or-true (within 1 6 n)))

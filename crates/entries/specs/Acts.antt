@@ -5,7 +5,6 @@ use mathlib.Core.Bool.{Bool, true, false, _&&_, _||_, not}
 use mathlib.Core.List.{List}
 use lib.Dec.{eqb, leb, ltb}
 use lib.IntN.{ℤ}
-use lib.ListN.{length}
 use lib.Seq.{sets}
 use Rattle.rules.specs.declared.Digits.{Digits}
 use Rattle.rules.specs.RefusalNumbers.{unless, andThen, got}
@@ -15,7 +14,6 @@ use Rattle.rules.specs.Values.{Known, Value, empty}
 use Rattle.rules.specs.Rows.{Rule, Act, stay, entry, begin, shut, refuse, orRefuse, fits, notTwice, readShape}
 use Rattle.rules.specs.RecordTable.{numbers, given, columns, putState}
 use Rattle.entries.specs.Entering.{settled}
-use Rattle.entries.specs.declared.Inner.{Inner}
 use Rattle.entries.specs.declared.Next.{Next}
 use Rattle.entries.specs.declared.Next.the-variants as N
 

@@ -1,8 +1,7 @@
 -- Names by their places in the spool.
-use Prim.Native.Nat.{ℕ, suc, _+_, _/_, _%_}
+use Prim.Native.Nat.{ℕ, suc, _/_, _%_}
 use mathlib.Core.Bool.{cond}
 use mathlib.Core.List.{List, [], _∷_, map}
-use mathlib.Core.Option.{Option, none, some}
 use Rattle.rules.specs.Base.{same}
 use Rattle.rules.specs.Lines.{span, bytesAt}
 use Rattle.rules.specs.Values.{Known}

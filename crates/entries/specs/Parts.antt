@@ -1,13 +1,12 @@
 -- One value between commas, as the code answers it.
 use Prim.Native.Nat.{ℕ}
 use mathlib.Core.Path.{_≡_}
-use mathlib.Core.Bool.{Bool, true, false, cond}
+use mathlib.Core.Bool.{Bool, cond}
 use mathlib.Core.List.{List}
 use lib.IntN.{ℤ, pos}
 use lib.ListN.{length}
-use Rattle.rules.specs.Base.{within}
 use Rattle.rules.specs.RefusalNumbers.{Got, got, bad}
-use Rattle.rules.specs.Values.{Num, Known, servedSymbols, Bound, inBound, readPart}
+use Rattle.rules.specs.Values.{Num, Known, readPart}
 use Rattle.leaves.specs.Bytes.{upTo}
 use Rattle.leaves.specs.declared.Count.{Count}
 use Rattle.leaves.specs.declared.Count.the-variants as C

@@ -1,11 +1,7 @@
-use mathlib.Core.Path.{_≡_, refl, ap, sym, _∙_}
-use mathlib.Core.List.{List}
-use Prim.Native.Nat.{ℕ}
 use lib.ListN.{length}
 use Rattle.rules.specs.Lines.{bytesAt}
 use Rattle.rules.specs.Rows.{find}
 use Rattle.rules.specs.RecordTable.{ruleAt}
-use Rattle.tables.specs.Rows.{foundOf, foundForLine}
 use Rattle.tables.specs.Tables.{tableOf}
 use Rattle.entries.specs.Names.{knownIn}
 use Rattle.entries.specs.Shapes.{restIn}

@@ -1,4 +1,4 @@
-use mathlib.Core.Path.{ap, sym, _∙_}
+use mathlib.Core.Path.{ap, _∙_}
 use mathlib.Core.Bool.{not}
 use Rattle.rules.specs.RecordTable.{ruleAt}
 use Rattle.tables.specs.Tables.{tableOf}

@@ -1,5 +1,4 @@
 use mathlib.Core.Path.{sym, _∙_}
-use native.Mathlib.Omega.{arith}
 use Rattle.rules.specs.Blocks.{drawingTable, symbolTable}
 use Rattle.rules.specs.Figures.{placedTable}
 use Rattle.tables.specs.Tables.{tableOf}

@@ -1,11 +1,7 @@
-use mathlib.Core.Path.{sym, ap, _∙_}
-use mathlib.Core.List.{List}
-use Prim.Native.Nat.{ℕ, _≤_, _+_}
 use native.Mathlib.Omega.{arith}
-use lib.ListN.{length, drop, length-take, length-drop}
+use lib.ListN.{length}
 use Rattle.rules.specs.Lines.{bytesAt}
 use Rattle.rules.specs.Values.{readKind}
-use Rattle.rules.specs.RecordTable.{columns}
 use Rattle.tables.specs.Rows.{kindOf, ruleOf}
 use Rattle.entries.specs.Names.{knownIn}
 use Rattle.entries.proofs.LineActs.{room-place, room-state, room-settled, line-bad, line-done, given-kind, part-most}

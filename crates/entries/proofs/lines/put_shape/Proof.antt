@@ -1,4 +1,4 @@
-use mathlib.Core.Path.{refl, sym, ap, _∙_}
+use mathlib.Core.Path.{refl}
 use lib.ListN.{length}
 use Rattle.rules.specs.Lines.{bytesAt}
 use Rattle.rules.specs.Values.{Value, readKind}

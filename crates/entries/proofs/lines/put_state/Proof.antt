@@ -1,6 +1,6 @@
 use mir.Facts.{toZ-ofZ}
 use mir.Syntax.{w64}
-use mir.Val.{SFits, toZ, ofZ}
+use mir.Val.{SFits}
 use Rattle.entries.proofs.LineActs.{state-some}
 use borrow.Author.Needs.{needs}
 use Rattle.entries.proofs.lines.put_state.Statement.{statement}

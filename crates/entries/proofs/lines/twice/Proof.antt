@@ -1,6 +1,3 @@
-use borrow.Author.Tests.{ne-eqb}
-use mathlib.Core.Path.{_≡_, refl}
-use mathlib.Core.Bool.{Bool, true, false, cond}
 use Rattle.entries.proofs.LineActs.{not-once}
 use borrow.Author.Needs.{needs}
 use Rattle.entries.proofs.lines.twice.Statement.{statement}

@@ -1,7 +1,7 @@
-use mathlib.Core.Path.{_≡_, refl, ap, sym, _∙_}
+use mathlib.Core.Path.{sym, _∙_}
 use mir.Facts.{toZ-ofZ}
 use mir.Syntax.{w64}
-use mir.Val.{SFits, toZ, ofZ}
+use mir.Val.{SFits}
 use Rattle.rules.specs.Values.{inBound}
 use Rattle.tables.specs.Rows.{boundOf}
 use Rattle.entries.proofs.OneValue.{reading-is, reading-bad}

@@ -1,7 +1,7 @@
-use mathlib.Core.Path.{_≡_, refl, ap, sym, _∙_}
+use mathlib.Core.Path.{sym}
 use native.Mathlib.Omega.{arith}
 use lib.Seq.{length-take-le}
-use Rattle.leaves.proofs.Cuts.{upTo-le, upTo-take}
+use Rattle.leaves.proofs.Cuts.{upTo-le}
 use Rattle.entries.specs.Names.{knownIn}
 use Rattle.entries.proofs.OneValue.{decimal-told, whole-told}
 use borrow.Author.Needs.{needs}

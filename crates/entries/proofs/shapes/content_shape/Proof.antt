@@ -1,9 +1,8 @@
-use Prim.Native.Nat.{ℕ, _≤_, _<_, _-_}
-use mathlib.Core.Path.{_≡_, ap, sym, _∙_}
-use mathlib.Core.List.{List}
+use Prim.Native.Nat.{_<_}
+use mathlib.Core.Path.{ap, sym, _∙_}
 use native.Mathlib.Omega.{arith}
 use borrow.Author.Tests.{not-true, not-false}
-use lib.ListN.{length, take}
+use lib.ListN.{length}
 use Rattle.rules.specs.Lines.{bytesAt, opening}
 use Rattle.entries.specs.Shapes.{endsOpen}
 use Rattle.entries.proofs.ByShape.{shape-none, shape-free, shape-plain, shape-formless, shape-opening, part-long, part-stem, ends-two}

@@ -1,11 +1,8 @@
-use Prim.Native.Nat.{_≤_}
-use mathlib.Core.Path.{_≡_, refl, ap, sym, subst, _∙_}
+use mathlib.Core.Path.{_∙_}
 use native.Mathlib.Omega.{arith}
 use borrow.Author.Needs.{needs}
-use lib.ListN.{length}
-use Rattle.leaves.specs.Bytes.{upTo}
 use Rattle.entries.specs.Names.{knownIn}
-use Rattle.entries.proofs.EachValue.{too-many, too-few, the-last, and-more, put-long}
+use Rattle.entries.proofs.EachValue.{too-many, too-few, the-last, and-more}
 use Prim.Native.Nat.{ℕ, _<_}
 use borrow.Fn.Kinds.{In}
 use borrow.Fn.PlainCycle.{Measures, is, falls, and}

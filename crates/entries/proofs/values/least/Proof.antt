@@ -1,7 +1,6 @@
-use mathlib.Core.Path.{_≡_, refl, ap, sym, _∙_}
-use Prim.Native.Nat.{ℕ, _≤_, _<_, min}
+use mathlib.Core.Path.{_≡_}
+use Prim.Native.Nat.{min}
 use native.Mathlib.Omega.{arith}
-use Rattle.entries.specs.declared.Put.the-variants.{Refused}
 use borrow.Author.Needs.{needs}
 use Rattle.entries.proofs.values.least.Statement.{statement}
 use Rattle.entries.proofs.values.least.Tie as tie

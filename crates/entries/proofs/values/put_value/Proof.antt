@@ -1,7 +1,7 @@
-use mathlib.Core.Path.{_≡_, refl, ap, sym, _∙_}
+use mathlib.Core.Path.{refl}
 use mir.Facts.{toZ-ofZ}
 use mir.Syntax.{w64}
-use mir.Val.{SFits, toZ, ofZ}
+use mir.Val.{SFits}
 use borrow.Author.Needs.{needs}
 use Rattle.entries.proofs.values.put_value.Statement.{statement}
 use Rattle.entries.proofs.values.put_value.Tie as tie

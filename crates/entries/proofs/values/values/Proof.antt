@@ -1,7 +1,6 @@
 use Prim.Native.Nat.{_/_, _%_}
-use mathlib.Core.Path.{_≡_, refl, ap, sym, subst, _∙_}
+use mathlib.Core.Path.{sym, _∙_}
 use mathlib.Core.Bool.{true, false}
-use native.Mathlib.Omega.{arith}
 use Rattle.rules.specs.Base.{split}
 use Rattle.tables.specs.Rows.{partOf, acrossOf}
 use Rattle.entries.specs.Names.{knownIn}
