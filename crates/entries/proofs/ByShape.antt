@@ -1,7 +1,7 @@
 -- What a line with a key is: content that opens, by its last two bytes; the form that a row asks for.
 use Prim.Native.Nat.{ℕ, suc, _-_, _/_, _%_, _<_, _≤_}
 use mathlib.Core.Path.{_≡_, refl, ap, sym, _∙_}
-use mathlib.Core.Bool.{Bool, true, false, cond, _&&_, _||_}
+use mathlib.Core.Bool.{Bool, true, false, cond, _&&_, _||_, not}
 use mathlib.Core.List.{List, [], _∷_}
 use mathlib.Core.Option.{Option, none, some}
 use native.Mathlib.Omega.{arith}
@@ -10,16 +10,16 @@ use lib.ListN.{length, getD, take, drop, length-take}
 use lib.Seq.{take-take}
 use borrow.Author.Tests.{eqb-true, ne-eqb, le-leb, lt-leb, leb-true}
 use Rattle.rules.specs.Base.{bytes, mapO, same}
-use Rattle.rules.specs.Lines.{equals, Shape, noContent, content, opening, formless, byStem, stem, bytesAt}
+use Rattle.rules.specs.Lines.{equals, Shape, noContent, content, opening, formless, byStem, stem, bytesAt, hasForm}
 use Rattle.rules.specs.Values.{Kind, values, text, word, volumeName, sheet, ratio, serials, nothing, opens, headed, either, isFree}
-use Rattle.rules.specs.Rows.{isContent, isEmpty, fits, innerOf}
+use Rattle.rules.specs.Rows.{isContent, isEmpty, isOpener, isOpening, fits, innerOf}
 use Rattle.rules.specs.declared.Span.{Span}
 use Rattle.rules.proofs.Chains.{and-left, and-false, by-cond}
 use Rattle.leaves.specs.Bytes.{bytesOf}
 use Rattle.leaves.proofs.Scan.{and-truth}
 use Rattle.tables.specs.Rows.{kindOf, partOf, partsOf, acrossOf}
 use Rattle.tables.specs.declared.Row.{Row}
-use Rattle.entries.specs.Shapes.{shapeIn, shapeBy, endsOpen}
+use Rattle.entries.specs.Shapes.{shapeIn, shapeBy, sortOf, endsOpen}
 use Rattle.entries.specs.declared.Shape.{Shape as Placed}
 use Rattle.entries.specs.declared.Shape.the-variants as P
 
@@ -115,14 +115,29 @@ module _ (s : List ℕ) (p : Span) where
   pub part-stem : take (length (bytesAt s p) - 2) (drop (p .at) s) ≡ take (length (bytesAt s p) - 2) (bytesAt s p)
   part-stem = sym (take-take (length (bytesAt s p) - 2) (p .len) (drop (p .at) s) (omega (arith, part-long)))
 
--- ── what is asked of a shape without its content ──
-pub any-place : (f : Shape → Bool) → ((a : ℕ) (c u : List ℕ) → f (content a c) ≡ f (content a u)) → ((a : ℕ) (c u : List ℕ) → f (opening a c) ≡ f (opening a u))
-    → (s u : List ℕ) (p : Placed) → f (shapeIn s p) ≡ f (shapeIn u p)
-any-place f h k s u P.Opener = refl
-any-place f h k s u P.NoContent = refl
-any-place f h k s u (P.Content p) = h (p .at) (bytesAt s p) (bytesAt u p)
-any-place f h k s u (P.Opening p) = k (p .at) (bytesAt s p) (bytesAt u p)
-any-place f h k s u P.Formless = refl
+-- ── which of the five it is ──
+by-placed : (Q : Placed → Type 0) → Q P.Opener → Q P.NoContent → ((p : Span) → Q (P.Content p)) → ((p : Span) → Q (P.Opening p)) → Q P.Formless → (x : Placed) → Q x
+by-placed Q o n c b f P.Opener = o
+by-placed Q o n c b f P.NoContent = n
+by-placed Q o n c b f (P.Content p) = c p
+by-placed Q o n c b f (P.Opening p) = b p
+by-placed Q o n c b f P.Formless = f
+
+module _ (s : List ℕ) where
+  pub form-by : (x : Placed) → hasForm (shapeIn s x) ≡ not (eqb (sortOf x) 4)
+  form-by = by-placed (λ x. hasForm (shapeIn s x) ≡ not (eqb (sortOf x) 4)) refl refl (λ _. refl) (λ _. refl) refl
+
+  pub opener-by : (x : Placed) → isOpener (shapeIn s x) ≡ eqb (sortOf x) 0
+  opener-by = by-placed (λ x. isOpener (shapeIn s x) ≡ eqb (sortOf x) 0) refl refl (λ _. refl) (λ _. refl) refl
+
+  pub empty-by : (x : Placed) → isEmpty (shapeIn s x) ≡ eqb (sortOf x) 1
+  empty-by = by-placed (λ x. isEmpty (shapeIn s x) ≡ eqb (sortOf x) 1) refl refl (λ _. refl) (λ _. refl) refl
+
+  pub content-by : (x : Placed) → isContent (shapeIn s x) ≡ eqb (sortOf x) 2
+  content-by = by-placed (λ x. isContent (shapeIn s x) ≡ eqb (sortOf x) 2) refl refl (λ _. refl) (λ _. refl) refl
+
+  pub opening-by : (x : Placed) → isOpening (shapeIn s x) ≡ eqb (sortOf x) 3
+  opening-by = by-placed (λ x. isOpening (shapeIn s x) ≡ eqb (sortOf x) 3) refl refl (λ _. refl) (λ _. refl) refl
 
 -- ── rows by their kind ──
 -- the kinds but free text

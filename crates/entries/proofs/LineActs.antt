@@ -1,7 +1,7 @@
 -- A line with a key of a row: its numbers and state, and what it does.
 use Prim.Native.Nat.{ℕ, zero, suc, _+_, _<_, _≤_}
 use mathlib.Core.Path.{_≡_, refl, ap, sym, _∙_}
-use mathlib.Core.Bool.{Bool, true, false, cond, _&&_, _||_, not}
+use mathlib.Core.Bool.{Bool, true, false, cond, _&&_, not}
 use mathlib.Core.List.{List, [], _∷_}
 use native.Mathlib.Omega.{arith}
 use lib.Dec.{eqb, leb, ltb}
@@ -11,15 +11,15 @@ use lib.Seq.{sets}
 use borrow.Author.Tests.{leb-true, ltb-true, ne-eqb}
 use Rattle.rules.specs.Base.{all, split}
 use Rattle.rules.specs.RefusalNumbers.{Got, got, bad, unless, mapG, orBad, keep, andThen}
-use Rattle.rules.specs.Lines.{Shape, opener, noContent, content, opening, formless, bytesAt}
+use Rattle.rules.specs.Lines.{bytesAt}
 use Rattle.rules.specs.Values.{Num, Known, Value, empty, nums, chars, Kind, values, text, word, volumeName, sheet, ratio, serials, nothing, opens, headed, either, readKind, readPart, range, readAll, readRatio, findSheet, sheets, agree, byteIn, lettersAndDigits}
 use Rattle.rules.specs.RecordTable.{numbers, given, columns, putState}
-use Rattle.rules.specs.Rows.{Rule, Act, entry, begin, orRefuse, isOpener, isOpening, readShape, innerOf, notTwice, anyNumber, upTo}
+use Rattle.rules.specs.Rows.{Rule, Act, entry, begin, orRefuse, readShape, innerOf, notTwice, anyNumber, upTo}
 use Rattle.rules.proofs.Chains.{and-left, and-right}
 use Rattle.rules.specs.declared.Span.{Span}
 use Rattle.tables.specs.Rows.{timesOf}
 use Rattle.entries.specs.Entering.{On, Puts, settled}
-use Rattle.entries.specs.Shapes.{shapeIn}
+use Rattle.entries.specs.Shapes.{shapeIn, sortOf}
 use Rattle.entries.specs.Acts.{placeOf, putLine, roomy, valueOf, Acts, nextFor}
 use Rattle.entries.specs.declared.Shape.{Shape as Placed}
 use Rattle.entries.specs.declared.Shape.the-variants as P
@@ -98,62 +98,27 @@ pub shape-put : (f : Value → Act) → ((v : Value) → valueOf (f v) ≡ v) �
 shape-put f e (got v) r dump t t₁ a h = record { eq = h .eq; filled = rw (e v) (h .filled) }
 shape-put f e (bad n) r dump t t₁ a h = record { eq = h .eq; filled = tt }
 
-module _ (j i : ℕ) where
-  pub next-begin : (s : Shape) → (isOpener s || isOpening s) ≡ true → N.Begin (record { block = i; row = j }) ≡ nextFor false j i s
-  next-begin opener e = refl
-  next-begin noContent e = absurd (let q : _≡_ {A = ℕ} 0 1 = cc in omega arith)
-  next-begin (content at c) e = absurd (let q : _≡_ {A = ℕ} 0 1 = cc in omega arith)
-  next-begin (opening at c) e = refl
-  next-begin formless e = absurd (let q : _≡_ {A = ℕ} 0 1 = cc in omega arith)
-
-  pub next-entry : (s : Shape) → (isOpener s || isOpening s) ≡ false → N.Entry j ≡ nextFor false j i s
-  next-entry opener e = absurd (let q : _≡_ {A = ℕ} 0 1 = cc in omega arith)
-  next-entry noContent e = refl
-  next-entry (content at c) e = refl
-  next-entry (opening at c) e = absurd (let q : _≡_ {A = ℕ} 0 1 = cc in omega arith)
-  next-entry formless e = refl
-
-  pub next-any : (full : Bool) (s u : List ℕ) (p : Placed) → nextFor full j i (shapeIn s p) ≡ nextFor full j i (shapeIn u p)
-  next-any true s u p = refl
-  next-any false s u P.Opener = refl
-  next-any false s u P.NoContent = refl
-  next-any false s u (P.Content p) = refl
-  next-any false s u (P.Opening p) = refl
-  next-any false s u P.Formless = refl
-
 -- ── what is done ──
 module _ (j : ℕ) (r : Rule) (dump : ℕ) (t t₁ : List ℤ) (a : Put) where
   entry-put : (g : Got Value) (full : Bool) → Puts (mapG (entry j) g) (λ b. putLine r dump (valueOf b) t) t₁ a → a ≡ Done
-      → Acts (λ _. r) dump t (orRefuse (andThen (mapG (entry j) g) λ b. unless (not full) 11 (got b))) t₁ (nextFor full j 0 noContent)
+      → Acts (λ _. r) dump t (orRefuse (andThen (mapG (entry j) g) λ b. unless (not full) 11 (got b))) t₁ (cond full (N.Refuse 11) (N.Entry j))
   entry-put (bad m) full h d = done-not m (sym d ∙ h .eq)
   entry-put (got v) true h d = record { eq = refl; entered = tt }
   entry-put (got v) false h d = record { eq = refl; entered = h .filled }
 
   begin-put : (i : ℕ) (g : Got Value) (full : Bool) → Puts (mapG (begin i j) g) (λ b. putLine r dump (valueOf b) t) t₁ a → a ≡ Done
-      → Acts (λ _. r) dump t (orRefuse (andThen (mapG (begin i j) g) λ b. unless (not full) 11 (got b))) t₁ (nextFor full j i opener)
+      → Acts (λ _. r) dump t (orRefuse (andThen (mapG (begin i j) g) λ b. unless (not full) 11 (got b))) t₁ (cond full (N.Refuse 11) (N.Begin (record { block = i; row = j })))
   begin-put i (bad m) full h d = done-not m (sym d ∙ h .eq)
   begin-put i (got v) true h d = record { eq = refl; entered = tt }
   begin-put i (got v) false h d = record { eq = refl; entered = h .filled }
 
-  next-content : (full : Bool) (i at : ℕ) (c : List ℕ) → nextFor full j 0 noContent ≡ nextFor full j i (content at c)
-  next-content true i at c = refl
-  next-content false i at c = refl
-
-  next-none : (full : Bool) (i : ℕ) → nextFor full j 0 noContent ≡ nextFor full j i noContent
-  next-none true i = refl
-  next-none false i = refl
-
-  next-opening : (full : Bool) (i at : ℕ) (c : List ℕ) → nextFor full j i opener ≡ nextFor full j i (opening at c)
-  next-opening true i at c = refl
-  next-opening false i at c = refl
-
-  pub line-entered : (k : Known) (s : Shape) (full : Bool) → Puts (readShape k j r s) (λ b. putLine r dump (valueOf b) t) t₁ a → a ≡ Done
-      → Acts (λ _. r) dump t (orRefuse (andThen (readShape k j r s) λ b. unless (not full) 11 (got b))) t₁ (nextFor full j (innerOf (r .holds)) s)
-  line-entered k opener full h d = begin-put (innerOf (r .holds)) (got (nums [])) full h d
-  line-entered k noContent full h d = rw (sym (next-none full (innerOf (r .holds)))) (entry-put (got empty) full h d)
-  line-entered k (content at c) full h d = rw (sym (next-content full (innerOf (r .holds)) at c)) (entry-put (readKind k (r .holds) at c) full h d)
-  line-entered k (opening at c) full h d = rw (sym (next-opening full (innerOf (r .holds)) at c)) (begin-put (innerOf (r .holds)) (readKind k (r .holds) at c) full h d)
-  line-entered k formless full h d = done-not 5 (sym d ∙ h .eq)
+  pub line-entered : (k : Known) (s : List ℕ) (x : Placed) (full : Bool) → Puts (readShape k j r (shapeIn s x)) (λ b. putLine r dump (valueOf b) t) t₁ a → a ≡ Done
+      → Acts (λ _. r) dump t (orRefuse (andThen (readShape k j r (shapeIn s x)) λ b. unless (not full) 11 (got b))) t₁ (nextFor full j (innerOf (r .holds)) (sortOf x))
+  line-entered k s P.Opener full h d = begin-put (innerOf (r .holds)) (got (nums [])) full h d
+  line-entered k s P.NoContent full h d = entry-put (got empty) full h d
+  line-entered k s (P.Content p) full h d = entry-put (readKind k (r .holds) (p .at) (bytesAt s p)) full h d
+  line-entered k s (P.Opening p) full h d = begin-put (innerOf (r .holds)) (readKind k (r .holds) (p .at) (bytesAt s p)) full h d
+  line-entered k s P.Formless full h d = done-not 5 (sym d ∙ h .eq)
 
   pub line-refused : (g : Got Act) (f : Act → Got Act) (w : Act → List ℤ) (n : ℕ) → Puts g w t₁ a → a ≡ Refused n → Acts (λ _. r) dump t (orRefuse (andThen g f)) t₁ (N.Refuse n)
   line-refused (got b) f w n h e = done-not n (sym (h .eq) ∙ e)

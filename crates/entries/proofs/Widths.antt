@@ -1,6 +1,6 @@
 -- How many numbers a content has: as many as its row has places.
 use Prim.Native.Nat.{ℕ, zero, suc}
-use mathlib.Core.Path.{_≡_, refl, ap, _∙_}
+use mathlib.Core.Path.{_≡_, refl, ap, sym, _∙_}
 use mathlib.Core.Bool.{Bool, true, false, _&&_}
 use mathlib.Core.List.{List, [], _∷_, map}
 use mathlib.Core.Option.{Option, none, some}
@@ -8,11 +8,14 @@ use native.Mathlib.Omega.{arith}
 use lib.Dec.{leb}
 use lib.IntN.{ℤ}
 use lib.ListN.{length}
+use lib.Seq.{sets}
 use Rattle.rules.specs.Base.{all, split}
 use Rattle.rules.specs.RefusalNumbers.{Got, got, bad, unless, mapG, orBad, keep}
 use Rattle.rules.specs.Values.{Num, Known, Value, nums, chars, Kind, values, text, word, volumeName, sheet, ratio, serials, nothing, opens, headed, either, readKind, readPart, range, readAll, readRatio, findSheet, sheets, agree, byteIn, lettersAndDigits, capital}
-use Rattle.rules.specs.RecordTable.{numbers, columns, padded}
+use Rattle.rules.specs.RecordTable.{numbers, given, columns, padded, putNumbers, putState, putSlot}
+use Rattle.rules.specs.Rows.{Rule}
 use Rattle.entries.specs.Entering.{On, plainly}
+use Rattle.entries.specs.Acts.{placeOf, putLine}
 use Rattle.entries.proofs.EachValue.{long-all, map-long}
 use Rattle.entries.proofs.ByKind.{on-linked-in, Two, OnSome, sheets-two, ratio-two}
 
@@ -68,3 +71,12 @@ kind-fills k nothing at c = tt
 kind-fills k (opens i) at c = tt
 kind-fills k (headed i p) at c = one-fill (readPart k p c)
 kind-fills k (either i) at c = one-fill (readPart k (range 0 1) c)
+
+-- ── a line's numbers are its slot's ──
+-- a row with a place of its own
+pub line-slot : (r : Rule) (dump : ℕ) (v : Value) (t : List ℤ) → (r .place ≡ 0 → ⊥) → Fills (columns (r .holds)) v → putLine r dump v t ≡ putSlot r (some v) t
+line-slot r dump v t h e = ap (putState (r .state) (given v)) (go (r .place) h ∙ ap (λ (zs : List ℤ). putNumbers (r .place) zs t) (sym e))
+  where
+    go : (p : ℕ) → (p ≡ 0 → ⊥) → sets t (placeOf p dump) (numbers v) ≡ putNumbers p (numbers v) t
+    go zero h = absurd (h refl)
+    go (suc p) h = refl

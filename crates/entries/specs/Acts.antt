@@ -1,7 +1,7 @@
 -- What a line does in its block, and what it leaves in the lent numbers.
 use Prim.Native.Nat.{ℕ, zero, suc, _+_}
 use mathlib.Core.Path.{_≡_}
-use mathlib.Core.Bool.{Bool, true, false, _&&_, _||_, not}
+use mathlib.Core.Bool.{Bool, cond, _&&_, _||_, not}
 use mathlib.Core.List.{List}
 use lib.Dec.{eqb, leb, ltb}
 use lib.IntN.{ℤ}
@@ -9,7 +9,7 @@ use lib.Seq.{sets}
 use Rattle.rules.specs.declared.Digits.{Digits}
 use Rattle.rules.specs.RefusalNumbers.{unless, andThen, got}
 use Rattle.rules.specs.RangeClass.{reaches}
-use Rattle.rules.specs.Lines.{Shape, opener, noContent, content, opening, formless, hasForm}
+use Rattle.rules.specs.Lines.{Shape, hasForm}
 use Rattle.rules.specs.Values.{Known, Value, empty}
 use Rattle.rules.specs.Rows.{Rule, Act, stay, entry, begin, shut, refuse, orRefuse, fits, notTwice, readShape}
 use Rattle.rules.specs.RecordTable.{numbers, given, columns, putState}
@@ -68,14 +68,9 @@ actShape k d full j r s =
     (unless (notTwice (r .times) full) 7
     (andThen (readShape k j r s) λ a. unless (not full) 11 (got a))))))
 
--- what a line that was entered does
-abbrev pub nextFor : Bool → ℕ → ℕ → Shape → Next
-nextFor true j i s = N.Refuse 11
-nextFor false j i opener = N.Begin (record { block = i; row = j })
-nextFor false j i noContent = N.Entry j
-nextFor false j i (content at c) = N.Entry j
-nextFor false j i (opening at c) = N.Begin (record { block = i; row = j })
-nextFor false j i formless = N.Entry j
+-- what a line that was entered does, by which of the five shapes it has
+abbrev pub nextFor : Bool → ℕ → ℕ → ℕ → Next
+nextFor full j i n = cond full (N.Refuse 11) (cond (eqb n 0 || eqb n 3) (N.Begin (record { block = i; row = j })) (N.Entry j))
 
 -- ── what a block must have ──
 abbrev pub wanted : Digits → Rule → Bool

@@ -21,6 +21,14 @@ shapeIn s (P.Content p) = content (p .at) (bytesAt s p)
 shapeIn s (P.Opening p) = opening (p .at) (bytesAt s p)
 shapeIn s P.Formless = formless
 
+-- which of the five, in their order
+abbrev pub sortOf : Placed → ℕ
+sortOf P.Opener = 0
+sortOf P.NoContent = 1
+sortOf (P.Content p) = 2
+sortOf (P.Opening p) = 3
+sortOf P.Formless = 4
+
 -- with free text behind the key, or without
 abbrev pub shapeBy : Bool → Rest → Shape
 shapeBy free c = cond free (freeShapeOf c) (shapeOf c)

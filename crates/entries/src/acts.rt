@@ -4,8 +4,8 @@ use crate::Rest;
 use crate::lines::act_row;
 use crate::lines::reaches;
 use crate::names::part;
-use crate::shapes::has_form;
 use crate::shapes::shape_for;
+use crate::shapes::sort_of;
 use rules::Digits;
 use rules::LineForm;
 use rules::Span;
@@ -157,10 +157,10 @@ fn mark(full: &[bool], row: u8) -> bool
 fn unknown(s: &[u8], rest: Rest) -> Next
     ensures { λ r. ⌜ r ≡ nextOf (actUnknown (restIn (now (s .entry)) rest)) ⌝ }
 {
-    if has_form(shape_for(s, false, rest)) {
-        return Next::Refuse(6);
+    if sort_of(shape_for(s, false, rest)) == 4 {
+        return Next::Refuse(5);
     }
-    Next::Refuse(5)
+    Next::Refuse(6)
 }
 
 fn act_key(

@@ -7,17 +7,15 @@ use crate::Shape;
 use crate::contents::read_kind;
 use crate::names::part;
 use crate::shapes::fits;
-use crate::shapes::has_form;
 use crate::shapes::inner_of;
 use crate::shapes::is_free;
-use crate::shapes::opens_block;
 use crate::shapes::shape_for;
+use crate::shapes::sort_of;
 use rules::Digits;
 use rules::Span;
 use tables::Row;
 ghost use mathlib.Core.Path.{_≡_};
 ghost use mathlib.Core.Bool.{true, not};
-ghost use mathlib.Core.List.{[]};
 ghost use Prim.Native.Nat.{_<_, _≤_};
 ghost use lib.ListN.{length};
 ghost use Rattle.rules.specs.Lines.{bytesAt};
@@ -128,17 +126,21 @@ fn twice(times: u8, full: bool) -> bool
 }
 
 // What a line that was entered does; one too many is 11.
-fn entered(row: Row, full: bool, shape: Shape) -> Next
-    ensures { λ r. ⌜ r ≡ nextFor full (row .number) (innerOf (kindOf row)) (shapeIn [] shape) ⌝ }
+fn entered(row: Row, full: bool, sort: u8) -> Next
+    ensures { λ r. ⌜ r ≡ nextFor full (row .number) (innerOf (kindOf row)) sort ⌝ }
 {
     if full {
         return Next::Refuse(11);
     }
-    if opens_block(shape) {
-        return Next::Begin(Inner {
-            block: inner_of(row),
-            row: row.number,
-        });
+    let inner = Inner {
+        block: inner_of(row),
+        row: row.number,
+    };
+    if sort == 0 {
+        return Next::Begin(inner);
+    }
+    if sort == 3 {
+        return Next::Begin(inner);
     }
     Next::Entry(row.number)
 }
@@ -157,7 +159,8 @@ fn act_shape(
     requires { ⌜ (length (now s) ≤ 61440) × (length (now symbols) ≤ 65536) × (length (now layers) ≤ 65536) × (roomy dump (length (now rec)) (ruleOf row) ≡ true) ⌝ }
     ensures { λ r. ⌜ Acts (λ _. ruleOf row) dump (now (rec .entry)) (actShape (knownIn (now (s .entry)) (now (symbols .entry)) (now (layers .entry))) d full (row .number) (ruleOf row) (shapeIn (now (s .entry)) shape)) (now (rec .exit)) r ⌝ }
 {
-    if !has_form(shape) {
+    let sort = sort_of(shape);
+    if sort == 4 {
         return Next::Refuse(5);
     }
     if !reaches(d, row.least) {
@@ -171,7 +174,7 @@ fn act_shape(
     }
     match put_shape(row, s, symbols, layers, shape, dump, rec) {
         Put::Refused(n) => Next::Refuse(n),
-        Put::Done => entered(row, full, shape),
+        Put::Done => entered(row, full, sort),
     }
 }
 

@@ -6,13 +6,11 @@ use leaves::bytes::same;
 use rules::Span;
 use tables::Row;
 ghost use mathlib.Core.Path.{_≡_};
-ghost use mathlib.Core.Bool.{_||_};
-ghost use mathlib.Core.List.{[]};
-ghost use Rattle.rules.specs.Lines.{hasForm, equals, bytesAt};
+ghost use Rattle.rules.specs.Lines.{equals, bytesAt};
 ghost use Rattle.rules.specs.Values.{isFree};
-ghost use Rattle.rules.specs.Rows.{isContent, isEmpty, isOpener, isOpening, isEither, fits, innerOf};
+ghost use Rattle.rules.specs.Rows.{isEither, fits, innerOf};
 ghost use Rattle.tables.specs.Rows.{kindOf};
-ghost use Rattle.entries.specs.Shapes.{restIn, shapeIn, shapeBy, endsOpen};
+ghost use Rattle.entries.specs.Shapes.{restIn, shapeIn, shapeBy, sortOf, endsOpen};
 
 fn ends_open(c: &[u8]) -> bool
     ensures { λ r. ⌜ r ≡ endsOpen (now (c .entry)) ⌝ }
@@ -60,76 +58,16 @@ pub(crate) fn shape_for(s: &[u8], free: bool, rest: Rest) -> Shape
     }
 }
 
-pub(crate) fn has_form(shape: Shape) -> bool
-    ensures { λ r. ⌜ r ≡ hasForm (shapeIn [] shape) ⌝ }
+// Which of the five a shape is, in their order: 0 an opener, 1 no content, 2 content, 3 content that opens, 4 none of these.
+pub(crate) fn sort_of(shape: Shape) -> u8
+    ensures { λ r. ⌜ r ≡ sortOf shape ⌝ }
 {
     match shape {
-        Shape::Opener => true,
-        Shape::NoContent => true,
-        Shape::Content(_) => true,
-        Shape::Opening(_) => true,
-        Shape::Formless => false,
-    }
-}
-
-fn is_content(shape: Shape) -> bool
-    ensures { λ r. ⌜ r ≡ isContent (shapeIn [] shape) ⌝ }
-{
-    match shape {
-        Shape::Opener => false,
-        Shape::NoContent => false,
-        Shape::Content(_) => true,
-        Shape::Opening(_) => false,
-        Shape::Formless => false,
-    }
-}
-
-fn is_empty(shape: Shape) -> bool
-    ensures { λ r. ⌜ r ≡ isEmpty (shapeIn [] shape) ⌝ }
-{
-    match shape {
-        Shape::Opener => false,
-        Shape::NoContent => true,
-        Shape::Content(_) => false,
-        Shape::Opening(_) => false,
-        Shape::Formless => false,
-    }
-}
-
-fn is_opener(shape: Shape) -> bool
-    ensures { λ r. ⌜ r ≡ isOpener (shapeIn [] shape) ⌝ }
-{
-    match shape {
-        Shape::Opener => true,
-        Shape::NoContent => false,
-        Shape::Content(_) => false,
-        Shape::Opening(_) => false,
-        Shape::Formless => false,
-    }
-}
-
-fn is_opening(shape: Shape) -> bool
-    ensures { λ r. ⌜ r ≡ isOpening (shapeIn [] shape) ⌝ }
-{
-    match shape {
-        Shape::Opener => false,
-        Shape::NoContent => false,
-        Shape::Content(_) => false,
-        Shape::Opening(_) => true,
-        Shape::Formless => false,
-    }
-}
-
-// A line that opens a block, where it has the form that its row asks for.
-pub(crate) fn opens_block(shape: Shape) -> bool
-    ensures { λ r. ⌜ r ≡ (isOpener (shapeIn [] shape) || isOpening (shapeIn [] shape)) ⌝ }
-{
-    match shape {
-        Shape::Opener => true,
-        Shape::NoContent => false,
-        Shape::Content(_) => false,
-        Shape::Opening(_) => true,
-        Shape::Formless => false,
+        Shape::Opener => 0,
+        Shape::NoContent => 1,
+        Shape::Content(_) => 2,
+        Shape::Opening(_) => 3,
+        Shape::Formless => 4,
     }
 }
 
@@ -150,23 +88,24 @@ fn is_either(s: &[u8], shape: Shape) -> bool
 pub(crate) fn fits(row: Row, s: &[u8], shape: Shape) -> bool
     ensures { λ r. ⌜ r ≡ fits (kindOf row) (row .may) (shapeIn (now (s .entry)) shape) ⌝ }
 {
+    let sort = sort_of(shape);
     if row.kind == 7 {
-        return is_empty(shape);
+        return sort == 1;
     }
     if row.kind == 8 {
-        return is_opener(shape);
+        return sort == 0;
     }
     if row.kind == 9 {
-        return is_opening(shape);
+        return sort == 3;
     }
     if row.kind == 10 {
         return is_either(s, shape);
     }
-    if is_content(shape) {
+    if sort == 2 {
         return true;
     }
     if row.may {
-        return is_empty(shape);
+        return sort == 1;
     }
     false
 }

@@ -1,4 +1,7 @@
-// Document 01's worked values, read and written by the leaves and printed: what each text is worth, or `no`, and what is written of it.
+// Document 01's worked values, read and written by the leaves and printed: what each text is worth, or `no`, and what is written of it;
+// and lines of a text's block, each with what it does there.
+use entries::Next;
+use entries::acts::act;
 use leaves::Count;
 use leaves::Ratio;
 use leaves::Reading;
@@ -24,6 +27,11 @@ use leaves::write::put_decimal;
 use leaves::write::put_fixed;
 use leaves::write::put_ratio;
 use leaves::write::put_sheet;
+use lines::Look;
+use lines::forms::look;
+use rules::Digits;
+ghost use Prim.Native.Nat.{_≤_};
+ghost use lib.ListN.{length};
 
 fn show_text(text: &[u8]) {
     io::write_all(1, text);
@@ -365,6 +373,73 @@ fn written_numbers() {
     write_scale(9999, 99999);
 }
 
+fn show_number(word: &[u8], n: u8) {
+    show_text(word);
+    io::print_decimal(1, n as u64);
+    io::write_all(1, b"\n");
+}
+
+fn show_next(next: Next) {
+    match next {
+        Next::Stay => {
+            io::write_all(1, b"ignored\n");
+        }
+        Next::Entry(row) => show_number(b"entered as row", row),
+        Next::Begin(inner) => show_number(b"opens block", inner.block),
+        Next::Shut => {
+            io::write_all(1, b"closes\n");
+        }
+        Next::Refuse(n) => show_number(b"refused,", n),
+    }
+}
+
+// A line of a volume with nothing behind it, in the block of a figure's text with nothing in it yet.
+fn in_text(shown: &[u8], line: &[u8])
+    requires { ⌜ length (now line) ≤ 61440 ⌝ }
+{
+    let seen = look(line, 0, line.len() as u32, 1, 1);
+    let Look::Line(found) = seen else {
+        return;
+    };
+    show_text(shown);
+    let form = found.form;
+    let full = [false; 2];
+    let symbols = [0u32; 1];
+    let layers = [0u32; 1];
+    let mut rec = [0i64; 32];
+    let next = act(
+        16,
+        line,
+        &symbols[..0],
+        &layers[..0],
+        Digits { middle: 0, last: 0 },
+        &full,
+        form,
+        0,
+        &mut rec,
+    );
+    show_next(next);
+}
+
+fn forms() {
+    io::write_all(1, b"lines in a text\n");
+    in_text(b"character=a:{", b"character=a:{\r\n\x1a");
+    in_text(b"character=:{", b"character=:{\r\n\x1a");
+    in_text(b"character=", b"character=\r\n\x1a");
+    in_text(b"type=:{", b"type=:{\r\n\x1a");
+    in_text(b"type=1307:{", b"type=1307:{\r\n\x1a");
+}
+
+fn more_forms() {
+    in_text(b"key=:{", b"key=:{\r\n\x1a");
+    in_text(b"k=x:{:{", b"k=x:{:{\r\n\x1a");
+    in_text(b"k:{", b"k:{\r\n\x1a");
+    in_text(b"=5", b"=5\r\n\x1a");
+    in_text(b"# note", b"# note\r\n\x1a");
+    in_text(b"}", b"}\r\n\x1a");
+    in_text(b"EOF", b"EOF\r\n\x1a");
+}
+
 fn main() {
     decimals();
     days();
@@ -381,4 +456,6 @@ fn main() {
     sets_of_bytes();
     written();
     written_numbers();
+    forms();
+    more_forms();
 }

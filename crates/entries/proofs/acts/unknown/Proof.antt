@@ -1,34 +1,37 @@
-use mathlib.Core.Path.{refl, ap, sym, _∙_}
-use mathlib.Core.List.{[]}
+use Prim.Native.Nat.{ℕ}
+use mathlib.Core.Path.{ap, sym, _∙_}
+use mathlib.Core.Bool.{not}
+use lib.Dec.{eqb}
+use borrow.Author.Tests.{eq-eqb, ne-eqb}
 use Rattle.rules.specs.Lines.{hasForm}
-use Rattle.entries.proofs.ByShape.{any-place}
+use Rattle.entries.proofs.ByShape.{form-by}
 use borrow.Author.Needs.{needs}
 use Rattle.entries.proofs.acts.unknown.Statement.{statement}
 use Rattle.entries.proofs.acts.unknown.Tie as tie
 use Rattle.entries.proofs.acts.unknown.Reads as reads
 use Rattle.entries.proofs.acts.unknown.Lts as lts
-use Rattle.entries.proofs.shapes.has_form.Reads as has-form-reads
 use Rattle.entries.proofs.shapes.shape_for.Reads as shape-for-reads
+use Rattle.entries.proofs.shapes.sort_of.Reads as sort-of-reads
 
--- src/acts.rt:160:17
+-- src/acts.rt:160:16
 shape-for-requires : tie.Need-shape-for-requires
 shape-for-requires c κs = search needs
 
 -- src/acts.rt:160:8
-has-form-requires : tie.Need-has-form-requires
-has-form-requires c κs = search needs
+sort-of-requires : tie.Need-sort-of-requires
+sort-of-requires c κs = search needs
 
 -- src/acts.rt:161:9
 returns : tie.Need-returns
 returns c =
-    let f = ap hasForm (sym (c .before .before .shape-for .ensures)) ∙ any-place hasForm (λ a d u. refl) (λ a d u. refl) (c .before .before .before .before .args .s .now) [] (c .before .before .shape-for .result) ∙ sym (c .before .has-form .ensures) ∙ c .if1 .taken in
-    rw f
+    let f = ap hasForm (sym (c .before .before .shape-for .ensures)) ∙ form-by (c .before .before .before .before .args .s .now) (c .before .before .shape-for .result) ∙ ap (λ (n : ℕ). not (eqb n 4)) (sym (c .before .sort-of .ensures)) in
+    rw (f ∙ ap not (eq-eqb (c .before .sort-of .result) 4 (c .if1 .taken)))
 
 -- src/acts.rt:157:1
 returns-2 : tie.Need-returns-2
 returns-2 c =
-    let f = ap hasForm (sym (c .before .before .shape-for .ensures)) ∙ any-place hasForm (λ a d u. refl) (λ a d u. refl) (c .before .before .before .before .args .s .now) [] (c .before .before .shape-for .result) ∙ sym (c .before .has-form .ensures) ∙ c .if1 .left in
-    rw f
+    let f = ap hasForm (sym (c .before .before .shape-for .ensures)) ∙ form-by (c .before .before .before .before .args .s .now) (c .before .before .shape-for .result) ∙ ap (λ (n : ℕ). not (eqb n 4)) (sym (c .before .sort-of .ensures)) in
+    rw (f ∙ ap not (ne-eqb (c .before .sort-of .result) 4 (c .if1 .left)))
 
 pub unknown-spec : {M : Type 1} → statement M
-unknown-spec = tie.close (tie.spec shape-for-requires has-form-requires returns returns-2)
+unknown-spec = tie.close (tie.spec shape-for-requires sort-of-requires returns returns-2)

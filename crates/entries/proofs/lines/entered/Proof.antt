@@ -1,41 +1,30 @@
-use mathlib.Core.Path.{sym, _∙_}
-use mathlib.Core.List.{[]}
-use Rattle.rules.specs.Rows.{innerOf}
-use Rattle.tables.specs.Rows.{kindOf}
-use Rattle.entries.specs.Shapes.{shapeIn}
-use Rattle.entries.proofs.LineActs.{next-begin, next-entry}
+use borrow.Author.Tests.{ne-eqb}
 use borrow.Author.Needs.{needs}
 use Rattle.entries.proofs.lines.entered.Statement.{statement}
 use Rattle.entries.proofs.lines.entered.Tie as tie
 use Rattle.entries.proofs.lines.entered.Reads as reads
 use Rattle.entries.proofs.lines.entered.Lts as lts
 use Rattle.entries.proofs.shapes.inner_of.Reads as inner-of-reads
-use Rattle.entries.proofs.shapes.opens_block.Reads as opens-block-reads
 
--- src/lines.rt:119:9
+-- src/lines.rt:133:9
 returns : tie.Need-returns
-returns c = rw (c .if1 .taken)
+returns c = search needs
 
--- src/lines.rt:121:8
-opens-block-requires : tie.Need-opens-block-requires
-opens-block-requires c κs = search needs
-
--- src/lines.rt:123:20
+-- src/lines.rt:136:16
 inner-of-requires : tie.Need-inner-of-requires
 inner-of-requires c κs = search needs
 
--- src/lines.rt:122:9
+-- src/lines.rt:140:9
 returns-2 : tie.Need-returns-2
-returns-2 c =
-    let a = c .before .before .before .before .args in
-    rw (c .before .before .before .if1 .left, c .inner-of .ensures) (next-begin (a .row .number) (innerOf (kindOf (a .row))) (shapeIn [] (a .shape)) (sym (c .before .before .opens-block .ensures) ∙ c .before .if2 .taken))
+returns-2 c = rw (c .before .before .if1 .left, c .if2 .taken, c .before .inner-of .ensures)
 
--- src/lines.rt:115:1
+-- src/lines.rt:143:9
 returns-3 : tie.Need-returns-3
-returns-3 c =
-    let a = c .before .before .before .args in
-    rw (c .before .before .if1 .left) (next-entry (a .row .number) (innerOf (kindOf (a .row))) (shapeIn [] (a .shape)) (sym (c .before .opens-block .ensures) ∙ c .if2 .left))
+returns-3 c = rw (c .before .before .before .if1 .left, c .if3 .taken, c .before .before .inner-of .ensures)
+
+-- src/lines.rt:129:1
+returns-4 : tie.Need-returns-4
+returns-4 c = rw (c .before .before .before .if1 .left, ne-eqb (c .before .before .before .before .args .sort) 0 (c .before .if2 .left), ne-eqb (c .before .before .before .before .args .sort) 3 (c .if3 .left))
 
 pub entered-spec : {M : Type 1} → statement M
-entered-spec =
-    tie.close (tie.spec returns opens-block-requires inner-of-requires returns-2 returns-3)
+entered-spec = tie.close (tie.spec returns inner-of-requires returns-2 returns-3 returns-4)

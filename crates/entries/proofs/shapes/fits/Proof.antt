@@ -1,95 +1,73 @@
-use mathlib.Core.Path.{refl, sym, _∙_}
-use mathlib.Core.List.{[]}
-use Rattle.rules.specs.Rows.{isContent, isEmpty, isOpener, isOpening}
-use Rattle.entries.specs.Shapes.{shapeIn}
-use Rattle.entries.proofs.ByShape.{any-place, fits-plain}
+use Prim.Native.Nat.{ℕ}
+use mathlib.Core.Path.{ap, sym, _∙_}
+use lib.Dec.{eqb}
+use borrow.Author.Tests.{eq-eqb, ne-eqb}
+use Rattle.entries.specs.Shapes.{shapeIn, sortOf}
+use Rattle.entries.proofs.ByShape.{fits-plain, opener-by, empty-by, content-by, opening-by}
 use borrow.Author.Needs.{needs}
 use Rattle.entries.proofs.shapes.fits.Statement.{statement}
 use Rattle.entries.proofs.shapes.fits.Tie as tie
 use Rattle.entries.proofs.shapes.fits.Reads as reads
 use Rattle.entries.proofs.shapes.fits.Lts as lts
-use Rattle.entries.proofs.shapes.is_content.Reads as is-content-reads
 use Rattle.entries.proofs.shapes.is_either.Reads as is-either-reads
-use Rattle.entries.proofs.shapes.is_empty.Reads as is-empty-reads
-use Rattle.entries.proofs.shapes.is_opener.Reads as is-opener-reads
-use Rattle.entries.proofs.shapes.is_opening.Reads as is-opening-reads
+use Rattle.entries.proofs.shapes.sort_of.Reads as sort-of-reads
 
--- src/shapes.rt:140:9
-is-empty-requires : tie.Need-is-empty-requires
-is-empty-requires c κs = search needs
+-- src/shapes.rt:91:9
+sort-of-requires : tie.Need-sort-of-requires
+sort-of-requires c κs = search needs
 
--- src/shapes.rt:140:9
+-- src/shapes.rt:93:9
 returns : tie.Need-returns
-returns c = rw (c .before .if1 .taken) (c .is-empty .ensures ∙ any-place isEmpty (λ a d u. refl) (λ a d u. refl) [] (c .before .before .before .before .args .s .now) (c .before .before .before .before .args .shape))
+returns c = rw (c .if1 .taken) (ap (λ (n : ℕ). eqb n 1) (c .before .before .sort-of .ensures) ∙ sym (empty-by (c .before .before .before .before .args .s .now) (c .before .before .before .before .args .shape)))
 
--- src/shapes.rt:143:9
-is-opener-requires : tie.Need-is-opener-requires
-is-opener-requires c κs = search needs
-
--- src/shapes.rt:143:9
+-- src/shapes.rt:96:9
 returns-2 : tie.Need-returns-2
-returns-2 c = rw (c .before .if2 .taken) (c .is-opener .ensures ∙ any-place isOpener (λ a d u. refl) (λ a d u. refl) [] (c .before .before .before .before .before .before .args .s .now) (c .before .before .before .before .before .before .args .shape))
+returns-2 c = rw (c .if2 .taken) (ap (λ (n : ℕ). eqb n 0) (c .before .before .before .before .sort-of .ensures) ∙ sym (opener-by (c .before .before .before .before .before .before .args .s .now) (c .before .before .before .before .before .before .args .shape)))
 
--- src/shapes.rt:146:9
-is-opening-requires : tie.Need-is-opening-requires
-is-opening-requires c κs = search needs
-
--- src/shapes.rt:146:9
+-- src/shapes.rt:99:9
 returns-3 : tie.Need-returns-3
-returns-3 c = rw (c .before .if3 .taken) (c .is-opening .ensures ∙ any-place isOpening (λ a d u. refl) (λ a d u. refl) [] (c .before .before .before .before .before .before .before .before .args .s .now) (c .before .before .before .before .before .before .before .before .args .shape))
+returns-3 c = rw (c .if3 .taken) (ap (λ (n : ℕ). eqb n 3) (c .before .before .before .before .before .before .sort-of .ensures) ∙ sym (opening-by (c .before .before .before .before .before .before .before .before .args .s .now) (c .before .before .before .before .before .before .before .before .args .shape)))
 
--- src/shapes.rt:149:9
+-- src/shapes.rt:102:9
 is-either-requires : tie.Need-is-either-requires
 is-either-requires c κs = search needs
 
--- src/shapes.rt:149:9
+-- src/shapes.rt:102:9
 returns-4 : tie.Need-returns-4
 returns-4 c = rw (c .before .if4 .taken) (c .is-either .ensures)
 
--- src/shapes.rt:151:8
-is-content-requires : tie.Need-is-content-requires
-is-content-requires c κs = search needs
-
--- src/shapes.rt:152:9
+-- src/shapes.rt:105:9
 returns-5 : tie.Need-returns-5
 returns-5 c =
     let a = c .before .before .before .before .before .before .before .before .before .before .before .args in
-    let e = any-place isContent (λ a d u. refl) (λ a d u. refl) (a .s .now) [] (a .shape) ∙ sym (c .before .is-content .ensures) ∙ c .if5 .taken in
-    sym (fits-plain (a .row) (shapeIn (a .s .now) (a .shape)) (c .before .before .before .before .before .before .before .before .if1 .left) (c .before .before .before .before .before .before .if2 .left) (c .before .before .before .before .if3 .left) (c .before .before .if4 .left) ∙ rw e)
+    let e = content-by (a .s .now) (a .shape) ∙ eq-eqb (sortOf (a .shape)) 2 (sym (c .before .before .before .before .before .before .before .before .before .sort-of .ensures) ∙ c .if5 .taken) in
+    sym (fits-plain (a .row) (shapeIn (a .s .now) (a .shape)) (c .before .before .before .before .before .before .before .if1 .left) (c .before .before .before .before .before .if2 .left) (c .before .before .before .if3 .left) (c .before .if4 .left) ∙ rw e)
 
--- src/shapes.rt:155:9
-is-empty-requires-2 : tie.Need-is-empty-requires-2
-is-empty-requires-2 c κs = search needs
-
--- src/shapes.rt:155:9
+-- src/shapes.rt:108:9
 returns-6 : tie.Need-returns-6
 returns-6 c =
-    let a = c .before .before .before .before .before .before .before .before .before .before .before .before .before .args in
-    let e = any-place isContent (λ a d u. refl) (λ a d u. refl) (a .s .now) [] (a .shape) ∙ sym (c .before .before .before .is-content .ensures) ∙ c .before .before .if5 .left in
-    let n = any-place isEmpty (λ a d u. refl) (λ a d u. refl) (a .s .now) [] (a .shape) ∙ sym (c .is-empty2 .ensures) in
-    sym (fits-plain (a .row) (shapeIn (a .s .now) (a .shape)) (c .before .before .before .before .before .before .before .before .before .before .if1 .left) (c .before .before .before .before .before .before .before .before .if2 .left) (c .before .before .before .before .before .before .if3 .left) (c .before .before .before .before .if4 .left) ∙ rw (e, c .before .if6 .taken, n))
+    let a = c .before .before .before .before .before .before .before .before .before .before .before .before .args in
+    let e = content-by (a .s .now) (a .shape) ∙ ap (λ (n : ℕ). eqb n 2) (sym (c .before .before .before .before .before .before .before .before .before .before .sort-of .ensures)) ∙ ne-eqb (c .before .before .before .before .before .before .before .before .before .before .sort-of .result) 2 (c .before .if5 .left) in
+    let n = empty-by (a .s .now) (a .shape) ∙ ap (λ (n : ℕ). eqb n 1) (sym (c .before .before .before .before .before .before .before .before .before .before .sort-of .ensures)) in
+    sym (fits-plain (a .row) (shapeIn (a .s .now) (a .shape)) (c .before .before .before .before .before .before .before .before .if1 .left) (c .before .before .before .before .before .before .if2 .left) (c .before .before .before .before .if3 .left) (c .before .before .if4 .left) ∙ rw (e, c .if6 .taken, n))
 
--- src/shapes.rt:136:1
+-- src/shapes.rt:88:1
 returns-7 : tie.Need-returns-7
 returns-7 c =
     let a = c .before .before .before .before .before .before .before .before .before .before .before .before .args in
-    let e = any-place isContent (λ a d u. refl) (λ a d u. refl) (a .s .now) [] (a .shape) ∙ sym (c .before .before .is-content .ensures) ∙ c .before .if5 .left in
-    sym (fits-plain (a .row) (shapeIn (a .s .now) (a .shape)) (c .before .before .before .before .before .before .before .before .before .if1 .left) (c .before .before .before .before .before .before .before .if2 .left) (c .before .before .before .before .before .if3 .left) (c .before .before .before .if4 .left) ∙ rw (e, c .if6 .left))
+    let e = content-by (a .s .now) (a .shape) ∙ ap (λ (n : ℕ). eqb n 2) (sym (c .before .before .before .before .before .before .before .before .before .before .sort-of .ensures)) ∙ ne-eqb (c .before .before .before .before .before .before .before .before .before .before .sort-of .result) 2 (c .before .if5 .left) in
+    sym (fits-plain (a .row) (shapeIn (a .s .now) (a .shape)) (c .before .before .before .before .before .before .before .before .if1 .left) (c .before .before .before .before .before .before .if2 .left) (c .before .before .before .before .if3 .left) (c .before .before .if4 .left) ∙ rw (e, c .if6 .left))
 
 pub fits-spec : {M : Type 1} → statement M
 fits-spec =
     tie.close
     (tie.spec
-    is-empty-requires
+    sort-of-requires
     returns
-    is-opener-requires
     returns-2
-    is-opening-requires
     returns-3
     is-either-requires
     returns-4
-    is-content-requires
     returns-5
-    is-empty-requires-2
     returns-6
     returns-7)
