@@ -6,3 +6,4 @@ pub mod ByShape
 pub mod LineActs
 pub mod TableActs
 pub mod Widths
+pub mod Took

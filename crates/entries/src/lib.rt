@@ -4,7 +4,7 @@ mod contents;
 pub mod lines;
 pub mod names;
 mod parts;
-mod shapes;
+pub mod shapes;
 mod values;
 
 use rules::Span;
@@ -40,7 +40,7 @@ pub enum Rest {
 }
 
 // What a line with a key is, by the places of its content.
-pub(crate) enum Shape {
+pub enum Shape {
     Opener,
     NoContent,
     Content(Span),

@@ -107,7 +107,7 @@ fn put_shape(
 }
 
 // Digits of a range or class that have at least what is asked for.
-pub(crate) fn reaches(d: Digits, least: Digits) -> bool
+pub fn reaches(d: Digits, least: Digits) -> bool
     ensures { λ r. ⌜ r ≡ reaches d least ⌝ }
 {
     if least.middle <= d.middle {

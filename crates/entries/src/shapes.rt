@@ -49,7 +49,8 @@ fn content_shape(s: &[u8], free: bool, rest: Span) -> Shape
     })
 }
 
-pub(crate) fn shape_for(s: &[u8], free: bool, rest: Rest) -> Shape
+// With free text behind the key, or without.
+pub fn shape_for(s: &[u8], free: bool, rest: Rest) -> Shape
     ensures { λ r. ⌜ shapeIn (now (s .entry)) r ≡ shapeBy free (restIn (now (s .entry)) rest) ⌝ }
 {
     match rest {
@@ -59,7 +60,7 @@ pub(crate) fn shape_for(s: &[u8], free: bool, rest: Rest) -> Shape
 }
 
 // Which of the five a shape is, in their order: 0 an opener, 1 no content, 2 content, 3 content that opens, 4 none of these.
-pub(crate) fn sort_of(shape: Shape) -> u8
+pub fn sort_of(shape: Shape) -> u8
     ensures { λ r. ⌜ r ≡ sortOf shape ⌝ }
 {
     match shape {

@@ -16,3 +16,4 @@ pub mod SeenLines
 pub mod SkipRun
 pub mod OneTurn
 pub mod TextSteps
+pub mod RecordTurns

@@ -35,6 +35,15 @@ abbrev pub Then : (w : Way) → State → Pos → List (List ℕ) → Got State 
 Then w st p ls (got st′) q = Reach w st p ls st′ q
 Then w st p ls (bad n) q = Refuses w st p ls (stopAt (w .volume) q n)
 
+-- what the answer to the line l says
+module _ (w : Way) (st : State) (p : Pos) (ls : List (List ℕ)) (acts : Form → Act) (ent : ℕ → Value → Got State) (beg : ℕ → ℕ → Value → Got State) (cls : Unit {0} → Got State) (l : List ℕ) where
+  abbrev pub Turns : Turn → Type 0
+  Turns (T.Stay x) = (acts (formOf (p .at) l) ≡ stay) × Reach w st p ls st x
+  Turns (T.Entry x) = (v : Value) × (acts (formOf (p .at) l) ≡ entry (x .row) v) × (x .pos ≡ behind p l) × Then w st p ls (ent (x .row) v) (x .pos)
+  Turns (T.Begin x) = (v : Value) × (acts (formOf (p .at) l) ≡ begin (x .block) (x .row) v) × (x .pos ≡ behind p l) × Then w st p ls (beg (x .block) (x .row) v) (x .pos)
+  Turns (T.Shut x) = (acts (formOf (p .at) l) ≡ shut) × (x ≡ behind p l) × Then w st p ls (cls tt) x
+  Turns (T.Stop f) = Refuses w st p ls f
+
 module _ (w : Way) (st : State) (p : Pos) (ls : List (List ℕ)) (short : Bool) (acts : Form → Act) (put : Act → Type 0) (r : Turn) (m : TurnMet w p ls short acts put r)
     (ent : ℕ → Value → Got State) (beg : ℕ → ℕ → Value → Got State) (cls : Unit {0} → Got State) where
   abbrev line : Line
@@ -53,13 +62,8 @@ module _ (w : Way) (st : State) (p : Pos) (ls : List (List ℕ)) (short : Bool) 
   whole : from w st p ls ≡ run (w .env) st (line ∷ left)
   whole = ap (λ (x : List (List ℕ)). from w st p x) (m .lines) ∙ ap (run (w .env) st) (todo-cons (w .volume) (w .next) p (m .line) (m .others) (w .more))
 
-  -- what the answer says
-  abbrev pub Turns : Turn → Type 0
-  Turns (T.Stay x) = (a ≡ stay) × Reach w st p ls st x
-  Turns (T.Entry x) = (v : Value) × (a ≡ entry (x .row) v) × (x .pos ≡ q) × Then w st p ls (ent (x .row) v) (x .pos)
-  Turns (T.Begin x) = (v : Value) × (a ≡ begin (x .block) (x .row) v) × (x .pos ≡ q) × Then w st p ls (beg (x .block) (x .row) v) (x .pos)
-  Turns (T.Shut x) = (a ≡ shut) × (x ≡ q) × Then w st p ls (cls tt) x
-  Turns (T.Stop f) = Refuses w st p ls f
+  abbrev Says : Turn → Type 0
+  Says = Turns w st p ls acts ent beg cls (m .line)
 
   forward : p .at ≤ q .at
   forward = omega arith
@@ -72,27 +76,27 @@ module _ (w : Way) (st : State) (p : Pos) (ls : List (List ℕ)) (short : Bool) 
     to-then (got st′) e = to-state st′ e
     to-then (bad k) e = whole ∙ e ∙ ap (λ (x : ℕ). refused k (w .volume .number) x) (omega arith)
 
-    on-act : (b : Act) → a ≡ b → (z : Turned (w .env) st line left a ent beg cls (onTurn (w .volume) q (shortAct short b))) → Turns (onTurn (w .volume) q (shortAct short b))
+    on-act : (b : Act) → a ≡ b → (z : Turned (w .env) st line left a ent beg cls (onTurn (w .volume) q (shortAct short b))) → Says (onTurn (w .volume) q (shortAct short b))
     on-act stay e z = (z .0, to-state st (z .1))
     on-act (entry j v) e z = (z .0, z .1, refl, to-then (ent j (z .0)) (z .2))
     on-act (begin i j v) e z = (z .0, z .1, refl, to-then (beg i j (z .0)) (z .2))
     on-act shut e z = go short z
       where
-        go : (s : Bool) → Turned (w .env) st line left a ent beg cls (onTurn (w .volume) q (cond s (refuse 8) shut)) → Turns (onTurn (w .volume) q (cond s (refuse 8) shut))
+        go : (s : Bool) → Turned (w .env) st line left a ent beg cls (onTurn (w .volume) q (cond s (refuse 8) shut)) → Says (onTurn (w .volume) q (cond s (refuse 8) shut))
         go true z = whole ∙ z
         go false z = (z .0, refl, to-then (cls tt) (z .1))
     on-act (refuse k) e z = whole ∙ z
 
-  pub turns : Block (w .env) st line short a ent beg cls → Turns r
+  pub turns : Block (w .env) st line short a ent beg cls → Says r
   turns b = go (isNil (m .others)) refl
     where
       z : Turned (w .env) st line left a ent beg cls r
       z = turned (w .env) st line left (w .volume) q refl (omega arith) short ent beg cls a (isNil (m .others)) b refl r (m .answer)
 
-      go : (t : Bool) → isNil (m .others) ≡ t → Turns r
+      go : (t : Bool) → isNil (m .others) ≡ t → Says r
       go true h =
           let e = m .answer ∙ ap (λ (t : Bool). turnOf (w .volume) q t (shortAct short a)) h in
-          subst Turns (sym e) (whole ∙ subst (Turned (w .env) st line left a ent beg cls) e z)
+          subst Says (sym e) (whole ∙ subst (Turned (w .env) st line left a ent beg cls) e z)
       go false h =
           let e = m .answer ∙ ap (λ (t : Bool). turnOf (w .volume) q t (shortAct short a)) h in
-          subst Turns (sym e) (on-act h a refl (subst (Turned (w .env) st line left a ent beg cls) e z))
+          subst Says (sym e) (on-act h a refl (subst (Turned (w .env) st line left a ent beg cls) e z))

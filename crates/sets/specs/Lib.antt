@@ -5,3 +5,4 @@ pub mod SkippedLines
 pub mod Classes
 pub mod Reach
 pub mod Texts
+pub mod Records

@@ -20,6 +20,7 @@ ghost use Rattle.sets.specs.declared.Turn.the-variants as T;
 ghost use Rattle.sets.specs.Turns.{stopAt, shortNext, earlyNext, onNext, turnedOf};
 ghost use Rattle.sets.specs.SkippedLines.{Low};
 ghost use Rattle.sets.specs.Reach.{TurnPromise};
+ghost use Rattle.sets.specs.Records.{roomless, TurnAtPromise};
 
 // A block that may not close yet: something required is missing.
 fn too_few(short: bool, next: Next) -> Next
@@ -119,4 +120,73 @@ pub(crate) fn turn(
         line: p.line + 1,
     };
     turned(v, q, seen.last, too_few(short, next))
+}
+
+// The record that a line takes doesn't fit the table: 19.
+fn no_room(v: Volume, r: Turn) -> Turn
+    ensures { λ t. ⌜ t ≡ roomless v r ⌝ }
+{
+    match r {
+        Turn::Stay(q) => Turn::Stay(q),
+        Turn::Entry(x) => {
+            let q = x.pos;
+            stopped(v, q, 19)
+        }
+        Turn::Begin(x) => {
+            let q = x.pos;
+            stopped(v, q, 19)
+        }
+        Turn::Shut(q) => Turn::Shut(q),
+        Turn::Stop(f) => Turn::Stop(f),
+    }
+}
+
+// The same for a block whose lines take a record each: the next 32 numbers of the table are lent to the line.
+pub(crate) fn turn_at(
+    table: u8,
+    s: &[u8],
+    symbols: &[u32],
+    layers: &[u32],
+    v: Volume,
+    p: Pos,
+    d: Digits,
+    full: &[bool],
+    short: bool,
+    w: usize,
+    t: &mut [i64],
+) -> Turn
+    requires { ⌜ (length (now s) ≤ 61440) × (length (now symbols) ≤ 65536) × (length (now layers) ≤ 65536) × (length (now full) ≡ length (tableOf table)) × (all (roomy 0 32) (tableOf table) ≡ true) × Low p × (w ≤ length (now t)) ⌝ }
+    ensures { λ r. ⌜ TurnAtPromise (now (s .entry)) (now (symbols .entry)) (now (layers .entry)) v p table d (now (full .entry)) short w (now (t .entry)) (now (t .exit)) r ⌝ }
+{
+    if t.len() - w < 32 {
+        let mut apart = [0i64; 32];
+        let judged = turn(
+            table,
+            s,
+            symbols,
+            layers,
+            v,
+            p,
+            d,
+            full,
+            short,
+            0,
+            &mut apart,
+        );
+        return no_room(v, judged);
+    }
+    let to = w + 32;
+    turn(
+        table,
+        s,
+        symbols,
+        layers,
+        v,
+        p,
+        d,
+        full,
+        short,
+        0,
+        &mut t[w..to],
+    )
 }
