@@ -1,9 +1,9 @@
 // What one line does in a block of a table.
 use crate::Next;
 use crate::Rest;
-use crate::lines::act_row;
-use crate::lines::reaches;
 use crate::names::part;
+use crate::row_lines::act_row;
+use crate::row_lines::reaches;
 use crate::shapes::shape_for;
 use crate::shapes::sort_of;
 use rules::Digits;

@@ -1,9 +1,9 @@
 // What one line enters into its block and its record.
 pub mod acts;
 mod contents;
-pub mod lines;
 pub mod names;
 mod parts;
+pub mod row_lines;
 pub mod shapes;
 mod values;
 

@@ -40,7 +40,7 @@ sets-high [] l i j a h = refl
 sets-high (b ∷ vs) l i j a h = sets-high vs (set l j b) i (suc j) a (omega arith) ∙ ap (λ (u : List ℤ). sets u (suc j) vs) (sym (set-low l j i b a (omega arith)))
 
 -- two runs, the first of them before the second
-runs-low : (ws vs l : List ℤ) (i j : ℕ) → i + length ws ≤ j → sets (sets l j vs) i ws ≡ sets (sets l i ws) j vs
+pub runs-low : (ws vs l : List ℤ) (i j : ℕ) → i + length ws ≤ j → sets (sets l j vs) i ws ≡ sets (sets l i ws) j vs
 runs-low [] vs l i j h = refl
 runs-low (a ∷ ws) vs l i j h = ap (λ (u : List ℤ). sets u (suc i) ws) (sets-low vs l i j a (omega arith)) ∙ runs-low ws vs (set l i a) (suc i) j (omega arith)
 
@@ -137,7 +137,7 @@ numbers-first (suc p) d (z ∷ zs) l e =
     ∙ ap (λ (u : List ℤ). sets l (suc p) u) (sym (ap (λ (n : ℕ). padded n (z ∷ zs)) (sym h) ∙ padded-full (z ∷ zs)))
 
 -- a slot that was empty
-first-put : (r : Rule) (v : Value) (l : List ℤ) → fills (r .holds) (numbers v) ≡ true → clearRow r ≡ true → putValue r v (putSlot r none l) ≡ putSlot r (some v) l
+pub first-put : (r : Rule) (v : Value) (l : List ℤ) → fills (r .holds) (numbers v) ≡ true → clearRow r ≡ true → putValue r v (putSlot r none l) ≡ putSlot r (some v) l
 first-put r v l f c =
     let p = r .place in
     let q = r .state in

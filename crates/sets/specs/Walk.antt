@@ -10,6 +10,7 @@ use Rattle.rules.specs.Spool.{mostBytes}
 use Rattle.rules.specs.Lines.{formOf, formIn}
 use Rattle.rules.specs.Machine.{Line}
 use Rattle.rules.specs.Answers.{numbered}
+use Rattle.rules.specs.declared.Refusal.{Refusal}
 use Rattle.rules.specs.declared.LineForm.the-variants as L
 use Rattle.lines.specs.LineLook.{lookIn, linesIn}
 use Rattle.lines.specs.declared.Seen.{Seen}
@@ -54,3 +55,7 @@ pub record Next (s : List ℕ) (v : Volume) (p : Pos) (ls : List (List ℕ)) (f 
   pub next : f .next ≡ p .at + length line + 2
   pub last : f .last ≡ isNil others
   pub at : At s v (behind p line) others
+
+-- the refusal of the line behind which q stands
+abbrev pub stopAt : Volume → Pos → ℕ → Refusal
+stopAt v q n = record { number = n; volume = v .number; line = q .line }

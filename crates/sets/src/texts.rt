@@ -1,17 +1,20 @@
 // A figure's text.
-use crate::Left;
-use crate::Pos;
-use crate::Turn;
-use crate::Volume;
-use crate::turns::turn;
-use rules::Digits;
-use rules::Refusal;
+use crate::Now;
+use crate::Step;
+use crate::blocks::figure_done;
+use crate::blocks::no_digits;
+use entries::Next;
+use entries::acts::act;
+use rules::LineForm;
 ghost use mathlib.Core.Path.{_≡_};
-ghost use Prim.Native.Nat.{_≤_};
+ghost use Prim.Native.Nat.{_≤_, _<_};
 ghost use lib.ListN.{length};
+ghost use Rattle.rules.specs.Lines.{formIn};
+ghost use Rattle.rules.specs.RangeClass.{digits};
+ghost use Rattle.rules.specs.Rows.{act};
 ghost use Rattle.tables.specs.Tables.{tableOf};
-ghost use Rattle.sets.specs.SkippedLines.{Low};
-ghost use Rattle.sets.specs.Texts.{textTableOf, TextPromise};
+ghost use Rattle.entries.specs.Names.{knownIn};
+ghost use Rattle.sets.specs.TextLines.{textTableOf, TextLine};
 
 // The table of a text's rows, in a layer or in a symbol.
 fn text_table(in_layer: bool) -> u8
@@ -23,59 +26,38 @@ fn text_table(in_layer: bool) -> u8
     17
 }
 
-// From just inside a text to just past its `}`, its numbers in the lent record.
-pub(crate) fn text_block(
+// A line in a text: its record is the last one taken.
+pub(crate) fn on_text(
     s: &[u8],
     symbols: &[u32],
     layers: &[u32],
-    v: Volume,
-    p: Pos,
-    in_layer: bool,
+    here: Now,
+    form: LineForm,
+    marks: &mut [bool],
     rec: &mut [i64],
-) -> Left
-    requires { ⌜ (length (now s) ≤ 61440) × (length (now symbols) ≤ 65536) × (length (now layers) ≤ 65536) × (length (now rec) ≡ 32) × Low p ⌝ }
-    ensures { λ r. ⌜ TextPromise (now (s .entry)) (now (symbols .entry)) (now (layers .entry)) v in_layer p (now (rec .entry)) (now (rec .exit)) r ⌝ }
+) -> Step
+    requires { ⌜ (length (now s) ≤ 61440) × (length (now symbols) ≤ 65536) × (length (now layers) ≤ 65536) × (here .figures < 4294967295) × (length (now marks) ≡ 2) × (length (now rec) ≡ 32) ⌝ }
+    ensures { λ r. ⌜ TextLine (act (knownIn (now (s .entry)) (now (symbols .entry)) (now (layers .entry))) (tableOf (textTableOf (here .layered))) (digits 0 0) (now (marks .entry)) (formIn (now (s .entry)) form)) here (now (marks .entry)) (now (marks .exit)) (now (rec .entry)) (now (rec .exit)) r ⌝ }
 {
-    let table = text_table(in_layer);
-    let mut marks = [false; 2];
-    let mut at = p;
-    loop {
-        let none = Digits { middle: 0, last: 0 };
-        let t = turn(
-            table,
-            s,
-            symbols,
-            layers,
-            v,
-            at,
-            none,
-            &marks,
-            false,
-            0,
-            rec,
-        );
-        match t {
-            Turn::Stay(q) => {
-                at = q;
-            }
-            Turn::Entry(x) => {
-                at = x.pos;
-                marks[x.row as usize] = true;
-            }
-            Turn::Begin(x) => {
-                let q = x.pos;
-                return Left::Stop(Refusal {
-                    number: 5,
-                    volume: v.number,
-                    line: q.line,
-                });
-            }
-            Turn::Shut(q) => {
-                return Left::Go(q);
-            }
-            Turn::Stop(f) => {
-                return Left::Stop(f);
-            }
+    let next = act(
+        text_table(here.layered),
+        s,
+        symbols,
+        layers,
+        no_digits(),
+        marks,
+        form,
+        0,
+        rec,
+    );
+    match next {
+        Next::Stay => Step::Go(here),
+        Next::Entry(row) => {
+            marks[row as usize] = true;
+            Step::Go(here)
         }
+        Next::Begin(_) => Step::Stop(5),
+        Next::Shut => Step::Go(figure_done(here)),
+        Next::Refuse(n) => Step::Stop(n),
     }
 }

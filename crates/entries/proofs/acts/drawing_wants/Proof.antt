@@ -6,7 +6,7 @@ use Rattle.entries.proofs.acts.drawing_wants.Statement.{statement}
 use Rattle.entries.proofs.acts.drawing_wants.Tie as tie
 use Rattle.entries.proofs.acts.drawing_wants.Reads as reads
 use Rattle.entries.proofs.acts.drawing_wants.Lts as lts
-use Rattle.entries.proofs.lines.reaches.Reads as reaches-reads
+use Rattle.entries.proofs.row_lines.reaches.Reads as reaches-reads
 
 -- src/acts.rt:33:9
 reaches-requires : tie.Need-reaches-requires

@@ -1,0 +1,32 @@
+use borrow.Author.Needs.{needs}
+use Rattle.entries.proofs.row_lines.act_row.Statement.{statement}
+use Rattle.entries.proofs.row_lines.act_row.Tie as tie
+use Rattle.entries.proofs.row_lines.act_row.Reads as reads
+use Rattle.entries.proofs.row_lines.act_row.Lts as lts
+use Rattle.entries.proofs.row_lines.act_shape.Reads as act-shape-reads
+use Rattle.entries.proofs.shapes.is_free.Reads as is-free-reads
+use Rattle.entries.proofs.shapes.shape_for.Reads as shape-for-reads
+
+-- src/row_lines.rt:165:22
+is-free-requires : tie.Need-is-free-requires
+is-free-requires c κs = search needs
+
+-- src/row_lines.rt:165:9
+shape-for-requires : tie.Need-shape-for-requires
+shape-for-requires c κs = search needs
+
+-- src/row_lines.rt:158:5
+act-shape-requires : tie.Need-act-shape-requires
+act-shape-requires c κs = search needs
+
+-- src/row_lines.rt:154:1
+same-length : tie.Need-same-length
+same-length c = search needs
+
+-- src/row_lines.rt:154:1
+returns : tie.Need-returns
+returns c = rw (c .before .before .before .shape-for .ensures, c .before .before .before .before .is-free .ensures) at (c .before .act-shape .ensures)
+
+pub act-row-spec : {M : Type 1} → statement M
+act-row-spec =
+    tie.close (tie.spec is-free-requires shape-for-requires act-shape-requires same-length returns)

@@ -1,0 +1,35 @@
+use mir.Facts.{toZ-ofZ}
+use mir.Syntax.{w64}
+use mir.Val.{SFits}
+use Rattle.entries.proofs.LineActs.{state-some}
+use borrow.Author.Needs.{needs}
+use Rattle.entries.proofs.row_lines.put_state.Statement.{statement}
+use Rattle.entries.proofs.row_lines.put_state.Tie as tie
+use Rattle.entries.proofs.row_lines.put_state.Reads as reads
+use Rattle.entries.proofs.row_lines.put_state.Lts as lts
+
+-- src/row_lines.rt:48:9
+returns : tie.Need-returns
+returns c = search needs
+
+-- src/row_lines.rt:50:5
+mul-z : tie.Need-mul-z
+mul-z c = search needs
+
+-- src/row_lines.rt:50:5
+slice-set-from-z : tie.Need-slice-set-from-z
+slice-set-from-z c = search needs
+
+-- src/row_lines.rt:43:1
+same-length : tie.Need-same-length
+same-length c = search needs
+
+-- src/row_lines.rt:43:1
+returns-2 : tie.Need-returns-2
+returns-2 c =
+    let a = c .before .args in
+    let g : SFits w64 (a .z) = search needs in
+    rw (toZ-ofZ g) (state-some (a .place) (a .z) (a .rec .now) (c .if1 .left))
+
+pub put-state-spec : {M : Type 1} → statement M
+put-state-spec = tie.close (tie.spec returns mul-z slice-set-from-z same-length returns-2)

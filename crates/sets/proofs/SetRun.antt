@@ -1,0 +1,295 @@
+-- The volumes of a set read one after the other: how far the reading has come, and what one more volume makes of it.
+use Prim.Native.Nat.{ℕ, zero, suc, _+_, _-_, _*_, _/_, _≤_, _<_}
+use mathlib.Core.Bool.{Bool}
+use mathlib.Core.List.{List, [], _∷_, _++_}
+use mathlib.Core.Option.{Option, none, some}
+use mathlib.Core.Path.{_≡_, refl, sym, _∙_, ap, subst}
+use native.Mathlib.Omega.{arith}
+use lib.ListN.{length, getD, drop, length-drop}
+use lib.Seq.{drop-drop}
+use borrow.Author.Tests.{lt-ltb, le-ltb}
+use Rattle.rules.specs.declared.Digits.{Digits}
+use Rattle.rules.specs.declared.Refusal.{Refusal}
+use Rattle.rules.specs.Base.{isNil}
+use Rattle.rules.specs.Spool as P
+use Rattle.rules.specs.Spool.{volumesOf}
+use Rattle.rules.specs.Sets.{Set, nothingYet}
+use Rattle.rules.specs.Machine.{Line, Env, top, ended, refused, accepted, run}
+use Rattle.rules.specs.RecordTable.{recordsFrom, recordsOf, tableOf}
+use Rattle.rules.specs.Answers.{nextName, linesOfVolume, outcomeOfLines, outcomeOfVolumes, outcomeOf}
+use Rattle.lines.specs.VolumePlaces.{noLayout, layoutOf}
+use Rattle.lines.specs.VolumeNames.{nameAt}
+use Rattle.lines.specs.LineEnds.{firstUnsound}
+use Rattle.lines.specs.LineLook.{linesIn}
+use Rattle.lines.specs.declared.Layout.{Layout}
+use Rattle.lines.proofs.VolumePlaces.{volumes-laid}
+use Rattle.lines.proofs.VolumesSeen.{VolumeIn, volume-in, volume-lines, AllLined, linesOver, lined-listed, sound-volumes, unsound-volume}
+use Rattle.sets.specs.declared.Now.{Now}
+use Rattle.sets.specs.declared.Volume.{Volume}
+use Rattle.sets.specs.declared.reader.Through.{Through}
+use Rattle.sets.specs.declared.reader.Through.the-variants as T
+use Rattle.sets.specs.Walk.{At}
+use Rattle.sets.specs.Standing.{Desk, deskNow, Under}
+use Rattle.sets.specs.FileStanding.{InFile}
+use Rattle.sets.specs.Reading.{Standing, startOf, nextNumber, nextState, VolumeReady, VolumeOut, VolumePromise}
+use Rattle.sets.specs.SetReading.{envOf, nameBehind}
+use Rattle.sets.proofs.LaidTables.{laid-table}
+use Rattle.sets.proofs.VolumeRun.{stands-later}
+use Rattle.sets.proofs.SetRunTaken.{few-taken}
+use Rattle.sets.proofs.SetRunVolumes.{Grown, volumes-grow, next-nil, over-few}
+use Rattle.sets.proofs.SetRunStart.{Begins, begin-stands}
+
+-- ── the outcome, by what the volumes say ──
+outcome-is : (e : Env) (spool : List ℕ) → outcomeOf e spool ≡ outcomeOfVolumes e (volumesOf spool)
+unfolding outcomeOf
+outcome-is e spool = refl
+
+count-none : layoutOf none .count ≡ 0
+unfolding layoutOf noLayout
+count-none = refl
+
+outcome-none : (e : Env) (spool : List ℕ) (l : Layout) → l ≡ layoutOf (volumesOf spool) → l .count ≡ 0 → outcomeOf e spool ≡ refused 2 0 0
+outcome-none e spool l q h = outcome-is e spool ∙ go (volumesOf spool) refl
+  where
+    go : (o : Option (List P.Volume)) → volumesOf spool ≡ o → outcomeOfVolumes e (volumesOf spool) ≡ refused 2 0 0
+    go none z = ap (outcomeOfVolumes e) z
+    go (some vs) z = absurd (let y = volumes-laid spool vs z in omega (arith, h, ap (λ (x : Layout). x .count) q, y .count, y .some-volume))
+
+pub some-volumes : (spool : List ℕ) (l : Layout) → l ≡ layoutOf (volumesOf spool) → (l .count ≡ 0 → ⊥) → (vs : List P.Volume) × (volumesOf spool ≡ some vs)
+some-volumes spool l q h = go (volumesOf spool) refl
+  where
+    go : (o : Option (List P.Volume)) → volumesOf spool ≡ o → (vs : List P.Volume) × (volumesOf spool ≡ some vs)
+    go none z = absurd (h (ap (λ (x : Layout). x .count) q ∙ ap (λ (o : Option (List P.Volume)). layoutOf o .count) z ∙ count-none))
+    go (some vs) z = (vs, z)
+
+outcome-unsound : (e : Env) (spool : List ℕ) (vs : List P.Volume) → volumesOf spool ≡ some vs → (n : ℕ) → firstUnsound spool (layoutOf (volumesOf spool)) ≡ suc n → outcomeOf e spool ≡ refused 3 (suc n) 0
+outcome-unsound e spool vs z n h = outcome-is e spool ∙ ap (outcomeOfVolumes e) z ∙ ap (outcomeOfLines e) (unsound-volume spool vs z n h)
+
+outcome-lined : (e : Env) (spool : List ℕ) (vs : List P.Volume) → volumesOf spool ≡ some vs → (h : AllLined vs) → outcomeOf e spool ≡ run e (top nothingYet 0) (linesOver 1 vs h)
+outcome-lined e spool vs z h = outcome-is e spool ∙ ap (outcomeOfVolumes e) z ∙ ap (outcomeOfLines e) (lined-listed 1 vs h)
+
+module _ (c : Digits) (spool : List ℕ) (len : ℕ) (l : Layout) where
+  abbrev e : Env
+  e = envOf c len
+
+  -- before the volume with number i + 1, or behind the last
+  pub record Came (i : ℕ) (d : Desk) : Type 0 where
+    pub laid : l ≡ layoutOf (volumesOf spool)
+    pub all : List P.Volume
+    pub are : volumesOf spool ≡ some all
+    pub lined : AllLined all
+    pub long : length (d .table) ≡ len
+    pub left : List P.Volume
+    pub drops : drop i all ≡ left
+    pub lines : AllLined left
+    pub set : Set
+    pub at : ℕ
+    pub grown : Grown at left
+    pub stands : Standing c spool (nextNumber (isNil left) i) d at (nextState (isNil left) set)
+    pub eq : run e (top nothingYet 0) (linesOver 1 all lined) ≡ run e (nextState (isNil left) set) (linesOver (i + 1) left lines)
+
+  pub came-none : l ≡ layoutOf (volumesOf spool) → l .count ≡ 0 → outcomeOf e spool ≡ refused 2 0 0
+  came-none q h = outcome-none e spool l q h
+
+  pub came-unsound : l ≡ layoutOf (volumesOf spool) → (l .count ≡ 0 → ⊥) → (n : ℕ) → n ≡ firstUnsound spool l → (n ≡ 0 → ⊥) → outcomeOf e spool ≡ refused 3 n 0
+  came-unsound q h zero w g = absurd (g refl)
+  came-unsound q h (suc n) w g = let (vs, z) = some-volumes spool l q h in outcome-unsound e spool vs z n (ap (firstUnsound spool) (sym q) ∙ sym w)
+
+  pub came-first : l ≡ layoutOf (volumesOf spool) → (l .count ≡ 0 → ⊥) → firstUnsound spool l ≡ 0 → (d : Desk) → length (d .table) ≡ len → Begins d → Came 0 d
+  came-first q h w d t b =
+      let (vs, z) = some-volumes spool l q h in
+      let n = sound-volumes spool vs z (ap (firstUnsound spool) (sym q) ∙ w) in
+      go vs z n
+    where
+      go : (vs : List P.Volume) → volumesOf spool ≡ some vs → AllLined vs → Came 0 d
+      go [] z n = absurd (let y = volumes-laid spool [] z in omega (arith, y .some-volume))
+      go (v ∷ us) z n = record {
+        laid = q;
+        all = v ∷ us;
+        are = z;
+        lined = n;
+        long = t;
+        left = v ∷ us;
+        drops = refl;
+        lines = n;
+        set = nothingYet;
+        at = 0;
+        grown = volumes-grow spool (v ∷ us) z;
+        stands = begin-stands c spool d (InFile spool 1 d) 0 b;
+        eq = refl;
+      }
+
+  module _ (i : ℕ) (d : Desk) (w : Came i d) where
+    count-is : l .count ≡ length (w .all)
+    count-is = ap (λ (x : Layout). x .count) (w .laid) ∙ volumes-laid spool (w .all) (w .are) .count
+
+    pub count-few : l .count ≤ 12
+    count-few = omega (arith, count-is, volumes-laid spool (w .all) (w .are) .few)
+
+    pub tally-long : length (d .tally) ≡ 12
+    tally-long = ap length (w .stands .tally)
+
+    left-long : length (w .left) ≡ l .count - i
+    left-long = sym (ap length (w .drops)) ∙ length-drop i (w .all) ∙ ap (λ (n : ℕ). n - i) (sym count-is)
+
+    -- ── one more volume ──
+    module _ (h : i < l .count) where
+      -- its place, its end, and the name of the one behind it
+      abbrev start : ℕ
+      start = getD (l .places) i 0
+
+      abbrev end : ℕ
+      end = getD (l .places) i 0 + getD (l .lengths) i 0
+
+      abbrev vol : Volume
+      vol = record { number = i + 1; end = end }
+
+      pub record Here : Type 0 where
+        pub one : P.Volume
+        pub more : List P.Volume
+        pub drops : drop i (w .all) ≡ one ∷ more
+        pub lines : AllLined (one ∷ more)
+        pub grown : Grown (w .at) (one ∷ more)
+        pub stands : Standing c spool (i + 1) d (w .at) (top (w .set) 0)
+        pub eq : run e (top nothingYet 0) (linesOver 1 (w .all) (w .lined)) ≡ run e (top (w .set) 0) (linesOver (i + 1) (one ∷ more) lines)
+        pub held : VolumeIn spool l i one
+
+      pub here : Here
+      here = go (w .left) (w .drops) (w .lines) (w .grown) (w .stands) (w .eq)
+        where
+          go : (us : List P.Volume) → drop i (w .all) ≡ us → (y : AllLined us) → Grown (w .at) us → Standing c spool (nextNumber (isNil us) i) d (w .at) (nextState (isNil us) (w .set))
+              → run e (top nothingYet 0) (linesOver 1 (w .all) (w .lined)) ≡ run e (nextState (isNil us) (w .set)) (linesOver (i + 1) us y) → Here
+          go [] z y g s q = absurd (omega (arith, length-drop i (w .all), ap length z, count-is, h))
+          go (v ∷ us) z y g s q = record {
+            one = v;
+            more = us;
+            drops = z;
+            lines = y;
+            grown = g;
+            stands = s;
+            eq = q;
+            held = subst (λ (x : Layout). VolumeIn spool x i v) (sym (w .laid)) (volume-in spool (w .all) (w .are) i v us z);
+          }
+
+      pub end-few : end ≤ 61440
+      end-few = let y = here .held in omega (arith, y .place, y .size, y .high, volumes-laid spool (w .all) (w .are) .spool)
+
+      more-long : suc (length (here .more)) ≡ l .count - i
+      more-long = sym (ap length (here .drops)) ∙ length-drop i (w .all) ∙ ap (λ (n : ℕ). n - i) (sym count-is)
+
+      more-drops : drop (i + 1) (w .all) ≡ here .more
+      more-drops = sym (drop-drop 1 i (w .all)) ∙ ap (drop 1) (here .drops)
+
+      -- the name behind is that of the next volume, and nothing behind the last
+      pub behind-is : nameBehind spool (l .places) (l .count) i ≡ nextName (here .more)
+      behind-is = go (here .more) refl
+        where
+          go : (us : List P.Volume) → here .more ≡ us → nameBehind spool (l .places) (l .count) i ≡ nextName us
+          go [] z = rw (le-ltb (i + 1) (l .count) (omega (arith, more-long, ap length z)))
+          go (v ∷ us) z =
+              let y : VolumeIn spool l (i + 1) v = subst (λ (x : Layout). VolumeIn spool x (i + 1) v) (sym (w .laid)) (volume-in spool (w .all) (w .are) (i + 1) v us (more-drops ∙ z)) in
+              rw (lt-ltb (i + 1) (l .count) (y .counted)) (ap (nameAt spool) (y .place) ∙ y .name)
+
+      at-start : At spool vol (startOf start) (here .lines .0 .lines)
+      at-start =
+          let y = here .held in
+          let b = volumes-laid spool (w .all) (w .are) .spool in
+          let z = volume-lines spool (w .all) (w .are) i (here .one) (here .more) (here .drops) (here .lines .0 .lines) (here .lines .0 .are) in
+          record {
+            short = b;
+            inside = omega (arith, y .place, y .size, y .high);
+            here = omega arith;
+            lines = ap (λ (n : ℕ). linesIn spool n (n + getD (l .lengths) i 0)) (y .place) ∙ ap (λ (n : ℕ). linesIn spool (here .one .place) (here .one .place + n)) (y .size) ∙ z;
+            low = omega arith;
+          }
+
+      stands-here : Standing c spool (i + 1) d start (top (w .set) 0)
+      stands-here = stands-later c spool (i + 1) d (InFile spool (i + 1) d) (w .at) start (top (w .set) 0) (omega (arith, here .held .place, here .grown .0)) (here .stands)
+
+      pub volume-ready : VolumeReady c spool vol start d
+      volume-ready = record { set = w .set; lines = here .lines .0 .lines; at = at-start; stands = stands-here }
+
+      under : Under c d e
+      under = record { class = refl; limit = ap (λ (n : ℕ). some (n / 32)) (sym (w .long)) }
+
+      -- the run, with this volume's lines in front
+      abbrev more-lines : List Line
+      more-lines = linesOver (suc (i + 1)) (here .more) (here .lines .1)
+
+      run-here : run e (top nothingYet 0) (linesOver 1 (w .all) (w .lined)) ≡ run e (top (w .set) 0) (linesOfVolume (i + 1) (nextName (here .more)) start (here .lines .0 .lines) ++ more-lines)
+      run-here =
+          here .eq ∙ ap (λ (n : ℕ). run e (top (w .set) 0) (linesOfVolume (i + 1) (nextName (here .more)) n (here .lines .0 .lines) ++ more-lines)) (sym (here .held .place))
+
+      module _ (following : List ℕ) (f : following ≡ nameBehind spool (l .places) (l .count) i) (d₁ : Desk) (r : Through) (promise : VolumePromise c spool vol start following d d₁ r) where
+        out : VolumeOut c spool vol (isNil (nextName (here .more))) e (top (w .set) 0) (linesOfVolume (i + 1) (nextName (here .more)) start (here .lines .0 .lines)) more-lines d₁ r
+        out =
+            subst (λ (x : List ℕ). VolumeOut c spool vol (isNil x) e (top (w .set) 0) (linesOfVolume (i + 1) x start (here .lines .0 .lines)) more-lines d₁ r) (f ∙ behind-is)
+            (promise e (w .set) (here .lines .0 .lines) more-lines under at-start stands-here)
+
+        pub stops : (x : Refusal) → r ≡ T.Stop x → outcomeOf e spool ≡ refused (x .number) (x .volume) (x .line)
+        stops x q =
+            outcome-lined e spool (w .all) (w .are) (w .lined) ∙ run-here
+            ∙ subst (VolumeOut c spool vol (isNil (nextName (here .more))) e (top (w .set) 0) (linesOfVolume (i + 1) (nextName (here .more)) start (here .lines .0 .lines)) more-lines d₁) q out
+
+        pub goes : (n : Now) → r ≡ T.Go n → length (d₁ .table) ≡ length (d .table) → Came (i + 1) (deskNow d₁ n)
+        goes n q t =
+            let (s, x, z) = subst (VolumeOut c spool vol (isNil (nextName (here .more))) e (top (w .set) 0) (linesOfVolume (i + 1) (nextName (here .more)) start (here .lines .0 .lines)) more-lines d₁) q out in
+            let last : isNil (nextName (here .more)) ≡ isNil (here .more) = next-nil (here .one .place + length (here .one .body)) (here .more) (here .grown .2) in
+            let k : suc (i + 1) ≡ i + 1 + 1 = omega arith in
+            let y = here .held in
+            let at-end : here .one .place + length (here .one .body) ≡ end = omega (arith, y .place, y .size) in
+            record {
+              laid = w .laid;
+              all = w .all;
+              are = w .are;
+              lined = w .lined;
+              long = t ∙ w .long;
+              left = here .more;
+              drops = more-drops;
+              lines = here .lines .1;
+              set = s;
+              at = end;
+              grown = subst (λ (m : ℕ). Grown m (here .more)) at-end (here .grown .2);
+              stands = subst (λ (b : Bool). Standing c spool (nextNumber b (i + 1)) (deskNow d₁ n) end (nextState b s)) last z;
+              eq =
+                  run-here ∙ x ∙ ap (λ (b : Bool). run e (nextState b s) more-lines) last
+                  ∙ ap (λ (m : ℕ). run e (nextState (isNil (here .more)) s) (linesOver m (here .more) (here .lines .1))) k;
+            }
+
+    -- ── behind the last ──
+    module _ (h : l .count ≤ i) where
+      none-left : w .left ≡ []
+      none-left = go (w .left) refl
+        where
+          go : (us : List P.Volume) → w .left ≡ us → w .left ≡ []
+          go [] z = z
+          go (v ∷ us) z = absurd (omega (arith, left-long, ap length z, h))
+
+      stands-ended : Standing c spool i d (w .at) (ended (w .set))
+      stands-ended = subst (λ (us : List P.Volume). Standing c spool (nextNumber (isNil us) i) d (w .at) (nextState (isNil us) (w .set))) none-left (w .stands)
+
+      run-ended : run e (top nothingYet 0) (linesOver 1 (w .all) (w .lined)) ≡ accepted (w .set)
+      run-ended = w .eq ∙ go (w .left) none-left (w .lines)
+        where
+          go : (us : List P.Volume) → us ≡ [] → (h : AllLined us) → run e (nextState (isNil us) (w .set)) (linesOver (i + 1) us h) ≡ accepted (w .set)
+          go [] z h = refl
+          go (v ∷ us) z h = absurd (omega (arith, ap length z))
+
+      pub accepts : outcomeOf e spool ≡ accepted (w .set)
+      accepts = outcome-lined e spool (w .all) (w .are) (w .lined) ∙ run-ended
+
+      pub counts-records : d .now .free / 32 ≡ length (recordsOf c (w .set))
+      unfolding recordsOf
+      counts-records = omega (arith, stands-ended .laid .many)
+
+      pub lays-records : d .table ≡ tableOf len (recordsOf c (w .set))
+      unfolding recordsOf
+      lays-records = laid-table (d .table) (recordsFrom c (w .set) (w .set .volumes)) (d .now .free) (stands-ended .laid) ∙ ap (λ (n : ℕ). tableOf n (recordsFrom c (w .set) (w .set .volumes))) (w .long)
+
+      -- each line takes two records at most
+      pub few-records : d .now .free / 32 < 4294967296
+      few-records =
+          let y = volumes-laid spool (w .all) (w .are) in
+          let a : w .set .taken ≤ 2 * length (linesOver 1 (w .all) (w .lined)) = few-taken e (linesOver 1 (w .all) (w .lined)) (w .set) run-ended in
+          let b : length (linesOver 1 (w .all) (w .lined)) ≤ 61441 * length (w .all) = over-few spool 1 (w .all) (w .lined) (y .placed) (y .spool) in
+          omega (arith, a, b, y .few, stands-ended .taken)

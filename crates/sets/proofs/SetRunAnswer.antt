@@ -1,0 +1,86 @@
+-- The reader's answer and the table on return, by the class and by what the reading of the set comes to.
+use Prim.Native.Nat.{ℕ, _/_}
+use mathlib.Core.List.{List, []}
+use mathlib.Core.Option.{Option, none, some}
+use mathlib.Core.Path.{_≡_, refl, sym, _∙_, ap}
+use native.Mathlib.Omega.{arith}
+use lib.IntN.{ℤ, pos}
+use lib.ListN.{length, replicate, length-replicate}
+use Rattle.rules.specs.declared.Digits.{Digits}
+use Rattle.rules.specs.declared.Refusal.{Refusal}
+use Rattle.rules.specs.declared.Answer.{Answer}
+use Rattle.rules.specs.declared.Answer.the-variants as A
+use Rattle.rules.specs.RangeClass.{classOf}
+use Rattle.rules.specs.Machine.{refused, accepted}
+use Rattle.rules.specs.RecordTable.{recordsOf, tableOf, width}
+use Rattle.rules.specs.Answers.{outcomeOf, outcomeAt, digitsOr, recordsIn, answerWith, refusal, readOutcome, readRecords, readAnswer, readTable}
+use Rattle.sets.specs.declared.Class.the-variants as C
+use Rattle.sets.specs.Classes.{classIn}
+use Rattle.sets.specs.SetReading.{envOf, SetOut}
+use Rattle.sets.proofs.LaidTables.{laid-table, laid-none}
+
+-- a table without records
+pub table-none : (n : ℕ) → tableOf n [] ≡ replicate n (pos 0)
+table-none n = ap (λ (m : ℕ). tableOf m []) (sym (length-replicate n (pos 0))) ∙ sym (laid-table (replicate n (pos 0)) [] 0 (laid-none n))
+
+module _ (class len : ℕ) (spool : List ℕ) where
+  outcome-read : readOutcome class len spool ≡ outcomeAt (classOf class) (some (len / width)) spool
+  unfolding readOutcome
+  outcome-read = refl
+
+  records-read : readRecords class len spool ≡ recordsIn (digitsOr (classOf class)) (readOutcome class len spool)
+  unfolding readRecords
+  records-read = refl
+
+  answer-read : readAnswer class len spool ≡ answerWith (length (readRecords class len spool)) (readOutcome class len spool)
+  unfolding readAnswer
+  answer-read = refl
+
+  table-read : readTable class len spool ≡ tableOf len (readRecords class len spool)
+  unfolding readTable
+  table-read = refl
+
+  -- what is answered, and what the table holds
+  abbrev pub Reads : Answer → List ℤ → Type 0
+  Reads a t = (a ≡ readAnswer class len spool) × (t ≡ readTable class len spool)
+
+  refused-reads : (n v k : ℕ) (t : List ℤ) → readOutcome class len spool ≡ refused n v k → t ≡ replicate len (pos 0) → Reads (refusal n v k) t
+  refused-reads n v k t q h = (
+    sym (answer-read ∙ ap (answerWith (length (readRecords class len spool))) q),
+    h ∙ sym (table-none len) ∙ ap (tableOf len) (sym (records-read ∙ ap (recordsIn (digitsOr (classOf class))) q)) ∙ sym table-read,
+  )
+
+  class-none : (o : Option Digits) → C.Not ≡ classIn o → o ≡ none
+  class-none none q = refl
+  class-none (some c) q = absurd (let z : _≡_ {A = ℕ} 0 1 = cc in omega arith)
+
+  class-some : (o : Option Digits) (c : Digits) → C.Is c ≡ classIn o → o ≡ some c
+  class-some none c q = absurd (let z : _≡_ {A = ℕ} 0 1 = cc in omega arith)
+  class-some (some d) c q = let z : c ≡ d = cc in ap some (sym z)
+
+  -- no class
+  pub reads-none : (t : List ℤ) → C.Not ≡ classIn (classOf class) → t ≡ replicate len (pos 0) → Reads (refusal 1 0 0) t
+  reads-none t q h = refused-reads 1 0 0 t (outcome-read ∙ ap (λ (o : Option Digits). outcomeAt o (some (len / width)) spool) (class-none (classOf class) q)) h
+
+  module _ (c : Digits) (q : C.Is c ≡ classIn (classOf class)) where
+    outcome-class : readOutcome class len spool ≡ outcomeOf (envOf c len) spool
+    outcome-class = outcome-read ∙ ap (λ (o : Option Digits). outcomeAt o (some (len / width)) spool) (class-some (classOf class) c q)
+
+    -- t₁: the table that the set left, t: cleared
+    pub reads-refused : (f : Refusal) (t₀ t₁ t : List ℤ) → length t₀ ≡ len → length t₁ ≡ length t₀ → SetOut c spool t₀ t₁ (A.Refused f) → t ≡ replicate (length t₁) (pos 0) → Reads (A.Refused f) t
+    reads-refused f t₀ t₁ t h k z u =
+        refused-reads (f .number) (f .volume) (f .line) t (outcome-class ∙ ap (λ (n : ℕ). outcomeOf (envOf c n) spool) (sym h) ∙ z) (u ∙ ap (λ (n : ℕ). replicate n (pos 0)) (k ∙ h))
+
+    pub reads-accepted : (n : ℕ) (t₀ t : List ℤ) → length t₀ ≡ len → SetOut c spool t₀ t (A.Accepted n) → Reads (A.Accepted n) t
+    reads-accepted n t₀ t h z =
+        let (s, p, m, u) = z in
+        let o : readOutcome class len spool ≡ accepted s = outcome-class ∙ ap (λ (k : ℕ). outcomeOf (envOf c k) spool) (sym h) ∙ p in
+        let r : readRecords class len spool ≡ recordsOf c s =
+        records-read ∙ ap (recordsIn (digitsOr (classOf class))) o ∙ ap (λ (o : Option Digits). recordsOf (digitsOr o) s) (class-some (classOf class) c q) in (
+          ap A.Accepted (m ∙ ap length (sym r)) ∙ sym (answer-read ∙ ap (answerWith (length (readRecords class len spool))) o),
+          u ∙ ap (λ (k : ℕ). tableOf k (recordsOf c s)) h ∙ ap (tableOf len) (sym r) ∙ sym table-read,
+        )
+
+-- a table that was cleared is all zeros
+pub all-zeros : (t : List ℤ) (n : ℕ) → t ≡ replicate n (pos 0) → t ≡ replicate (length t) (pos 0)
+all-zeros t n h = h ∙ ap (λ (m : ℕ). replicate m (pos 0)) (sym (ap length h ∙ length-replicate n (pos 0)))

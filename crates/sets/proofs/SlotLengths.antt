@@ -1,0 +1,39 @@
+-- A record keeps its length, whatever is put into it.
+use Prim.Native.Nat.{ℕ, zero, suc}
+use mathlib.Core.Bool.{Bool}
+use mathlib.Core.List.{List, [], _∷_}
+use mathlib.Core.Option.{Option}
+use mathlib.Core.Path.{_≡_, refl, _∙_}
+use lib.IntN.{ℤ}
+use lib.ListN.{length, length-set}
+use lib.Seq.{sets, length-sets}
+use Rattle.entries.specs.Acts.{placeOf, putLine}
+use Rattle.rules.specs.Values.{Value}
+use Rattle.rules.specs.Rows.{Rule, Slots, Held, partOf}
+use Rattle.rules.specs.RecordTable.{numbers, given, numbersOf, stateOf, columns, padded, putNumbers, putState, putSlot, firstSlot, otherSlots, putSlots, putParts, putHeld}
+
+pub length-numbers : (p : ℕ) (zs t : List ℤ) → length (putNumbers p zs t) ≡ length t
+length-numbers zero zs t = refl
+length-numbers (suc p) zs t = length-sets t (suc p) zs
+
+pub length-state : (q : ℕ) (z : ℤ) (t : List ℤ) → length (putState q z t) ≡ length t
+length-state zero z t = refl
+length-state (suc q) z t = length-set t (suc q) z
+
+pub length-slot : (r : Rule) (o : Option Value) (t : List ℤ) → length (putSlot r o t) ≡ length t
+length-slot r o t =
+    length-state (r .state) (stateOf o) (putNumbers (r .place) (padded (columns (r .holds)) (numbersOf o)) t) ∙ length-numbers (r .place) (padded (columns (r .holds)) (numbersOf o)) t
+
+pub length-slots : (rs : List Rule) (s : Slots) (t : List ℤ) → length (putSlots rs s t) ≡ length t
+length-slots [] s t = refl
+length-slots (r ∷ rs) s t = length-slot r (firstSlot s) (putSlots rs (otherSlots s) t) ∙ length-slots rs (otherSlots s) t
+
+pub length-parts : (p : ℕ) (ts : List (List Rule)) (h : Held) (t : List ℤ) → length (putParts p ts h t) ≡ length t
+length-parts p [] h t = refl
+length-parts p (r ∷ rs) h t = length-slots r (partOf h p) (putParts (suc p) rs h t) ∙ length-parts (suc p) rs h t
+
+pub length-held : (ts : List (List Rule)) (h : Held) (t : List ℤ) → length (putHeld ts h t) ≡ length t
+length-held ts h t = length-parts 0 ts h t
+
+pub length-line : (r : Rule) (dump : ℕ) (v : Value) (t : List ℤ) → length (putLine r dump v t) ≡ length t
+length-line r dump v t = length-state (r .state) (given v) (sets t (placeOf (r .place) dump) (numbers v)) ∙ length-sets t (placeOf (r .place) dump) (numbers v)

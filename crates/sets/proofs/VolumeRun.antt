@@ -1,0 +1,203 @@
+-- A volume read line by line: how far the reading has come, and what one more line makes of it.
+use Prim.Native.Nat.{ℕ, zero, suc, _+_, _*_, _≤_, _<_}
+use mathlib.Core.Bool.{Bool, true, false, cond, _&&_}
+use mathlib.Core.List.{List, [], _∷_, _++_}
+use mathlib.Core.Path.{_≡_, refl, sym, _∙_, ap, subst}
+use native.Mathlib.Omega.{arith}
+use lib.ListN.{length}
+use Rattle.rules.specs.declared.Digits.{Digits}
+use Rattle.rules.specs.declared.LineForm.{LineForm}
+use Rattle.rules.specs.declared.Refusal.{Refusal}
+use Rattle.rules.specs.Base.{isNil}
+use Rattle.rules.specs.RefusalNumbers.{Got, got, bad}
+use Rattle.rules.specs.Lines.{Form, formOf, formIn}
+use Rattle.rules.specs.Rows.{Held}
+use Rattle.rules.specs.Sets.{Figure, Set}
+use Rattle.rules.specs.Machine.{Line, Env, State, top, placing, skipping, stepIn, step, completes, Outcome, refused, thenRun, run}
+use Rattle.rules.specs.Answers.{linesOfVolume}
+use Rattle.lines.specs.declared.Seen.{Seen}
+use Rattle.sets.specs.declared.Now.{Now}
+use Rattle.sets.specs.declared.Where.{Where}
+use Rattle.sets.specs.declared.Step.{Step}
+use Rattle.sets.specs.declared.Step.the-variants as S
+use Rattle.sets.specs.declared.Volume.{Volume}
+use Rattle.sets.specs.declared.Pos.{Pos}
+use Rattle.sets.specs.declared.Left.the-variants as L
+use Rattle.sets.specs.Walk.{seenFrom, At, todo, Next}
+use Rattle.sets.specs.SkippedLines.{Low, SkipMet}
+use Rattle.sets.specs.VolumeLines.{completesOf, lastStep}
+use Rattle.sets.specs.Standing.{Desk, Lengths, formSize, Inside, Stands, deskNow, Under, LineHere, StepOut}
+use Rattle.sets.specs.FileStanding.{InFile}
+use Rattle.sets.specs.Reading.{Standing, PlacedForm, LinePromise, startOf, nextNumber, nextState, VolumeReady}
+use Rattle.rules.proofs.Chains.{clash}
+use Rattle.sets.proofs.Steps.{step-on, step-refused}
+use Rattle.sets.proofs.Walked.{next-seen}
+use Rattle.sets.proofs.SeenLines.{past, seenLine, Passed, passed-line}
+use Rattle.sets.proofs.FormSizes.{form-fits}
+use Rattle.sets.proofs.FormPlaces.{line-placed}
+use Rattle.sets.proofs.VolumeStanding.{completes-of}
+use Rattle.sets.proofs.VolumeEnds.{LastOut, last-out}
+
+-- the same reading at a later place
+pub stands-later : (c : Digits) (spool : List ℕ) (k : ℕ) (d : Desk) (F : Set → ℕ → Held → ℕ → Type 0) (at to : ℕ) (st : State) → at ≤ to → Stands c spool k d F at st → Stands c spool k d F to st
+stands-later c spool k d F at to st h z = record {
+  lengths = z .lengths;
+  laid = z .laid;
+  taken = z .taken;
+  here = z .here;
+  this = z .this;
+  tally = z .tally;
+  symbols = z .symbols;
+  layers = z .layers;
+  few-layers = z .few-layers;
+  serials = z .serials;
+  used = z .used;
+  used-all = z .used-all;
+  counted = omega (arith, z .counted, h);
+  named = omega (arith, z .named, h);
+  numbered = omega (arith, z .numbered, h);
+  block = z .block;
+}
+
+-- outside FILE_FORMAT its part says nothing
+pub stands-between : (c : Digits) (spool : List ℕ) (k : ℕ) (d : Desk) (F G : Set → ℕ → Held → ℕ → Type 0) (at : ℕ) (b : Bool) (s : Set) → Stands c spool k d F at (nextState b s) → Stands c spool k d G at (nextState b s)
+stands-between c spool k d F G at b s z = record {
+  lengths = z .lengths;
+  laid = z .laid;
+  taken = z .taken;
+  here = z .here;
+  this = z .this;
+  tally = z .tally;
+  symbols = z .symbols;
+  layers = z .layers;
+  few-layers = z .few-layers;
+  serials = z .serials;
+  used = z .used;
+  used-all = z .used-all;
+  counted = z .counted;
+  named = z .named;
+  numbered = z .numbered;
+  block = same b (z .block);
+}
+  where
+    same : (b : Bool) → Inside c spool k d F (nextState b s) → Inside c spool k d G (nextState b s)
+    same true h = h
+    same false h = h
+
+module _ (c : Digits) (spool : List ℕ) (v : Volume) (following : List ℕ) where
+  abbrev k : ℕ
+  k = v .number
+
+  -- from a volume's first line to p
+  pub record Gone (e : Env) (st₀ : State) (p₀ : Pos) (lines : List (List ℕ)) (more : List Line) (p : Pos) (d : Desk) : Type 0 where
+    pub state : State
+    pub rest : List (List ℕ)
+    pub at : At spool v p rest
+    pub some : isNil rest ≡ false
+    pub stands : Standing c spool k d (p .at) state
+    pub eq : run e st₀ (todo v following p₀ lines more) ≡ run e state (todo v following p rest more)
+
+  abbrev pub whereOf : Pos → Seen → Where
+  whereOf p f = record { volume = v .number; line = p .line + 1; ends = isNil following && f .last }
+
+  -- the next line
+  module _ (e : Env) (st₀ : State) (p₀ : Pos) (lines : List (List ℕ)) (more : List Line) (p : Pos) (d : Desk) (g : Gone e st₀ p₀ lines more p d) (f : Seen) (q : f ≡ seenFrom spool v p) where
+    abbrev next-line : Line
+    next-line = seenLine spool v following p f
+
+    next-passed : Passed spool v p (g .rest) f
+    next-passed = passed-line spool v p (g .rest) f q (g .at) (g .some)
+
+    next-is : Next spool v p (g .rest) f
+    next-is = subst (λ (y : Seen). Next spool v p (g .rest) y) (sym q) (next-seen spool v p (g .rest) (g .at) (g .some))
+
+    pub line-here : LineHere spool k (p .at) (f .next) (f .form) (whereOf p f) next-line
+    line-here =
+        let y = next-is in
+        let size : formSize (formIn spool (f .form)) ≤ length (y .line) = subst (λ (x : Form). formSize x ≤ length (y .line)) (sym (y .form)) (form-fits (p .at) (y .line)) in
+        record {
+          volume = refl;
+          line = refl;
+          ends = refl;
+          is = refl;
+          bytes = omega (arith, size, y .next);
+          most = omega (arith, next-passed .at .here, next-passed .at .inside, next-passed .at .short);
+        }
+
+    pub line-formed : PlacedForm (next-line .form)
+    line-formed = line-placed spool v p (g .rest) f next-is
+
+  module _ (e : Env) (st₀ : State) (p₀ : Pos) (lines : List (List ℕ)) (more : List Line) (p : Pos) (d d₁ : Desk) (g : Gone e st₀ p₀ lines more p d) (f : Seen) (q : f ≡ seenFrom spool v p) (u : Under c d e)
+      (r : Step) (promise : LinePromise c spool k (f .form) (whereOf p f) d d₁ following r) where
+    abbrev l : Line
+    l = seenLine spool v following p f
+
+    pub passed : Passed spool v p (g .rest) f
+    passed = passed-line spool v p (g .rest) f q (g .at) (g .some)
+
+    out : StepOut c spool k (InFile spool k) e l (f .next) (g .state) d₁ r
+    out = promise e l (p .at) (f .next) (g .state) u (line-here e st₀ p₀ lines more p d g f q) refl (line-formed e st₀ p₀ lines more p d g f q) (g .stands)
+
+    pub todo-on : run e st₀ (todo v following p₀ lines more) ≡ run e (g .state) (l ∷ todo v following (past p f) (passed .others) more)
+    todo-on = g .eq ∙ ap (run e (g .state)) (passed .cons following more)
+
+    pub refused-at : (n : ℕ) → step e l (g .state) ≡ bad n → run e st₀ (todo v following p₀ lines more) ≡ refused n k (p .line + 1)
+    refused-at n h = todo-on ∙ ap (λ (y : Got State). thenRun y l (λ s. run e s (todo v following (past p f) (passed .others) more))) h
+
+    -- not the volume's last line
+    module _ (h : f .last ≡ false) where
+      pub some-left : isNil (passed .others) ≡ false
+      some-left = sym (passed .last) ∙ h
+
+      pub gone-on : (n : Now) → r ≡ S.Go n → Gone e st₀ p₀ lines more (past p f) (deskNow d₁ n)
+      gone-on n a =
+          let (st′, y, z) = subst (StepOut c spool k (InFile spool k) e l (f .next) (g .state) d₁) a out in
+          record {
+            state = st′;
+            rest = passed .others;
+            at = passed .at;
+            some = some-left;
+            stands = z;
+            eq = todo-on ∙ step-on e (g .state) l (todo v following (past p f) (passed .others) more) st′ h y;
+          }
+
+      pub stopped : (n : ℕ) → r ≡ S.Stop n → run e st₀ (todo v following p₀ lines more) ≡ refused n k (p .line + 1)
+      stopped n a =
+          todo-on
+          ∙ step-refused e (g .state) l (todo v following (past p f) (passed .others) more) n h (subst (StepOut c spool k (InFile spool k) e l (f .next) (g .state) d₁) a out)
+
+      -- a block was skipped
+      pub skipped-on : (n : Now) → r ≡ S.Skip n → (q′ : Pos) → SkipMet spool v (past p f) 4 (L.Go q′) → Gone e st₀ p₀ lines more q′ (deskNow d₁ n)
+      skipped-on n a q′ m =
+          let (s, j, fs, i, o, y, z) = subst (StepOut c spool k (InFile spool k) e l (f .next) (g .state) d₁) a out in
+          let w = m .met (passed .others) (passed .at) some-left in
+          record {
+            state = placing s j fs i o 0;
+            rest = w .rest;
+            at = w .at;
+            some = w .some-left;
+            stands = stands-later c spool k (deskNow d₁ n) (InFile spool k (deskNow d₁ n)) (f .next) (q′ .at) (placing s j fs i o 0) (omega (arith, m .further .1)) z;
+            eq = todo-on ∙ step-on e (g .state) l (todo v following (past p f) (passed .others) more) (skipping s j fs i o 1) h y ∙ w .eq e s j fs i o following more;
+          }
+
+      pub skip-stopped : (n : Now) → r ≡ S.Skip n → (x : Refusal) → SkipMet spool v (past p f) 4 (L.Stop x) → run e st₀ (todo v following p₀ lines more) ≡ refused (x .number) (x .volume) (x .line)
+      skip-stopped n a x m =
+          let (s, j, fs, i, o, y, z) = subst (StepOut c spool k (InFile spool k) e l (f .next) (g .state) d₁) a out in
+          let w = m .met (passed .others) (passed .at) some-left in
+          todo-on ∙ step-on e (g .state) l (todo v following (past p f) (passed .others) more) (skipping s j fs i o 1) h y ∙ w .eq e s j fs i o following more
+
+    -- the volume's last line
+    module _ (h : f .last ≡ true) where
+      none-left : passed .others ≡ []
+      none-left = go (passed .others) refl
+        where
+          go : (us : List (List ℕ)) → passed .others ≡ us → passed .others ≡ []
+          go [] y = y
+          go (x ∷ us) y = clash (sym (passed .last) ∙ h) (ap isNil y)
+
+      pub last : LastOut c spool k (InFile spool k) e l (f .next) (g .state) d₁ (lastStep (completesOf (d .now) (f .form) (isNil following)) r)
+      last = last-out c spool k (InFile spool k) e l (f .next) (g .state) d₁ h (completesOf (d .now) (f .form) (isNil following))
+          (sym (completes-of spool l (f .form) refl c k d (InFile spool k d) (g .state) (g .stands .block))) r out
+
+      pub to-more : todo v following (past p f) (passed .others) more ≡ more
+      to-more = ap (λ (us : List (List ℕ)). todo v following (past p f) us more) none-left
