@@ -1,0 +1,30 @@
+use mathlib.Core.Path.{_∙_, sym, ap}
+use Rattle.rules.specs.Answers.{packed, checkAnswer}
+use borrow.Author.Needs.{needs}
+use Rattle.host.proofs.ploverdell_check.Statement.{statement}
+use Rattle.host.proofs.ploverdell_check.Tie as tie
+use Rattle.host.proofs.ploverdell_check.Reads as reads
+use Rattle.host.proofs.ploverdell_check.Lts as lts
+use Rattle.host.proofs.pack.Reads as pack-reads
+use Rattle.sets.proofs.read.Reads as read-reads
+
+-- src/lib.rt:33:27
+slice-aggregate-read : tie.Need-slice-aggregate-read
+slice-aggregate-read c = search needs
+
+-- src/lib.rt:33:10
+read-requires : tie.Need-read-requires
+read-requires c κs = search needs
+
+-- src/lib.rt:33:5
+pack-requires : tie.Need-pack-requires
+pack-requires c κs = search needs
+
+-- src/lib.rt:28:1
+returns : tie.Need-returns
+unfolding checkAnswer
+returns c = c .pack .ensures ∙ ap packed (c .before .before .read .ensures .0)
+
+pub ploverdell-check-spec : {M : Type 1} → statement M
+ploverdell-check-spec =
+    tie.close (tie.spec slice-aggregate-read read-requires pack-requires returns)

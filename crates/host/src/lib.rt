@@ -1,0 +1,44 @@
+// The reader for the plot server's host, written in C: include/ploverdell.h.
+use rules::Answer;
+use sets::read;
+ghost use mathlib.Core.Path.{_≡_};
+ghost use lib.ListN.{length};
+ghost use Rattle.rules.specs.Answers.{answerCount, readAnswer, readTable, packed, checkAnswer};
+
+// "answers one number: answer + 100 × volume + 10,000 × line"
+fn pack(a: Answer) -> u64
+    ensures { λ r. ⌜ r ≡ packed a ⌝ }
+{
+    match a {
+        Answer::Accepted(_) => 0,
+        Answer::Refused(f) => f.number as u64 + 100 * f.volume as u64 + 10000 * f.line as u64,
+    }
+}
+
+fn count_of(a: Answer) -> u64
+    ensures { λ r. ⌜ r ≡ answerCount a ⌝ }
+{
+    match a {
+        Answer::Accepted(n) => n as u64,
+        Answer::Refused(_) => 0,
+    }
+}
+
+// The check: "takes spool and class, uses a table of 256 records of its own".
+#[no_mangle]
+pub extern "C" fn ploverdell_check(spool: &[u8], cls: u64) -> u64
+    ensures { λ r. ⌜ r ≡ checkAnswer cls (now (spool .entry)) ⌝ }
+{
+    let mut table = [0i64; 8192];
+    pack(read(spool, cls, &mut table))
+}
+
+// The reader: the packed number, the records in the lent table, and how many they are.
+#[no_mangle]
+pub extern "C" fn ploverdell_read(spool: &[u8], cls: u64, table: &mut [i64], count: &mut u64) -> u64
+    ensures { λ r. ⌜ (r ≡ packed (readAnswer cls (length (now (table .entry))) (now (spool .entry)))) × (now (table .exit) ≡ readTable cls (length (now (table .entry))) (now (spool .entry))) × (now (count .exit) ≡ answerCount (readAnswer cls (length (now (table .entry))) (now (spool .entry)))) ⌝ }
+{
+    let a = read(spool, cls, table);
+    *count = count_of(a);
+    pack(a)
+}

@@ -1,0 +1,30 @@
+/* The reader of the drawing counter, for hosts written in C. Link with libhost.a (`make host` builds it).
+ *
+ * A spool is one job as document 01 describes it, at most 61,440 bytes; a class is 1 to 5 or 11 to 15.
+ * The answer is one number: the refusal's number (0: accepted) + 100 * volume + 10,000 * line.
+ * docs/REFUSALS.md tells what each number means. Every call answers, whatever the bytes are. */
+#ifndef PLOVERDELL_H
+#define PLOVERDELL_H
+
+#include <stddef.h>
+#include <stdint.h>
+
+#ifdef __cplusplus
+extern "C" {
+#endif
+
+/* How many numbers a record has. */
+#define PLOVERDELL_RECORD 32
+
+/* Judges a spool with a table of 256 records of its own (64 KB of stack, and what the reader needs beside it). */
+uint64_t ploverdell_check(const uint8_t *spool, size_t spool_len, uint64_t cls);
+
+/* Reads a spool into a table of table_len numbers, 32 to a record. Accepted: the records stand at its front, *count of them, and zeros
+ * behind them. Refused: the table is all zeros and *count is 0. What the table held before does not matter. */
+uint64_t ploverdell_read(const uint8_t *spool, size_t spool_len, uint64_t cls, int64_t *table, size_t table_len, uint64_t *count);
+
+#ifdef __cplusplus
+}
+#endif
+
+#endif
