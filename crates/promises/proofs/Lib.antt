@@ -10,6 +10,7 @@ pub mod BackSymbols
 pub mod Bare
 pub mod BareActs
 pub mod BareForm
+pub mod Calls
 pub mod Costs
 pub mod Count
 pub mod CountActs

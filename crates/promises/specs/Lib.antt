@@ -2,3 +2,4 @@ pub mod DemandOne
 pub mod DemandTwo
 pub mod DemandThree
 pub mod PlacesApart
+pub mod ReaderCalls

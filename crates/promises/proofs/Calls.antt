@@ -1,0 +1,84 @@
+-- Demand 3 of two calls of the reader, proved from its contract and the theorems of the demands.
+use Prim.Native.Nat.{ℕ, zero, suc, _*_, _-_}
+use mathlib.Core.List.{List, [], _∷_, _++_, map, append-assoc}
+use mathlib.Core.Path.{_≡_, refl, sym, _∙_, ap, ap₂}
+use native.Mathlib.Omega.{arith}
+use lib.IntN.{ℤ, pos}
+use lib.ListN.{length, take, drop, replicate, length-map}
+use lib.Seq.{take-at, drop-at}
+use Rattle.rules.specs.declared.Refusal.{Refusal}
+use Rattle.rules.specs.declared.Answer.the-variants.{Accepted, Refused}
+use Rattle.rules.specs.Base.{flat}
+use Rattle.rules.specs.Sets.{Set, rangeOf}
+use Rattle.rules.specs.Machine.{Outcome, refused, accepted}
+use Rattle.rules.specs.RecordTable.{width}
+use Rattle.rules.specs.Answers.{answerWith, readOutcome, readRecords, readAnswer, readTable}
+use Rattle.promises.specs.DemandOne.{Wide, noRecord, oneMore}
+use Rattle.promises.specs.DemandThree.{unread}
+use Rattle.promises.specs.ReaderCalls.{Call, eachRecord, TwoCalls, Accepts, Refuses, LowerCallAccepts, HigherCallRefuses}
+use Rattle.promises.proofs.Answered.{demand-one}
+use Rattle.promises.proofs.TwoClasses.{lower-accepts, higher-refuses}
+
+-- an answer that accepts comes of a set that was read
+pub accepted-set : (class len : ℕ) (spool : List ℕ) (n : ℕ) → readAnswer class len spool ≡ Accepted n → (s : Set) × (readOutcome class len spool ≡ accepted s)
+unfolding readAnswer
+accepted-set class len spool n e = go (readOutcome class len spool) (length (readRecords class len spool)) e
+  where
+    go : (o : Outcome) (k : ℕ) → answerWith k o ≡ Accepted n → (s : Set) × (o ≡ accepted s)
+    go (refused j v l) k e = absurd (let z : _≡_ {A = ℕ} 0 1 = cc in omega arith)
+    go (accepted s) k e = (s, refl)
+
+-- records changed in the table are records changed before they were laid into it
+pub each-flat : (f : List ℤ → List ℤ) (rs : List (List ℤ)) (z : List ℤ) → Wide rs → eachRecord f (length rs) (flat rs ++ z) ≡ flat (map f rs) ++ z
+each-flat f [] z noRecord = refl
+each-flat f (r ∷ rs) z (oneMore e w) =
+    let seam : flat (r ∷ rs) ++ z ≡ r ++ (flat rs ++ z) = append-assoc r (flat rs) z in
+    let first = ap (take width) seam ∙ take-at r (flat rs ++ z) width e in
+    let others = ap (drop width) seam ∙ drop-at r (flat rs ++ z) width e in
+    ap₂ (λ a b. f a ++ eachRecord f (length rs) b) first others
+    ∙ ap (λ t. f r ++ t) (each-flat f rs z w) ∙ sym (append-assoc (f r) (flat (map f rs)) z)
+
+-- the table of an accepted spool, its records changed
+each-table : (f : List ℤ → List ℤ) (class len : ℕ) (spool : List ℕ) (n : ℕ) → readAnswer class len spool ≡ Accepted n
+    → eachRecord f n (readTable class len spool) ≡ flat (map f (readRecords class len spool)) ++ replicate (len - n * width) (pos 0)
+each-table f class len spool n e =
+    let w = demand-one .reader class len spool .whenAccepted n e in
+    ap₂ (eachRecord f) (sym (w .count)) (w .stands) ∙ each-flat f (readRecords class len spool) _ (w .wide)
+
+-- the two calls with one spool and one length
+pub lower-call-accepts : LowerCallAccepts
+lower-call-accepts lower higher two n e =
+    let len = length (higher .before) in
+    let s = higher .spool in
+    let same = ap₂ (readAnswer (lower .class)) (two .lengths) (two .spools) in
+    let high = sym (higher .answers) ∙ e in
+    let (set, read) = accepted-set (higher .class) len s n high in
+    let (a, r) = lower-accepts (lower .class) (higher .class) (two .low) (two .high) (two .classes) len s set read in
+    let low = a ∙ high in
+    record {
+      answer = lower .answers ∙ same ∙ low;
+      set = set;
+      reads = read;
+      table =
+          lower .fills ∙ ap₂ (readTable (lower .class)) (two .lengths) (two .spools)
+          ∙ demand-one .reader (lower .class) len s .whenAccepted n low .stands
+          ∙ ap (λ rs. flat rs ++ replicate (len - n * width) (pos 0)) r
+          ∙ sym (each-table (unread (two .low) (rangeOf set)) (higher .class) len s n high)
+          ∙ ap (eachRecord (unread (two .low) (rangeOf set)) n) (sym (higher .fills));
+    }
+
+pub higher-call-refuses : HigherCallRefuses
+higher-call-refuses lower higher two r e =
+    let len = length (higher .before) in
+    let s = higher .spool in
+    let low = sym (ap₂ (readAnswer (lower .class)) (two .lengths) (two .spools)) ∙ sym (lower .answers) ∙ e in
+    let (q, a, p) = higher-refuses (lower .class) (higher .class) (two .low) (two .high) (two .classes) len s r low in
+    record {
+      refusal = q;
+      answer = higher .answers ∙ a;
+      place = p;
+      table =
+          higher .fills ∙ demand-one .reader (higher .class) len s .whenRefused q a
+          ∙ sym (demand-one .reader (lower .class) len s .whenRefused r low)
+          ∙ sym (lower .fills ∙ ap₂ (readTable (lower .class)) (two .lengths) (two .spools));
+    }

@@ -1,0 +1,62 @@
+-- Demand 3 of the reader itself: two calls of it, of which nothing is known but what its contract says.
+use Prim.Native.Nat.{ℕ, zero, suc}
+use mathlib.Core.Bool.{true}
+use mathlib.Core.List.{List, _++_}
+use mathlib.Core.Path.{_≡_}
+use lib.IntN.{ℤ}
+use lib.ListN.{length, take, drop}
+use Rattle.rules.specs.declared.Digits.{Digits}
+use Rattle.rules.specs.declared.Refusal.{Refusal}
+use Rattle.rules.specs.declared.Answer.{Answer}
+use Rattle.rules.specs.declared.Answer.the-variants.{Accepted, Refused}
+use Rattle.rules.specs.Sets.{Set, rangeOf}
+use Rattle.rules.specs.Machine.{accepted}
+use Rattle.rules.specs.RecordTable.{width}
+use Rattle.rules.specs.Answers.{readOutcome, readAnswer, readTable}
+use Rattle.promises.specs.DemandThree.{Classes, unread, atOrBefore}
+
+-- ── a call of the reader ──
+-- what was lent, what came back, and the contract of `sets::read`
+pub record Call : Type 0 where
+  pub spool : List ℕ
+  pub class : ℕ
+  pub before : List ℤ
+  pub answer : Answer
+  pub after : List ℤ
+  pub answers : answer ≡ readAnswer class (length before) spool
+  pub fills : after ≡ readTable class (length before) spool
+
+-- the first n records of a table changed, each by itself; what stands behind them stays
+abbrev pub eachRecord : (List ℤ → List ℤ) → ℕ → List ℤ → List ℤ
+eachRecord f zero t = t
+eachRecord f (suc n) t = f (take width t) ++ eachRecord f n (drop width t)
+
+-- ── two calls ──
+-- "one class not above the other in either digit, same spool, tables of equal length"
+pub record TwoCalls (lower higher : Call) : Type 0 where
+  pub spools : lower .spool ≡ higher .spool
+  pub lengths : length (lower .before) ≡ length (higher .before)
+  pub low : Digits
+  pub high : Digits
+  pub classes : Classes (lower .class) (higher .class) low high
+
+-- "the lower accepts with the same records, except that attributes the file's range allows and the lower doesn't know are marked unread":
+-- the whole table, number for number
+pub record Accepts (lower higher : Call) (low : Digits) (n : ℕ) : Type 0 where
+  pub answer : lower .answer ≡ Accepted n
+  pub set : Set
+  pub reads : readOutcome (higher .class) (length (higher .before)) (higher .spool) ≡ accepted set
+  pub table : lower .after ≡ eachRecord (unread low (rangeOf set)) n (higher .after)
+
+abbrev pub LowerCallAccepts : Type 0
+LowerCallAccepts = (lower higher : Call) (two : TwoCalls lower higher) (n : ℕ) → higher .answer ≡ Accepted n → Accepts lower higher (two .low) n
+
+-- "the higher refuses too, at the same line or before it"; neither leaves anything in its table
+pub record Refuses (lower higher : Call) (r : Refusal) : Type 0 where
+  pub refusal : Refusal
+  pub answer : higher .answer ≡ Refused refusal
+  pub place : atOrBefore refusal r ≡ true
+  pub table : higher .after ≡ lower .after
+
+abbrev pub HigherCallRefuses : Type 0
+HigherCallRefuses = (lower higher : Call) → TwoCalls lower higher → (r : Refusal) → lower .answer ≡ Refused r → Refuses lower higher r
