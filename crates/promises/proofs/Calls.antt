@@ -1,13 +1,12 @@
 -- Demand 3 of two calls of the reader, proved from its contract and the theorems of the demands.
-use Prim.Native.Nat.{ℕ, zero, suc, _*_, _-_}
+use Prim.Native.Nat.{ℕ, _*_, _-_}
 use mathlib.Core.List.{List, [], _∷_, _++_, map, append-assoc}
 use mathlib.Core.Path.{_≡_, refl, sym, _∙_, ap, ap₂}
 use native.Mathlib.Omega.{arith}
 use lib.IntN.{ℤ, pos}
-use lib.ListN.{length, take, drop, replicate, length-map}
+use lib.ListN.{length, take, drop, replicate}
 use lib.Seq.{take-at, drop-at}
-use Rattle.rules.specs.declared.Refusal.{Refusal}
-use Rattle.rules.specs.declared.Answer.the-variants.{Accepted, Refused}
+use Rattle.rules.specs.declared.Answer.the-variants.{Accepted}
 use Rattle.rules.specs.Base.{flat}
 use Rattle.rules.specs.Sets.{Set, rangeOf}
 use Rattle.rules.specs.Machine.{Outcome, refused, accepted}
@@ -15,7 +14,7 @@ use Rattle.rules.specs.RecordTable.{width}
 use Rattle.rules.specs.Answers.{answerWith, readOutcome, readRecords, readAnswer, readTable}
 use Rattle.promises.specs.DemandOne.{Wide, noRecord, oneMore}
 use Rattle.promises.specs.DemandThree.{unread}
-use Rattle.promises.specs.ReaderCalls.{Call, eachRecord, TwoCalls, Accepts, Refuses, LowerCallAccepts, HigherCallRefuses}
+use Rattle.promises.specs.ReaderCalls.{eachRecord, LowerCallAccepts, HigherCallRefuses}
 use Rattle.promises.proofs.Answered.{demand-one}
 use Rattle.promises.proofs.TwoClasses.{lower-accepts, higher-refuses}
 

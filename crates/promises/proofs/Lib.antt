@@ -51,6 +51,7 @@ pub mod Places
 pub mod RecordCount
 pub mod RecordPlaces
 pub mod Refusals
+pub mod RewriterBack
 pub mod Round
 pub mod RowGood
 pub mod Sizes

@@ -63,7 +63,7 @@ reading : (e : Env) (spool : List ℕ) (vs : List Volume) (ts : List Text) → v
     → outcomeOfVolumes e (volumesOf spool) ≡ run e (top nothingYet 0) (listing 1 vs ts)
 reading e spool vs ts p h = ap (outcomeOfVolumes e) p ∙ ap (outcomeOfLines e) (listing-of 1 vs ts h)
 
-rewrite-is : (spool : List ℕ) → rewriteOutcome spool ≡ outcomeOfVolumes plainEnv (volumesOf spool)
+pub rewrite-is : (spool : List ℕ) → rewriteOutcome spool ≡ outcomeOfVolumes plainEnv (volumesOf spool)
 unfolding rewriteOutcome outcomeOf
 rewrite-is spool = refl
 
@@ -109,11 +109,11 @@ body-total : (ts : List Text) → total (λ b. 12 + length b) (map unlines ts) �
 body-total [] = refl
 body-total (t ∷ ts) = let a = unlines-length t in let b = body-total ts in omega arith
 
-class15 : classOf 15 ≡ some fullClass
+pub class15 : classOf 15 ≡ some fullClass
 unfolding classOf
 class15 = refl
 
-accepted-same : {s t : Set} → accepted s ≡ accepted t → s ≡ t
+pub accepted-same : {s t : Set} → accepted s ≡ accepted t → s ≡ t
 accepted-same e = cc
 
 answer-with : (len : ℕ) (spool : List ℕ) (o : Outcome) → readOutcome 15 len spool ≡ o → readAnswer 15 len spool ≡ answerWith (length (readRecords 15 len spool)) o

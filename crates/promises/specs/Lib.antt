@@ -3,3 +3,4 @@ pub mod DemandTwo
 pub mod DemandThree
 pub mod PlacesApart
 pub mod ReaderCalls
+pub mod RewriterCalls

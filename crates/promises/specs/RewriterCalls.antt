@@ -1,0 +1,65 @@
+-- Demand 2 of the reader and the rewriter themselves: calls of them, of which nothing is known but what their contracts say.
+use Prim.Native.Nat.{ℕ, _*_, _≤_}
+use mathlib.Core.List.{List, []}
+use mathlib.Core.Path.{_≡_}
+use lib.IntN.{ℤ}
+use lib.ListN.{length, take}
+use Rattle.rules.specs.declared.Answer.{Answer}
+use Rattle.rules.specs.declared.Answer.the-variants.{Accepted}
+use Rattle.rules.specs.Machine.{Outcome, refused, accepted}
+use Rattle.rules.specs.RecordTable.{width}
+use Rattle.rules.specs.Answers.{readOutcome, rewriteAnswer, rewriteOutput}
+use Rattle.promises.specs.PlacesApart.{placesApart, textsOf}
+use Rattle.promises.specs.ReaderCalls.{Call, eachRecord}
+
+-- ── a call of the rewriter ──
+-- what was lent, what came back, and the contract of `rewrite`
+pub record Rewriting : Type 0 where
+  pub spool : List ℕ
+  pub before : List ℕ
+  pub answer : Answer
+  pub after : List ℕ
+  pub answers : answer ≡ rewriteAnswer (length before) spool
+  pub fills : after ≡ rewriteOutput (length before) spool
+
+-- ── a call of the reader at class 15 on a spool, with a table in which n records fit ──
+pub record ReadsAll (spool : List ℕ) (n : ℕ) (call : Call) : Type 0 where
+  pub full : call .class ≡ 15
+  pub lent : call .spool ≡ spool
+  pub room : n * width ≤ length (call .before)
+
+-- its first n records, line numbers and byte places of text apart
+abbrev pub recordsShown : ℕ → Call → List ℤ
+recordsShown n call = eachRecord placesApart n (take (n * width) (call .after))
+
+-- the bytes of the texts that its records show
+abbrev pub textsIn : Outcome → List (List ℕ)
+textsIn (refused n v l) = []
+textsIn (accepted s) = textsOf s
+
+abbrev pub textsShown : Call → List (List ℕ)
+textsShown call = textsIn (readOutcome (call .class) (length (call .before)) (call .spool))
+
+-- "gives the same records and texts, places apart": one call on the spool, one on what was written
+pub record Alike (n : ℕ) (first again : Call) : Type 0 where
+  pub accepts : first .answer ≡ Accepted n
+  pub count : again .answer ≡ Accepted n
+  pub records : recordsShown n again ≡ recordsShown n first
+  pub texts : textsShown again ≡ textsShown first
+
+-- "writing it twice changes nothing more"
+pub record SameBytes (n : ℕ) (first again : Rewriting) : Type 0 where
+  pub count : again .answer ≡ Accepted n
+  pub bytes : take n (again .after) ≡ take n (first .after)
+
+-- what is true of a rewriting that is accepted with n bytes: these are the first n of the output
+pub record CallsBack (w : Rewriting) (n : ℕ) : Type 0 where
+  pub size : length (take n (w .after)) ≡ n
+  pub noLonger : n ≤ length (w .spool)
+  -- how many records the set has: a table in which they fit is long enough for the spool and for what was written
+  pub records : ℕ
+  pub reads : (first again : Call) → ReadsAll (w .spool) records first → ReadsAll (take n (w .after)) records again → Alike records first again
+  pub writes : (again : Rewriting) → again .spool ≡ take n (w .after) → n ≤ length (again .before) → SameBytes n w again
+
+abbrev pub RewriterCalls : Type 0
+RewriterCalls = (w : Rewriting) (n : ℕ) → w .answer ≡ Accepted n → CallsBack w n
