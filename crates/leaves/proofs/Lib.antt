@@ -8,3 +8,4 @@ pub mod Commas
 pub mod Written
 pub mod Drawings
 pub mod FreeTexts
+pub mod Unique
