@@ -5,3 +5,4 @@ pub mod LineForms
 pub mod LineLook
 pub mod LinesSeen
 pub mod VolumesSeen
+pub mod Unique
