@@ -7,3 +7,4 @@ pub mod LineActs
 pub mod TableActs
 pub mod Widths
 pub mod Took
+pub mod Unique
