@@ -88,3 +88,4 @@ pub mod SetRunStart
 pub mod SetRun
 pub mod SetRunAnswer
 pub mod StepParts
+pub mod Unique
