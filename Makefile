@@ -1,11 +1,12 @@
 # make rules   prove the definitions of document 01 and compute its sample rulings
-# make test    the gate: layout, broken rules refused, then every proof, must-fail edit and program from nothing (rt ci)
+# make test    the gate: layout, samples, broken rules refused, then every proof, must-fail edit and program from nothing (rt ci)
+# make samples the sample spools and their listed answers are what their scripts make: a second
 # make accread prove the reader and build target/bin/accread: about ten minutes
 # make host    prove the C side and build target/staticlib/libhost.a and target/host (examples/host.c)
 # make edits   the wrong programs that the gate leaves out, tried and refused: most of an hour
 # make bench   ns per byte of splitting a spool, beside plain C: figures, no test
 
-.PHONY: rules accread host test layout broken-rules edits bench
+.PHONY: rules accread host test layout samples broken-rules edits bench
 
 rules:
 	rt check rules
@@ -23,7 +24,12 @@ layout:
 broken-rules:
 	tools/broken-rules
 
-test: layout broken-rules
+# The sample spools, and what the program of crates/samples reads and must write, are what the scripts make of the listed answers.
+samples:
+	tools/make-samples --check
+	tools/frame-samples --check
+
+test: layout samples broken-rules
 	rt ci
 
 edits:

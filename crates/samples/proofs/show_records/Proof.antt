@@ -1,0 +1,95 @@
+use Prim.Native.Nat.{_≤_, _-_}
+use borrow.Author.Needs.{needs}
+use Rattle.samples.proofs.show_records.Statement.{statement}
+use Rattle.samples.proofs.show_records.Tie as tie
+use Rattle.samples.proofs.show_records.Reads as reads
+use Rattle.samples.proofs.show_records.Lts as lts
+use Rattle.samples.proofs.show_record.Reads as show-record-reads
+
+abbrev Inv-loop : tie.InvT-loop
+Inv-loop count table i₀ i = i ≤ 256
+
+abbrev μ-loop : tie.MeasureT-loop
+μ-loop count table i₀ i = 256 - i
+
+-- src/main.rt:47:5
+loop-holds : tie.Need-loop-holds Inv-loop μ-loop
+loop-holds c = search needs
+
+-- src/main.rt:49:13
+returns : tie.Need-returns Inv-loop μ-loop
+returns c = search needs
+
+-- src/main.rt:51:20
+mul-from : tie.Need-mul-from Inv-loop μ-loop
+mul-from c = search needs
+
+-- src/main.rt:52:26
+add-if2 : tie.Need-add-if2 Inv-loop μ-loop
+add-if2 c = search needs
+
+-- src/main.rt:53:13
+returns-2 : tie.Need-returns-2 Inv-loop μ-loop
+returns-2 c = search needs
+
+-- src/main.rt:55:34
+add-show-record : tie.Need-add-show-record Inv-loop μ-loop
+add-show-record c = search needs
+
+-- src/main.rt:55:21
+mul-show-record : tie.Need-mul-show-record Inv-loop μ-loop
+mul-show-record c = search needs
+
+-- src/main.rt:55:21
+sub-show-record : tie.Need-sub-show-record Inv-loop μ-loop
+sub-show-record c = search needs
+
+-- src/main.rt:55:21
+part-show-record-start : tie.Need-part-show-record-start Inv-loop μ-loop
+part-show-record-start c = search needs
+
+-- src/main.rt:55:21
+part-show-record-end : tie.Need-part-show-record-end Inv-loop μ-loop
+part-show-record-end c = search needs
+
+-- src/main.rt:55:9
+show-record-requires : tie.Need-show-record-requires Inv-loop μ-loop
+show-record-requires c κs = search needs
+
+-- src/main.rt:56:9
+add-i : tie.Need-add-i Inv-loop μ-loop
+add-i c = search needs
+
+-- src/main.rt:47:5
+loop-less : tie.Need-loop-less Inv-loop μ-loop
+loop-less c = search needs
+
+-- src/main.rt:47:5
+loop-again : tie.Need-loop-again Inv-loop μ-loop
+loop-again c = search needs
+
+-- src/main.rt:45:1
+returns-3 : tie.Need-returns-3 Inv-loop μ-loop
+returns-3 c = search needs
+
+pub show-records-spec : {M : Type 1} → statement M
+show-records-spec =
+    tie.close
+    (tie.spec
+    Inv-loop
+    μ-loop
+    loop-holds
+    returns
+    mul-from
+    add-if2
+    returns-2
+    add-show-record
+    mul-show-record
+    sub-show-record
+    part-show-record-start
+    part-show-record-end
+    show-record-requires
+    add-i
+    loop-less
+    loop-again
+    returns-3)

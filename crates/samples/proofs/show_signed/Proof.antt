@@ -1,0 +1,72 @@
+use native.Mathlib.Omega.{arith}
+use mir.Syntax.{w64}
+use mir.Val.{SFits}
+use mir.Facts.{toZ-ofZ}
+use Rattle.leaves.proofs.Ints.{below, more-fits, turned-fits, turned-back, not-below, not-below-back}
+use borrow.Author.Needs.{needs}
+use Rattle.samples.proofs.show_signed.Statement.{statement}
+use Rattle.samples.proofs.show_signed.Tie as tie
+use Rattle.samples.proofs.show_signed.Reads as reads
+use Rattle.samples.proofs.show_signed.Lts as lts
+use Rattle.samples.proofs.show.Reads as show-reads
+use Rattle.io.proofs.write_all.Reads as write-all-reads
+
+-- src/main.rt:25:26
+slice-aggregate-write-all : tie.Need-slice-aggregate-write-all
+slice-aggregate-write-all c = search needs
+
+-- src/main.rt:25:9
+write-all-requires : tie.Need-write-all-requires
+write-all-requires c κs = search needs
+
+-- src/main.rt:26:20
+add-show : tie.Need-add-show
+add-show c = let z = c .before .before .before .args .z in let f : SFits w64 z = c .before .before .before .fits .z in more-fits z f (below z f (rw (toZ-ofZ f) at (c .before .before .if1 .taken)))
+
+-- src/main.rt:26:15
+sub-show : tie.Need-sub-show
+sub-show c = let z = c .before .before .before .args .z in let f : SFits w64 z = c .before .before .before .fits .z in turned-fits z f (below z f (rw (toZ-ofZ f) at (c .before .before .if1 .taken)))
+
+-- src/main.rt:26:14
+cast-show : tie.Need-cast-show
+cast-show c = let z = c .before .before .before .args .z in let f : SFits w64 z = c .before .before .before .fits .z in let b = below z f (rw (toZ-ofZ f) at (c .before .before .if1 .taken)) in rw (turned-back z f b) (tt, record { fits = omega (arith, b .small) })
+
+-- src/main.rt:26:14
+add-show-2 : tie.Need-add-show-2
+add-show-2 c = let z = c .before .before .before .args .z in let f : SFits w64 z = c .before .before .before .fits .z in let b = below z f (rw (toZ-ofZ f) at (c .before .before .if1 .taken)) in rw (turned-back z f b) (record { fits = omega (arith, b .small) })
+
+-- src/main.rt:26:9
+show-requires : tie.Need-show-requires
+show-requires c κs = search needs
+
+-- src/main.rt:27:9
+returns : tie.Need-returns
+returns c = search needs
+
+-- src/main.rt:29:10
+cast-show-2 : tie.Need-cast-show-2
+cast-show-2 c = let z = c .before .args .z in let f : SFits w64 z = c .before .fits .z in let b = not-below z f (rw (toZ-ofZ f) at (c .if1 .left)) in rw (not-below-back z f b) (tt, record { fits = omega (arith, b .small) })
+
+-- src/main.rt:29:5
+show-requires-2 : tie.Need-show-requires-2
+show-requires-2 c κs = search needs
+
+-- src/main.rt:23:1
+returns-2 : tie.Need-returns-2
+returns-2 c = search needs
+
+pub show-signed-spec : {M : Type 1} → statement M
+show-signed-spec =
+    tie.close
+    (tie.spec
+    slice-aggregate-write-all
+    write-all-requires
+    add-show
+    sub-show
+    cast-show
+    add-show-2
+    show-requires
+    returns
+    cast-show-2
+    show-requires-2
+    returns-2)

@@ -1,0 +1,168 @@
+// Answers the questions on standard input, one after the other: a class, a number of records, and a spool (tools/frame-samples tells how
+// they are framed). For each it prints one line `answer volume line records`, then, if accepted, one line of 32 numbers for each record.
+use rules::Answer;
+use sets::read;
+
+// More questions than this are not read. (A program that is proved to end must stop somewhere.)
+const MOST_QUESTIONS: usize = 65536;
+
+// One byte more than a spool may have: an input that is longer is answered as a spool that is (2).
+const MOST_READ: usize = 61441;
+
+const MOST_RECORDS: usize = 256;
+
+// The length that says: the spool of the question before.
+const SAME_SPOOL: usize = 65535;
+
+// A length that no spool has.
+const END: usize = 65536;
+
+fn show(n: u64) {
+    io::print_decimal(1, n);
+}
+
+fn space() {
+    io::write_all(1, b" ");
+}
+
+fn newline() {
+    io::write_all(1, b"\n");
+}
+
+fn show_signed(z: i64) {
+    if z < 0 {
+        io::write_all(1, b"-");
+        show(-(z + 1) as u64 + 1);
+        return;
+    }
+    show(z as u64);
+}
+
+// A record's numbers, single spaces between them.
+fn show_record(rec: &[i64]) {
+    let mut i = 0;
+    while i < rec.len() {
+        if 0 < i {
+            space();
+        }
+        show_signed(rec[i]);
+        i += 1;
+    }
+    newline();
+}
+
+fn show_records(count: u64, table: &[i64]) {
+    let mut i = 0;
+    while i < MOST_RECORDS {
+        if count <= i as u64 {
+            return;
+        }
+        let from = 32 * i;
+        if table.len() < from + 32 {
+            return;
+        }
+        show_record(&table[from..from + 32]);
+        i += 1;
+    }
+}
+
+fn show_answer(number: u8, volume: u8, line: u32, count: u64) {
+    show(number as u64);
+    space();
+    show(volume as u64);
+    space();
+    show(line as u64);
+    space();
+    show(count);
+    newline();
+}
+
+// Says so where a number of the table from this place on is not 0.
+fn show_leavings(from: u64, table: &[i64]) {
+    let mut i = 0;
+    while i < table.len() {
+        if from <= i as u64 {
+            if table[i] != 0 {
+                io::write_all(1, b"the rest of the table is not zero\n");
+                return;
+            }
+        }
+        i += 1;
+    }
+}
+
+// Puts one question to the reader.
+fn answer(spool: &[u8], cls: u64, table: &mut [i64]) {
+    let answer = read(spool, cls, table);
+    match answer {
+        Answer::Accepted(count) => {
+            show_answer(0, 0, 0, count as u64);
+            show_records(count as u64, table);
+            show_leavings(32 * count as u64, table);
+        }
+        Answer::Refused(f) => {
+            show_answer(f.number, f.volume, f.line, 0);
+            show_leavings(0, table);
+        }
+    }
+}
+
+// Two bytes, high first.
+fn pair(high: u8, low: u8) -> usize {
+    256 * high as usize + low as usize
+}
+
+// The table holds other numbers than zeros before its front is lent.
+fn ask(spool: &[u8], cls: u8, records: usize) {
+    if MOST_RECORDS < records {
+        return;
+    }
+    let mut whole = [7i64; 8192];
+    let table: &mut [i64] = &mut whole;
+    let numbers = 32 * records;
+    if table.len() < numbers {
+        return;
+    }
+    answer(spool, cls as u64, &mut table[..numbers]);
+}
+
+// Reads the question's spool and gives its length; END where it is too long or the input ends before it.
+fn next_spool(len: usize, before: usize, spool: &mut [u8]) -> usize {
+    if len == SAME_SPOOL {
+        return before;
+    }
+    if spool.len() < len {
+        return END;
+    }
+    if io::read_full(0, &mut spool[..len]) < len {
+        return END;
+    }
+    len
+}
+
+// Reads a question, answers it, and gives the length of its spool; END where there is none.
+fn question(before: usize, spool: &mut [u8]) -> usize {
+    let mut head = [0u8; 5];
+    if io::read_full(0, &mut head) < 5 {
+        return END;
+    }
+    let len = next_spool(pair(head[3], head[4]), before, spool);
+    if spool.len() < len {
+        return END;
+    }
+    ask(&spool[..len], head[0], pair(head[1], head[2]));
+    len
+}
+
+fn main() {
+    let mut spool = [0u8; MOST_READ];
+    let mut len = 0;
+    let mut asked = 0;
+    while asked < MOST_QUESTIONS {
+        len = question(len, &mut spool);
+        if len == END {
+            return;
+        }
+        asked += 1;
+    }
+}
