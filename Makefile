@@ -4,9 +4,16 @@
 # make accread prove the reader and build target/bin/accread: about ten minutes
 # make host    prove the C side and build target/staticlib/libhost.a and target/host (examples/host.c)
 # make edits   the wrong programs that the gate leaves out, tried and refused: most of an hour
-# make bench   ns per byte of splitting a spool, beside plain C: figures, no test
+# make bench   ns per byte of splitting and of reading a spool, beside plain C (bench/FIGURES.md)
+# make native-bench   the reader's figures where the machine is not x86-64, without an emulator
+# make stack   the bytes of stack that the check and the reader take
 
-.PHONY: rules accread host test layout samples broken-rules edits bench
+.PHONY: rules accread host test layout samples broken-rules edits bench bench-spools native-bench stack
+
+# The spools that the reader is timed on; the first is the mixed floor that the others are compared with.
+TIMED = floor-60k floor-8k lines mixed-figures placed-symbols only-symbols only-long-names only-serials only-partners only-layers \
+	only-comments only-long-comments only-empty-lines
+TIMED_SPOOLS = $(TIMED:%=target/bench/%.spool)
 
 rules:
 	rt check rules
@@ -16,7 +23,7 @@ accread:
 
 host:
 	rt staticlib host
-	cc -O2 -Iinclude -o target/host examples/host.c target/staticlib/libhost.a
+	tools/x86 cc -O2 -Iinclude -o target/host examples/host.c target/staticlib/libhost.a
 
 layout:
 	rt fmt --check
@@ -35,7 +42,24 @@ test: layout samples broken-rules
 edits:
 	tools/more-edits
 
-bench:
+bench-spools:
+	tools/make-bench target/bench
+
+bench: bench-spools
 	rt staticlib linebench
-	clang -O2 -o target/split bench/split.c target/staticlib/liblinebench.a
-	target/split
+	rt staticlib host
+	tools/x86 cc -O2 -o target/split bench/split.c target/staticlib/liblinebench.a
+	tools/x86 cc -O2 -Iinclude -o target/read bench/read.c bench/plain.c target/staticlib/libhost.a
+	@echo "x86-64 programs run here: $$(tools/x86 where)"
+	tools/x86 run target/split
+	tools/x86 run target/read $(TIMED_SPOOLS)
+
+native-bench: bench-spools
+	tools/native-host target/host.o
+	cc -O2 -Iinclude -o target/read-native bench/read.c bench/plain.c target/host.o
+	target/read-native $(TIMED_SPOOLS)
+
+stack: bench-spools
+	rt staticlib host
+	tools/x86 cc -O2 -Iinclude -pthread -o target/stack bench/stack.c target/staticlib/libhost.a
+	tools/x86 run target/stack examples/*.spool $(TIMED_SPOOLS)
