@@ -1,5 +1,5 @@
 pub mod Puts
-pub mod Steps
+pub mod RunSteps
 pub mod Walked
 pub mod Openers
 pub mod RowsTaken
@@ -88,4 +88,5 @@ pub mod SetRunStart
 pub mod SetRun
 pub mod SetRunAnswer
 pub mod StepParts
+pub mod StepDone
 pub mod Unique

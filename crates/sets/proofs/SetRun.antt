@@ -26,8 +26,8 @@ use Rattle.lines.proofs.VolumePlaces.{volumes-laid}
 use Rattle.lines.proofs.VolumesSeen.{VolumeIn, volume-in, volume-lines, AllLined, linesOver, lined-listed, sound-volumes, unsound-volume}
 use Rattle.sets.specs.declared.Now.{Now}
 use Rattle.sets.specs.declared.Volume.{Volume}
-use Rattle.sets.specs.declared.reader.Through.{Through}
-use Rattle.sets.specs.declared.reader.Through.the-variants as T
+use Rattle.sets.specs.declared.volumes.Through.{Through}
+use Rattle.sets.specs.declared.volumes.Through.the-variants as T
 use Rattle.sets.specs.Walk.{At}
 use Rattle.sets.specs.Standing.{Desk, deskNow, Under}
 use Rattle.sets.specs.FileStanding.{InFile}

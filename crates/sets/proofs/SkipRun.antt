@@ -23,7 +23,7 @@ use Rattle.sets.specs.declared.Skipped.{Skipped}
 use Rattle.sets.specs.declared.Skipped.the-variants as S
 use Rattle.sets.specs.Walk.{stopAt, seenFrom, At, todo}
 use Rattle.sets.specs.SkippedLines.{skippedAs, skippedBy, earlySkip, InPlaced, skipped, unskipped, Came, Refused, CameOr, Low, SkipReady, SkipMet}
-use Rattle.sets.proofs.Steps.{early, step-on, step-refused, step-early}
+use Rattle.sets.proofs.RunSteps.{early, step-on, step-refused, step-early}
 use Rattle.sets.proofs.SeenLines.{past, seenLine, Passed, passed-line, seen-forward, low-past}
 
 -- ── a line in a skipped block ──

@@ -26,8 +26,8 @@ use Rattle.sets.specs.declared.Step.the-variants as S
 use Rattle.sets.specs.declared.Volume.{Volume}
 use Rattle.sets.specs.declared.Pos.{Pos}
 use Rattle.sets.specs.declared.Left.the-variants as L
-use Rattle.sets.specs.declared.reader.Through.{Through}
-use Rattle.sets.specs.declared.reader.Through.the-variants as T
+use Rattle.sets.specs.declared.volumes.Through.{Through}
+use Rattle.sets.specs.declared.volumes.Through.the-variants as T
 use Rattle.sets.specs.Walk.{seenOr, seenFrom, At, todo, Next}
 use Rattle.sets.specs.SkippedLines.{Low, SkipReady, SkipMet}
 use Rattle.sets.specs.VolumeLines.{completesOf, lastStep}

@@ -30,7 +30,7 @@ use Rattle.sets.specs.Standing.{Desk, Lengths, formSize, Inside, Stands,
 use Rattle.sets.specs.FileStanding.{InFile}
 use Rattle.sets.specs.Reading.{Standing, PlacedForm, LinePromise, startOf, nextNumber, nextState, VolumeReady}
 use Rattle.rules.proofs.Chains.{clash}
-use Rattle.sets.proofs.Steps.{step-on, step-refused}
+use Rattle.sets.proofs.RunSteps.{step-on, step-refused}
 use Rattle.sets.proofs.Walked.{next-seen}
 use Rattle.sets.proofs.SeenLines.{past, seenLine, Passed, passed-line}
 use Rattle.sets.proofs.FormSizes.{form-fits}

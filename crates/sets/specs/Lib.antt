@@ -20,3 +20,4 @@ pub mod FigureLines
 pub mod SymbolLines
 pub mod PlacedLines
 pub mod SetReading
+pub mod LineDone

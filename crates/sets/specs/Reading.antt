@@ -21,8 +21,8 @@ use Rattle.sets.specs.declared.Step.{Step}
 use Rattle.sets.specs.declared.Step.the-variants as S
 use Rattle.sets.specs.declared.Volume.{Volume}
 use Rattle.sets.specs.declared.Pos.{Pos}
-use Rattle.sets.specs.declared.reader.Through.{Through}
-use Rattle.sets.specs.declared.reader.Through.the-variants as T
+use Rattle.sets.specs.declared.volumes.Through.{Through}
+use Rattle.sets.specs.declared.volumes.Through.the-variants as T
 use Rattle.sets.specs.Walk.{At}
 use Rattle.sets.specs.Standing.{Desk, Stands, deskNow, Under, LineHere, StepOut}
 use Rattle.sets.specs.SymbolLines.{nameOf, nameNumber}

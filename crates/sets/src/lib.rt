@@ -10,10 +10,12 @@ mod points;
 mod reader;
 mod serials;
 mod skip;
+mod steps;
 mod symbol_define;
 mod table;
 mod texts;
 mod top;
+mod volumes;
 mod walk;
 
 pub use reader::read;

@@ -1,0 +1,648 @@
+// What one line does: a function for each block, and the way to it.
+use crate::ARC;
+use crate::CHAIN;
+use crate::DEFINE_RANGE;
+use crate::DEFINES;
+use crate::DRAWING;
+use crate::ELEMENTS;
+use crate::FIGURES;
+use crate::FILE;
+use crate::LAYER_NAMES;
+use crate::LAYERS;
+use crate::Now;
+use crate::PLACED;
+use crate::SYMBOL;
+use crate::SYMBOL_RANGE;
+use crate::SYMBOLS;
+use crate::Step;
+use crate::TEXT;
+use crate::TOP;
+use crate::Where;
+use crate::drawing_format::on_drawing;
+use crate::drawing_format::on_layer_names;
+use crate::element::count_layer;
+use crate::element::on_elements;
+use crate::figures::on_figures;
+use crate::file_format::on_file;
+use crate::placed::on_placed;
+use crate::points::on_chain;
+use crate::points::on_hide;
+use crate::symbol_define::keep_name;
+use crate::symbol_define::on_defines;
+use crate::symbol_define::on_symbol;
+use crate::texts::on_text;
+use crate::top::on_top;
+use rules::Digits;
+use rules::LineForm;
+ghost use mathlib.Core.Path.{_≡_};
+ghost use mathlib.Core.Bool.{true};
+ghost use Prim.Native.Nat.{_+_, _*_, _-_, _≤_, _<_};
+ghost use lib.Dec.{eqb};
+ghost use lib.ListN.{length, getD};
+ghost use Rattle.sets.specs.declared.Now.{Now};
+ghost use Rattle.sets.specs.declared.Step.the-variants as S;
+ghost use Rattle.sets.specs.Records.{partAt};
+ghost use Rattle.sets.specs.SymbolLines.{isNamed};
+ghost use Rattle.sets.specs.PlacedLines.{lent, LentReady};
+ghost use Rattle.sets.specs.TopLines.{topLent};
+ghost use Rattle.sets.specs.FileLines.{FileReady};
+ghost use Rattle.sets.specs.Standing.{desk};
+ghost use Rattle.sets.specs.Reading.{tallyAfter, tallyNamed, symbolsNamed, LineReady, LinePromise};
+ghost use Rattle.sets.specs.LineDone.{Named, SymbolReady, OnTop, OnFile, OnDrawing, OnNames, OnDefines, OnSymbol, OnHide, OnElements, OnFigures, OnChain, OnText, OnPlaced, Done, LineFits};
+
+// A layer that has closed: its figures are counted.
+fn layer_counted(did: Step, tally: &mut [u32]) -> Step
+    requires { ⌜ (length (now tally) ≡ 12) × ((n : Now) → did ≡ S.Go n → n .block ≡ 7 → getD (now tally) 7 0 + n .figures ≤ 4294967295) ⌝ }
+    ensures { λ r. ⌜ (r ≡ did) × (now (tally .exit) ≡ tallyAfter (now (tally .entry)) did) ⌝ }
+{
+    match did {
+        Step::Go(n) => {
+            if n.block == ELEMENTS {
+                count_layer(n, tally);
+            }
+            Step::Go(n)
+        }
+        Step::Skip(n) => Step::Skip(n),
+        Step::Stop(k) => Step::Stop(k),
+    }
+}
+
+// A symbol that has closed: its name joins the others.
+fn name_kept(did: Step, tally: &mut [u32], symbols: &mut [u32], rec: &[i64]) -> Step
+    requires { ⌜ (length (now tally) ≡ 12) × (length (now symbols) ≤ 65536) × (length (now rec) ≡ 32) × ((n : Now) → did ≡ S.Go n → n .block ≡ 4 → (getD (now tally) 9 0 < length (now symbols)) × (isNamed (now rec) ≡ true)) ⌝ }
+    ensures { λ r. ⌜ (r ≡ did) × (now (tally .exit) ≡ tallyNamed (now (tally .entry)) did) × (now (symbols .exit) ≡ symbolsNamed (now (tally .entry)) (now (rec .entry)) (now (symbols .entry)) did) ⌝ }
+{
+    match did {
+        Step::Go(n) => {
+            if n.block == DEFINES {
+                keep_name(tally, symbols, rec);
+            }
+            Step::Go(n)
+        }
+        Step::Skip(n) => Step::Skip(n),
+        Step::Stop(k) => Step::Stop(k),
+    }
+}
+
+// What one line does, by the block that is open: one function for each block.
+fn at_top(
+    s: &[u8],
+    here: Now,
+    form: LineForm,
+    at: Where,
+    tally: &[u32],
+    symbols: &[u32],
+    layers: &[u32],
+    used: &mut [bool],
+    used_all: &[bool],
+    marks: &mut [bool],
+    header: &mut [i64],
+    t: &mut [i64],
+) -> Step
+    requires { ⌜ (length (now s) ≤ 61440) × Named (now tally) (now symbols) (now layers) × (getD (now tally) 10 0 ≤ length (now «used_all»)) × (length (now header) ≡ 70) ⌝ }
+    ensures { λ r. ⌜ OnTop (now (s .entry)) form here (now (tally .entry)) (now (symbols .entry)) (now (layers .entry)) at (now («used_all» .entry)) (topLent (now (marks .entry)) (now (used .entry)) (now (header .entry)) (now (t .entry))) (topLent (now (marks .exit)) (now (used .exit)) (now (header .exit)) (now (t .exit))) r ⌝ }
+{
+    let ns = tally[SYMBOLS] as usize;
+    let nl = tally[LAYERS] as usize;
+    let first = at.volume == 1;
+    on_top(
+        s,
+        &symbols[..ns],
+        &layers[..nl],
+        first,
+        here,
+        form,
+        at,
+        tally,
+        marks,
+        used,
+        used_all,
+        header,
+        t,
+    )
+}
+
+fn in_file(
+    s: &[u8],
+    following: &[u8],
+    here: Now,
+    form: LineForm,
+    at: Where,
+    tally: &mut [u32],
+    symbols: &[u32],
+    layers: &[u32],
+    marks: &mut [bool],
+    header: &mut [i64],
+    t: &mut [i64],
+) -> Step
+    requires { ⌜ (length (now s) ≤ 61440) × Named (now tally) (now symbols) (now layers) × FileReady (eqb (at .volume) 1) here (now tally) (now marks) (now header) (now t) ⌝ }
+    ensures { λ r. ⌜ OnFile (now (s .entry)) form here (now (tally .entry)) (now (symbols .entry)) (now (layers .entry)) (now (following .entry)) at (now (tally .exit)) (now (marks .entry)) (now (marks .exit)) (now (header .entry)) (now (header .exit)) (now (t .entry)) (now (t .exit)) r ⌝ }
+{
+    let ns = tally[SYMBOLS] as usize;
+    let nl = tally[LAYERS] as usize;
+    let first = at.volume == 1;
+    on_file(
+        s,
+        &symbols[..ns],
+        &layers[..nl],
+        following,
+        first,
+        here,
+        form,
+        tally,
+        marks,
+        header,
+        t,
+    )
+}
+
+fn in_drawing(
+    s: &[u8],
+    here: Now,
+    form: LineForm,
+    tally: &[u32],
+    symbols: &[u32],
+    layers: &[u32],
+    marks: &mut [bool],
+    t: &mut [i64],
+) -> Step
+    requires { ⌜ (length (now s) ≤ 61440) × Named (now tally) (now symbols) (now layers) × (length (now marks) ≡ 28) × (here .own + 32 ≤ length (now t)) ⌝ }
+    ensures { λ r. ⌜ OnDrawing (now (s .entry)) form here (now (tally .entry)) (now (symbols .entry)) (now (layers .entry)) (now (marks .entry)) (now (marks .exit)) (now (t .entry)) (now (t .exit)) r ⌝ }
+{
+    let ns = tally[SYMBOLS] as usize;
+    let arc = tally[ARC];
+    let from = here.own;
+    let to = from + 32;
+    on_drawing(
+        s,
+        &symbols[..ns],
+        &layers[..0],
+        arc,
+        here,
+        form,
+        marks,
+        &mut t[from..to],
+    )
+}
+
+fn in_layer_names(
+    s: &[u8],
+    here: Now,
+    form: LineForm,
+    at: Where,
+    tally: &mut [u32],
+    symbols: &[u32],
+    layers: &mut [u32],
+    t: &mut [i64],
+) -> Step
+    requires { ⌜ (length (now s) ≤ 61440) × Named (now tally) (now symbols) (now layers) × (length (now layers) ≡ 64) ⌝ }
+    ensures { λ r. ⌜ OnNames (now (s .entry)) form here (now (tally .entry)) (now (symbols .entry)) (now (layers .entry)) at (now (tally .exit)) (now (layers .exit)) (now (t .entry)) (now (t .exit)) r ⌝ }
+{
+    on_layer_names(s, tally, layers, here, form, at, t)
+}
+
+fn in_defines(
+    s: &[u8],
+    here: Now,
+    form: LineForm,
+    at: Where,
+    tally: &[u32],
+    symbols: &[u32],
+    layers: &[u32],
+    marks: &mut [bool],
+    t: &mut [i64],
+) -> Step
+    requires { ⌜ (length (now s) ≤ 61440) × Named (now tally) (now symbols) (now layers) ⌝ }
+    ensures { λ r. ⌜ OnDefines (now (s .entry)) form here (now (tally .entry)) (now (symbols .entry)) (now (layers .entry)) at (now (marks .entry)) (now (marks .exit)) (now (t .entry)) (now (t .exit)) r ⌝ }
+{
+    let ns = tally[SYMBOLS] as usize;
+    let nl = tally[LAYERS] as usize;
+    let define = tally[DEFINE_RANGE];
+    on_defines(
+        s,
+        &symbols[..ns],
+        &layers[..nl],
+        define,
+        here,
+        form,
+        at,
+        marks,
+        t,
+    )
+}
+
+fn in_symbol(
+    s: &[u8],
+    here: Now,
+    form: LineForm,
+    tally: &mut [u32],
+    symbols: &mut [u32],
+    layers: &[u32],
+    marks: &mut [bool],
+    t: &mut [i64],
+) -> Step
+    requires { ⌜ (length (now s) ≤ 61440) × Named (now tally) (now symbols) (now layers) × (here .block ≡ 5) × SymbolReady (now s) form here (now tally) (now symbols) (now layers) (now marks) (now t) ⌝ }
+    ensures { λ r. ⌜ OnSymbol (now (s .entry)) form here (now (tally .entry)) (now (symbols .entry)) (now (layers .entry)) (now (tally .exit)) (now (symbols .exit)) (now (marks .entry)) (now (marks .exit)) (now (t .entry)) (now (t .exit)) r ⌝ }
+{
+    let ns = tally[SYMBOLS] as usize;
+    let nl = tally[LAYERS] as usize;
+    let define = tally[DEFINE_RANGE];
+    let from = here.own;
+    let to = from + 32;
+    let r = on_symbol(
+        s,
+        &symbols[..ns],
+        &layers[..nl],
+        define,
+        here,
+        form,
+        marks,
+        &mut t[from..to],
+    );
+    name_kept(r, tally, symbols, &t[from..to])
+}
+
+fn in_hide(
+    s: &[u8],
+    here: Now,
+    form: LineForm,
+    at: Where,
+    tally: &[u32],
+    symbols: &[u32],
+    layers: &[u32],
+    t: &mut [i64],
+) -> Step
+    requires { ⌜ (length (now s) ≤ 61440) × Named (now tally) (now symbols) (now layers) × (here .points < 4294967295) ⌝ }
+    ensures { λ r. ⌜ OnHide (now (s .entry)) form here (now (tally .entry)) (now (symbols .entry)) (now (layers .entry)) at (now (t .entry)) (now (t .exit)) r ⌝ }
+{
+    let ns = tally[SYMBOLS] as usize;
+    let nl = tally[LAYERS] as usize;
+    on_hide(s, &symbols[..ns], &layers[..nl], here, form, at, t)
+}
+
+fn in_elements(
+    s: &[u8],
+    here: Now,
+    form: LineForm,
+    tally: &mut [u32],
+    symbols: &[u32],
+    layers: &[u32],
+    used: &mut [bool],
+    used_all: &mut [bool],
+) -> Step
+    requires { ⌜ (length (now s) ≤ 61440) × Named (now tally) (now symbols) (now layers) × (getD (now tally) 8 0 + getD (now tally) 7 0 ≤ 4294967295) × (length (now used) ≡ 64) × (length (now «used_all») ≡ 64) ⌝ }
+    ensures { λ r. ⌜ OnElements (now (s .entry)) form here (now (tally .entry)) (now (symbols .entry)) (now (layers .entry)) (now (tally .exit)) (now (used .entry)) (now (used .exit)) (now («used_all» .entry)) (now («used_all» .exit)) r ⌝ }
+{
+    let ns = tally[SYMBOLS] as usize;
+    let nl = tally[LAYERS] as usize;
+    on_elements(
+        s,
+        &symbols[..ns],
+        &layers[..nl],
+        here,
+        form,
+        tally,
+        used,
+        used_all,
+    )
+}
+
+fn in_figures(
+    s: &[u8],
+    here: Now,
+    form: LineForm,
+    at: Where,
+    tally: &mut [u32],
+    symbols: &[u32],
+    layers: &[u32],
+    marks: &mut [bool],
+    inner: &mut [bool],
+    t: &mut [i64],
+) -> Step
+    requires { ⌜ (length (now s) ≤ 61440) × Named (now tally) (now symbols) (now layers) × (getD (now tally) 7 0 + here .figures < 4294967295) ⌝ }
+    ensures { λ r. ⌜ OnFigures (now (s .entry)) form here (now (tally .entry)) (now (symbols .entry)) (now (layers .entry)) at (now (tally .exit)) (now (marks .entry)) (now (marks .exit)) (now (inner .entry)) (now (inner .exit)) (now (t .entry)) (now (t .exit)) r ⌝ }
+{
+    let ns = tally[SYMBOLS] as usize;
+    let nl = tally[LAYERS] as usize;
+    let range = tally[SYMBOL_RANGE];
+    let r = on_figures(
+        s,
+        &symbols[..ns],
+        &layers[..nl],
+        range,
+        here,
+        form,
+        at,
+        marks,
+        inner,
+        t,
+    );
+    layer_counted(r, tally)
+}
+
+fn in_chain(
+    s: &[u8],
+    here: Now,
+    form: LineForm,
+    at: Where,
+    tally: &[u32],
+    symbols: &[u32],
+    layers: &[u32],
+    t: &mut [i64],
+) -> Step
+    requires { ⌜ (length (now s) ≤ 61440) × Named (now tally) (now symbols) (now layers) × (here .figures < 4294967295) × (here .points < 4294967295) × (32 * (here .points + 1) ≤ here .free) × (here .free ≤ length (now t)) ⌝ }
+    ensures { λ r. ⌜ OnChain (now (s .entry)) form here (now (tally .entry)) (now (symbols .entry)) (now (layers .entry)) at (now (t .entry)) (now (t .exit)) r ⌝ }
+{
+    let ns = tally[SYMBOLS] as usize;
+    let nl = tally[LAYERS] as usize;
+    on_chain(s, &symbols[..ns], &layers[..nl], here, form, at, t)
+}
+
+fn in_text(
+    s: &[u8],
+    here: Now,
+    form: LineForm,
+    tally: &[u32],
+    symbols: &[u32],
+    layers: &[u32],
+    inner: &mut [bool],
+    t: &mut [i64],
+) -> Step
+    requires { ⌜ (length (now s) ≤ 61440) × Named (now tally) (now symbols) (now layers) × (here .figures < 4294967295) × (length (now inner) ≡ 2) × (32 ≤ here .free) × (here .free ≤ length (now t)) ⌝ }
+    ensures { λ r. ⌜ OnText (now (s .entry)) form here (now (tally .entry)) (now (symbols .entry)) (now (layers .entry)) (now (inner .entry)) (now (inner .exit)) (now (t .entry)) (now (t .exit)) r ⌝ }
+{
+    let ns = tally[SYMBOLS] as usize;
+    let nl = tally[LAYERS] as usize;
+    let to = here.free;
+    let from = to - 32;
+    on_text(
+        s,
+        &symbols[..ns],
+        &layers[..nl],
+        here,
+        form,
+        inner,
+        &mut t[from..to],
+    )
+}
+
+fn in_placed(
+    s: &[u8],
+    class: Digits,
+    here: Now,
+    form: LineForm,
+    tally: &mut [u32],
+    symbols: &[u32],
+    layers: &[u32],
+    serials: &mut [u64],
+    marks: &mut [bool],
+    inner: &mut [bool],
+    t: &mut [i64],
+) -> Step
+    requires { ⌜ (length (now s) ≤ 61440) × Named (now tally) (now symbols) (now layers) × (32 ≤ here .free) × (here .free ≤ length (now t)) × LentReady (lent (now tally) (now serials) (now marks) (now inner)) (partAt (here .free - 32) (now t)) × (here .figures < 4294967295) ⌝ }
+    ensures { λ r. ⌜ OnPlaced (now (s .entry)) form here (now (tally .entry)) (now (symbols .entry)) (now (layers .entry)) class (lent (now (tally .entry)) (now (serials .entry)) (now (marks .entry)) (now (inner .entry))) (lent (now (tally .exit)) (now (serials .exit)) (now (marks .exit)) (now (inner .exit))) (now (t .entry)) (now (t .exit)) r ⌝ }
+{
+    let ns = tally[SYMBOLS] as usize;
+    let nl = tally[LAYERS] as usize;
+    let range = tally[SYMBOL_RANGE];
+    let to = here.free;
+    let from = to - 32;
+    on_placed(
+        s,
+        &symbols[..ns],
+        &layers[..nl],
+        class,
+        range,
+        here,
+        form,
+        tally,
+        serials,
+        marks,
+        inner,
+        &mut t[from..to],
+    )
+}
+
+// A line before ELEMENT.
+fn sheet_line(
+    s: &[u8],
+    following: &[u8],
+    class: Digits,
+    here: Now,
+    form: LineForm,
+    at: Where,
+    tally: &mut [u32],
+    symbols: &mut [u32],
+    layers: &mut [u32],
+    serials: &[u64],
+    used: &mut [bool],
+    used_all: &[bool],
+    marks: &mut [bool],
+    inner: &[bool],
+    header: &mut [i64],
+    t: &mut [i64],
+) -> Step
+    requires { ⌜ LineFits (now s) form at (desk here (now tally) (now symbols) (now layers) (now serials) (now used) (now «used_all») (now marks) (now inner) (now header) (now t)) × (here .block < 7) ⌝ }
+    ensures { λ r. ⌜ Done class (now (s .entry)) (now (following .entry)) form at (desk here (now (tally .entry)) (now (symbols .entry)) (now (layers .entry)) (now (serials .entry)) (now (used .entry)) (now («used_all» .entry)) (now (marks .entry)) (now (inner .entry)) (now (header .entry)) (now (t .entry))) (desk here (now (tally .exit)) (now (symbols .exit)) (now (layers .exit)) (now (serials .entry)) (now (used .exit)) (now («used_all» .entry)) (now (marks .exit)) (now (inner .entry)) (now (header .exit)) (now (t .exit))) r ⌝ }
+{
+    if here.block == TOP {
+        return at_top(
+            s,
+            here,
+            form,
+            at,
+            tally,
+            symbols,
+            layers,
+            used,
+            used_all,
+            marks,
+            header,
+            t,
+        );
+    }
+    if here.block == FILE {
+        return in_file(
+            s,
+            following,
+            here,
+            form,
+            at,
+            tally,
+            symbols,
+            layers,
+            marks,
+            header,
+            t,
+        );
+    }
+    if here.block == DRAWING {
+        return in_drawing(s, here, form, tally, symbols, layers, marks, t);
+    }
+    if here.block == LAYER_NAMES {
+        return in_layer_names(s, here, form, at, tally, symbols, layers, t);
+    }
+    if here.block == DEFINES {
+        return in_defines(s, here, form, at, tally, symbols, layers, marks, t);
+    }
+    if here.block == SYMBOL {
+        return in_symbol(s, here, form, tally, symbols, layers, marks, t);
+    }
+    in_hide(s, here, form, at, tally, symbols, layers, t)
+}
+
+// A line in ELEMENT, or among the figures of a symbol.
+fn element_line(
+    s: &[u8],
+    following: &[u8],
+    class: Digits,
+    here: Now,
+    form: LineForm,
+    at: Where,
+    tally: &mut [u32],
+    symbols: &[u32],
+    layers: &[u32],
+    serials: &mut [u64],
+    used: &mut [bool],
+    used_all: &mut [bool],
+    marks: &mut [bool],
+    inner: &mut [bool],
+    header: &[i64],
+    t: &mut [i64],
+) -> Step
+    requires { ⌜ LineFits (now s) form at (desk here (now tally) (now symbols) (now layers) (now serials) (now used) (now «used_all») (now marks) (now inner) (now header) (now t)) × (7 ≤ here .block) ⌝ }
+    ensures { λ r. ⌜ Done class (now (s .entry)) (now (following .entry)) form at (desk here (now (tally .entry)) (now (symbols .entry)) (now (layers .entry)) (now (serials .entry)) (now (used .entry)) (now («used_all» .entry)) (now (marks .entry)) (now (inner .entry)) (now (header .entry)) (now (t .entry))) (desk here (now (tally .exit)) (now (symbols .entry)) (now (layers .entry)) (now (serials .exit)) (now (used .exit)) (now («used_all» .exit)) (now (marks .exit)) (now (inner .exit)) (now (header .entry)) (now (t .exit))) r ⌝ }
+{
+    if here.block == FIGURES {
+        return in_figures(s, here, form, at, tally, symbols, layers, marks, inner, t);
+    }
+    if here.block == CHAIN {
+        return in_chain(s, here, form, at, tally, symbols, layers, t);
+    }
+    if here.block == TEXT {
+        return in_text(s, here, form, tally, symbols, layers, inner, t);
+    }
+    if here.block == PLACED {
+        return in_placed(
+            s,
+            class,
+            here,
+            form,
+            tally,
+            symbols,
+            layers,
+            serials,
+            marks,
+            inner,
+            t,
+        );
+    }
+    if here.block == ELEMENTS {
+        return in_elements(s, here, form, tally, symbols, layers, used, used_all);
+    }
+    Step::Stop(9)
+}
+
+// What one line does, by the block that is open.
+fn block_line(
+    s: &[u8],
+    following: &[u8],
+    class: Digits,
+    here: Now,
+    form: LineForm,
+    at: Where,
+    tally: &mut [u32],
+    symbols: &mut [u32],
+    layers: &mut [u32],
+    serials: &mut [u64],
+    used: &mut [bool],
+    used_all: &mut [bool],
+    marks: &mut [bool],
+    inner: &mut [bool],
+    header: &mut [i64],
+    t: &mut [i64],
+) -> Step
+    requires { ⌜ LineFits (now s) form at (desk here (now tally) (now symbols) (now layers) (now serials) (now used) (now «used_all») (now marks) (now inner) (now header) (now t)) ⌝ }
+    ensures { λ r. ⌜ Done class (now (s .entry)) (now (following .entry)) form at (desk here (now (tally .entry)) (now (symbols .entry)) (now (layers .entry)) (now (serials .entry)) (now (used .entry)) (now («used_all» .entry)) (now (marks .entry)) (now (inner .entry)) (now (header .entry)) (now (t .entry))) (desk here (now (tally .exit)) (now (symbols .exit)) (now (layers .exit)) (now (serials .exit)) (now (used .exit)) (now («used_all» .exit)) (now (marks .exit)) (now (inner .exit)) (now (header .exit)) (now (t .exit))) r ⌝ }
+{
+    if here.block < ELEMENTS {
+        return sheet_line(
+            s,
+            following,
+            class,
+            here,
+            form,
+            at,
+            tally,
+            symbols,
+            layers,
+            serials,
+            used,
+            used_all,
+            marks,
+            inner,
+            header,
+            t,
+        );
+    }
+    element_line(
+        s,
+        following,
+        class,
+        here,
+        form,
+        at,
+        tally,
+        symbols,
+        layers,
+        serials,
+        used,
+        used_all,
+        marks,
+        inner,
+        header,
+        t,
+    )
+}
+
+// What one line does, as the definitions say.
+pub(crate) fn step(
+    s: &[u8],
+    following: &[u8],
+    class: Digits,
+    here: Now,
+    form: LineForm,
+    at: Where,
+    tally: &mut [u32],
+    symbols: &mut [u32],
+    layers: &mut [u32],
+    serials: &mut [u64],
+    used: &mut [bool],
+    used_all: &mut [bool],
+    marks: &mut [bool],
+    inner: &mut [bool],
+    header: &mut [i64],
+    t: &mut [i64],
+) -> Step
+    requires { ⌜ LineReady class (now s) (at .volume) form at (desk here (now tally) (now symbols) (now layers) (now serials) (now used) (now «used_all») (now marks) (now inner) (now header) (now t)) ⌝ }
+    ensures { λ r. ⌜ LinePromise class (now (s .entry)) (at .volume) form at (desk here (now (tally .entry)) (now (symbols .entry)) (now (layers .entry)) (now (serials .entry)) (now (used .entry)) (now («used_all» .entry)) (now (marks .entry)) (now (inner .entry)) (now (header .entry)) (now (t .entry))) (desk here (now (tally .exit)) (now (symbols .exit)) (now (layers .exit)) (now (serials .exit)) (now (used .exit)) (now («used_all» .exit)) (now (marks .exit)) (now (inner .exit)) (now (header .exit)) (now (t .exit))) (now (following .entry)) r ⌝ }
+{
+    block_line(
+        s,
+        following,
+        class,
+        here,
+        form,
+        at,
+        tally,
+        symbols,
+        layers,
+        serials,
+        used,
+        used_all,
+        marks,
+        inner,
+        header,
+        t,
+    )
+}
