@@ -1,0 +1,149 @@
+//! Figures: the values of their lines.
+
+use crate::refusal::Faults;
+use crate::set::{OneLine, Typed, Value};
+use crate::values::{decimal, exactly, figure_type, ONE};
+
+/// What one value of a line must be.
+#[derive(Clone, Copy, PartialEq, Eq)]
+pub enum Column {
+    /// x or y: "In layers no coordinate is negative but the two centres; in symbols any sign."
+    Coordinate,
+    /// A value of any sign: the centres, a wall's x and y, `hight`.
+    AnySign,
+    /// "Radius, axes, width, height above zero", "factor above zero"
+    AboveZero,
+    /// "gap not negative", a floor's height
+    NotNegative,
+    /// "Angles are 0 to 360 inclusive"
+    Angle,
+    /// "Turn and upright are 0 or 1; they and `pos` are one digit."
+    Flag,
+    /// "`pos`, 1 to 5"
+    Position,
+}
+
+impl Column {
+    /// The value, or the number of the rule it breaks: 10 if not written as said, 11 if out of its limits.
+    pub fn read(self, bytes: &[u8], in_symbol: bool) -> Result<Value, u8> {
+        let value = match self {
+            Column::Flag | Column::Position => Value::Digit(exactly(bytes, 1).ok_or(10)?),
+            _ => Value::Decimal(decimal(bytes).ok_or(10)?),
+        };
+        let number = value.number();
+        let kept = match self {
+            Column::Coordinate => in_symbol || number >= 0,
+            Column::AnySign => true,
+            Column::AboveZero => number > 0,
+            Column::NotNegative => number >= 0,
+            Column::Angle => (0..=360 * ONE).contains(&number),
+            Column::Flag => number <= 1,
+            Column::Position => (1..=5).contains(&number),
+        };
+        if !kept {
+            return Err(11);
+        }
+        Ok(value)
+    }
+}
+
+use Column::{AboveZero, Angle, AnySign, Coordinate, Flag, NotNegative};
+
+/// x,y,x,y
+const LINE: &[Column] = &[Coordinate, Coordinate, Coordinate, Coordinate];
+/// cx,cy,radius,start,end,turn
+const CIRCLE: &[Column] = &[AnySign, AnySign, AboveZero, Angle, Angle, Flag];
+/// cx,cy,long,short,start,end,tilt,turn
+const ELLIPSE: &[Column] = &[AnySign, AnySign, AboveZero, AboveZero, Angle, Angle, Angle, Flag];
+/// x,y
+const POINT: &[Column] = &[Coordinate, Coordinate];
+/// x,y,width,height,gap,angle,upright
+const TEXT: &[Column] = &[Coordinate, Coordinate, AboveZero, AboveZero, NotNegative, Angle, Flag];
+/// x,y,angle,factor, after the name
+const PLACED: &[Column] = &[Coordinate, Coordinate, Angle, AboveZero];
+/// x,y
+const WALL: &[Column] = &[AnySign, AnySign];
+
+/// The values of some columns, or the smallest number that they earn. "A wrong count of values" is 10.
+fn read_columns(columns: &[Column], items: &[&[u8]], in_symbol: bool) -> Result<Vec<Value>, u8> {
+    if items.len() != columns.len() {
+        return Err(10);
+    }
+    let mut faults = Faults::default();
+    let mut values = Vec::with_capacity(columns.len());
+    for (column, item) in columns.iter().zip(items) {
+        match column.read(item, in_symbol) {
+            Ok(value) => values.push(value),
+            Err(number) => faults.add(number),
+        }
+    }
+    match faults.smallest() {
+        Some(number) => Err(number),
+        None => Ok(values),
+    }
+}
+
+fn split(content: &[u8]) -> Vec<&[u8]> {
+    content.split(|&b| b == b',').collect()
+}
+
+/// A type, then columns.
+fn read_typed(columns: &[Column], content: &[u8], in_symbol: bool) -> Result<Typed, u8> {
+    let items = split(content);
+    let figure_type = figure_type(items[0]).ok_or(10)?;
+    let values = read_columns(columns, &items[1..], in_symbol)?;
+    Ok(Typed { figure_type, values })
+}
+
+/// The values of `line`, `circle`, `ellipse`, `point`.
+pub fn one_line(figure: OneLine, content: &[u8], in_symbol: bool) -> Result<Typed, u8> {
+    let columns = match figure {
+        OneLine::Line => LINE,
+        OneLine::Circle => CIRCLE,
+        OneLine::Ellipse => ELLIPSE,
+        OneLine::Point => POINT,
+    };
+    let typed = read_typed(columns, content, in_symbol)?;
+    let v = &typed.values;
+    let kept = match figure {
+        // "ends differ in value"
+        OneLine::Line => (v[0], v[1]) != (v[2], v[3]),
+        // "start and end differ"
+        OneLine::Circle => v[3] != v[4],
+        // "long > short"
+        OneLine::Ellipse => v[2].number() > v[3].number() && v[4] != v[5],
+        OneLine::Point => true,
+    };
+    if !kept {
+        return Err(11);
+    }
+    Ok(typed)
+}
+
+/// The values of a text's `type`.
+pub fn text_type(content: &[u8], in_symbol: bool) -> Result<Typed, u8> {
+    read_typed(TEXT, content, in_symbol)
+}
+
+/// A placed symbol's name, and its values: "`name,x,y,angle,factor`, factor above zero".
+pub fn placed(content: &[u8]) -> (&[u8], Result<Vec<Value>, u8>) {
+    let items = split(content);
+    (items[0], read_columns(PLACED, &items[1..], false))
+}
+
+/// "`wall`, empty or x,y"
+pub fn wall(content: &[u8]) -> Result<(i64, i64), u8> {
+    let values = read_columns(WALL, &split(content), true)?;
+    Ok((values[0].number(), values[1].number()))
+}
+
+/// "`serial`, own number then 0 to 100 partners, 1 to 10 digits each"
+pub fn serial(content: &[u8]) -> Result<Vec<i64>, u8> {
+    let numbers: Option<Vec<i64>> = split(content).into_iter().map(crate::values::serial).collect();
+    let numbers = numbers.ok_or(10)?;
+    // "over 100 partners is 11"
+    if numbers.len() > 1 + 100 {
+        return Err(11);
+    }
+    Ok(numbers)
+}

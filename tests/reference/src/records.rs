@@ -1,0 +1,254 @@
+//! Record table: "32 numbers each, taken in order at the opening or only line".
+
+use crate::ranges::{Attribute, Class, Digits};
+use crate::set::{Declared, Drawing, Figure, OneLine, Part, Placed, Point, Set, Shape, State, Symbol, TextFigure, Typed, VolumeRead};
+use crate::spool::Text;
+
+pub const NUMBERS: usize = 32;
+
+/// "plus 20 inside a symbol"
+const INSIDE_SYMBOL: i64 = 20;
+const UNREAD: i64 = 3;
+
+/// Every record of the set, one after another.
+pub fn table(set: &Set<'_>, class: Class) -> Vec<i64> {
+    let mut table = Table { numbers: Vec::new(), class, e_sym: set.header.ranges.e_sym_digits(), block_form: set.header.ranges.e_sym != 1 };
+    table.header(set);
+    for (index, volume) in set.volumes.iter().enumerate() {
+        let number = index + 1;
+        table.volume(volume, number);
+        if number == 1 {
+            table.drawing(&set.drawing);
+            for (owner, layer) in set.drawing.layers.iter().enumerate() {
+                table.layer(layer, owner);
+            }
+            for (owner, symbol) in set.symbols.iter().enumerate() {
+                table.symbol(symbol, owner);
+            }
+        }
+        for layer in &volume.layers {
+            for figure in &layer.figures {
+                table.figure(figure, 0, layer.number, number);
+            }
+        }
+    }
+    table.numbers
+}
+
+struct Table {
+    numbers: Vec<i64>,
+    class: Class,
+    e_sym: Digits,
+    /// Placed symbols are blocks: at any range but 001.
+    block_form: bool,
+}
+
+/// A record being filled: "0 kind, 1 owner, 2 volume from 1, 3 line, 4 type, 5 on values in file order, unused 0".
+struct Record<'t> {
+    numbers: &'t mut [i64],
+    at: usize,
+}
+
+impl Record<'_> {
+    fn put(&mut self, number: i64) {
+        self.numbers[self.at] = number;
+        self.at += 1;
+    }
+
+    fn put_typed(&mut self, typed: &Typed) {
+        self.numbers[4] = typed.figure_type;
+        for value in &typed.values {
+            self.put(value.number());
+        }
+    }
+
+    /// "Text is byte place in the spool, from 0, and length; 0 and 0 if empty."
+    fn put_text(&mut self, text: Text<'_>) {
+        if !text.bytes.is_empty() {
+            self.numbers[self.at] = text.place as i64;
+            self.numbers[self.at + 1] = text.bytes.len() as i64;
+        }
+        self.at += 2;
+    }
+}
+
+/// "States: 0 absent, 1 empty, 2 given"
+fn state<T>(state: &State<T>) -> i64 {
+    match state {
+        State::Absent => 0,
+        State::Empty => 1,
+        State::Given(_) => 2,
+    }
+}
+
+fn given(state: &State<i64>) -> i64 {
+    match state {
+        State::Given(number) => *number,
+        _ => 0,
+    }
+}
+
+impl Table {
+    fn take(&mut self, kind: i64, owner: usize, volume: usize, line: usize) -> Record<'_> {
+        let start = self.numbers.len();
+        self.numbers.resize(start + NUMBERS, 0);
+        let mut record = Record { numbers: &mut self.numbers[start..], at: 0 };
+        for number in [kind, owner as i64, volume as i64, line as i64] {
+            record.put(number);
+        }
+        record.at = 5;
+        record
+    }
+
+    /// "1 header: B_sym, arc, elec, E_sym, sym, S_base, S_elec, all_line, all_ele, date, time, eight texts"
+    fn header(&mut self, set: &Set<'_>) {
+        let (header, first) = (&set.header, &set.volumes[0]);
+        let ranges = &header.ranges;
+        let mut record = self.take(1, 0, 1, first.line);
+        for number in [ranges.b_sym, ranges.arc(), ranges.elec(), ranges.e_sym, ranges.sym(), ranges.s_base, ranges.s_elec] {
+            record.put(number);
+        }
+        for number in [header.all_line, header.all_ele, first.date, first.time] {
+            record.put(number);
+        }
+        for text in header.texts {
+            record.put_text(text);
+        }
+    }
+
+    /// "2 volume: this_line, this_ele"
+    fn volume(&mut self, volume: &VolumeRead<'_>, number: usize) {
+        let mut record = self.take(2, 0, number, volume.line);
+        record.put(volume.this_line);
+        record.put(volume.this_ele);
+    }
+
+    /// "3 drawing: n (1 if none), A number, p, q (1 if none), date, floor state, value, three texts"
+    fn drawing(&mut self, drawing: &Drawing<'_>) {
+        let mut record = self.take(3, 0, 1, drawing.line);
+        for number in [drawing.sheet.0, drawing.sheet.1, drawing.scale.0, drawing.scale.1, drawing.date] {
+            record.put(number);
+        }
+        record.put(state(&drawing.floor_height));
+        record.put(given(&drawing.floor_height));
+        for text in drawing.texts {
+            record.put_text(text);
+        }
+    }
+
+    /// "5 layer: letter's byte, number, name"
+    fn layer(&mut self, layer: &Declared<'_>, owner: usize) {
+        let mut record = self.take(5, owner, 1, layer.line);
+        record.put(layer.id.bytes[0] as i64);
+        record.put(layer.id.bytes[2..].iter().fold(0, |number, &b| number * 10 + (b - b'0') as i64));
+        record.put_text(layer.name);
+    }
+
+    /// "4 symbol: name, wall state, x, y"
+    fn symbol(&mut self, symbol: &Symbol<'_>, owner: usize) {
+        let mut record = self.take(4, owner, 1, symbol.line);
+        record.put_text(symbol.name);
+        record.put(state(&symbol.wall));
+        if let State::Given((x, y)) = symbol.wall {
+            record.put(x);
+            record.put(y);
+        }
+        for part in &symbol.parts {
+            match part {
+                Part::Element(figures) => {
+                    for figure in figures {
+                        self.figure(figure, INSIDE_SYMBOL, owner, 1);
+                    }
+                }
+                // "43 hide point"
+                Part::Hide(points) => self.points(43, points, owner, 1),
+            }
+        }
+    }
+
+    fn points(&mut self, kind: i64, points: &[Point], owner: usize, volume: usize) {
+        for point in points {
+            self.take(kind, owner, volume, point.line).put_typed(&point.typed);
+        }
+    }
+
+    /// "10 line, 11 circle, 12 ellipse, 13 point, 14 successive (first point's type, point count), 15 text (7 values, characters), 17 a
+    /// successive's points"
+    fn figure(&mut self, figure: &Figure<'_>, plus: i64, owner: usize, volume: usize) {
+        match &figure.shape {
+            Shape::OneLine(one_line, typed) => {
+                let kind = match one_line {
+                    OneLine::Line => 10,
+                    OneLine::Circle => 11,
+                    OneLine::Ellipse => 12,
+                    OneLine::Point => 13,
+                };
+                self.take(kind + plus, owner, volume, figure.line).put_typed(typed);
+            }
+            Shape::Successive(points) => {
+                let mut record = self.take(14 + plus, owner, volume, figure.line);
+                record.numbers[4] = points[0].typed.figure_type;
+                record.put(points.len() as i64);
+                self.points(17 + plus, points, owner, volume);
+            }
+            Shape::Text(text) => {
+                let mut record = self.take(15 + plus, owner, volume, figure.line);
+                record.put_typed(&text.typed);
+                record.put_text(text.characters);
+            }
+            Shape::Placed(placed) => self.placed(placed, owner, volume, figure.line),
+        }
+    }
+
+    /// "16 placed symbol: symbol number, x, y, angle, factor, hight, pos, circuit place and length, serial, partner count, ten of text, then
+    /// at 26-30 the states of text, hight, pos, circuit, serial."
+    fn placed(&mut self, placed: &Placed<'_>, owner: usize, volume: usize, line: usize) {
+        let states = Attribute::ALL.map(|attribute| self.attribute_state(attribute, placed));
+        let mut record = self.take(16, owner, volume, line);
+        record.put(placed.symbol as i64);
+        for value in &placed.values {
+            record.put(value.number());
+        }
+        record.put(given(&placed.hight));
+        record.put(given(&placed.pos));
+        if let State::Given(circuit) = placed.circuit {
+            record.put_text(circuit);
+        }
+        record.at = 14;
+        if let Some(numbers) = &placed.serial {
+            record.put(numbers[0]);
+            record.put(numbers.len() as i64 - 1);
+        }
+        record.at = 16;
+        if let Some(text) = &placed.text {
+            ten_of_text(&mut record, text);
+        }
+        record.at = 26;
+        for state in states {
+            record.put(state);
+        }
+    }
+
+    fn attribute_state(&self, attribute: Attribute, placed: &Placed<'_>) -> i64 {
+        // "An attribute E_sym allows and the class doesn't know has state 3 and zeros."
+        if self.block_form && self.e_sym.allow(attribute) && !self.class.knows(attribute) {
+            return UNREAD;
+        }
+        match attribute {
+            Attribute::Text => if placed.text.is_some() { 2 } else { 0 },
+            Attribute::Hight => state(&placed.hight),
+            Attribute::Pos => state(&placed.pos),
+            Attribute::Circuit => state(&placed.circuit),
+            Attribute::Serial => if placed.serial.is_some() { 2 } else { 0 },
+        }
+    }
+}
+
+/// A placed symbol's text: type, seven values, place and length of its characters.
+fn ten_of_text(record: &mut Record<'_>, text: &TextFigure<'_>) {
+    record.put(text.typed.figure_type);
+    for value in &text.typed.values {
+        record.put(value.number());
+    }
+    record.put_text(text.characters);
+}
