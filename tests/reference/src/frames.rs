@@ -51,7 +51,7 @@ impl Question {
 /// The question of a number, from a seed: the same whichever others are asked.
 pub fn question(seed: u64, number: u64) -> Question {
     let mut random = Random::of_question(seed, number);
-    let sound = random.chance(55, 100);
+    let sound = random.chance(48, 100);
     let rich = !sound && random.chance(3, 5);
     let mut draft = sound_set(&mut random, rich);
     let spool = if sound { draft.spool() } else { damaged(&mut random, &mut draft) };

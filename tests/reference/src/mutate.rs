@@ -36,6 +36,9 @@ const CHANGES: &[(usize, Change)] = &[
     (6, content_changed),
     (6, item_changed),
     (2, item_count_changed),
+    (20, limit_touched),
+    (5, values_equalled),
+    (5, zeros_added),
     (3, contents_exchanged),
     (4, content_copied),
     (12, named_content_copied),
@@ -56,7 +59,7 @@ const CHANGES: &[(usize, Change)] = &[
     (3, layer_changed),
     (2, decorated),
     (1, too_long),
-    (3, range_changed),
+    (9, range_changed),
     (3, chain_changed),
 ];
 
@@ -89,6 +92,26 @@ fn any_line(random: &mut Random, draft: &Draft) -> Option<(usize, usize)> {
         return None;
     }
     Some((volume, random.below(lines)))
+}
+
+/// A line by its key: each key of the set as likely as another, however often it stands.
+fn any_line_by_key(random: &mut Random, draft: &Draft) -> Option<(usize, usize)> {
+    let mut keys: Vec<&[u8]> = draft.volumes.iter().flat_map(|volume| &volume.lines).filter_map(|line| key_of(line)).collect();
+    keys.sort_unstable();
+    keys.dedup();
+    if keys.is_empty() {
+        return None;
+    }
+    let key = *random.pick(&keys);
+    any_where(random, draft, |line| key_of(line) == Some(key))
+}
+
+/// A line: any, or by its key.
+fn some_line(random: &mut Random, draft: &Draft) -> Option<(usize, usize)> {
+    if random.chance(1, 2) {
+        return any_line(random, draft);
+    }
+    any_line_by_key(random, draft)
 }
 
 /// Every line for which something holds.
@@ -148,7 +171,7 @@ fn some_byte(random: &mut Random) -> u8 {
 }
 
 fn byte_in_line(random: &mut Random, draft: &mut Draft) -> Option<()> {
-    let at = any_line(random, draft)?;
+    let at = some_line(random, draft)?;
     let byte = some_byte(random);
     let line = line_at(draft, at);
     let place = random.below(line.len() + 1);
@@ -163,22 +186,27 @@ fn byte_in_line(random: &mut Random, draft: &mut Draft) -> Option<()> {
 }
 
 fn line_removed(random: &mut Random, draft: &mut Draft) -> Option<()> {
-    let at = any_line(random, draft)?;
+    let at = some_line(random, draft)?;
     draft.volumes[at.0].lines.remove(at.1);
     Some(())
 }
 
-/// A byte that no line may have but a comment.
+/// A byte that no line may have but a comment, or a pair of bytes at the ends of what is allowed.
 fn byte_not_allowed(random: &mut Random, draft: &mut Draft) -> Option<()> {
-    let at = any_line(random, draft)?;
+    let pair = random.chance(1, 2);
+    let free = |line: &[u8]| matches!(key_of(line), Some(b"corp" | b"make" | b"project" | b"drawname" | b"character"));
+    let at = if random.chance(1, 2) { any_where(random, draft, free)? } else { any_line(random, draft)? };
     let line = line_at(draft, at);
     let place = random.below(line.len() + 1);
-    line.insert(place, *random.pick(b"\x00\x09\x1F\x7F\x80\x81\x9F\xA0\xE0\xFC\xFD\xFF"));
+    line.insert(place, *random.pick(b"\x00\x09\x1F\x7F\x80\x81\x9F\xA0\xA1\xDF\xE0\xFC\xFD\xFF"));
+    if pair {
+        line.insert(place + 1, *random.pick(b"\x20\x39\x3F\x40\x7E\x7F\x80\xFC\xFD\xFF"));
+    }
     Some(())
 }
 
 fn line_doubled(random: &mut Random, draft: &mut Draft) -> Option<()> {
-    let at = any_line(random, draft)?;
+    let at = some_line(random, draft)?;
     let line = line_at(draft, at).clone();
     let lines = &mut draft.volumes[at.0].lines;
     let place = if random.chance(2, 3) { at.1 } else { random.below(lines.len() + 1) };
@@ -246,6 +274,9 @@ const RANGES: &[&str] = &[
     "000", "001", "002", "003", "004", "005", "006", "009", "010", "011", "012", "013", "014", "015", "016", "020", "021", "100", "101",
     "111", "00", "0001", "abc", "0 1", "-01", "999", "001:{", "000:{", "002:{",
 ];
+const RANGE_KEYS: &[&str] = &[
+    "base", "B_sym", "arc", "elec", "elec", "E_sym", "E_sym", "E_sym", "E_wire", "E_cirno", "air", "pipe", "sym", "sym", "S_base", "S_elec", "S_elec",
+];
 const SIZES: &[&str] = &[
     "A0", "A4", "A5", "4A0", "4A1", "4A2", "8A1", "81A0", "81A1", "100A0", "1A0", "04A1", "a1", "A1 ", "A", "4", "A00", "64A1", "16A4", "2A0",
     "49A0", "36A1", "25A1", "9A0", "4A1:{", "\u{20}A1",
@@ -291,7 +322,7 @@ fn contents_of(key: &[u8]) -> &'static [&'static str] {
 
 /// The content of a line, changed for another that is near some limit of its key.
 fn content_changed(random: &mut Random, draft: &mut Draft) -> Option<()> {
-    let at = any_line(random, draft)?;
+    let at = some_line(random, draft)?;
     let line = line_at(draft, at);
     let key = key_of(line)?;
     let content = random.pick(contents_of(key)).as_bytes();
@@ -300,16 +331,108 @@ fn content_changed(random: &mut Random, draft: &mut Draft) -> Option<()> {
 }
 
 fn range_changed(random: &mut Random, draft: &mut Draft) -> Option<()> {
-    let is_range = |line: &[u8]| key_of(line).is_some_and(|key| std::ptr::eq(contents_of(key), RANGES));
-    let at = any_where(random, draft, is_range)?;
+    let key = random.pick(RANGE_KEYS).as_bytes();
+    let at = any_where(random, draft, |line| key_of(line) == Some(key))?;
     let line = line_at(draft, at);
     let opener = line.ends_with(b":{");
     let mut content = random.pick(RANGES).as_bytes().to_vec();
-    if opener && !content.ends_with(b":{") && random.chance(4, 5) {
+    if opener && !content.ends_with(b":{") && random.chance(2, 3) {
         content.extend(b":{");
     }
     *line = with_content(line, &content);
     Some(())
+}
+
+const COORDINATES: &[&str] = &["0", "-0", "-0.0001", "-1", "9999999.9999", "-9999999.9999", "10000000", "1.00000", "5.", ".5", ""];
+const ABOVE_ZERO: &[&str] = &["0", "-0", "0.0001", "0.0000", "-0.0001", "9999999.9999", "10000000", "0.00001", "00000001"];
+const NOT_NEGATIVE: &[&str] = &["0", "-0", "-0.0001", "0.0001", "9999999.9999", "-1", "1."];
+const ANGLES: &[&str] = &["0", "-0", "-0.0001", "360", "360.0000", "360.0001", "361", "359.9999", "0.0001", "1000", "+1"];
+const FLAGS: &[&str] = &["0", "1", "2", "9", "00", "01", "-0", "1.0", "", "a"];
+const TYPES: &[&str] = &["0000", "9999", "123", "12345", "12a4", "", "-123", "1.23", " 123"];
+
+/// Which item of which key, and values just inside and just outside its limits.
+const LIMITS: &[(&str, usize, &[&str])] = &[
+    ("line", 0, TYPES), ("line", 1, COORDINATES), ("line", 2, COORDINATES), ("line", 3, COORDINATES), ("line", 4, COORDINATES),
+    ("circle", 0, TYPES), ("circle", 1, COORDINATES), ("circle", 2, COORDINATES), ("circle", 3, ABOVE_ZERO), ("circle", 4, ANGLES),
+    ("circle", 5, ANGLES), ("circle", 6, FLAGS), ("ellipse", 0, TYPES), ("ellipse", 1, COORDINATES), ("ellipse", 2, COORDINATES),
+    ("ellipse", 3, ABOVE_ZERO), ("ellipse", 4, ABOVE_ZERO), ("ellipse", 5, ANGLES), ("ellipse", 6, ANGLES), ("ellipse", 7, ANGLES),
+    ("ellipse", 8, FLAGS), ("point", 0, TYPES), ("point", 1, COORDINATES), ("point", 2, COORDINATES), ("type", 0, TYPES),
+    ("type", 1, COORDINATES), ("type", 2, COORDINATES), ("type", 3, ABOVE_ZERO), ("type", 4, ABOVE_ZERO), ("type", 5, NOT_NEGATIVE),
+    ("type", 6, ANGLES), ("type", 7, FLAGS), ("symbol", 1, COORDINATES), ("symbol", 2, COORDINATES), ("symbol", 3, ANGLES),
+    ("symbol", 4, ABOVE_ZERO), ("E_symbol", 1, COORDINATES), ("E_symbol", 2, COORDINATES), ("E_symbol", 3, ANGLES), ("E_symbol", 4, ABOVE_ZERO),
+    ("floor_height", 0, NOT_NEGATIVE), ("hight", 0, COORDINATES), ("pos", 0, POSITIONS), ("circuit", 0, CIRCUITS), ("wall", 0, COORDINATES),
+    ("wall", 1, COORDINATES), ("size", 0, SIZES), ("size", 0, SIZES), ("scale", 0, SCALES), ("scale", 0, SCALES), ("date", 0, DATES),
+    ("time", 0, TIMES), ("tel", 0, TELEPHONES), ("next_file", 0, NAMES), ("name", 0, NAMES), ("serial", 0, SERIALS), ("serial", 1, SERIALS),
+    ("all_line", 0, COUNTS), ("this_line", 0, COUNTS), ("all_ele", 0, COUNTS),
+];
+
+/// One value just inside or just outside its limits, each value of each key as likely as another.
+fn limit_touched(random: &mut Random, draft: &mut Draft) -> Option<()> {
+    let (key, item, values) = *random.pick(LIMITS);
+    let at = any_where(random, draft, |line| key_of(line) == Some(key.as_bytes()))?;
+    let line = line_at(draft, at);
+    let mut items = items_of(line);
+    *items.get_mut(item)? = random.pick(values).as_bytes().to_vec();
+    *line = with_content(line, &items.join(&b','));
+    Some(())
+}
+
+/// Values that must differ, or that must not be the wrong way round, made equal or exchanged; equal ones perhaps spelt otherwise.
+fn values_equalled(random: &mut Random, draft: &mut Draft) -> Option<()> {
+    const DIFFER: &[(&str, &[(usize, usize)])] =
+        &[("line", &[(1, 3), (2, 4)]), ("circle", &[(4, 5)]), ("ellipse", &[(3, 4)]), ("ellipse", &[(5, 6)])];
+    let (key, pairs) = *random.pick(DIFFER);
+    let at = any_where(random, draft, |line| key_of(line) == Some(key.as_bytes()))?;
+    let exchanged = random.chance(1, 4);
+    let line = line_at(draft, at);
+    let mut items = items_of(line);
+    for &(from, to) in pairs {
+        if to >= items.len() {
+            return None;
+        }
+        if exchanged {
+            items.swap(from, to);
+            continue;
+        }
+        items[to] = items[from].clone();
+        if random.chance(1, 2) && !items[to].contains(&b'.') {
+            items[to].extend(b".00");
+        }
+    }
+    *line = with_content(line, &items.join(&b','));
+    Some(())
+}
+
+/// Zeros that are needless, up to the digits that a number may have or one more.
+fn zeros_added(random: &mut Random, draft: &mut Draft) -> Option<()> {
+    let at = any_line_by_key(random, draft)?;
+    let line = line_at(draft, at);
+    let mut items = items_of(line);
+    let index = random.below(items.len());
+    let item = &mut items[index];
+    if item.is_empty() || !item.iter().all(|b| b.is_ascii_digit() || b"-./".contains(b)) {
+        return None;
+    }
+    let start = item.iter().position(u8::is_ascii_digit)?;
+    let digits = item[start..].iter().take_while(|b| b.is_ascii_digit()).count();
+    if random.chance(1, 3) {
+        if !item.contains(&b'.') {
+            item.push(b'.');
+        }
+        let fraction = item.len() - 1 - item.iter().position(|&b| b == b'.')?;
+        let wanted = *random.pick(&[1, 4, 5]);
+        item.extend(vec![b'0'; usize::saturating_sub(wanted, fraction)]);
+    } else {
+        let wanted = *random.pick(&[3, 4, 5, 7, 8, 9, 10, 11]);
+        item.splice(start..start, vec![b'0'; usize::saturating_sub(wanted, digits)]);
+    }
+    *line = with_content(line, &items.join(&b','));
+    Some(())
+}
+
+fn items_of(line: &[u8]) -> Vec<Vec<u8>> {
+    let (_, _, content) = parts(line).unwrap();
+    content.split(|&b| b == b',').map(<[u8]>::to_vec).collect()
 }
 
 fn has_items(line: &[u8]) -> bool {
@@ -319,8 +442,7 @@ fn has_items(line: &[u8]) -> bool {
 fn change_items(random: &mut Random, draft: &mut Draft, change: impl Fn(&mut Random, &mut Vec<Vec<u8>>)) -> Option<()> {
     let at = any_where(random, draft, has_items)?;
     let line = line_at(draft, at);
-    let (_, _, content) = parts(line).unwrap();
-    let mut items: Vec<Vec<u8>> = content.split(|&b| b == b',').map(<[u8]>::to_vec).collect();
+    let mut items = items_of(line);
     change(random, &mut items);
     *line = with_content(line, &items.join(&b','));
     Some(())
@@ -577,7 +699,7 @@ fn cut_short(random: &mut Random, draft: &mut Draft) -> Option<()> {
 
 /// A line's form changed for another.
 fn form_changed(random: &mut Random, draft: &mut Draft) -> Option<()> {
-    let at = any_line(random, draft)?;
+    let at = some_line(random, draft)?;
     let line = line_at(draft, at);
     let end = line.iter().position(|&b| b == b'=' || b == b':').unwrap_or(line.len());
     let (key, content) = (line[..end].to_vec(), line[(end + 1).min(line.len())..].to_vec());
