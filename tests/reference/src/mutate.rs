@@ -2,6 +2,9 @@
 
 use crate::generate::{blanks, ignored, sound_set, text_of, Draft, DraftVolume, Line};
 use crate::random::Random;
+use crate::ranges::Class;
+use crate::reader::read_set;
+use crate::refusal::Refusal;
 use crate::spool::{LONGEST_LINE, MOST_BYTES};
 
 /// A spool made from a set by one change, or by a few.
@@ -17,7 +20,21 @@ pub fn damaged(random: &mut Random, draft: &mut Draft) -> Vec<u8> {
     for _ in 0..changes {
         change(random, draft);
     }
+    if random.chance(1, 10) {
+        cut_at_fault(random, draft);
+    }
     draft.spool()
+}
+
+/// A volume cut short at the very line that is refused, or a line later: an early end beside another number.
+fn cut_at_fault(random: &mut Random, draft: &mut Draft) {
+    let spool = draft.spool();
+    let Some(class) = Class::from_number(draft.class) else { return };
+    if let Err(Refusal { volume, line, .. }) = read_set(&spool, class, usize::MAX) {
+        if line > 0 {
+            draft.volumes[volume - 1].lines.truncate(line + random.below(2));
+        }
+    }
 }
 
 /// A change of lines; nothing if the set has no line that it could change.
@@ -41,12 +58,14 @@ const CHANGES: &[(usize, Change)] = &[
     (5, zeros_added),
     (3, contents_exchanged),
     (4, content_copied),
-    (12, named_content_copied),
+    (16, named_content_copied),
     (3, volumes_changed),
     (3, brace_changed),
     (3, end_moved),
     (4, count_changed),
     (3, grown),
+    (2, thinned),
+    (14, line_in_block),
     (3, text_lengthened),
     (2, cut_short),
     (4, form_changed),
@@ -54,7 +73,7 @@ const CHANGES: &[(usize, Change)] = &[
     (2, line_from_another_set),
     (2, block_removed_or_doubled),
     (2, top_blocks_exchanged),
-    (7, nested_deeper),
+    (11, nested_deeper),
     (6, symbol_renamed),
     (3, layer_changed),
     (2, decorated),
@@ -363,7 +382,8 @@ const LIMITS: &[(&str, usize, &[&str])] = &[
     ("floor_height", 0, NOT_NEGATIVE), ("hight", 0, COORDINATES), ("pos", 0, POSITIONS), ("circuit", 0, CIRCUITS), ("wall", 0, COORDINATES),
     ("wall", 1, COORDINATES), ("size", 0, SIZES), ("size", 0, SIZES), ("scale", 0, SCALES), ("scale", 0, SCALES), ("date", 0, DATES),
     ("time", 0, TIMES), ("tel", 0, TELEPHONES), ("next_file", 0, NAMES), ("name", 0, NAMES), ("serial", 0, SERIALS), ("serial", 1, SERIALS),
-    ("all_line", 0, COUNTS), ("this_line", 0, COUNTS), ("all_ele", 0, COUNTS),
+    ("serial", 0, SERIALS), ("serial", 2, SERIALS), ("pos", 0, POSITIONS), ("pos", 0, POSITIONS), ("circuit", 0, CIRCUITS), ("circuit", 0, CIRCUITS),
+    ("symbol", 0, NAMES), ("symbol", 0, NAMES), ("all_line", 0, COUNTS), ("this_line", 0, COUNTS), ("all_ele", 0, COUNTS),
 ];
 
 /// One value just inside or just outside its limits, each value of each key as likely as another.
@@ -373,6 +393,12 @@ fn limit_touched(random: &mut Random, draft: &mut Draft) -> Option<()> {
     let line = line_at(draft, at);
     let mut items = items_of(line);
     *items.get_mut(item)? = random.pick(values).as_bytes().to_vec();
+    if random.chance(1, 4) {
+        // another value of the same line: "on one line the smallest number"
+        let others: Vec<_> = LIMITS.iter().filter(|(other, _, _)| *other == key).collect();
+        let (_, item, values) = **random.pick(&others);
+        *items.get_mut(item)? = random.pick(values).as_bytes().to_vec();
+    }
     *line = with_content(line, &items.join(&b','));
     Some(())
 }
@@ -655,6 +681,66 @@ fn grown(random: &mut Random, draft: &mut Draft) -> Option<()> {
     Some(())
 }
 
+/// A successive's points down to three, two or none.
+fn thinned(random: &mut Random, draft: &mut Draft) -> Option<()> {
+    let (volume, start) = any_where(random, draft, |line| trimmed(line) == b"successive:{")?;
+    let left = *random.pick(&[0, 1, 2, 2, 3]);
+    let lines = &mut draft.volumes[volume].lines;
+    let points = lines[start + 1..].iter().take_while(|line| trimmed(line) != b"}").count();
+    if points < left {
+        return None;
+    }
+    lines.drain(start + 1 + left..start + 1 + points);
+    Some(())
+}
+
+/// Blocks, and lines that are not theirs, or theirs in a wrong form, or too many.
+const IN_BLOCKS: &[(&str, &[&str])] = &[
+    ("SYMBOL_DEFINE:{", &["NON=", "NON=", "NON=x", "NON:{", "E_symbol:{", "E_symbol=", "name=A", "E_symbol=1:{"]),
+    ("layer_name:{", &["E_15=:{", "E_15=", "E_15:{", "E_15=a:{", "E_151:{", "character=:{", "X_001=", "project=:{", "P_777=", "E_15", "=:{"]),
+    (
+        "E_symbol:{",
+        &[
+            "foo=1", "foo:{", "foo=:{", "wall=", "hight=", "hight:{", "hight=1:{", "text:{", "text=", "serial=5", "serial=", "serial:{", "pos=", "pos:{",
+            "circuit=", "circuit=A:{", "character=:{", "character=a", "character:{", "symbol=", "symbol:{", "line=0000,1,1,2,2", "EOF", "EOF=", "name=",
+            "hide:{", "hide=", "element=",
+        ],
+    ),
+    (
+        "range:{",
+        &[
+            "elec=001", "elec=000", "elec=000:{", "elec=002", "elec=002:{", "elec:{", "elec=", "base=001", "base=001:{", "arc=002:{", "arc=001:{", "sym=001",
+            "sym=000", "sym=003:{", "sym=00", "E_sym=001", "date=", "air=001", "pipe=000:{",
+        ],
+    ),
+    ("base=001:{", &["B_sym=000", "B_sym=", "B_sym=001:{", "E_sym=001", "B_sym:{"]),
+    ("elec=001:{", &["E_sym=002", "E_wire=000", "E_wire=001", "E_cirno=", "S_base=000", "E_sym=010"]),
+    ("sym=001:{", &["S_base=000", "S_elec=003", "S_elec=", "E_sym=000"]),
+    (
+        "FILE_FORMAT:{",
+        &["cad=:{", "cad=", "cad:{", "range=", "range:{", "all_line=1", "all_line=:{", "tel=:{", "name=", "size=A1", "time=1:{", "corp=:{", "next_file=:{"],
+    ),
+    (
+        "DRAWING_FORMAT:{",
+        &["floor_height:{", "floor_height=", "floor_height=1", "project=:{", "layer_name=", "layer_name:{", "time=000000", "drawer=:{", "cad=x", "size="],
+    ),
+    ("successive:{", &["line=0000,1,1,2,2", "point=", "point:{", "point=0000,-1,1", "type=", "point=0000,1,1", "text:{"]),
+    ("hide:{", &["line=0000,1,1,2,2", "point=", "point:{", "point=0000,-1,1", "point=0000,1", "hide:{"]),
+    ("element:{", &["E_symbol=A,1,1,0,1", "E_symbol:{", "point=0000,-1,-1", "line=", "text=", "successive=", "LAYER=E_151:{", "circle:{"]),
+    ("text:{", &["type=", "type:{", "character=:{", "character=", "character:{", "foo=", "character=a", "point=0000,1,1", "text:{"]),
+    ("ELEMENT:{", &["LAYER=", "LAYER:{", "LAYER=E_151", "LAYER=:{", "line=0000,1,1,2,2", "ELEMENT:{", "FILE_FORMAT:{", "NON="]),
+];
+
+/// A line put into a block where something is said of it, at its head or before its close.
+fn line_in_block(random: &mut Random, draft: &mut Draft) -> Option<()> {
+    let (opener, lines) = *random.pick(IN_BLOCKS);
+    let (volume, start) = any_where(random, draft, |line| trimmed(line) == opener.as_bytes())?;
+    let end = block_end(&draft.volumes[volume].lines, start)?;
+    let at = *random.pick(&[start + 1, end - 1]);
+    draft.volumes[volume].lines.insert(at, random.pick(lines).as_bytes().to_vec());
+    Some(())
+}
+
 /// How many lines with a key stand around this one without another between.
 fn neighbours(lines: &[Line], at: usize, key: &[u8]) -> usize {
     let same = |line: &&Line| key_of(line) == Some(key);
@@ -754,16 +840,26 @@ fn line_from_another_set(random: &mut Random, draft: &mut Draft) -> Option<()> {
 
 /// The lines of a block, from its opener to its close.
 fn any_block(random: &mut Random, draft: &Draft) -> Option<(usize, usize, usize)> {
-    let (volume, start) = any_where(random, draft, |line| line.ends_with(b":{") && key_of(line) != Some(b"character"))?;
+    let (volume, start) = any_where(random, draft, opens)?;
+    Some((volume, start, block_end(&draft.volumes[volume].lines, start)?))
+}
+
+/// A line that ends as an opener does, and is no text.
+fn opens(line: &[u8]) -> bool {
+    line.ends_with(b":{") && line.first() != Some(&b'#') && key_of(line) != Some(b"character")
+}
+
+/// The line after the close of the block that opens at `start`.
+fn block_end(lines: &[Line], start: usize) -> Option<usize> {
     let mut depth = 0;
-    for (index, line) in draft.volumes[volume].lines.iter().enumerate().skip(start) {
-        if line.ends_with(b":{") {
+    for (index, line) in lines.iter().enumerate().skip(start) {
+        if opens(line) {
             depth += 1;
         } else if trimmed(line) == b"}" {
             depth -= 1;
         }
         if depth == 0 {
-            return Some((volume, start, index + 1));
+            return Some(index + 1);
         }
     }
     None
@@ -794,7 +890,7 @@ fn top_blocks_exchanged(random: &mut Random, draft: &mut Draft) -> Option<()> {
     let mut blocks: Vec<Vec<Line>> = vec![Vec::new()];
     let mut depth = 0;
     for line in draft.volumes[volume].lines.drain(..) {
-        if line.ends_with(b":{") && key_of(&line) != Some(b"character") {
+        if opens(&line) {
             depth += 1;
         } else if trimmed(&line) == b"}" {
             depth -= 1;

@@ -6,10 +6,13 @@ use reference::random::Random;
 use reference::records::NUMBERS;
 use reference::{check, read, rewrite};
 
-const ROOM: usize = 4000 * NUMBERS;
+/// A table that every record of a spool fits: no line that takes one is shorter than `E_151=` and its end.
+fn room(spool: &[u8]) -> usize {
+    (spool.len() / 8 + 2) * NUMBERS
+}
 
 fn records(spool: &[u8], class: u8) -> Option<Vec<i64>> {
-    let read = read(spool, class, ROOM);
+    let read = read(spool, class, room(spool));
     let records = read.lent[..read.count * NUMBERS].to_vec();
     (read.answer == 0).then_some(records)
 }
@@ -95,11 +98,11 @@ fn same_but_unread(lower: &[i64], higher: &[i64], what: &str) {
 
 #[test]
 fn sound_sets_are_accepted() {
-    for seed in 0..6000 {
+    for seed in 0..3000 {
         let mut random = Random::new(seed);
         let draft = sound_set(&mut random, seed % 2 == 0);
         let spool = draft.spool();
-        let read = read(&spool, draft.class, ROOM);
+        let read = read(&spool, draft.class, room(&spool));
         assert_eq!((read.answer, read.volume, read.line), (0, 0, 0), "seed {seed}, class {}", draft.class);
     }
 }

@@ -1,57 +1,59 @@
-//! `spools N SEED`: N questions on standard output. `spools --survey N SEED`: how often each answer comes.
+//! `spools N SEED`: N questions on standard output.
+//! `spools --only K SEED`: question K of them alone, from 0.
+//! `spools --spool K SEED`: its spool alone, to be looked at.
+//! `spools --survey N SEED`: how often each answer comes.
 
-use std::collections::BTreeMap;
 use std::io::{self, BufWriter, Write};
 use std::process::ExitCode;
 
 use reference::frames::question;
 use reference::{read, rewrite};
 
+const USAGE: &str = "spools N SEED\nspools --only K SEED\nspools --spool K SEED\nspools --survey N SEED";
+
 fn main() -> ExitCode {
-    let arguments: Vec<String> = std::env::args().skip(1).collect();
-    let (surveyed, numbers) = match &arguments[..] {
-        [flag, rest @ ..] if flag == "--survey" => (true, rest),
-        rest => (false, rest),
-    };
-    let numbers: Vec<u64> = numbers.iter().filter_map(|argument| argument.parse().ok()).collect();
-    let [count, seed] = numbers[..] else {
-        eprintln!("spools [--survey] N SEED");
+    let mut arguments: Vec<String> = std::env::args().skip(1).collect();
+    let mode = if arguments.len() == 3 { arguments.remove(0) } else { String::new() };
+    let numbers: Vec<u64> = arguments.iter().filter_map(|argument| argument.parse().ok()).collect();
+    let [number, seed] = numbers[..] else {
+        eprintln!("{USAGE}");
         return ExitCode::from(2);
     };
-    if surveyed {
-        survey(count, seed);
-        return ExitCode::SUCCESS;
-    }
     let mut out = BufWriter::new(io::stdout().lock());
-    for number in 0..count {
-        // A reader that has seen enough may close its end.
-        if question(seed, number).write(&mut out).is_err() {
-            return ExitCode::FAILURE;
+    let written = match &mode[..] {
+        "" => (0..number).try_for_each(|index| question(seed, index).write(&mut out)),
+        "--only" => question(seed, number).write(&mut out),
+        "--spool" => out.write_all(&question(seed, number).spool),
+        "--survey" => survey(number, seed, &mut out),
+        _ => {
+            eprintln!("{USAGE}");
+            return ExitCode::from(2);
         }
+    };
+    // Whoever reads may have seen enough and closed its end.
+    match written.and_then(|()| out.flush()) {
+        Ok(()) => ExitCode::SUCCESS,
+        Err(_) => ExitCode::FAILURE,
     }
-    if out.flush().is_err() {
-        return ExitCode::FAILURE;
-    }
-    ExitCode::SUCCESS
 }
 
-fn survey(count: u64, seed: u64) {
-    let mut read_answers: BTreeMap<u8, u64> = BTreeMap::new();
-    let mut rewrite_answers: BTreeMap<u8, u64> = BTreeMap::new();
+fn survey(count: u64, seed: u64, out: &mut impl Write) -> io::Result<()> {
+    let mut read_answers = [0; 21];
+    let mut rewrite_answers = [0; 21];
     let (mut bytes, mut records) = (0, 0);
-    for number in 0..count {
-        let question = question(seed, number);
+    for index in 0..count {
+        let question = question(seed, index);
         let read = read(&question.spool, question.class, question.table_len as usize);
         let rewritten = rewrite(&question.spool, question.out_len as usize);
-        *read_answers.entry(read.answer).or_default() += 1;
-        *rewrite_answers.entry(rewritten.answer).or_default() += 1;
+        read_answers[read.answer as usize] += 1;
+        rewrite_answers[rewritten.answer as usize] += 1;
         bytes += question.spool.len();
         records += read.count;
     }
-    println!("{count} spools, {bytes} bytes, {records} records");
-    println!("answer      read   rewrite");
+    writeln!(out, "{count} spools, {bytes} bytes, {records} records")?;
+    writeln!(out, "answer      read   rewrite")?;
     for answer in 0..=20 {
-        let of = |answers: &BTreeMap<u8, u64>| answers.get(&answer).copied().unwrap_or(0);
-        println!("{answer:6} {:9} {:9}", of(&read_answers), of(&rewrite_answers));
+        writeln!(out, "{answer:6} {:9} {:9}", read_answers[answer], rewrite_answers[answer])?;
     }
+    Ok(())
 }
