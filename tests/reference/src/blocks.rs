@@ -136,9 +136,7 @@ pub fn permission(place: Place, key: &[u8], here: &Circumstances<'_>) -> Permiss
             _ => Permission::NotAllowed,
         },
         // A layer declared twice is 14, not 7. "A misspelt id is 6 in `layer_name`."
-        Place::LayerName => {
-            only_if(is_layer_id(key), Permission::Known(Known { forms: Forms::ContentOrEmpty, free: true, once: false }))
-        }
+        Place::LayerName => only_if(is_layer_id(key), Permission::Known(Known { forms: Forms::ContentOrEmpty, free: true, once: false })),
         Place::SymbolDefine => match key {
             b"NON" => once(Forms::Empty),
             // "one or more `E_symbol` (S_elec at least 001)"
@@ -177,8 +175,8 @@ pub fn permission(place: Place, key: &[u8], here: &Circumstances<'_>) -> Permiss
 /// "Later volumes have only this_line, this_ele, next_file, date, time."
 const LATER_FILE_FORMAT: [&[u8]; 5] = [b"this_line", b"this_ele", b"next_file", b"date", b"time"];
 const FILE_FORMAT: [&[u8]; 16] = [
-    b"range", b"all_line", b"this_line", b"all_ele", b"this_ele", b"next_file", b"date", b"time", b"cad", b"os", b"hard", b"ver", b"corp",
-    b"make", b"tel", b"name",
+    b"range", b"all_line", b"this_line", b"all_ele", b"this_ele", b"next_file", b"date", b"time", b"cad", b"os", b"hard", b"ver", b"corp", b"make",
+    b"tel", b"name",
 ];
 const ELEC: [&[u8]; 3] = [b"E_sym", b"E_wire", b"E_cirno"];
 const SYM: [&[u8]; 2] = [b"S_base", b"S_elec"];
@@ -260,10 +258,7 @@ pub fn required(place: Place, here: &Circumstances<'_>) -> Vec<&'static [u8]> {
         Place::Placed => {
             let e_sym = here.ranges.e_sym_digits();
             // "`text`, may be missing"; "a skipped key may be missing"
-            let read = Attribute::ALL
-                .into_iter()
-                .filter(|&a| a != Attribute::Text && e_sym.allow(a) && here.class.knows(a))
-                .map(Attribute::key);
+            let read = Attribute::ALL.into_iter().filter(|&a| a != Attribute::Text && e_sym.allow(a) && here.class.knows(a)).map(Attribute::key);
             std::iter::once(&b"symbol"[..]).chain(read).collect()
         }
         _ => Vec::new(),

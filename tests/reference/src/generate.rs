@@ -2,8 +2,8 @@
 
 use std::collections::HashSet;
 
-use crate::ranges::{Attribute, Class, Digits};
 use crate::random::Random;
+use crate::ranges::{Attribute, Class, Digits};
 use crate::spool::{FINAL_BYTE, LONGEST_LINE, MARK, MOST_BYTES, NAME_BYTES};
 
 pub type Line = Vec<u8>;
@@ -411,11 +411,7 @@ fn range(random: &mut Random, plan: &Plan) -> Vec<Line> {
         None => {}
         Some(0) => groups.push(vec![entry("elec", "000")]),
         Some(_) => {
-            let held = vec![
-                vec![entry("E_sym", format!("{:03}", plan.e_sym))],
-                vec![entry("E_wire", "000")],
-                vec![entry("E_cirno", "000")],
-            ];
+            let held = vec![vec![entry("E_sym", format!("{:03}", plan.e_sym))], vec![entry("E_wire", "000")], vec![entry("E_cirno", "000")]];
             groups.push(block("elec=001", plan.any_order(random, held)));
         }
     }
@@ -680,13 +676,8 @@ fn text_figure(random: &mut Random, plan: &Plan, in_symbol: bool) -> Vec<Line> {
 
 fn placed_symbol(random: &mut Random, plan: &mut Plan) -> Vec<Line> {
     let name = random.pick(&plan.symbols).clone();
-    let content = join([
-        name,
-        coordinate(random, false),
-        coordinate(random, false),
-        decimal(random, Wanted::Angle),
-        decimal(random, Wanted::AboveZero),
-    ]);
+    let content =
+        join([name, coordinate(random, false), coordinate(random, false), decimal(random, Wanted::Angle), decimal(random, Wanted::AboveZero)]);
     if plan.e_sym == 1 {
         return vec![entry("E_symbol", content)];
     }

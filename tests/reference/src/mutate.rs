@@ -251,11 +251,11 @@ fn line_moved(random: &mut Random, draft: &mut Draft) -> Option<()> {
 }
 
 const KEYS: &[&str] = &[
-    "FILE_FORMAT", "DRAWING_FORMAT", "SYMBOL_DEFINE", "ELEMENT", "range", "base", "B_sym", "arc", "elec", "E_sym", "E_wire", "E_cirno",
-    "air", "pipe", "sym", "S_base", "S_elec", "all_line", "this_line", "all_ele", "this_ele", "next_file", "date", "time", "cad", "os",
-    "hard", "ver", "corp", "make", "tel", "name", "size", "scale", "project", "drawname", "drawer", "floor_height", "layer_name", "E_151",
-    "B_000", "NON", "E_symbol", "element", "hide", "wall", "LAYER", "line", "circle", "ellipse", "point", "successive", "text", "type",
-    "character", "symbol", "hight", "pos", "circuit", "serial", "EOF", "}", "foo", "include", "B_symbol",
+    "FILE_FORMAT", "DRAWING_FORMAT", "SYMBOL_DEFINE", "ELEMENT", "range", "base", "B_sym", "arc", "elec", "E_sym", "E_wire", "E_cirno", "air",
+    "pipe", "sym", "S_base", "S_elec", "all_line", "this_line", "all_ele", "this_ele", "next_file", "date", "time", "cad", "os", "hard", "ver",
+    "corp", "make", "tel", "name", "size", "scale", "project", "drawname", "drawer", "floor_height", "layer_name", "E_151", "B_000", "NON",
+    "E_symbol", "element", "hide", "wall", "LAYER", "line", "circle", "ellipse", "point", "successive", "text", "type", "character", "symbol",
+    "hight", "pos", "circuit", "serial", "EOF", "}", "foo", "include", "B_symbol",
 ];
 
 /// The key of a line, changed for another, or in its case, or by a blank.
@@ -285,13 +285,12 @@ fn key_exchanged(random: &mut Random, draft: &mut Draft) -> Option<()> {
 }
 
 const COUNTS: &[&str] = &["0", "000000000", "999999999", "1000000000", "0000000001", "-1", "1.0", "a", "1 ", " 1", "1,2", ""];
-const DATES: &[&str] = &[
-    "19970230", "00000101", "99991231", "19971301", "19970001", "19970100", "19970132", "1997010", "199701011", "1997010a", "19970131",
-];
+const DATES: &[&str] =
+    &["19970230", "00000101", "99991231", "19971301", "19970001", "19970100", "19970132", "1997010", "199701011", "1997010a", "19970131"];
 const TIMES: &[&str] = &["000000", "235959", "240000", "236000", "235960", "23595", "2359590", "00000a", "195959"];
 const RANGES: &[&str] = &[
-    "000", "001", "002", "003", "004", "005", "006", "009", "010", "011", "012", "013", "014", "015", "016", "020", "021", "100", "101",
-    "111", "00", "0001", "abc", "0 1", "-01", "999", "001:{", "000:{", "002:{",
+    "000", "001", "002", "003", "004", "005", "006", "009", "010", "011", "012", "013", "014", "015", "016", "020", "021", "100", "101", "111", "00",
+    "0001", "abc", "0 1", "-01", "999", "001:{", "000:{", "002:{",
 ];
 const RANGE_KEYS: &[&str] = &[
     "base", "B_sym", "arc", "elec", "elec", "E_sym", "E_sym", "E_sym", "E_wire", "E_cirno", "air", "pipe", "sym", "sym", "S_base", "S_elec", "S_elec",
@@ -301,20 +300,21 @@ const SIZES: &[&str] = &[
     "49A0", "36A1", "25A1", "9A0", "4A1:{", "\u{20}A1",
 ];
 const SCALES: &[&str] = &[
-    "1", "99999", "100000", "0", "1/2", "2/1", "1/1", "1/99999", "1/100000", "0/5", "1/", "/2", "1/2/3", "00001/0002", "999999999/1000000000",
-    "1/0", "-1", "1.5", "99998/99999", "99999/99999", "000099999", "0000000001", "1/100:{", "5/05",
+    "1", "99999", "100000", "0", "1/2", "2/1", "1/1", "1/99999", "1/100000", "0/5", "1/", "/2", "1/2/3", "00001/0002", "999999999/1000000000", "1/0",
+    "-1", "1.5", "99998/99999", "99999/99999", "000099999", "0000000001", "1/100:{", "5/05",
 ];
 const NUMBERS: &[&str] = &[
-    "0", "-0", "-0.0001", "0.0001", "0.00001", "00000001", "0000001", "9999999", "9999999.9999", "10000000", "9999999.99990", "-9999999.9999",
-    "5.", ".5", "+1", "1e3", "", " 1", "1 ", "--1", "1.2.3", "360", "360.0001", "360.0000", "359.9999", "361", "-1", "1", "2", "6", "01",
-    "00", "12a4", "0000", "9999", "123", "12345", "1234", "1;2", "-", "-.", "0.", "5.0", "5",
+    "0", "-0", "-0.0001", "0.0001", "0.00001", "00000001", "0000001", "9999999", "9999999.9999", "10000000", "9999999.99990", "-9999999.9999", "5.",
+    ".5", "+1", "1e3", "", " 1", "1 ", "--1", "1.2.3", "360", "360.0001", "360.0000", "359.9999", "361", "-1", "1", "2", "6", "01", "00", "12a4",
+    "0000", "9999", "123", "12345", "1234", "1;2", "-", "-.", "0.", "5.0", "5",
 ];
-const NAMES: &[&str] = &["A", "", "A_B", "ABCDEFGHIJKLMNOPQRSTUVWXYZ012345", "ABCDEFGHIJKLMNOPQRSTUVWXYZ0123456", "a b", "A:{", "TEST2", "test10", "TOOLONGNAME"];
+const NAMES: &[&str] =
+    &["A", "", "A_B", "ABCDEFGHIJKLMNOPQRSTUVWXYZ012345", "ABCDEFGHIJKLMNOPQRSTUVWXYZ0123456", "a b", "A:{", "TEST2", "test10", "TOOLONGNAME"];
 const POSITIONS: &[&str] = &["", "0", "1", "5", "6", "9", "01", "-1", "1.0", "a", " ", "1 "];
 const CIRCUITS: &[&str] = &["", "A", "a-1.B", "ABCDEFGHIJ", "ABCDEFGHIJK", "A_B", "A:{", ":{", " ", "1,2"];
 const SERIALS: &[&str] = &[
-    "0", "1", "01", "0000000001", "00000000001", "9999999999", "10000000000", "1,", ",1", "1,,2", "1,2,3", "1,a", "-1", "", "1 ", "1:{", "1,1",
-    "2", "0,0000000000", "3,12345678901",
+    "0", "1", "01", "0000000001", "00000000001", "9999999999", "10000000000", "1,", ",1", "1,,2", "1,2,3", "1,a", "-1", "", "1 ", "1:{", "1,1", "2",
+    "0,0000000000", "3,12345678901",
 ];
 const WALLS: &[&str] = &["", "1,2", "-1,-2", "1", "1,2,3", "1,", ",", "-0,0.0", "1,2:{", "9999999.9999,-9999999.9999", "a,b"];
 const TELEPHONES: &[&str] = &["", "03-1234-5678(901)", "01234567890123456789", "012345678901234567890", "+81", "1 2", "1:{", ":{", "1a"];
@@ -371,19 +371,74 @@ const TYPES: &[&str] = &["0000", "9999", "123", "12345", "12a4", "", "-123", "1.
 
 /// Which item of which key, and values just inside and just outside its limits.
 const LIMITS: &[(&str, usize, &[&str])] = &[
-    ("line", 0, TYPES), ("line", 1, COORDINATES), ("line", 2, COORDINATES), ("line", 3, COORDINATES), ("line", 4, COORDINATES),
-    ("circle", 0, TYPES), ("circle", 1, COORDINATES), ("circle", 2, COORDINATES), ("circle", 3, ABOVE_ZERO), ("circle", 4, ANGLES),
-    ("circle", 5, ANGLES), ("circle", 6, FLAGS), ("ellipse", 0, TYPES), ("ellipse", 1, COORDINATES), ("ellipse", 2, COORDINATES),
-    ("ellipse", 3, ABOVE_ZERO), ("ellipse", 4, ABOVE_ZERO), ("ellipse", 5, ANGLES), ("ellipse", 6, ANGLES), ("ellipse", 7, ANGLES),
-    ("ellipse", 8, FLAGS), ("point", 0, TYPES), ("point", 1, COORDINATES), ("point", 2, COORDINATES), ("type", 0, TYPES),
-    ("type", 1, COORDINATES), ("type", 2, COORDINATES), ("type", 3, ABOVE_ZERO), ("type", 4, ABOVE_ZERO), ("type", 5, NOT_NEGATIVE),
-    ("type", 6, ANGLES), ("type", 7, FLAGS), ("symbol", 1, COORDINATES), ("symbol", 2, COORDINATES), ("symbol", 3, ANGLES),
-    ("symbol", 4, ABOVE_ZERO), ("E_symbol", 1, COORDINATES), ("E_symbol", 2, COORDINATES), ("E_symbol", 3, ANGLES), ("E_symbol", 4, ABOVE_ZERO),
-    ("floor_height", 0, NOT_NEGATIVE), ("hight", 0, COORDINATES), ("pos", 0, POSITIONS), ("circuit", 0, CIRCUITS), ("wall", 0, COORDINATES),
-    ("wall", 1, COORDINATES), ("size", 0, SIZES), ("size", 0, SIZES), ("scale", 0, SCALES), ("scale", 0, SCALES), ("date", 0, DATES),
-    ("time", 0, TIMES), ("tel", 0, TELEPHONES), ("next_file", 0, NAMES), ("name", 0, NAMES), ("serial", 0, SERIALS), ("serial", 1, SERIALS),
-    ("serial", 0, SERIALS), ("serial", 2, SERIALS), ("pos", 0, POSITIONS), ("pos", 0, POSITIONS), ("circuit", 0, CIRCUITS), ("circuit", 0, CIRCUITS),
-    ("symbol", 0, NAMES), ("symbol", 0, NAMES), ("all_line", 0, COUNTS), ("this_line", 0, COUNTS), ("all_ele", 0, COUNTS),
+    ("line", 0, TYPES),
+    ("line", 1, COORDINATES),
+    ("line", 2, COORDINATES),
+    ("line", 3, COORDINATES),
+    ("line", 4, COORDINATES),
+    ("circle", 0, TYPES),
+    ("circle", 1, COORDINATES),
+    ("circle", 2, COORDINATES),
+    ("circle", 3, ABOVE_ZERO),
+    ("circle", 4, ANGLES),
+    ("circle", 5, ANGLES),
+    ("circle", 6, FLAGS),
+    ("ellipse", 0, TYPES),
+    ("ellipse", 1, COORDINATES),
+    ("ellipse", 2, COORDINATES),
+    ("ellipse", 3, ABOVE_ZERO),
+    ("ellipse", 4, ABOVE_ZERO),
+    ("ellipse", 5, ANGLES),
+    ("ellipse", 6, ANGLES),
+    ("ellipse", 7, ANGLES),
+    ("ellipse", 8, FLAGS),
+    ("point", 0, TYPES),
+    ("point", 1, COORDINATES),
+    ("point", 2, COORDINATES),
+    ("type", 0, TYPES),
+    ("type", 1, COORDINATES),
+    ("type", 2, COORDINATES),
+    ("type", 3, ABOVE_ZERO),
+    ("type", 4, ABOVE_ZERO),
+    ("type", 5, NOT_NEGATIVE),
+    ("type", 6, ANGLES),
+    ("type", 7, FLAGS),
+    ("symbol", 1, COORDINATES),
+    ("symbol", 2, COORDINATES),
+    ("symbol", 3, ANGLES),
+    ("symbol", 4, ABOVE_ZERO),
+    ("E_symbol", 1, COORDINATES),
+    ("E_symbol", 2, COORDINATES),
+    ("E_symbol", 3, ANGLES),
+    ("E_symbol", 4, ABOVE_ZERO),
+    ("floor_height", 0, NOT_NEGATIVE),
+    ("hight", 0, COORDINATES),
+    ("pos", 0, POSITIONS),
+    ("circuit", 0, CIRCUITS),
+    ("wall", 0, COORDINATES),
+    ("wall", 1, COORDINATES),
+    ("size", 0, SIZES),
+    ("size", 0, SIZES),
+    ("scale", 0, SCALES),
+    ("scale", 0, SCALES),
+    ("date", 0, DATES),
+    ("time", 0, TIMES),
+    ("tel", 0, TELEPHONES),
+    ("next_file", 0, NAMES),
+    ("name", 0, NAMES),
+    ("serial", 0, SERIALS),
+    ("serial", 1, SERIALS),
+    ("serial", 0, SERIALS),
+    ("serial", 2, SERIALS),
+    ("pos", 0, POSITIONS),
+    ("pos", 0, POSITIONS),
+    ("circuit", 0, CIRCUITS),
+    ("circuit", 0, CIRCUITS),
+    ("symbol", 0, NAMES),
+    ("symbol", 0, NAMES),
+    ("all_line", 0, COUNTS),
+    ("this_line", 0, COUNTS),
+    ("all_ele", 0, COUNTS),
 ];
 
 /// One value just inside or just outside its limits, each value of each key as likely as another.
@@ -701,16 +756,16 @@ const IN_BLOCKS: &[(&str, &[&str])] = &[
     (
         "E_symbol:{",
         &[
-            "foo=1", "foo:{", "foo=:{", "wall=", "hight=", "hight:{", "hight=1:{", "text:{", "text=", "serial=5", "serial=", "serial:{", "pos=", "pos:{",
-            "circuit=", "circuit=A:{", "character=:{", "character=a", "character:{", "symbol=", "symbol:{", "line=0000,1,1,2,2", "EOF", "EOF=", "name=",
-            "hide:{", "hide=", "element=",
+            "foo=1", "foo:{", "foo=:{", "wall=", "hight=", "hight:{", "hight=1:{", "text:{", "text=", "serial=5", "serial=", "serial:{", "pos=",
+            "pos:{", "circuit=", "circuit=A:{", "character=:{", "character=a", "character:{", "symbol=", "symbol:{", "line=0000,1,1,2,2", "EOF",
+            "EOF=", "name=", "hide:{", "hide=", "element=",
         ],
     ),
     (
         "range:{",
         &[
-            "elec=001", "elec=000", "elec=000:{", "elec=002", "elec=002:{", "elec:{", "elec=", "base=001", "base=001:{", "arc=002:{", "arc=001:{", "sym=001",
-            "sym=000", "sym=003:{", "sym=00", "E_sym=001", "date=", "air=001", "pipe=000:{",
+            "elec=001", "elec=000", "elec=000:{", "elec=002", "elec=002:{", "elec:{", "elec=", "base=001", "base=001:{", "arc=002:{", "arc=001:{",
+            "sym=001", "sym=000", "sym=003:{", "sym=00", "E_sym=001", "date=", "air=001", "pipe=000:{",
         ],
     ),
     ("base=001:{", &["B_sym=000", "B_sym=", "B_sym=001:{", "E_sym=001", "B_sym:{"]),
@@ -718,11 +773,17 @@ const IN_BLOCKS: &[(&str, &[&str])] = &[
     ("sym=001:{", &["S_base=000", "S_elec=003", "S_elec=", "E_sym=000"]),
     (
         "FILE_FORMAT:{",
-        &["cad=:{", "cad=", "cad:{", "range=", "range:{", "all_line=1", "all_line=:{", "tel=:{", "name=", "size=A1", "time=1:{", "corp=:{", "next_file=:{"],
+        &[
+            "cad=:{", "cad=", "cad:{", "range=", "range:{", "all_line=1", "all_line=:{", "tel=:{", "name=", "size=A1", "time=1:{", "corp=:{",
+            "next_file=:{",
+        ],
     ),
     (
         "DRAWING_FORMAT:{",
-        &["floor_height:{", "floor_height=", "floor_height=1", "project=:{", "layer_name=", "layer_name:{", "time=000000", "drawer=:{", "cad=x", "size="],
+        &[
+            "floor_height:{", "floor_height=", "floor_height=1", "project=:{", "layer_name=", "layer_name:{", "time=000000", "drawer=:{", "cad=x",
+            "size=",
+        ],
     ),
     ("successive:{", &["line=0000,1,1,2,2", "point=", "point:{", "point=0000,-1,1", "type=", "point=0000,1,1", "text:{"]),
     ("hide:{", &["line=0000,1,1,2,2", "point=", "point:{", "point=0000,-1,1", "point=0000,1", "hide:{"]),
@@ -750,8 +811,21 @@ fn neighbours(lines: &[Line], at: usize, key: &[u8]) -> usize {
 /// A text of exactly the most bytes that its key takes, or one more.
 fn text_lengthened(random: &mut Random, draft: &mut Draft) -> Option<()> {
     const MOST: &[(&str, usize)] = &[
-        ("cad", 20), ("os", 20), ("hard", 20), ("ver", 10), ("corp", 40), ("make", 40), ("name", 20), ("name", 32), ("project", 60), ("drawname", 60),
-        ("drawer", 20), ("character", 200), ("character", 200), ("circuit", 10), ("tel", 20),
+        ("cad", 20),
+        ("os", 20),
+        ("hard", 20),
+        ("ver", 10),
+        ("corp", 40),
+        ("make", 40),
+        ("name", 20),
+        ("name", 32),
+        ("project", 60),
+        ("drawname", 60),
+        ("drawer", 20),
+        ("character", 200),
+        ("character", 200),
+        ("circuit", 10),
+        ("tel", 20),
     ];
     let (key, most) = *random.pick(MOST);
     let length = most + random.below(2);
@@ -805,10 +879,10 @@ fn form_changed(random: &mut Random, draft: &mut Draft) -> Option<()> {
 
 const ODD: &[&str] = &[
     "EOF=", "}=1", "} ", "EOF ", "}}", " #x", " # a=b", "character=:{", "character=a:{", "character:{", "project=:{", "project=a:{", "tel=:{",
-    "a:=1", "a:{b=c", "a:{ ", "k=a:{b", "k=x:{:{", "k=:{:{", "=", ":{", "=x", "foo=1", "foo=", "foo:{", "NON=", "NON=x", "E_symbol:{",
-    "E_symbol=", "floor_height=", "floor_height:{", "floor_height=1", "wall=", "wall:{", "wall=1,2", "hight=", "hight:{", "pos=", "circuit=",
-    "serial=5", "serial=", "text:{", "hide:{", "hide=", "layer_name:{", "layer_name=", "element:{", "element=", "range:{", "elec=000", "arc=000",
-    "air=000", "pipe=001", "sym=000", "LAYER=E_151:{", "LAYER=", "LAYER:{", "E_15=:{", "E_15=", "E_15:{", "E_151=", "E_151:{", "E_151=:{", "eof",
+    "a:=1", "a:{b=c", "a:{ ", "k=a:{b", "k=x:{:{", "k=:{:{", "=", ":{", "=x", "foo=1", "foo=", "foo:{", "NON=", "NON=x", "E_symbol:{", "E_symbol=",
+    "floor_height=", "floor_height:{", "floor_height=1", "wall=", "wall:{", "wall=1,2", "hight=", "hight:{", "pos=", "circuit=", "serial=5",
+    "serial=", "text:{", "hide:{", "hide=", "layer_name:{", "layer_name=", "element:{", "element=", "range:{", "elec=000", "arc=000", "air=000",
+    "pipe=001", "sym=000", "LAYER=E_151:{", "LAYER=", "LAYER:{", "E_15=:{", "E_15=", "E_15:{", "E_151=", "E_151:{", "E_151=:{", "eof",
     "FILE_FORMAT:{", "DRAWING_FORMAT:{", "SYMBOL_DEFINE:{", "ELEMENT:{", "FILE_FORMAT=", "ELEMENT=1", "DRAWING_FORMAT=a:{", "date=19970101",
     "point=0000,1,1", "line=0000,1,1,2,2", "line=1307,5,5,5.0,5", "successive:{", "type=0000,1,1,1,1,0,0,0", "symbol=A,1,1,0,1", "next_file=",
     "this_ele=0", "all_ele=0", "cad=x", "name=", "name=A", "#", "", " ", "}", "EOF",

@@ -7,7 +7,7 @@ use crate::figures::{self, Column};
 use crate::lines::{self, Form, Tail};
 use crate::ranges::{self, Class};
 use crate::refusal::{Faults, Refusal};
-use crate::set::{Declared, Figure, Layer, OneLine, Part, Placed, Point, Set, Shape, State, Symbol, TextFigure, Typed, VolumeRead, NO_TEXT};
+use crate::set::{Declared, Figure, Layer, OneLine, Part, Placed, Point, Set, Shape, State, Symbol, TextFigure, VolumeRead, NO_TEXT};
 use crate::spool::{self, Text, Volume};
 use crate::values;
 
@@ -631,11 +631,4 @@ fn or_fault<T: Default>(read: Result<T, u8>, faults: &mut Faults) -> T {
         faults.add(number);
         T::default()
     })
-}
-
-/// So that a line's figures can be left out where it is refused.
-impl Default for Shape<'_> {
-    fn default() -> Self {
-        Shape::OneLine(OneLine::Point, Typed::default())
-    }
 }

@@ -12,7 +12,7 @@ const UNREAD: i64 = 3;
 
 /// Every record of the set, one after another.
 pub fn table(set: &Set<'_>, class: Class) -> Vec<i64> {
-    let mut table = Table { numbers: Vec::new(), class, e_sym: set.header.ranges.e_sym_digits(), block_form: set.header.ranges.e_sym != 1 };
+    let mut table = Table { numbers: Vec::new(), class, e_sym: set.header.ranges.e_sym_digits() };
     table.header(set);
     for (index, volume) in set.volumes.iter().enumerate() {
         let number = index + 1;
@@ -39,8 +39,6 @@ struct Table {
     numbers: Vec<i64>,
     class: Class,
     e_sym: Digits,
-    /// Placed symbols are blocks: at any range but 001.
-    block_form: bool,
 }
 
 /// A record being filled: "0 kind, 1 owner, 2 volume from 1, 3 line, 4 type, 5 on values in file order, unused 0".
@@ -230,16 +228,28 @@ impl Table {
     }
 
     fn attribute_state(&self, attribute: Attribute, placed: &Placed<'_>) -> i64 {
-        // "An attribute E_sym allows and the class doesn't know has state 3 and zeros."
-        if self.block_form && self.e_sym.allow(attribute) && !self.class.knows(attribute) {
+        // At range 001, where there is no block, E_sym allows none. "An attribute E_sym allows and the class doesn't know has state 3 and zeros."
+        if self.e_sym.allow(attribute) && !self.class.knows(attribute) {
             return UNREAD;
         }
         match attribute {
-            Attribute::Text => if placed.text.is_some() { 2 } else { 0 },
+            Attribute::Text => {
+                if placed.text.is_some() {
+                    2
+                } else {
+                    0
+                }
+            }
             Attribute::Hight => state(&placed.hight),
             Attribute::Pos => state(&placed.pos),
             Attribute::Circuit => state(&placed.circuit),
-            Attribute::Serial => if placed.serial.is_some() { 2 } else { 0 },
+            Attribute::Serial => {
+                if placed.serial.is_some() {
+                    2
+                } else {
+                    0
+                }
+            }
         }
     }
 }

@@ -173,15 +173,7 @@ impl<'s> Set<'s> {
     pub fn new() -> Self {
         Set {
             header: Header { ranges: Ranges::default(), all_line: 0, all_ele: 0, texts: [NO_TEXT; 8] },
-            drawing: Drawing {
-                line: 0,
-                sheet: (1, 0),
-                scale: (1, 1),
-                date: 0,
-                floor_height: State::Absent,
-                texts: [NO_TEXT; 3],
-                layers: Vec::new(),
-            },
+            drawing: Drawing { line: 0, sheet: (1, 0), scale: (1, 1), date: 0, floor_height: State::Absent, texts: [NO_TEXT; 3], layers: Vec::new() },
             symbols: Vec::new(),
             volumes: Vec::new(),
         }
