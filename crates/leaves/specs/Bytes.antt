@@ -1,11 +1,19 @@
 -- Byte strings: the part before and behind a byte, the sets of bytes by number.
-use Prim.Native.Nat.{ℕ}
+use Prim.Native.Nat.{ℕ, _+_, _*_}
 use mathlib.Core.Bool.{Bool, cond, _&&_, _||_, not}
 use mathlib.Core.List.{List, [], _∷_}
 use lib.Dec.{eqb}
+use lib.ListN.{getD}
 use Rattle.rules.specs.Base.{bytes, hasNumber}
 use Rattle.rules.specs.Lines.{singleByte, leadByte, trailByte}
 use Rattle.rules.specs.Values.{Bytes, anyBytes, ascii, lettersAndDigits, telephone, circuitBytes}
+
+-- four bytes and eight, from place i on, as one number, the first byte the lowest
+abbrev pub half : List ℕ → ℕ → ℕ
+half s i = getD s i 0 + 256 * (getD s (i + 1) 0 + 256 * (getD s (i + 2) 0 + 256 * getD s (i + 3) 0))
+
+abbrev pub word : List ℕ → ℕ → ℕ
+word s i = half s i + 4294967296 * half s (i + 4)
 
 -- what stands before the first c, all of it where there is none
 unfoldable pub upTo : ℕ → List ℕ → List ℕ

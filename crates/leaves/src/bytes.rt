@@ -1,3 +1,4 @@
+ghost use Prim.Native.Nat.{_+_, _≤_};
 ghost use mathlib.Core.Path.{_≡_};
 ghost use mathlib.Core.Bool.{Bool, _||_};
 ghost use lib.ListN.{length};
@@ -5,15 +6,29 @@ ghost use Rattle.rules.specs.Base.{all, same, within};
 ghost use Rattle.rules.specs.Lines.{singleByte, leadByte, trailByte, allowed};
 ghost use Rattle.rules.specs.Numbers.{isDigit};
 ghost use Rattle.rules.specs.Values.{lettersAndDigits, telephone, circuitBytes, isLetter, byteIn, isLayerId};
-ghost use Rattle.leaves.specs.Bytes.{upTo, bytesOf, mayStand, startsPair, isLayerLetter};
+ghost use Rattle.leaves.specs.Bytes.{half, word, upTo, bytesOf, mayStand, startsPair, isLayerLetter};
 
-// The two byte strings are the same.
-pub fn same(a: &[u8], b: &[u8]) -> bool
+// Four bytes at once, as one number: two such numbers are equal only if all four bytes are.
+fn half(s: &[u8], i: usize) -> u64
+    requires { ⌜ i + 4 ≤ length (now s) ⌝ }
+    ensures { λ r. ⌜ r ≡ half (now (s .entry)) i ⌝ }
+{
+    s[i] as u64 + 256 * (s[i + 1] as u64 + 256 * (s[i + 2] as u64 + 256 * s[i + 3] as u64))
+}
+
+// Eight bytes at once, in the same way.
+fn word(s: &[u8], i: usize) -> u64
+    requires { ⌜ i + 8 ≤ length (now s) ⌝ }
+    ensures { λ r. ⌜ r ≡ word (now (s .entry)) i ⌝ }
+{
+    half(s, i) + 4294967296 * half(s, i + 4)
+}
+
+// Byte by byte, for what is too short for more.
+fn same_bytes(a: &[u8], b: &[u8]) -> bool
+    requires { ⌜ length (now a) ≡ length (now b) ⌝ }
     ensures { λ r. ⌜ r ≡ same (now (a .entry)) (now (b .entry)) ⌝ }
 {
-    if a.len() != b.len() {
-        return false;
-    }
     let mut i = 0;
     while i < a.len() {
         if a[i] != b[i] {
@@ -22,6 +37,56 @@ pub fn same(a: &[u8], b: &[u8]) -> bool
         i += 1;
     }
     true
+}
+
+// Four to eight bytes: the first four and the last four are all of them, some of them twice.
+fn same_halves(a: &[u8], b: &[u8]) -> bool
+    requires { ⌜ length (now a) ≡ length (now b) ⌝ }
+    requires { ⌜ 4 ≤ length (now a) ⌝ }
+    requires { ⌜ length (now a) ≤ 8 ⌝ }
+    ensures { λ r. ⌜ r ≡ same (now (a .entry)) (now (b .entry)) ⌝ }
+{
+    let last = a.len() - 4;
+    if half(a, last) != half(b, last) {
+        return false;
+    }
+    half(a, 0) == half(b, 0)
+}
+
+// Eight bytes and more: the last eight first, as names that are counted differ there. The words before them may reach into them.
+fn same_words(a: &[u8], b: &[u8]) -> bool
+    requires { ⌜ length (now a) ≡ length (now b) ⌝ }
+    requires { ⌜ 8 ≤ length (now a) ⌝ }
+    ensures { λ r. ⌜ r ≡ same (now (a .entry)) (now (b .entry)) ⌝ }
+{
+    let last = a.len() - 8;
+    if word(a, last) != word(b, last) {
+        return false;
+    }
+    let mut i = 0;
+    while i < last {
+        if word(a, i) != word(b, i) {
+            return false;
+        }
+        i += 8;
+    }
+    true
+}
+
+// The two byte strings are the same.
+pub fn same(a: &[u8], b: &[u8]) -> bool
+    ensures { λ r. ⌜ r ≡ same (now (a .entry)) (now (b .entry)) ⌝ }
+{
+    if a.len() != b.len() {
+        return false;
+    }
+    if a.len() < 4 {
+        return same_bytes(a, b);
+    }
+    if a.len() < 8 {
+        return same_halves(a, b);
+    }
+    same_words(a, b)
 }
 
 // Where the first b stands, or the length.

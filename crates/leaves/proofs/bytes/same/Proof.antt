@@ -1,57 +1,38 @@
-use Prim.Native.Nat.{_≤_, _-_}
-use mathlib.Core.Path.{_≡_, refl, sym, _∙_}
+use mathlib.Core.Path.{sym}
 use native.Mathlib.Omega.{arith}
-use lib.ListN.{length, drop}
-use Rattle.rules.specs.Base.{same}
-use Rattle.leaves.proofs.Scan.{same-step, same-not, same-end, same-long}
+use Rattle.leaves.proofs.Scan.{same-long}
 use Rattle.leaves.proofs.bytes.same.Statement.{statement}
 use Rattle.leaves.proofs.bytes.same.Tie as tie
 
-abbrev Inv-loop : tie.InvT-loop
-Inv-loop a b i₀ i = (i ≤ length a) × (length a ≡ length b) × (same a b ≡ same (drop i a) (drop i b))
+returns : tie.Need-returns
+returns c = sym (same-long (c .before .before .before .args .a .now) (c .before .before .before .args .b .now) (c .if1 .taken))
 
-abbrev μ-loop : tie.MeasureT-loop
-μ-loop a b i₀ i = length a - i
+same-bytes-requires : tie.Need-same-bytes-requires
+same-bytes-requires c κs = c .before .if1 .left
 
-returns : tie.Need-returns Inv-loop μ-loop
-returns c = sym (same-long (c .before .args .a .now) (c .before .args .b .now) (c .if1 .taken))
+returns-2 : tie.Need-returns-2
+returns-2 c = c .same-bytes .ensures
 
-loop-holds : tie.Need-loop-holds Inv-loop μ-loop
-loop-holds c = (omega arith, c .if1 .left, refl)
+same-halves-requires : tie.Need-same-halves-requires
+same-halves-requires c κs = (c .before .before .if1 .left, (omega arith, omega arith))
 
-shared-slice-read-if2 : tie.Need-shared-slice-read-if2 Inv-loop μ-loop
-shared-slice-read-if2 c = omega arith
+returns-3 : tie.Need-returns-3
+returns-3 c = c .same-halves .ensures
 
-shared-slice-read-if2-2 : tie.Need-shared-slice-read-if2-2 Inv-loop μ-loop
-shared-slice-read-if2-2 c = omega arith
+same-words-requires : tie.Need-same-words-requires
+same-words-requires c κs = (c .before .before .if1 .left, omega arith)
 
-returns-2 : tie.Need-returns-2 Inv-loop μ-loop
-returns-2 c = sym (c .before .before .before .before .loop .inv .2 ∙ same-not _ _ _ (c .before .before .before .loop-test .taken) (omega arith) (c .if2 .taken))
-
-add-i : tie.Need-add-i Inv-loop μ-loop
-add-i c = omega arith
-
-loop-less : tie.Need-loop-less Inv-loop μ-loop
-loop-less c = omega arith
-
-loop-again : tie.Need-loop-again Inv-loop μ-loop
-loop-again c = (omega arith, c .before .before .before .before .loop .inv .1, c .before .before .before .before .loop .inv .2 ∙ same-step _ _ _ (c .before .before .before .loop-test .taken) (omega arith) (c .if2 .left))
-
-returns-3 : tie.Need-returns-3 Inv-loop μ-loop
-returns-3 c = sym (c .before .loop .inv .2 ∙ same-end _ _ _ (c .loop-test .left) (omega arith))
+returns-4 : tie.Need-returns-4
+returns-4 c = c .same-words .ensures
 
 pub same-spec : {M : Type 1} → statement M
 same-spec =
     tie.close
     (tie.spec
-    Inv-loop
-    μ-loop
     returns
-    loop-holds
-    shared-slice-read-if2
-    shared-slice-read-if2-2
+    same-bytes-requires
     returns-2
-    add-i
-    loop-less
-    loop-again
-    returns-3)
+    same-halves-requires
+    returns-3
+    same-words-requires
+    returns-4)
