@@ -7,8 +7,9 @@
 # make bench   ns per byte of splitting and of reading a spool, beside plain C (bench/FIGURES.md)
 # make native-bench   the reader's figures where the machine is not x86-64, without an emulator
 # make stack   the bytes of stack that the check and the reader take
+# make compare N=100000 SEED=1   the library's answers beside those of tests/reference, on N questions; LIBRARY=FILE takes a built one
 
-.PHONY: rules accread host test layout samples broken-rules edits bench bench-spools native-bench stack
+.PHONY: rules accread host test layout samples broken-rules edits bench bench-spools native-bench stack compare
 
 # The spools that the reader is timed on; the first is the mixed floor that the others are compared with.
 TIMED = floor-60k floor-8k lines mixed-figures placed-symbols only-symbols only-long-names only-serials only-partners only-layers \
@@ -63,3 +64,10 @@ stack: bench-spools
 	rt staticlib host
 	tools/x86 cc -O2 -Iinclude -pthread -o target/stack bench/stack.c target/staticlib/libhost.a
 	tools/x86 run target/stack examples/*.spool $(TIMED_SPOOLS)
+
+N = 100000
+SEED = 1
+
+compare:
+	$(if $(LIBRARY),,rt staticlib host)
+	tools/compare $(N) $(SEED) $(LIBRARY)
