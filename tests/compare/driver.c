@@ -1,5 +1,6 @@
 /* driver [STACK]: answers the questions on standard input by the product's library, as `answers` of tests/reference answers them by its own
- * reading (README.md there describes questions and answers). With STACK, on a thread whose stack has so many bytes and no more.
+ * reading (README.md there describes questions and answers); the rewriter's fields only where it is compiled with -DREWRITER. With STACK,
+ * on a thread whose stack has so many bytes and no more.
  *
  * What is lent holds other numbers than zeros before a call, and stands between pages that may not be touched. Where the spool's length is
  * even it ends right before such a page, where odd it begins right behind one; the less than a page that may be left on its other side is
