@@ -94,7 +94,7 @@ shape-opening [] n = clash refl n
 shape-opening (b ∷ w) n = rw (stem-open (b ∷ w))
 
 -- ── kinds by what stands behind their keys ──
-data Sort : Kind → Type 0 where
+pub data Sort : Kind → Type 0 where
   -- a content, or nothing where that may be
   plain : {d : Kind} → ((may : Bool) (s : Shape) → fits d may s ≡ (isContent s || (may && isEmpty s))) → ((k : Known) (v : Value) → behind k d v ≡ 61 ∷ showContent k d v)
       → ((v : Value) → opensBlock d v ≡ false) → Sort d
@@ -103,7 +103,7 @@ data Sort : Kind → Type 0 where
   heads : {i : ℕ} {p : Part} → Sort (headed i p)
   switch : {i : ℕ} → Sort (either i)
 
-sort : (d : Kind) → Sort d
+pub sort : (d : Kind) → Sort d
 sort (values p ps a) = plain (λ m s. refl) (λ k v. refl) (λ v. refl)
 sort (text n b) = plain (λ m s. refl) (λ k v. refl) (λ v. refl)
 sort (word n b) = plain (λ m s. refl) (λ k v. refl) (λ v. refl)
@@ -131,20 +131,20 @@ numbersOnly (headed i p) = false
 numbersOnly (either i) = false
 
 -- ── `key=000` and `key=001:{` ──
-either-read : (k : Known) (i at : ℕ) (c : List ℕ) (v : Value) → readKind k (either i) at c ≡ got v → (m : ℕ) × (m ≤ 1) × (nums (num (pos m) ∷ []) ≡ v) × (fixed 3 m ≡ c)
+pub either-read : (k : Known) (i at : ℕ) (c : List ℕ) (v : Value) → readKind k (either i) at c ≡ got v → (m : ℕ) × (m ≤ 1) × (nums (num (pos m) ∷ []) ≡ v) × (fixed 3 m ≡ c)
 either-read k i at c v e =
     let (a, g, q) = map-got (λ n. nums (n ∷ [])) (readPart k (range 0 1) c) v e in
     let (m, h, p) = map-got (λ n. num (pos n)) (keep 12 (within 0 1) (orBad 10 (readFixed 3 c))) a g in
     let (o, t) = keep-got 12 (within 0 1) (orBad 10 (readFixed 3 c)) m h in
     (m, within-both 0 1 m t .1, ap (λ (b : Num). nums (b ∷ [])) p ∙ q, fixed-same 3 m c (or-got 10 (readFixed 3 c) m o))
 
-either-alone : (m : ℕ) → m ≤ 1 → not (same (fixed 3 m) (bytes "001")) ≡ true → eqb m 1 ≡ false
+pub either-alone : (m : ℕ) → m ≤ 1 → not (same (fixed 3 m) (bytes "001")) ≡ true → eqb m 1 ≡ false
 unfolding fixedOnto
 either-alone zero l e = refl
 either-alone (suc zero) l e = clash e refl
 either-alone (suc (suc m)) l e = absurd (omega arith)
 
-either-opened : (m : ℕ) → m ≤ 1 → not (same (fixed 3 m) (bytes "000")) ≡ true → eqb m 1 ≡ true
+pub either-opened : (m : ℕ) → m ≤ 1 → not (same (fixed 3 m) (bytes "000")) ≡ true → eqb m 1 ≡ true
 unfolding fixedOnto
 either-opened zero l e = clash e refl
 either-opened (suc zero) l e = refl

@@ -1,352 +1,468 @@
-// The keys of document 01, each compared with its part of the spool.
+// The keys of document 01: fixed byte strings, each compared with its part of the spool. (What is written of them is written from the same.)
 use leaves::bytes::same;
 ghost use mathlib.Core.Path.{_≡_};
 ghost use Rattle.rules.specs.Base.{bytes, same as sameBytes};
 
+pub const FILE_FORMAT: [u8; 11] = *b"FILE_FORMAT";
+
+pub const DRAWING_FORMAT: [u8; 14] = *b"DRAWING_FORMAT";
+
+pub const SYMBOL_DEFINE: [u8; 13] = *b"SYMBOL_DEFINE";
+
+pub const ELEMENT_BLOCK: [u8; 7] = *b"ELEMENT";
+
+pub const RANGE: [u8; 5] = *b"range";
+
+pub const ALL_LINE: [u8; 8] = *b"all_line";
+
+pub const THIS_LINE: [u8; 9] = *b"this_line";
+
+pub const ALL_ELE: [u8; 7] = *b"all_ele";
+
+pub const THIS_ELE: [u8; 8] = *b"this_ele";
+
+pub const NEXT_FILE: [u8; 9] = *b"next_file";
+
+pub const DATE: [u8; 4] = *b"date";
+
+pub const TIME: [u8; 4] = *b"time";
+
+pub const CAD: [u8; 3] = *b"cad";
+
+pub const OS: [u8; 2] = *b"os";
+
+pub const HARD: [u8; 4] = *b"hard";
+
+pub const VER: [u8; 3] = *b"ver";
+
+pub const CORP: [u8; 4] = *b"corp";
+
+pub const MAKE: [u8; 4] = *b"make";
+
+pub const TEL: [u8; 3] = *b"tel";
+
+pub const NAME: [u8; 4] = *b"name";
+
+pub const BASE: [u8; 4] = *b"base";
+
+pub const ARC: [u8; 3] = *b"arc";
+
+pub const ELEC: [u8; 4] = *b"elec";
+
+pub const AIR: [u8; 3] = *b"air";
+
+pub const PIPE: [u8; 4] = *b"pipe";
+
+pub const SYM: [u8; 3] = *b"sym";
+
+pub const B_SYM: [u8; 5] = *b"B_sym";
+
+pub const E_SYM: [u8; 5] = *b"E_sym";
+
+pub const E_WIRE: [u8; 6] = *b"E_wire";
+
+pub const E_CIRNO: [u8; 7] = *b"E_cirno";
+
+pub const S_BASE: [u8; 6] = *b"S_base";
+
+pub const S_ELEC: [u8; 6] = *b"S_elec";
+
+pub const SIZE: [u8; 4] = *b"size";
+
+pub const SCALE: [u8; 5] = *b"scale";
+
+pub const PROJECT: [u8; 7] = *b"project";
+
+pub const DRAWNAME: [u8; 8] = *b"drawname";
+
+pub const DRAWER: [u8; 6] = *b"drawer";
+
+pub const FLOOR_HEIGHT: [u8; 12] = *b"floor_height";
+
+pub const LAYER_NAME: [u8; 10] = *b"layer_name";
+
+pub const NON: [u8; 3] = *b"NON";
+
+pub const E_SYMBOL: [u8; 8] = *b"E_symbol";
+
+pub const ELEMENT: [u8; 7] = *b"element";
+
+pub const HIDE: [u8; 4] = *b"hide";
+
+pub const WALL: [u8; 4] = *b"wall";
+
+pub const LAYER: [u8; 5] = *b"LAYER";
+
+pub const LINE: [u8; 4] = *b"line";
+
+pub const CIRCLE: [u8; 6] = *b"circle";
+
+pub const ELLIPSE: [u8; 7] = *b"ellipse";
+
+pub const POINT: [u8; 5] = *b"point";
+
+pub const SUCCESSIVE: [u8; 10] = *b"successive";
+
+pub const TEXT: [u8; 4] = *b"text";
+
+pub const TYPE: [u8; 4] = *b"type";
+
+pub const CHARACTER: [u8; 9] = *b"character";
+
+pub const SYMBOL: [u8; 6] = *b"symbol";
+
+pub const HIGHT: [u8; 5] = *b"hight";
+
+pub const POS: [u8; 3] = *b"pos";
+
+pub const CIRCUIT: [u8; 7] = *b"circuit";
+
+pub const SERIAL: [u8; 6] = *b"serial";
+
 pub(crate) fn is_file_format(k: &[u8]) -> bool
     ensures { λ r. ⌜ r ≡ sameBytes (now (k .entry)) (bytes "FILE_FORMAT") ⌝ }
 {
-    same(k, b"FILE_FORMAT")
+    same(k, &FILE_FORMAT)
 }
 
 pub(crate) fn is_drawing_format(k: &[u8]) -> bool
     ensures { λ r. ⌜ r ≡ sameBytes (now (k .entry)) (bytes "DRAWING_FORMAT") ⌝ }
 {
-    same(k, b"DRAWING_FORMAT")
+    same(k, &DRAWING_FORMAT)
 }
 
 pub(crate) fn is_symbol_define(k: &[u8]) -> bool
     ensures { λ r. ⌜ r ≡ sameBytes (now (k .entry)) (bytes "SYMBOL_DEFINE") ⌝ }
 {
-    same(k, b"SYMBOL_DEFINE")
+    same(k, &SYMBOL_DEFINE)
 }
 
 pub(crate) fn is_element_block(k: &[u8]) -> bool
     ensures { λ r. ⌜ r ≡ sameBytes (now (k .entry)) (bytes "ELEMENT") ⌝ }
 {
-    same(k, b"ELEMENT")
+    same(k, &ELEMENT_BLOCK)
 }
 
 pub(crate) fn is_range(k: &[u8]) -> bool
     ensures { λ r. ⌜ r ≡ sameBytes (now (k .entry)) (bytes "range") ⌝ }
 {
-    same(k, b"range")
+    same(k, &RANGE)
 }
 
 pub(crate) fn is_all_line(k: &[u8]) -> bool
     ensures { λ r. ⌜ r ≡ sameBytes (now (k .entry)) (bytes "all_line") ⌝ }
 {
-    same(k, b"all_line")
+    same(k, &ALL_LINE)
 }
 
 pub(crate) fn is_this_line(k: &[u8]) -> bool
     ensures { λ r. ⌜ r ≡ sameBytes (now (k .entry)) (bytes "this_line") ⌝ }
 {
-    same(k, b"this_line")
+    same(k, &THIS_LINE)
 }
 
 pub(crate) fn is_all_ele(k: &[u8]) -> bool
     ensures { λ r. ⌜ r ≡ sameBytes (now (k .entry)) (bytes "all_ele") ⌝ }
 {
-    same(k, b"all_ele")
+    same(k, &ALL_ELE)
 }
 
 pub(crate) fn is_this_ele(k: &[u8]) -> bool
     ensures { λ r. ⌜ r ≡ sameBytes (now (k .entry)) (bytes "this_ele") ⌝ }
 {
-    same(k, b"this_ele")
+    same(k, &THIS_ELE)
 }
 
 pub(crate) fn is_next_file(k: &[u8]) -> bool
     ensures { λ r. ⌜ r ≡ sameBytes (now (k .entry)) (bytes "next_file") ⌝ }
 {
-    same(k, b"next_file")
+    same(k, &NEXT_FILE)
 }
 
 pub(crate) fn is_date(k: &[u8]) -> bool
     ensures { λ r. ⌜ r ≡ sameBytes (now (k .entry)) (bytes "date") ⌝ }
 {
-    same(k, b"date")
+    same(k, &DATE)
 }
 
 pub(crate) fn is_time(k: &[u8]) -> bool
     ensures { λ r. ⌜ r ≡ sameBytes (now (k .entry)) (bytes "time") ⌝ }
 {
-    same(k, b"time")
+    same(k, &TIME)
 }
 
 pub(crate) fn is_cad(k: &[u8]) -> bool
     ensures { λ r. ⌜ r ≡ sameBytes (now (k .entry)) (bytes "cad") ⌝ }
 {
-    same(k, b"cad")
+    same(k, &CAD)
 }
 
 pub(crate) fn is_os(k: &[u8]) -> bool
     ensures { λ r. ⌜ r ≡ sameBytes (now (k .entry)) (bytes "os") ⌝ }
 {
-    same(k, b"os")
+    same(k, &OS)
 }
 
 pub(crate) fn is_hard(k: &[u8]) -> bool
     ensures { λ r. ⌜ r ≡ sameBytes (now (k .entry)) (bytes "hard") ⌝ }
 {
-    same(k, b"hard")
+    same(k, &HARD)
 }
 
 pub(crate) fn is_ver(k: &[u8]) -> bool
     ensures { λ r. ⌜ r ≡ sameBytes (now (k .entry)) (bytes "ver") ⌝ }
 {
-    same(k, b"ver")
+    same(k, &VER)
 }
 
 pub(crate) fn is_corp(k: &[u8]) -> bool
     ensures { λ r. ⌜ r ≡ sameBytes (now (k .entry)) (bytes "corp") ⌝ }
 {
-    same(k, b"corp")
+    same(k, &CORP)
 }
 
 pub(crate) fn is_make(k: &[u8]) -> bool
     ensures { λ r. ⌜ r ≡ sameBytes (now (k .entry)) (bytes "make") ⌝ }
 {
-    same(k, b"make")
+    same(k, &MAKE)
 }
 
 pub(crate) fn is_tel(k: &[u8]) -> bool
     ensures { λ r. ⌜ r ≡ sameBytes (now (k .entry)) (bytes "tel") ⌝ }
 {
-    same(k, b"tel")
+    same(k, &TEL)
 }
 
 pub(crate) fn is_name(k: &[u8]) -> bool
     ensures { λ r. ⌜ r ≡ sameBytes (now (k .entry)) (bytes "name") ⌝ }
 {
-    same(k, b"name")
+    same(k, &NAME)
 }
 
 pub(crate) fn is_base(k: &[u8]) -> bool
     ensures { λ r. ⌜ r ≡ sameBytes (now (k .entry)) (bytes "base") ⌝ }
 {
-    same(k, b"base")
+    same(k, &BASE)
 }
 
 pub(crate) fn is_arc(k: &[u8]) -> bool
     ensures { λ r. ⌜ r ≡ sameBytes (now (k .entry)) (bytes "arc") ⌝ }
 {
-    same(k, b"arc")
+    same(k, &ARC)
 }
 
 pub(crate) fn is_elec(k: &[u8]) -> bool
     ensures { λ r. ⌜ r ≡ sameBytes (now (k .entry)) (bytes "elec") ⌝ }
 {
-    same(k, b"elec")
+    same(k, &ELEC)
 }
 
 pub(crate) fn is_air(k: &[u8]) -> bool
     ensures { λ r. ⌜ r ≡ sameBytes (now (k .entry)) (bytes "air") ⌝ }
 {
-    same(k, b"air")
+    same(k, &AIR)
 }
 
 pub(crate) fn is_pipe(k: &[u8]) -> bool
     ensures { λ r. ⌜ r ≡ sameBytes (now (k .entry)) (bytes "pipe") ⌝ }
 {
-    same(k, b"pipe")
+    same(k, &PIPE)
 }
 
 pub(crate) fn is_sym(k: &[u8]) -> bool
     ensures { λ r. ⌜ r ≡ sameBytes (now (k .entry)) (bytes "sym") ⌝ }
 {
-    same(k, b"sym")
+    same(k, &SYM)
 }
 
 pub(crate) fn is_b_sym(k: &[u8]) -> bool
     ensures { λ r. ⌜ r ≡ sameBytes (now (k .entry)) (bytes "B_sym") ⌝ }
 {
-    same(k, b"B_sym")
+    same(k, &B_SYM)
 }
 
 pub(crate) fn is_e_sym(k: &[u8]) -> bool
     ensures { λ r. ⌜ r ≡ sameBytes (now (k .entry)) (bytes "E_sym") ⌝ }
 {
-    same(k, b"E_sym")
+    same(k, &E_SYM)
 }
 
 pub(crate) fn is_e_wire(k: &[u8]) -> bool
     ensures { λ r. ⌜ r ≡ sameBytes (now (k .entry)) (bytes "E_wire") ⌝ }
 {
-    same(k, b"E_wire")
+    same(k, &E_WIRE)
 }
 
 pub(crate) fn is_e_cirno(k: &[u8]) -> bool
     ensures { λ r. ⌜ r ≡ sameBytes (now (k .entry)) (bytes "E_cirno") ⌝ }
 {
-    same(k, b"E_cirno")
+    same(k, &E_CIRNO)
 }
 
 pub(crate) fn is_s_base(k: &[u8]) -> bool
     ensures { λ r. ⌜ r ≡ sameBytes (now (k .entry)) (bytes "S_base") ⌝ }
 {
-    same(k, b"S_base")
+    same(k, &S_BASE)
 }
 
 pub(crate) fn is_s_elec(k: &[u8]) -> bool
     ensures { λ r. ⌜ r ≡ sameBytes (now (k .entry)) (bytes "S_elec") ⌝ }
 {
-    same(k, b"S_elec")
+    same(k, &S_ELEC)
 }
 
 pub(crate) fn is_size(k: &[u8]) -> bool
     ensures { λ r. ⌜ r ≡ sameBytes (now (k .entry)) (bytes "size") ⌝ }
 {
-    same(k, b"size")
+    same(k, &SIZE)
 }
 
 pub(crate) fn is_scale(k: &[u8]) -> bool
     ensures { λ r. ⌜ r ≡ sameBytes (now (k .entry)) (bytes "scale") ⌝ }
 {
-    same(k, b"scale")
+    same(k, &SCALE)
 }
 
 pub(crate) fn is_project(k: &[u8]) -> bool
     ensures { λ r. ⌜ r ≡ sameBytes (now (k .entry)) (bytes "project") ⌝ }
 {
-    same(k, b"project")
+    same(k, &PROJECT)
 }
 
 pub(crate) fn is_drawname(k: &[u8]) -> bool
     ensures { λ r. ⌜ r ≡ sameBytes (now (k .entry)) (bytes "drawname") ⌝ }
 {
-    same(k, b"drawname")
+    same(k, &DRAWNAME)
 }
 
 pub(crate) fn is_drawer(k: &[u8]) -> bool
     ensures { λ r. ⌜ r ≡ sameBytes (now (k .entry)) (bytes "drawer") ⌝ }
 {
-    same(k, b"drawer")
+    same(k, &DRAWER)
 }
 
 pub(crate) fn is_floor_height(k: &[u8]) -> bool
     ensures { λ r. ⌜ r ≡ sameBytes (now (k .entry)) (bytes "floor_height") ⌝ }
 {
-    same(k, b"floor_height")
+    same(k, &FLOOR_HEIGHT)
 }
 
 pub(crate) fn is_layer_name(k: &[u8]) -> bool
     ensures { λ r. ⌜ r ≡ sameBytes (now (k .entry)) (bytes "layer_name") ⌝ }
 {
-    same(k, b"layer_name")
+    same(k, &LAYER_NAME)
 }
 
 pub(crate) fn is_non(k: &[u8]) -> bool
     ensures { λ r. ⌜ r ≡ sameBytes (now (k .entry)) (bytes "NON") ⌝ }
 {
-    same(k, b"NON")
+    same(k, &NON)
 }
 
 pub(crate) fn is_e_symbol(k: &[u8]) -> bool
     ensures { λ r. ⌜ r ≡ sameBytes (now (k .entry)) (bytes "E_symbol") ⌝ }
 {
-    same(k, b"E_symbol")
+    same(k, &E_SYMBOL)
 }
 
 pub(crate) fn is_element(k: &[u8]) -> bool
     ensures { λ r. ⌜ r ≡ sameBytes (now (k .entry)) (bytes "element") ⌝ }
 {
-    same(k, b"element")
+    same(k, &ELEMENT)
 }
 
 pub(crate) fn is_hide(k: &[u8]) -> bool
     ensures { λ r. ⌜ r ≡ sameBytes (now (k .entry)) (bytes "hide") ⌝ }
 {
-    same(k, b"hide")
+    same(k, &HIDE)
 }
 
 pub(crate) fn is_wall(k: &[u8]) -> bool
     ensures { λ r. ⌜ r ≡ sameBytes (now (k .entry)) (bytes "wall") ⌝ }
 {
-    same(k, b"wall")
+    same(k, &WALL)
 }
 
 pub(crate) fn is_layer(k: &[u8]) -> bool
     ensures { λ r. ⌜ r ≡ sameBytes (now (k .entry)) (bytes "LAYER") ⌝ }
 {
-    same(k, b"LAYER")
+    same(k, &LAYER)
 }
 
 pub(crate) fn is_line(k: &[u8]) -> bool
     ensures { λ r. ⌜ r ≡ sameBytes (now (k .entry)) (bytes "line") ⌝ }
 {
-    same(k, b"line")
+    same(k, &LINE)
 }
 
 pub(crate) fn is_circle(k: &[u8]) -> bool
     ensures { λ r. ⌜ r ≡ sameBytes (now (k .entry)) (bytes "circle") ⌝ }
 {
-    same(k, b"circle")
+    same(k, &CIRCLE)
 }
 
 pub(crate) fn is_ellipse(k: &[u8]) -> bool
     ensures { λ r. ⌜ r ≡ sameBytes (now (k .entry)) (bytes "ellipse") ⌝ }
 {
-    same(k, b"ellipse")
+    same(k, &ELLIPSE)
 }
 
 pub(crate) fn is_point(k: &[u8]) -> bool
     ensures { λ r. ⌜ r ≡ sameBytes (now (k .entry)) (bytes "point") ⌝ }
 {
-    same(k, b"point")
+    same(k, &POINT)
 }
 
 pub(crate) fn is_successive(k: &[u8]) -> bool
     ensures { λ r. ⌜ r ≡ sameBytes (now (k .entry)) (bytes "successive") ⌝ }
 {
-    same(k, b"successive")
+    same(k, &SUCCESSIVE)
 }
 
 pub(crate) fn is_text(k: &[u8]) -> bool
     ensures { λ r. ⌜ r ≡ sameBytes (now (k .entry)) (bytes "text") ⌝ }
 {
-    same(k, b"text")
+    same(k, &TEXT)
 }
 
 pub(crate) fn is_type(k: &[u8]) -> bool
     ensures { λ r. ⌜ r ≡ sameBytes (now (k .entry)) (bytes "type") ⌝ }
 {
-    same(k, b"type")
+    same(k, &TYPE)
 }
 
 pub(crate) fn is_character(k: &[u8]) -> bool
     ensures { λ r. ⌜ r ≡ sameBytes (now (k .entry)) (bytes "character") ⌝ }
 {
-    same(k, b"character")
+    same(k, &CHARACTER)
 }
 
 pub(crate) fn is_symbol(k: &[u8]) -> bool
     ensures { λ r. ⌜ r ≡ sameBytes (now (k .entry)) (bytes "symbol") ⌝ }
 {
-    same(k, b"symbol")
+    same(k, &SYMBOL)
 }
 
 pub(crate) fn is_hight(k: &[u8]) -> bool
     ensures { λ r. ⌜ r ≡ sameBytes (now (k .entry)) (bytes "hight") ⌝ }
 {
-    same(k, b"hight")
+    same(k, &HIGHT)
 }
 
 pub(crate) fn is_pos(k: &[u8]) -> bool
     ensures { λ r. ⌜ r ≡ sameBytes (now (k .entry)) (bytes "pos") ⌝ }
 {
-    same(k, b"pos")
+    same(k, &POS)
 }
 
 pub(crate) fn is_circuit(k: &[u8]) -> bool
     ensures { λ r. ⌜ r ≡ sameBytes (now (k .entry)) (bytes "circuit") ⌝ }
 {
-    same(k, b"circuit")
+    same(k, &CIRCUIT)
 }
 
 pub(crate) fn is_serial(k: &[u8]) -> bool
     ensures { λ r. ⌜ r ≡ sameBytes (now (k .entry)) (bytes "serial") ⌝ }
 {
-    same(k, b"serial")
+    same(k, &SERIAL)
 }

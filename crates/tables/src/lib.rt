@@ -1,7 +1,7 @@
 // Document 01's tables of keys, as the code asks for them: the row of a key, and which rows a block must have.
 mod blocks;
 mod figures;
-mod keys;
+pub mod keys;
 pub mod lookup;
 mod rows;
 

@@ -1,0 +1,17 @@
+use Rattle.pens.proofs.KeyRows.{around-other}
+use borrow.Author.Needs.{needs}
+use Rattle.pens.proofs.closing.around.Statement.{statement}
+use Rattle.pens.proofs.closing.around.Tie as tie
+use Rattle.pens.proofs.closing.around.Reads as reads
+use Rattle.pens.proofs.closing.around.Lts as lts
+
+-- src/closing.rt:61:9
+returns : tie.Need-returns
+returns c = search needs
+
+-- src/closing.rt:56:1
+returns-2 : tie.Need-returns-2
+returns-2 c = around-other _ (c .before .pre) (c .if1 .left)
+
+pub around-spec : {M : Type 1} → statement M
+around-spec = tie.close (tie.spec returns returns-2)

@@ -1,0 +1,52 @@
+use Rattle.pens.specs.Noting.{noteOf, notesFrom}
+use Rattle.pens.proofs.KeyRows.{noted-long, written, held-back}
+use borrow.Author.Tests.{ne-eqb}
+use mathlib.Core.Path.{refl, sym, _∙_}
+use Prim.Native.Nat.{ℕ, _+_}
+use Rattle.pens.proofs.Writers.{kept-still}
+use Rattle.pens.specs.Moves.{moved}
+use borrow.Author.Needs.{needs}
+use Rattle.pens.proofs.keys.key_drawing.Statement.{statement}
+use Rattle.pens.proofs.keys.key_drawing.Tie as tie
+use Rattle.pens.proofs.keys.key_drawing.Reads as reads
+use Rattle.pens.proofs.keys.key_drawing.Lts as lts
+use Rattle.pens.proofs.keys.note.Reads as note-reads
+use Rattle.pens.proofs.keys.put_at_once.Reads as put-at-once-reads
+
+-- src/keys.rt:223:9
+put-at-once-requires : tie.Need-put-at-once-requires
+put-at-once-requires c κs = search needs
+
+-- src/keys.rt:223:9
+same-length : tie.Need-same-length
+same-length c = search needs
+
+-- src/keys.rt:223:9
+returns : tie.Need-returns
+returns c =
+    let args = c .before .before .before .before .before .before .before .before .before .args in
+    let pre = c .before .before .before .before .before .before .before .before .before .pre in
+    let the-if1 = c .before .before .before .before .if1 in
+    let the-put-at-once = c .before .before .put-at-once in
+    (the-put-at-once .ensures .0, refl, λ k q v i g. written _ (args .pen) (args .rest) k (args .row .number) q v _ _ (λ (n : ℕ). moved (args .pen) n 3 0) _ _ _ (rw (pre .1, the-if1 .taken)) (rw (pre .1, the-if1 .taken)) (sym (rw (pre .1, the-if1 .taken))) (the-put-at-once .ensures .1 k q v i g))
+
+-- src/keys.rt:225:5
+note-requires : tie.Need-note-requires
+note-requires c κs = search needs
+
+-- src/keys.rt:218:1
+same-length-2 : tie.Need-same-length-2
+same-length-2 c = search needs
+
+-- src/keys.rt:218:1
+returns-2 : tie.Need-returns-2
+returns-2 c =
+    let args = c .before .before .before .before .before .before .before .before .before .args in
+    let pre = c .before .before .before .before .before .before .before .before .before .pre in
+    let the-if1 = c .before .before .before .before .if1 in
+    (kept-still _ _ (pre .0), noted-long (args .notes .now) _ (notesFrom 7 + args .row .number) (noteOf (args .rest)) (c .before .before .note .ensures), λ k q v i g. held-back _ (args .pen) (args .rest) k (args .row .number) q v _ _ (args .pen) _ (pre .0 .within) (rw (pre .1, ne-eqb _ _ (the-if1 .left))) (rw (pre .1, ne-eqb _ _ (the-if1 .left))) (c .before .before .note .ensures ∙ sym (rw (pre .1, ne-eqb _ _ (the-if1 .left)))))
+
+pub key-drawing-spec : {M : Type 1} → statement M
+key-drawing-spec =
+    tie.close
+    (tie.spec put-at-once-requires same-length returns note-requires same-length-2 returns-2)

@@ -1,0 +1,102 @@
+use borrow.Author.Tests.{ne-eqb}
+use borrow.Author.Needs.{needs}
+use Rattle.pens.proofs.keys.table_of.Statement.{statement}
+use Rattle.pens.proofs.keys.table_of.Tie as tie
+use Rattle.pens.proofs.keys.table_of.Reads as reads
+use Rattle.pens.proofs.keys.table_of.Lts as lts
+use Rattle.pens.proofs.keys.by_home.Reads as by-home-reads
+use Rattle.pens.proofs.keys.figure_table.Reads as figure-table-reads
+use Rattle.pens.proofs.keys.file_table.Reads as file-table-reads
+use Rattle.pens.proofs.keys.placed_table.Reads as placed-table-reads
+
+-- src/keys.rt:112:9
+figure-table-requires : tie.Need-figure-table-requires
+figure-table-requires c κs = search needs
+
+-- src/keys.rt:112:9
+returns : tie.Need-returns
+returns c = rw (c .before .if1 .taken) (c .figure-table .ensures)
+
+-- src/keys.rt:115:9
+by-home-requires : tie.Need-by-home-requires
+by-home-requires c κs = search needs
+
+-- src/keys.rt:115:9
+returns-2 : tie.Need-returns-2
+returns-2 c = rw (c .before .if2 .taken) (c .by-home .ensures)
+
+-- src/keys.rt:118:9
+by-home-requires-2 : tie.Need-by-home-requires-2
+by-home-requires-2 c κs = search needs
+
+-- src/keys.rt:118:9
+returns-3 : tie.Need-returns-3
+returns-3 c = rw (c .before .if3 .taken) (c .by-home2 .ensures)
+
+-- src/keys.rt:121:9
+placed-table-requires : tie.Need-placed-table-requires
+placed-table-requires c κs = search needs
+
+-- src/keys.rt:121:9
+returns-4 : tie.Need-returns-4
+returns-4 c = rw (c .before .if4 .taken) (c .placed-table .ensures)
+
+-- src/keys.rt:124:9
+returns-5 : tie.Need-returns-5
+returns-5 c = rw (c .if5 .taken)
+
+-- src/keys.rt:127:9
+file-table-requires : tie.Need-file-table-requires
+file-table-requires c κs = search needs
+
+-- src/keys.rt:127:9
+returns-6 : tie.Need-returns-6
+returns-6 c = rw (c .before .if6 .taken) (c .file-table .ensures)
+
+-- src/keys.rt:130:9
+returns-7 : tie.Need-returns-7
+returns-7 c = rw (c .if7 .taken)
+
+-- src/keys.rt:133:9
+returns-8 : tie.Need-returns-8
+returns-8 c = rw (c .if8 .taken)
+
+-- src/keys.rt:136:9
+returns-9 : tie.Need-returns-9
+returns-9 c = rw (c .if9 .taken)
+
+-- src/keys.rt:139:9
+returns-10 : tie.Need-returns-10
+returns-10 c = rw (c .if10 .taken)
+
+-- src/keys.rt:108:1
+returns-11 : tie.Need-returns-11
+returns-11 c =
+    let the-if1 = c .before .before .before .before .before .before .before .before .before .before .before .before .before .before .before .before .before .before .if1 in
+    let the-if2 = c .before .before .before .before .before .before .before .before .before .before .before .before .before .before .before .before .if2 in
+    let the-if3 = c .before .before .before .before .before .before .before .before .before .before .before .before .before .before .if3 in
+    let the-if4 = c .before .before .before .before .before .before .before .before .before .before .before .before .if4 in
+    let the-if5 = c .before .before .before .before .before .before .before .before .before .before .if5 in
+    let the-if6 = c .before .before .before .before .before .before .before .before .if6 in
+    rw (ne-eqb _ _ (the-if1 .left), ne-eqb _ _ (the-if2 .left), ne-eqb _ _ (the-if3 .left), ne-eqb _ _ (the-if4 .left), ne-eqb _ _ (the-if5 .left), ne-eqb _ _ (the-if6 .left), ne-eqb _ _ (c .before .before .before .before .before .before .if7 .left), ne-eqb _ _ (c .before .before .before .before .if8 .left), ne-eqb _ _ (c .before .before .if9 .left), ne-eqb _ _ (c .if10 .left))
+
+pub table-of-spec : {M : Type 1} → statement M
+table-of-spec =
+    tie.close
+    (tie.spec
+    figure-table-requires
+    returns
+    by-home-requires
+    returns-2
+    by-home-requires-2
+    returns-3
+    placed-table-requires
+    returns-4
+    returns-5
+    file-table-requires
+    returns-6
+    returns-7
+    returns-8
+    returns-9
+    returns-10
+    returns-11)

@@ -1,0 +1,86 @@
+-- What a line `}` does, by the block that is open.
+use Prim.Native.Nat.{ℕ, zero, suc, _+_}
+use mathlib.Core.Bool.{Bool, true, false, cond, _&&_, _||_, not}
+use lib.Dec.{eqb}
+use mathlib.Core.Path.{_≡_}
+use mathlib.Core.List.{List, [], _∷_, _++_}
+use mathlib.Core.Option.{Option, none, some}
+use lib.ListN.{length, getD, take}
+use Rattle.rules.specs.Base.{bytes}
+use Rattle.rules.specs.Values.{Value, Known}
+use Rattle.rules.specs.Rows.{Rule, Slots, Held}
+use Rattle.rules.specs.Blocks.{drawingTable, symbolTable, around}
+use Rattle.rules.specs.RecordTable.{ruleAt}
+use Rattle.rules.specs.FixedForm.{noInner, lineOf, showSlots}
+use Rattle.pens.specs.declared.Pen.{Pen}
+use Rattle.pens.specs.declared.Drawn.{Drawn}
+use Rattle.pens.specs.declared.Drawn.the-variants as D
+use Rattle.pens.specs.Texts.{ended, lineBytes, Draws, Inserts}
+use Rattle.pens.specs.Moves.{moved}
+use Rattle.pens.specs.Noting.{Noted, NotedRows, tablesOf, NotedParts, showDepth}
+
+abbrev pub shutBytes : List ℕ
+shutBytes = ended (bytes "}")
+
+-- the block around
+abbrev pub Shuts : Pen → ℕ → List ℕ → List ℕ → Drawn → Type 0
+Shuts p block before after d = Draws shutBytes (p .at) (moved p 3 block 0) before after d
+
+-- the rows of a block, in the order of its tables, and its `}`
+abbrev pub rowsBytes : Known → ℕ → Held → List ℕ
+rowsBytes k b h = lineBytes (showDepth k (tablesOf b) h 3 0 []) ++ shutBytes
+
+abbrev pub ShutsRows : List ℕ → ℕ → Pen → ℕ → List ℕ → List ℕ → List ℕ → Drawn → Type 0
+ShutsRows spool b p block ns before after d =
+    (k : Known) (h : Held) → NotedParts spool k b ns h → Draws (rowsBytes k b h) (p .at) (moved p (length (rowsBytes k b h)) block 0) before after d
+
+-- an inner part closes: nothing is written
+abbrev pub ShutsPart : Pen → ℕ → ℕ → List ℕ → List ℕ → Drawn → Type 0
+ShutsPart p block part before after d = (d ≡ D.Go (moved p 0 block part)) × (after ≡ before)
+
+-- DRAWING_FORMAT: its rows come before `layer_name`
+abbrev pub drawingRows : Known → Slots → List ℕ
+drawingRows k s = lineBytes (showSlots k (take 7 drawingTable) s noInner [])
+
+abbrev pub ShutsDrawing : List ℕ → Pen → List ℕ → List ℕ → List ℕ → Drawn → Type 0
+ShutsDrawing spool p ns before after d =
+    (k : Known) (s : Slots) → NotedRows spool k (take 7 drawingTable) 0 ns s
+    → Inserts (drawingRows k s) shutBytes (p .start) (p .at) (moved p (length (drawingRows k s) + 3) 0 0) before after d
+
+-- a symbol: its name comes before its `element` and `hide`, `wall` behind them
+abbrev pub rowBytes : Known → Rule → Option Value → List ℕ
+rowBytes k r none = []
+rowBytes k r (some v) = ended (lineOf k r v)
+
+abbrev pub ShutsSymbol : List ℕ → Pen → List ℕ → List ℕ → List ℕ → Drawn → Type 0
+ShutsSymbol spool p ns before after d =
+    (k : Known) (a b : Option Value) → Noted spool k (ruleAt symbolTable 0) (getD ns 0 0) a → Noted spool k (ruleAt symbolTable 3) (getD ns 3 0) b
+    → Inserts (rowBytes k (ruleAt symbolTable 0) a) (rowBytes k (ruleAt symbolTable 3) b ++ shutBytes) (p .start) (p .at)
+    (moved p (length (rowBytes k (ruleAt symbolTable 0) a) + (length (rowBytes k (ruleAt symbolTable 3) b) + 3)) 4 0) before after d
+
+-- the block around one whose `}` is all that is written
+abbrev pub aroundBlock : Pen → ℕ
+aroundBlock p = cond (eqb (p .block) 8) (cond (p .layered) 7 5) (cond (eqb (p .block) 9) 8 (cond (eqb (p .block) 3) 2 (cond (eqb (p .block) 6) 5 0)))
+
+-- an inner part of FILE_FORMAT or of a placed symbol is open
+abbrev pub inPart : Pen → Bool
+inPart p = not (eqb (p .part) 0) && (eqb (p .block) 1 || eqb (p .block) 11)
+
+abbrev pub partClosed : Pen → Pen
+partClosed p = cond (eqb (p .block) 1) (moved p 0 1 (around (p .part))) (moved p 0 11 0)
+
+-- by the block that is open
+pub record CloseDone (spool : List ℕ) (first : Bool) (p : Pen) (ns before after : List ℕ) (d : Drawn) : Type 0 where
+  pub figures : p .block ≡ 8 → Shuts p (cond (p .layered) 7 5) before after d
+  pub chain : p .block ≡ 9 → Shuts p 8 before after d
+  pub text : p .block ≡ 10 → ShutsRows spool (cond (p .layered) 16 17) p 8 ns before after d
+  pub placed : p .block ≡ 11 → p .part ≡ 0 → ShutsRows spool 18 p 8 ns before after d
+  pub placed-text : p .block ≡ 11 → (i : ℕ) → p .part ≡ suc i → ShutsPart p 11 0 before after d
+  pub file : p .block ≡ 1 → p .part ≡ 0 → ShutsRows spool (cond first 1 6) p 0 ns before after d
+  pub file-part : p .block ≡ 1 → (i : ℕ) → p .part ≡ suc i → ShutsPart p 1 (around (suc i)) before after d
+  pub drawing : p .block ≡ 2 → ShutsDrawing spool p ns before after d
+  pub names : p .block ≡ 3 → Shuts p 2 before after d
+  pub defines : p .block ≡ 4 → Shuts p 0 before after d
+  pub symbol : p .block ≡ 5 → ShutsSymbol spool p ns before after d
+  pub hide : p .block ≡ 6 → Shuts p 5 before after d
+  pub elements : p .block ≡ 7 → Shuts p 0 before after d

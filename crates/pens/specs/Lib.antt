@@ -1,0 +1,11 @@
+pub mod Printed
+pub mod Texts
+pub mod Moves
+pub mod Noting
+pub mod Shown
+pub mod Standing
+pub mod Keys
+pub mod Closing
+pub mod Drawing
+pub mod Writing
+pub mod KeyWriting

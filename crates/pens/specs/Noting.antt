@@ -1,0 +1,105 @@
+-- Rows whose lines are noted where they stand, and written when their block closes.
+use Prim.Native.Nat.{ℕ, zero, suc, _+_, _*_, _/_, _%_, _≤_, _<_}
+use mathlib.Core.Bool.{Bool, true, false, cond, _&&_, _||_, not}
+use mathlib.Core.Path.{_≡_}
+use mathlib.Core.List.{List, [], _∷_, _++_}
+use mathlib.Core.Option.{Option, none, some}
+use lib.Dec.{eqb, ltb}
+use lib.ListN.{length, getD, set, take, replicate}
+use Rattle.rules.specs.Lines.{Rest, brace, equals, span, bytesAt}
+use Rattle.rules.specs.Values.{Value, Known, Kind}
+use Rattle.rules.specs.Rows.{Rule, Slots, Held, partOf}
+use Rattle.rules.specs.Blocks.{fileTables, drawingTable}
+use Rattle.rules.specs.Figures.{textTable, placedTables}
+use Rattle.rules.specs.RecordTable.{ruleAt}
+use Rattle.rules.specs.FixedForm.{Text, noInner, showInner}
+use Rattle.entries.specs.declared.Rest.{Rest as CodeRest}
+use Rattle.entries.specs.declared.Rest.the-variants as R
+use Rattle.prints.specs.Reading.{Reads}
+use Rattle.pens.specs.declared.Pen.{Pen}
+use Rattle.pens.specs.Moves.{isOpener, atOnce, figureBlock}
+
+-- ── a note: what follows a line's key, in one number that is never 0 ──
+abbrev pub noteOf : CodeRest → ℕ
+noteOf R.Brace = 1
+noteOf (R.Equals p) = cond (ltb (p .at) 65536 && ltb (p .len) 65536) (p .at + 65536 * p .len) 1
+
+abbrev pub restOf : List ℕ → Kind → ℕ → Rest
+restOf spool d n = cond (isOpener d) brace (equals (n % 65536) (bytesAt spool (span (n % 65536) (n / 65536))))
+
+-- ── where the notes of a table's rows stand ──
+abbrev pub notesFrom : ℕ → ℕ
+notesFrom t =
+    cond (eqb t 2) 16
+    (cond (eqb t 3) 22
+    (cond (eqb t 4) 23
+    (cond (eqb t 5) 26
+    (cond (eqb t 16) 4
+    (cond (eqb t 17) 4
+    (cond (eqb t 19) 6 0))))))
+
+-- how many rows are noted
+abbrev pub rowsIn : ℕ → ℕ
+rowsIn t =
+    cond (eqb t 1) 16
+    (cond (eqb t 2) 6
+    (cond (eqb t 3) 1
+    (cond (eqb t 4) 3
+    (cond (eqb t 5) 2
+    (cond (eqb t 6) 5
+    (cond (eqb t 7) 7
+    (cond (eqb t 18) 6 2)))))))
+
+-- ── the notes behind a line with a key ──
+abbrev pub forgotten : List ℕ → List ℕ
+forgotten ns = replicate (length ns) 0
+
+abbrev pub textForgotten : List ℕ → List ℕ
+textForgotten ns = set (set ns 4 0) 5 0
+
+abbrev pub figureNotes : ℕ → List ℕ → List ℕ
+figureNotes block ns = cond (eqb block 10) (textForgotten ns) (cond (eqb block 11) (forgotten ns) ns)
+
+-- t: the number of the block's table; j: the row's number in it, d: what it holds
+abbrev pub keyNotes : Pen → ℕ → ℕ → Kind → ℕ → ℕ → List ℕ → List ℕ
+keyNotes p t j d inner n ns =
+    cond (eqb (p .block) 8) (figureNotes (figureBlock d inner) ns)
+    (cond (eqb (p .block) 0) (forgotten ns)
+    (cond (eqb (p .block) 4) (cond (eqb j 0) ns (forgotten ns))
+    (cond (atOnce (p .block) j) ns (set ns (notesFrom t + j) n))))
+
+-- ── what notes stand for ──
+-- k: what is known
+module _ (spool : List ℕ) (k : Known) where
+  abbrev pub Noted : Rule → ℕ → Option Value → Type 0
+  Noted r n none = n ≡ 0
+  Noted r n (some v) = (0 < n) × Reads k r (restOf spool (r .holds) n) v
+
+  -- the rows of a table, their notes from a place on
+  pub record NotedRows (t : List Rule) (from : ℕ) (ns : List ℕ) (s : Slots) : Type 0 where
+    pub long : length s ≡ length t
+    pub rows : (j : ℕ) → j < length t → Noted (ruleAt t j) (getD ns (from + j) 0) (getD s j none)
+
+-- ── a block's parts ──
+-- the tables of the parts that are noted together, by the first one's number: FILE_FORMAT's, DRAWING_FORMAT's rows before `layer_name`,
+-- a text's, a placed symbol's
+abbrev pub tablesOf : ℕ → List (List Rule)
+tablesOf b =
+    cond (eqb b 1) (fileTables true)
+    (cond (eqb b 6) (fileTables false)
+    (cond (eqb b 7) (take 7 drawingTable ∷ [])
+    (cond (eqb b 16) (textTable true 4 12 ∷ [])
+    (cond (eqb b 17) (textTable false 4 12 ∷ []) placedTables))))
+
+-- the number of a part's table
+abbrev pub partTable : ℕ → ℕ → ℕ
+partTable b p = cond (eqb p 0) b (cond (eqb b 1) (cond (eqb p 1) 2 (cond (eqb p 2) 3 (cond (eqb p 3) 4 5))) 19)
+
+-- all parts' rows are noted
+pub record NotedParts (spool : List ℕ) (k : Known) (b : ℕ) (ns : List ℕ) (h : Held) : Type 0 where
+  pub parts : (p : ℕ) → p < length (tablesOf b) → NotedRows spool k (getD (tablesOf b) p []) (notesFrom (partTable b p)) ns (partOf h p)
+
+-- parts in each other, so many deep
+abbrev pub showDepth : Known → List (List Rule) → Held → ℕ → ℕ → Text → Text
+showDepth k ts h zero = noInner
+showDepth k ts h (suc d) = showInner k ts h (showDepth k ts h d)

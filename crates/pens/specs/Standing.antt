@@ -1,0 +1,114 @@
+-- How the pen, the notes and the output between two lines stand to the state that the definitions are in.
+use Prim.Native.Nat.{ℕ, zero, suc, _+_, _≤_, _<_}
+use mathlib.Core.Bool.{Bool, true, false, cond}
+use mathlib.Core.Path.{_≡_}
+use mathlib.Core.List.{List, [], _∷_, _++_}
+use mathlib.Core.Option.{none}
+use lib.ListN.{length, getD, take}
+use Rattle.rules.specs.Base.{isNone, isSome}
+use Rattle.rules.specs.Values.{Known, servedSymbols}
+use Rattle.rules.specs.Rows.{Slots, Held}
+use Rattle.rules.specs.Blocks.{fileTables, drawingTable, symbolTable}
+use Rattle.rules.specs.Figures.{textTable}
+use Rattle.rules.specs.Sets.{Drawing, Symbol, Set, isFirst, symbolRange, knownOf}
+use Rattle.rules.specs.RecordTable.{ruleAt}
+use Rattle.rules.specs.Machine.{Home, inElement, inLayer, State, top, file, drawing, layerNames, defines, symbol, hide, elements, figures, successive, texts, placing, skipping, ended, isLayer}
+use Rattle.pens.specs.declared.Pen.{Pen}
+use Rattle.pens.specs.Texts.{lineBytes}
+use Rattle.pens.specs.Noting.{Noted, NotedRows, NotedParts}
+use Rattle.pens.specs.Shown.{drawingBegun, symbolBegun, homeKnown, shown}
+
+-- E_sym is one that is served, so at class 15 nothing is skipped
+abbrev pub Served : Set → Type 0
+Served s = servedSymbols (symbolRange s) ≡ true
+
+-- in the first volume, before ELEMENT, its FILE_FORMAT closed
+pub record Front (first : Bool) (s : Set) : Type 0 where
+  pub volume : first ≡ true
+  pub alone : isFirst s ≡ true
+  pub empty : s .now .blocks ≡ []
+  pub served : Served s
+
+-- in any volume, its FILE_FORMAT closed and ELEMENT not
+pub record Body (first : Bool) (s : Set) : Type 0 where
+  pub volume : isFirst s ≡ first
+  pub served : Served s
+
+module _ (K : Known) (spool : List ℕ) (first : Bool) (p : Pen) (ns : List ℕ) where
+  abbrev pub TopHere : Set → ℕ → Type 0
+  TopHere s zero = (isFirst s ≡ first) × (first ≡ true → s .symbols ≡ []) × (first ≡ false → Served s)
+  TopHere s (suc zero) = Front first s × (s .symbols ≡ [])
+  TopHere s (suc (suc zero)) = Front first s × (s .symbols ≡ [])
+  TopHere s (suc (suc (suc zero))) = Body first s × (s .now .blocks ≡ [])
+  TopHere s (suc (suc (suc (suc k)))) = (k ≡ 0) × Served s
+
+  pub record InFile (s : Set) (h : Held) (i : ℕ) : Type 0 where
+    pub part : p .part ≡ i
+    pub volume : isFirst s ≡ first
+    pub bare : first ≡ true → s .symbols ≡ []
+    pub later : first ≡ false → Served s
+    pub open-part : i < length (fileTables first)
+    pub noted : NotedParts spool K (cond first 1 6) ns h
+
+  -- DRAWING_FORMAT: its rows before `layer_name` are noted; before that is read there are no layers
+  pub record InDrawing (s : Set) (d : Drawing) : Type 0 where
+    pub front : Front first s
+    pub bare : s .symbols ≡ []
+    pub start : p .start ≡ length (lineBytes (drawingBegun K s))
+    pub slots : length (d .own) ≡ 8
+    pub noted : NotedRows spool K (take 7 drawingTable) 0 ns (take 7 (d .own))
+    pub unnamed : isNone (getD (d .own) 7 none) ≡ true → d .layers ≡ []
+
+  -- a symbol: its name and `wall` are noted
+  pub record InSymbol (s : Set) (y : Symbol) : Type 0 where
+    pub front : Front first s
+    pub start : p .start ≡ length (lineBytes (symbolBegun K s))
+    pub slots : length (y .own) ≡ 4
+    pub name : Noted spool K (ruleAt symbolTable 0) (getD ns 0 0) (getD (y .own) 0 none)
+    pub wall : Noted spool K (ruleAt symbolTable 3) (getD ns 3 0) (getD (y .own) 3 none)
+    pub order : isNone (getD (y .own) 1 none) ≡ true → isSome (getD (y .own) 2 none) ≡ true → y .hideFirst ≡ true
+
+  pub record InElement (s : Set) (y : Symbol) : Type 0 where
+    pub in-symbol : InSymbol s y
+    pub layered : p .layered ≡ false
+    pub read : isSome (getD (y .own) 1 none) ≡ true
+    pub order : isSome (getD (y .own) 2 none) ≡ true → y .hideFirst ≡ true
+
+  pub record InHide (s : Set) (y : Symbol) : Type 0 where
+    pub in-symbol : InSymbol s y
+    pub read : isSome (getD (y .own) 2 none) ≡ true
+    pub order : y .hideFirst ≡ isNone (getD (y .own) 1 none)
+
+  abbrev pub InHome : Set → Home → Type 0
+  InHome s (inElement y) = InElement s y
+  InHome s (inLayer m) = Body first s × (p .layered ≡ true)
+
+  pub record InPlaced (s : Set) (m : ℕ) (o : Held) (i : ℕ) : Type 0 where
+    pub home : InHome s (inLayer m)
+    pub part : p .part ≡ i
+    pub open-part : i < 2
+    pub noted : NotedParts spool (knownOf s) 18 ns o
+
+  abbrev pub Here : State → Type 0
+  Here (top s k) = (p .block ≡ 0) × TopHere s k
+  Here (file s n h i) = (p .block ≡ 1) × InFile s h i
+  Here (drawing s d) = (p .block ≡ 2) × InDrawing s d
+  Here (layerNames s d) = (p .block ≡ 3) × InDrawing s d × (isSome (getD (d .own) 7 none) ≡ true)
+  Here (defines s b) = (p .block ≡ 4) × Front first s × (b ≡ true → s .symbols ≡ [])
+  Here (symbol s y) = (p .block ≡ 5) × InSymbol s y
+  Here (hide s y ps) = (p .block ≡ 6) × InHide s y
+  Here (elements s) = (p .block ≡ 7) × Body first s
+  Here (figures s h fs) = (p .block ≡ 8) × InHome s h
+  Here (successive s h fs n ps) = (p .block ≡ 9) × InHome s h
+  Here (texts s h fs n o) = (p .block ≡ 10) × InHome s h × NotedRows spool (homeKnown K s h) (textTable (isLayer h) 4 12) 4 ns o
+  Here (placing s m fs n o i) = (p .block ≡ 11) × InPlaced s m o i
+  Here (skipping s m fs n o d) = ⊥
+  Here (ended s) = Served s
+
+-- the writing stands where the reading is at st
+pub record Pens (K : Known) (spool : List ℕ) (first : Bool) (p : Pen) (ns out : List ℕ) (st : State) : Type 0 where
+  pub at : p .at ≡ length (lineBytes (shown K first st))
+  pub fits : p .at ≤ length out
+  pub text : take (p .at) out ≡ lineBytes (shown K first st)
+  pub many : length ns ≡ 28
+  pub here : Here K spool first p ns st

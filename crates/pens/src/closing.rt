@@ -1,0 +1,197 @@
+// A line `}`: what was noted is written, and the block closed.
+use crate::CHAIN;
+use crate::DEFINES;
+use crate::DRAWING;
+use crate::Drawn;
+use crate::ELEMENTS;
+use crate::FIGURES;
+use crate::FILE;
+use crate::HIDE;
+use crate::LAYER_NAMES;
+use crate::PLACED;
+use crate::Pen;
+use crate::SYMBOL;
+use crate::TEXT;
+use crate::TOP;
+use crate::noted::put_noted;
+use crate::noted::put_rows;
+use crate::places::at_block;
+use crate::put::put_plain;
+use crate::swap::exchange;
+use leaves::Wrote;
+ghost use mathlib.Core.Path.{_≡_};
+ghost use mathlib.Core.Bool.{true, cond};
+ghost use Prim.Native.Nat.{_≤_};
+ghost use lib.ListN.{length};
+ghost use Rattle.rules.specs.Blocks.{around};
+ghost use Rattle.pens.specs.Texts.{Safe};
+ghost use Rattle.pens.specs.Closing.{Shuts, ShutsRows, ShutsDrawing, ShutsSymbol, aroundBlock, inPart, partClosed, CloseDone};
+ghost use Rattle.pens.specs.Writing.{notedBase};
+ghost use Rattle.pens.specs.KeyWriting.{Kept};
+
+// The `}`, with which another block is open.
+fn shut(pen: Pen, block: u8, out: &mut [u8]) -> Drawn
+    requires { ⌜ Safe pen (now out) ⌝ }
+    ensures { λ r. ⌜ Kept (now (out .entry)) (now (out .exit)) r × Shuts pen block (now (out .entry)) (now (out .exit)) r ⌝ }
+{
+    let from = pen.at;
+    match put_plain(b"}", &mut out[from..]) {
+        Wrote::Bytes(n) => Drawn::Go(at_block(pen, n, block, 0)),
+        Wrote::Full => Drawn::Full,
+    }
+}
+
+// The noted rows of a block, and its `}`.
+fn close_rows(base: u8, s: &[u8], pen: Pen, block: u8, notes: &[u32], out: &mut [u8]) -> Drawn
+    requires { ⌜ Safe pen (now out) × (notedBase base ≡ true) ⌝ }
+    ensures { λ r. ⌜ Kept (now (out .entry)) (now (out .exit)) r × ShutsRows (now (s .entry)) base pen block (now (notes .entry)) (now (out .entry)) (now (out .exit)) r ⌝ }
+{
+    let from = pen.at;
+    match put_rows(3, base, base, 0, s, notes, &mut out[from..]) {
+        Wrote::Bytes(n) => shut(at_block(pen, n, block, 0), block, out),
+        Wrote::Full => Drawn::Full,
+    }
+}
+
+// The part around an inner part: FILE_FORMAT around `range`, `range` around the others.
+fn around(part: u8) -> u8
+    requires { ⌜ 1 ≤ part ⌝ }
+    ensures { λ r. ⌜ r ≡ around part ⌝ }
+{
+    if part == 1 {
+        return 0;
+    }
+    1
+}
+
+// DRAWING_FORMAT's rows come before `layer_name`, which is written already.
+fn close_drawing(s: &[u8], pen: Pen, notes: &[u32], out: &mut [u8]) -> Drawn
+    requires { ⌜ Safe pen (now out) ⌝ }
+    ensures { λ r. ⌜ Kept (now (out .entry)) (now (out .exit)) r × ShutsDrawing (now (s .entry)) pen (now (notes .entry)) (now (out .entry)) (now (out .exit)) r ⌝ }
+{
+    let from = pen.start;
+    let middle = pen.at;
+    match put_rows(1, 7, 7, 0, s, notes, &mut out[middle..]) {
+        Wrote::Full => Drawn::Full,
+        Wrote::Bytes(n) => {
+            let to = middle + n;
+            exchange(&mut out[from..to], middle - from);
+            shut(at_block(pen, n, DRAWING, 0), TOP, out)
+        }
+    }
+}
+
+// A symbol's name comes before its `element` and `hide`, which are written already, and `wall` behind them.
+fn close_symbol(s: &[u8], pen: Pen, notes: &[u32], out: &mut [u8]) -> Drawn
+    requires { ⌜ Safe pen (now out) × (length (now notes) ≡ 28) ⌝ }
+    ensures { λ r. ⌜ Kept (now (out .entry)) (now (out .exit)) r × ShutsSymbol (now (s .entry)) pen (now (notes .entry)) (now (out .entry)) (now (out .exit)) r ⌝ }
+{
+    let from = pen.start;
+    let middle = pen.at;
+    let named = put_noted(9, 0, s, notes[0], &mut out[middle..]);
+    let Wrote::Bytes(n) = named else {
+        return Drawn::Full;
+    };
+    let to = middle + n;
+    exchange(&mut out[from..to], middle - from);
+    let walled = put_noted(9, 3, s, notes[3], &mut out[to..]);
+    let Wrote::Bytes(m) = walled else {
+        return Drawn::Full;
+    };
+    shut(at_block(pen, n + m, SYMBOL, 0), DEFINES, out)
+}
+
+// The block around figures: ELEMENT, or a symbol.
+fn around_figures(layered: bool) -> u8
+    ensures { λ r. ⌜ r ≡ cond layered 7 5 ⌝ }
+{
+    if layered {
+        return ELEMENTS;
+    }
+    SYMBOL
+}
+
+fn text_table(layered: bool) -> u8
+    ensures { λ r. ⌜ r ≡ cond layered 16 17 ⌝ }
+{
+    if layered {
+        return 16;
+    }
+    17
+}
+
+fn file_table(first: bool) -> u8
+    ensures { λ r. ⌜ r ≡ cond first 1 6 ⌝ }
+{
+    if first {
+        return 1;
+    }
+    6
+}
+
+// The block around one whose `}` is all that is written.
+fn around_block(pen: Pen) -> u8
+    ensures { λ r. ⌜ r ≡ aroundBlock pen ⌝ }
+{
+    if pen.block == FIGURES {
+        return around_figures(pen.layered);
+    }
+    if pen.block == CHAIN {
+        return FIGURES;
+    }
+    if pen.block == LAYER_NAMES {
+        return DRAWING;
+    }
+    if pen.block == HIDE {
+        return SYMBOL;
+    }
+    TOP
+}
+
+// An inner part of FILE_FORMAT or of a placed symbol closes: nothing is written.
+fn in_part(pen: Pen) -> bool
+    ensures { λ r. ⌜ r ≡ inPart pen ⌝ }
+{
+    if pen.part == 0 {
+        return false;
+    }
+    if pen.block == FILE {
+        return true;
+    }
+    pen.block == PLACED
+}
+
+fn part_closed(pen: Pen) -> Pen
+    requires { ⌜ inPart pen ≡ true ⌝ }
+    ensures { λ r. ⌜ r ≡ partClosed pen ⌝ }
+{
+    if pen.block == FILE {
+        return at_block(pen, 0, FILE, around(pen.part));
+    }
+    at_block(pen, 0, PLACED, 0)
+}
+
+pub(crate) fn on_close(s: &[u8], first: bool, pen: Pen, notes: &[u32], out: &mut [u8]) -> Drawn
+    requires { ⌜ Safe pen (now out) × (length (now notes) ≡ 28) ⌝ }
+    ensures { λ r. ⌜ Kept (now (out .entry)) (now (out .exit)) r × CloseDone (now (s .entry)) first pen (now (notes .entry)) (now (out .entry)) (now (out .exit)) r ⌝ }
+{
+    if in_part(pen) {
+        return Drawn::Go(part_closed(pen));
+    }
+    if pen.block == TEXT {
+        return close_rows(text_table(pen.layered), s, pen, FIGURES, notes, out);
+    }
+    if pen.block == PLACED {
+        return close_rows(18, s, pen, FIGURES, notes, out);
+    }
+    if pen.block == FILE {
+        return close_rows(file_table(first), s, pen, TOP, notes, out);
+    }
+    if pen.block == DRAWING {
+        return close_drawing(s, pen, notes, out);
+    }
+    if pen.block == SYMBOL {
+        return close_symbol(s, pen, notes, out);
+    }
+    shut(pen, around_block(pen), out)
+}

@@ -1,0 +1,432 @@
+// A line with a key: written at once, or noted till its block closes.
+use crate::CHAIN;
+use crate::DEFINES;
+use crate::DRAWING;
+use crate::Drawn;
+use crate::ELEMENTS;
+use crate::FIGURES;
+use crate::FILE;
+use crate::HIDE;
+use crate::LAYER_NAMES;
+use crate::PLACED;
+use crate::Pen;
+use crate::SYMBOL;
+use crate::TEXT;
+use crate::TOP;
+use crate::noted::note_of;
+use crate::noted::notes_from;
+use crate::noted::opens;
+use crate::places::among_figures;
+use crate::places::at_block;
+use crate::places::begun;
+use crate::places::forget;
+use crate::put::put_named;
+use crate::put::put_row;
+use entries::Rest;
+use entries::names::part;
+use leaves::Wrote;
+use rules::Span;
+use tables::Found;
+use tables::Row;
+use tables::lookup::row_of;
+ghost use mathlib.Core.Path.{_≡_};
+ghost use mathlib.Core.Bool.{cond};
+ghost use Prim.Native.Nat.{_+_};
+ghost use lib.Dec.{eqb};
+ghost use lib.ListN.{length, set};
+ghost use Rattle.rules.specs.Rows.{innerOf};
+ghost use Rattle.tables.specs.Rows.{kindOf};
+ghost use Rattle.pens.specs.Texts.{Safe};
+ghost use Rattle.pens.specs.Moves.{moved, begun, amongFigures, figureBlock, fileTableOf, figureTableOf, tableFor};
+ghost use Rattle.pens.specs.Noting.{noteOf, notesFrom, figureNotes};
+ghost use Rattle.pens.specs.Keys.{isBrace, NamedLine};
+ghost use Rattle.pens.specs.KeyWriting.{Kept, DrawsRow, RowDone, KeyOrName, plainTableOf};
+
+fn is_brace(rest: Rest) -> bool
+    ensures { λ r. ⌜ r ≡ isBrace rest ⌝ }
+{
+    match rest {
+        Rest::Brace => true,
+        Rest::Equals(_) => false,
+    }
+}
+
+// The table of the figures: in a layer a placed symbol is a block, or one line.
+fn figure_table(layered: bool, rest: Rest) -> u8
+    ensures { λ r. ⌜ r ≡ figureTableOf layered (isBrace rest) ⌝ }
+{
+    if !layered {
+        return 13;
+    }
+    if is_brace(rest) {
+        return 11;
+    }
+    12
+}
+
+fn file_table(first: bool, part: u8) -> u8
+    ensures { λ r. ⌜ r ≡ fileTableOf first part ⌝ }
+{
+    if !first {
+        return 6;
+    }
+    if part == 0 {
+        return 1;
+    }
+    if part == 1 {
+        return 2;
+    }
+    if part == 2 {
+        return 3;
+    }
+    if part == 3 {
+        return 4;
+    }
+    5
+}
+
+// Of two tables the one for a layer, or the one for a symbol.
+fn by_home(layered: bool, layer: u8, symbol: u8) -> u8
+    ensures { λ r. ⌜ r ≡ cond layered layer symbol ⌝ }
+{
+    if layered {
+        return layer;
+    }
+    symbol
+}
+
+fn placed_table(part: u8) -> u8
+    ensures { λ r. ⌜ r ≡ cond (eqb part 0) 18 19 ⌝ }
+{
+    if part == 0 {
+        return 18;
+    }
+    19
+}
+
+// The table of the block that is open.
+fn table_of(first: bool, pen: Pen, rest: Rest) -> u8
+    ensures { λ r. ⌜ r ≡ tableFor first pen (isBrace rest) ⌝ }
+{
+    if pen.block == FIGURES {
+        return figure_table(pen.layered, rest);
+    }
+    if pen.block == CHAIN {
+        return by_home(pen.layered, 14, 15);
+    }
+    if pen.block == TEXT {
+        return by_home(pen.layered, 16, 17);
+    }
+    if pen.block == PLACED {
+        return placed_table(pen.part);
+    }
+    if pen.block == TOP {
+        return 0;
+    }
+    if pen.block == FILE {
+        return file_table(first, pen.part);
+    }
+    if pen.block == DRAWING {
+        return 7;
+    }
+    if pen.block == DEFINES {
+        return 8;
+    }
+    if pen.block == SYMBOL {
+        return 9;
+    }
+    if pen.block == HIDE {
+        return 15;
+    }
+    10
+}
+
+// A line that is written at once, and the block that is open behind it.
+fn put_at_once(
+    table: u8,
+    row: Row,
+    s: &[u8],
+    rest: Rest,
+    pen: Pen,
+    block: u8,
+    out: &mut [u8],
+) -> Drawn
+    requires { ⌜ Safe pen (now out) ⌝ }
+    ensures { λ r. ⌜ Kept (now (out .entry)) (now (out .exit)) r × DrawsRow table row (now (s .entry)) rest pen (λ n. moved pen n block 0) (now (out .entry)) (now (out .exit)) r ⌝ }
+{
+    let from = pen.at;
+    match put_row(table, row, s, rest, &mut out[from..]) {
+        Wrote::Bytes(n) => Drawn::Go(at_block(pen, n, block, 0)),
+        Wrote::Full => Drawn::Full,
+    }
+}
+
+// A line that opens a block whose inner lines are written before its own.
+fn put_begun(
+    table: u8,
+    row: Row,
+    s: &[u8],
+    rest: Rest,
+    pen: Pen,
+    block: u8,
+    out: &mut [u8],
+) -> Drawn
+    requires { ⌜ Safe pen (now out) ⌝ }
+    ensures { λ r. ⌜ Kept (now (out .entry)) (now (out .exit)) r × DrawsRow table row (now (s .entry)) rest pen (λ n. begun pen n block) (now (out .entry)) (now (out .exit)) r ⌝ }
+{
+    let from = pen.at;
+    match put_row(table, row, s, rest, &mut out[from..]) {
+        Wrote::Bytes(n) => Drawn::Go(begun(pen, n, block)),
+        Wrote::Full => Drawn::Full,
+    }
+}
+
+// A line behind which figures stand.
+fn put_figures(
+    table: u8,
+    row: Row,
+    s: &[u8],
+    rest: Rest,
+    pen: Pen,
+    layered: bool,
+    out: &mut [u8],
+) -> Drawn
+    requires { ⌜ Safe pen (now out) ⌝ }
+    ensures { λ r. ⌜ Kept (now (out .entry)) (now (out .exit)) r × DrawsRow table row (now (s .entry)) rest pen (λ n. amongFigures pen n layered) (now (out .entry)) (now (out .exit)) r ⌝ }
+{
+    let from = pen.at;
+    match put_row(table, row, s, rest, &mut out[from..]) {
+        Wrote::Bytes(n) => Drawn::Go(among_figures(pen, n, layered)),
+        Wrote::Full => Drawn::Full,
+    }
+}
+
+// A row's line noted.
+fn note(table: u8, row: Row, rest: Rest, notes: &mut [u32])
+    ensures { λ _. ⌜ now (notes .exit) ≡ set (now (notes .entry)) (notesFrom table + row .number) (noteOf rest) ⌝ }
+{
+    let i = notes_from(table) + row.number as usize;
+    if i < notes.len() {
+        notes[i] = note_of(rest);
+    }
+}
+
+fn key_top(row: Row, s: &[u8], rest: Rest, pen: Pen, notes: &mut [u32], out: &mut [u8]) -> Drawn
+    requires { ⌜ Safe pen (now out) × (pen .block ≡ 0) ⌝ }
+    ensures { λ r. ⌜ Kept (now (out .entry)) (now (out .exit)) r × (length (now (notes .exit)) ≡ length (now (notes .entry))) × RowDone 0 row (now (s .entry)) rest pen (now (notes .entry)) (now (notes .exit)) (now (out .entry)) (now (out .exit)) r ⌝ }
+{
+    forget(notes);
+    if row.number == 0 {
+        return put_at_once(0, row, s, rest, pen, FILE, out);
+    }
+    if row.number == 1 {
+        return put_begun(0, row, s, rest, pen, DRAWING, out);
+    }
+    if row.number == 2 {
+        return put_at_once(0, row, s, rest, pen, DEFINES, out);
+    }
+    put_at_once(0, row, s, rest, pen, ELEMENTS, out)
+}
+
+fn key_file(
+    table: u8,
+    row: Row,
+    s: &[u8],
+    rest: Rest,
+    pen: Pen,
+    notes: &mut [u32],
+    out: &[u8],
+) -> Drawn
+    requires { ⌜ Safe pen (now out) × (pen .block ≡ 1) ⌝ }
+    ensures { λ r. ⌜ Kept (now (out .entry)) (now (out .entry)) r × (length (now (notes .exit)) ≡ length (now (notes .entry))) × RowDone table row (now (s .entry)) rest pen (now (notes .entry)) (now (notes .exit)) (now (out .entry)) (now (out .entry)) r ⌝ }
+{
+    note(table, row, rest, notes);
+    if opens(s, row, rest) {
+        return Drawn::Go(at_block(pen, 0, FILE, row.inner));
+    }
+    Drawn::Go(pen)
+}
+
+fn key_drawing(row: Row, s: &[u8], rest: Rest, pen: Pen, notes: &mut [u32], out: &mut [u8]) -> Drawn
+    requires { ⌜ Safe pen (now out) × (pen .block ≡ 2) ⌝ }
+    ensures { λ r. ⌜ Kept (now (out .entry)) (now (out .exit)) r × (length (now (notes .exit)) ≡ length (now (notes .entry))) × RowDone 7 row (now (s .entry)) rest pen (now (notes .entry)) (now (notes .exit)) (now (out .entry)) (now (out .exit)) r ⌝ }
+{
+    if row.number == 7 {
+        return put_at_once(7, row, s, rest, pen, LAYER_NAMES, out);
+    }
+    note(7, row, rest, notes);
+    Drawn::Go(pen)
+}
+
+fn key_names(key: Span, s: &[u8], rest: Rest, pen: Pen, out: &mut [u8]) -> Drawn
+    requires { ⌜ Safe pen (now out) ⌝ }
+    ensures { λ r. ⌜ Kept (now (out .entry)) (now (out .exit)) r × NamedLine (now (s .entry)) key rest pen (now (out .entry)) (now (out .exit)) r ⌝ }
+{
+    let from = pen.at;
+    match put_named(s, key, rest, &mut out[from..]) {
+        Wrote::Bytes(n) => Drawn::Go(at_block(pen, n, LAYER_NAMES, 0)),
+        Wrote::Full => Drawn::Full,
+    }
+}
+
+fn key_defines(row: Row, s: &[u8], rest: Rest, pen: Pen, notes: &mut [u32], out: &mut [u8]) -> Drawn
+    requires { ⌜ Safe pen (now out) × (pen .block ≡ 4) ⌝ }
+    ensures { λ r. ⌜ Kept (now (out .entry)) (now (out .exit)) r × (length (now (notes .exit)) ≡ length (now (notes .entry))) × RowDone 8 row (now (s .entry)) rest pen (now (notes .entry)) (now (notes .exit)) (now (out .entry)) (now (out .exit)) r ⌝ }
+{
+    if row.number == 0 {
+        return put_at_once(8, row, s, rest, pen, DEFINES, out);
+    }
+    forget(notes);
+    put_begun(8, row, s, rest, pen, SYMBOL, out)
+}
+
+fn key_symbol(row: Row, s: &[u8], rest: Rest, pen: Pen, notes: &mut [u32], out: &mut [u8]) -> Drawn
+    requires { ⌜ Safe pen (now out) × (pen .block ≡ 5) ⌝ }
+    ensures { λ r. ⌜ Kept (now (out .entry)) (now (out .exit)) r × (length (now (notes .exit)) ≡ length (now (notes .entry))) × RowDone 9 row (now (s .entry)) rest pen (now (notes .entry)) (now (notes .exit)) (now (out .entry)) (now (out .exit)) r ⌝ }
+{
+    if row.number == 1 {
+        return put_figures(9, row, s, rest, pen, false, out);
+    }
+    if row.number == 2 {
+        return put_at_once(9, row, s, rest, pen, HIDE, out);
+    }
+    note(9, row, rest, notes);
+    Drawn::Go(pen)
+}
+
+// The block that a figure opens, or that of the figures where it is a line.
+fn figure_block(row: Row) -> u8
+    ensures { λ r. ⌜ r ≡ figureBlock (kindOf row) (innerOf (kindOf row)) ⌝ }
+{
+    if row.kind != 8 {
+        return FIGURES;
+    }
+    if row.inner == 1 {
+        return CHAIN;
+    }
+    if row.inner == 2 {
+        return TEXT;
+    }
+    PLACED
+}
+
+// A text or a placed symbol has no notes yet.
+fn forget_for(block: u8, notes: &mut [u32])
+    requires { ⌜ length (now notes) ≡ 28 ⌝ }
+    ensures { λ _. ⌜ now (notes .exit) ≡ figureNotes block (now (notes .entry)) ⌝ }
+{
+    if block == PLACED {
+        forget(notes);
+        return;
+    }
+    if block != TEXT {
+        return;
+    }
+    notes[4] = 0;
+    notes[5] = 0;
+}
+
+fn key_figures(
+    table: u8,
+    row: Row,
+    s: &[u8],
+    rest: Rest,
+    pen: Pen,
+    notes: &mut [u32],
+    out: &mut [u8],
+) -> Drawn
+    requires { ⌜ Safe pen (now out) × (pen .block ≡ 8) × (length (now notes) ≡ 28) ⌝ }
+    ensures { λ r. ⌜ Kept (now (out .entry)) (now (out .exit)) r × (length (now (notes .exit)) ≡ length (now (notes .entry))) × RowDone table row (now (s .entry)) rest pen (now (notes .entry)) (now (notes .exit)) (now (out .entry)) (now (out .exit)) r ⌝ }
+{
+    let block = figure_block(row);
+    forget_for(block, notes);
+    put_at_once(table, row, s, rest, pen, block, out)
+}
+
+fn key_placed(
+    table: u8,
+    row: Row,
+    s: &[u8],
+    rest: Rest,
+    pen: Pen,
+    notes: &mut [u32],
+    out: &[u8],
+) -> Drawn
+    requires { ⌜ Safe pen (now out) × (pen .block ≡ 11) ⌝ }
+    ensures { λ r. ⌜ Kept (now (out .entry)) (now (out .entry)) r × (length (now (notes .exit)) ≡ length (now (notes .entry))) × RowDone table row (now (s .entry)) rest pen (now (notes .entry)) (now (notes .exit)) (now (out .entry)) (now (out .entry)) r ⌝ }
+{
+    note(table, row, rest, notes);
+    if row.kind == 8 {
+        return Drawn::Go(at_block(pen, 0, PLACED, 1));
+    }
+    Drawn::Go(pen)
+}
+
+// A line with a key whose row was found, in any block but `layer_name`.
+fn row_line(
+    table: u8,
+    row: Row,
+    s: &[u8],
+    rest: Rest,
+    pen: Pen,
+    notes: &mut [u32],
+    out: &mut [u8],
+) -> Drawn
+    requires { ⌜ Safe pen (now out) × (length (now notes) ≡ 28) × (table ≡ plainTableOf pen table) ⌝ }
+    ensures { λ r. ⌜ Kept (now (out .entry)) (now (out .exit)) r × (length (now (notes .exit)) ≡ length (now (notes .entry))) × RowDone table row (now (s .entry)) rest pen (now (notes .entry)) (now (notes .exit)) (now (out .entry)) (now (out .exit)) r ⌝ }
+{
+    if pen.block == FIGURES {
+        return key_figures(table, row, s, rest, pen, notes, out);
+    }
+    if pen.block == CHAIN {
+        return put_at_once(table, row, s, rest, pen, CHAIN, out);
+    }
+    if pen.block == TEXT {
+        note(table, row, rest, notes);
+        return Drawn::Go(pen);
+    }
+    if pen.block == PLACED {
+        return key_placed(table, row, s, rest, pen, notes, out);
+    }
+    if pen.block == TOP {
+        return key_top(row, s, rest, pen, notes, out);
+    }
+    if pen.block == FILE {
+        return key_file(table, row, s, rest, pen, notes, out);
+    }
+    if pen.block == DRAWING {
+        return key_drawing(row, s, rest, pen, notes, out);
+    }
+    if pen.block == DEFINES {
+        return key_defines(row, s, rest, pen, notes, out);
+    }
+    if pen.block == SYMBOL {
+        return key_symbol(row, s, rest, pen, notes, out);
+    }
+    if pen.block == HIDE {
+        return put_at_once(table, row, s, rest, pen, HIDE, out);
+    }
+    put_figures(table, row, s, rest, pen, true, out)
+}
+
+pub(crate) fn on_key(
+    s: &[u8],
+    first: bool,
+    key: Span,
+    rest: Rest,
+    pen: Pen,
+    notes: &mut [u32],
+    out: &mut [u8],
+) -> Drawn
+    requires { ⌜ Safe pen (now out) × (length (now notes) ≡ 28) ⌝ }
+    ensures { λ r. ⌜ Kept (now (out .entry)) (now (out .exit)) r × (length (now (notes .exit)) ≡ 28) × KeyOrName (now (s .entry)) first key rest pen (now (notes .entry)) (now (notes .exit)) (now (out .entry)) (now (out .exit)) r ⌝ }
+{
+    if pen.block == LAYER_NAMES {
+        return key_names(key, s, rest, pen, out);
+    }
+    let table = table_of(first, pen, rest);
+    match row_of(table, part(s, key)) {
+        Found::Absent => Drawn::Go(pen),
+        Found::Row(row) => row_line(table, row, s, rest, pen, notes, out),
+    }
+}

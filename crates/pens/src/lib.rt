@@ -1,0 +1,52 @@
+// An accepted set written in the fixed form: "no comments, blanks or empty lines; keys in the order above".
+mod closing;
+mod keys;
+mod noted;
+mod places;
+mod put;
+mod swap;
+
+// Which block is open, and how far the writing is.
+pub(crate) struct Pen {
+    // the block
+    pub(crate) block: u8,
+    // in FILE_FORMAT and a placed symbol: the inner part that is open
+    pub(crate) part: u8,
+    // the figures are a layer's, not a symbol's
+    pub(crate) layered: bool,
+    // where the lines inside the open DRAWING_FORMAT or symbol begin
+    pub(crate) start: usize,
+    // how many bytes are written
+    pub(crate) at: usize,
+}
+
+// A line was written, or there is no room for it.
+pub(crate) enum Drawn {
+    Go(Pen),
+    Full,
+}
+
+// Which block is open.
+const TOP: u8 = 0;
+
+const FILE: u8 = 1;
+
+const DRAWING: u8 = 2;
+
+const LAYER_NAMES: u8 = 3;
+
+const DEFINES: u8 = 4;
+
+const SYMBOL: u8 = 5;
+
+const HIDE: u8 = 6;
+
+const ELEMENTS: u8 = 7;
+
+const FIGURES: u8 = 8;
+
+const CHAIN: u8 = 9;
+
+const TEXT: u8 = 10;
+
+const PLACED: u8 = 11;

@@ -1,0 +1,5 @@
+pub mod Going
+pub mod Shown
+pub mod Commas
+pub mod KeyTexts
+pub mod Whole

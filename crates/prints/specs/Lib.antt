@@ -1,0 +1,4 @@
+pub mod Keys
+pub mod Printing
+pub mod Texts
+pub mod Reading

@@ -1,0 +1,67 @@
+-- What is written of a line's parts, whatever they are: that it is the fixed form, where they were read, is a law.
+use Prim.Native.Nat.{ℕ, _/_, _%_}
+use mathlib.Core.Bool.{Bool, true, false, cond, _&&_}
+use mathlib.Core.List.{List, [], _∷_, _++_, map}
+use mathlib.Core.Option.{Option, none, some}
+use lib.Dec.{eqb, leb, ltb}
+use Rattle.rules.specs.Base.{bytes, split, join}
+use Rattle.rules.specs.RefusalNumbers.{Got, got, bad}
+use Rattle.rules.specs.Numbers.{readCount, readDecimal, showCount, showDecimal}
+use Rattle.rules.specs.Lines.{Rest, brace, equals, Shape, opener, noContent, content, opening, formless}
+use Rattle.rules.specs.Values.{Num, capital, sheets, findSheet, showSheet, readRatio, showRatio}
+use Rattle.leaves.specs.Drawing.{numberAt}
+use Rattle.tables.specs.declared.Row.{Row}
+
+-- what was read is written anew, what was not stands as it is
+abbrev pub anew : {A : Type 0} → List ℕ → (A → List ℕ) → Option A → List ℕ
+anew c show none = c
+anew c show (some a) = show a
+
+-- one piece by its form's number: from 20 on decimals, 7 counts
+abbrev pub pieceText : ℕ → List ℕ → List ℕ
+pieceText form c = cond (leb 20 form) (anew c showDecimal (readDecimal c)) (cond (eqb form 7) (anew c (showCount 20) (readCount 10 c)) c)
+
+-- the next piece's form is behind two decimal digits, or the same
+abbrev pub nextForms : ℕ → Bool → ℕ
+nextForms forms alike = cond alike forms (forms / 100)
+
+abbrev pub pieceTexts : ℕ → Bool → List (List ℕ) → List (List ℕ)
+pieceTexts forms alike [] = []
+pieceTexts forms alike (p ∷ ps) = pieceText (forms % 100) p ∷ pieceTexts (nextForms forms alike) alike ps
+
+unfoldable pub piecesText : ℕ → Bool → List ℕ → List ℕ
+piecesText forms alike c = join 44 (pieceTexts forms alike (split 44 c))
+
+-- a sheet and a scale, by their two numbers
+abbrev pub sheetText : List ℕ → Option (List Num) → List ℕ
+sheetText c o = anew c (λ v. showSheet (numberAt v 0) (numberAt v 1)) o
+
+abbrev pub ratioText : List ℕ → Got (List Num) → List ℕ
+ratioText c (bad n) = c
+ratioText c (got v) = showRatio (numberAt v 0) (numberAt v 1)
+
+-- a content that is not empty, by its row; texts and words stand as they are
+unfoldable pub contentText : Row → List ℕ → List ℕ
+contentText row c =
+    cond (eqb (row .kind) 3) (map capital c)
+    (cond (eqb (row .kind) 4) (sheetText c (findSheet c sheets))
+    (cond (eqb (row .kind) 5) (ratioText c (readRatio c))
+    (cond (eqb (row .kind) 6) (piecesText 7 true c)
+    (cond (eqb (row .kind) 9) (pieceText (row .parts) c)
+    (cond (ltb 0 (row .kind) && leb (row .kind) 10) c
+    (piecesText (row .parts) false c))))))
+
+unfoldable pub behindText : Row → Shape → List ℕ
+behindText row opener = bytes ":{"
+behindText row noContent = bytes "="
+behindText row (content at c) = bytes "=" ++ contentText row c
+behindText row (opening at c) = (bytes "=" ++ contentText row c) ++ bytes ":{"
+behindText row formless = bytes "="
+
+abbrev pub lineEnd : List ℕ
+lineEnd = 13 ∷ 10 ∷ []
+
+-- what follows an `=`
+abbrev pub restText : Rest → List ℕ
+restText brace = []
+restText (equals at c) = c

@@ -1,0 +1,97 @@
+// The content of a line, by what its row holds.
+use crate::pieces::piece;
+use crate::pieces::pieces;
+use crate::texts::scale as put_scale;
+use crate::texts::sheet as put_sheet;
+use crate::texts::text;
+use leaves::Ratio;
+use leaves::Sheet;
+use leaves::Wrote;
+use leaves::bytes::within;
+use leaves::sheets::ratio;
+use leaves::sheets::sheet;
+use tables::Row;
+ghost use mathlib.Core.Path.{_≡_};
+ghost use mathlib.Core.Bool.{_&&_};
+ghost use mathlib.Core.List.{map};
+ghost use lib.Dec.{leb, ltb};
+ghost use Rattle.rules.specs.Values.{capital, findSheet, sheets, readRatio};
+ghost use Rattle.prints.specs.Printing.{Writes};
+ghost use Rattle.prints.specs.Texts.{sheetText, ratioText, contentText};
+
+fn capital(b: u8) -> u8
+    ensures { λ r. ⌜ r ≡ capital b ⌝ }
+{
+    if within(97, 122, b as u64) {
+        return b - 32;
+    }
+    b
+}
+
+// The name of the next volume, in capitals, byte by byte.
+fn capitals(c: &[u8], at: Wrote, out: &mut [u8]) -> Wrote
+    ensures { λ r. ⌜ Writes (map capital (now (c .entry))) at (now (out .entry)) (now (out .exit)) r ⌝ }
+{
+    if c.len() == 0 {
+        return text(c, at, out);
+    }
+    let first = [capital(c[0]); 1];
+    let w = text(&first, at, out);
+    if c.len() == 1 {
+        return w;
+    }
+    capitals(&c[1..], w, out)
+}
+
+fn size(c: &[u8], at: Wrote, out: &mut [u8]) -> Wrote
+    ensures { λ r. ⌜ Writes (sheetText (now (c .entry)) (findSheet (now (c .entry)) sheets)) at (now (out .entry)) (now (out .exit)) r ⌝ }
+{
+    let Sheet::Is(z) = sheet(c) else {
+        return text(c, at, out);
+    };
+    put_sheet(z.multiplier as u64, z.number as u64, at, out)
+}
+
+fn scale(c: &[u8], at: Wrote, out: &mut [u8]) -> Wrote
+    ensures { λ r. ⌜ Writes (ratioText (now (c .entry)) (readRatio (now (c .entry)))) at (now (out .entry)) (now (out .exit)) r ⌝ }
+{
+    let Ratio::Is(z) = ratio(c) else {
+        return text(c, at, out);
+    };
+    put_scale(z.p as u64, z.q as u64, at, out)
+}
+
+// A kind of content that stands as it was written: texts, words, and a range that may open a block.
+fn stands(kind: u8) -> bool
+    ensures { λ r. ⌜ r ≡ (ltb 0 kind && leb kind 10) ⌝ }
+{
+    if 0 < kind {
+        return kind <= 10;
+    }
+    false
+}
+
+// A content that is not empty.
+pub(crate) fn content(row: Row, c: &[u8], at: Wrote, out: &mut [u8]) -> Wrote
+    ensures { λ r. ⌜ Writes (contentText row (now (c .entry))) at (now (out .entry)) (now (out .exit)) r ⌝ }
+{
+    if row.kind == 3 {
+        return capitals(c, at, out);
+    }
+    if row.kind == 4 {
+        return size(c, at, out);
+    }
+    if row.kind == 5 {
+        return scale(c, at, out);
+    }
+    if row.kind == 6 {
+        return pieces(7, true, c, at, out);
+    }
+    if row.kind == 9 {
+        return piece(row.parts, c, at, out);
+    }
+    if stands(row.kind) {
+        return text(c, at, out);
+    }
+    pieces(row.parts, false, c, at, out)
+}

@@ -1,0 +1,72 @@
+// The pieces between commas.
+use crate::texts::decimal;
+use crate::texts::number;
+use crate::texts::text;
+use leaves::Count;
+use leaves::Reading;
+use leaves::Wrote;
+use leaves::bytes::find;
+use leaves::numbers::decimal as read_decimal;
+use leaves::numbers::serial;
+ghost use Prim.Native.Nat.{_/_};
+ghost use Rattle.rules.specs.Numbers.{readCount, readDecimal, showCount, showDecimal};
+ghost use Rattle.prints.specs.Printing.{Writes};
+ghost use Rattle.prints.specs.Texts.{anew, pieceText, nextForms, piecesText};
+ghost use mathlib.Core.Path.{_≡_};
+
+// A count or a serial number, without needless zeros.
+fn count(c: &[u8], at: Wrote, out: &mut [u8]) -> Wrote
+    ensures { λ r. ⌜ Writes (anew (now (c .entry)) (showCount 20) (readCount 10 (now (c .entry)))) at (now (out .entry)) (now (out .exit)) r ⌝ }
+{
+    let Count::Is(n) = serial(c) else {
+        return text(c, at, out);
+    };
+    number(n, at, out)
+}
+
+fn size(c: &[u8], at: Wrote, out: &mut [u8]) -> Wrote
+    ensures { λ r. ⌜ Writes (anew (now (c .entry)) showDecimal (readDecimal (now (c .entry)))) at (now (out .entry)) (now (out .exit)) r ⌝ }
+{
+    let Reading::Is(d) = read_decimal(c) else {
+        return text(c, at, out);
+    };
+    decimal(d.value, at, out)
+}
+
+// One piece by its form, from 20 on a decimal, 7 a count: any other stands as it was written.
+pub(crate) fn piece(form: u64, c: &[u8], at: Wrote, out: &mut [u8]) -> Wrote
+    ensures { λ r. ⌜ Writes (pieceText form (now (c .entry))) at (now (out .entry)) (now (out .exit)) r ⌝ }
+{
+    if 20 <= form {
+        return size(c, at, out);
+    }
+    if form == 7 {
+        return count(c, at, out);
+    }
+    text(c, at, out)
+}
+
+// The forms of the pieces behind the first: all alike, or behind the first one's two digits.
+fn behind_first(forms: u64, alike: bool) -> u64
+    ensures { λ r. ⌜ r ≡ nextForms forms alike ⌝ }
+{
+    if alike {
+        return forms;
+    }
+    forms / 100
+}
+
+// All pieces of c by their forms, two decimal digits each, the first one last.
+pub(crate) fn pieces(forms: u64, alike: bool, c: &[u8], at: Wrote, out: &mut [u8]) -> Wrote
+    ensures { λ r. ⌜ Writes (piecesText forms alike (now (c .entry))) at (now (out .entry)) (now (out .exit)) r ⌝ }
+{
+    let e = find(c, b',');
+    if c.len() <= e {
+        return piece(forms % 100, c, at, out);
+    }
+    let first = piece(forms % 100, &c[..e], at, out);
+    let comma = text(b",", first, out);
+    let next = e + 1;
+    let rest = behind_first(forms, alike);
+    pieces(rest, alike, &c[next..], comma, out)
+}
