@@ -109,14 +109,14 @@ module _ (K : Known) (dr : Drawing) where
   names-slot none ls = refl
   names-slot (some v) ls = block-more (bytes "layer_name") (showLayers K (dr .layers)) (layers-more K (dr .layers)) ls
 
-  abbrev rowsText : Text
+  abbrev pub rowsText : Text
   rowsText = showSlots K notedTable (take 7 (dr .own)) noInner []
 
   eight-slots : length (dr .own) ≡ 8 → dr .own ≡ take 7 (dr .own) ++ getD (dr .own) 7 none ∷ []
   eight-slots eight =
       split-at (dr .own) 7 none (omega (arith, eight)) ∙ ap (λ (u : Slots). take 7 (dr .own) ++ getD (dr .own) 7 none ∷ u) (drop-of-length-le (dr .own) {i = 8} (omega (arith, eight)))
 
-  drawing-text : length (dr .own) ≡ 8 → showDrawing K dr (bytes "}" ∷ []) ≡ rowsText ++ (namesText K dr ++ bytes "}" ∷ [])
+  pub drawing-text : length (dr .own) ≡ 8 → showDrawing K dr (bytes "}" ∷ []) ≡ rowsText ++ (namesText K dr ++ bytes "}" ∷ [])
   drawing-text eight =
       let end : Text = bytes "}" ∷ [] in
       let last : Text = showSlots K (rule 7 ∷ []) (getD (dr .own) 7 none ∷ []) inside end in

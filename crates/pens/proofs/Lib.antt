@@ -24,3 +24,14 @@ pub mod Putting
 pub mod Writers
 pub mod KeyRows
 pub mod Closings
+pub mod LentOutput
+pub mod Openings
+pub mod VolumeSound
+pub mod VolumeSteps
+pub mod VolumeWalk
+pub mod VolumeEnd
+pub mod Heads
+pub mod VolumeRuns
+pub mod SetTexts
+pub mod SetWalk
+pub mod SetLoop

@@ -175,13 +175,13 @@ module _ (K : Known) (y : Symbol) where
       ∙ ap (λ (u : Text). elementText b ++ u) (hide-slot c (showSlot K (rule 3) w (symbolInner K y) ls) ∙ ap (λ (u : Text). hideText c ++ u) (wall-slot w ls))
       ∙ sym (append-assoc (elementText b) (hideText c) (rowText K (rule 3) w ++ ls)))
 
-  abbrev nameText : Text
+  abbrev pub nameText : Text
   nameText = rowText K (rule 0) (getD (y .own) 0 none)
 
-  abbrev endText : Text
+  abbrev pub endText : Text
   endText = rowText K (rule 3) (getD (y .own) 3 none) ++ bytes "}" ∷ []
 
-  symbol-text : length (y .own) ≡ 4 → showSymbol K y [] ≡ openLine (bytes "E_symbol") ∷ (nameText ++ (partsText K y ++ endText))
+  pub symbol-text : length (y .own) ≡ 4 → showSymbol K y [] ≡ openLine (bytes "E_symbol") ∷ (nameText ++ (partsText K y ++ endText))
   symbol-text four =
       ap (λ (u : Text). openLine (bytes "E_symbol") ∷ u)
       (ap (λ (o : Slots). showSlots K (exchanged (y .hideFirst) symbolTable) (exchanged (y .hideFirst) o) (symbolInner K y) (bytes "}" ∷ [])) (four-slots (y .own) four)

@@ -9,3 +9,4 @@ pub mod Closing
 pub mod Drawing
 pub mod Writing
 pub mod KeyWriting
+pub mod Volumes

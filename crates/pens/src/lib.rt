@@ -5,6 +5,7 @@ mod noted;
 mod places;
 mod put;
 mod swap;
+pub mod volumes;
 
 // Which block is open, and how far the writing is.
 pub(crate) struct Pen {

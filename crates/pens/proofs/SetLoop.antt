@@ -1,0 +1,101 @@
+-- The loop over the volumes: what holds before each, whatever the spool is, and for every set that it is accepted as.
+use Prim.Native.Nat.{ℕ, suc, _+_, _-_, _≤_, _<_}
+use mathlib.Core.Bool.{Bool}
+use mathlib.Core.List.{List, [], _∷_}
+use mathlib.Core.Option.{Option, none, some}
+use mathlib.Core.Path.{_≡_, refl, sym, _∙_, ap, subst}
+use native.Mathlib.Omega.{arith}
+use lib.Dec.{eqb}
+use lib.ListN.{length, getD, drop}
+use lib.Seq.{drop-cons}
+use Rattle.rules.specs.Spool.{Volume, volumesOf}
+use Rattle.rules.specs.Sets.{Set}
+use Rattle.rules.specs.Machine.{accepted}
+use Rattle.rules.specs.Answers.{rewriteOutcome, written}
+use Rattle.leaves.specs.declared.Wrote.{Wrote}
+use Rattle.leaves.specs.declared.Wrote.the-variants as W
+use Rattle.lines.specs.VolumePlaces.{zeros, noLayout, layoutOf}
+use Rattle.lines.specs.declared.Layout.{Layout}
+use Rattle.lines.proofs.VolumePlaces.{volumes-laid}
+use Rattle.lines.proofs.VolumesSeen.{volume-in}
+use Rattle.pens.specs.Printed.{Within}
+use Rattle.pens.specs.Volumes.{Fronts, VolumePromise, SetPromise}
+use Rattle.pens.proofs.LentOutput.{lent, back, within-long, lent-room, full-within}
+use Rattle.pens.proofs.SetWalk.{accepted-so, Done, done-begins, turn-full, turn-on, all-done}
+
+-- a volume's number and places are within bounds
+pub record Placed (l : Layout) (i : ℕ) : Type 0 where
+  pub few : i < 12
+  pub high : getD (l .lengths) i 0 + getD (l .places) i 0 ≤ 61440
+
+none-count : layoutOf none .count ≡ 0
+unfolding layoutOf noLayout zeros
+none-count = refl
+
+pub placed : (s : List ℕ) (l : Layout) (i : ℕ) → l ≡ layoutOf (volumesOf s) → i < l .count → Placed l i
+placed s l i e h = go (volumesOf s) refl
+  where
+    go : (o : Option (List Volume)) → volumesOf s ≡ o → Placed l i
+    go none q = absurd (omega (arith, ap (λ (y : Layout). y .count) e, ap (λ (o : Option (List Volume)). layoutOf o .count) q, none-count, h))
+    go (some vs) q =
+        let laid = volumes-laid s vs q in
+        let below : i < length vs = omega (arith, ap (λ (y : Layout). y .count) e, laid .count, h) in
+        let noVolume : Volume = record { name = []; place = 0; body = [] } in
+        let w = volume-in s vs q i (getD vs i noVolume) (drop (suc i) vs) (drop-cons vs i noVolume below) in
+        record {
+          few = omega (arith, laid .few, below);
+          high = omega (
+            arith,
+            w .place,
+            w .size,
+            w .high,
+            laid .spool,
+            ap (λ (y : Layout). getD (y .places) i 0) e,
+            ap (λ (y : Layout). getD (y .lengths) i 0) e,
+          );
+        }
+
+-- before the volume with number i + 1
+pub record Going (s before out : List ℕ) (notes : List ℕ) (at i : ℕ) : Type 0 where
+  pub long : length out ≡ length before
+  pub many : length notes ≡ 28
+  pub fits : at ≤ length out
+  pub done : (set : Set) (q : rewriteOutcome s ≡ accepted set) → Done s set (accepted-so s set q) i at out
+
+pub begins : (s before notes : List ℕ) → length notes ≡ 28 → Going s before before notes 0 0
+begins s before notes m = record { long = refl; many = m; fits = omega arith; done = λ set q. done-begins s set (accepted-so s set q) before }
+
+module _ (s before out notes : List ℕ) (at i : ℕ) (z : Going s before out notes at i) (l : Layout) (e : l ≡ layoutOf (volumesOf s)) (h : i < l .count) (f : at ≤ length out) (part : List ℕ) (r : Wrote)
+    (w : Within (lent at out f) part r) (promise : VolumePromise s (getD (l .places) i 0) (getD (l .lengths) i 0 + getD (l .places) i 0) (eqb i 0) (lent at out f) part r) where
+  below : (set : Set) (q : rewriteOutcome s ≡ accepted set) → i < length (accepted-so s set q .volumes)
+  below set q =
+      let a = accepted-so s set q in omega (arith, volumes-laid s (a .volumes) (a .are) .count, ap (λ (y : Layout). y .count) e, h)
+
+  pub goes-on : (notes′ : List ℕ) → length notes′ ≡ 28 → (n : ℕ) → r ≡ W.Bytes n → Going s before (back at out f part) notes′ (at + n) (i + 1)
+  goes-on notes′ m n b = record {
+    long = within-long at out f part r w ∙ z .long;
+    many = m;
+    fits = omega (arith, within-long at out f part r w, lent-room at out f part r n w b);
+    done = λ set q.
+        let one : suc i ≡ i + 1 = omega arith in
+        subst (λ (j : ℕ). Done s set (accepted-so s set q) j (at + n) (back at out f part)) one
+        (turn-on s set (accepted-so s set q) i at out f (z .done set q) _ _ (below set q) (ap (λ (y : Layout). getD (y .places) i 0) (sym e))
+        (ap (λ (y : Layout). getD (y .lengths) i 0 + getD (l .places) i 0) (sym e)) part r promise n b);
+  }
+
+  pub no-room : r ≡ W.Full → Within before (back at out f part) W.Full × SetPromise s before (back at out f part) W.Full
+  no-room b = (
+    full-within before (back at out f part) (within-long at out f part r w ∙ z .long),
+    λ set q. turn-full s set (accepted-so s set q) i at out f (z .done set q) _ _ (below set q) (ap (λ (y : Layout). getD (y .places) i 0) (sym e))
+        (ap (λ (y : Layout). getD (y .lengths) i 0 + getD (l .places) i 0) (sym e)) part r promise before (back at out f part) (z .long) b,
+  )
+
+-- behind the last volume
+pub ends : (s before out notes : List ℕ) (at i : ℕ) → Going s before out notes at i → (l : Layout) → l ≡ layoutOf (volumesOf s) → l .count ≤ i
+    → Within before out (W.Bytes at) × SetPromise s before out (W.Bytes at)
+ends s before out notes at i z l e h = (
+  record { long = z .long; within = λ n b. let same : at ≡ n = cc in omega (arith, same, z .fits, z .long) },
+  λ set q.
+      let a = accepted-so s set q in
+      all-done s set a i at before out (z .done set q) (omega (arith, volumes-laid s (a .volumes) (a .are) .count, ap (λ (y : Layout). y .count) e, h)) (omega (arith, z .fits, z .long)),
+)
