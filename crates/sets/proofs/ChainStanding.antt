@@ -172,7 +172,7 @@ module _ (c : Digits) (spool : List ℕ) (k : ℕ) (FileHere : Desk → Set → 
     on-refuse m a = ap (byAct _ _ _ _) a
 
     -- its end
-    module _ (a : did ≡ shut) (b : ltb (d .now .points) leastPoints ≡ false) (q : t₁ ≡ chainClosed (d .now) (d .table)) where
+    module _ (a : did ≡ shut) (b : ltb (d .now .points) leastPoints ≡ false) (q : t₁ ≡ chainClosed (d .now) (chainPlace (d .now)) (d .table)) where
       abbrev fore : List (List ℤ)
       fore = figuresSoFar c s h fs
 
@@ -250,12 +250,12 @@ module _ (c : Digits) (spool : List ℕ) (k : ℕ) (FileHere : Desk → Set → 
         ap (byAct _ _ _ _) a
         ∙ ap (λ (y : Bool). unless y 8 (got (figures s h (fs ++ chain n ps ∷ [])))) (lt-leb 3 (length ps) (omega (arith, ltb-true (d .now .points) 3 b, inc .points)))
 
-    on-end : did ≡ shut → (b : Bool) → ltb (d .now .points) leastPoints ≡ b → (ltb (d .now .points) leastPoints ≡ false → t₁ ≡ chainClosed (d .now) (d .table))
+    on-end : did ≡ shut → (b : Bool) → ltb (d .now .points) leastPoints ≡ b → (ltb (d .now .points) leastPoints ≡ false → t₁ ≡ chainClosed (d .now) (chainPlace (d .now)) (d .table))
         → Out (cond b (S.Stop 8) (S.Go (figureDone (d .now))))
     on-end a true b q = on-few a b
     on-end a false b q = on-shut a b (q b)
 
-    by-act : (b : Bool) → hasRoom (d .now .free) (d .table) ≡ b → (y : Act) → did ≡ y → ChainTable (d .now) w (d .table) t₁ (taking b y) → Out (chainStep (d .now) (taking b y))
+    by-act : (b : Bool) → hasRoom (d .now .free) (d .table) ≡ b → (y : Act) → did ≡ y → ChainTable (d .now) (chainPlace (d .now)) w (d .table) t₁ (taking b y) → Out (chainStep (d .now) (taking b y))
     by-act true r stay a q = on-stay a q
     by-act true r (entry j v) a q = on-entry j v a r q
     by-act true r (begin i j v) a q = on-begin i j v a 5
@@ -268,8 +268,8 @@ module _ (c : Digits) (spool : List ℕ) (k : ℕ) (FileHere : Desk → Set → 
     by-act false r (refuse m) a q = on-refuse m a
 
     pub chain-line : (r : Step)
-        → ChainLine (pointAct (pointTableOf (d .now .layered)) spool (take (getD (d .tally) 9 0) (d .symbols)) (take (getD (d .tally) 10 0) (d .layers)) (d .now) form (d .table)) (d .now) w (d .table) t₁ r
+        → ChainLine (pointAct (pointTableOf (d .now .layered)) spool (take (getD (d .tally) 9 0) (d .symbols)) (take (getD (d .tally) 10 0) (d .layers)) (d .now) form (d .table)) (d .now) (chainPlace (d .now)) w (d .table) t₁ r
         → Out r
     chain-line r y =
         subst Out (sym (y .answer ∙ ap (chainStep (d .now)) chain-act))
-        (by-act (hasRoom (d .now .free) (d .table)) refl did refl (subst (ChainTable (d .now) w (d .table) t₁) chain-act (y .table)))
+        (by-act (hasRoom (d .now .free) (d .table)) refl did refl (subst (ChainTable (d .now) (chainPlace (d .now)) w (d .table) t₁) chain-act (y .table)))

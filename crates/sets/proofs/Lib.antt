@@ -89,4 +89,13 @@ pub mod SetRun
 pub mod SetRunAnswer
 pub mod StepParts
 pub mod StepDone
+pub mod ForeParts
+pub mod ScratchPlaces
+pub mod ScratchFigures
+pub mod ScratchSheet
+pub mod ScratchPlaced
+pub mod OpenPlaces
+pub mod ScratchDone
+pub mod SetRunUnlimited
+pub mod ScratchCode
 pub mod Unique

@@ -31,7 +31,7 @@ use Rattle.sets.specs.declared.Step.the-variants as S
 use Rattle.sets.specs.Records.{hasRoom}
 use Rattle.leaves.proofs.Ints.{pos-back}
 use Rattle.sets.specs.Account.{atBlock, figureDone, taking, headAt, TakenAt, ActsAt}
-use Rattle.sets.specs.Points.{pointTableOf, chainKind, morePoints, chainPlace, chainEnd, chainClosed, ChainLine, HideLine}
+use Rattle.sets.specs.Points.{pointTableOf, chainKind, morePoints, chainEnd, chainClosed, ChainLine, HideLine}
 use Rattle.sets.proofs.BlocksActs.{told}
 
 -- ── the table of points ──
@@ -65,15 +65,15 @@ module _ (n : Now) (at : Where) (t₀ t₁ : List ℤ) (a : Act) (x : Next) wher
   line = taking (hasRoom (n .free) t₀) a
 
   -- in a `successive`
-  module _ (m : ActsAt (ruleAt (tableOf (pointTableOf (n .layered)))) (n .free) t₀ a t₁ x) where
+  module _ (own : ℕ) (m : ActsAt (ruleAt (tableOf (pointTableOf (n .layered)))) (n .free) t₀ a t₁ x) where
     abbrev Chains : List ℤ → Step → Act → Type 0
-    Chains t₂ r c = TakenAt (ruleAt (tableOf (pointTableOf (n .layered)))) (n .free) t₀ t₁ c → ChainLine c n at t₀ t₂ r
+    Chains t₂ r c = TakenAt (ruleAt (tableOf (pointTableOf (n .layered)))) (n .free) t₀ t₁ c → ChainLine c n own at t₀ t₂ r
 
-    pub chain-stay : x ≡ N.Stay → ChainLine line n at t₀ t₁ (S.Go n)
+    pub chain-stay : x ≡ N.Stay → ChainLine line n own at t₀ t₁ (S.Go n)
     chain-stay e = subst (Chains t₁ (S.Go n)) (sym (told N.Stay line (sym e ∙ m .eq))) (λ h. record { answer = refl; table = h }) (m .table)
 
     pub chain-entry : (kind : ℕ) (t₂ : List ℤ) (y : Now) (j : ℕ) → kind ≡ chainKind (n .layered) → t₂ ≡ headAt (n .free) kind (n .owner) at t₁ → y ≡ morePoints n → x ≡ N.Entry j
-        → ChainLine line n at t₀ t₂ (S.Go y)
+        → ChainLine line n own at t₀ t₂ (S.Go y)
     chain-entry kind t₂ y j k g r e =
         let (v, q) = told (N.Entry j) line (sym e ∙ m .eq) in
         subst (Chains t₂ (S.Go y)) (sym q) (λ h. record {
@@ -81,15 +81,15 @@ module _ (n : Now) (at : Where) (t₀ t₁ : List ℤ) (a : Act) (x : Next) wher
           table = g ∙ ap (λ (i : ℕ). headAt (n .free) i (n .owner) at t₁) k ∙ ap (headAt (n .free) (chainKind (n .layered)) (n .owner) at) h;
         }) (m .table)
 
-    pub chain-begin : (t₂ : List ℤ) (i : Inner) → x ≡ N.Begin i → ChainLine line n at t₀ t₂ (S.Stop 5)
+    pub chain-begin : (t₂ : List ℤ) (i : Inner) → x ≡ N.Begin i → ChainLine line n own at t₀ t₂ (S.Stop 5)
     chain-begin t₂ i e =
         let (v, q) = told (N.Begin i) line (sym e ∙ m .eq) in subst (Chains t₂ (S.Stop 5)) (sym q) (λ h. record { answer = refl; table = tt }) (m .table)
 
-    pub chain-shut : (t₂ : List ℤ) (r : Step) → r ≡ chainEnd n → (ltb (n .points) leastPoints ≡ false → t₂ ≡ chainClosed n t₁) → x ≡ N.Shut → ChainLine line n at t₀ t₂ r
+    pub chain-shut : (t₂ : List ℤ) (r : Step) → r ≡ chainEnd n → (ltb (n .points) leastPoints ≡ false → t₂ ≡ chainClosed n own t₁) → x ≡ N.Shut → ChainLine line n own at t₀ t₂ r
     chain-shut t₂ r g f e =
-        subst (Chains t₂ r) (sym (told N.Shut line (sym e ∙ m .eq))) (λ h. record { answer = g; table = λ s. f s ∙ ap (chainClosed n) h }) (m .table)
+        subst (Chains t₂ r) (sym (told N.Shut line (sym e ∙ m .eq))) (λ h. record { answer = g; table = λ s. f s ∙ ap (chainClosed n own) h }) (m .table)
 
-    pub chain-refuse : (t₂ : List ℤ) (k : ℕ) → x ≡ N.Refuse k → ChainLine line n at t₀ t₂ (S.Stop k)
+    pub chain-refuse : (t₂ : List ℤ) (k : ℕ) → x ≡ N.Refuse k → ChainLine line n own at t₀ t₂ (S.Stop k)
     chain-refuse t₂ k e = subst (Chains t₂ (S.Stop k)) (sym (told (N.Refuse k) line (sym e ∙ m .eq))) (λ h. record { answer = refl; table = tt }) (m .table)
 
   -- in a `hide`
@@ -122,10 +122,10 @@ chain-short n h = sym (ap (λ (b : Bool). cond b (S.Stop 8) (S.Go (figureDone n)
 pub chain-long : (n y : Now) → leastPoints ≤ n .points → y ≡ figureDone n → S.Go y ≡ chainEnd n
 chain-long n y h e = ap (λ (z : Now). S.Go z) e ∙ sym (ap (λ (b : Bool). cond b (S.Stop 8) (S.Go (figureDone n))) (le-ltb (n .points) leastPoints h))
 
-pub chain-stores : (n : Now) (t : List ℤ) → SFits w64 (getD t (chainPlace n + 36) (pos 0)) → n .points < 100000000000
-    → set (set t (chainPlace n + 4) (toZ w64 (ofZ w64 (getD t (chainPlace n + 36) (pos 0))))) (chainPlace n + 5) (toZ w64 (n .points)) ≡ chainClosed n t
-chain-stores n t f h = rw (toZ-ofZ f, pos-back (n .points) h)
+pub chain-stores : (n : Now) (own : ℕ) (t : List ℤ) → SFits w64 (getD t (own + 36) (pos 0)) → n .points < 100000000000
+    → set (set t (own + 4) (toZ w64 (ofZ w64 (getD t (own + 36) (pos 0))))) (own + 5) (toZ w64 (n .points)) ≡ chainClosed n own t
+chain-stores n own t f h = rw (toZ-ofZ f, pos-back (n .points) h)
 
 -- the second store still lies within the table
-pub chain-within : (n : Now) (t : List ℤ) (z : ℤ) → leastPoints ≤ n .points → 32 * (n .points + 1) ≤ n .free → n .free ≤ length t → chainPlace n + 5 < length (set t (chainPlace n + 4) z)
-chain-within n t z a b c = omega (arith, length-set t (chainPlace n + 4) z, a, b, c)
+pub chain-within : (own : ℕ) (t : List ℤ) (z : ℤ) → own + 64 ≤ length t → own + 5 < length (set t (own + 4) z)
+chain-within own t z h = omega (arith, length-set t (own + 4) z, h)

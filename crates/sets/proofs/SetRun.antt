@@ -1,16 +1,19 @@
 -- The volumes of a set read one after the other: how far the reading has come, and what one more volume makes of it.
 use Prim.Native.Nat.{ℕ, zero, suc, _+_, _-_, _*_, _/_, _≤_, _<_}
-use mathlib.Core.Bool.{Bool}
+use mathlib.Core.Bool.{Bool, true, false}
 use mathlib.Core.List.{List, [], _∷_, _++_}
 use mathlib.Core.Option.{Option, none, some}
 use mathlib.Core.Path.{_≡_, refl, sym, _∙_, ap, subst}
 use native.Mathlib.Omega.{arith}
-use lib.ListN.{length, getD, drop, length-drop}
+use lib.Dec.{eqb}
+use lib.IntN.{ℤ, pos}
+use lib.ListN.{length, getD, drop, replicate, length-drop, length-replicate}
 use lib.Seq.{drop-drop}
-use borrow.Author.Tests.{lt-ltb, le-ltb}
+use borrow.Author.Tests.{lt-ltb, le-ltb, eqb-true, eqb-false}
 use Rattle.rules.specs.declared.Digits.{Digits}
 use Rattle.rules.specs.declared.Refusal.{Refusal}
 use Rattle.rules.specs.Base.{isNil}
+use Rattle.rules.proofs.Chains.{clash}
 use Rattle.rules.specs.Spool as P
 use Rattle.rules.specs.Spool.{volumesOf}
 use Rattle.rules.specs.Sets.{Set, nothingYet}
@@ -29,18 +32,19 @@ use Rattle.sets.specs.declared.Volume.{Volume}
 use Rattle.sets.specs.declared.volumes.Through.{Through}
 use Rattle.sets.specs.declared.volumes.Through.the-variants as T
 use Rattle.sets.specs.Walk.{At}
-use Rattle.sets.specs.Standing.{Desk, deskNow, Under}
+use Rattle.sets.specs.Standing.{Desk, deskNow, deskTable, Under}
+use Rattle.sets.specs.TableApart.{symbolOpen, Seen, whole, apart}
 use Rattle.sets.specs.FileStanding.{InFile}
 use Rattle.sets.specs.Reading.{Standing, startOf, nextNumber, nextState, VolumeReady, VolumeOut, VolumePromise}
-use Rattle.sets.specs.SetReading.{envOf, nameBehind}
+use Rattle.sets.specs.SetReading.{envOf, nameBehind, LentFor}
 use Rattle.sets.proofs.LaidTables.{laid-table}
-use Rattle.sets.proofs.VolumeRun.{stands-later}
+use Rattle.sets.proofs.VolumeRun.{stands-later, seen-long}
 use Rattle.sets.proofs.SetRunTaken.{few-taken}
 use Rattle.sets.proofs.SetRunVolumes.{Grown, volumes-grow, next-nil, over-few}
 use Rattle.sets.proofs.SetRunStart.{Begins, begin-stands}
 
 -- ── the outcome, by what the volumes say ──
-outcome-is : (e : Env) (spool : List ℕ) → outcomeOf e spool ≡ outcomeOfVolumes e (volumesOf spool)
+pub outcome-is : (e : Env) (spool : List ℕ) → outcomeOf e spool ≡ outcomeOfVolumes e (volumesOf spool)
 unfolding outcomeOf
 outcome-is e spool = refl
 
@@ -62,13 +66,14 @@ some-volumes spool l q h = go (volumesOf spool) refl
     go none z = absurd (h (ap (λ (x : Layout). x .count) q ∙ ap (λ (o : Option (List P.Volume)). layoutOf o .count) z ∙ count-none))
     go (some vs) z = (vs, z)
 
-outcome-unsound : (e : Env) (spool : List ℕ) (vs : List P.Volume) → volumesOf spool ≡ some vs → (n : ℕ) → firstUnsound spool (layoutOf (volumesOf spool)) ≡ suc n → outcomeOf e spool ≡ refused 3 (suc n) 0
+pub outcome-unsound : (e : Env) (spool : List ℕ) (vs : List P.Volume) → volumesOf spool ≡ some vs → (n : ℕ) → firstUnsound spool (layoutOf (volumesOf spool)) ≡ suc n → outcomeOf e spool ≡ refused 3 (suc n) 0
 outcome-unsound e spool vs z n h = outcome-is e spool ∙ ap (outcomeOfVolumes e) z ∙ ap (outcomeOfLines e) (unsound-volume spool vs z n h)
 
-outcome-lined : (e : Env) (spool : List ℕ) (vs : List P.Volume) → volumesOf spool ≡ some vs → (h : AllLined vs) → outcomeOf e spool ≡ run e (top nothingYet 0) (linesOver 1 vs h)
+pub outcome-lined : (e : Env) (spool : List ℕ) (vs : List P.Volume) → volumesOf spool ≡ some vs → (h : AllLined vs) → outcomeOf e spool ≡ run e (top nothingYet 0) (linesOver 1 vs h)
 outcome-lined e spool vs z h = outcome-is e spool ∙ ap (outcomeOfVolumes e) z ∙ ap (outcomeOfLines e) (lined-listed 1 vs h)
 
-module _ (c : Digits) (spool : List ℕ) (len : ℕ) (l : Layout) where
+-- len: how long the table is; lent: how many numbers are lent for it
+module _ (c : Digits) (spool : List ℕ) (len lent : ℕ) (l : Layout) where
   abbrev e : Env
   e = envOf c len
 
@@ -78,14 +83,16 @@ module _ (c : Digits) (spool : List ℕ) (len : ℕ) (l : Layout) where
     pub all : List P.Volume
     pub are : volumesOf spool ≡ some all
     pub lined : AllLined all
-    pub long : length (d .table) ≡ len
+    pub long : length (d .table) ≡ lent
+    pub table : List ℤ
+    pub seen : Seen (d .now) (d .table) len table
     pub left : List P.Volume
     pub drops : drop i all ≡ left
     pub lines : AllLined left
     pub set : Set
     pub at : ℕ
     pub grown : Grown at left
-    pub stands : Standing c spool (nextNumber (isNil left) i) d at (nextState (isNil left) set)
+    pub stands : Standing c spool (nextNumber (isNil left) i) (deskTable d table) at (nextState (isNil left) set)
     pub eq : run e (top nothingYet 0) (linesOver 1 all lined) ≡ run e (nextState (isNil left) set) (linesOver (i + 1) left lines)
 
   pub came-none : l ≡ layoutOf (volumesOf spool) → l .count ≡ 0 → outcomeOf e spool ≡ refused 2 0 0
@@ -95,31 +102,66 @@ module _ (c : Digits) (spool : List ℕ) (len : ℕ) (l : Layout) where
   came-unsound q h zero w g = absurd (g refl)
   came-unsound q h (suc n) w g = let (vs, z) = some-volumes spool l q h in outcome-unsound e spool vs z n (ap (firstUnsound spool) (sym q) ∙ sym w)
 
-  pub came-first : l ≡ layoutOf (volumesOf spool) → (l .count ≡ 0 → ⊥) → firstUnsound spool l ≡ 0 → (d : Desk) → length (d .table) ≡ len → Begins d → Came 0 d
-  came-first q h w d t b =
+  -- the table that is lent, or one of zeros that is thought of
+  first-table : (d : Desk) → Begins d → LentFor len (d .table) → (table : List ℤ) × Seen (d .now) (d .table) len table × Begins (deskTable d table)
+  first-table d b f = go (eqb (length (d .table)) len) refl
+    where
+      go : (x : Bool) → eqb (length (d .table)) len ≡ x → (table : List ℤ) × Seen (d .now) (d .table) len table × Begins (deskTable d table)
+      go true e = (d .table, whole refl (sym (eqb-true (length (d .table)) len e)), b)
+      go false e =
+          let (a, h) = f (eqb-false (length (d .table)) len e) in
+          let zeros : List ℤ = replicate len (pos 0) in
+          let long : length zeros ≡ len = length-replicate len (pos 0) in (
+            zeros,
+            apart a (sym long) h (λ o. clash o (ap symbolOpen (b .now))),
+            record {
+              now = b .now;
+              tally = b .tally;
+              lengths = record {
+                symbols = b .lengths .symbols;
+                layers = b .lengths .layers;
+                serials = b .lengths .serials;
+                used = b .lengths .used;
+                usedAll = b .lengths .usedAll;
+                marks = b .lengths .marks;
+                inner = b .lengths .inner;
+                header = b .lengths .header;
+              };
+              unused = b .unused;
+              table = ap (λ (n : ℕ). replicate n (pos 0)) (sym long);
+            },
+          )
+
+  pub came-first : l ≡ layoutOf (volumesOf spool) → (l .count ≡ 0 → ⊥) → firstUnsound spool l ≡ 0 → (d : Desk) → length (d .table) ≡ lent → Begins d → LentFor len (d .table) → Came 0 d
+  came-first q h w d t b f =
       let (vs, z) = some-volumes spool l q h in
       let n = sound-volumes spool vs z (ap (firstUnsound spool) (sym q) ∙ w) in
-      go vs z n
+      go vs z n (first-table d b f)
     where
-      go : (vs : List P.Volume) → volumesOf spool ≡ some vs → AllLined vs → Came 0 d
-      go [] z n = absurd (let y = volumes-laid spool [] z in omega (arith, y .some-volume))
-      go (v ∷ us) z n = record {
+      go : (vs : List P.Volume) → volumesOf spool ≡ some vs → AllLined vs → (table : List ℤ) × Seen (d .now) (d .table) len table × Begins (deskTable d table) → Came 0 d
+      go [] z n x = absurd (let y = volumes-laid spool [] z in omega (arith, y .some-volume))
+      go (v ∷ us) z n x = record {
         laid = q;
         all = v ∷ us;
         are = z;
         lined = n;
         long = t;
+        table = x .0;
+        seen = x .1;
         left = v ∷ us;
         drops = refl;
         lines = n;
         set = nothingYet;
         at = 0;
         grown = volumes-grow spool (v ∷ us) z;
-        stands = begin-stands c spool d (InFile spool 1 d) 0 b;
+        stands = begin-stands c spool (deskTable d (x .0)) (InFile spool 1 (deskTable d (x .0))) 0 (x .2);
         eq = refl;
       }
 
   module _ (i : ℕ) (d : Desk) (w : Came i d) where
+    abbrev D : Desk
+    D = deskTable d (w .table)
+
     count-is : l .count ≡ length (w .all)
     count-is = ap (λ (x : Layout). x .count) (w .laid) ∙ volumes-laid spool (w .all) (w .are) .count
 
@@ -150,14 +192,14 @@ module _ (c : Digits) (spool : List ℕ) (len : ℕ) (l : Layout) where
         pub drops : drop i (w .all) ≡ one ∷ more
         pub lines : AllLined (one ∷ more)
         pub grown : Grown (w .at) (one ∷ more)
-        pub stands : Standing c spool (i + 1) d (w .at) (top (w .set) 0)
+        pub stands : Standing c spool (i + 1) D (w .at) (top (w .set) 0)
         pub eq : run e (top nothingYet 0) (linesOver 1 (w .all) (w .lined)) ≡ run e (top (w .set) 0) (linesOver (i + 1) (one ∷ more) lines)
         pub held : VolumeIn spool l i one
 
       pub here : Here
       here = go (w .left) (w .drops) (w .lines) (w .grown) (w .stands) (w .eq)
         where
-          go : (us : List P.Volume) → drop i (w .all) ≡ us → (y : AllLined us) → Grown (w .at) us → Standing c spool (nextNumber (isNil us) i) d (w .at) (nextState (isNil us) (w .set))
+          go : (us : List P.Volume) → drop i (w .all) ≡ us → (y : AllLined us) → Grown (w .at) us → Standing c spool (nextNumber (isNil us) i) D (w .at) (nextState (isNil us) (w .set))
               → run e (top nothingYet 0) (linesOver 1 (w .all) (w .lined)) ≡ run e (nextState (isNil us) (w .set)) (linesOver (i + 1) us y) → Here
           go [] z y g s q = absurd (omega (arith, length-drop i (w .all), ap length z, count-is, h))
           go (v ∷ us) z y g s q = record {
@@ -203,14 +245,14 @@ module _ (c : Digits) (spool : List ℕ) (len : ℕ) (l : Layout) where
             low = omega arith;
           }
 
-      stands-here : Standing c spool (i + 1) d start (top (w .set) 0)
-      stands-here = stands-later c spool (i + 1) d (InFile spool (i + 1) d) (w .at) start (top (w .set) 0) (omega (arith, here .held .place, here .grown .0)) (here .stands)
+      stands-here : Standing c spool (i + 1) D start (top (w .set) 0)
+      stands-here = stands-later c spool (i + 1) D (InFile spool (i + 1) D) (w .at) start (top (w .set) 0) (omega (arith, here .held .place, here .grown .0)) (here .stands)
 
-      pub volume-ready : VolumeReady c spool vol start d
-      volume-ready = record { set = w .set; lines = here .lines .0 .lines; at = at-start; stands = stands-here }
+      pub volume-ready : VolumeReady c spool vol start len d
+      volume-ready = record { set = w .set; lines = here .lines .0 .lines; at = at-start; table = w .table; seen = w .seen; stands = stands-here }
 
-      under : Under c d e
-      under = record { class = refl; limit = ap (λ (n : ℕ). some (n / 32)) (sym (w .long)) }
+      under : Under c D e
+      under = record { class = refl; limit = ap (λ (n : ℕ). some (n / 32)) (seen-long (d .now) (d .table) len (w .table) (w .seen)) }
 
       -- the run, with this volume's lines in front
       abbrev more-lines : List Line
@@ -220,20 +262,20 @@ module _ (c : Digits) (spool : List ℕ) (len : ℕ) (l : Layout) where
       run-here =
           here .eq ∙ ap (λ (n : ℕ). run e (top (w .set) 0) (linesOfVolume (i + 1) (nextName (here .more)) n (here .lines .0 .lines) ++ more-lines)) (sym (here .held .place))
 
-      module _ (following : List ℕ) (f : following ≡ nameBehind spool (l .places) (l .count) i) (d₁ : Desk) (r : Through) (promise : VolumePromise c spool vol start following d d₁ r) where
-        out : VolumeOut c spool vol (isNil (nextName (here .more))) e (top (w .set) 0) (linesOfVolume (i + 1) (nextName (here .more)) start (here .lines .0 .lines)) more-lines d₁ r
+      module _ (following : List ℕ) (f : following ≡ nameBehind spool (l .places) (l .count) i) (d₁ : Desk) (r : Through) (promise : VolumePromise c spool vol start len following d d₁ r) where
+        out : VolumeOut c spool vol (isNil (nextName (here .more))) len e (top (w .set) 0) (linesOfVolume (i + 1) (nextName (here .more)) start (here .lines .0 .lines)) more-lines d₁ r
         out =
-            subst (λ (x : List ℕ). VolumeOut c spool vol (isNil x) e (top (w .set) 0) (linesOfVolume (i + 1) x start (here .lines .0 .lines)) more-lines d₁ r) (f ∙ behind-is)
-            (promise e (w .set) (here .lines .0 .lines) more-lines under at-start stands-here)
+            subst (λ (x : List ℕ). VolumeOut c spool vol (isNil x) len e (top (w .set) 0) (linesOfVolume (i + 1) x start (here .lines .0 .lines)) more-lines d₁ r) (f ∙ behind-is)
+            (promise (w .table) e (w .set) (here .lines .0 .lines) more-lines (w .seen) under at-start stands-here)
 
         pub stops : (x : Refusal) → r ≡ T.Stop x → outcomeOf e spool ≡ refused (x .number) (x .volume) (x .line)
         stops x q =
             outcome-lined e spool (w .all) (w .are) (w .lined) ∙ run-here
-            ∙ subst (VolumeOut c spool vol (isNil (nextName (here .more))) e (top (w .set) 0) (linesOfVolume (i + 1) (nextName (here .more)) start (here .lines .0 .lines)) more-lines d₁) q out
+            ∙ subst (VolumeOut c spool vol (isNil (nextName (here .more))) len e (top (w .set) 0) (linesOfVolume (i + 1) (nextName (here .more)) start (here .lines .0 .lines)) more-lines d₁) q out
 
         pub goes : (n : Now) → r ≡ T.Go n → length (d₁ .table) ≡ length (d .table) → Came (i + 1) (deskNow d₁ n)
         goes n q t =
-            let (s, x, z) = subst (VolumeOut c spool vol (isNil (nextName (here .more))) e (top (w .set) 0) (linesOfVolume (i + 1) (nextName (here .more)) start (here .lines .0 .lines)) more-lines d₁) q out in
+            let (s, T, x, z, o) = subst (VolumeOut c spool vol (isNil (nextName (here .more))) len e (top (w .set) 0) (linesOfVolume (i + 1) (nextName (here .more)) start (here .lines .0 .lines)) more-lines d₁) q out in
             let last : isNil (nextName (here .more)) ≡ isNil (here .more) = next-nil (here .one .place + length (here .one .body)) (here .more) (here .grown .2) in
             let k : suc (i + 1) ≡ i + 1 + 1 = omega arith in
             let y = here .held in
@@ -244,13 +286,15 @@ module _ (c : Digits) (spool : List ℕ) (len : ℕ) (l : Layout) where
               are = w .are;
               lined = w .lined;
               long = t ∙ w .long;
+              table = T;
+              seen = o;
               left = here .more;
               drops = more-drops;
               lines = here .lines .1;
               set = s;
               at = end;
               grown = subst (λ (m : ℕ). Grown m (here .more)) at-end (here .grown .2);
-              stands = subst (λ (b : Bool). Standing c spool (nextNumber b (i + 1)) (deskNow d₁ n) end (nextState b s)) last z;
+              stands = subst (λ (b : Bool). Standing c spool (nextNumber b (i + 1)) (deskNow (deskTable d₁ T) n) end (nextState b s)) last z;
               eq =
                   run-here ∙ x ∙ ap (λ (b : Bool). run e (nextState b s) more-lines) last
                   ∙ ap (λ (m : ℕ). run e (nextState (isNil (here .more)) s) (linesOver m (here .more) (here .lines .1))) k;
@@ -265,8 +309,8 @@ module _ (c : Digits) (spool : List ℕ) (len : ℕ) (l : Layout) where
           go [] z = z
           go (v ∷ us) z = absurd (omega (arith, left-long, ap length z, h))
 
-      stands-ended : Standing c spool i d (w .at) (ended (w .set))
-      stands-ended = subst (λ (us : List P.Volume). Standing c spool (nextNumber (isNil us) i) d (w .at) (nextState (isNil us) (w .set))) none-left (w .stands)
+      stands-ended : Standing c spool i D (w .at) (ended (w .set))
+      stands-ended = subst (λ (us : List P.Volume). Standing c spool (nextNumber (isNil us) i) D (w .at) (nextState (isNil us) (w .set))) none-left (w .stands)
 
       run-ended : run e (top nothingYet 0) (linesOver 1 (w .all) (w .lined)) ≡ accepted (w .set)
       run-ended = w .eq ∙ go (w .left) none-left (w .lines)
@@ -282,14 +326,25 @@ module _ (c : Digits) (spool : List ℕ) (len : ℕ) (l : Layout) where
       unfolding recordsOf
       counts-records = omega (arith, stands-ended .laid .many)
 
-      pub lays-records : d .table ≡ tableOf len (recordsOf c (w .set))
+      lays-thought : w .table ≡ tableOf len (recordsOf c (w .set))
       unfolding recordsOf
-      lays-records = laid-table (d .table) (recordsFrom c (w .set) (w .set .volumes)) (d .now .free) (stands-ended .laid) ∙ ap (λ (n : ℕ). tableOf n (recordsFrom c (w .set) (w .set .volumes))) (w .long)
+      lays-thought =
+          laid-table (w .table) (recordsFrom c (w .set) (w .set .volumes)) (d .now .free) (stands-ended .laid)
+          ∙ ap (λ (n : ℕ). tableOf n (recordsFrom c (w .set) (w .set .volumes))) (sym (seen-long (d .now) (d .table) len (w .table) (w .seen)))
+
+      -- where the table is the one that is lent
+      pub lays-records : lent ≡ len → d .table ≡ tableOf len (recordsOf c (w .set))
+      lays-records y = go (w .seen)
+        where
+          go : Seen (d .now) (d .table) len (w .table) → d .table ≡ tableOf len (recordsOf c (w .set))
+          go (whole x q) = x ∙ lays-thought
+          go (apart x q g o) = absurd (omega (arith, x, g, w .long, y))
 
       -- each line takes two records at most
       pub few-records : d .now .free / 32 < 4294967296
       few-records =
           let y = volumes-laid spool (w .all) (w .are) in
           let a : w .set .taken ≤ 2 * length (linesOver 1 (w .all) (w .lined)) = few-taken e (linesOver 1 (w .all) (w .lined)) (w .set) run-ended in
-          let b : length (linesOver 1 (w .all) (w .lined)) ≤ 61441 * length (w .all) = over-few spool 1 (w .all) (w .lined) (y .placed) (y .spool) in
-          omega (arith, a, b, y .few, stands-ended .taken)
+          let b : 0 + 2 * length (linesOver 1 (w .all) (w .lined)) ≤ length spool + 2 * length (w .all) =
+          over-few spool 1 0 (w .all) (w .lined) (y .placed) (volumes-grow spool (w .all) (w .are)) (omega arith) in
+          omega (arith, a, b, y .few, y .spool, stands-ended .taken)

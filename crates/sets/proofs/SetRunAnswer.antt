@@ -67,18 +67,17 @@ module _ (class len : ℕ) (spool : List ℕ) where
     outcome-class = outcome-read ∙ ap (λ (o : Option Digits). outcomeAt o (some (len / width)) spool) (class-some (classOf class) c q)
 
     -- t₁: the table that the set left, t: cleared
-    pub reads-refused : (f : Refusal) (t₀ t₁ t : List ℤ) → length t₀ ≡ len → length t₁ ≡ length t₀ → SetOut c spool t₀ t₁ (A.Refused f) → t ≡ replicate (length t₁) (pos 0) → Reads (A.Refused f) t
-    reads-refused f t₀ t₁ t h k z u =
-        refused-reads (f .number) (f .volume) (f .line) t (outcome-class ∙ ap (λ (n : ℕ). outcomeOf (envOf c n) spool) (sym h) ∙ z) (u ∙ ap (λ (n : ℕ). replicate n (pos 0)) (k ∙ h))
+    pub reads-refused : (f : Refusal) (t₀ t₁ t : List ℤ) → length t₀ ≡ len → length t₁ ≡ length t₀ → SetOut c spool len t₀ t₁ (A.Refused f) → t ≡ replicate (length t₁) (pos 0) → Reads (A.Refused f) t
+    reads-refused f t₀ t₁ t h k z u = refused-reads (f .number) (f .volume) (f .line) t (outcome-class ∙ z) (u ∙ ap (λ (n : ℕ). replicate n (pos 0)) (k ∙ h))
 
-    pub reads-accepted : (n : ℕ) (t₀ t : List ℤ) → length t₀ ≡ len → SetOut c spool t₀ t (A.Accepted n) → Reads (A.Accepted n) t
+    pub reads-accepted : (n : ℕ) (t₀ t : List ℤ) → length t₀ ≡ len → SetOut c spool len t₀ t (A.Accepted n) → Reads (A.Accepted n) t
     reads-accepted n t₀ t h z =
         let (s, p, m, u) = z in
-        let o : readOutcome class len spool ≡ accepted s = outcome-class ∙ ap (λ (k : ℕ). outcomeOf (envOf c k) spool) (sym h) ∙ p in
+        let o : readOutcome class len spool ≡ accepted s = outcome-class ∙ p in
         let r : readRecords class len spool ≡ recordsOf c s =
         records-read ∙ ap (recordsIn (digitsOr (classOf class))) o ∙ ap (λ (o : Option Digits). recordsOf (digitsOr o) s) (class-some (classOf class) c q) in (
           ap A.Accepted (m ∙ ap length (sym r)) ∙ sym (answer-read ∙ ap (answerWith (length (readRecords class len spool))) o),
-          u ∙ ap (λ (k : ℕ). tableOf k (recordsOf c s)) h ∙ ap (tableOf len) (sym r) ∙ sym table-read,
+          u h ∙ ap (tableOf len) (sym r) ∙ sym table-read,
         )
 
 -- a table that was cleared is all zeros

@@ -22,7 +22,7 @@ use Rattle.rules.proofs.Chains.{by-cond, On, on-unless, on-cond, on-map, on-the
 use Rattle.rules.proofs.Runs.{not-accepted, finish-ended}
 use Rattle.sets.specs.Standing.{setOf}
 
-abbrev takenIn : State → ℕ
+abbrev pub takenIn : State → ℕ
 takenIn st = setOf st .taken
 
 module _ (P : State → Type 0) where
@@ -44,7 +44,7 @@ module _ (P : State → Type 0) where
   on-skip noForm here inside p q = tt
 
 module _ (e : Env) (l : Line) (s : Set) where
-  abbrev Few : State → Type 0
+  abbrev pub Few : State → Type 0
   Few st = takenIn st ≤ s .taken + 2
 
   -- no record, and so many
@@ -215,7 +215,7 @@ next-taken (placing s k fs n o p) = refl
 next-taken (skipping s k fs n o d) = refl
 next-taken (ended s) = refl
 
-few-step : (e : Env) (l : Line) (st : State) → On (Few e l (setOf st)) (step e l st)
+pub few-step : (e : Env) (l : Line) (st : State) → On (Few e l (setOf st)) (step e l st)
 few-step e l st =
     let P = Few e l (setOf st) in
     on-cond P (l .last) _ _

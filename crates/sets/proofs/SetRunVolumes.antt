@@ -70,31 +70,38 @@ next-nil at [] g = refl
 next-nil at (v ∷ vs) g = g .1
 
 -- ── how many lines ──
-head-line : (b : ℕ) (o : Option (List (List ℕ))) (ls : List (List ℕ)) (n : ℕ) → headLine b o ≡ some ls → ((us : List (List ℕ)) → o ≡ some us → length us ≤ n) → length ls ≤ n
+head-line : (b : ℕ) (o : Option (List (List ℕ))) (ls : List (List ℕ)) (n : ℕ) → headLine b o ≡ some ls → ((us : List (List ℕ)) → o ≡ some us → 2 * length us ≤ n) → 2 * length ls ≤ n
 head-line b none ls n e h = none-some e
 head-line b (some []) ls n e h = none-some e
-head-line b (some (u ∷ us)) ls n e h = let q : (b ∷ u) ∷ us ≡ ls = cc in subst (λ (x : List (List ℕ)). length x ≤ n) q (omega (arith, h (u ∷ us) refl))
+head-line b (some (u ∷ us)) ls n e h = let q : (b ∷ u) ∷ us ≡ ls = cc in subst (λ (x : List (List ℕ)). 2 * length x ≤ n) q (omega (arith, h (u ∷ us) refl))
 
-few-lines : (b : Bool) (s : List ℕ) (ls : List (List ℕ)) → linesFrom b s ≡ some ls → length ls ≤ length s
+-- each has two bytes at its end; x: the first of them has been
+abbrev endBytes : Bool → ℕ
+endBytes true = 1
+endBytes false = 0
+
+few-lines : (x : Bool) (s : List ℕ) (ls : List (List ℕ)) → linesFrom x s ≡ some ls → 2 * length ls ≤ length s + endBytes x
 few-lines true [] ls e = none-some e
 few-lines true (b ∷ s) ls e = go (eqb b 10) e (λ us z. few-lines false s us z)
   where
-    go : (t : Bool) → choose t (λ _. mapO (λ ls. [] ∷ ls) (linesFrom false s)) (λ _. none) ≡ some ls → ((us : List (List ℕ)) → linesFrom false s ≡ some us → length us ≤ length s) → length ls ≤ length (b ∷ s)
+    go : (t : Bool) → choose t (λ _. mapO (λ ls. [] ∷ ls) (linesFrom false s)) (λ _. none) ≡ some ls → ((us : List (List ℕ)) → linesFrom false s ≡ some us → 2 * length us ≤ length s + 0)
+        → 2 * length ls ≤ length (b ∷ s) + 1
     go true z ih =
         let (us, p, q) = map-some (λ ls. [] ∷ ls) (linesFrom false s) ls z in
-        subst (λ (x : List (List ℕ)). length x ≤ length (b ∷ s)) q (omega (arith, ih us p))
+        subst (λ (x : List (List ℕ)). 2 * length x ≤ length (b ∷ s) + 1) q (omega (arith, ih us p))
     go false z ih = none-some z
 few-lines false [] ls e = none-some e
 few-lines false (b ∷ s) ls e = go (eqb b 13) (eqb b 26) (eqb b 10) (isNil s) e (λ us z. few-lines true s us z) (λ us z. few-lines false s us z)
   where
     go : (x y z t : Bool)
         → choose x (λ _. linesFrom true s) (λ _. choose y (λ _. cond t (some []) none) (λ _. choose z (λ _. none) (λ _. headLine b (linesFrom false s)))) ≡ some ls
-        → ((us : List (List ℕ)) → linesFrom true s ≡ some us → length us ≤ length s) → ((us : List (List ℕ)) → linesFrom false s ≡ some us → length us ≤ length s) → length ls ≤ length (b ∷ s)
+        → ((us : List (List ℕ)) → linesFrom true s ≡ some us → 2 * length us ≤ length s + 1) → ((us : List (List ℕ)) → linesFrom false s ≡ some us → 2 * length us ≤ length s + 0)
+        → 2 * length ls ≤ length (b ∷ s) + 0
     go true y z t w ih jh = omega (arith, ih ls w)
-    go false true z true w ih jh = let q : [] ≡ ls = cc in subst (λ (x : List (List ℕ)). length x ≤ length (b ∷ s)) q (omega arith)
+    go false true z true w ih jh = let q : [] ≡ ls = cc in subst (λ (x : List (List ℕ)). 2 * length x ≤ length (b ∷ s) + 0) q (omega arith)
     go false true z false w ih jh = none-some w
     go false false true t w ih jh = none-some w
-    go false false false t w ih jh = omega (arith, head-line b (linesFrom false s) ls (length s) w jh)
+    go false false false t w ih jh = omega (arith, head-line b (linesFrom false s) ls (length s + 0) w jh)
 
 numbered-long : (k : ℕ) (next : List ℕ) (n at : ℕ) (ls : List (List ℕ)) → length (numbered k next n at ls) ≡ length ls
 numbered-long k next n at [] = refl
@@ -104,14 +111,15 @@ volume-long : (k : ℕ) (next : List ℕ) (at : ℕ) (ls : List (List ℕ)) → 
 volume-long k next at [] = omega arith
 volume-long k next at (l ∷ ls) = omega (arith, numbered-long k next 1 at (l ∷ ls))
 
-pub over-few : (s : List ℕ) (k : ℕ) (vs : List Volume) (h : AllLined vs) → AllPlaced s vs → length s ≤ mostBytes → length (linesOver k vs h) ≤ 61441 * length vs
-over-few s k [] h p q = omega arith
-over-few s k (v ∷ vs) h p q =
+-- and the volumes stand one behind the other
+pub over-few : (s : List ℕ) (k at : ℕ) (vs : List Volume) (h : AllLined vs) → AllPlaced s vs → Grown at vs → at ≤ length s → at + 2 * length (linesOver k vs h) ≤ length s + 2 * length vs
+over-few s k at [] h p g q = omega (arith, q)
+over-few s k at (v ∷ vs) h p g q =
     let ls = h .0 .lines in
     let a : length (linesOver k (v ∷ vs) h) ≡ length (linesOfVolume k (nextName vs) (v .place) ls) + length (linesOver (suc k) vs (h .1)) =
     length-append (linesOfVolume k (nextName vs) (v .place) ls) (linesOver (suc k) vs (h .1)) in
-    let b : length ls ≤ length (v .body) = few-lines false (v .body) ls (lines-of (v .body) ls (h .0 .are)) in
-    omega (arith, a, volume-long k (nextName vs) (v .place) ls, b, p .0 .high, q, over-few s (suc k) vs (h .1) (p .1) q)
+    let b : 2 * length ls ≤ length (v .body) + 0 = few-lines false (v .body) ls (lines-of (v .body) ls (h .0 .are)) in
+    omega (arith, a, volume-long k (nextName vs) (v .place) ls, b, g .0, over-few s (suc k) (v .place + length (v .body)) vs (h .1) (p .1) (g .2) (p .0 .high))
 
 -- ── the first volume whose lines break rule 3 is one of twelve ──
 unsound-from : (s : List ℕ) (l : Layout) (k i : ℕ) → unsoundFrom s l k i ≤ i + k

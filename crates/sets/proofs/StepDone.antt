@@ -17,10 +17,12 @@ use Rattle.sets.specs.Standing.{Desk, desk}
 use Rattle.sets.specs.SymbolLines.{nameOf, nameNumber}
 use Rattle.sets.specs.PlacedLines.{lent}
 use Rattle.sets.specs.TopLines.{topLent}
-use Rattle.sets.specs.Reading.{LinePromise, tallyAfter, tallyNamed, symbolsNamed}
-use Rattle.sets.specs.LineDone.{OnDrawing, OnText, OnSymbol, OnFigures, OnPlaced, Done, top, file, drawing, layer-names, defines, symbol, hide, elements, figures, chain, text, placed, other}
+use Rattle.sets.specs.Reading.{tallyAfter, tallyNamed, symbolsNamed}
+use Rattle.sets.specs.Points.{chainPlace}
+use Rattle.sets.specs.LineDone.{OnChain, OnDrawing, OnText, OnSymbol, OnFigures, OnPlaced, Done, top, file, drawing, layer-names, defines, symbol, hide, elements, figures, chain, text, placed, other}
 use Rattle.sets.proofs.Standings.{deskWith}
 use Rattle.sets.proofs.SymbolStanding.{nameKept, symbolDesk}
+use Rattle.sets.proofs.StepPromises.{Steps}
 use Rattle.sets.proofs.StepPromises as promise
 
 -- a closed symbol's name is kept, or nothing is
@@ -38,16 +40,19 @@ named-desk d m₁ rec₁ (S.Go n) = go (eqb (n .block) 4)
 named-desk d m₁ rec₁ (S.Skip n) = refl
 named-desk d m₁ rec₁ (S.Stop n) = refl
 
-module _ (c : Digits) (spool following : List ℕ) (form : LineForm) (w : Where) (d d₁ : Desk) (r : Step) where
+module _ (c : Digits) (spool following : List ℕ) (form : LineForm) (w : Where) (own : ℕ) (d d₁ : Desk) (r : Step) where
   abbrev k : ℕ
   k = w .volume
 
   abbrev Promise : Desk → Type 0
-  Promise x = LinePromise c spool k form w d x following r
+  Promise x = Steps c spool k form w d x following r
 
   -- the same table, by what was put into it
   abbrev drawn : List ℤ → Desk
   drawn t = desk (d .now) (d .tally) (d .symbols) (d .layers) (d .serials) (d .used) (d .usedAll) (d₁ .marks) (d .inner) (d .header) t
+
+  abbrev tabled : List ℤ → Desk
+  tabled t = desk (d .now) (d .tally) (d .symbols) (d .layers) (d .serials) (d .used) (d .usedAll) (d .marks) (d .inner) (d .header) t
 
   abbrev written : List ℤ → Desk
   written t = desk (d .now) (d .tally) (d .symbols) (d .layers) (d .serials) (d .used) (d .usedAll) (d .marks) (d₁ .inner) (d .header) t
@@ -93,17 +98,22 @@ module _ (c : Digits) (spool following : List ℕ) (form : LineForm) (w : Where)
       ))
       (promise.symbol-promise c spool k form w following d short (d₁ .marks) (h .rec) r b (h .did .0))
 
-  pub done-promise : length spool ≤ 61440 → w .volume < 4294967296 → w .line < 4294967296 → Done c spool following form w d d₁ r → Promise d₁
-  done-promise short fv fl (top b h e) = subst Promise (sym e) (promise.top-promise c spool k form w following d (topLent (d₁ .marks) (d₁ .used) (d₁ .header) (d₁ .table)) fv fl refl r b h)
-  done-promise short fv fl (file b h e) = subst Promise (sym e) (promise.file-promise c spool k form w following d (d₁ .tally) (d₁ .marks) (d₁ .header) (d₁ .table) refl r b h)
-  done-promise short fv fl (drawing b h e) = on-drawing b h e
-  done-promise short fv fl (layer-names b h e) = subst Promise (sym e) (promise.names-promise c spool k form w following d (d₁ .tally) (d₁ .layers) (d₁ .table) (h .1) r b (h .0))
-  done-promise short fv fl (defines b h e) = subst Promise (sym e) (promise.defines-promise c spool k form w following d (d₁ .marks) (d₁ .table) r b h)
-  done-promise short fv fl (symbol b h e) = on-symbol short b h e
-  done-promise short fv fl (hide b h e) = subst Promise (sym e) (promise.hide-promise c spool k form w following d (d₁ .table) r b h)
-  done-promise short fv fl (elements b h e) = subst Promise (sym e) (promise.element-promise c spool k form w following d (d₁ .tally) (d₁ .used) (d₁ .usedAll) r b h)
-  done-promise short fv fl (figures b h e) = on-figures b h e
-  done-promise short fv fl (chain b h e) = subst Promise (sym e) (promise.chain-promise c spool k form w following d (d₁ .table) r b h)
-  done-promise short fv fl (text b h e) = on-text b h e
-  done-promise short fv fl (placed b h e) = on-placed b h e
-  done-promise short fv fl (other b q e) = subst (λ (x : Step). LinePromise c spool k form w d d₁ following x) (sym q) (promise.other-promise c spool k form w following d d₁ b)
+  on-chain : d .now .block ≡ 9 → own ≡ chainPlace (d .now) → OnChain spool form (d .now) (d .tally) (d .symbols) (d .layers) own w (d .table) (d₁ .table) r → d₁ ≡ tabled (d₁ .table) → Promise d₁
+  on-chain b q h e =
+      subst Promise (sym e)
+      (promise.chain-promise c spool k form w following d (d₁ .table) r b (subst (λ (i : ℕ). OnChain spool form (d .now) (d .tally) (d .symbols) (d .layers) i w (d .table) (d₁ .table) r) q h))
+
+  pub done-promise : length spool ≤ 61440 → w .volume < 4294967296 → w .line < 4294967296 → (d .now .block ≡ 9 → own ≡ chainPlace (d .now)) → Done c spool following form w own d d₁ r → Promise d₁
+  done-promise short fv fl o (top b h e) = subst Promise (sym e) (promise.top-promise c spool k form w following d (topLent (d₁ .marks) (d₁ .used) (d₁ .header) (d₁ .table)) fv fl refl r b h)
+  done-promise short fv fl o (file b h e) = subst Promise (sym e) (promise.file-promise c spool k form w following d (d₁ .tally) (d₁ .marks) (d₁ .header) (d₁ .table) refl r b h)
+  done-promise short fv fl o (drawing b h e) = on-drawing b h e
+  done-promise short fv fl o (layer-names b h e) = subst Promise (sym e) (promise.names-promise c spool k form w following d (d₁ .tally) (d₁ .layers) (d₁ .table) (h .1) r b (h .0))
+  done-promise short fv fl o (defines b h e) = subst Promise (sym e) (promise.defines-promise c spool k form w following d (d₁ .marks) (d₁ .table) r b h)
+  done-promise short fv fl o (symbol b h e) = on-symbol short b h e
+  done-promise short fv fl o (hide b h e) = subst Promise (sym e) (promise.hide-promise c spool k form w following d (d₁ .table) r b h)
+  done-promise short fv fl o (elements b h e) = subst Promise (sym e) (promise.element-promise c spool k form w following d (d₁ .tally) (d₁ .used) (d₁ .usedAll) r b h)
+  done-promise short fv fl o (figures b h e) = on-figures b h e
+  done-promise short fv fl o (chain b h e) = on-chain b (o b) h e
+  done-promise short fv fl o (text b h e) = on-text b h e
+  done-promise short fv fl o (placed b h e) = on-placed b h e
+  done-promise short fv fl o (other b q e) = subst (λ (x : Step). Steps c spool k form w d d₁ following x) (sym q) (promise.other-promise c spool k form w following d d₁ b)

@@ -29,27 +29,39 @@ use Rattle.sets.specs.LineDone.{namesOf, idsOf, Named, Lends, symbolAct,
 use Rattle.sets.proofs.Lent.{lent-part}
 
 -- ── the number of the open block ──
+pub one-left : (n : ℕ) → n < 2 → (n ≡ 0 → ⊥) → n ≡ 1
+one-left zero h a0 = absurd (a0 refl)
+one-left (suc zero) h a0 = refl
+one-left (suc (suc n)) h a0 = absurd (omega (arith, h))
+
 -- the last of the blocks before ELEMENT
-pub six-left : (n : ℕ) → n < 7 → (n ≡ 0 → ⊥) → (n ≡ 1 → ⊥) → (n ≡ 2 → ⊥) → (n ≡ 3 → ⊥) → (n ≡ 4 → ⊥) → (n ≡ 5 → ⊥) → n ≡ 6
-six-left zero h a0 a1 a2 a3 a4 a5 = absurd (a0 refl)
-six-left (suc zero) h a0 a1 a2 a3 a4 a5 = absurd (a1 refl)
-six-left (suc (suc zero)) h a0 a1 a2 a3 a4 a5 = absurd (a2 refl)
-six-left (suc (suc (suc zero))) h a0 a1 a2 a3 a4 a5 = absurd (a3 refl)
-six-left (suc (suc (suc (suc zero)))) h a0 a1 a2 a3 a4 a5 = absurd (a4 refl)
-six-left (suc (suc (suc (suc (suc zero))))) h a0 a1 a2 a3 a4 a5 = absurd (a5 refl)
-six-left (suc (suc (suc (suc (suc (suc n)))))) h a0 a1 a2 a3 a4 a5 = omega (arith, h)
+pub six-left : (n : ℕ) → 2 ≤ n → n < 7 → (n ≡ 2 → ⊥) → (n ≡ 3 → ⊥) → (n ≡ 4 → ⊥) → (n ≡ 5 → ⊥) → n ≡ 6
+six-left zero g h a2 a3 a4 a5 = absurd (omega (arith, g))
+six-left (suc zero) g h a2 a3 a4 a5 = absurd (omega (arith, g))
+six-left (suc (suc zero)) g h a2 a3 a4 a5 = absurd (a2 refl)
+six-left (suc (suc (suc zero))) g h a2 a3 a4 a5 = absurd (a3 refl)
+six-left (suc (suc (suc (suc zero)))) g h a2 a3 a4 a5 = absurd (a4 refl)
+six-left (suc (suc (suc (suc (suc zero))))) g h a2 a3 a4 a5 = absurd (a5 refl)
+six-left (suc (suc (suc (suc (suc (suc n)))))) g h a2 a3 a4 a5 = omega (arith, h)
+
+-- ELEMENT's own number is 7
+pub at-most : (n m : ℕ) → m ≡ n → (n ≡ 7 → ⊥) → n ≤ 7 → m < 7
+at-most n m e h g = go (7 - n) (omega (arith, g))
+  where
+    go : (i : ℕ) → n + i ≡ 7 → m < 7
+    go zero q = absurd (h (omega (arith, q)))
+    go (suc i) q = omega (arith, q, e)
 
 -- behind those of ELEMENT
-pub twelve-left : (n : ℕ) → 7 ≤ n → (n ≡ 7 → ⊥) → (n ≡ 8 → ⊥) → (n ≡ 9 → ⊥) → (n ≡ 10 → ⊥) → (n ≡ 11 → ⊥) → 12 ≤ n
-twelve-left n h a7 a8 a9 a10 a11 = from-seven (n - 7) (omega (arith, h))
+pub twelve-left : (n : ℕ) → 8 ≤ n → (n ≡ 8 → ⊥) → (n ≡ 9 → ⊥) → (n ≡ 10 → ⊥) → (n ≡ 11 → ⊥) → 12 ≤ n
+twelve-left n h a8 a9 a10 a11 = from-eight (n - 8) (omega (arith, h))
   where
-    from-seven : (m : ℕ) → n ≡ 7 + m → 12 ≤ n
-    from-seven zero e = absurd (a7 e)
-    from-seven (suc zero) e = absurd (a8 e)
-    from-seven (suc (suc zero)) e = absurd (a9 e)
-    from-seven (suc (suc (suc zero))) e = absurd (a10 e)
-    from-seven (suc (suc (suc (suc zero)))) e = absurd (a11 e)
-    from-seven (suc (suc (suc (suc (suc m))))) e = omega (arith, e)
+    from-eight : (m : ℕ) → n ≡ 8 + m → 12 ≤ n
+    from-eight zero e = absurd (a8 e)
+    from-eight (suc zero) e = absurd (a9 e)
+    from-eight (suc (suc zero)) e = absurd (a10 e)
+    from-eight (suc (suc (suc zero))) e = absurd (a11 e)
+    from-eight (suc (suc (suc (suc m)))) e = omega (arith, e)
 
 -- ── the names ──
 module _ {tally symbols layers : List ℕ} (y : Named tally symbols layers) where

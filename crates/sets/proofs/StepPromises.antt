@@ -23,8 +23,8 @@ use Rattle.sets.specs.declared.Step.the-variants as S
 use Rattle.sets.specs.Records.{partAt, withPart}
 use Rattle.sets.specs.Standing.{Desk, setOf, layersOf, Inside, Stands, Under, LineHere, StepOut}
 use Rattle.sets.specs.FileStanding.{InFile}
-use Rattle.sets.specs.Reading.{Standing, LinePromise, tallyAfter}
-use Rattle.sets.specs.Points.{pointTableOf, pointAct, ChainLine, HideLine}
+use Rattle.sets.specs.Reading.{Standing, PlacedForm, tallyAfter}
+use Rattle.sets.specs.Points.{pointTableOf, pointAct, chainPlace, ChainLine, HideLine}
 use Rattle.sets.specs.TextLines.{textTableOf, TextLine}
 use Rattle.sets.specs.FigureLines.{FigureLine}
 use Rattle.sets.specs.ElementLines.{ElementLine}
@@ -52,6 +52,12 @@ use Rattle.sets.proofs.TopStanding.{deskTop, top-line}
 use Rattle.sets.proofs.PlacedTables.{lentOf, lentDesk, placed-ready}
 use Rattle.sets.proofs.PlacedStanding.{placed-line}
 
+-- the answer is the step that the definitions make, at any state that the desk stands at
+abbrev pub Steps : Digits → List ℕ → ℕ → LineForm → Where → Desk → Desk → List ℕ → Step → Type 0
+Steps c spool k form w d₀ d₁ following r =
+    (e : Env) (l : Line) (at to : ℕ) (st : State) → Under c d₀ e → LineHere spool k at to form w l → l .next ≡ following → PlacedForm (l .form) → Standing c spool k d₀ at st
+    → StepOut c spool k (InFile spool k) e l to st d₁ r
+
 -- ── promises ──
 module _ (c : Digits) (spool : List ℕ) (k : ℕ) (form : LineForm) (w : Where) (following : List ℕ) (d : Desk) where
   abbrev F : Desk → Set → ℕ → Held → ℕ → Type 0
@@ -64,9 +70,9 @@ module _ (c : Digits) (spool : List ℕ) (k : ℕ) (form : LineForm) (w : Where)
   ids = take (getD (d .tally) 10 0) (d .layers)
 
   abbrev Promise : Desk → Step → Type 0
-  Promise d₁ r = LinePromise c spool k form w d d₁ following r
+  Promise d₁ r = Steps c spool k form w d d₁ following r
 
-  pub chain-promise : (t₁ : List ℤ) (r : Step) → d .now .block ≡ 9 → ChainLine (pointAct (pointTableOf (d .now .layered)) spool names ids (d .now) form (d .table)) (d .now) w (d .table) t₁ r
+  pub chain-promise : (t₁ : List ℤ) (r : Step) → d .now .block ≡ 9 → ChainLine (pointAct (pointTableOf (d .now .layered)) spool names ids (d .now) form (d .table)) (d .now) (chainPlace (d .now)) w (d .table) t₁ r
       → Promise (deskWith d (d .now) (d .marks) (d .inner) t₁) r
   chain-promise t₁ r b y e l at to st u x q p z = go st (OpenBlocks.in-chain c spool k d (F d) st (z .block) b) z
     where

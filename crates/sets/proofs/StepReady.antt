@@ -27,10 +27,11 @@ use Rattle.sets.specs.Laid.{Laid}
 use Rattle.sets.specs.Records.{partAt}
 use Rattle.sets.specs.PlacedLines.{LentReady}
 use Rattle.sets.specs.SymbolLines.{ContentPlaced, isNamed, SymbolLine}
+use Rattle.sets.specs.Points.{chainPlace}
 use Rattle.sets.specs.LineDone.{symbolAct, SymbolReady, LineFits}
-use Rattle.sets.specs.Standing.{Desk, setOf, layersOf, Stands}
+use Rattle.sets.specs.Standing.{Desk, setOf, layersOf, Stands, Under, LineHere}
 use Rattle.sets.specs.FileStanding.{InFile}
-use Rattle.sets.specs.Reading.{Standing, PlacedForm, LineReady}
+use Rattle.sets.specs.Reading.{Standing, PlacedForm}
 use Rattle.sets.specs.Account.{atBlock}
 use Rattle.sets.specs.FileLines.{PartOpen, fileWidth, FileReady}
 use Rattle.sets.proofs.LaidTables.{laid-room, laid-within}
@@ -39,8 +40,23 @@ use Rattle.sets.proofs.SlotLengths.{length-slots}
 use Rattle.sets.proofs.SymbolStanding.{symbol-keeps}
 use Rattle.sets.proofs.PlacedTables.{lentOf, placed-ready}
 use Rattle.sets.proofs.OpenBlocks
+use Rattle.sets.proofs.OpenPlaces as places
 
-module _ (c : Digits) (spool : List ℕ) (k : ℕ) (form : LineForm) (w : Where) (d : Desk) (y : LineReady c spool k form w d) where
+-- some state that the desk stands at, before a line that ends within a spool's places
+pub record Ready (c : Digits) (spool : List ℕ) (k : ℕ) (form : LineForm) (w : Where) (d : Desk) : Type 0 where
+  pub at : ℕ
+  pub to : ℕ
+  pub state : State
+  pub env : Env
+  pub line : Line
+  pub stands : Standing c spool k d at state
+  pub under : Under c d env
+  pub here : LineHere spool k at to form w line
+  pub placed : PlacedForm (line .form)
+  pub early : at ≤ 61440
+  pub short : length spool ≤ 61440
+
+module _ (c : Digits) (spool : List ℕ) (k : ℕ) (form : LineForm) (w : Where) (d : Desk) (y : Ready c spool k form w d) where
   abbrev at : ℕ
   at = y .at
 
@@ -56,10 +72,6 @@ module _ (c : Digits) (spool : List ℕ) (k : ℕ) (form : LineForm) (w : Where)
   spool-short : length spool ≤ 61440
   spool-short = y .short
 
-  -- ── in every block ──
-  tally-long : length (d .tally) ≡ 12
-  tally-long = ap length (z .tally)
-
   names-are : getD (d .tally) 9 0 ≡ length (setOf st .symbols)
   names-are = ap (λ (t : List ℕ). getD t 9 0) (z .tally)
 
@@ -72,9 +84,6 @@ module _ (c : Digits) (spool : List ℕ) (k : ℕ) (form : LineForm) (w : Where)
   ids-within : getD (d .tally) 10 0 ≤ length (d .layers)
   ids-within = omega (arith, ids-are, z .few-layers, z .lengths .layers)
 
-  free-within : d .now .free ≤ length (d .table)
-  free-within = laid-room (d .table) (soFar c st) (d .now .free) (z .laid)
-
   -- ── a `successive` ──
   chain-figures : d .now .block ≡ 9 → d .now .figures < 4294967295
   chain-figures b = go st (OpenBlocks.in-chain c spool k d (InFile spool k d) st (z .block) b) z
@@ -82,50 +91,12 @@ module _ (c : Digits) (spool : List ℕ) (k : ℕ) (form : LineForm) (w : Where)
       go : (st : State) → OpenBlocks.InAChain st → Standing c spool k d at st → d .now .figures < 4294967295
       go _ (OpenBlocks.here s h fs n ps) z = omega (arith, z .block .1 .figures, z .counted, early)
 
-  chain-points : d .now .block ≡ 9 → d .now .points < 4294967295
-  chain-points b = go st (OpenBlocks.in-chain c spool k d (InFile spool k d) st (z .block) b) z
-    where
-      go : (st : State) → OpenBlocks.InAChain st → Standing c spool k d at st → d .now .points < 4294967295
-      go _ (OpenBlocks.here s h fs n ps) z = omega (arith, z .block .1 .points, z .block .1 .few)
-
-  chain-place : d .now .block ≡ 9 → 32 * (d .now .points + 1) ≤ d .now .free
-  chain-place b = go st (OpenBlocks.in-chain c spool k d (InFile spool k d) st (z .block) b) z
-    where
-      go : (st : State) → OpenBlocks.InAChain st → Standing c spool k d at st → 32 * (d .now .points + 1) ≤ d .now .free
-      go _ (OpenBlocks.here s h fs n ps) z =
-          let begun : List ℤ = start (14 + homeMore h) (homeOwner s h) (homeVolume s h) n in
-          let pts : List (List ℤ) = pointRecords (17 + homeMore h) (homeOwner s h) (homeVolume s h) ps in
-          let fore : List (List ℤ) = figuresSoFar c s h fs in
-          omega (
-            arith,
-            sym (z .laid .size) ∙ ap length (flat-append fore (begun ∷ pts)) ∙ length-append (flat fore) (begun ++ flat pts),
-            length-append begun (flat pts),
-            points-size (17 + homeMore h) (homeOwner s h) (homeVolume s h) ps,
-            z .block .1 .points,
-          )
-
-  -- ── `hide` ──
-  hide-points : d .now .block ≡ 6 → d .now .points < 4294967295
-  hide-points b = go st (OpenBlocks.in-hide c spool k d (InFile spool k d) st (z .block) b) z
-    where
-      go : (st : State) → OpenBlocks.InAHide st → Standing c spool k d at st → d .now .points < 4294967295
-      go _ (OpenBlocks.here s v ps) z = omega (arith, z .block .1 .points, z .block .1 .few)
-
   -- ── a text ──
   text-figures : d .now .block ≡ 10 → d .now .figures < 4294967295
   text-figures b = go st (OpenBlocks.in-text c spool k d (InFile spool k d) st (z .block) b) z
     where
       go : (st : State) → OpenBlocks.InAText st → Standing c spool k d at st → d .now .figures < 4294967295
       go _ (OpenBlocks.here s h fs n o) z = omega (arith, z .block .2, z .counted, early)
-
-  last-taken : (fore : List (List ℤ)) (u : List ℤ) → length u ≡ 32 → Laid (d .table) (fore ++ u ∷ []) (d .now .free) → 32 ≤ d .now .free
-  last-taken fore u h l = omega (arith, l .many, length-append fore (u ∷ []))
-
-  text-place : d .now .block ≡ 10 → 32 ≤ d .now .free
-  text-place b = go st (OpenBlocks.in-text c spool k d (InFile spool k d) st (z .block) b) z
-    where
-      go : (st : State) → OpenBlocks.InAText st → Standing c spool k d at st → 32 ≤ d .now .free
-      go _ (OpenBlocks.here s h fs n o) z = omega (arith, z .laid .many, length-append (figuresSoFar c s h fs) (textRecord (homeMore h) (homeOwner s h) (homeVolume s h) n o ∷ []))
 
   -- ── figures ──
   -- of the layers that closed, and of the one that is open
@@ -141,56 +112,6 @@ module _ (c : Digits) (spool : List ℕ) (k : ℕ) (form : LineForm) (w : Where)
     where
       go : (st : State) → OpenBlocks.InElement st → Standing c spool k d at st → getD (d .tally) 8 0 + getD (d .tally) 7 0 ≤ 4294967295
       go _ (OpenBlocks.here s) z = omega (arith, z .counted, early, ap (λ (t : List ℕ). getD t 7 0) (z .tally), ap (λ (t : List ℕ). getD t 8 0) (z .tally))
-
-  -- ── a placed symbol ──
-  placed-place : d .now .block ≡ 11 → 32 ≤ d .now .free
-  placed-place b = go st (OpenBlocks.in-placed c spool k d (InFile spool k d) st (z .block) b) z
-    where
-      go : (st : State) → OpenBlocks.InAPlaced st → Standing c spool k d at st → 32 ≤ d .now .free
-      go _ (OpenBlocks.here s m fs n o p) z =
-          omega (arith, z .laid .many, length-append (figuresSoFar c s (inLayer m) fs) (putHeld placedTables o (start 16 m (volumeOf s) n) ∷ []))
-
-  -- ── DRAWING_FORMAT and a symbol: their own record ──
-  drawing-own : d .now .block ≡ 2 → d .now .own + 32 ≤ length (d .table)
-  drawing-own b = go st (OpenBlocks.in-drawing c spool k d (InFile spool k d) st (z .block) b) z
-    where
-      go : (st : State) → OpenBlocks.InDrawingFormat st → Standing c spool k d at st → d .now .own + 32 ≤ length (d .table)
-      go _ (OpenBlocks.here s g) z =
-          laid-within (d .table) (fileRecords true 1 (s .now)) (drawingRecord g) (layerRecords 0 (g .layers)) (d .now .free) (d .now .own) (z .laid) (sym (z .block .1 .own))
-          (length-slots drawingTable (g .own) (start 3 0 1 (g .line)))
-
-  symbol-own : d .now .block ≡ 5 → d .now .own + 32 ≤ length (d .table)
-  symbol-own b = go st (OpenBlocks.in-symbol c spool k d (InFile spool k d) st (z .block) b) z
-    where
-      go : (st : State) → OpenBlocks.InASymbol st → Standing c spool k d at st → d .now .own + 32 ≤ length (d .table)
-      go _ (OpenBlocks.here s g) z =
-          laid-within (d .table) (frontRecords s) (putSlots symbolTable (g .own) (start 4 (length (s .symbols)) 1 (g .line))) (innerRecords (length (s .symbols)) g) (d .now .free) (d .now .own) (z .laid)
-          (sym (z .block .1 .own)) (length-slots symbolTable (g .own) (start 4 (length (s .symbols)) 1 (g .line)))
-
-  -- ── FILE_FORMAT ──
-  first-is : (vs : List Contents) → k ≡ suc (length vs) → isNil vs ≡ eqb k 1
-  first-is [] e = sym (ap (λ (m : ℕ). eqb m 1) e)
-  first-is (v ∷ vs) e = sym (ne-eqb k 1 (λ q. absurd (omega (arith, e, q))))
-
-  file-width : (b : Bool) → (rs : List (List ℤ)) → Laid (d .table) (rs ++ emptyRecords b) (d .now .free) → fileWidth b ≤ d .now .free
-  file-width true rs l = omega (arith, l .many, length-append rs (emptyRecords true))
-  file-width false rs l = omega (arith, l .many, length-append rs (emptyRecords false))
-
-  file-ready : d .now .block ≡ 1 → FileReady (eqb k 1) (d .now) (d .tally) (d .marks) (d .header) (d .table)
-  file-ready b = go st (OpenBlocks.in-file c spool k d (InFile spool k d) st (z .block) b) z
-    where
-      go : (st : State) → OpenBlocks.InFileFormat st → Standing c spool k d at st → FileReady (eqb k 1) (d .now) (d .tally) (d .marks) (d .header) (d .table)
-      go _ (OpenBlocks.here s n h p) z =
-          let i = z .block .1 in
-          let f : isFirst s ≡ eqb k 1 = first-is (s .volumes) (i .volume) in
-          record {
-            part = subst (λ (x : Bool). PartOpen x (d .now .part)) f (subst (PartOpen (isFirst s)) (sym (i .part)) (i .parts));
-            twelve = tally-long;
-            marks = z .lengths .marks;
-            header = i .header;
-            taken = subst (λ (x : Bool). fileWidth x ≤ d .now .free) f (file-width (isFirst s) (closedRecords c s) (z .laid));
-            inside = free-within;
-          }
 
   placed-lent : d .now .block ≡ 11 → LentReady (lentOf d) (partAt (d .now .free - 32) (d .table)) × (d .now .figures < 4294967295)
   placed-lent b = go st (OpenBlocks.in-placed c spool k d (InFile spool k d) st (z .block) b) z
@@ -225,7 +146,7 @@ module _ (c : Digits) (spool : List ℕ) (k : ℕ) (form : LineForm) (w : Where)
 
   symbol-ready : d .now .block ≡ 5 → SymbolReady spool form (d .now) (d .tally) (d .symbols) (d .layers) (d .marks) (d .table)
   symbol-ready b = record {
-    own = symbol-own b;
+    own = places.symbol-own c spool k d at st z b;
     marks = z .lengths .marks;
     content = content-placed;
     room = omega (arith, names-are, z .named, early, z .lengths .symbols);
@@ -233,25 +154,29 @@ module _ (c : Digits) (spool : List ℕ) (k : ℕ) (form : LineForm) (w : Where)
   }
 
   -- ── any block ──
-  pub line-fits : w .volume ≡ k → LineFits spool form w d
-  line-fits vk = record {
+  pub line-fits : w .volume ≡ k → (own : ℕ) → (d .now .block ≡ 9 → own ≡ chainPlace (d .now)) → LineFits spool form w own d
+  line-fits vk own o = record {
     short = spool-short;
     named = record {
-      twelve = tally-long;
+      twelve = places.tally-long c spool k d at st z;
       names = names-within;
       ids = ids-within;
       few-symbols = omega (arith, z .lengths .symbols);
       few-layers = omega (arith, z .lengths .layers);
     };
     lengths = z .lengths;
-    free = free-within;
-    file = λ b. subst (λ (i : ℕ). FileReady (eqb i 1) (d .now) (d .tally) (d .marks) (d .header) (d .table)) (sym vk) (file-ready b);
-    drawing = drawing-own;
+    free = places.free-within c spool k d at st z;
+    file = λ b. subst (λ (i : ℕ). FileReady (eqb i 1) (d .now) (d .tally) (d .marks) (d .header) (d .table)) (sym vk) (places.file-ready c spool k d at st z b);
+    drawing = places.drawing-own c spool k d at st z;
     symbol = symbol-ready;
-    hide = hide-points;
+    hide = places.hide-points c spool k d at st z;
     elements = element-sum;
     figures = figures-few;
-    chain = λ b. (chain-figures b, chain-points b, chain-place b);
-    text = λ b. (text-place b, text-figures b);
-    placed = λ b. (placed-place b, placed-lent b .0, placed-lent b .1);
+    chain = λ b. (
+      chain-figures b,
+      places.chain-points c spool k d at st z b,
+      λ g. omega (arith, g, o b, places.chain-place c spool k d at st z b, places.free-within c spool k d at st z),
+    );
+    text = λ b. (places.text-place c spool k d at st z b, text-figures b);
+    placed = λ b. (places.placed-place c spool k d at st z b, placed-lent b .0, placed-lent b .1);
   }

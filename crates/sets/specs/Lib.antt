@@ -21,3 +21,4 @@ pub mod SymbolLines
 pub mod PlacedLines
 pub mod SetReading
 pub mod LineDone
+pub mod TableApart

@@ -1,5 +1,5 @@
 -- What the code does with a line, by the block that is open, and what it needs for it.
-use Prim.Native.Nat.{ℕ, _+_, _*_, _-_, _≤_, _<_}
+use Prim.Native.Nat.{ℕ, _+_, _-_, _≤_, _<_}
 use mathlib.Core.Bool.{Bool, true, false}
 use mathlib.Core.Path.{_≡_}
 use mathlib.Core.List.{List, [], _∷_}
@@ -12,6 +12,7 @@ use Rattle.rules.specs.Lines.{Form, formIn}
 use Rattle.rules.specs.RangeClass.{digits, digitsOf}
 use Rattle.rules.specs.Values.{Known}
 use Rattle.rules.specs.Rows.{Act, shut, act}
+use Rattle.rules.specs.Figures.{leastPoints}
 use Rattle.tables.specs.Tables.{tableOf}
 use Rattle.entries.specs.Names.{knownIn}
 use Rattle.sets.specs.declared.Now.{Now}
@@ -68,8 +69,8 @@ module _ (spool : List ℕ) (form : LineForm) (n : Now) (tally symbols layers : 
   abbrev line : Form
   line = formIn spool form
 
-  abbrev pub OnChain : Where → List ℤ → List ℤ → Step → Type 0
-  OnChain w t₀ t₁ r = ChainLine (pointAct (pointTableOf (n .layered)) spool names ids n form t₀) n w t₀ t₁ r
+  abbrev pub OnChain : ℕ → Where → List ℤ → List ℤ → Step → Type 0
+  OnChain own w t₀ t₁ r = ChainLine (pointAct (pointTableOf (n .layered)) spool names ids n form t₀) n own w t₀ t₁ r
 
   abbrev pub OnHide : Where → List ℤ → List ℤ → Step → Type 0
   OnHide w t₀ t₁ r = HideLine (pointAct 15 spool names ids n form t₀) n w t₀ t₁ r
@@ -133,60 +134,60 @@ module _ (spool : List ℕ) (form : LineForm) (n : Now) (tally symbols layers : 
       (eqb (w .volume) 1) n tally tally₁ m₀ m₁ h₀ h₁ t₀ t₁ r
 
 -- ── any line ──
--- what is lent on return; a line leaves what its block has no use for
-pub data Done (c : Digits) (spool following : List ℕ) (form : LineForm) (w : Where) (d d₁ : Desk) (r : Step) : Type 0 where
+-- what is lent on return; a line leaves what its block has no use for. The own record of an open `successive` stands at `own`.
+pub data Done (c : Digits) (spool following : List ℕ) (form : LineForm) (w : Where) (own : ℕ) (d d₁ : Desk) (r : Step) : Type 0 where
   top : d .now .block ≡ 0
       → OnTop spool form (d .now) (d .tally) (d .symbols) (d .layers) w (d .usedAll) (topLent (d .marks) (d .used) (d .header) (d .table)) (topLent (d₁ .marks) (d₁ .used) (d₁ .header) (d₁ .table)) r
       → d₁ ≡ desk (d .now) (d .tally) (d .symbols) (d .layers) (d .serials) (d₁ .used) (d .usedAll) (d₁ .marks) (d .inner) (d₁ .header) (d₁ .table)
-      → Done c spool following form w d d₁ r
+      → Done c spool following form w own d d₁ r
   file : d .now .block ≡ 1
       → OnFile spool form (d .now) (d .tally) (d .symbols) (d .layers) following w (d₁ .tally) (d .marks) (d₁ .marks) (d .header) (d₁ .header) (d .table) (d₁ .table) r
       → d₁ ≡ desk (d .now) (d₁ .tally) (d .symbols) (d .layers) (d .serials) (d .used) (d .usedAll) (d₁ .marks) (d .inner) (d₁ .header) (d₁ .table)
-      → Done c spool following form w d d₁ r
+      → Done c spool following form w own d d₁ r
   drawing : d .now .block ≡ 2
       → OnDrawing spool form (d .now) (d .tally) (d .symbols) (d .layers) (d .marks) (d₁ .marks) (d .table) (d₁ .table) r
       → d₁ ≡ desk (d .now) (d .tally) (d .symbols) (d .layers) (d .serials) (d .used) (d .usedAll) (d₁ .marks) (d .inner) (d .header) (d₁ .table)
-      → Done c spool following form w d d₁ r
+      → Done c spool following form w own d d₁ r
   layer-names : d .now .block ≡ 3
       → OnNames spool form (d .now) (d .tally) (d .symbols) (d .layers) w (d₁ .tally) (d₁ .layers) (d .table) (d₁ .table) r
       → d₁ ≡ desk (d .now) (d₁ .tally) (d .symbols) (d₁ .layers) (d .serials) (d .used) (d .usedAll) (d .marks) (d .inner) (d .header) (d₁ .table)
-      → Done c spool following form w d d₁ r
+      → Done c spool following form w own d d₁ r
   defines : d .now .block ≡ 4
       → OnDefines spool form (d .now) (d .tally) (d .symbols) (d .layers) w (d .marks) (d₁ .marks) (d .table) (d₁ .table) r
       → d₁ ≡ desk (d .now) (d .tally) (d .symbols) (d .layers) (d .serials) (d .used) (d .usedAll) (d₁ .marks) (d .inner) (d .header) (d₁ .table)
-      → Done c spool following form w d d₁ r
+      → Done c spool following form w own d d₁ r
   symbol : d .now .block ≡ 5
       → OnSymbol spool form (d .now) (d .tally) (d .symbols) (d .layers) (d₁ .tally) (d₁ .symbols) (d .marks) (d₁ .marks) (d .table) (d₁ .table) r
       → d₁ ≡ desk (d .now) (d₁ .tally) (d₁ .symbols) (d .layers) (d .serials) (d .used) (d .usedAll) (d₁ .marks) (d .inner) (d .header) (d₁ .table)
-      → Done c spool following form w d d₁ r
+      → Done c spool following form w own d d₁ r
   hide : d .now .block ≡ 6
       → OnHide spool form (d .now) (d .tally) (d .symbols) (d .layers) w (d .table) (d₁ .table) r
       → d₁ ≡ desk (d .now) (d .tally) (d .symbols) (d .layers) (d .serials) (d .used) (d .usedAll) (d .marks) (d .inner) (d .header) (d₁ .table)
-      → Done c spool following form w d d₁ r
+      → Done c spool following form w own d d₁ r
   elements : d .now .block ≡ 7
       → OnElements spool form (d .now) (d .tally) (d .symbols) (d .layers) (d₁ .tally) (d .used) (d₁ .used) (d .usedAll) (d₁ .usedAll) r
       → d₁ ≡ desk (d .now) (d₁ .tally) (d .symbols) (d .layers) (d .serials) (d₁ .used) (d₁ .usedAll) (d .marks) (d .inner) (d .header) (d .table)
-      → Done c spool following form w d d₁ r
+      → Done c spool following form w own d d₁ r
   figures : d .now .block ≡ 8
       → OnFigures spool form (d .now) (d .tally) (d .symbols) (d .layers) w (d₁ .tally) (d .marks) (d₁ .marks) (d .inner) (d₁ .inner) (d .table) (d₁ .table) r
       → d₁ ≡ desk (d .now) (d₁ .tally) (d .symbols) (d .layers) (d .serials) (d .used) (d .usedAll) (d₁ .marks) (d₁ .inner) (d .header) (d₁ .table)
-      → Done c spool following form w d d₁ r
+      → Done c spool following form w own d d₁ r
   chain : d .now .block ≡ 9
-      → OnChain spool form (d .now) (d .tally) (d .symbols) (d .layers) w (d .table) (d₁ .table) r
+      → OnChain spool form (d .now) (d .tally) (d .symbols) (d .layers) own w (d .table) (d₁ .table) r
       → d₁ ≡ desk (d .now) (d .tally) (d .symbols) (d .layers) (d .serials) (d .used) (d .usedAll) (d .marks) (d .inner) (d .header) (d₁ .table)
-      → Done c spool following form w d d₁ r
+      → Done c spool following form w own d d₁ r
   text : d .now .block ≡ 10
       → OnText spool form (d .now) (d .tally) (d .symbols) (d .layers) (d .inner) (d₁ .inner) (d .table) (d₁ .table) r
       → d₁ ≡ desk (d .now) (d .tally) (d .symbols) (d .layers) (d .serials) (d .used) (d .usedAll) (d .marks) (d₁ .inner) (d .header) (d₁ .table)
-      → Done c spool following form w d d₁ r
+      → Done c spool following form w own d d₁ r
   placed : d .now .block ≡ 11
       → OnPlaced spool form (d .now) (d .tally) (d .symbols) (d .layers) c (lent (d .tally) (d .serials) (d .marks) (d .inner)) (lent (d₁ .tally) (d₁ .serials) (d₁ .marks) (d₁ .inner)) (d .table) (d₁ .table) r
       → d₁ ≡ desk (d .now) (d₁ .tally) (d .symbols) (d .layers) (d₁ .serials) (d .used) (d .usedAll) (d₁ .marks) (d₁ .inner) (d .header) (d₁ .table)
-      → Done c spool following form w d d₁ r
-  other : 12 ≤ d .now .block → r ≡ S.Stop 9 → d₁ ≡ d → Done c spool following form w d d₁ r
+      → Done c spool following form w own d d₁ r
+  other : 12 ≤ d .now .block → r ≡ S.Stop 9 → d₁ ≡ d → Done c spool following form w own d d₁ r
 
 -- what a line needs
-pub record LineFits (spool : List ℕ) (form : LineForm) (w : Where) (d : Desk) : Type 0 where
+pub record LineFits (spool : List ℕ) (form : LineForm) (w : Where) (own : ℕ) (d : Desk) : Type 0 where
   pub short : length spool ≤ 61440
   pub named : Named (d .tally) (d .symbols) (d .layers)
   pub lengths : Lengths d
@@ -197,7 +198,7 @@ pub record LineFits (spool : List ℕ) (form : LineForm) (w : Where) (d : Desk) 
   pub hide : d .now .block ≡ 6 → d .now .points < 4294967295
   pub elements : d .now .block ≡ 7 → getD (d .tally) 8 0 + getD (d .tally) 7 0 ≤ 4294967295
   pub figures : d .now .block ≡ 8 → getD (d .tally) 7 0 + d .now .figures < 4294967295
-  pub chain : d .now .block ≡ 9 → (d .now .figures < 4294967295) × (d .now .points < 4294967295) × (32 * (d .now .points + 1) ≤ d .now .free)
+  pub chain : d .now .block ≡ 9 → (d .now .figures < 4294967295) × (d .now .points < 4294967295) × (leastPoints ≤ d .now .points → own + 64 ≤ length (d .table))
   pub text : d .now .block ≡ 10 → (32 ≤ d .now .free) × (d .now .figures < 4294967295)
   pub placed : d .now .block ≡ 11
       → (32 ≤ d .now .free) × LentReady (lent (d .tally) (d .serials) (d .marks) (d .inner)) (partAt (d .now .free - 32) (d .table)) × (d .now .figures < 4294967295)

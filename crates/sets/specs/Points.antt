@@ -49,13 +49,13 @@ pointPut n kind table at j v t =
     headAt (n .free) kind (n .owner) at (withPart (n .free) (putLine (ruleAt (tableOf table) j) 0 v (partAt (n .free) t)) t)
 
 -- ── a `successive` ──
--- its record stands before those of its points
+-- in a table of records its own stands before those of its points
 abbrev pub chainPlace : Now → ℕ
 chainPlace n = n .free - 32 * (n .points + 1)
 
 -- "14 successive (first point's type, point count)"
-abbrev pub chainClosed : Now → List ℤ → List ℤ
-chainClosed n t = set (set t (chainPlace n + 4) (getD t (chainPlace n + 36) (pos 0))) (chainPlace n + 5) (pos (n .points))
+abbrev pub chainClosed : Now → ℕ → List ℤ → List ℤ
+chainClosed n own t = set (set t (own + 4) (getD t (own + 36) (pos 0))) (own + 5) (pos (n .points))
 
 -- "successive: block of 3 to 100 point"
 abbrev pub chainEnd : Now → Step
@@ -68,17 +68,17 @@ chainStep n (begin i j v) = S.Stop 5
 chainStep n shut = chainEnd n
 chainStep n (refuse k) = S.Stop k
 
--- the table after the line; after a refusal nothing is said of it
-abbrev pub ChainTable : Now → Where → List ℤ → List ℤ → Act → Type 0
-ChainTable n at t₀ t₁ stay = t₁ ≡ t₀
-ChainTable n at t₀ t₁ (entry j v) = t₁ ≡ pointPut n (chainKind (n .layered)) (pointTableOf (n .layered)) at j v t₀
-ChainTable n at t₀ t₁ (begin i j v) = Unit {0}
-ChainTable n at t₀ t₁ shut = ltb (n .points) leastPoints ≡ false → t₁ ≡ chainClosed n t₀
-ChainTable n at t₀ t₁ (refuse k) = Unit {0}
+-- the table after the line, where its own record stands at `own`; after a refusal nothing is said of it
+abbrev pub ChainTable : Now → ℕ → Where → List ℤ → List ℤ → Act → Type 0
+ChainTable n own at t₀ t₁ stay = t₁ ≡ t₀
+ChainTable n own at t₀ t₁ (entry j v) = t₁ ≡ pointPut n (chainKind (n .layered)) (pointTableOf (n .layered)) at j v t₀
+ChainTable n own at t₀ t₁ (begin i j v) = Unit {0}
+ChainTable n own at t₀ t₁ shut = ltb (n .points) leastPoints ≡ false → t₁ ≡ chainClosed n own t₀
+ChainTable n own at t₀ t₁ (refuse k) = Unit {0}
 
-pub record ChainLine (a : Act) (n : Now) (at : Where) (t₀ t₁ : List ℤ) (r : Step) : Type 0 where
+pub record ChainLine (a : Act) (n : Now) (own : ℕ) (at : Where) (t₀ t₁ : List ℤ) (r : Step) : Type 0 where
   pub answer : r ≡ chainStep n a
-  pub table : ChainTable n at t₀ t₁ a
+  pub table : ChainTable n own at t₀ t₁ a
 
 -- ── a symbol's `hide` ──
 -- "43 hide point"; behind its `}` the symbol is open again

@@ -24,7 +24,8 @@ use Rattle.sets.specs.declared.Pos.{Pos}
 use Rattle.sets.specs.declared.volumes.Through.{Through}
 use Rattle.sets.specs.declared.volumes.Through.the-variants as T
 use Rattle.sets.specs.Walk.{At}
-use Rattle.sets.specs.Standing.{Desk, Stands, deskNow, Under, LineHere, StepOut}
+use Rattle.sets.specs.Standing.{Desk, Stands, deskNow, deskTable, Under, LineHere, StepOut}
+use Rattle.sets.specs.TableApart.{Seen, SeenBy}
 use Rattle.sets.specs.SymbolLines.{nameOf, nameNumber}
 use Rattle.sets.specs.FileStanding.{InFile}
 
@@ -45,25 +46,29 @@ PlacedForm close = Unit {0}
 PlacedForm eof = Unit {0}
 PlacedForm (keyed k r) = PlacedRest r
 
--- some state that the desk stands at, before a line that ends within a spool's places
-pub record LineReady (c : Digits) (spool : List ℕ) (k : ℕ) (form : LineForm) (w : Where) (d : Desk) : Type 0 where
+-- some table and state that the desk stands at, before a line that ends within a spool's places
+pub record LineReady (c : Digits) (spool : List ℕ) (k : ℕ) (form : LineForm) (w : Where) (limit : ℕ) (d : Desk) (following : List ℕ) : Type 0 where
   pub at : ℕ
   pub to : ℕ
   pub state : State
   pub env : Env
   pub line : Line
-  pub stands : Standing c spool k d at state
-  pub under : Under c d env
+  pub table : List ℤ
+  pub seen : Seen (d .now) (d .table) limit table
+  pub stands : Standing c spool k (deskTable d table) at state
+  pub under : Under c (deskTable d table) env
   pub here : LineHere spool k at to form w line
+  pub next : line .next ≡ following
   pub placed : PlacedForm (line .form)
   pub early : at ≤ 61440
   pub short : length spool ≤ 61440
 
--- the answer is the step that the definitions make, at any state that the desk stands at
-abbrev pub LinePromise : Digits → List ℕ → ℕ → LineForm → Where → Desk → Desk → List ℕ → Step → Type 0
-LinePromise c spool k form w d₀ d₁ following r =
-    (e : Env) (l : Line) (at to : ℕ) (st : State) → Under c d₀ e → LineHere spool k at to form w l → l .next ≡ following → PlacedForm (l .form) → Standing c spool k d₀ at st
-    → StepOut c spool k (InFile spool k) e l to st d₁ r
+-- the answer is the step that the definitions make, at any table and state that the desk stands at
+abbrev pub LinePromise : Digits → List ℕ → ℕ → LineForm → Where → ℕ → Desk → Desk → List ℕ → Step → Type 0
+LinePromise c spool k form w limit d₀ d₁ following r =
+    (table : List ℤ) (e : Env) (l : Line) (at to : ℕ) (st : State) → Seen (d₀ .now) (d₀ .table) limit table → Under c (deskTable d₀ table) e → LineHere spool k at to form w l → l .next ≡ following
+    → PlacedForm (l .form) → Standing c spool k (deskTable d₀ table) at st
+    → (table₁ : List ℤ) × StepOut c spool k (InFile spool k) e l to st (deskTable d₁ table₁) r × SeenBy r (d₁ .table) limit table₁
 
 -- a closed layer's figures are counted
 abbrev pub tallyAfter : List ℕ → Step → List ℕ
@@ -104,18 +109,23 @@ abbrev pub nextState : Bool → Set → State
 nextState true s = ended s
 nextState false s = top s 0
 
-pub record VolumeReady (c : Digits) (spool : List ℕ) (v : Volume) (start : ℕ) (d : Desk) : Type 0 where
+pub record VolumeReady (c : Digits) (spool : List ℕ) (v : Volume) (start limit : ℕ) (d : Desk) : Type 0 where
   pub set : Set
   pub lines : List (List ℕ)
   pub at : At spool v (startOf start) lines
-  pub stands : Standing c spool (v .number) d start (top set 0)
+  pub table : List ℤ
+  pub seen : Seen (d .now) (d .table) limit table
+  pub stands : Standing c spool (v .number) (deskTable d table) start (top set 0)
 
 -- the volume read to its end, or the refusal
-abbrev pub VolumeOut : Digits → List ℕ → Volume → Bool → Env → State → List Line → List Line → Desk → Through → Type 0
-VolumeOut c spool v last e st lines more d (T.Go n) = (s : Set) × (run e st (lines ++ more) ≡ run e (nextState last s) more) × Standing c spool (nextNumber last (v .number)) (deskNow d n) (v .end) (nextState last s)
-VolumeOut c spool v last e st lines more d (T.Stop f) = run e st (lines ++ more) ≡ refused (f .number) (f .volume) (f .line)
+abbrev pub VolumeOut : Digits → List ℕ → Volume → Bool → ℕ → Env → State → List Line → List Line → Desk → Through → Type 0
+VolumeOut c spool v last limit e st lines more d (T.Go n) =
+    (s : Set) × (table : List ℤ) × (run e st (lines ++ more) ≡ run e (nextState last s) more)
+    × Standing c spool (nextNumber last (v .number)) (deskNow (deskTable d table) n) (v .end) (nextState last s) × Seen n (d .table) limit table
+VolumeOut c spool v last limit e st lines more d (T.Stop f) = run e st (lines ++ more) ≡ refused (f .number) (f .volume) (f .line)
 
-abbrev pub VolumePromise : Digits → List ℕ → Volume → ℕ → List ℕ → Desk → Desk → Through → Type 0
-VolumePromise c spool v start following d₀ d₁ r =
-    (e : Env) (s : Set) (lines : List (List ℕ)) (more : List Line) → Under c d₀ e → At spool v (startOf start) lines → Standing c spool (v .number) d₀ start (top s 0)
-    → VolumeOut c spool v (isNil following) e (top s 0) (linesOfVolume (v .number) following start lines) more d₁ r
+abbrev pub VolumePromise : Digits → List ℕ → Volume → ℕ → ℕ → List ℕ → Desk → Desk → Through → Type 0
+VolumePromise c spool v start limit following d₀ d₁ r =
+    (table : List ℤ) (e : Env) (s : Set) (lines : List (List ℕ)) (more : List Line) → Seen (d₀ .now) (d₀ .table) limit table → Under c (deskTable d₀ table) e → At spool v (startOf start) lines
+    → Standing c spool (v .number) (deskTable d₀ table) start (top s 0)
+    → VolumeOut c spool v (isNil following) limit e (top s 0) (linesOfVolume (v .number) following start lines) more d₁ r

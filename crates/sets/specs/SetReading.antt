@@ -1,5 +1,5 @@
 -- What the reading of a whole set promises.
-use Prim.Native.Nat.{ℕ, _+_, _/_}
+use Prim.Native.Nat.{ℕ, _+_, _/_, _<_}
 use mathlib.Core.Bool.{false, cond}
 use mathlib.Core.Path.{_≡_}
 use mathlib.Core.List.{List, []}
@@ -13,7 +13,7 @@ use Rattle.rules.specs.declared.Answer.the-variants as A
 use Rattle.rules.specs.Sets.{Set}
 use Rattle.rules.specs.Machine.{Env, refused, accepted}
 use Rattle.rules.specs.RecordTable.{recordsOf, tableOf, width}
-use Rattle.rules.specs.Answers.{outcomeOf}
+use Rattle.rules.specs.Answers.{outcomeOf, rewriteOutcome}
 use Rattle.lines.specs.VolumeNames.{nameAt}
 use Rattle.sets.specs.declared.Now.{Now}
 
@@ -29,8 +29,17 @@ envOf c len = record { class = c; limit = some (len / width) }
 abbrev pub nameBehind : List ℕ → List ℕ → ℕ → ℕ → List ℕ
 nameBehind spool places count i = cond (ltb (i + 1) count) (nameAt spool (getD places (i + 1) 0)) []
 
--- t₁: the table on return. Refused, nothing is said of it.
-abbrev pub SetOut : Digits → List ℕ → List ℤ → List ℤ → Answer → Type 0
-SetOut c spool t₀ t₁ (A.Accepted n) =
-    (s : Set) × (outcomeOf (envOf c (length t₀)) spool ≡ accepted s) × (n ≡ length (recordsOf c s)) × (t₁ ≡ tableOf (length t₀) (recordsOf c s))
-SetOut c spool t₀ t₁ (A.Refused f) = outcomeOf (envOf c (length t₀)) spool ≡ refused (f .number) (f .volume) (f .line)
+-- Of the numbers lent for a table, so many: all of it, or 96 of one that is longer
+abbrev pub LentFor : ℕ → List ℤ → Type 0
+LentFor limit t = (length t ≡ limit → ⊥) → (length t ≡ 96) × (96 < limit)
+
+-- t₁: the numbers on return, where they are the table. Refused, nothing is said of them.
+abbrev pub SetOut : Digits → List ℕ → ℕ → List ℤ → List ℤ → Answer → Type 0
+SetOut c spool limit t₀ t₁ (A.Accepted n) =
+    (s : Set) × (outcomeOf (envOf c limit) spool ≡ accepted s) × (n ≡ length (recordsOf c s)) × (length t₀ ≡ limit → t₁ ≡ tableOf limit (recordsOf c s))
+SetOut c spool limit t₀ t₁ (A.Refused f) = outcomeOf (envOf c limit) spool ≡ refused (f .number) (f .volume) (f .line)
+
+-- what the rewriter asks of a spool before it writes
+abbrev pub Judged : List ℕ → Answer → Type 0
+Judged spool (A.Accepted n) = (s : Set) × (rewriteOutcome spool ≡ accepted s)
+Judged spool (A.Refused f) = rewriteOutcome spool ≡ refused (f .number) (f .volume) (f .line)

@@ -428,6 +428,22 @@ deskNow d n = record {
   table = d .table;
 }
 
+-- with another table
+abbrev pub deskTable : Desk → List ℤ → Desk
+deskTable d t = record {
+  now = d .now;
+  tally = d .tally;
+  symbols = d .symbols;
+  layers = d .layers;
+  serials = d .serials;
+  used = d .used;
+  usedAll = d .usedAll;
+  marks = d .marks;
+  inner = d .inner;
+  header = d .header;
+  table = t;
+}
+
 -- the class, and how many records the table holds
 pub record Under (c : Digits) (d : Desk) (e : Env) : Type 0 where
   pub class : e .class ≡ c

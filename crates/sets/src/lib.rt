@@ -8,6 +8,7 @@ mod file_format;
 mod placed;
 mod points;
 mod reader;
+mod scratch;
 mod serials;
 mod skip;
 mod steps;

@@ -12,7 +12,7 @@ use entries::Next;
 use rules::LineForm;
 ghost use mathlib.Core.Path.{_≡_};
 ghost use mathlib.Core.Bool.{false};
-ghost use Prim.Native.Nat.{_+_, _*_, _≤_, _<_};
+ghost use Prim.Native.Nat.{_+_, _≤_, _<_};
 ghost use lib.Dec.{ltb};
 ghost use lib.ListN.{length};
 ghost use Rattle.rules.specs.Figures.{leastPoints};
@@ -55,32 +55,32 @@ fn more_points(now: Now) -> Now
     }
 }
 
-// "14 successive (first point's type, point count)": they go to the record before the points'.
-fn close_chain(here: Now, t: &mut [i64]) -> Step
-    requires { ⌜ (here .figures < 4294967295) × (32 * (here .points + 1) ≤ here .free) × (here .free ≤ length (now t)) ⌝ }
-    ensures { λ r. ⌜ (r ≡ chainEnd here) × (ltb (here .points) leastPoints ≡ false → now (t .exit) ≡ chainClosed here (now (t .entry))) ⌝ }
+// "14 successive (first point's type, point count)": they go to its own record, the first point's record is the next.
+fn close_chain(here: Now, own: usize, t: &mut [i64]) -> Step
+    requires { ⌜ (here .figures < 4294967295) × (here .points < 4294967295) × (leastPoints ≤ here .points → own + 64 ≤ length (now t)) ⌝ }
+    ensures { λ r. ⌜ (r ≡ chainEnd here) × (ltb (here .points) leastPoints ≡ false → now (t .exit) ≡ chainClosed here own (now (t .entry))) ⌝ }
 {
     if here.points < 3 {
         return Step::Stop(8);
     }
-    let own = here.free - 32 * (here.points as usize + 1);
     t[own + 4] = t[own + 36];
     t[own + 5] = here.points as i64;
     Step::Go(figure_done(here))
 }
 
-// A line in a `successive`.
+// A line in a `successive`, whose own record stands at `own`.
 pub(crate) fn on_chain(
     s: &[u8],
     symbols: &[u32],
     layers: &[u32],
     here: Now,
+    own: usize,
     form: LineForm,
     at: Where,
     t: &mut [i64],
 ) -> Step
-    requires { ⌜ (length (now s) ≤ 61440) × (length (now symbols) ≤ 65536) × (length (now layers) ≤ 65536) × (here .figures < 4294967295) × (here .points < 4294967295) × (32 * (here .points + 1) ≤ here .free) × (here .free ≤ length (now t)) ⌝ }
-    ensures { λ r. ⌜ ChainLine (pointAct (pointTableOf (here .layered)) (now (s .entry)) (now (symbols .entry)) (now (layers .entry)) here form (now (t .entry))) here at (now (t .entry)) (now (t .exit)) r ⌝ }
+    requires { ⌜ (length (now s) ≤ 61440) × (length (now symbols) ≤ 65536) × (length (now layers) ≤ 65536) × (here .figures < 4294967295) × (here .points < 4294967295) × (leastPoints ≤ here .points → own + 64 ≤ length (now t)) ⌝ }
+    ensures { λ r. ⌜ ChainLine (pointAct (pointTableOf (here .layered)) (now (s .entry)) (now (symbols .entry)) (now (layers .entry)) here form (now (t .entry))) here own at (now (t .entry)) (now (t .exit)) r ⌝ }
 {
     let full = [100 <= here.points];
     let w = here.free;
@@ -109,7 +109,7 @@ pub(crate) fn on_chain(
             Step::Go(more_points(here))
         }
         Next::Begin(_) => Step::Stop(5),
-        Next::Shut => close_chain(here, t),
+        Next::Shut => close_chain(here, own, t),
         Next::Refuse(n) => Step::Stop(n),
     }
 }

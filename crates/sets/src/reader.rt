@@ -18,7 +18,7 @@ ghost use Prim.Native.Nat.{_≤_, _<_};
 ghost use lib.IntN.{pos};
 ghost use lib.ListN.{length, replicate};
 ghost use Rattle.rules.specs.Answers.{readAnswer, readTable};
-ghost use Rattle.sets.specs.SetReading.{nothingNow, nameBehind, SetOut};
+ghost use Rattle.sets.specs.SetReading.{nothingNow, nameBehind, LentFor, SetOut, Judged};
 
 fn nothing_yet() -> Now
     ensures { λ r. ⌜ r ≡ nothingNow ⌝ }
@@ -46,10 +46,10 @@ fn name_behind(s: &[u8], places: [u32; 12], count: usize, i: usize) -> &[u8]
     volume_name(s, places[i + 1])
 }
 
-// The volumes one after the other, into a table of zeros.
-fn read_set(s: &[u8], class: Digits, t: &mut [i64]) -> Answer
-    requires { ⌜ now t ≡ replicate (length (now t)) (pos 0) ⌝ }
-    ensures { λ r. ⌜ SetOut class (now (s .entry)) (now (t .entry)) (now (t .exit)) r ⌝ }
+// The volumes one after the other, into a table of zeros, or with a scratch of zeros in its place.
+fn read_set(s: &[u8], class: Digits, limit: usize, t: &mut [i64]) -> Answer
+    requires { ⌜ (now t ≡ replicate (length (now t)) (pos 0)) × LentFor limit (now t) ⌝ }
+    ensures { λ r. ⌜ SetOut class (now (s .entry)) limit (now (t .entry)) (now (t .exit)) r ⌝ }
 {
     let l = volumes(s);
     let count = l.count as usize;
@@ -103,6 +103,7 @@ fn read_set(s: &[u8], class: Digits, t: &mut [i64]) -> Answer
             &mut marks,
             &mut inner,
             &mut header,
+            limit,
             t,
         );
         match r {
@@ -123,6 +124,7 @@ fn read_set(s: &[u8], class: Digits, t: &mut [i64]) -> Answer
 pub fn read(s: &[u8], class: u64, t: &mut [i64]) -> Answer
     ensures { λ r. ⌜ (r ≡ readAnswer class (length (now (t .entry))) (now (s .entry))) × (now (t .exit) ≡ readTable class (length (now (t .entry))) (now (s .entry))) ⌝ }
 {
+    let limit = t.len();
     clear(t);
     match class_of(class) {
         Class::Not => Answer::Refused(Refusal {
@@ -131,7 +133,7 @@ pub fn read(s: &[u8], class: u64, t: &mut [i64]) -> Answer
             line: 0,
         }),
         Class::Is(c) => {
-            let r = read_set(s, c, t);
+            let r = read_set(s, c, limit, t);
             match r {
                 Answer::Accepted(n) => Answer::Accepted(n),
                 Answer::Refused(f) => {
@@ -141,4 +143,13 @@ pub fn read(s: &[u8], class: u64, t: &mut [i64]) -> Answer
             }
         }
     }
+}
+
+// A spool at the full class, whose records are not kept: how many they would be, or the refusal. A spool has room for fewer lines than a
+// table of 65,536 records has for theirs.
+pub(crate) fn judge(s: &[u8]) -> Answer
+    ensures { λ r. ⌜ Judged (now (s .entry)) r ⌝ }
+{
+    let mut scratch = [0i64; 96];
+    read_set(s, Digits { middle: 1, last: 5 }, 2097152, &mut scratch)
 }

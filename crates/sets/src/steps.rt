@@ -6,7 +6,6 @@ use crate::DEFINES;
 use crate::DRAWING;
 use crate::ELEMENTS;
 use crate::FIGURES;
-use crate::FILE;
 use crate::LAYER_NAMES;
 use crate::LAYERS;
 use crate::Now;
@@ -27,6 +26,10 @@ use crate::file_format::on_file;
 use crate::placed::on_placed;
 use crate::points::on_chain;
 use crate::points::on_hide;
+use crate::scratch::back_step;
+use crate::scratch::chain_at;
+use crate::scratch::lent_now;
+use crate::scratch::make_fresh;
 use crate::symbol_define::keep_name;
 use crate::symbol_define::on_defines;
 use crate::symbol_define::on_symbol;
@@ -36,9 +39,10 @@ use rules::Digits;
 use rules::LineForm;
 ghost use mathlib.Core.Path.{_≡_};
 ghost use mathlib.Core.Bool.{true};
-ghost use Prim.Native.Nat.{_+_, _*_, _-_, _≤_, _<_};
+ghost use Prim.Native.Nat.{_+_, _-_, _≤_, _<_};
 ghost use lib.Dec.{eqb};
 ghost use lib.ListN.{length, getD};
+ghost use Rattle.rules.specs.Figures.{leastPoints};
 ghost use Rattle.sets.specs.declared.Now.{Now};
 ghost use Rattle.sets.specs.declared.Step.the-variants as S;
 ghost use Rattle.sets.specs.Records.{partAt};
@@ -345,17 +349,18 @@ fn in_chain(
     here: Now,
     form: LineForm,
     at: Where,
+    own: usize,
     tally: &[u32],
     symbols: &[u32],
     layers: &[u32],
     t: &mut [i64],
 ) -> Step
-    requires { ⌜ (length (now s) ≤ 61440) × Named (now tally) (now symbols) (now layers) × (here .figures < 4294967295) × (here .points < 4294967295) × (32 * (here .points + 1) ≤ here .free) × (here .free ≤ length (now t)) ⌝ }
-    ensures { λ r. ⌜ OnChain (now (s .entry)) form here (now (tally .entry)) (now (symbols .entry)) (now (layers .entry)) at (now (t .entry)) (now (t .exit)) r ⌝ }
+    requires { ⌜ (length (now s) ≤ 61440) × Named (now tally) (now symbols) (now layers) × (here .figures < 4294967295) × (here .points < 4294967295) × (leastPoints ≤ here .points → own + 64 ≤ length (now t)) ⌝ }
+    ensures { λ r. ⌜ OnChain (now (s .entry)) form here (now (tally .entry)) (now (symbols .entry)) (now (layers .entry)) own at (now (t .entry)) (now (t .exit)) r ⌝ }
 {
     let ns = tally[SYMBOLS] as usize;
     let nl = tally[LAYERS] as usize;
-    on_chain(s, &symbols[..ns], &layers[..nl], here, form, at, t)
+    on_chain(s, &symbols[..ns], &layers[..nl], here, own, form, at, t)
 }
 
 fn in_text(
@@ -423,17 +428,18 @@ fn in_placed(
     )
 }
 
-// A line before ELEMENT.
-fn sheet_line(
+// A line at the top level or in FILE_FORMAT.
+fn head_line(
     s: &[u8],
     following: &[u8],
     class: Digits,
     here: Now,
     form: LineForm,
     at: Where,
+    own: usize,
     tally: &mut [u32],
-    symbols: &mut [u32],
-    layers: &mut [u32],
+    symbols: &[u32],
+    layers: &[u32],
     serials: &[u64],
     used: &mut [bool],
     used_all: &[bool],
@@ -442,8 +448,8 @@ fn sheet_line(
     header: &mut [i64],
     t: &mut [i64],
 ) -> Step
-    requires { ⌜ LineFits (now s) form at (desk here (now tally) (now symbols) (now layers) (now serials) (now used) (now «used_all») (now marks) (now inner) (now header) (now t)) × (here .block < 7) ⌝ }
-    ensures { λ r. ⌜ Done class (now (s .entry)) (now (following .entry)) form at (desk here (now (tally .entry)) (now (symbols .entry)) (now (layers .entry)) (now (serials .entry)) (now (used .entry)) (now («used_all» .entry)) (now (marks .entry)) (now (inner .entry)) (now (header .entry)) (now (t .entry))) (desk here (now (tally .exit)) (now (symbols .exit)) (now (layers .exit)) (now (serials .entry)) (now (used .exit)) (now («used_all» .entry)) (now (marks .exit)) (now (inner .entry)) (now (header .exit)) (now (t .exit))) r ⌝ }
+    requires { ⌜ LineFits (now s) form at own (desk here (now tally) (now symbols) (now layers) (now serials) (now used) (now «used_all») (now marks) (now inner) (now header) (now t)) × (here .block < 2) ⌝ }
+    ensures { λ r. ⌜ Done class (now (s .entry)) (now (following .entry)) form at own (desk here (now (tally .entry)) (now (symbols .entry)) (now (layers .entry)) (now (serials .entry)) (now (used .entry)) (now («used_all» .entry)) (now (marks .entry)) (now (inner .entry)) (now (header .entry)) (now (t .entry))) (desk here (now (tally .exit)) (now (symbols .entry)) (now (layers .entry)) (now (serials .entry)) (now (used .exit)) (now («used_all» .entry)) (now (marks .exit)) (now (inner .entry)) (now (header .exit)) (now (t .exit))) r ⌝ }
 {
     if here.block == TOP {
         return at_top(
@@ -461,21 +467,44 @@ fn sheet_line(
             t,
         );
     }
-    if here.block == FILE {
-        return in_file(
-            s,
-            following,
-            here,
-            form,
-            at,
-            tally,
-            symbols,
-            layers,
-            marks,
-            header,
-            t,
-        );
-    }
+    in_file(
+        s,
+        following,
+        here,
+        form,
+        at,
+        tally,
+        symbols,
+        layers,
+        marks,
+        header,
+        t,
+    )
+}
+
+// A line in DRAWING_FORMAT or in SYMBOL_DEFINE, but for the figures of a symbol.
+fn sheet_line(
+    s: &[u8],
+    following: &[u8],
+    class: Digits,
+    here: Now,
+    form: LineForm,
+    at: Where,
+    own: usize,
+    tally: &mut [u32],
+    symbols: &mut [u32],
+    layers: &mut [u32],
+    serials: &[u64],
+    used: &[bool],
+    used_all: &[bool],
+    marks: &mut [bool],
+    inner: &[bool],
+    header: &[i64],
+    t: &mut [i64],
+) -> Step
+    requires { ⌜ LineFits (now s) form at own (desk here (now tally) (now symbols) (now layers) (now serials) (now used) (now «used_all») (now marks) (now inner) (now header) (now t)) × (2 ≤ here .block) × (here .block < 7) ⌝ }
+    ensures { λ r. ⌜ Done class (now (s .entry)) (now (following .entry)) form at own (desk here (now (tally .entry)) (now (symbols .entry)) (now (layers .entry)) (now (serials .entry)) (now (used .entry)) (now («used_all» .entry)) (now (marks .entry)) (now (inner .entry)) (now (header .entry)) (now (t .entry))) (desk here (now (tally .exit)) (now (symbols .exit)) (now (layers .exit)) (now (serials .entry)) (now (used .entry)) (now («used_all» .entry)) (now (marks .exit)) (now (inner .entry)) (now (header .entry)) (now (t .exit))) r ⌝ }
+{
     if here.block == DRAWING {
         return in_drawing(s, here, form, tally, symbols, layers, marks, t);
     }
@@ -491,33 +520,34 @@ fn sheet_line(
     in_hide(s, here, form, at, tally, symbols, layers, t)
 }
 
-// A line in ELEMENT, or among the figures of a symbol.
-fn element_line(
+// A line among figures, or in one.
+fn figure_line(
     s: &[u8],
     following: &[u8],
     class: Digits,
     here: Now,
     form: LineForm,
     at: Where,
+    own: usize,
     tally: &mut [u32],
     symbols: &[u32],
     layers: &[u32],
     serials: &mut [u64],
-    used: &mut [bool],
-    used_all: &mut [bool],
+    used: &[bool],
+    used_all: &[bool],
     marks: &mut [bool],
     inner: &mut [bool],
     header: &[i64],
     t: &mut [i64],
 ) -> Step
-    requires { ⌜ LineFits (now s) form at (desk here (now tally) (now symbols) (now layers) (now serials) (now used) (now «used_all») (now marks) (now inner) (now header) (now t)) × (7 ≤ here .block) ⌝ }
-    ensures { λ r. ⌜ Done class (now (s .entry)) (now (following .entry)) form at (desk here (now (tally .entry)) (now (symbols .entry)) (now (layers .entry)) (now (serials .entry)) (now (used .entry)) (now («used_all» .entry)) (now (marks .entry)) (now (inner .entry)) (now (header .entry)) (now (t .entry))) (desk here (now (tally .exit)) (now (symbols .entry)) (now (layers .entry)) (now (serials .exit)) (now (used .exit)) (now («used_all» .exit)) (now (marks .exit)) (now (inner .exit)) (now (header .entry)) (now (t .exit))) r ⌝ }
+    requires { ⌜ LineFits (now s) form at own (desk here (now tally) (now symbols) (now layers) (now serials) (now used) (now «used_all») (now marks) (now inner) (now header) (now t)) × (8 ≤ here .block) ⌝ }
+    ensures { λ r. ⌜ Done class (now (s .entry)) (now (following .entry)) form at own (desk here (now (tally .entry)) (now (symbols .entry)) (now (layers .entry)) (now (serials .entry)) (now (used .entry)) (now («used_all» .entry)) (now (marks .entry)) (now (inner .entry)) (now (header .entry)) (now (t .entry))) (desk here (now (tally .exit)) (now (symbols .entry)) (now (layers .entry)) (now (serials .exit)) (now (used .entry)) (now («used_all» .entry)) (now (marks .exit)) (now (inner .exit)) (now (header .entry)) (now (t .exit))) r ⌝ }
 {
     if here.block == FIGURES {
         return in_figures(s, here, form, at, tally, symbols, layers, marks, inner, t);
     }
     if here.block == CHAIN {
-        return in_chain(s, here, form, at, tally, symbols, layers, t);
+        return in_chain(s, here, form, at, own, tally, symbols, layers, t);
     }
     if here.block == TEXT {
         return in_text(s, here, form, tally, symbols, layers, inner, t);
@@ -537,75 +567,10 @@ fn element_line(
             t,
         );
     }
-    if here.block == ELEMENTS {
-        return in_elements(s, here, form, tally, symbols, layers, used, used_all);
-    }
     Step::Stop(9)
 }
 
-// What one line does, by the block that is open.
-fn block_line(
-    s: &[u8],
-    following: &[u8],
-    class: Digits,
-    here: Now,
-    form: LineForm,
-    at: Where,
-    tally: &mut [u32],
-    symbols: &mut [u32],
-    layers: &mut [u32],
-    serials: &mut [u64],
-    used: &mut [bool],
-    used_all: &mut [bool],
-    marks: &mut [bool],
-    inner: &mut [bool],
-    header: &mut [i64],
-    t: &mut [i64],
-) -> Step
-    requires { ⌜ LineFits (now s) form at (desk here (now tally) (now symbols) (now layers) (now serials) (now used) (now «used_all») (now marks) (now inner) (now header) (now t)) ⌝ }
-    ensures { λ r. ⌜ Done class (now (s .entry)) (now (following .entry)) form at (desk here (now (tally .entry)) (now (symbols .entry)) (now (layers .entry)) (now (serials .entry)) (now (used .entry)) (now («used_all» .entry)) (now (marks .entry)) (now (inner .entry)) (now (header .entry)) (now (t .entry))) (desk here (now (tally .exit)) (now (symbols .exit)) (now (layers .exit)) (now (serials .exit)) (now (used .exit)) (now («used_all» .exit)) (now (marks .exit)) (now (inner .exit)) (now (header .exit)) (now (t .exit))) r ⌝ }
-{
-    if here.block < ELEMENTS {
-        return sheet_line(
-            s,
-            following,
-            class,
-            here,
-            form,
-            at,
-            tally,
-            symbols,
-            layers,
-            serials,
-            used,
-            used_all,
-            marks,
-            inner,
-            header,
-            t,
-        );
-    }
-    element_line(
-        s,
-        following,
-        class,
-        here,
-        form,
-        at,
-        tally,
-        symbols,
-        layers,
-        serials,
-        used,
-        used_all,
-        marks,
-        inner,
-        header,
-        t,
-    )
-}
-
-// What one line does, as the definitions say.
+// What one line does, as the definitions say, with a table of so many numbers as `limit` says.
 pub(crate) fn step(
     s: &[u8],
     following: &[u8],
@@ -622,18 +587,72 @@ pub(crate) fn step(
     marks: &mut [bool],
     inner: &mut [bool],
     header: &mut [i64],
+    limit: usize,
     t: &mut [i64],
 ) -> Step
-    requires { ⌜ LineReady class (now s) (at .volume) form at (desk here (now tally) (now symbols) (now layers) (now serials) (now used) (now «used_all») (now marks) (now inner) (now header) (now t)) ⌝ }
-    ensures { λ r. ⌜ LinePromise class (now (s .entry)) (at .volume) form at (desk here (now (tally .entry)) (now (symbols .entry)) (now (layers .entry)) (now (serials .entry)) (now (used .entry)) (now («used_all» .entry)) (now (marks .entry)) (now (inner .entry)) (now (header .entry)) (now (t .entry))) (desk here (now (tally .exit)) (now (symbols .exit)) (now (layers .exit)) (now (serials .exit)) (now (used .exit)) (now («used_all» .exit)) (now (marks .exit)) (now (inner .exit)) (now (header .exit)) (now (t .exit))) (now (following .entry)) r ⌝ }
+    requires { ⌜ LineReady class (now s) (at .volume) form at limit (desk here (now tally) (now symbols) (now layers) (now serials) (now used) (now «used_all») (now marks) (now inner) (now header) (now t)) (now following) ⌝ }
+    ensures { λ r. ⌜ LinePromise class (now (s .entry)) (at .volume) form at limit (desk here (now (tally .entry)) (now (symbols .entry)) (now (layers .entry)) (now (serials .entry)) (now (used .entry)) (now («used_all» .entry)) (now (marks .entry)) (now (inner .entry)) (now (header .entry)) (now (t .entry))) (desk here (now (tally .exit)) (now (symbols .exit)) (now (layers .exit)) (now (serials .exit)) (now (used .exit)) (now («used_all» .exit)) (now (marks .exit)) (now (inner .exit)) (now (header .exit)) (now (t .exit))) (now (following .entry)) r ⌝ }
 {
-    block_line(
+    let whole = t.len() == limit;
+    let inside = lent_now(whole, here, limit);
+    let own = chain_at(whole, here);
+    make_fresh(whole, here, t);
+    if here.block == ELEMENTS {
+        let did = in_elements(s, inside, form, tally, symbols, layers, used, used_all);
+        return back_step(whole, here, inside.free, did);
+    }
+    if here.block > ELEMENTS {
+        let did = figure_line(
+            s,
+            following,
+            class,
+            inside,
+            form,
+            at,
+            own,
+            tally,
+            symbols,
+            layers,
+            serials,
+            used,
+            used_all,
+            marks,
+            inner,
+            header,
+            t,
+        );
+        return back_step(whole, here, inside.free, did);
+    }
+    if here.block < DRAWING {
+        let did = head_line(
+            s,
+            following,
+            class,
+            inside,
+            form,
+            at,
+            own,
+            tally,
+            symbols,
+            layers,
+            serials,
+            used,
+            used_all,
+            marks,
+            inner,
+            header,
+            t,
+        );
+        return back_step(whole, here, inside.free, did);
+    }
+    let did = sheet_line(
         s,
         following,
         class,
-        here,
+        inside,
         form,
         at,
+        own,
         tally,
         symbols,
         layers,
@@ -644,5 +663,6 @@ pub(crate) fn step(
         inner,
         header,
         t,
-    )
+    );
+    back_step(whole, here, inside.free, did)
 }

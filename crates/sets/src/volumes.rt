@@ -174,10 +174,11 @@ pub(crate) fn read_volume(
     marks: &mut [bool],
     inner: &mut [bool],
     header: &mut [i64],
+    limit: usize,
     t: &mut [i64],
 ) -> Through
-    requires { ⌜ VolumeReady class (now s) v start (desk begin (now tally) (now symbols) (now layers) (now serials) (now used) (now «used_all») (now marks) (now inner) (now header) (now t)) ⌝ }
-    ensures { λ r. ⌜ VolumePromise class (now (s .entry)) v start (now (following .entry)) (desk begin (now (tally .entry)) (now (symbols .entry)) (now (layers .entry)) (now (serials .entry)) (now (used .entry)) (now («used_all» .entry)) (now (marks .entry)) (now (inner .entry)) (now (header .entry)) (now (t .entry))) (desk begin (now (tally .exit)) (now (symbols .exit)) (now (layers .exit)) (now (serials .exit)) (now (used .exit)) (now («used_all» .exit)) (now (marks .exit)) (now (inner .exit)) (now (header .exit)) (now (t .exit))) r ⌝ }
+    requires { ⌜ VolumeReady class (now s) v start limit (desk begin (now tally) (now symbols) (now layers) (now serials) (now used) (now «used_all») (now marks) (now inner) (now header) (now t)) ⌝ }
+    ensures { λ r. ⌜ VolumePromise class (now (s .entry)) v start limit (now (following .entry)) (desk begin (now (tally .entry)) (now (symbols .entry)) (now (layers .entry)) (now (serials .entry)) (now (used .entry)) (now («used_all» .entry)) (now (marks .entry)) (now (inner .entry)) (now (header .entry)) (now (t .entry))) (desk begin (now (tally .exit)) (now (symbols .exit)) (now (layers .exit)) (now (serials .exit)) (now (used .exit)) (now («used_all» .exit)) (now (marks .exit)) (now (inner .exit)) (now (header .exit)) (now (t .exit))) r ⌝ }
 {
     let mut here = begin;
     let mut at = start;
@@ -211,6 +212,7 @@ pub(crate) fn read_volume(
             marks,
             inner,
             header,
+            limit,
             t,
         );
         at = seen.next;

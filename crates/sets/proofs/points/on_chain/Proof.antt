@@ -62,7 +62,7 @@ enum-told-4 c = search needs
 
 -- src/points.rt:112:23
 close-chain-requires : tie.Need-close-chain-requires
-close-chain-requires c κs = (c .before .before .before .before .before .before .before .before .before .before .before .before .before .pre .3, c .before .before .before .before .before .before .before .before .before .before .before .before .before .pre .5, omega (arith, c .before .before .before .before .before .before .before .before .before .before .before .before .before .pre .6, c .before .before .before .before .act-at .kept .1 .1 .1 .1 .1 .1 .1 .1 .0))
+close-chain-requires c κs = (c .before .before .before .before .before .before .before .before .before .before .before .before .before .pre .3, c .before .before .before .before .before .before .before .before .before .before .before .before .before .pre .4, λ e. omega (arith, c .before .before .before .before .before .before .before .before .before .before .before .before .before .pre .5 e, c .before .before .before .before .act-at .kept .1 .1 .1 .1 .1 .1 .1 .1 .0))
 
 -- src/points.rt:113:22
 enum-known-next : tie.Need-enum-known-next
@@ -74,7 +74,7 @@ same-length c = search needs
 
 -- src/points.rt:73:1
 returns : tie.Need-returns
-returns c = chain-stay (c .before .before .before .before .before .before .before .before .before .before .before .before .args .here) (c .before .before .before .before .before .before .before .before .before .before .before .before .args .at) (c .before .before .before .before .before .before .before .before .before .before .before .before .args .t .now) _ _ _ (point-acts (c .before .before .before .before .before .before .before .before .before .before .before .before .args .here .layered) (c .before .before .before .before .before .before .before .point-table .result) (c .before .before .before .before .before .before .no-digits .result) (knownIn (c .before .before .before .before .before .before .before .before .before .before .before .before .args .s .now) (c .before .before .before .before .before .before .before .before .before .before .before .before .args .symbols .now) (c .before .before .before .before .before .before .before .before .before .before .before .before .args .layers .now)) (formIn (c .before .before .before .before .before .before .before .before .before .before .before .before .args .s .now) (c .before .before .before .before .before .before .before .before .before .before .before .before .args .form)) (c .before .before .before .before .before .before .before .before .before .before .before .before .args .here .points) (c .before .before .before .before .before .before .before .before .before .before .before .before .args .here .free) (c .before .before .before .before .before .before .before .before .before .before .before .before .args .t .now) _ _ (c .before .before .before .before .before .before .before .point-table .ensures) (c .before .before .before .before .before .before .no-digits .ensures) (c .before .before .before .act-at .ensures)) (c .enum-told .given .1)
+returns c = chain-stay (c .before .before .before .before .before .before .before .before .before .before .before .before .args .here) (c .before .before .before .before .before .before .before .before .before .before .before .before .args .at) (c .before .before .before .before .before .before .before .before .before .before .before .before .args .t .now) _ _ _ (c .before .before .before .before .before .before .before .before .before .before .before .before .args .own) (point-acts (c .before .before .before .before .before .before .before .before .before .before .before .before .args .here .layered) (c .before .before .before .before .before .before .before .point-table .result) (c .before .before .before .before .before .before .no-digits .result) (knownIn (c .before .before .before .before .before .before .before .before .before .before .before .before .args .s .now) (c .before .before .before .before .before .before .before .before .before .before .before .before .args .symbols .now) (c .before .before .before .before .before .before .before .before .before .before .before .before .args .layers .now)) (formIn (c .before .before .before .before .before .before .before .before .before .before .before .before .args .s .now) (c .before .before .before .before .before .before .before .before .before .before .before .before .args .form)) (c .before .before .before .before .before .before .before .before .before .before .before .before .args .here .points) (c .before .before .before .before .before .before .before .before .before .before .before .before .args .here .free) (c .before .before .before .before .before .before .before .before .before .before .before .before .args .t .now) _ _ (c .before .before .before .before .before .before .before .point-table .ensures) (c .before .before .before .before .before .before .no-digits .ensures) (c .before .before .before .act-at .ensures)) (c .enum-told .given .1)
 
 -- src/points.rt:73:1
 same-length-2 : tie.Need-same-length-2
@@ -82,7 +82,7 @@ same-length-2 c = search needs
 
 -- src/points.rt:73:1
 returns-2 : tie.Need-returns-2
-returns-2 c = chain-entry (c .before .before .before .before .before .before .before .before .before .before .before .before .before .before .before .before .before .args .here) (c .before .before .before .before .before .before .before .before .before .before .before .before .before .before .before .before .before .args .at) (c .before .before .before .before .before .before .before .before .before .before .before .before .before .before .before .before .before .args .t .now) _ _ _ (point-acts (c .before .before .before .before .before .before .before .before .before .before .before .before .before .before .before .before .before .args .here .layered) (c .before .before .before .before .before .before .before .before .before .before .before .before .point-table .result) (c .before .before .before .before .before .before .before .before .before .before .before .no-digits .result) (knownIn (c .before .before .before .before .before .before .before .before .before .before .before .before .before .before .before .before .before .args .s .now) (c .before .before .before .before .before .before .before .before .before .before .before .before .before .before .before .before .before .args .symbols .now) (c .before .before .before .before .before .before .before .before .before .before .before .before .before .before .before .before .before .args .layers .now)) (formIn (c .before .before .before .before .before .before .before .before .before .before .before .before .before .before .before .before .before .args .s .now) (c .before .before .before .before .before .before .before .before .before .before .before .before .before .before .before .before .before .args .form)) (c .before .before .before .before .before .before .before .before .before .before .before .before .before .before .before .before .before .args .here .points) (c .before .before .before .before .before .before .before .before .before .before .before .before .before .before .before .before .before .args .here .free) (c .before .before .before .before .before .before .before .before .before .before .before .before .before .before .before .before .before .args .t .now) _ _ (c .before .before .before .before .before .before .before .before .before .before .before .before .point-table .ensures) (c .before .before .before .before .before .before .before .before .before .before .before .no-digits .ensures) (c .before .before .before .before .before .before .before .before .act-at .ensures)) (c .before .before .before .chain-point-kind .result) _ _ _ (c .before .before .before .chain-point-kind .ensures) (c .before .before .head .ensures) (c .more-points .ensures) (c .before .before .before .before .before .enum-told2 .given .1)
+returns-2 c = chain-entry (c .before .before .before .before .before .before .before .before .before .before .before .before .before .before .before .before .before .args .here) (c .before .before .before .before .before .before .before .before .before .before .before .before .before .before .before .before .before .args .at) (c .before .before .before .before .before .before .before .before .before .before .before .before .before .before .before .before .before .args .t .now) _ _ _ (c .before .before .before .before .before .before .before .before .before .before .before .before .before .before .before .before .before .args .own) (point-acts (c .before .before .before .before .before .before .before .before .before .before .before .before .before .before .before .before .before .args .here .layered) (c .before .before .before .before .before .before .before .before .before .before .before .before .point-table .result) (c .before .before .before .before .before .before .before .before .before .before .before .no-digits .result) (knownIn (c .before .before .before .before .before .before .before .before .before .before .before .before .before .before .before .before .before .args .s .now) (c .before .before .before .before .before .before .before .before .before .before .before .before .before .before .before .before .before .args .symbols .now) (c .before .before .before .before .before .before .before .before .before .before .before .before .before .before .before .before .before .args .layers .now)) (formIn (c .before .before .before .before .before .before .before .before .before .before .before .before .before .before .before .before .before .args .s .now) (c .before .before .before .before .before .before .before .before .before .before .before .before .before .before .before .before .before .args .form)) (c .before .before .before .before .before .before .before .before .before .before .before .before .before .before .before .before .before .args .here .points) (c .before .before .before .before .before .before .before .before .before .before .before .before .before .before .before .before .before .args .here .free) (c .before .before .before .before .before .before .before .before .before .before .before .before .before .before .before .before .before .args .t .now) _ _ (c .before .before .before .before .before .before .before .before .before .before .before .before .point-table .ensures) (c .before .before .before .before .before .before .before .before .before .before .before .no-digits .ensures) (c .before .before .before .before .before .before .before .before .act-at .ensures)) (c .before .before .before .chain-point-kind .result) _ _ _ (c .before .before .before .chain-point-kind .ensures) (c .before .before .head .ensures) (c .more-points .ensures) (c .before .before .before .before .before .enum-told2 .given .1)
 
 -- src/points.rt:73:1
 same-length-3 : tie.Need-same-length-3
@@ -90,7 +90,7 @@ same-length-3 c = search needs
 
 -- src/points.rt:73:1
 returns-3 : tie.Need-returns-3
-returns-3 c = chain-begin (c .before .before .before .before .before .before .before .before .before .before .before .before .args .here) (c .before .before .before .before .before .before .before .before .before .before .before .before .args .at) (c .before .before .before .before .before .before .before .before .before .before .before .before .args .t .now) _ _ _ (point-acts (c .before .before .before .before .before .before .before .before .before .before .before .before .args .here .layered) (c .before .before .before .before .before .before .before .point-table .result) (c .before .before .before .before .before .before .no-digits .result) (knownIn (c .before .before .before .before .before .before .before .before .before .before .before .before .args .s .now) (c .before .before .before .before .before .before .before .before .before .before .before .before .args .symbols .now) (c .before .before .before .before .before .before .before .before .before .before .before .before .args .layers .now)) (formIn (c .before .before .before .before .before .before .before .before .before .before .before .before .args .s .now) (c .before .before .before .before .before .before .before .before .before .before .before .before .args .form)) (c .before .before .before .before .before .before .before .before .before .before .before .before .args .here .points) (c .before .before .before .before .before .before .before .before .before .before .before .before .args .here .free) (c .before .before .before .before .before .before .before .before .before .before .before .before .args .t .now) _ _ (c .before .before .before .before .before .before .before .point-table .ensures) (c .before .before .before .before .before .before .no-digits .ensures) (c .before .before .before .act-at .ensures)) _ _ (c .enum-told3 .given .1)
+returns-3 c = chain-begin (c .before .before .before .before .before .before .before .before .before .before .before .before .args .here) (c .before .before .before .before .before .before .before .before .before .before .before .before .args .at) (c .before .before .before .before .before .before .before .before .before .before .before .before .args .t .now) _ _ _ (c .before .before .before .before .before .before .before .before .before .before .before .before .args .own) (point-acts (c .before .before .before .before .before .before .before .before .before .before .before .before .args .here .layered) (c .before .before .before .before .before .before .before .point-table .result) (c .before .before .before .before .before .before .no-digits .result) (knownIn (c .before .before .before .before .before .before .before .before .before .before .before .before .args .s .now) (c .before .before .before .before .before .before .before .before .before .before .before .before .args .symbols .now) (c .before .before .before .before .before .before .before .before .before .before .before .before .args .layers .now)) (formIn (c .before .before .before .before .before .before .before .before .before .before .before .before .args .s .now) (c .before .before .before .before .before .before .before .before .before .before .before .before .args .form)) (c .before .before .before .before .before .before .before .before .before .before .before .before .args .here .points) (c .before .before .before .before .before .before .before .before .before .before .before .before .args .here .free) (c .before .before .before .before .before .before .before .before .before .before .before .before .args .t .now) _ _ (c .before .before .before .before .before .before .before .point-table .ensures) (c .before .before .before .before .before .before .no-digits .ensures) (c .before .before .before .act-at .ensures)) _ _ (c .enum-told3 .given .1)
 
 -- src/points.rt:73:1
 same-length-4 : tie.Need-same-length-4
@@ -98,7 +98,7 @@ same-length-4 c = search needs
 
 -- src/points.rt:73:1
 returns-4 : tie.Need-returns-4
-returns-4 c = chain-shut (c .before .before .before .before .before .before .before .before .before .before .before .before .before .before .before .args .here) (c .before .before .before .before .before .before .before .before .before .before .before .before .before .before .before .args .at) (c .before .before .before .before .before .before .before .before .before .before .before .before .before .before .before .args .t .now) _ _ _ (point-acts (c .before .before .before .before .before .before .before .before .before .before .before .before .before .before .before .args .here .layered) (c .before .before .before .before .before .before .before .before .before .before .point-table .result) (c .before .before .before .before .before .before .before .before .before .no-digits .result) (knownIn (c .before .before .before .before .before .before .before .before .before .before .before .before .before .before .before .args .s .now) (c .before .before .before .before .before .before .before .before .before .before .before .before .before .before .before .args .symbols .now) (c .before .before .before .before .before .before .before .before .before .before .before .before .before .before .before .args .layers .now)) (formIn (c .before .before .before .before .before .before .before .before .before .before .before .before .before .before .before .args .s .now) (c .before .before .before .before .before .before .before .before .before .before .before .before .before .before .before .args .form)) (c .before .before .before .before .before .before .before .before .before .before .before .before .before .before .before .args .here .points) (c .before .before .before .before .before .before .before .before .before .before .before .before .before .before .before .args .here .free) (c .before .before .before .before .before .before .before .before .before .before .before .before .before .before .before .args .t .now) _ _ (c .before .before .before .before .before .before .before .before .before .before .point-table .ensures) (c .before .before .before .before .before .before .before .before .before .no-digits .ensures) (c .before .before .before .before .before .before .act-at .ensures)) _ _ (c .before .close-chain .ensures .0) (c .before .close-chain .ensures .1) (c .before .before .before .enum-told4 .given .1)
+returns-4 c = chain-shut (c .before .before .before .before .before .before .before .before .before .before .before .before .before .before .before .args .here) (c .before .before .before .before .before .before .before .before .before .before .before .before .before .before .before .args .at) (c .before .before .before .before .before .before .before .before .before .before .before .before .before .before .before .args .t .now) _ _ _ (c .before .before .before .before .before .before .before .before .before .before .before .before .before .before .before .args .own) (point-acts (c .before .before .before .before .before .before .before .before .before .before .before .before .before .before .before .args .here .layered) (c .before .before .before .before .before .before .before .before .before .before .point-table .result) (c .before .before .before .before .before .before .before .before .before .no-digits .result) (knownIn (c .before .before .before .before .before .before .before .before .before .before .before .before .before .before .before .args .s .now) (c .before .before .before .before .before .before .before .before .before .before .before .before .before .before .before .args .symbols .now) (c .before .before .before .before .before .before .before .before .before .before .before .before .before .before .before .args .layers .now)) (formIn (c .before .before .before .before .before .before .before .before .before .before .before .before .before .before .before .args .s .now) (c .before .before .before .before .before .before .before .before .before .before .before .before .before .before .before .args .form)) (c .before .before .before .before .before .before .before .before .before .before .before .before .before .before .before .args .here .points) (c .before .before .before .before .before .before .before .before .before .before .before .before .before .before .before .args .here .free) (c .before .before .before .before .before .before .before .before .before .before .before .before .before .before .before .args .t .now) _ _ (c .before .before .before .before .before .before .before .before .before .before .point-table .ensures) (c .before .before .before .before .before .before .before .before .before .no-digits .ensures) (c .before .before .before .before .before .before .act-at .ensures)) _ _ (c .before .close-chain .ensures .0) (c .before .close-chain .ensures .1) (c .before .before .before .enum-told4 .given .1)
 
 -- src/points.rt:73:1
 same-length-5 : tie.Need-same-length-5
@@ -106,7 +106,7 @@ same-length-5 c = search needs
 
 -- src/points.rt:73:1
 returns-5 : tie.Need-returns-5
-returns-5 c = chain-refuse (c .before .before .before .before .before .before .before .before .before .before .before .before .before .args .here) (c .before .before .before .before .before .before .before .before .before .before .before .before .before .args .at) (c .before .before .before .before .before .before .before .before .before .before .before .before .before .args .t .now) _ _ _ (point-acts (c .before .before .before .before .before .before .before .before .before .before .before .before .before .args .here .layered) (c .before .before .before .before .before .before .before .before .point-table .result) (c .before .before .before .before .before .before .before .no-digits .result) (knownIn (c .before .before .before .before .before .before .before .before .before .before .before .before .before .args .s .now) (c .before .before .before .before .before .before .before .before .before .before .before .before .before .args .symbols .now) (c .before .before .before .before .before .before .before .before .before .before .before .before .before .args .layers .now)) (formIn (c .before .before .before .before .before .before .before .before .before .before .before .before .before .args .s .now) (c .before .before .before .before .before .before .before .before .before .before .before .before .before .args .form)) (c .before .before .before .before .before .before .before .before .before .before .before .before .before .args .here .points) (c .before .before .before .before .before .before .before .before .before .before .before .before .before .args .here .free) (c .before .before .before .before .before .before .before .before .before .before .before .before .before .args .t .now) _ _ (c .before .before .before .before .before .before .before .before .point-table .ensures) (c .before .before .before .before .before .before .before .no-digits .ensures) (c .before .before .before .before .act-at .ensures)) _ _ (c .before .next .given .1)
+returns-5 c = chain-refuse (c .before .before .before .before .before .before .before .before .before .before .before .before .before .args .here) (c .before .before .before .before .before .before .before .before .before .before .before .before .before .args .at) (c .before .before .before .before .before .before .before .before .before .before .before .before .before .args .t .now) _ _ _ (c .before .before .before .before .before .before .before .before .before .before .before .before .before .args .own) (point-acts (c .before .before .before .before .before .before .before .before .before .before .before .before .before .args .here .layered) (c .before .before .before .before .before .before .before .before .point-table .result) (c .before .before .before .before .before .before .before .no-digits .result) (knownIn (c .before .before .before .before .before .before .before .before .before .before .before .before .before .args .s .now) (c .before .before .before .before .before .before .before .before .before .before .before .before .before .args .symbols .now) (c .before .before .before .before .before .before .before .before .before .before .before .before .before .args .layers .now)) (formIn (c .before .before .before .before .before .before .before .before .before .before .before .before .before .args .s .now) (c .before .before .before .before .before .before .before .before .before .before .before .before .before .args .form)) (c .before .before .before .before .before .before .before .before .before .before .before .before .before .args .here .points) (c .before .before .before .before .before .before .before .before .before .before .before .before .before .args .here .free) (c .before .before .before .before .before .before .before .before .before .before .before .before .before .args .t .now) _ _ (c .before .before .before .before .before .before .before .before .point-table .ensures) (c .before .before .before .before .before .before .before .no-digits .ensures) (c .before .before .before .before .act-at .ensures)) _ _ (c .before .next .given .1)
 
 pub on-chain-spec : {M : Type 1} → statement M
 on-chain-spec =

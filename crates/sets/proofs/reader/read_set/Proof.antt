@@ -19,11 +19,11 @@ use Rattle.sets.proofs.reader.nothing_yet.Reads as nothing-yet-reads
 use Rattle.sets.proofs.volumes.read_volume.Reads as read-volume-reads
 
 abbrev Inv-loop : tie.InvT-loop
-Inv-loop s class t₀ count unsound tally₀ symbols₀ layers₀ serials₀ used₀ used-all₀ marks₀ inner₀ header₀ places lengths here₀ i₀ t tally symbols layers serials used used-all marks inner header here i =
-    Came class s (length t₀) (layout count places lengths) i (desk here tally symbols layers serials used used-all marks inner header t)
+Inv-loop s class limit t₀ count unsound tally₀ symbols₀ layers₀ serials₀ used₀ used-all₀ marks₀ inner₀ header₀ places lengths here₀ i₀ t tally symbols layers serials used used-all marks inner header here i =
+    Came class s limit (length t₀) (layout count places lengths) i (desk here tally symbols layers serials used used-all marks inner header t)
 
 abbrev μ-loop : tie.MeasureT-loop
-μ-loop s class t₀ count unsound tally₀ symbols₀ layers₀ serials₀ used₀ used-all₀ marks₀ inner₀ header₀ places lengths here₀ i₀ t tally symbols layers serials used used-all marks inner header here i =
+μ-loop s class limit t₀ count unsound tally₀ symbols₀ layers₀ serials₀ used₀ used-all₀ marks₀ inner₀ header₀ places lengths here₀ i₀ t tally symbols layers serials used used-all marks inner header here i =
     count - i
 
 -- src/reader.rt:252:9
@@ -36,19 +36,19 @@ cast-count c = search needs
 
 -- src/reader.rt:255:9
 returns : tie.Need-returns Inv-loop μ-loop
-returns c = came-none (c .before .before .before .before .args .class) (c .before .before .before .before .args .s .now) (length (c .before .before .before .before .args .t .now)) (c .before .before .volumes .result) (c .before .before .volumes .ensures) (c .if1 .taken)
+returns c = came-none (c .before .before .before .before .args .class) (c .before .before .before .before .args .s .now) (c .before .before .before .before .args .limit) (length (c .before .before .before .before .args .t .now)) (c .before .before .volumes .result) (c .before .before .volumes .ensures) (c .if1 .taken)
 
 -- src/reader.rt:261:9
 first-unsound-requires : tie.Need-first-unsound-requires Inv-loop μ-loop
 first-unsound-requires c κs = search needs
 
 -- src/reader.rt:265:21
-cast-t27 : tie.Need-cast-t27 Inv-loop μ-loop
-cast-t27 c = omega (arith, unsound-few (c .before .before .before .before .before .before .args .s .now) (c .before .before .before .before .volumes .result) (c .before .first-unsound .result) (c .before .first-unsound .ensures))
+cast-t28 : tie.Need-cast-t28 Inv-loop μ-loop
+cast-t28 c = omega (arith, unsound-few (c .before .before .before .before .before .before .args .s .now) (c .before .before .before .before .volumes .result) (c .before .first-unsound .result) (c .before .first-unsound .ensures))
 
 -- src/reader.rt:263:9
 returns-2 : tie.Need-returns-2 Inv-loop μ-loop
-returns-2 c = came-unsound (c .before .before .before .before .before .before .args .class) (c .before .before .before .before .before .before .args .s .now) (length (c .before .before .before .before .before .before .args .t .now)) (c .before .before .before .before .volumes .result) (c .before .before .before .before .volumes .ensures) (c .before .before .if1 .left) (c .before .first-unsound .result) (c .before .first-unsound .ensures) (c .if2 .taken)
+returns-2 c = came-unsound (c .before .before .before .before .before .before .args .class) (c .before .before .before .before .before .before .args .s .now) (c .before .before .before .before .before .before .args .limit) (length (c .before .before .before .before .before .before .args .t .now)) (c .before .before .before .before .volumes .result) (c .before .before .before .before .volumes .ensures) (c .before .before .if1 .left) (c .before .first-unsound .result) (c .before .first-unsound .ensures) (c .if2 .taken)
 
 -- src/reader.rt:280:9
 nothing-yet-requires : tie.Need-nothing-yet-requires Inv-loop μ-loop
@@ -56,19 +56,19 @@ nothing-yet-requires c κs = search needs
 
 -- src/reader.rt:282:5
 loop-holds : tie.Need-loop-holds Inv-loop μ-loop
-loop-holds c = came-first (c .before .before .before .before .before .before .before .before .before .args .class) (c .before .before .before .before .before .before .before .before .before .args .s .now) (length (c .before .before .before .before .before .before .before .before .before .args .t .now)) (c .before .before .before .before .before .before .before .volumes .result) (c .before .before .before .before .before .before .before .volumes .ensures) (c .before .before .before .before .before .if1 .left) (sym (c .before .before .before .before .first-unsound .ensures) ∙ c .before .before .before .if2 .left) _ refl (record { now = c .nothing-yet .ensures; tally = refl; lengths = record { symbols = refl; layers = refl; serials = refl; used = refl; usedAll = refl; marks = refl; inner = refl; header = refl }; unused = λ j h. none-used 64 j; table = c .before .before .before .before .before .before .before .before .before .pre })
+loop-holds c = came-first (c .before .before .before .before .before .before .before .before .before .args .class) (c .before .before .before .before .before .before .before .before .before .args .s .now) (c .before .before .before .before .before .before .before .before .before .args .limit) (length (c .before .before .before .before .before .before .before .before .before .args .t .now)) (c .before .before .before .before .before .before .before .volumes .result) (c .before .before .before .before .before .before .before .volumes .ensures) (c .before .before .before .before .before .if1 .left) (sym (c .before .before .before .before .first-unsound .ensures) ∙ c .before .before .before .if2 .left) _ refl (record { now = c .nothing-yet .ensures; tally = refl; lengths = record { symbols = refl; layers = refl; serials = refl; used = refl; usedAll = refl; marks = refl; inner = refl; header = refl }; unused = λ j h. none-used 64 j; table = c .before .before .before .before .before .before .before .before .before .pre .0 }) (c .before .before .before .before .before .before .before .before .before .pre .1)
 
 -- src/reader.rt:283:13
 name-behind-requires : tie.Need-name-behind-requires Inv-loop μ-loop
-name-behind-requires c κs = (count-few (c .before .before .before .before .before .before .before .before .before .before .before .args .class) (c .before .before .before .before .before .before .before .before .before .before .before .args .s .now) (length (c .before .before .before .before .before .before .before .before .before .before .before .args .t .now)) (c .before .before .before .before .before .before .before .before .before .volumes .result) (c .before .loop .i) (desk (c .before .loop .here) (c .before .loop .tally) (c .before .loop .symbols) (c .before .loop .layers) (c .before .loop .serials) (c .before .loop .used) (c .before .loop .used-all) (c .before .loop .marks) (c .before .loop .inner) (c .before .loop .header) (c .before .loop .t)) (c .before .loop .inv), (c .loop-test .taken))
+name-behind-requires c κs = (count-few (c .before .before .before .before .before .before .before .before .before .before .before .args .class) (c .before .before .before .before .before .before .before .before .before .before .before .args .s .now) (c .before .before .before .before .before .before .before .before .before .before .before .args .limit) (length (c .before .before .before .before .before .before .before .before .before .before .before .args .t .now)) (c .before .before .before .before .before .before .before .before .before .volumes .result) (c .before .loop .i) (desk (c .before .loop .here) (c .before .loop .tally) (c .before .loop .symbols) (c .before .loop .layers) (c .before .loop .serials) (c .before .loop .used) (c .before .loop .used-all) (c .before .loop .marks) (c .before .loop .inner) (c .before .loop .header) (c .before .loop .t)) (c .before .loop .inv), (c .loop-test .taken))
 
 -- src/reader.rt:285:21
-cast-t31 : tie.Need-cast-t31 Inv-loop μ-loop
-cast-t31 c = omega (arith, (count-few (c .before .before .before .before .before .before .before .before .before .before .before .before .args .class) (c .before .before .before .before .before .before .before .before .before .before .before .before .args .s .now) (length (c .before .before .before .before .before .before .before .before .before .before .before .before .args .t .now)) (c .before .before .before .before .before .before .before .before .before .before .volumes .result) (c .before .before .loop .i) (desk (c .before .before .loop .here) (c .before .before .loop .tally) (c .before .before .loop .symbols) (c .before .before .loop .layers) (c .before .before .loop .serials) (c .before .before .loop .used) (c .before .before .loop .used-all) (c .before .before .loop .marks) (c .before .before .loop .inner) (c .before .before .loop .header) (c .before .before .loop .t)) (c .before .before .loop .inv)), (c .before .loop-test .taken))
+cast-t32 : tie.Need-cast-t32 Inv-loop μ-loop
+cast-t32 c = omega (arith, (count-few (c .before .before .before .before .before .before .before .before .before .before .before .before .args .class) (c .before .before .before .before .before .before .before .before .before .before .before .before .args .s .now) (c .before .before .before .before .before .before .before .before .before .before .before .before .args .limit) (length (c .before .before .before .before .before .before .before .before .before .before .before .before .args .t .now)) (c .before .before .before .before .before .before .before .before .before .before .volumes .result) (c .before .before .loop .i) (desk (c .before .before .loop .here) (c .before .before .loop .tally) (c .before .before .loop .symbols) (c .before .before .loop .layers) (c .before .before .loop .serials) (c .before .before .loop .used) (c .before .before .loop .used-all) (c .before .before .loop .marks) (c .before .before .loop .inner) (c .before .before .loop .header) (c .before .before .loop .t)) (c .before .before .loop .inv)), (c .before .loop-test .taken))
 
 -- src/reader.rt:285:21
-add-t32 : tie.Need-add-t32 Inv-loop μ-loop
-add-t32 c = omega (arith, (count-few (c .before .before .before .before .before .before .before .before .before .before .before .before .args .class) (c .before .before .before .before .before .before .before .before .before .before .before .before .args .s .now) (length (c .before .before .before .before .before .before .before .before .before .before .before .before .args .t .now)) (c .before .before .before .before .before .before .before .before .before .before .volumes .result) (c .before .before .loop .i) (desk (c .before .before .loop .here) (c .before .before .loop .tally) (c .before .before .loop .symbols) (c .before .before .loop .layers) (c .before .before .loop .serials) (c .before .before .loop .used) (c .before .before .loop .used-all) (c .before .before .loop .marks) (c .before .before .loop .inner) (c .before .before .loop .header) (c .before .before .loop .t)) (c .before .before .loop .inv)), (c .before .loop-test .taken))
+add-t33 : tie.Need-add-t33 Inv-loop μ-loop
+add-t33 c = omega (arith, (count-few (c .before .before .before .before .before .before .before .before .before .before .before .before .args .class) (c .before .before .before .before .before .before .before .before .before .before .before .before .args .s .now) (c .before .before .before .before .before .before .before .before .before .before .before .before .args .limit) (length (c .before .before .before .before .before .before .before .before .before .before .before .before .args .t .now)) (c .before .before .before .before .before .before .before .before .before .before .volumes .result) (c .before .before .loop .i) (desk (c .before .before .loop .here) (c .before .before .loop .tally) (c .before .before .loop .symbols) (c .before .before .loop .layers) (c .before .before .loop .serials) (c .before .before .loop .used) (c .before .before .loop .used-all) (c .before .before .loop .marks) (c .before .before .loop .inner) (c .before .before .loop .header) (c .before .before .loop .t)) (c .before .before .loop .inv)), (c .before .loop-test .taken))
 
 -- src/reader.rt:286:18
 mul-read-volume : tie.Need-mul-read-volume Inv-loop μ-loop
@@ -76,7 +76,7 @@ mul-read-volume c = search needs
 
 -- src/reader.rt:286:18
 array-read-read-volume : tie.Need-array-read-read-volume Inv-loop μ-loop
-array-read-read-volume c = omega (arith, (count-few (c .before .before .before .before .before .before .before .before .before .before .before .before .args .class) (c .before .before .before .before .before .before .before .before .before .before .before .before .args .s .now) (length (c .before .before .before .before .before .before .before .before .before .before .before .before .args .t .now)) (c .before .before .before .before .before .before .before .before .before .before .volumes .result) (c .before .before .loop .i) (desk (c .before .before .loop .here) (c .before .before .loop .tally) (c .before .before .loop .symbols) (c .before .before .loop .layers) (c .before .before .loop .serials) (c .before .before .loop .used) (c .before .before .loop .used-all) (c .before .before .loop .marks) (c .before .before .loop .inner) (c .before .before .loop .header) (c .before .before .loop .t)) (c .before .before .loop .inv)), (c .before .loop-test .taken))
+array-read-read-volume c = omega (arith, (count-few (c .before .before .before .before .before .before .before .before .before .before .before .before .args .class) (c .before .before .before .before .before .before .before .before .before .before .before .before .args .s .now) (c .before .before .before .before .before .before .before .before .before .before .before .before .args .limit) (length (c .before .before .before .before .before .before .before .before .before .before .before .before .args .t .now)) (c .before .before .before .before .before .before .before .before .before .before .volumes .result) (c .before .before .loop .i) (desk (c .before .before .loop .here) (c .before .before .loop .tally) (c .before .before .loop .symbols) (c .before .before .loop .layers) (c .before .before .loop .serials) (c .before .before .loop .used) (c .before .before .loop .used-all) (c .before .before .loop .marks) (c .before .before .loop .inner) (c .before .before .loop .header) (c .before .before .loop .t)) (c .before .before .loop .inv)), (c .before .loop-test .taken))
 
 -- src/reader.rt:286:30
 mul-read-volume-2 : tie.Need-mul-read-volume-2 Inv-loop μ-loop
@@ -84,11 +84,11 @@ mul-read-volume-2 c = search needs
 
 -- src/reader.rt:286:30
 array-read-read-volume-2 : tie.Need-array-read-read-volume-2 Inv-loop μ-loop
-array-read-read-volume-2 c = omega (arith, (count-few (c .before .before .before .before .before .before .before .before .before .before .before .before .args .class) (c .before .before .before .before .before .before .before .before .before .before .before .before .args .s .now) (length (c .before .before .before .before .before .before .before .before .before .before .before .before .args .t .now)) (c .before .before .before .before .before .before .before .before .before .before .volumes .result) (c .before .before .loop .i) (desk (c .before .before .loop .here) (c .before .before .loop .tally) (c .before .before .loop .symbols) (c .before .before .loop .layers) (c .before .before .loop .serials) (c .before .before .loop .used) (c .before .before .loop .used-all) (c .before .before .loop .marks) (c .before .before .loop .inner) (c .before .before .loop .header) (c .before .before .loop .t)) (c .before .before .loop .inv)), (c .before .loop-test .taken))
+array-read-read-volume-2 c = omega (arith, (count-few (c .before .before .before .before .before .before .before .before .before .before .before .before .args .class) (c .before .before .before .before .before .before .before .before .before .before .before .before .args .s .now) (c .before .before .before .before .before .before .before .before .before .before .before .before .args .limit) (length (c .before .before .before .before .before .before .before .before .before .before .before .before .args .t .now)) (c .before .before .before .before .before .before .before .before .before .before .volumes .result) (c .before .before .loop .i) (desk (c .before .before .loop .here) (c .before .before .loop .tally) (c .before .before .loop .symbols) (c .before .before .loop .layers) (c .before .before .loop .serials) (c .before .before .loop .used) (c .before .before .loop .used-all) (c .before .before .loop .marks) (c .before .before .loop .inner) (c .before .before .loop .header) (c .before .before .loop .t)) (c .before .before .loop .inv)), (c .before .loop-test .taken))
 
 -- src/reader.rt:286:18
 add-read-volume : tie.Need-add-read-volume Inv-loop μ-loop
-add-read-volume c = omega (arith, end-few (c .before .before .before .before .before .before .before .before .before .before .before .before .args .class) (c .before .before .before .before .before .before .before .before .before .before .before .before .args .s .now) (length (c .before .before .before .before .before .before .before .before .before .before .before .before .args .t .now)) (c .before .before .before .before .before .before .before .before .before .before .volumes .result) (c .before .before .loop .i) (desk (c .before .before .loop .here) (c .before .before .loop .tally) (c .before .before .loop .symbols) (c .before .before .loop .layers) (c .before .before .loop .serials) (c .before .before .loop .used) (c .before .before .loop .used-all) (c .before .before .loop .marks) (c .before .before .loop .inner) (c .before .before .loop .header) (c .before .before .loop .t)) (c .before .before .loop .inv) (c .before .loop-test .taken))
+add-read-volume c = omega (arith, end-few (c .before .before .before .before .before .before .before .before .before .before .before .before .args .class) (c .before .before .before .before .before .before .before .before .before .before .before .before .args .s .now) (c .before .before .before .before .before .before .before .before .before .before .before .before .args .limit) (length (c .before .before .before .before .before .before .before .before .before .before .before .before .args .t .now)) (c .before .before .before .before .before .before .before .before .before .before .volumes .result) (c .before .before .loop .i) (desk (c .before .before .loop .here) (c .before .before .loop .tally) (c .before .before .loop .symbols) (c .before .before .loop .layers) (c .before .before .loop .serials) (c .before .before .loop .used) (c .before .before .loop .used-all) (c .before .before .loop .marks) (c .before .before .loop .inner) (c .before .before .loop .header) (c .before .before .loop .t)) (c .before .before .loop .inv) (c .before .loop-test .taken))
 
 -- src/reader.rt:293:13
 mul-read-volume-3 : tie.Need-mul-read-volume-3 Inv-loop μ-loop
@@ -96,11 +96,11 @@ mul-read-volume-3 c = search needs
 
 -- src/reader.rt:293:13
 array-read-read-volume-3 : tie.Need-array-read-read-volume-3 Inv-loop μ-loop
-array-read-read-volume-3 c = omega (arith, (count-few (c .before .before .before .before .before .before .before .before .before .before .before .before .args .class) (c .before .before .before .before .before .before .before .before .before .before .before .before .args .s .now) (length (c .before .before .before .before .before .before .before .before .before .before .before .before .args .t .now)) (c .before .before .before .before .before .before .before .before .before .before .volumes .result) (c .before .before .loop .i) (desk (c .before .before .loop .here) (c .before .before .loop .tally) (c .before .before .loop .symbols) (c .before .before .loop .layers) (c .before .before .loop .serials) (c .before .before .loop .used) (c .before .before .loop .used-all) (c .before .before .loop .marks) (c .before .before .loop .inner) (c .before .before .loop .header) (c .before .before .loop .t)) (c .before .before .loop .inv)), (c .before .loop-test .taken))
+array-read-read-volume-3 c = omega (arith, (count-few (c .before .before .before .before .before .before .before .before .before .before .before .before .args .class) (c .before .before .before .before .before .before .before .before .before .before .before .before .args .s .now) (c .before .before .before .before .before .before .before .before .before .before .before .before .args .limit) (length (c .before .before .before .before .before .before .before .before .before .before .before .before .args .t .now)) (c .before .before .before .before .before .before .before .before .before .before .volumes .result) (c .before .before .loop .i) (desk (c .before .before .loop .here) (c .before .before .loop .tally) (c .before .before .loop .symbols) (c .before .before .loop .layers) (c .before .before .loop .serials) (c .before .before .loop .used) (c .before .before .loop .used-all) (c .before .before .loop .marks) (c .before .before .loop .inner) (c .before .before .loop .header) (c .before .before .loop .t)) (c .before .before .loop .inv)), (c .before .loop-test .taken))
 
 -- src/reader.rt:295:13
 slice-aggregate-read-volume : tie.Need-slice-aggregate-read-volume Inv-loop μ-loop
-slice-aggregate-read-volume c = search (needs, tally-long (c .before .before .before .before .before .before .before .before .before .before .before .before .before .args .class) (c .before .before .before .before .before .before .before .before .before .before .before .before .before .args .s .now) (length (c .before .before .before .before .before .before .before .before .before .before .before .before .before .args .t .now)) (c .before .before .before .before .before .before .before .before .before .before .before .volumes .result) (c .before .before .before .loop .i) (desk (c .before .before .before .loop .here) (c .before .before .before .loop .tally) (c .before .before .before .loop .symbols) (c .before .before .before .loop .layers) (c .before .before .before .loop .serials) (c .before .before .before .loop .used) (c .before .before .before .loop .used-all) (c .before .before .before .loop .marks) (c .before .before .before .loop .inner) (c .before .before .before .loop .header) (c .before .before .before .loop .t)) (c .before .before .before .loop .inv))
+slice-aggregate-read-volume c = search (needs, tally-long (c .before .before .before .before .before .before .before .before .before .before .before .before .before .args .class) (c .before .before .before .before .before .before .before .before .before .before .before .before .before .args .s .now) (c .before .before .before .before .before .before .before .before .before .before .before .before .before .args .limit) (length (c .before .before .before .before .before .before .before .before .before .before .before .before .before .args .t .now)) (c .before .before .before .before .before .before .before .before .before .before .before .volumes .result) (c .before .before .before .loop .i) (desk (c .before .before .before .loop .here) (c .before .before .before .loop .tally) (c .before .before .before .loop .symbols) (c .before .before .before .loop .layers) (c .before .before .before .loop .serials) (c .before .before .before .loop .used) (c .before .before .before .loop .used-all) (c .before .before .before .loop .marks) (c .before .before .before .loop .inner) (c .before .before .before .loop .header) (c .before .before .before .loop .t)) (c .before .before .before .loop .inv))
 
 -- src/reader.rt:296:13
 slice-aggregate-read-volume-2 : tie.Need-slice-aggregate-read-volume-2 Inv-loop μ-loop
@@ -136,7 +136,7 @@ slice-aggregate-read-volume-9 c = search needs
 
 -- src/reader.rt:288:13
 read-volume-requires : tie.Need-read-volume-requires Inv-loop μ-loop
-read-volume-requires c κs = volume-ready (c .before .before .before .before .before .before .before .before .before .before .before .before .before .before .before .before .before .before .before .before .before .before .args .class) (c .before .before .before .before .before .before .before .before .before .before .before .before .before .before .before .before .before .before .before .before .before .before .args .s .now) (length (c .before .before .before .before .before .before .before .before .before .before .before .before .before .before .before .before .before .before .before .before .before .before .args .t .now)) (c .before .before .before .before .before .before .before .before .before .before .before .before .before .before .before .before .before .before .before .before .volumes .result) (c .before .before .before .before .before .before .before .before .before .before .before .before .loop .i) (desk (c .before .before .before .before .before .before .before .before .before .before .before .before .loop .here) (c .before .before .before .before .before .before .before .before .before .before .before .before .loop .tally) (c .before .before .before .before .before .before .before .before .before .before .before .before .loop .symbols) (c .before .before .before .before .before .before .before .before .before .before .before .before .loop .layers) (c .before .before .before .before .before .before .before .before .before .before .before .before .loop .serials) (c .before .before .before .before .before .before .before .before .before .before .before .before .loop .used) (c .before .before .before .before .before .before .before .before .before .before .before .before .loop .used-all) (c .before .before .before .before .before .before .before .before .before .before .before .before .loop .marks) (c .before .before .before .before .before .before .before .before .before .before .before .before .loop .inner) (c .before .before .before .before .before .before .before .before .before .before .before .before .loop .header) (c .before .before .before .before .before .before .before .before .before .before .before .before .loop .t)) (c .before .before .before .before .before .before .before .before .before .before .before .before .loop .inv) (c .before .before .before .before .before .before .before .before .before .before .before .loop-test .taken)
+read-volume-requires c κs = volume-ready (c .before .before .before .before .before .before .before .before .before .before .before .before .before .before .before .before .before .before .before .before .before .before .args .class) (c .before .before .before .before .before .before .before .before .before .before .before .before .before .before .before .before .before .before .before .before .before .before .args .s .now) (c .before .before .before .before .before .before .before .before .before .before .before .before .before .before .before .before .before .before .before .before .before .before .args .limit) (length (c .before .before .before .before .before .before .before .before .before .before .before .before .before .before .before .before .before .before .before .before .before .before .args .t .now)) (c .before .before .before .before .before .before .before .before .before .before .before .before .before .before .before .before .before .before .before .before .volumes .result) (c .before .before .before .before .before .before .before .before .before .before .before .before .loop .i) (desk (c .before .before .before .before .before .before .before .before .before .before .before .before .loop .here) (c .before .before .before .before .before .before .before .before .before .before .before .before .loop .tally) (c .before .before .before .before .before .before .before .before .before .before .before .before .loop .symbols) (c .before .before .before .before .before .before .before .before .before .before .before .before .loop .layers) (c .before .before .before .before .before .before .before .before .before .before .before .before .loop .serials) (c .before .before .before .before .before .before .before .before .before .before .before .before .loop .used) (c .before .before .before .before .before .before .before .before .before .before .before .before .loop .used-all) (c .before .before .before .before .before .before .before .before .before .before .before .before .loop .marks) (c .before .before .before .before .before .before .before .before .before .before .before .before .loop .inner) (c .before .before .before .before .before .before .before .before .before .before .before .before .loop .header) (c .before .before .before .before .before .before .before .before .before .before .before .before .loop .t)) (c .before .before .before .before .before .before .before .before .before .before .before .before .loop .inv) (c .before .before .before .before .before .before .before .before .before .before .before .loop-test .taken)
 
 -- src/reader.rt:307:25
 enum-known-r : tie.Need-enum-known-r Inv-loop μ-loop
@@ -152,11 +152,11 @@ same-length c = search needs
 
 -- src/reader.rt:311:17
 returns-3 : tie.Need-returns-3 Inv-loop μ-loop
-returns-3 c = stops (c .before .before .before .before .before .before .before .before .before .before .before .before .before .before .before .before .before .before .before .before .before .before .before .before .before .before .before .before .before .before .before .before .before .before .before .before .args .class) (c .before .before .before .before .before .before .before .before .before .before .before .before .before .before .before .before .before .before .before .before .before .before .before .before .before .before .before .before .before .before .before .before .before .before .before .before .args .s .now) (length (c .before .before .before .before .before .before .before .before .before .before .before .before .before .before .before .before .before .before .before .before .before .before .before .before .before .before .before .before .before .before .before .before .before .before .before .before .args .t .now)) (c .before .before .before .before .before .before .before .before .before .before .before .before .before .before .before .before .before .before .before .before .before .before .before .before .before .before .before .before .before .before .before .before .before .before .volumes .result) (c .before .before .before .before .before .before .before .before .before .before .before .before .before .before .before .before .before .before .before .before .before .before .before .before .before .before .loop .i) (desk (c .before .before .before .before .before .before .before .before .before .before .before .before .before .before .before .before .before .before .before .before .before .before .before .before .before .before .loop .here) (c .before .before .before .before .before .before .before .before .before .before .before .before .before .before .before .before .before .before .before .before .before .before .before .before .before .before .loop .tally) (c .before .before .before .before .before .before .before .before .before .before .before .before .before .before .before .before .before .before .before .before .before .before .before .before .before .before .loop .symbols) (c .before .before .before .before .before .before .before .before .before .before .before .before .before .before .before .before .before .before .before .before .before .before .before .before .before .before .loop .layers) (c .before .before .before .before .before .before .before .before .before .before .before .before .before .before .before .before .before .before .before .before .before .before .before .before .before .before .loop .serials) (c .before .before .before .before .before .before .before .before .before .before .before .before .before .before .before .before .before .before .before .before .before .before .before .before .before .before .loop .used) (c .before .before .before .before .before .before .before .before .before .before .before .before .before .before .before .before .before .before .before .before .before .before .before .before .before .before .loop .used-all) (c .before .before .before .before .before .before .before .before .before .before .before .before .before .before .before .before .before .before .before .before .before .before .before .before .before .before .loop .marks) (c .before .before .before .before .before .before .before .before .before .before .before .before .before .before .before .before .before .before .before .before .before .before .before .before .before .before .loop .inner) (c .before .before .before .before .before .before .before .before .before .before .before .before .before .before .before .before .before .before .before .before .before .before .before .before .before .before .loop .header) (c .before .before .before .before .before .before .before .before .before .before .before .before .before .before .before .before .before .before .before .before .before .before .before .before .before .before .loop .t)) (c .before .before .before .before .before .before .before .before .before .before .before .before .before .before .before .before .before .before .before .before .before .before .before .before .before .before .loop .inv) (c .before .before .before .before .before .before .before .before .before .before .before .before .before .before .before .before .before .before .before .before .before .before .before .before .before .loop-test .taken) (c .before .before .before .before .before .before .before .before .before .before .before .before .before .before .before .before .before .before .before .before .before .before .before .before .name-behind .result .now) (c .before .before .before .before .before .before .before .before .before .before .before .before .before .before .before .before .before .before .before .before .before .before .before .before .name-behind .ensures) _ (c .before .before .before .before .before .before .before .before .before .before .before .before .before .read-volume .result) (c .before .before .before .before .before .before .before .before .before .before .before .before .before .read-volume .ensures) (c .before .r2 .given .0 .0) (c .before .r2 .given .1)
+returns-3 c = stops (c .before .before .before .before .before .before .before .before .before .before .before .before .before .before .before .before .before .before .before .before .before .before .before .before .before .before .before .before .before .before .before .before .before .before .before .before .args .class) (c .before .before .before .before .before .before .before .before .before .before .before .before .before .before .before .before .before .before .before .before .before .before .before .before .before .before .before .before .before .before .before .before .before .before .before .before .args .s .now) (c .before .before .before .before .before .before .before .before .before .before .before .before .before .before .before .before .before .before .before .before .before .before .before .before .before .before .before .before .before .before .before .before .before .before .before .before .args .limit) (length (c .before .before .before .before .before .before .before .before .before .before .before .before .before .before .before .before .before .before .before .before .before .before .before .before .before .before .before .before .before .before .before .before .before .before .before .before .args .t .now)) (c .before .before .before .before .before .before .before .before .before .before .before .before .before .before .before .before .before .before .before .before .before .before .before .before .before .before .before .before .before .before .before .before .before .before .volumes .result) (c .before .before .before .before .before .before .before .before .before .before .before .before .before .before .before .before .before .before .before .before .before .before .before .before .before .before .loop .i) (desk (c .before .before .before .before .before .before .before .before .before .before .before .before .before .before .before .before .before .before .before .before .before .before .before .before .before .before .loop .here) (c .before .before .before .before .before .before .before .before .before .before .before .before .before .before .before .before .before .before .before .before .before .before .before .before .before .before .loop .tally) (c .before .before .before .before .before .before .before .before .before .before .before .before .before .before .before .before .before .before .before .before .before .before .before .before .before .before .loop .symbols) (c .before .before .before .before .before .before .before .before .before .before .before .before .before .before .before .before .before .before .before .before .before .before .before .before .before .before .loop .layers) (c .before .before .before .before .before .before .before .before .before .before .before .before .before .before .before .before .before .before .before .before .before .before .before .before .before .before .loop .serials) (c .before .before .before .before .before .before .before .before .before .before .before .before .before .before .before .before .before .before .before .before .before .before .before .before .before .before .loop .used) (c .before .before .before .before .before .before .before .before .before .before .before .before .before .before .before .before .before .before .before .before .before .before .before .before .before .before .loop .used-all) (c .before .before .before .before .before .before .before .before .before .before .before .before .before .before .before .before .before .before .before .before .before .before .before .before .before .before .loop .marks) (c .before .before .before .before .before .before .before .before .before .before .before .before .before .before .before .before .before .before .before .before .before .before .before .before .before .before .loop .inner) (c .before .before .before .before .before .before .before .before .before .before .before .before .before .before .before .before .before .before .before .before .before .before .before .before .before .before .loop .header) (c .before .before .before .before .before .before .before .before .before .before .before .before .before .before .before .before .before .before .before .before .before .before .before .before .before .before .loop .t)) (c .before .before .before .before .before .before .before .before .before .before .before .before .before .before .before .before .before .before .before .before .before .before .before .before .before .before .loop .inv) (c .before .before .before .before .before .before .before .before .before .before .before .before .before .before .before .before .before .before .before .before .before .before .before .before .before .loop-test .taken) (c .before .before .before .before .before .before .before .before .before .before .before .before .before .before .before .before .before .before .before .before .before .before .before .before .name-behind .result .now) (c .before .before .before .before .before .before .before .before .before .before .before .before .before .before .before .before .before .before .before .before .before .before .before .before .name-behind .ensures) _ (c .before .before .before .before .before .before .before .before .before .before .before .before .before .read-volume .result) (c .before .before .before .before .before .before .before .before .before .before .before .before .before .read-volume .ensures) (c .before .r2 .given .0 .0) (c .before .r2 .given .1)
 
 -- src/reader.rt:314:9
 add-i : tie.Need-add-i Inv-loop μ-loop
-add-i c = omega (arith, (count-few (c .before .before .before .before .before .before .before .before .before .before .before .before .before .before .before .before .before .before .before .before .before .before .before .before .before .before .before .before .before .before .before .before .before .before .before .before .args .class) (c .before .before .before .before .before .before .before .before .before .before .before .before .before .before .before .before .before .before .before .before .before .before .before .before .before .before .before .before .before .before .before .before .before .before .before .before .args .s .now) (length (c .before .before .before .before .before .before .before .before .before .before .before .before .before .before .before .before .before .before .before .before .before .before .before .before .before .before .before .before .before .before .before .before .before .before .before .before .args .t .now)) (c .before .before .before .before .before .before .before .before .before .before .before .before .before .before .before .before .before .before .before .before .before .before .before .before .before .before .before .before .before .before .before .before .before .before .volumes .result) (c .before .before .before .before .before .before .before .before .before .before .before .before .before .before .before .before .before .before .before .before .before .before .before .before .before .before .loop .i) (desk (c .before .before .before .before .before .before .before .before .before .before .before .before .before .before .before .before .before .before .before .before .before .before .before .before .before .before .loop .here) (c .before .before .before .before .before .before .before .before .before .before .before .before .before .before .before .before .before .before .before .before .before .before .before .before .before .before .loop .tally) (c .before .before .before .before .before .before .before .before .before .before .before .before .before .before .before .before .before .before .before .before .before .before .before .before .before .before .loop .symbols) (c .before .before .before .before .before .before .before .before .before .before .before .before .before .before .before .before .before .before .before .before .before .before .before .before .before .before .loop .layers) (c .before .before .before .before .before .before .before .before .before .before .before .before .before .before .before .before .before .before .before .before .before .before .before .before .before .before .loop .serials) (c .before .before .before .before .before .before .before .before .before .before .before .before .before .before .before .before .before .before .before .before .before .before .before .before .before .before .loop .used) (c .before .before .before .before .before .before .before .before .before .before .before .before .before .before .before .before .before .before .before .before .before .before .before .before .before .before .loop .used-all) (c .before .before .before .before .before .before .before .before .before .before .before .before .before .before .before .before .before .before .before .before .before .before .before .before .before .before .loop .marks) (c .before .before .before .before .before .before .before .before .before .before .before .before .before .before .before .before .before .before .before .before .before .before .before .before .before .before .loop .inner) (c .before .before .before .before .before .before .before .before .before .before .before .before .before .before .before .before .before .before .before .before .before .before .before .before .before .before .loop .header) (c .before .before .before .before .before .before .before .before .before .before .before .before .before .before .before .before .before .before .before .before .before .before .before .before .before .before .loop .t)) (c .before .before .before .before .before .before .before .before .before .before .before .before .before .before .before .before .before .before .before .before .before .before .before .before .before .before .loop .inv)), (c .before .before .before .before .before .before .before .before .before .before .before .before .before .before .before .before .before .before .before .before .before .before .before .before .before .loop-test .taken))
+add-i c = omega (arith, (count-few (c .before .before .before .before .before .before .before .before .before .before .before .before .before .before .before .before .before .before .before .before .before .before .before .before .before .before .before .before .before .before .before .before .before .before .before .before .args .class) (c .before .before .before .before .before .before .before .before .before .before .before .before .before .before .before .before .before .before .before .before .before .before .before .before .before .before .before .before .before .before .before .before .before .before .before .before .args .s .now) (c .before .before .before .before .before .before .before .before .before .before .before .before .before .before .before .before .before .before .before .before .before .before .before .before .before .before .before .before .before .before .before .before .before .before .before .before .args .limit) (length (c .before .before .before .before .before .before .before .before .before .before .before .before .before .before .before .before .before .before .before .before .before .before .before .before .before .before .before .before .before .before .before .before .before .before .before .before .args .t .now)) (c .before .before .before .before .before .before .before .before .before .before .before .before .before .before .before .before .before .before .before .before .before .before .before .before .before .before .before .before .before .before .before .before .before .before .volumes .result) (c .before .before .before .before .before .before .before .before .before .before .before .before .before .before .before .before .before .before .before .before .before .before .before .before .before .before .loop .i) (desk (c .before .before .before .before .before .before .before .before .before .before .before .before .before .before .before .before .before .before .before .before .before .before .before .before .before .before .loop .here) (c .before .before .before .before .before .before .before .before .before .before .before .before .before .before .before .before .before .before .before .before .before .before .before .before .before .before .loop .tally) (c .before .before .before .before .before .before .before .before .before .before .before .before .before .before .before .before .before .before .before .before .before .before .before .before .before .before .loop .symbols) (c .before .before .before .before .before .before .before .before .before .before .before .before .before .before .before .before .before .before .before .before .before .before .before .before .before .before .loop .layers) (c .before .before .before .before .before .before .before .before .before .before .before .before .before .before .before .before .before .before .before .before .before .before .before .before .before .before .loop .serials) (c .before .before .before .before .before .before .before .before .before .before .before .before .before .before .before .before .before .before .before .before .before .before .before .before .before .before .loop .used) (c .before .before .before .before .before .before .before .before .before .before .before .before .before .before .before .before .before .before .before .before .before .before .before .before .before .before .loop .used-all) (c .before .before .before .before .before .before .before .before .before .before .before .before .before .before .before .before .before .before .before .before .before .before .before .before .before .before .loop .marks) (c .before .before .before .before .before .before .before .before .before .before .before .before .before .before .before .before .before .before .before .before .before .before .before .before .before .before .loop .inner) (c .before .before .before .before .before .before .before .before .before .before .before .before .before .before .before .before .before .before .before .before .before .before .before .before .before .before .loop .header) (c .before .before .before .before .before .before .before .before .before .before .before .before .before .before .before .before .before .before .before .before .before .before .before .before .before .before .loop .t)) (c .before .before .before .before .before .before .before .before .before .before .before .before .before .before .before .before .before .before .before .before .before .before .before .before .before .before .loop .inv)), (c .before .before .before .before .before .before .before .before .before .before .before .before .before .before .before .before .before .before .before .before .before .before .before .before .before .loop-test .taken))
 
 -- src/reader.rt:282:5
 loop-less : tie.Need-loop-less Inv-loop μ-loop
@@ -164,11 +164,11 @@ loop-less c = omega (arith, (c .before .before .before .before .before .before .
 
 -- src/reader.rt:282:5
 loop-again : tie.Need-loop-again Inv-loop μ-loop
-loop-again c = goes (c .before .before .before .before .before .before .before .before .before .before .before .before .before .before .before .before .before .before .before .before .before .before .before .before .before .before .before .before .before .before .before .before .before .before .before .before .args .class) (c .before .before .before .before .before .before .before .before .before .before .before .before .before .before .before .before .before .before .before .before .before .before .before .before .before .before .before .before .before .before .before .before .before .before .before .before .args .s .now) (length (c .before .before .before .before .before .before .before .before .before .before .before .before .before .before .before .before .before .before .before .before .before .before .before .before .before .before .before .before .before .before .before .before .before .before .before .before .args .t .now)) (c .before .before .before .before .before .before .before .before .before .before .before .before .before .before .before .before .before .before .before .before .before .before .before .before .before .before .before .before .before .before .before .before .before .before .volumes .result) (c .before .before .before .before .before .before .before .before .before .before .before .before .before .before .before .before .before .before .before .before .before .before .before .before .before .before .loop .i) (desk (c .before .before .before .before .before .before .before .before .before .before .before .before .before .before .before .before .before .before .before .before .before .before .before .before .before .before .loop .here) (c .before .before .before .before .before .before .before .before .before .before .before .before .before .before .before .before .before .before .before .before .before .before .before .before .before .before .loop .tally) (c .before .before .before .before .before .before .before .before .before .before .before .before .before .before .before .before .before .before .before .before .before .before .before .before .before .before .loop .symbols) (c .before .before .before .before .before .before .before .before .before .before .before .before .before .before .before .before .before .before .before .before .before .before .before .before .before .before .loop .layers) (c .before .before .before .before .before .before .before .before .before .before .before .before .before .before .before .before .before .before .before .before .before .before .before .before .before .before .loop .serials) (c .before .before .before .before .before .before .before .before .before .before .before .before .before .before .before .before .before .before .before .before .before .before .before .before .before .before .loop .used) (c .before .before .before .before .before .before .before .before .before .before .before .before .before .before .before .before .before .before .before .before .before .before .before .before .before .before .loop .used-all) (c .before .before .before .before .before .before .before .before .before .before .before .before .before .before .before .before .before .before .before .before .before .before .before .before .before .before .loop .marks) (c .before .before .before .before .before .before .before .before .before .before .before .before .before .before .before .before .before .before .before .before .before .before .before .before .before .before .loop .inner) (c .before .before .before .before .before .before .before .before .before .before .before .before .before .before .before .before .before .before .before .before .before .before .before .before .before .before .loop .header) (c .before .before .before .before .before .before .before .before .before .before .before .before .before .before .before .before .before .before .before .before .before .before .before .before .before .before .loop .t)) (c .before .before .before .before .before .before .before .before .before .before .before .before .before .before .before .before .before .before .before .before .before .before .before .before .before .before .loop .inv) (c .before .before .before .before .before .before .before .before .before .before .before .before .before .before .before .before .before .before .before .before .before .before .before .before .before .loop-test .taken) (c .before .before .before .before .before .before .before .before .before .before .before .before .before .before .before .before .before .before .before .before .before .before .before .before .name-behind .result .now) (c .before .before .before .before .before .before .before .before .before .before .before .before .before .before .before .before .before .before .before .before .before .before .before .before .name-behind .ensures) _ (c .before .before .before .before .before .before .before .before .before .before .before .before .before .read-volume .result) (c .before .before .before .before .before .before .before .before .before .before .before .before .before .read-volume .ensures) (c .before .r .given .0 .0) (c .before .r .given .1) (c .before .before .before .before .before .before .before .before .before .before .before .before .before .read-volume .kept .1 .1 .1 .1 .1 .1 .1 .1 .1 .1 .1 .1 .1 .1 .1 .0)
+loop-again c = goes (c .before .before .before .before .before .before .before .before .before .before .before .before .before .before .before .before .before .before .before .before .before .before .before .before .before .before .before .before .before .before .before .before .before .before .before .before .args .class) (c .before .before .before .before .before .before .before .before .before .before .before .before .before .before .before .before .before .before .before .before .before .before .before .before .before .before .before .before .before .before .before .before .before .before .before .before .args .s .now) (c .before .before .before .before .before .before .before .before .before .before .before .before .before .before .before .before .before .before .before .before .before .before .before .before .before .before .before .before .before .before .before .before .before .before .before .before .args .limit) (length (c .before .before .before .before .before .before .before .before .before .before .before .before .before .before .before .before .before .before .before .before .before .before .before .before .before .before .before .before .before .before .before .before .before .before .before .before .args .t .now)) (c .before .before .before .before .before .before .before .before .before .before .before .before .before .before .before .before .before .before .before .before .before .before .before .before .before .before .before .before .before .before .before .before .before .before .volumes .result) (c .before .before .before .before .before .before .before .before .before .before .before .before .before .before .before .before .before .before .before .before .before .before .before .before .before .before .loop .i) (desk (c .before .before .before .before .before .before .before .before .before .before .before .before .before .before .before .before .before .before .before .before .before .before .before .before .before .before .loop .here) (c .before .before .before .before .before .before .before .before .before .before .before .before .before .before .before .before .before .before .before .before .before .before .before .before .before .before .loop .tally) (c .before .before .before .before .before .before .before .before .before .before .before .before .before .before .before .before .before .before .before .before .before .before .before .before .before .before .loop .symbols) (c .before .before .before .before .before .before .before .before .before .before .before .before .before .before .before .before .before .before .before .before .before .before .before .before .before .before .loop .layers) (c .before .before .before .before .before .before .before .before .before .before .before .before .before .before .before .before .before .before .before .before .before .before .before .before .before .before .loop .serials) (c .before .before .before .before .before .before .before .before .before .before .before .before .before .before .before .before .before .before .before .before .before .before .before .before .before .before .loop .used) (c .before .before .before .before .before .before .before .before .before .before .before .before .before .before .before .before .before .before .before .before .before .before .before .before .before .before .loop .used-all) (c .before .before .before .before .before .before .before .before .before .before .before .before .before .before .before .before .before .before .before .before .before .before .before .before .before .before .loop .marks) (c .before .before .before .before .before .before .before .before .before .before .before .before .before .before .before .before .before .before .before .before .before .before .before .before .before .before .loop .inner) (c .before .before .before .before .before .before .before .before .before .before .before .before .before .before .before .before .before .before .before .before .before .before .before .before .before .before .loop .header) (c .before .before .before .before .before .before .before .before .before .before .before .before .before .before .before .before .before .before .before .before .before .before .before .before .before .before .loop .t)) (c .before .before .before .before .before .before .before .before .before .before .before .before .before .before .before .before .before .before .before .before .before .before .before .before .before .before .loop .inv) (c .before .before .before .before .before .before .before .before .before .before .before .before .before .before .before .before .before .before .before .before .before .before .before .before .before .loop-test .taken) (c .before .before .before .before .before .before .before .before .before .before .before .before .before .before .before .before .before .before .before .before .before .before .before .before .name-behind .result .now) (c .before .before .before .before .before .before .before .before .before .before .before .before .before .before .before .before .before .before .before .before .before .before .before .before .name-behind .ensures) _ (c .before .before .before .before .before .before .before .before .before .before .before .before .before .read-volume .result) (c .before .before .before .before .before .before .before .before .before .before .before .before .before .read-volume .ensures) (c .before .r .given .0 .0) (c .before .r .given .1) (c .before .before .before .before .before .before .before .before .before .before .before .before .before .read-volume .kept .1 .1 .1 .1 .1 .1 .1 .1 .1 .1 .1 .1 .1 .1 .1 .1 .0)
 
 -- src/reader.rt:316:22
-cast-t65 : tie.Need-cast-t65 Inv-loop μ-loop
-cast-t65 c = omega (arith, few-records (c .before .before .before .before .before .before .before .before .before .before .before .before .args .class) (c .before .before .before .before .before .before .before .before .before .before .before .before .args .s .now) (length (c .before .before .before .before .before .before .before .before .before .before .before .before .args .t .now)) (c .before .before .before .before .before .before .before .before .before .before .volumes .result) (c .before .before .loop .i) (desk (c .before .before .loop .here) (c .before .before .loop .tally) (c .before .before .loop .symbols) (c .before .before .loop .layers) (c .before .before .loop .serials) (c .before .before .loop .used) (c .before .before .loop .used-all) (c .before .before .loop .marks) (c .before .before .loop .inner) (c .before .before .loop .header) (c .before .before .loop .t)) (c .before .before .loop .inv) (c .before .loop-test .left))
+cast-t66 : tie.Need-cast-t66 Inv-loop μ-loop
+cast-t66 c = omega (arith, few-records (c .before .before .before .before .before .before .before .before .before .before .before .before .args .class) (c .before .before .before .before .before .before .before .before .before .before .before .before .args .s .now) (c .before .before .before .before .before .before .before .before .before .before .before .before .args .limit) (length (c .before .before .before .before .before .before .before .before .before .before .before .before .args .t .now)) (c .before .before .before .before .before .before .before .before .before .before .volumes .result) (c .before .before .loop .i) (desk (c .before .before .loop .here) (c .before .before .loop .tally) (c .before .before .loop .symbols) (c .before .before .loop .layers) (c .before .before .loop .serials) (c .before .before .loop .used) (c .before .before .loop .used-all) (c .before .before .loop .marks) (c .before .before .loop .inner) (c .before .before .loop .header) (c .before .before .loop .t)) (c .before .before .loop .inv) (c .before .loop-test .left))
 
 -- src/reader.rt:248:1
 same-length-2 : tie.Need-same-length-2 Inv-loop μ-loop
@@ -176,7 +176,7 @@ same-length-2 c = search needs
 
 -- src/reader.rt:248:1
 returns-4 : tie.Need-returns-4 Inv-loop μ-loop
-returns-4 c = (c .before .before .loop .inv .set, accepts (c .before .before .before .before .before .before .before .before .before .before .before .before .args .class) (c .before .before .before .before .before .before .before .before .before .before .before .before .args .s .now) (length (c .before .before .before .before .before .before .before .before .before .before .before .before .args .t .now)) (c .before .before .before .before .before .before .before .before .before .before .volumes .result) (c .before .before .loop .i) (desk (c .before .before .loop .here) (c .before .before .loop .tally) (c .before .before .loop .symbols) (c .before .before .loop .layers) (c .before .before .loop .serials) (c .before .before .loop .used) (c .before .before .loop .used-all) (c .before .before .loop .marks) (c .before .before .loop .inner) (c .before .before .loop .header) (c .before .before .loop .t)) (c .before .before .loop .inv) (c .before .loop-test .left), counts-records (c .before .before .before .before .before .before .before .before .before .before .before .before .args .class) (c .before .before .before .before .before .before .before .before .before .before .before .before .args .s .now) (length (c .before .before .before .before .before .before .before .before .before .before .before .before .args .t .now)) (c .before .before .before .before .before .before .before .before .before .before .volumes .result) (c .before .before .loop .i) (desk (c .before .before .loop .here) (c .before .before .loop .tally) (c .before .before .loop .symbols) (c .before .before .loop .layers) (c .before .before .loop .serials) (c .before .before .loop .used) (c .before .before .loop .used-all) (c .before .before .loop .marks) (c .before .before .loop .inner) (c .before .before .loop .header) (c .before .before .loop .t)) (c .before .before .loop .inv) (c .before .loop-test .left), lays-records (c .before .before .before .before .before .before .before .before .before .before .before .before .args .class) (c .before .before .before .before .before .before .before .before .before .before .before .before .args .s .now) (length (c .before .before .before .before .before .before .before .before .before .before .before .before .args .t .now)) (c .before .before .before .before .before .before .before .before .before .before .volumes .result) (c .before .before .loop .i) (desk (c .before .before .loop .here) (c .before .before .loop .tally) (c .before .before .loop .symbols) (c .before .before .loop .layers) (c .before .before .loop .serials) (c .before .before .loop .used) (c .before .before .loop .used-all) (c .before .before .loop .marks) (c .before .before .loop .inner) (c .before .before .loop .header) (c .before .before .loop .t)) (c .before .before .loop .inv) (c .before .loop-test .left))
+returns-4 c = (c .before .before .loop .inv .set, accepts (c .before .before .before .before .before .before .before .before .before .before .before .before .args .class) (c .before .before .before .before .before .before .before .before .before .before .before .before .args .s .now) (c .before .before .before .before .before .before .before .before .before .before .before .before .args .limit) (length (c .before .before .before .before .before .before .before .before .before .before .before .before .args .t .now)) (c .before .before .before .before .before .before .before .before .before .before .volumes .result) (c .before .before .loop .i) (desk (c .before .before .loop .here) (c .before .before .loop .tally) (c .before .before .loop .symbols) (c .before .before .loop .layers) (c .before .before .loop .serials) (c .before .before .loop .used) (c .before .before .loop .used-all) (c .before .before .loop .marks) (c .before .before .loop .inner) (c .before .before .loop .header) (c .before .before .loop .t)) (c .before .before .loop .inv) (c .before .loop-test .left), counts-records (c .before .before .before .before .before .before .before .before .before .before .before .before .args .class) (c .before .before .before .before .before .before .before .before .before .before .before .before .args .s .now) (c .before .before .before .before .before .before .before .before .before .before .before .before .args .limit) (length (c .before .before .before .before .before .before .before .before .before .before .before .before .args .t .now)) (c .before .before .before .before .before .before .before .before .before .before .volumes .result) (c .before .before .loop .i) (desk (c .before .before .loop .here) (c .before .before .loop .tally) (c .before .before .loop .symbols) (c .before .before .loop .layers) (c .before .before .loop .serials) (c .before .before .loop .used) (c .before .before .loop .used-all) (c .before .before .loop .marks) (c .before .before .loop .inner) (c .before .before .loop .header) (c .before .before .loop .t)) (c .before .before .loop .inv) (c .before .loop-test .left), lays-records (c .before .before .before .before .before .before .before .before .before .before .before .before .args .class) (c .before .before .before .before .before .before .before .before .before .before .before .before .args .s .now) (c .before .before .before .before .before .before .before .before .before .before .before .before .args .limit) (length (c .before .before .before .before .before .before .before .before .before .before .before .before .args .t .now)) (c .before .before .before .before .before .before .before .before .before .before .volumes .result) (c .before .before .loop .i) (desk (c .before .before .loop .here) (c .before .before .loop .tally) (c .before .before .loop .symbols) (c .before .before .loop .layers) (c .before .before .loop .serials) (c .before .before .loop .used) (c .before .before .loop .used-all) (c .before .before .loop .marks) (c .before .before .loop .inner) (c .before .before .loop .header) (c .before .before .loop .t)) (c .before .before .loop .inv) (c .before .loop-test .left))
 
 pub read-set-spec : {M : Type 1} → statement M
 read-set-spec =
@@ -188,13 +188,13 @@ read-set-spec =
     cast-count
     returns
     first-unsound-requires
-    cast-t27
+    cast-t28
     returns-2
     nothing-yet-requires
     loop-holds
     name-behind-requires
-    cast-t31
-    add-t32
+    cast-t32
+    add-t33
     mul-read-volume
     array-read-read-volume
     mul-read-volume-2
@@ -219,6 +219,6 @@ read-set-spec =
     add-i
     loop-less
     loop-again
-    cast-t65
+    cast-t66
     same-length-2
     returns-4)

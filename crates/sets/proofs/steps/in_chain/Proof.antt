@@ -22,7 +22,7 @@ slice-aggregate-on-chain-2 : tie.Need-slice-aggregate-on-chain-2
 slice-aggregate-on-chain-2 c = ids-count (c .before .before .before .before .before .before .before .before .pre .1)
 
 on-chain-requires : tie.Need-on-chain-requires
-on-chain-requires c κs = (c .before .before .before .before .before .before .before .before .before .pre .0, names-most (c .before .before .before .before .before .before .before .before .before .pre .1), ids-most (c .before .before .before .before .before .before .before .before .before .pre .1), c .before .before .before .before .before .before .before .before .before .pre .2, c .before .before .before .before .before .before .before .before .before .pre .3, c .before .before .before .before .before .before .before .before .before .pre .4, c .before .before .before .before .before .before .before .before .before .pre .5)
+on-chain-requires c κs = (c .before .before .before .before .before .before .before .before .before .pre .0, names-most (c .before .before .before .before .before .before .before .before .before .pre .1), ids-most (c .before .before .before .before .before .before .before .before .before .pre .1), c .before .before .before .before .before .before .before .before .before .pre .2, c .before .before .before .before .before .before .before .before .before .pre .3, c .before .before .before .before .before .before .before .before .before .pre .4)
 
 same-length : tie.Need-same-length
 same-length c = search needs

@@ -21,12 +21,12 @@ use Rattle.sets.proofs.skip.skip_block.Reads as skip-block-reads
 use Rattle.sets.proofs.walk.next_line.Reads as next-line-reads
 
 abbrev Inv-loop : tie.InvT-loop
-Inv-loop s following class v start tally₀ symbols₀ layers₀ serials₀ used₀ used-all₀ marks₀ inner₀ header₀ t₀ here₀ at₀ line₀ last-volume tally symbols layers serials used used-all marks inner header t here at line =
-    Through-to class s v start following (desk here₀ tally₀ symbols₀ layers₀ serials₀ used₀ used-all₀ marks₀ inner₀ header₀ t₀) (record { at = at; line = line }) (desk here tally symbols layers serials used used-all marks inner header t)
+Inv-loop s following class v start tally₀ symbols₀ layers₀ serials₀ used₀ used-all₀ marks₀ inner₀ header₀ limit t₀ here₀ at₀ line₀ last-volume tally symbols layers serials used used-all marks inner header t here at line =
+    Through-to class s v start following limit (desk here₀ tally₀ symbols₀ layers₀ serials₀ used₀ used-all₀ marks₀ inner₀ header₀ t₀) (record { at = at; line = line }) (desk here tally symbols layers serials used used-all marks inner header t)
     × SameLengths (desk here₀ tally₀ symbols₀ layers₀ serials₀ used₀ used-all₀ marks₀ inner₀ header₀ t₀) (desk here tally symbols layers serials used used-all marks inner header t) × (last-volume ≡ isNil following)
 
 abbrev μ-loop : tie.MeasureT-loop
-μ-loop s following class v start tally₀ symbols₀ layers₀ serials₀ used₀ used-all₀ marks₀ inner₀ header₀ t₀ here₀ at₀ line₀ last-volume tally symbols layers serials used used-all marks inner header t here at line =
+μ-loop s following class v start tally₀ symbols₀ layers₀ serials₀ used₀ used-all₀ marks₀ inner₀ header₀ limit t₀ here₀ at₀ line₀ last-volume tally symbols layers serials used used-all marks inner header t here at line =
     (v .end + 1) - at
 
 -- what is lent, before the line was judged and after
@@ -34,15 +34,15 @@ abbrev before-line : tie.After-step Inv-loop μ-loop → Desk
 before-line c = let l = c .before .before .before .before .before .before .before .before .before .before .before .before .before .before .before .before .loop in desk (l .here) (l .tally) (l .symbols) (l .layers) (l .serials) (l .used) (l .used-all) (l .marks) (l .inner) (l .header) (l .t)
 
 abbrev after-line : tie.After-step Inv-loop μ-loop → Desk
-after-line c = let l = c .step .last in desk (c .before .before .before .before .before .before .before .before .before .before .before .before .before .before .before .before .loop .here) (l .1 .1 .1 .1 .1 .1 .0) (l .1 .1 .1 .1 .1 .1 .1 .0) (l .1 .1 .1 .1 .1 .1 .1 .1 .0) (l .1 .1 .1 .1 .1 .1 .1 .1 .1 .0) (l .1 .1 .1 .1 .1 .1 .1 .1 .1 .1 .0) (l .1 .1 .1 .1 .1 .1 .1 .1 .1 .1 .1 .0) (l .1 .1 .1 .1 .1 .1 .1 .1 .1 .1 .1 .1 .0) (l .1 .1 .1 .1 .1 .1 .1 .1 .1 .1 .1 .1 .1 .0) (l .1 .1 .1 .1 .1 .1 .1 .1 .1 .1 .1 .1 .1 .1 .0) (l .1 .1 .1 .1 .1 .1 .1 .1 .1 .1 .1 .1 .1 .1 .1 .0)
+after-line c = let l = c .step .last in desk (c .before .before .before .before .before .before .before .before .before .before .before .before .before .before .before .before .loop .here) (l .1 .1 .1 .1 .1 .1 .0) (l .1 .1 .1 .1 .1 .1 .1 .0) (l .1 .1 .1 .1 .1 .1 .1 .1 .0) (l .1 .1 .1 .1 .1 .1 .1 .1 .1 .0) (l .1 .1 .1 .1 .1 .1 .1 .1 .1 .1 .0) (l .1 .1 .1 .1 .1 .1 .1 .1 .1 .1 .1 .0) (l .1 .1 .1 .1 .1 .1 .1 .1 .1 .1 .1 .1 .0) (l .1 .1 .1 .1 .1 .1 .1 .1 .1 .1 .1 .1 .1 .0) (l .1 .1 .1 .1 .1 .1 .1 .1 .1 .1 .1 .1 .1 .1 .0) (l .1 .1 .1 .1 .1 .1 .1 .1 .1 .1 .1 .1 .1 .1 .1 .1 .0)
 
 -- each slice keeps its length
 kept : (c : tie.After-step Inv-loop μ-loop) → SameLengths (before-line c) (after-line c)
-kept c = let k = c .step .kept in record { tally = k .1 .1 .1 .1 .1 .1 .0; symbols = k .1 .1 .1 .1 .1 .1 .1 .0; layers = k .1 .1 .1 .1 .1 .1 .1 .1 .0; serials = k .1 .1 .1 .1 .1 .1 .1 .1 .1 .0; used = k .1 .1 .1 .1 .1 .1 .1 .1 .1 .1 .0; usedAll = k .1 .1 .1 .1 .1 .1 .1 .1 .1 .1 .1 .0; marks = k .1 .1 .1 .1 .1 .1 .1 .1 .1 .1 .1 .1 .0; inner = k .1 .1 .1 .1 .1 .1 .1 .1 .1 .1 .1 .1 .1 .0; header = k .1 .1 .1 .1 .1 .1 .1 .1 .1 .1 .1 .1 .1 .1 .0; table = k .1 .1 .1 .1 .1 .1 .1 .1 .1 .1 .1 .1 .1 .1 .1 .0 }
+kept c = let k = c .step .kept in record { tally = k .1 .1 .1 .1 .1 .1 .0; symbols = k .1 .1 .1 .1 .1 .1 .1 .0; layers = k .1 .1 .1 .1 .1 .1 .1 .1 .0; serials = k .1 .1 .1 .1 .1 .1 .1 .1 .1 .0; used = k .1 .1 .1 .1 .1 .1 .1 .1 .1 .1 .0; usedAll = k .1 .1 .1 .1 .1 .1 .1 .1 .1 .1 .1 .0; marks = k .1 .1 .1 .1 .1 .1 .1 .1 .1 .1 .1 .1 .0; inner = k .1 .1 .1 .1 .1 .1 .1 .1 .1 .1 .1 .1 .1 .0; header = k .1 .1 .1 .1 .1 .1 .1 .1 .1 .1 .1 .1 .1 .1 .0; table = k .1 .1 .1 .1 .1 .1 .1 .1 .1 .1 .1 .1 .1 .1 .1 .1 .0 }
 
 -- src/volumes.rt:212:5
 loop-holds : tie.Need-loop-holds Inv-loop μ-loop
-loop-holds c = (begins _ _ _ _ _ _ (c .before .before .before .before .before .before .before .before .before .before .pre), same-lengths _, none-following (c .before .before .before .before .before .before .before .before .before .before .args .following .now))
+loop-holds c = (begins _ _ _ _ _ _ _ (c .before .before .before .before .before .before .before .before .before .before .pre), same-lengths _, none-following (c .before .before .before .before .before .before .before .before .before .before .args .following .now))
 
 -- src/volumes.rt:213:13
 next-line-requires : tie.Need-next-line-requires Inv-loop μ-loop
@@ -94,15 +94,15 @@ same-length-10 c = c .before .before .before .before .loop .inv .1 .table
 
 -- src/volumes.rt:216:13
 returns : tie.Need-returns Inv-loop μ-loop
-returns c = turn-empty _ _ _ _ _ _ _ _ _ (c .before .before .before .before .loop .inv) _ (c .before .before .before .next-line .ensures) (c .before .if1 .taken) _ _ (c .refused .ensures)
+returns c = turn-empty _ _ _ _ _ _ _ _ _ _ (c .before .before .before .before .loop .inv) _ (c .before .before .before .next-line .ensures) (c .before .if1 .taken) _ _ (c .refused .ensures)
 
 -- src/volumes.rt:218:13
 completes-requires : tie.Need-completes-requires Inv-loop μ-loop
 completes-requires c κs = tt
 
 -- src/volumes.rt:221:19
-add-t35 : tie.Need-add-t35 Inv-loop μ-loop
-add-t35 c = let i = c .before .before .before .before .loop .inv .0 .low in omega (arith, i .line, i .at)
+add-t36 : tie.Need-add-t36 Inv-loop μ-loop
+add-t36 c = let i = c .before .before .before .before .loop .inv .0 .low in omega (arith, i .line, i .at)
 
 -- src/volumes.rt:222:19
 both-true-requires : tie.Need-both-true-requires Inv-loop μ-loop
@@ -110,7 +110,7 @@ both-true-requires c κs = tt
 
 -- src/volumes.rt:224:13
 step-requires : tie.Need-step-requires Inv-loop μ-loop
-step-requires c κs = turn-ready _ _ _ _ _ _ _ _ _ (c .before .before .before .before .before .before .before .before .before .before .before .before .before .before .before .loop .inv) _ (c .before .before .before .before .before .before .before .before .before .before .before .before .before .before .next-line .ensures) (c .before .before .before .before .before .before .before .before .before .before .before .before .if1 .left) _ (c .before .before .before .before .before .before .before .before .before .before .both-true .ensures) (c .before .before .before .before .before .before .before .before .before .before .before .before .before .before .before .before .before .before .before .before .before .before .before .before .before .before .pre)
+step-requires c κs = turn-ready _ _ _ _ _ _ _ _ _ _ (c .before .before .before .before .before .before .before .before .before .before .before .before .before .before .before .loop .inv) _ (c .before .before .before .before .before .before .before .before .before .before .before .before .before .before .next-line .ensures) (c .before .before .before .before .before .before .before .before .before .before .before .before .if1 .left) _ (c .before .before .before .before .before .before .before .before .before .before .both-true .ensures) (c .before .before .before .before .before .before .before .before .before .before .before .before .before .before .before .before .before .before .before .before .before .before .before .before .before .before .pre)
 
 -- src/volumes.rt:243:9
 add-line : tie.Need-add-line Inv-loop μ-loop
@@ -166,7 +166,7 @@ same-length-20 c = kept (c .before .before .before .before .before .before .befo
 
 -- src/volumes.rt:245:13
 returns-2 : tie.Need-returns-2 Inv-loop μ-loop
-returns-2 c = turn-last _ _ _ _ _ _ _ _ _ (c .before .before .before .before .before .before .before .before .before .before .before .before .before .before .before .before .before .before .before .before .before .before .before .before .before .before .before .before .before .before .before .before .before .before .before .before .before .loop .inv) _ (c .before .before .before .before .before .before .before .before .before .before .before .before .before .before .before .before .before .before .before .before .before .before .before .before .before .before .before .before .before .before .before .before .before .before .before .before .next-line .ensures) (c .before .before .before .before .before .before .before .before .before .before .before .before .before .before .before .before .before .before .before .before .before .before .before .before .before .before .before .before .before .before .before .before .before .before .if1 .left) _ (c .before .before .before .before .before .before .before .before .before .before .before .before .before .before .before .before .before .before .before .before .before .before .before .before .before .before .before .before .before .before .before .before .both-true .ensures) (after-line (c .before .before .before .before .before .before .before .before .before .before .before .before .before .before .before .before .before .before .before .before .before)) (c .before .before .before .before .before .before .before .before .before .before .before .before .before .before .before .before .before .before .before .before .before .step .result) (c .before .before .before .before .before .before .before .before .before .before .before .before .before .before .before .before .before .before .before .before .before .step .ensures) (kept (c .before .before .before .before .before .before .before .before .before .before .before .before .before .before .before .before .before .before .before .before .before)) (c .before .before .if2 .taken) _ (c .before .before .before .before .before .before .before .before .before .before .before .before .before .before .before .before .before .before .before .before .before .before .before .before .before .before .before .before .before .before .before .before .before .completes .ensures) _ (c .before .at-last .ensures) _ (c .closed .ensures) _
+returns-2 c = turn-last _ _ _ _ _ _ _ _ _ _ (c .before .before .before .before .before .before .before .before .before .before .before .before .before .before .before .before .before .before .before .before .before .before .before .before .before .before .before .before .before .before .before .before .before .before .before .before .before .loop .inv) _ (c .before .before .before .before .before .before .before .before .before .before .before .before .before .before .before .before .before .before .before .before .before .before .before .before .before .before .before .before .before .before .before .before .before .before .before .before .next-line .ensures) (c .before .before .before .before .before .before .before .before .before .before .before .before .before .before .before .before .before .before .before .before .before .before .before .before .before .before .before .before .before .before .before .before .before .before .if1 .left) _ (c .before .before .before .before .before .before .before .before .before .before .before .before .before .before .before .before .before .before .before .before .before .before .before .before .before .before .before .before .before .before .before .before .both-true .ensures) (after-line (c .before .before .before .before .before .before .before .before .before .before .before .before .before .before .before .before .before .before .before .before .before)) (c .before .before .before .before .before .before .before .before .before .before .before .before .before .before .before .before .before .before .before .before .before .step .result) (c .before .before .before .before .before .before .before .before .before .before .before .before .before .before .before .before .before .before .before .before .before .step .ensures) (kept (c .before .before .before .before .before .before .before .before .before .before .before .before .before .before .before .before .before .before .before .before .before)) (c .before .before .if2 .taken) _ (c .before .before .before .before .before .before .before .before .before .before .before .before .before .before .before .before .before .before .before .before .before .before .before .before .before .before .before .before .before .before .before .before .before .completes .ensures) _ (c .before .at-last .ensures) _ (c .closed .ensures) _
 
 -- src/volumes.rt:248:22
 enum-known-did : tie.Need-enum-known-did Inv-loop μ-loop
@@ -178,7 +178,7 @@ loop-less c = let m = seen-forward _ _ _ _ (c .before .before .before .before .b
 
 -- src/volumes.rt:212:5
 loop-again : tie.Need-loop-again Inv-loop μ-loop
-loop-again c = turn-go _ _ _ _ _ _ _ _ _ (c .before .before .before .before .before .before .before .before .before .before .before .before .before .before .before .before .before .before .before .before .before .before .before .before .before .before .before .before .before .before .before .before .before .before .before .before .before .before .loop .inv) _ (c .before .before .before .before .before .before .before .before .before .before .before .before .before .before .before .before .before .before .before .before .before .before .before .before .before .before .before .before .before .before .before .before .before .before .before .before .before .next-line .ensures) (c .before .before .before .before .before .before .before .before .before .before .before .before .before .before .before .before .before .before .before .before .before .before .before .before .before .before .before .before .before .before .before .before .before .before .before .if1 .left) _ (c .before .before .before .before .before .before .before .before .before .before .before .before .before .before .before .before .before .before .before .before .before .before .before .before .before .before .before .before .before .before .before .before .before .both-true .ensures) (after-line (c .before .before .before .before .before .before .before .before .before .before .before .before .before .before .before .before .before .before .before .before .before .before)) (c .before .before .before .before .before .before .before .before .before .before .before .before .before .before .before .before .before .before .before .before .before .before .step .result) (c .before .before .before .before .before .before .before .before .before .before .before .before .before .before .before .before .before .before .before .before .before .before .step .ensures) (kept (c .before .before .before .before .before .before .before .before .before .before .before .before .before .before .before .before .before .before .before .before .before .before)) (c .before .before .before .if2 .left) _ (c .before .did .given .1)
+loop-again c = turn-go _ _ _ _ _ _ _ _ _ _ (c .before .before .before .before .before .before .before .before .before .before .before .before .before .before .before .before .before .before .before .before .before .before .before .before .before .before .before .before .before .before .before .before .before .before .before .before .before .before .loop .inv) _ (c .before .before .before .before .before .before .before .before .before .before .before .before .before .before .before .before .before .before .before .before .before .before .before .before .before .before .before .before .before .before .before .before .before .before .before .before .before .next-line .ensures) (c .before .before .before .before .before .before .before .before .before .before .before .before .before .before .before .before .before .before .before .before .before .before .before .before .before .before .before .before .before .before .before .before .before .before .before .if1 .left) _ (c .before .before .before .before .before .before .before .before .before .before .before .before .before .before .before .before .before .before .before .before .before .before .before .before .before .before .before .before .before .before .before .before .before .both-true .ensures) (after-line (c .before .before .before .before .before .before .before .before .before .before .before .before .before .before .before .before .before .before .before .before .before .before)) (c .before .before .before .before .before .before .before .before .before .before .before .before .before .before .before .before .before .before .before .before .before .before .step .result) (c .before .before .before .before .before .before .before .before .before .before .before .before .before .before .before .before .before .before .before .before .before .before .step .ensures) (kept (c .before .before .before .before .before .before .before .before .before .before .before .before .before .before .before .before .before .before .before .before .before .before)) (c .before .before .before .if2 .left) _ (c .before .did .given .1)
 
 -- src/volumes.rt:251:24
 enum-known-did-2 : tie.Need-enum-known-did-2 Inv-loop μ-loop
@@ -186,7 +186,7 @@ enum-known-did-2 c = search needs
 
 -- src/volumes.rt:253:21
 skip-block-requires : tie.Need-skip-block-requires Inv-loop μ-loop
-skip-block-requires c κs = turn-block _ _ _ _ _ _ _ _ _ (c .before .before .before .before .before .before .before .before .before .before .before .before .before .before .before .before .before .before .before .before .before .before .before .before .before .before .before .before .before .before .before .before .before .before .before .before .before .before .loop .inv) _ (c .before .before .before .before .before .before .before .before .before .before .before .before .before .before .before .before .before .before .before .before .before .before .before .before .before .before .before .before .before .before .before .before .before .before .before .before .before .next-line .ensures) (c .before .before .before .before .before .before .before .before .before .before .before .before .before .before .before .before .before .before .before .before .before .before .before .before .before .before .before .before .before .before .before .before .before .before .before .if1 .left) _ (c .before .before .before .before .before .before .before .before .before .before .before .before .before .before .before .before .before .before .before .before .before .before .before .before .before .before .before .before .before .before .before .before .before .both-true .ensures) (after-line (c .before .before .before .before .before .before .before .before .before .before .before .before .before .before .before .before .before .before .before .before .before .before)) (c .before .before .before .before .before .before .before .before .before .before .before .before .before .before .before .before .before .before .before .before .before .before .step .result) (c .before .before .before .before .before .before .before .before .before .before .before .before .before .before .before .before .before .before .before .before .before .before .step .ensures) (kept (c .before .before .before .before .before .before .before .before .before .before .before .before .before .before .before .before .before .before .before .before .before .before)) (c .before .before .before .if2 .left)
+skip-block-requires c κs = turn-block _ _ _ _ _ _ _ _ _ _ (c .before .before .before .before .before .before .before .before .before .before .before .before .before .before .before .before .before .before .before .before .before .before .before .before .before .before .before .before .before .before .before .before .before .before .before .before .before .before .loop .inv) _ (c .before .before .before .before .before .before .before .before .before .before .before .before .before .before .before .before .before .before .before .before .before .before .before .before .before .before .before .before .before .before .before .before .before .before .before .before .before .next-line .ensures) (c .before .before .before .before .before .before .before .before .before .before .before .before .before .before .before .before .before .before .before .before .before .before .before .before .before .before .before .before .before .before .before .before .before .before .before .if1 .left) _ (c .before .before .before .before .before .before .before .before .before .before .before .before .before .before .before .before .before .before .before .before .before .before .before .before .before .before .before .before .before .before .before .before .before .both-true .ensures) (after-line (c .before .before .before .before .before .before .before .before .before .before .before .before .before .before .before .before .before .before .before .before .before .before)) (c .before .before .before .before .before .before .before .before .before .before .before .before .before .before .before .before .before .before .before .before .before .before .step .result) (c .before .before .before .before .before .before .before .before .before .before .before .before .before .before .before .before .before .before .before .before .before .before .step .ensures) (kept (c .before .before .before .before .before .before .before .before .before .before .before .before .before .before .before .before .before .before .before .before .before .before)) (c .before .before .before .if2 .left)
 
 -- src/volumes.rt:255:30
 enum-known-left : tie.Need-enum-known-left Inv-loop μ-loop
@@ -198,7 +198,7 @@ loop-less-2 c = let m = seen-forward _ _ _ _ (c .before .before .before .before 
 
 -- src/volumes.rt:212:5
 loop-again-2 : tie.Need-loop-again-2 Inv-loop μ-loop
-loop-again-2 c = turn-skip _ _ _ _ _ _ _ _ _ (c .before .before .before .before .before .before .before .before .before .before .before .before .before .before .before .before .before .before .before .before .before .before .before .before .before .before .before .before .before .before .before .before .before .before .before .before .before .before .before .before .before .before .loop .inv) _ (c .before .before .before .before .before .before .before .before .before .before .before .before .before .before .before .before .before .before .before .before .before .before .before .before .before .before .before .before .before .before .before .before .before .before .before .before .before .before .before .before .before .next-line .ensures) (c .before .before .before .before .before .before .before .before .before .before .before .before .before .before .before .before .before .before .before .before .before .before .before .before .before .before .before .before .before .before .before .before .before .before .before .before .before .before .before .if1 .left) _ (c .before .before .before .before .before .before .before .before .before .before .before .before .before .before .before .before .before .before .before .before .before .before .before .before .before .before .before .before .before .before .before .before .before .before .before .before .before .both-true .ensures) (after-line (c .before .before .before .before .before .before .before .before .before .before .before .before .before .before .before .before .before .before .before .before .before .before .before .before .before .before)) (c .before .before .before .before .before .before .before .before .before .before .before .before .before .before .before .before .before .before .before .before .before .before .before .before .before .before .step .result) (c .before .before .before .before .before .before .before .before .before .before .before .before .before .before .before .before .before .before .before .before .before .before .before .before .before .before .step .ensures) (kept (c .before .before .before .before .before .before .before .before .before .before .before .before .before .before .before .before .before .before .before .before .before .before .before .before .before .before)) (c .before .before .before .before .before .before .before .if2 .left) _ (c .before .before .before .before .before .did2 .given .1) _ (c .before .before .before .skip-block .ensures) _ (c .before .left .given .1)
+loop-again-2 c = turn-skip _ _ _ _ _ _ _ _ _ _ (c .before .before .before .before .before .before .before .before .before .before .before .before .before .before .before .before .before .before .before .before .before .before .before .before .before .before .before .before .before .before .before .before .before .before .before .before .before .before .before .before .before .before .loop .inv) _ (c .before .before .before .before .before .before .before .before .before .before .before .before .before .before .before .before .before .before .before .before .before .before .before .before .before .before .before .before .before .before .before .before .before .before .before .before .before .before .before .before .before .next-line .ensures) (c .before .before .before .before .before .before .before .before .before .before .before .before .before .before .before .before .before .before .before .before .before .before .before .before .before .before .before .before .before .before .before .before .before .before .before .before .before .before .before .if1 .left) _ (c .before .before .before .before .before .before .before .before .before .before .before .before .before .before .before .before .before .before .before .before .before .before .before .before .before .before .before .before .before .before .before .before .before .before .before .before .before .both-true .ensures) (after-line (c .before .before .before .before .before .before .before .before .before .before .before .before .before .before .before .before .before .before .before .before .before .before .before .before .before .before)) (c .before .before .before .before .before .before .before .before .before .before .before .before .before .before .before .before .before .before .before .before .before .before .before .before .before .before .step .result) (c .before .before .before .before .before .before .before .before .before .before .before .before .before .before .before .before .before .before .before .before .before .before .before .before .before .before .step .ensures) (kept (c .before .before .before .before .before .before .before .before .before .before .before .before .before .before .before .before .before .before .before .before .before .before .before .before .before .before)) (c .before .before .before .before .before .before .before .if2 .left) _ (c .before .before .before .before .before .did2 .given .1) _ (c .before .before .before .skip-block .ensures) _ (c .before .left .given .1)
 
 -- src/volumes.rt:259:32
 enum-known-left-2 : tie.Need-enum-known-left-2 Inv-loop μ-loop
@@ -246,7 +246,7 @@ same-length-30 c = kept (c .before .before .before .before .before .before .befo
 
 -- src/volumes.rt:260:25
 returns-3 : tie.Need-returns-3 Inv-loop μ-loop
-returns-3 c = turn-left _ _ _ _ _ _ _ _ _ (c .before .before .before .before .before .before .before .before .before .before .before .before .before .before .before .before .before .before .before .before .before .before .before .before .before .before .before .before .before .before .before .before .before .before .before .before .before .before .before .before .before .before .loop .inv) _ (c .before .before .before .before .before .before .before .before .before .before .before .before .before .before .before .before .before .before .before .before .before .before .before .before .before .before .before .before .before .before .before .before .before .before .before .before .before .before .before .before .before .next-line .ensures) (c .before .before .before .before .before .before .before .before .before .before .before .before .before .before .before .before .before .before .before .before .before .before .before .before .before .before .before .before .before .before .before .before .before .before .before .before .before .before .before .if1 .left) _ (c .before .before .before .before .before .before .before .before .before .before .before .before .before .before .before .before .before .before .before .before .before .before .before .before .before .before .before .before .before .before .before .before .before .before .before .before .before .both-true .ensures) (after-line (c .before .before .before .before .before .before .before .before .before .before .before .before .before .before .before .before .before .before .before .before .before .before .before .before .before .before)) (c .before .before .before .before .before .before .before .before .before .before .before .before .before .before .before .before .before .before .before .before .before .before .before .before .before .before .step .result) (c .before .before .before .before .before .before .before .before .before .before .before .before .before .before .before .before .before .before .before .before .before .before .before .before .before .before .step .ensures) (kept (c .before .before .before .before .before .before .before .before .before .before .before .before .before .before .before .before .before .before .before .before .before .before .before .before .before .before)) (c .before .before .before .before .before .before .before .if2 .left) _ (c .before .before .before .before .before .did2 .given .1) _ (c .before .before .before .skip-block .ensures) _ (c .before .left2 .given .1)
+returns-3 c = turn-left _ _ _ _ _ _ _ _ _ _ (c .before .before .before .before .before .before .before .before .before .before .before .before .before .before .before .before .before .before .before .before .before .before .before .before .before .before .before .before .before .before .before .before .before .before .before .before .before .before .before .before .before .before .loop .inv) _ (c .before .before .before .before .before .before .before .before .before .before .before .before .before .before .before .before .before .before .before .before .before .before .before .before .before .before .before .before .before .before .before .before .before .before .before .before .before .before .before .before .before .next-line .ensures) (c .before .before .before .before .before .before .before .before .before .before .before .before .before .before .before .before .before .before .before .before .before .before .before .before .before .before .before .before .before .before .before .before .before .before .before .before .before .before .before .if1 .left) _ (c .before .before .before .before .before .before .before .before .before .before .before .before .before .before .before .before .before .before .before .before .before .before .before .before .before .before .before .before .before .before .before .before .before .before .before .before .before .both-true .ensures) (after-line (c .before .before .before .before .before .before .before .before .before .before .before .before .before .before .before .before .before .before .before .before .before .before .before .before .before .before)) (c .before .before .before .before .before .before .before .before .before .before .before .before .before .before .before .before .before .before .before .before .before .before .before .before .before .before .step .result) (c .before .before .before .before .before .before .before .before .before .before .before .before .before .before .before .before .before .before .before .before .before .before .before .before .before .before .step .ensures) (kept (c .before .before .before .before .before .before .before .before .before .before .before .before .before .before .before .before .before .before .before .before .before .before .before .before .before .before)) (c .before .before .before .before .before .before .before .if2 .left) _ (c .before .before .before .before .before .did2 .given .1) _ (c .before .before .before .skip-block .ensures) _ (c .before .left2 .given .1)
 
 -- src/volumes.rt:264:24
 enum-known-did-3 : tie.Need-enum-known-did-3 Inv-loop μ-loop
@@ -298,7 +298,7 @@ same-length-40 c = kept (c .before .before .before .before .before .before .befo
 
 -- src/volumes.rt:265:17
 returns-4 : tie.Need-returns-4 Inv-loop μ-loop
-returns-4 c = turn-stop _ _ _ _ _ _ _ _ _ (c .before .before .before .before .before .before .before .before .before .before .before .before .before .before .before .before .before .before .before .before .before .before .before .before .before .before .before .before .before .before .before .before .before .before .before .before .before .before .before .loop .inv) _ (c .before .before .before .before .before .before .before .before .before .before .before .before .before .before .before .before .before .before .before .before .before .before .before .before .before .before .before .before .before .before .before .before .before .before .before .before .before .before .next-line .ensures) (c .before .before .before .before .before .before .before .before .before .before .before .before .before .before .before .before .before .before .before .before .before .before .before .before .before .before .before .before .before .before .before .before .before .before .before .before .if1 .left) _ (c .before .before .before .before .before .before .before .before .before .before .before .before .before .before .before .before .before .before .before .before .before .before .before .before .before .before .before .before .before .before .before .before .before .before .both-true .ensures) (after-line (c .before .before .before .before .before .before .before .before .before .before .before .before .before .before .before .before .before .before .before .before .before .before .before)) (c .before .before .before .before .before .before .before .before .before .before .before .before .before .before .before .before .before .before .before .before .before .before .before .step .result) (c .before .before .before .before .before .before .before .before .before .before .before .before .before .before .before .before .before .before .before .before .before .before .before .step .ensures) (kept (c .before .before .before .before .before .before .before .before .before .before .before .before .before .before .before .before .before .before .before .before .before .before .before)) (c .before .before .before .before .if2 .left) _ (c .before .before .did3 .given .1) _ _ (c .refused2 .ensures)
+returns-4 c = turn-stop _ _ _ _ _ _ _ _ _ _ (c .before .before .before .before .before .before .before .before .before .before .before .before .before .before .before .before .before .before .before .before .before .before .before .before .before .before .before .before .before .before .before .before .before .before .before .before .before .before .before .loop .inv) _ (c .before .before .before .before .before .before .before .before .before .before .before .before .before .before .before .before .before .before .before .before .before .before .before .before .before .before .before .before .before .before .before .before .before .before .before .before .before .before .next-line .ensures) (c .before .before .before .before .before .before .before .before .before .before .before .before .before .before .before .before .before .before .before .before .before .before .before .before .before .before .before .before .before .before .before .before .before .before .before .before .if1 .left) _ (c .before .before .before .before .before .before .before .before .before .before .before .before .before .before .before .before .before .before .before .before .before .before .before .before .before .before .before .before .before .before .before .before .before .before .both-true .ensures) (after-line (c .before .before .before .before .before .before .before .before .before .before .before .before .before .before .before .before .before .before .before .before .before .before .before)) (c .before .before .before .before .before .before .before .before .before .before .before .before .before .before .before .before .before .before .before .before .before .before .before .step .result) (c .before .before .before .before .before .before .before .before .before .before .before .before .before .before .before .before .before .before .before .before .before .before .before .step .ensures) (kept (c .before .before .before .before .before .before .before .before .before .before .before .before .before .before .before .before .before .before .before .before .before .before .before)) (c .before .before .before .before .if2 .left) _ (c .before .before .did3 .given .1) _ _ (c .refused2 .ensures)
 
 pub read-volume-spec : {M : Type 1} → statement M
 read-volume-spec =
@@ -321,7 +321,7 @@ read-volume-spec =
     same-length-10
     returns
     completes-requires
-    add-t35
+    add-t36
     both-true-requires
     step-requires
     add-line

@@ -1,9 +1,9 @@
 use mathlib.Core.Path.{refl}
-use Rattle.sets.specs.LineDone.{elements, figures, chain, text, placed, other}
+use Rattle.sets.specs.LineDone.{figures, chain, text, placed, other}
 use Rattle.sets.proofs.StepParts.{twelve-left}
 use borrow.Author.Needs.{needs}
-use Rattle.sets.proofs.steps.element_line.Statement.{statement}
-use Rattle.sets.proofs.steps.element_line.Tie as tie
+use Rattle.sets.proofs.steps.figure_line.Statement.{statement}
+use Rattle.sets.proofs.steps.figure_line.Tie as tie
 
 in-figures-requires : tie.Need-in-figures-requires
 in-figures-requires c κs = (c .before .before .before .before .before .before .before .before .before .before .before .before .before .before .before .before .pre .0 .short, c .before .before .before .before .before .before .before .before .before .before .before .before .before .before .before .before .pre .0 .named, c .before .before .before .before .before .before .before .before .before .before .before .before .before .before .before .before .pre .0 .figures (c .before .before .before .before .if1 .taken))
@@ -24,7 +24,7 @@ returns : tie.Need-returns
 returns c = figures (c .before .before .before .before .before .before .before .before .before .before .before .before .if1 .taken) (c .before .before .before .before .before .before .before .in-figures .ensures) refl
 
 in-chain-requires : tie.Need-in-chain-requires
-in-chain-requires c κs = (c .before .before .before .before .before .before .before .before .before .before .before .before .before .before .before .before .pre .0 .short, c .before .before .before .before .before .before .before .before .before .before .before .before .before .before .before .before .pre .0 .named, c .before .before .before .before .before .before .before .before .before .before .before .before .before .before .before .before .pre .0 .chain (c .before .before .if2 .taken) .0, c .before .before .before .before .before .before .before .before .before .before .before .before .before .before .before .before .pre .0 .chain (c .before .before .if2 .taken) .1, c .before .before .before .before .before .before .before .before .before .before .before .before .before .before .before .before .pre .0 .chain (c .before .before .if2 .taken) .2, c .before .before .before .before .before .before .before .before .before .before .before .before .before .before .before .before .pre .0 .free)
+in-chain-requires c κs = (c .before .before .before .before .before .before .before .before .before .before .before .before .before .before .before .before .pre .0 .short, c .before .before .before .before .before .before .before .before .before .before .before .before .before .before .before .before .pre .0 .named, c .before .before .before .before .before .before .before .before .before .before .before .before .before .before .before .before .pre .0 .chain (c .before .before .if2 .taken) .0, c .before .before .before .before .before .before .before .before .before .before .before .before .before .before .before .before .pre .0 .chain (c .before .before .if2 .taken) .1, c .before .before .before .before .before .before .before .before .before .before .before .before .before .before .before .before .pre .0 .chain (c .before .before .if2 .taken) .2)
 
 same-length-5 : tie.Need-same-length-5
 same-length-5 c = search needs
@@ -71,26 +71,11 @@ same-length-14 c = search needs
 returns-4 : tie.Need-returns-4
 returns-4 c = placed (c .before .before .before .before .before .before .before .before .before .before .before .before .before .before .before .if4 .taken) (c .before .before .before .before .before .before .before .before .before .in-placed .ensures) refl
 
-in-elements-requires : tie.Need-in-elements-requires
-in-elements-requires c κs = (c .before .before .before .before .before .before .before .before .before .before .before .before .before .before .before .before .before .before .before .before .before .before .before .pre .0 .short, c .before .before .before .before .before .before .before .before .before .before .before .before .before .before .before .before .before .before .before .before .before .before .before .pre .0 .named, c .before .before .before .before .before .before .before .before .before .before .before .before .before .before .before .before .before .before .before .before .before .before .before .pre .0 .elements (c .before .before .before .if5 .taken), c .before .before .before .before .before .before .before .before .before .before .before .before .before .before .before .before .before .before .before .before .before .before .before .pre .0 .lengths .used, c .before .before .before .before .before .before .before .before .before .before .before .before .before .before .before .before .before .before .before .before .before .before .before .pre .0 .lengths .usedAll)
-
-same-length-15 : tie.Need-same-length-15
-same-length-15 c = search needs
-
-same-length-16 : tie.Need-same-length-16
-same-length-16 c = search needs
-
-same-length-17 : tie.Need-same-length-17
-same-length-17 c = search needs
-
 returns-5 : tie.Need-returns-5
-returns-5 c = elements (c .before .before .before .before .before .before .before .before .before .before .if5 .taken) (c .before .before .before .before .before .before .in-elements .ensures) refl
+returns-5 c = other (twelve-left _ (c .before .before .before .before .before .before .before .before .before .before .before .before .before .before .before .before .before .before .pre .1) (c .before .before .before .before .before .before .if1 .left) (c .before .before .before .before .if2 .left) (c .before .before .if3 .left) (c .if4 .left)) refl refl
 
-returns-6 : tie.Need-returns-6
-returns-6 c = other (twelve-left _ (c .before .before .before .before .before .before .before .before .before .before .before .before .before .before .before .before .before .before .before .before .pre .1) (c .if5 .left) (c .before .before .before .before .before .before .before .before .if1 .left) (c .before .before .before .before .before .before .if2 .left) (c .before .before .before .before .if3 .left) (c .before .before .if4 .left)) refl refl
-
-pub element-line-spec : {M : Type 1} → statement M
-element-line-spec =
+pub figure-line-spec : {M : Type 1} → statement M
+figure-line-spec =
     tie.close
     (tie.spec
     in-figures-requires
@@ -115,9 +100,4 @@ element-line-spec =
     same-length-13
     same-length-14
     returns-4
-    in-elements-requires
-    same-length-15
-    same-length-16
-    same-length-17
-    returns-5
-    returns-6)
+    returns-5)
