@@ -9,7 +9,7 @@ use lib.ListN.{length}
 use Rattle.rules.specs.Base.{choose, bytes, same, isNil}
 use Rattle.rules.specs.Lines.{unindent, allowed, Scan, neither, atEqual, atBrace, keyOnto, afterColon, scan, Rest, brace, equals, Form, ignored, wrong, close, eof, keyed, withKey, formFrom, formOfRest, formOf}
 use Rattle.rules.proofs.Chains.{by-cond, same-eq}
-use Rattle.sets.specs.Standing.{restSize, formSize}
+use Rattle.standing.specs.Standing.{restSize, formSize}
 
 abbrev ScanFits : ℕ → Scan → Type 0
 ScanFits n neither = Unit {0}

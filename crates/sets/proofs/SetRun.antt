@@ -27,17 +27,17 @@ use Rattle.lines.specs.LineLook.{linesIn}
 use Rattle.lines.specs.declared.Layout.{Layout}
 use Rattle.lines.proofs.VolumePlaces.{volumes-laid}
 use Rattle.lines.proofs.VolumesSeen.{VolumeIn, volume-in, volume-lines, AllLined, linesOver, lined-listed, sound-volumes, unsound-volume}
-use Rattle.sets.specs.declared.Now.{Now}
-use Rattle.sets.specs.declared.Volume.{Volume}
-use Rattle.sets.specs.declared.volumes.Through.{Through}
-use Rattle.sets.specs.declared.volumes.Through.the-variants as T
-use Rattle.sets.specs.Walk.{At}
-use Rattle.sets.specs.Standing.{Desk, deskNow, deskTable, Under}
-use Rattle.sets.specs.TableApart.{symbolOpen, Seen, whole, apart}
-use Rattle.sets.specs.FileStanding.{InFile}
-use Rattle.sets.specs.Reading.{Standing, startOf, nextNumber, nextState, VolumeReady, VolumeOut, VolumePromise}
+use Rattle.account.specs.declared.Now.{Now}
+use Rattle.account.specs.declared.Volume.{Volume}
+use Rattle.account.specs.declared.Through.{Through}
+use Rattle.account.specs.declared.Through.the-variants as T
+use Rattle.account.specs.Walk.{At}
+use Rattle.standing.specs.Standing.{Desk, deskNow, deskTable, Under}
+use Rattle.account.specs.TableApart.{symbolOpen, Seen, whole, apart}
+use Rattle.standing.specs.FileStanding.{InFile}
+use Rattle.standing.specs.Reading.{Standing, startOf, nextNumber, nextState, VolumeReady, VolumeOut, VolumePromise}
 use Rattle.sets.specs.SetReading.{envOf, nameBehind, LentFor}
-use Rattle.sets.proofs.LaidTables.{laid-table}
+use Rattle.standing.proofs.LaidTables.{laid-table}
 use Rattle.sets.proofs.VolumeRun.{stands-later, seen-long}
 use Rattle.sets.proofs.SetRunTaken.{few-taken}
 use Rattle.sets.proofs.SetRunVolumes.{Grown, volumes-grow, next-nil, over-few}

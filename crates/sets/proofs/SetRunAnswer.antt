@@ -14,10 +14,10 @@ use Rattle.rules.specs.RangeClass.{classOf}
 use Rattle.rules.specs.Machine.{refused, accepted}
 use Rattle.rules.specs.RecordTable.{recordsOf, tableOf, width}
 use Rattle.rules.specs.Answers.{outcomeOf, outcomeAt, digitsOr, recordsIn, answerWith, refusal, readOutcome, readRecords, readAnswer, readTable}
-use Rattle.sets.specs.declared.Class.the-variants as C
-use Rattle.sets.specs.Classes.{classIn}
+use Rattle.account.specs.declared.Class.the-variants as C
+use Rattle.account.specs.Classes.{classIn}
 use Rattle.sets.specs.SetReading.{envOf, SetOut}
-use Rattle.sets.proofs.LaidTables.{laid-table, laid-none}
+use Rattle.standing.proofs.LaidTables.{laid-table, laid-none}
 
 -- a table without records
 pub table-none : (n : ℕ) → tableOf n [] ≡ replicate n (pos 0)

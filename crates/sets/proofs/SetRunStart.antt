@@ -12,11 +12,11 @@ use Rattle.rules.specs.Blocks.{fileTable, rangeTable, elecTable, symTable}
 use Rattle.rules.specs.Sets.{Set, nothingYet}
 use Rattle.rules.specs.Machine.{top}
 use Rattle.rules.proofs.Chains.{clash}
-use Rattle.sets.specs.declared.Now.{Now}
-use Rattle.sets.specs.Laid.{Laid}
-use Rattle.sets.specs.Standing.{Desk, Lengths, tallyOf, Stands}
+use Rattle.account.specs.declared.Now.{Now}
+use Rattle.standing.specs.Laid.{Laid}
+use Rattle.standing.specs.Standing.{Desk, Lengths, tallyOf, Stands}
 use Rattle.sets.specs.SetReading.{nothingNow}
-use Rattle.sets.proofs.LaidTables.{laid-none}
+use Rattle.standing.proofs.LaidTables.{laid-none}
 
 no-tally : replicate 12 0 ≡ tallyOf nothingYet 0 0 0
 unfolding fileTable rangeTable elecTable symTable

@@ -20,7 +20,7 @@ use Rattle.rules.specs.VolumesAndTotals.{chained, dated, countedHere, countedAl
 use Rattle.rules.specs.Machine.{Line, Env, Home, inElement, inLayer, State, top, file, drawing, layerNames, defines, symbol, hide, elements, figures, successive, texts, placing, skipping, ended, byAct, roomFor, openTop, onTop, shutPart, onFile, onDrawing, layerValue, onLayerNames, newName, openSymbol, onSymbol, onDefines, onHide, onElements, isLayer, homeTable, closeFigures, openPlaced, openFigure, onFigures, onSuccessive, onTexts, bySkip, onUnknown, newSerial, onPlaced, onPlacedKey, onPlacing, skipShut, onSkipping, stepIn, completes, nextVolume, step, accepted, thenRun, run}
 use Rattle.rules.proofs.Chains.{by-cond, On, on-unless, on-cond, on-map, on-then, on-also, on-weaken}
 use Rattle.rules.proofs.Runs.{not-accepted, finish-ended}
-use Rattle.sets.specs.Standing.{setOf}
+use Rattle.standing.specs.Standing.{setOf}
 
 abbrev pub takenIn : State → ℕ
 takenIn st = setOf st .taken

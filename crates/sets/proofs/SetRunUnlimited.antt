@@ -30,7 +30,7 @@ use Rattle.lines.specs.VolumePlaces.{layoutOf}
 use Rattle.lines.specs.LineEnds.{firstUnsound}
 use Rattle.lines.proofs.VolumePlaces.{volumes-laid}
 use Rattle.lines.proofs.VolumesSeen.{AllLined, linesOver, sound-volumes}
-use Rattle.sets.specs.Standing.{setOf}
+use Rattle.standing.specs.Standing.{setOf}
 use Rattle.sets.specs.SetReading.{envOf, SetOut, Judged}
 use Rattle.sets.proofs.SetRunTaken.{takenIn, Few, few-step}
 use Rattle.sets.proofs.SetRunVolumes.{volumes-grow, over-few}

@@ -19,14 +19,14 @@ use Rattle.rules.specs.Sets.{Figure, Set, withVolume, knownOf, usedIn}
 use Rattle.rules.specs.VolumesAndTotals.{layersUsed, countedHere, countedAll}
 use Rattle.rules.specs.Machine.{Line, Env, State, top, file, drawing, layerNames, defines, symbol, hide, elements, figures, successive, texts, placing, skipping, ended, inLayer, byAct, onTop, onElements, stepIn, isIgnored, isClose, isEof, completes, nextVolume, step}
 use Rattle.rules.proofs.Chains.{clash, never, unless-got, and-left, and-right, or-left}
-use Rattle.sets.specs.declared.Now.{Now}
-use Rattle.sets.specs.declared.Step.{Step}
-use Rattle.sets.specs.declared.Step.the-variants as S
-use Rattle.sets.specs.Account.{atBlock}
-use Rattle.sets.specs.SoFar.{volumeOf}
+use Rattle.account.specs.declared.Now.{Now}
+use Rattle.account.specs.declared.Step.{Step}
+use Rattle.account.specs.declared.Step.the-variants as S
+use Rattle.account.specs.Account.{atBlock}
+use Rattle.standing.specs.SoFar.{volumeOf}
 use Rattle.sets.specs.VolumeLines.{nextNow, lastStep}
-use Rattle.sets.specs.Reading.{nextNumber, nextState}
-use Rattle.sets.specs.Standing.{Desk, Inside, Stands, deskNow, StandsAt, StepOut}
+use Rattle.standing.specs.Reading.{nextNumber, nextState}
+use Rattle.standing.specs.Standing.{Desk, Inside, Stands, deskNow, StandsAt, StepOut}
 
 -- ── a step that completes a volume ──
 -- in the last volume the set has ended, in others the next block would be a volume's first

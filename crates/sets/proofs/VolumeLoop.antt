@@ -20,24 +20,24 @@ use Rattle.lines.specs.declared.Seen.{Seen as SeenLine}
 use Rattle.lines.specs.declared.Look.{Look}
 use Rattle.lines.specs.declared.Look.the-variants as K
 use Rattle.lines.proofs.LinesSeen.{look-none}
-use Rattle.sets.specs.declared.Now.{Now}
-use Rattle.sets.specs.declared.Where.{Where}
-use Rattle.sets.specs.declared.Step.{Step}
-use Rattle.sets.specs.declared.Step.the-variants as S
-use Rattle.sets.specs.declared.Volume.{Volume}
-use Rattle.sets.specs.declared.Pos.{Pos}
-use Rattle.sets.specs.declared.Left.the-variants as L
-use Rattle.sets.specs.declared.volumes.Through.{Through}
-use Rattle.sets.specs.declared.volumes.Through.the-variants as T
-use Rattle.sets.specs.Walk.{seenOr, seenFrom, At, todo, Next}
-use Rattle.sets.specs.SkippedLines.{Low, SkipReady, SkipMet}
+use Rattle.account.specs.declared.Now.{Now}
+use Rattle.account.specs.declared.Where.{Where}
+use Rattle.account.specs.declared.Step.{Step}
+use Rattle.account.specs.declared.Step.the-variants as S
+use Rattle.account.specs.declared.Volume.{Volume}
+use Rattle.account.specs.declared.Pos.{Pos}
+use Rattle.account.specs.declared.Left.the-variants as L
+use Rattle.account.specs.declared.Through.{Through}
+use Rattle.account.specs.declared.Through.the-variants as T
+use Rattle.account.specs.Walk.{seenOr, seenFrom, At, todo, Next}
+use Rattle.account.specs.SkippedLines.{Low, SkipReady, SkipMet}
 use Rattle.sets.specs.VolumeLines.{completesOf, lastStep}
-use Rattle.sets.specs.Standing.{Desk, Stands, deskNow, deskTable, Under}
-use Rattle.sets.specs.TableApart.{Seen}
-use Rattle.sets.specs.FileStanding.{InFile}
-use Rattle.sets.specs.Reading.{Standing, LineReady, LinePromise, startOf, nextNumber, nextState, stopOf, throughOf, VolumeReady, VolumeOut, VolumePromise}
-use Rattle.sets.proofs.Walked.{next-seen}
-use Rattle.sets.proofs.SeenLines.{past, seenLine, low-past, seen-forward}
+use Rattle.standing.specs.Standing.{Desk, Stands, deskNow, deskTable, Under}
+use Rattle.account.specs.TableApart.{Seen}
+use Rattle.standing.specs.FileStanding.{InFile}
+use Rattle.standing.specs.Reading.{Standing, LineReady, LinePromise, startOf, nextNumber, nextState, stopOf, throughOf, VolumeReady, VolumeOut, VolumePromise}
+use Rattle.account.proofs.Walked.{next-seen}
+use Rattle.account.proofs.SeenLines.{past, seenLine, low-past, seen-forward}
 use Rattle.sets.proofs.VolumeEnds.{LastOut}
 use Rattle.sets.proofs.VolumeRun.{seen-long, table₁, last-seen, stands-later, stands-between, Gone, whereOf, line-here, line-formed, passed, todo-on, refused-at, gone-on, stopped, skipped-on, skip-stopped, last, to-more}
 

@@ -11,21 +11,21 @@ use Rattle.rules.specs.declared.Digits.{Digits}
 use Rattle.rules.specs.declared.Refusal.{Refusal}
 use Rattle.rules.specs.Base.{isNil}
 use Rattle.lines.specs.declared.Seen.{Seen}
-use Rattle.sets.specs.declared.Now.{Now}
-use Rattle.sets.specs.declared.Step.{Step}
-use Rattle.sets.specs.declared.Step.the-variants as S
-use Rattle.sets.specs.declared.Volume.{Volume}
-use Rattle.sets.specs.declared.Pos.{Pos}
-use Rattle.sets.specs.declared.Left.{Left}
-use Rattle.sets.specs.declared.Left.the-variants as L
-use Rattle.sets.specs.declared.volumes.Through.{Through}
-use Rattle.sets.specs.declared.volumes.Through.the-variants as T
-use Rattle.sets.specs.Walk.{seenFrom}
-use Rattle.sets.specs.SkippedLines.{Further, SkipReady, SkipMet}
+use Rattle.account.specs.declared.Now.{Now}
+use Rattle.account.specs.declared.Step.{Step}
+use Rattle.account.specs.declared.Step.the-variants as S
+use Rattle.account.specs.declared.Volume.{Volume}
+use Rattle.account.specs.declared.Pos.{Pos}
+use Rattle.account.specs.declared.Left.{Left}
+use Rattle.account.specs.declared.Left.the-variants as L
+use Rattle.account.specs.declared.Through.{Through}
+use Rattle.account.specs.declared.Through.the-variants as T
+use Rattle.account.specs.Walk.{seenFrom}
+use Rattle.account.specs.SkippedLines.{Further, SkipReady, SkipMet}
 use Rattle.sets.specs.VolumeLines.{completesOf, lastStep}
-use Rattle.sets.specs.Standing.{Desk, deskNow}
-use Rattle.sets.specs.Reading.{LineReady, LinePromise, startOf, stopOf, throughOf, VolumeReady, VolumePromise}
-use Rattle.sets.proofs.SeenLines.{past}
+use Rattle.standing.specs.Standing.{Desk, deskNow}
+use Rattle.standing.specs.Reading.{LineReady, LinePromise, startOf, stopOf, throughOf, VolumeReady, VolumePromise}
+use Rattle.account.proofs.SeenLines.{past}
 use Rattle.sets.proofs.VolumeRun.{whereOf}
 use Rattle.sets.proofs.VolumeLoop.{Through-to, begun, ends-empty, line-ready, on-go, skip-ready, on-skip, ends-skip, ends-stop, ends-last, SameLengths}
 

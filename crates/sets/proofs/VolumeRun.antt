@@ -18,27 +18,27 @@ use Rattle.rules.specs.Sets.{Figure, Set}
 use Rattle.rules.specs.Machine.{Line, Env, State, top, placing, skipping, stepIn, step, completes, Outcome, refused, thenRun, run}
 use Rattle.rules.specs.Answers.{linesOfVolume}
 use Rattle.lines.specs.declared.Seen.{Seen as SeenLine}
-use Rattle.sets.specs.declared.Now.{Now}
-use Rattle.sets.specs.declared.Where.{Where}
-use Rattle.sets.specs.declared.Step.{Step}
-use Rattle.sets.specs.declared.Step.the-variants as S
-use Rattle.sets.specs.declared.Volume.{Volume}
-use Rattle.sets.specs.declared.Pos.{Pos}
-use Rattle.sets.specs.declared.Left.the-variants as L
-use Rattle.sets.specs.Walk.{seenFrom, At, todo, Next}
-use Rattle.sets.specs.SkippedLines.{Low, SkipMet}
+use Rattle.account.specs.declared.Now.{Now}
+use Rattle.account.specs.declared.Where.{Where}
+use Rattle.account.specs.declared.Step.{Step}
+use Rattle.account.specs.declared.Step.the-variants as S
+use Rattle.account.specs.declared.Volume.{Volume}
+use Rattle.account.specs.declared.Pos.{Pos}
+use Rattle.account.specs.declared.Left.the-variants as L
+use Rattle.account.specs.Walk.{seenFrom, At, todo, Next}
+use Rattle.account.specs.SkippedLines.{Low, SkipMet}
 use Rattle.sets.specs.VolumeLines.{completesOf, nextNow, lastStep}
-use Rattle.sets.specs.Standing.{Desk, Lengths, formSize, Inside, Stands, deskNow, deskTable, Under, LineHere, StepOut}
-use Rattle.sets.specs.Account.{atBlock}
-use Rattle.sets.specs.TableApart.{Seen, whole, apart, SeenBy}
-use Rattle.sets.specs.FileStanding.{InFile}
-use Rattle.sets.specs.Reading.{Standing, PlacedForm, LinePromise, startOf, nextNumber, nextState, VolumeReady}
+use Rattle.standing.specs.Standing.{Desk, Lengths, formSize, Inside, Stands, deskNow, deskTable, Under, LineHere, StepOut}
+use Rattle.account.specs.Account.{atBlock}
+use Rattle.account.specs.TableApart.{Seen, whole, apart, SeenBy}
+use Rattle.standing.specs.FileStanding.{InFile}
+use Rattle.standing.specs.Reading.{Standing, PlacedForm, LinePromise, startOf, nextNumber, nextState, VolumeReady}
 use Rattle.rules.proofs.Chains.{clash}
-use Rattle.sets.proofs.RunSteps.{step-on, step-refused}
-use Rattle.sets.proofs.Walked.{next-seen}
-use Rattle.sets.proofs.SeenLines.{past, seenLine, Passed, passed-line}
+use Rattle.account.proofs.RunSteps.{step-on, step-refused}
+use Rattle.account.proofs.Walked.{next-seen}
+use Rattle.account.proofs.SeenLines.{past, seenLine, Passed, passed-line}
 use Rattle.sets.proofs.FormSizes.{form-fits}
-use Rattle.sets.proofs.FormPlaces.{line-placed}
+use Rattle.standing.proofs.FormPlaces.{line-placed}
 use Rattle.sets.proofs.VolumeStanding.{completes-of}
 use Rattle.sets.proofs.VolumeEnds.{LastOut, last-out}
 

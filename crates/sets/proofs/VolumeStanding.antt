@@ -15,12 +15,12 @@ use Rattle.rules.specs.Lines.{Form, formIn}
 use Rattle.rules.specs.Rows.{Held}
 use Rattle.rules.specs.Sets.{Figure, Set}
 use Rattle.rules.specs.Machine.{Line, Env, Home, State, top, file, drawing, layerNames, defines, symbol, hide, elements, figures, successive, texts, placing, skipping, ended, stepIn, isIgnored, isClose, isEof, completes, nextVolume, step, Outcome, refused, thenRun, run}
-use Rattle.sets.specs.declared.Now.{Now}
-use Rattle.sets.specs.declared.Step.{Step}
-use Rattle.sets.specs.declared.Step.the-variants as S
-use Rattle.sets.specs.Account.{atBlock}
+use Rattle.account.specs.declared.Now.{Now}
+use Rattle.account.specs.declared.Step.{Step}
+use Rattle.account.specs.declared.Step.the-variants as S
+use Rattle.account.specs.Account.{atBlock}
 use Rattle.sets.specs.VolumeLines.{eofForm, closeForm, ignoredForm, afterElement, completesOf, nextNow, lastStep}
-use Rattle.sets.specs.Standing.{Desk, Inside, Stands, deskNow, StandsAt, StepOut}
+use Rattle.standing.specs.Standing.{Desk, Inside, Stands, deskNow, StandsAt, StepOut}
 
 -- ── forms ──
 eof-in : (s : List ℕ) (f : LineForm) → isEof (formIn s f) ≡ eofForm f

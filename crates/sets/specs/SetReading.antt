@@ -15,7 +15,7 @@ use Rattle.rules.specs.Machine.{Env, refused, accepted}
 use Rattle.rules.specs.RecordTable.{recordsOf, tableOf, width}
 use Rattle.rules.specs.Answers.{outcomeOf, rewriteOutcome}
 use Rattle.lines.specs.VolumeNames.{nameAt}
-use Rattle.sets.specs.declared.Now.{Now}
+use Rattle.account.specs.declared.Now.{Now}
 
 -- before the first line: at the top level, the table's first record is free
 abbrev pub nothingNow : Now
@@ -40,6 +40,9 @@ SetOut c spool limit t₀ t₁ (A.Accepted n) =
 SetOut c spool limit t₀ t₁ (A.Refused f) = outcomeOf (envOf c limit) spool ≡ refused (f .number) (f .volume) (f .line)
 
 -- what the rewriter asks of a spool before it writes
+abbrev pub IsAccepted : List ℕ → Type 0
+IsAccepted spool = (s : Set) × (rewriteOutcome spool ≡ accepted s)
+
 abbrev pub Judged : List ℕ → Answer → Type 0
-Judged spool (A.Accepted n) = (s : Set) × (rewriteOutcome spool ≡ accepted s)
+Judged spool (A.Accepted n) = IsAccepted spool
 Judged spool (A.Refused f) = rewriteOutcome spool ≡ refused (f .number) (f .volume) (f .line)

@@ -4,10 +4,10 @@ use mathlib.Core.Bool.{Bool, true, false, cond, _&&_}
 use lib.Dec.{eqb}
 use Rattle.rules.specs.declared.LineForm.{LineForm}
 use Rattle.rules.specs.declared.LineForm.the-variants as L
-use Rattle.sets.specs.declared.Now.{Now}
-use Rattle.sets.specs.declared.Step.{Step}
-use Rattle.sets.specs.declared.Step.the-variants as S
-use Rattle.sets.specs.Account.{atBlock}
+use Rattle.account.specs.declared.Now.{Now}
+use Rattle.account.specs.declared.Step.{Step}
+use Rattle.account.specs.declared.Step.the-variants as S
+use Rattle.account.specs.Account.{atBlock}
 
 abbrev pub eofForm : LineForm → Bool
 eofForm L.Ignored = false

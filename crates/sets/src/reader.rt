@@ -1,12 +1,12 @@
 // The reader.
-use crate::Class;
-use crate::Now;
-use crate::TOP;
-use crate::Volume;
-use crate::classes::class_of;
-use crate::table::clear;
-use crate::volumes::Through;
 use crate::volumes::read_volume;
+use account::Class;
+use account::Now;
+use account::TOP;
+use account::Through;
+use account::Volume;
+use drawing::classes::class_of;
+use drawing::table::clear;
 use lines::ends::first_unsound;
 use lines::spool::volume_name;
 use lines::spool::volumes;

@@ -1,30 +1,25 @@
 // The lines of a volume, one after the other.
-use crate::ELEMENTS;
-use crate::Left;
-use crate::Now;
-use crate::Pos;
-use crate::Step;
-use crate::TOP;
-use crate::Volume;
-use crate::Where;
-use crate::blocks::at_block;
-use crate::skip::skip_block;
 use crate::steps::step;
-use crate::walk::next_line;
+use account::ELEMENTS;
+use account::Left;
+use account::Now;
+use account::Pos;
+use account::Step;
+use account::TOP;
+use account::Through;
+use account::Volume;
+use account::Where;
+use drawing::blocks::at_block;
+use drawing::skip::skip_block;
+use drawing::walk::next_line;
 use rules::Digits;
 use rules::LineForm;
 use rules::Refusal;
 ghost use mathlib.Core.Path.{_≡_};
 ghost use mathlib.Core.Bool.{_&&_};
 ghost use Rattle.sets.specs.VolumeLines.{eofForm, closeForm, ignoredForm, afterElement, completesOf, nextNow, lastStep};
-ghost use Rattle.sets.specs.Standing.{desk};
-ghost use Rattle.sets.specs.Reading.{throughOf, stopOf, VolumeReady, VolumePromise};
-
-// A volume read to its end, or the refusal.
-pub(crate) enum Through {
-    Go(Now),
-    Stop(Refusal),
-}
+ghost use Rattle.standing.specs.Standing.{desk};
+ghost use Rattle.standing.specs.Reading.{throughOf, stopOf, VolumeReady, VolumePromise};
 
 fn is_eof(form: LineForm) -> bool
     ensures { λ r. ⌜ r ≡ eofForm form ⌝ }

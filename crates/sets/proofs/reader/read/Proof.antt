@@ -7,9 +7,9 @@ use Rattle.sets.proofs.reader.read.Statement.{statement}
 use Rattle.sets.proofs.reader.read.Tie as tie
 use Rattle.sets.proofs.reader.read.Reads as reads
 use Rattle.sets.proofs.reader.read.Lts as lts
-use Rattle.sets.proofs.classes.class_of.Reads as class-of-reads
+use Rattle.drawing.proofs.classes.class_of.Reads as class-of-reads
 use Rattle.sets.proofs.reader.read_set.Reads as read-set-reads
-use Rattle.sets.proofs.table.clear.Reads as clear-reads
+use Rattle.drawing.proofs.table.clear.Reads as clear-reads
 
 -- src/reader.rt:324:5
 clear-requires : tie.Need-clear-requires

@@ -4,7 +4,7 @@ use native.Mathlib.Omega.{arith}
 use lib.ListN.{length}
 use borrow.Author.Needs.{needs}
 use Rattle.lines.specs.VolumePlaces.{layout}
-use Rattle.sets.specs.Standing.{desk}
+use Rattle.standing.specs.Standing.{desk}
 use Rattle.sets.proofs.SetRunVolumes.{unsound-few}
 use Rattle.sets.proofs.SetRunStart.{none-used}
 use Rattle.sets.proofs.SetRun.{Came, came-none, came-unsound, came-first, count-few, tally-long, end-few, volume-ready, stops, goes, accepts, counts-records, lays-records, few-records}

@@ -1,6 +1,6 @@
 use mathlib.Core.Path.{refl}
-use Rattle.sets.specs.LineDone.{figures, chain, text, placed, other}
-use Rattle.sets.proofs.StepParts.{twelve-left}
+use Rattle.standing.specs.LineDone.{figures, chain, text, placed, other}
+use Rattle.standing.proofs.StepParts.{twelve-left}
 use borrow.Author.Needs.{needs}
 use Rattle.sets.proofs.steps.figure_line.Statement.{statement}
 use Rattle.sets.proofs.steps.figure_line.Tie as tie

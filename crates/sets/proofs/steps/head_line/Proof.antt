@@ -1,7 +1,7 @@
 use mathlib.Core.Path.{refl}
 use native.Mathlib.Omega.{arith}
-use Rattle.sets.specs.LineDone.{top, file}
-use Rattle.sets.proofs.StepParts.{one-left}
+use Rattle.standing.specs.LineDone.{top, file}
+use Rattle.standing.proofs.StepParts.{one-left}
 use borrow.Author.Needs.{needs}
 use Rattle.sets.proofs.steps.head_line.Statement.{statement}
 use Rattle.sets.proofs.steps.head_line.Tie as tie

@@ -1,5 +1,5 @@
 use native.Mathlib.Omega.{arith}
-use Rattle.sets.proofs.StepParts.{tally-9, names-fit, names-count, tally-0, names-most, own-end-fits, own-fits, own-long, own-wide, lends}
+use Rattle.standing.proofs.StepParts.{tally-9, names-fit, names-count, tally-0, names-most, own-end-fits, own-fits, own-long, own-wide, lends}
 use borrow.Author.Needs.{needs}
 use Rattle.sets.proofs.steps.in_drawing.Statement.{statement}
 use Rattle.sets.proofs.steps.in_drawing.Tie as tie

@@ -1,5 +1,5 @@
 use native.Mathlib.Omega.{arith}
-use Rattle.sets.proofs.StepParts.{tally-9, names-fit, tally-10, ids-fit, names-count, ids-count, tally-1, names-most, ids-most, count-asks, figures-back}
+use Rattle.standing.proofs.StepParts.{tally-9, names-fit, tally-10, ids-fit, names-count, ids-count, tally-1, names-most, ids-most, count-asks, figures-back}
 use borrow.Author.Needs.{needs}
 use Rattle.sets.proofs.steps.in_figures.Statement.{statement}
 use Rattle.sets.proofs.steps.in_figures.Tie as tie

@@ -1,4 +1,4 @@
-use Rattle.sets.proofs.StepParts.{tally-9, names-fit, tally-10, ids-fit, names-count, ids-count, names-most, ids-most}
+use Rattle.standing.proofs.StepParts.{tally-9, names-fit, tally-10, ids-fit, names-count, ids-count, names-most, ids-most}
 use borrow.Author.Needs.{needs}
 use Rattle.sets.proofs.steps.in_file.Statement.{statement}
 use Rattle.sets.proofs.steps.in_file.Tie as tie

@@ -1,4 +1,4 @@
-use Rattle.sets.proofs.StepParts.{tally-9, names-fit, tally-10, ids-fit, names-count, ids-count, tally-1, names-most, ids-most, last-wide, last-ready, last-fits, lends}
+use Rattle.standing.proofs.StepParts.{tally-9, names-fit, tally-10, ids-fit, names-count, ids-count, tally-1, names-most, ids-most, last-wide, last-ready, last-fits, lends}
 use borrow.Author.Needs.{needs}
 use Rattle.sets.proofs.steps.in_placed.Statement.{statement}
 use Rattle.sets.proofs.steps.in_placed.Tie as tie

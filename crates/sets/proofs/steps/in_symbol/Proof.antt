@@ -1,4 +1,4 @@
-use Rattle.sets.proofs.StepParts.{tally-9, names-fit, tally-10, ids-fit, names-count, ids-count, tally-2, names-most, ids-most, own-end-fits, own-fits, own-long, symbol-end, kept-asks, symbol-keeps}
+use Rattle.standing.proofs.StepParts.{tally-9, names-fit, tally-10, ids-fit, names-count, ids-count, tally-2, names-most, ids-most, own-end-fits, own-fits, own-long, symbol-end, kept-asks, symbol-keeps}
 use borrow.Author.Needs.{needs}
 use Rattle.sets.proofs.steps.in_symbol.Statement.{statement}
 use Rattle.sets.proofs.steps.in_symbol.Tie as tie

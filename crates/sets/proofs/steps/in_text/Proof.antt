@@ -1,4 +1,4 @@
-use Rattle.sets.proofs.StepParts.{tally-9, names-fit, tally-10, ids-fit, names-count, ids-count, names-most, ids-most, last-wide, last-long, last-fits, lends}
+use Rattle.standing.proofs.StepParts.{tally-9, names-fit, tally-10, ids-fit, names-count, ids-count, names-most, ids-most, last-wide, last-long, last-fits, lends}
 use borrow.Author.Needs.{needs}
 use Rattle.sets.proofs.steps.in_text.Statement.{statement}
 use Rattle.sets.proofs.steps.in_text.Tie as tie

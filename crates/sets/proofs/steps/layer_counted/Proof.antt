@@ -3,11 +3,11 @@ use mathlib.Core.List.{List}
 use mathlib.Core.Path.{_≡_, sym, _∙_, ap}
 use borrow.Author.Tests.{eq-eqb, ne-eqb}
 use borrow.Author.Needs.{needs}
-use Rattle.sets.specs.declared.Now.{Now}
-use Rattle.sets.specs.declared.Step.{Step}
-use Rattle.sets.specs.declared.Step.the-variants as S
-use Rattle.sets.specs.ElementLines.{tallied}
-use Rattle.sets.specs.Reading.{tallyAfter}
+use Rattle.account.specs.declared.Now.{Now}
+use Rattle.account.specs.declared.Step.{Step}
+use Rattle.account.specs.declared.Step.the-variants as S
+use Rattle.account.specs.ElementLines.{tallied}
+use Rattle.standing.specs.Reading.{tallyAfter}
 use Rattle.sets.proofs.steps.layer_counted.Statement.{statement}
 use Rattle.sets.proofs.steps.layer_counted.Tie as tie
 

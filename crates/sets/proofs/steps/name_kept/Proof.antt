@@ -5,11 +5,11 @@ use lib.IntN.{ℤ}
 use lib.ListN.{getD, set}
 use borrow.Author.Tests.{eq-eqb, ne-eqb}
 use borrow.Author.Needs.{needs}
-use Rattle.sets.specs.declared.Now.{Now}
-use Rattle.sets.specs.declared.Step.{Step}
-use Rattle.sets.specs.declared.Step.the-variants as S
-use Rattle.sets.specs.SymbolLines.{nameOf, nameNumber}
-use Rattle.sets.specs.Reading.{tallyNamed, symbolsNamed}
+use Rattle.account.specs.declared.Now.{Now}
+use Rattle.account.specs.declared.Step.{Step}
+use Rattle.account.specs.declared.Step.the-variants as S
+use Rattle.account.specs.SymbolLines.{nameOf, nameNumber}
+use Rattle.standing.specs.Reading.{tallyNamed, symbolsNamed}
 use Rattle.sets.proofs.steps.name_kept.Statement.{statement}
 use Rattle.sets.proofs.steps.name_kept.Tie as tie
 

@@ -1,6 +1,6 @@
 use mathlib.Core.Path.{refl}
-use Rattle.sets.specs.LineDone.{drawing, layer-names, defines, symbol, hide}
-use Rattle.sets.proofs.StepParts.{six-left}
+use Rattle.standing.specs.LineDone.{drawing, layer-names, defines, symbol, hide}
+use Rattle.standing.proofs.StepParts.{six-left}
 use borrow.Author.Needs.{needs}
 use Rattle.sets.proofs.steps.sheet_line.Statement.{statement}
 use Rattle.sets.proofs.steps.sheet_line.Tie as tie

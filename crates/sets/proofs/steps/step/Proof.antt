@@ -2,9 +2,9 @@ use lib.Dec.{eqb}
 use lib.ListN.{length}
 use mathlib.Core.Path.{refl, _∙_}
 use native.Mathlib.Omega.{arith}
-use Rattle.sets.specs.LineDone.{elements}
-use Rattle.sets.proofs.StepParts.{at-most}
-use Rattle.sets.proofs.ScratchDone.{step-free, step-chain, block-same, shown-fits, shown-grows, shown-promise}
+use Rattle.standing.specs.LineDone.{elements}
+use Rattle.standing.proofs.StepParts.{at-most}
+use Rattle.standing.proofs.ScratchDone.{step-free, step-chain, block-same, shown-fits, shown-grows, shown-promise}
 use borrow.Author.Needs.{needs}
 use Rattle.sets.proofs.steps.step.Statement.{statement}
 use Rattle.sets.proofs.steps.step.Tie as tie

@@ -3,8 +3,8 @@ use mathlib.Core.Bool.{Bool, false}
 use mathlib.Core.Path.{_≡_, sym, _∙_, ap}
 use native.Mathlib.Omega.{arith}
 use borrow.Author.Needs.{needs}
-use Rattle.sets.specs.declared.Step.{Step}
-use Rattle.sets.specs.declared.Step.the-variants as S
+use Rattle.account.specs.declared.Step.{Step}
+use Rattle.account.specs.declared.Step.the-variants as S
 use Rattle.sets.specs.VolumeLines.{lastStep}
 use Rattle.sets.proofs.volumes.at_last.Statement.{statement}
 use Rattle.sets.proofs.volumes.at_last.Tie as tie

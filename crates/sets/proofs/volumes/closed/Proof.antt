@@ -1,5 +1,5 @@
 use mathlib.Core.Path.{sym, _∙_, ap}
-use Rattle.sets.specs.Reading.{throughOf}
+use Rattle.standing.specs.Reading.{throughOf}
 use borrow.Author.Needs.{needs}
 use Rattle.sets.proofs.volumes.closed.Statement.{statement}
 use Rattle.sets.proofs.volumes.closed.Tie as tie

@@ -3,8 +3,8 @@ use mathlib.Core.Path.{_≡_, _∙_}
 use native.Mathlib.Omega.{arith}
 use Prim.Native.Nat.{_+_, _-_}
 use Rattle.rules.specs.Base.{isNil}
-use Rattle.sets.specs.Standing.{Desk, desk}
-use Rattle.sets.proofs.SeenLines.{seen-forward}
+use Rattle.standing.specs.Standing.{Desk, desk}
+use Rattle.account.proofs.SeenLines.{seen-forward}
 use Rattle.sets.proofs.VolumeLoop.{Through-to, SameLengths}
 use Rattle.sets.proofs.VolumeLoopTurns.{none-following, same-lengths, skipped-further, begins, turn-empty, turn-ready, turn-go, turn-block, turn-skip, turn-left, turn-stop, turn-last}
 use Rattle.sets.proofs.volumes.read_volume.Statement.{statement}
@@ -17,8 +17,8 @@ use Rattle.sets.proofs.volumes.closed.Reads as closed-reads
 use Rattle.sets.proofs.volumes.completes.Reads as completes-reads
 use Rattle.sets.proofs.volumes.refused.Reads as refused-reads
 use Rattle.sets.proofs.steps.step.Reads as step-reads
-use Rattle.sets.proofs.skip.skip_block.Reads as skip-block-reads
-use Rattle.sets.proofs.walk.next_line.Reads as next-line-reads
+use Rattle.drawing.proofs.skip.skip_block.Reads as skip-block-reads
+use Rattle.drawing.proofs.walk.next_line.Reads as next-line-reads
 
 abbrev Inv-loop : tie.InvT-loop
 Inv-loop s following class v start tally₀ symbols₀ layers₀ serials₀ used₀ used-all₀ marks₀ inner₀ header₀ limit t₀ here₀ at₀ line₀ last-volume tally symbols layers serials used used-all marks inner header t here at line =

@@ -1,0 +1,59 @@
+-- From line to line: what `next_line` answers of the lines left.
+use Prim.Native.Nat.{ℕ, suc, _+_, _≤_}
+use mathlib.Core.Bool.{true, false}
+use mathlib.Core.Path.{_≡_, refl, sym, _∙_, ap, subst}
+use mathlib.Core.List.{List, [], _∷_, _++_}
+use mathlib.Core.Option.{some}
+use native.Mathlib.Omega.{arith}
+use native.Mathlib.Numerals.{add-one}
+use lib.ListN.{length}
+use Rattle.rules.specs.Base.{isNil}
+use Rattle.rules.specs.Machine.{Line}
+use Rattle.rules.specs.Answers.{numbered}
+use Rattle.rules.proofs.Chains.{clash}
+use Rattle.lines.specs.LineLook.{lookIn, linesIn}
+use Rattle.lines.specs.declared.Seen.{Seen}
+use Rattle.lines.specs.declared.Look.{Look}
+use Rattle.lines.specs.declared.Look.the-variants as K
+use Rattle.lines.proofs.LinesSeen.{Found, Follows, look-line, look-end}
+use Rattle.account.specs.declared.Volume.{Volume}
+use Rattle.account.specs.declared.Pos.{Pos}
+use Rattle.account.specs.Walk.{seenOr, seenFrom, At, behind, todo, lineAt, Next}
+
+pub next-seen : (s : List ℕ) (v : Volume) (p : Pos) (ls : List (List ℕ)) → At s v p ls → isNil ls ≡ false → Next s v p ls (seenFrom s v p)
+next-seen s v p ls a n = go (lookIn (v .number) (p .line + 1) (p .at) (v .end) s) refl
+  where
+    go : (r : Look) → lookIn (v .number) (p .line + 1) (p .at) (v .end) s ≡ r → Next s v p ls (seenOr (p .at) r)
+    go K.End e = clash (ap isNil (look-end (v .number) (p .line + 1) (p .at) (v .end) s ls (a .short) (a .here) (a .inside) (a .lines) e)) n
+    go (K.Line f) e =
+        let g = look-line (v .number) (p .line + 1) (p .at) (v .end) s ls (a .short) (a .here) (a .inside) (a .lines) f e in
+        let w = g .follows in
+        let x = w .next in
+        let y = w .inside in
+        let z = a .low in
+        record {
+          line = g .line;
+          others = g .others;
+          lines = g .lines;
+          form = w .form;
+          next = x;
+          last = w .last;
+          at = record {
+            short = a .short;
+            inside = a .inside;
+            here = omega arith;
+            lines = subst (λ (q : ℕ). linesIn s q (v .end) ≡ some (g .others)) x (w .after);
+            low = omega arith;
+          };
+        }
+
+pub todo-cons : (v : Volume) (next : List ℕ) (p : Pos) (l : List ℕ) (ls : List (List ℕ)) (more : List Line)
+    → todo v next p (l ∷ ls) more ≡ lineAt v next p l ls ∷ todo v next (behind p l) ls more
+todo-cons v next p l ls more = ap (λ (n : ℕ). lineAt v next p l ls ∷ (numbered (v .number) next n (p .at + length l + 2) ls ++ more)) (omega arith)
+
+module _ (s : List ℕ) (v : Volume) (p : Pos) where
+  pub seen-end : lookIn (v .number) (p .line + 1) (p .at) (v .end) s ≡ K.End → seenOr (p .at) K.End ≡ seenFrom s v p
+  seen-end e = ap (seenOr (p .at)) (sym e)
+
+  pub seen-line : (f : Seen) → lookIn (v .number) (p .line + 1) (p .at) (v .end) s ≡ K.Line f → f ≡ seenFrom s v p
+  seen-line f e = ap (seenOr (p .at)) (sym e)

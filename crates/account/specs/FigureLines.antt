@@ -1,0 +1,89 @@
+-- A line among the figures of a layer or of a symbol's `element`: what it answers, and what it leaves in the table and the marks.
+use Prim.Native.Nat.{ℕ, _+_}
+use mathlib.Core.Bool.{Bool, true, false, cond}
+use mathlib.Core.Path.{_≡_}
+use mathlib.Core.List.{List}
+use lib.Dec.{eqb}
+use lib.IntN.{ℤ}
+use lib.ListN.{length, replicate}
+use Rattle.rules.specs.Rows.{Rule, Act, stay, entry, begin, shut, refuse}
+use Rattle.rules.specs.RecordTable.{ruleAt}
+use Rattle.tables.specs.Tables.{tableOf}
+use Rattle.entries.specs.Acts.{putLine}
+use Rattle.account.specs.declared.Now.{Now}
+use Rattle.account.specs.declared.Where.{Where}
+use Rattle.account.specs.declared.Step.{Step}
+use Rattle.account.specs.declared.Step.the-variants as S
+use Rattle.account.specs.Records.{partAt, withPart}
+use Rattle.account.specs.Account.{atBlock, headAt}
+
+-- ── the table ──
+-- the figures that may stand here: "E_symbol: placed symbol, in layers only", "At range 001 it is `E_symbol=`"
+abbrev pub homeTable : Bool → ℕ → ℕ
+homeTable layered range = cond layered (cond (eqb range 1) 12 11) 13
+
+abbrev pub homeRows : Bool → ℕ
+homeRows layered = cond layered 7 6
+
+abbrev pub homeRule : Bool → ℕ → ℕ → Rule
+homeRule layered range j = ruleAt (tableOf (homeTable layered range)) j
+
+-- ── the record ──
+-- "10 line, 11 circle, 12 ellipse, 13 point", "16 placed symbol": 10 and the row; "plus 20 inside a symbol"
+abbrev pub lineKind : Bool → ℕ → ℕ
+lineKind layered row = cond layered (10 + row) (30 + row)
+
+-- "14 successive", "15 text", "16 placed symbol": the figure's block is 1, 2 or 3; "plus 20 inside a symbol"
+abbrev pub blockKind : Bool → ℕ → ℕ
+blockKind layered block = cond layered (13 + block) (33 + block)
+
+-- the next record, with the line's values and its head
+abbrev pub figureAt : Now → Where → ℕ → Rule → Rattle.rules.specs.Values.Value → List ℤ → List ℤ
+figureAt n at kind r v t = headAt (n .free) kind (n .owner) at (withPart (n .free) (putLine r 0 v (partAt (n .free) t)) t)
+
+-- ── what is open ──
+abbrev pub moreFigures : Now → Now
+moreFigures n = record { block = n .block; part = n .part; layered = n .layered; owner = n .owner; own = n .own; free = n .free + 32; figures = n .figures + 1; points = n .points }
+
+-- a figure that is a block: 9 `successive`, 10 text, 11 a placed symbol
+abbrev pub figureOpened : Now → ℕ → Now
+figureOpened n i = record { block = 8 + i; part = 0; layered = n .layered; owner = n .owner; own = n .own; free = n .free + 32; figures = n .figures; points = 0 }
+
+-- "`element` (one or more figures)"; a layer may have none
+abbrev pub figuresClosed : Now → Step
+figuresClosed n = cond (n .layered) (S.Go (atBlock n 7 0)) (cond (eqb (n .figures) 0) (S.Stop 8) (S.Go (atBlock n 5 0)))
+
+-- ── the line ──
+abbrev pub figureStep : Now → Act → Step
+figureStep n stay = S.Go n
+figureStep n (entry j v) = S.Go (moreFigures n)
+figureStep n (begin i j v) = S.Go (figureOpened n i)
+figureStep n shut = figuresClosed n
+figureStep n (refuse k) = S.Stop k
+
+-- the lent table after the line; after a refusal nothing is said of it
+abbrev pub FigureTable : Now → ℕ → Where → List ℤ → List ℤ → Act → Type 0
+FigureTable n range at t₀ t₁ stay = t₁ ≡ t₀
+FigureTable n range at t₀ t₁ (entry j v) = t₁ ≡ figureAt n at (lineKind (n .layered) j) (homeRule (n .layered) range j) v t₀
+FigureTable n range at t₀ t₁ (begin i j v) = t₁ ≡ figureAt n at (blockKind (n .layered) i) (homeRule (n .layered) range j) v t₀
+FigureTable n range at t₀ t₁ shut = t₁ ≡ t₀
+FigureTable n range at t₀ t₁ (refuse k) = Unit {0}
+
+-- the marks of the rows of a block: none stands when it opens
+abbrev pub unmarkedIf : Bool → List Bool → List Bool
+unmarkedIf opens m = cond opens (replicate (length m) false) m
+
+-- the marks of the blocks with this number, which no other line touches
+abbrev pub MarksFor : ℕ → List Bool → List Bool → Act → Type 0
+MarksFor block m₀ m₁ stay = m₁ ≡ m₀
+MarksFor block m₀ m₁ (entry j v) = m₁ ≡ m₀
+MarksFor block m₀ m₁ (begin i j v) = m₁ ≡ unmarkedIf (eqb i block) m₀
+MarksFor block m₀ m₁ shut = m₁ ≡ m₀
+MarksFor block m₀ m₁ (refuse k) = m₁ ≡ m₀
+
+-- what `on_figures` promises: a placed symbol has the first marks, a text the inner ones
+pub record FigureLine (a : Act) (n : Now) (range : ℕ) (at : Where) (t₀ t₁ : List ℤ) (m₀ m₁ inner₀ inner₁ : List Bool) (r : Step) : Type 0 where
+  pub answer : r ≡ figureStep n a
+  pub table : FigureTable n range at t₀ t₁ a
+  pub marks : MarksFor 3 m₀ m₁ a
+  pub inner : MarksFor 2 inner₀ inner₁ a

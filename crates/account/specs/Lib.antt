@@ -1,0 +1,16 @@
+pub mod Placing
+pub mod Walk
+pub mod SkippedLines
+pub mod Classes
+pub mod Records
+pub mod Account
+pub mod Points
+pub mod TextLines
+pub mod FileLines
+pub mod TopLines
+pub mod DrawingLines
+pub mod ElementLines
+pub mod FigureLines
+pub mod SymbolLines
+pub mod PlacedLines
+pub mod TableApart

@@ -1,0 +1,134 @@
+// What the reading of a set remembers between two lines, and, in specs/, what one line of each block does to it, as the code says it.
+use rules::Digits;
+use rules::Refusal;
+use rules::Span;
+
+// A volume: its number, from 1, and the place just behind its bytes.
+pub struct Volume {
+    pub number: u8,
+    pub end: u32,
+}
+
+// Where the reading stands in a volume: the place of the next line, and how many lines stand before it.
+pub struct Pos {
+    pub at: u32,
+    pub line: u32,
+}
+
+// A line: its volume and its number, and whether the set ends with it.
+pub struct Where {
+    pub volume: u8,
+    pub line: u32,
+    pub ends: bool,
+}
+
+// Which block is open.
+pub const TOP: u8 = 0;
+
+pub const FILE: u8 = 1;
+
+pub const DRAWING: u8 = 2;
+
+pub const LAYER_NAMES: u8 = 3;
+
+pub const DEFINES: u8 = 4;
+
+pub const SYMBOL: u8 = 5;
+
+pub const HIDE: u8 = 6;
+
+pub const ELEMENTS: u8 = 7;
+
+pub const FIGURES: u8 = 8;
+
+pub const CHAIN: u8 = 9;
+
+pub const TEXT: u8 = 10;
+
+pub const PLACED: u8 = 11;
+
+pub const ENDED: u8 = 12;
+
+// Which block is open, and how far it is. What its lines held is in the records.
+pub struct Now {
+    // the block
+    pub block: u8,
+    // at the top level: the block that comes next, 4 after ELEMENT; in FILE_FORMAT and a placed symbol: the inner part that is open; in
+    // SYMBOL_DEFINE: 1 after `NON=`
+    pub part: u8,
+    // the figures are a layer's, not a symbol's
+    pub layered: bool,
+    // the number of that layer or symbol
+    pub owner: u32,
+    // the place of the drawing's or the symbol's own record
+    pub own: usize,
+    // the place of the next record
+    pub free: usize,
+    // how many figures the layer or symbol has so far, and how many points the chain or `hide`
+    pub figures: u32,
+    pub points: u32,
+}
+
+// The tally of a set, twelve numbers: the ranges arc, E_sym and S_elec;
+pub const ARC: usize = 0;
+
+pub const SYMBOL_RANGE: usize = 1;
+
+pub const DEFINE_RANGE: usize = 2;
+// the first volume's date, time and all_ele, and this_ele of the volume at hand;
+pub const DATE: usize = 3;
+
+pub const TIME: usize = 4;
+
+pub const ALL: usize = 5;
+
+pub const HERE: usize = 6;
+// the figures in this volume's closed layers, and in the closed volumes;
+pub const ELEMENTS_HERE: usize = 7;
+
+pub const TOTAL: usize = 8;
+// how many symbols and layers have names, and how many serial numbers there are.
+pub const SYMBOLS: usize = 9;
+
+pub const LAYERS: usize = 10;
+
+pub const SERIALS: usize = 11;
+
+// What a line made of it, or its refusal; a line that opens a block to be skipped has that read first.
+pub enum Step {
+    Go(Now),
+    Skip(Now),
+    Stop(u8),
+}
+
+// A block read to its end, or the refusal.
+pub enum Left {
+    Go(Pos),
+    Stop(Refusal),
+}
+
+// A range class, where the number is one of the ten.
+pub enum Class {
+    Is(Digits),
+    Not,
+}
+
+// What a skipped line does: nothing, it opens a block, it closes one; or its refusal.
+pub enum Skipped {
+    Passes,
+    Deeper,
+    Shut,
+    Refuse(u8),
+}
+
+// A layer's name, where it is one; the number of the refusal otherwise.
+pub enum LayerName {
+    Is(Span),
+    Bad(u8),
+}
+
+// A volume read to its end, or the refusal.
+pub enum Through {
+    Go(Now),
+    Stop(Refusal),
+}

@@ -1,0 +1,247 @@
+-- From the answer about a line back to its act; a line that opens a block; and a line among the figures.
+use Prim.Native.Nat.{ℕ, _+_, _<_, _≤_}
+use mathlib.Core.Bool.{Bool, true, false, cond}
+use mathlib.Core.List.{List, [], _∷_}
+use mathlib.Core.Path.{_≡_, refl, sym, _∙_, ap, subst}
+use native.Mathlib.Omega.{arith}
+use lib.Dec.{eqb, leb}
+use lib.IntN.{ℤ}
+use lib.ListN.{length, getD, take, replicate}
+use borrow.Author.Tests.{leb-true}
+use Rattle.rules.specs.declared.Digits.{Digits}
+use Rattle.rules.specs.Base.{all}
+use Rattle.rules.specs.RangeClass.{digitsOf}
+use Rattle.rules.specs.RefusalNumbers.{got, bad, unless, mapG}
+use Rattle.rules.specs.Lines.{Rest, Form, ignored, wrong, close, eof, keyed, Shape, opener, noContent, content, opening, formless, hasForm, shapeOf}
+use Rattle.rules.specs.Values.{Known, Value, empty, nums, readKind}
+use Rattle.rules.specs.Rows.{Rule, Found, absent, found, find, fits, shapeFor, Act, stay, entry, begin, shut, refuse, orRefuse, innerOf, readShape, actRow, actFound, complete, act}
+use Rattle.rules.specs.RecordTable.{ruleAt}
+use Rattle.rules.specs.Figures.{layerTable, figureTable}
+use Rattle.rules.proofs.Chains.{by-cond, clash, map-got, never}
+use Rattle.rules.proofs.Rows.{Row, found-row, isRefusal, row-all, row-did}
+use Rattle.tables.specs.Tables.{tableOf}
+use Rattle.entries.specs.Acts.{roomy, nextOf}
+use Rattle.entries.specs.declared.Inner.{Inner}
+use Rattle.entries.specs.declared.Next.{Next}
+use Rattle.entries.specs.declared.Next.the-variants as N
+use Rattle.account.specs.declared.Now.{Now}
+use Rattle.account.specs.declared.Where.{Where}
+use Rattle.account.specs.declared.Step.{Step}
+use Rattle.account.specs.declared.Step.the-variants as S
+use Rattle.account.specs.Records.{hasRoom}
+use Rattle.account.specs.Account.{roomlessAct, taking, TakenAt, headAt, ActsAt}
+use Rattle.account.specs.FigureLines.{homeTable, homeRows, homeRule, lineKind, blockKind, moreFigures, figureOpened, figuresClosed, unmarkedIf, FigureLine}
+use Rattle.account.proofs.RowsTaken.{entry-taken}
+
+-- ── from the answer back to the act ──
+abbrev pub ActOf : Next → Act → Type 0
+ActOf N.Stay a = a ≡ stay
+ActOf (N.Entry j) a = (v : Value) × (a ≡ entry j v)
+ActOf (N.Begin b) a = (v : Value) × (a ≡ begin (b .block) (b .row) v)
+ActOf N.Shut a = a ≡ shut
+ActOf (N.Refuse k) a = a ≡ refuse k
+
+own-act : (a : Act) → ActOf (nextOf a) a
+own-act stay = refl
+own-act (entry j v) = (v, refl)
+own-act (begin i j v) = (v, refl)
+own-act shut = refl
+own-act (refuse k) = refl
+
+pub act-of : (n : Next) (a : Act) → n ≡ nextOf a → ActOf n a
+act-of n a e = subst (λ (m : Next). ActOf m a) (sym e) (own-act a)
+
+-- a line that takes a record has room for it
+abbrev takes : Act → Bool
+takes stay = false
+takes (entry j v) = true
+takes (begin i j v) = true
+takes shut = false
+takes (refuse k) = false
+
+roomless-takes : (a : Act) → takes (roomlessAct a) ≡ false
+roomless-takes stay = refl
+roomless-takes (entry j v) = refl
+roomless-takes (begin i j v) = refl
+roomless-takes shut = refl
+roomless-takes (refuse k) = refl
+
+room-for : (room : Bool) (a b : Act) → taking room a ≡ b → takes b ≡ true → (room ≡ true) × (a ≡ b)
+room-for true a b e h = (refl, e)
+room-for false a b e h = clash (ap takes e ∙ h) (roomless-takes a)
+
+pub entry-room : (w : ℕ) (t : List ℤ) (a : Act) (j : ℕ) → N.Entry j ≡ nextOf (taking (hasRoom w t) a) → w + 32 ≤ length t
+entry-room w t a j e =
+    let (v, q) = act-of (N.Entry j) (taking (hasRoom w t) a) e in leb-true (w + 32) (length t) (room-for (hasRoom w t) a (entry j v) q refl .0)
+
+pub begin-room : (w : ℕ) (t : List ℤ) (a : Act) (b : Inner) → N.Begin b ≡ nextOf (taking (hasRoom w t) a) → w + 32 ≤ length t
+begin-room w t a b e =
+    let (v, q) = act-of (N.Begin b) (taking (hasRoom w t) a) e in leb-true (w + 32) (length t) (room-for (hasRoom w t) a (begin (b .block) (b .row) v) q refl .0)
+
+-- ── a line that opens a block: its row, and what it holds ──
+pub record Begun (k : Known) (t : List Rule) (i j : ℕ) (v : Value) : Type 0 where
+  pub rule : Rule
+  pub row : Row t j rule
+  pub shape : Shape
+  pub fit : fits (rule .holds) (rule .may) shape ≡ true
+  pub inner : innerOf (rule .holds) ≡ i
+  pub read : readShape k j rule shape ≡ got (begin i j v)
+
+abbrev Begins : Known → List Rule → Act → Type 0
+Begins k t stay = Unit {0}
+Begins k t (entry j v) = Unit {0}
+Begins k t (begin i j v) = Begun k t i j v
+Begins k t shut = Unit {0}
+Begins k t (refuse n) = Unit {0}
+
+module _ (k : Known) (t : List Rule) where
+  shape-begins : (j : ℕ) (r : Rule) (s : Shape) (a : Act) → Row t j r → fits (r .holds) (r .may) s ≡ true → readShape k j r s ≡ got a → Begins k t a
+  shape-begins j r opener a w f e =
+      let q : begin (innerOf (r .holds)) j (nums []) ≡ a = cc in
+      subst (Begins k t) q (record { rule = r; row = w; shape = opener; fit = f; inner = refl; read = refl })
+  shape-begins j r noContent a w f e = let q : entry j empty ≡ a = cc in subst (Begins k t) q tt
+  shape-begins j r (content at c) a w f e = let (v, p, q) = map-got (entry j) (readKind k (r .holds) at c) a e in subst (Begins k t) q tt
+  shape-begins j r (opening at c) a w f e =
+      let (v, p, q) = map-got (begin (innerOf (r .holds)) j) (readKind k (r .holds) at c) a e in
+      subst (Begins k t) q (record { rule = r; row = w; shape = opening at c; fit = f; inner = refl; read = ap (mapG (begin (innerOf (r .holds)) j)) p })
+  shape-begins j r formless a w f e = never e
+
+  refusal-begins : (a : Act) → isRefusal a ≡ true → Begins k t a
+  refusal-begins stay e = tt
+  refusal-begins (entry j v) e = tt
+  refusal-begins (begin i j v) e = clash e refl
+  refusal-begins shut e = tt
+  refusal-begins (refuse n) e = tt
+
+  row-begins : (d : Digits) (full : Bool) (j : ℕ) (r : Rule) (x : Rest) → Row t j r → Begins k t (actRow k d full j r x)
+  row-begins d full j r x w = go (isRefusal (actRow k d full j r x)) refl
+    where
+      go : (b : Bool) → isRefusal (actRow k d full j r x) ≡ b → Begins k t (actRow k d full j r x)
+      go true e = refusal-begins (actRow k d full j r x) e
+      go false e = let did = row-did k d full j r x (actRow k d full j r x) e refl in shape-begins j r (shapeFor r x) (actRow k d full j r x) w (did .fit) (did .read)
+
+  act-begins : (d : Digits) (full : List Bool) (f : Form) → Begins k t (act k t d full f)
+  act-begins d full ignored = tt
+  act-begins d full (wrong n) = tt
+  act-begins d full close = by-cond (Begins k t) (complete d t full) (λ q. tt) (λ q. tt)
+  act-begins d full eof = tt
+  act-begins d full (keyed key x) = go (find key t) refl
+    where
+      unknown : (b : Bool) → Begins k t (orRefuse (unless b 5 (bad 6)))
+      unknown true = tt
+      unknown false = tt
+
+      go : (f : Found) → find key t ≡ f → Begins k t (actFound k d full x f)
+      go absent e = unknown (hasForm (shapeOf x))
+      go (found j r) e = row-begins d (getD full j false) j r x (found-row key t j r e .0)
+
+  pub act-begun : (d : Digits) (full : List Bool) (f : Form) (i j : ℕ) (v : Value) → act k t d full f ≡ begin i j v → Begun k t i j v
+  act-begun d full f i j v e = subst (Begins k t) e (act-begins d full f)
+
+-- ── the tables of figures ──
+-- seven rows, of which none is ever full
+abbrev pub sevenFree : List Bool
+sevenFree = false ∷ false ∷ false ∷ false ∷ false ∷ false ∷ false ∷ []
+
+home-free : (layered : Bool) → take (homeRows layered) sevenFree ≡ replicate (homeRows layered) false
+home-free true = refl
+home-free false = refl
+
+by-home : (P : ℕ → Type 0) → P 12 → P 11 → P 13 → (layered : Bool) (range : ℕ) → P (homeTable layered range)
+by-home P a b c true range = go (eqb range 1)
+  where
+    go : (t : Bool) → P (cond t 12 11)
+    go true = a
+    go false = b
+by-home P a b c false range = c
+
+pub home-long : (layered : Bool) (range : ℕ) → length (replicate (homeRows layered) false) ≡ length (tableOf (homeTable layered range))
+unfolding tableOf layerTable figureTable
+home-long true range = go (eqb range 1)
+  where
+    go : (t : Bool) → 7 ≡ length (tableOf (cond t 12 11))
+    go true = refl
+    go false = refl
+home-long false range = refl
+
+pub home-room : (layered : Bool) (range : ℕ) → all (roomy 0 32) (tableOf (homeTable layered range)) ≡ true
+unfolding tableOf layerTable figureTable
+home-room layered range = by-home (λ n. all (roomy 0 32) (tableOf n) ≡ true) refl refl refl layered range
+
+home-inner : (layered : Bool) (range : ℕ) → all (λ r. leb (innerOf (r .holds)) 3) (tableOf (homeTable layered range)) ≡ true
+unfolding tableOf layerTable figureTable
+home-inner layered range = by-home (λ n. all (λ r. leb (innerOf (r .holds)) 3) (tableOf n) ≡ true) refl refl refl layered range
+
+rows-seven : (layered : Bool) → length (replicate (homeRows layered) false) ≤ 7
+rows-seven true = omega arith
+rows-seven false = omega arith
+
+-- as the code lends it
+pub home-rows-most : (layered : Bool) (m : ℕ) → m ≡ homeRows layered → m ≤ 7
+home-rows-most true m e = omega (arith, e)
+home-rows-most false m e = omega (arith, e)
+
+pub home-lent : (layered : Bool) (m : ℕ) → m ≡ homeRows layered → m ≡ length (take m sevenFree)
+home-lent true m e = rw e
+home-lent false m e = rw e
+
+pub home-lent-long : (layered : Bool) (range t m : ℕ) → t ≡ homeTable layered range → m ≡ homeRows layered → length (take m sevenFree) ≡ length (tableOf t)
+home-lent-long layered range t m e h = rw (e, h, home-free layered) (home-long layered range)
+
+pub home-acts : (layered : Bool) (range t m : ℕ) (d : Digits) (k : Known) (f : Form) (w : ℕ) (t₀ t₁ : List ℤ) (next : Next)
+    → t ≡ homeTable layered range → m ≡ homeRows layered → d ≡ digitsOf range → ActsAt (ruleAt (tableOf t)) w t₀ (act k (tableOf t) d (take m sevenFree) f) t₁ next
+    → ActsAt (homeRule layered range) w t₀ (act k (tableOf (homeTable layered range)) (digitsOf range) (replicate (homeRows layered) false) f) t₁ next
+home-acts layered range t m d k f w t₀ t₁ next e h q x =
+    subst (λ (u : List Bool). Acted (homeTable layered range) (digitsOf range) u) (ap (λ (m : ℕ). take m sevenFree) h ∙ home-free layered)
+    (subst (λ (d : Digits). Acted (homeTable layered range) d (take m sevenFree)) q (subst (λ (t : ℕ). Acted t d (take m sevenFree)) e x))
+  where
+    Acted : ℕ → Digits → List Bool → Type 0
+    Acted t d u = ActsAt (ruleAt (tableOf t)) w t₀ (act k (tableOf t) d u f) t₁ next
+
+module _ (k : Known) (layered : Bool) (range : ℕ) (d : Digits) (full : List Bool) (f : Form) (room : Bool) where
+  abbrev a : Act
+  a = act k (tableOf (homeTable layered range)) d full f
+
+  pub entry-row : (j : ℕ) → N.Entry j ≡ nextOf (taking room a) → j < 7
+  entry-row j e =
+      let (v, q) = act-of (N.Entry j) (taking room a) e in
+      let p = room-for room a (entry j v) q refl .1 in
+      omega (arith, entry-taken k (tableOf (homeTable layered range)) d full f j v p .row, home-long layered range, rows-seven layered)
+
+  pub begin-block : (b : Inner) → N.Begin b ≡ nextOf (taking room a) → b .block ≤ 3
+  begin-block b e =
+      let (v, q) = act-of (N.Begin b) (taking room a) e in
+      let w = act-begun k (tableOf (homeTable layered range)) d full f (b .block) (b .row) v (room-for room a (begin (b .block) (b .row) v) q refl .1) in
+      omega (arith, leb-true (innerOf (w .rule .holds)) 3 (row-all (λ r. leb (innerOf (r .holds)) 3) (w .row) (home-inner layered range)), w .inner)
+
+-- ── the line ──
+module _ (n : Now) (range : ℕ) (at : Where) (t₀ t₁ : List ℤ) (m₀ i₀ : List Bool) where
+  abbrev Line : Act → List ℤ → List Bool → List Bool → Step → Type 0
+  Line a t m i r = FigureLine a n range at t₀ t m₀ m i₀ i r
+
+  abbrev At : Act → Type 0
+  At a = TakenAt (homeRule (n .layered) range) (n .free) t₀ t₁ a
+
+  pub figures-stay : (a : Act) → N.Stay ≡ nextOf a → At a → Line a t₁ m₀ i₀ (S.Go n)
+  figures-stay a e = subst (λ (a : Act). At a → Line a t₁ m₀ i₀ (S.Go n)) (sym (act-of N.Stay a e)) λ h. record { answer = refl; table = h; marks = refl; inner = refl }
+
+  pub figures-entry : (a : Act) (t₂ : List ℤ) (j : ℕ) (r : Now) → N.Entry j ≡ nextOf a → At a → t₂ ≡ headAt (n .free) (lineKind (n .layered) j) (n .owner) at t₁ → r ≡ moreFigures n
+      → Line a t₂ m₀ i₀ (S.Go r)
+  figures-entry a t₂ j r e x p q =
+      let (v, w) = act-of (N.Entry j) a e in
+      subst (λ (a : Act). At a → Line a t₂ m₀ i₀ (S.Go r)) (sym w)
+      (λ h. record { answer = ap S.Go q; table = p ∙ ap (headAt (n .free) (lineKind (n .layered) j) (n .owner) at) h; marks = refl; inner = refl }) x
+
+  pub figures-begin : (a : Act) (b : Inner) (t₂ : List ℤ) (m₁ i₁ : List Bool) (r : Now) → N.Begin b ≡ nextOf a → At a
+      → t₂ ≡ headAt (n .free) (blockKind (n .layered) (b .block)) (n .owner) at t₁ → m₁ ≡ unmarkedIf (eqb (b .block) 3) m₀ → i₁ ≡ unmarkedIf (eqb (b .block) 2) i₀
+      → r ≡ figureOpened n (b .block) → Line a t₂ m₁ i₁ (S.Go r)
+  figures-begin a b t₂ m₁ i₁ r e x p y z q =
+      let (v, w) = act-of (N.Begin b) a e in
+      subst (λ (a : Act). At a → Line a t₂ m₁ i₁ (S.Go r)) (sym w)
+      (λ h. record { answer = ap S.Go q; table = p ∙ ap (headAt (n .free) (blockKind (n .layered) (b .block)) (n .owner) at) h; marks = y; inner = z }) x
+
+  pub figures-shut : (a : Act) (r : Step) → N.Shut ≡ nextOf a → At a → r ≡ figuresClosed n → Line a t₁ m₀ i₀ r
+  figures-shut a r e x q = subst (λ (a : Act). At a → Line a t₁ m₀ i₀ r) (sym (act-of N.Shut a e)) (λ h. record { answer = q; table = h; marks = refl; inner = refl }) x
+
+  pub figures-refuse : (a : Act) (k : ℕ) → N.Refuse k ≡ nextOf a → Line a t₁ m₀ i₀ (S.Stop k)
+  figures-refuse a k e = subst (λ (a : Act). Line a t₁ m₀ i₀ (S.Stop k)) (sym (act-of (N.Refuse k) a e)) (record { answer = refl; table = tt; marks = refl; inner = refl })

@@ -1,0 +1,17 @@
+pub mod ClassDigits
+pub mod Stores
+pub mod MarkScan
+pub mod StemEnds
+pub mod SkipRun
+pub mod FileCloses
+pub mod FileActs
+pub mod TopSteps
+pub mod DrawingSteps
+pub mod BlocksActs
+pub mod PointsLines
+pub mod TextsLines
+pub mod FigureActs
+pub mod ElementActs
+pub mod SymbolNames
+pub mod SymbolSteps
+pub mod ScratchCode

@@ -1,0 +1,230 @@
+-- Skipping a block: what one line does to the loop's invariant and to the contract, over plain variables.
+use Prim.Native.Nat.{ℕ, zero, suc, _+_, _-_, _<_, _≤_}
+use mathlib.Core.Bool.{Bool, true, false}
+use mathlib.Core.List.{List, _∷_}
+use mathlib.Core.Path.{_≡_, refl, sym, _∙_, ap, subst}
+use native.Mathlib.Omega.{arith}
+use lib.Dec.{ltb}
+use borrow.Author.Tests.{lt-ltb, le-ltb}
+use Rattle.rules.specs.declared.Refusal.{Refusal}
+use Rattle.rules.specs.Base.{isNil}
+use Rattle.rules.specs.RefusalNumbers.{Got, got, bad, unless}
+use Rattle.rules.specs.Lines.{Form, ignored, wrong, close, eof, keyed, formIn}
+use Rattle.rules.specs.RangeClass.{Skip, passes, deeper, noForm, skipOf, mostDepth}
+use Rattle.rules.specs.Rows.{Held}
+use Rattle.rules.specs.Sets.{Set, Figure}
+use Rattle.rules.specs.Machine.{Line, Env, State, skipping, bySkip, skipDeeper, skipShut, onSkipping, stepIn, refused, run}
+use Rattle.lines.specs.declared.Seen.{Seen}
+use Rattle.account.specs.declared.Volume.{Volume}
+use Rattle.account.specs.declared.Pos.{Pos}
+use Rattle.account.specs.declared.Left.{Left}
+use Rattle.account.specs.declared.Left.the-variants as L
+use Rattle.account.specs.declared.Skipped.{Skipped}
+use Rattle.account.specs.declared.Skipped.the-variants as S
+use Rattle.account.specs.Walk.{stopAt, seenFrom, At, todo}
+use Rattle.account.specs.SkippedLines.{skippedAs, skippedBy, earlySkip, InPlaced, skipped, unskipped, Came, Refused, CameOr, Low, SkipReady, SkipMet}
+use Rattle.account.proofs.RunSteps.{early, step-on, step-refused, step-early}
+use Rattle.account.proofs.SeenLines.{past, seenLine, Passed, passed-line, seen-forward, low-past}
+
+-- ── a line in a skipped block ──
+-- what it does to the machine
+abbrev turn : Set → ℕ → List Figure → ℕ → Held → ℕ → Skipped → Got State
+turn t h fs n o d S.Passes = got (skipping t h fs n o d)
+turn t h fs n o d S.Deeper = skipDeeper d (skipping t h fs n o (suc d))
+turn t h fs n o d S.Shut = skipShut t h fs n o d
+turn t h fs n o d (S.Refuse m) = bad m
+
+turns : (t : Set) (h : ℕ) (fs : List Figure) (n : ℕ) (o : Held) (d : ℕ) (f : Form) → onSkipping t h fs n o d f ≡ turn t h fs n o d (skippedBy f)
+turns t h fs n o d ignored = refl
+turns t h fs n o d (wrong m) = refl
+turns t h fs n o d close = refl
+turns t h fs n o d eof = refl
+turns t h fs n o d (keyed k c) = go (skipOf k c)
+  where
+    go : (x : Skip) → bySkip x (got (skipping t h fs n o d)) (skipDeeper d (skipping t h fs n o (suc d))) ≡ turn t h fs n o d (skippedAs x)
+    go passes = refl
+    go deeper = refl
+    go noForm = refl
+
+shuts : (t : Set) (h : ℕ) (fs : List Figure) (n : ℕ) (o : Held) (d : ℕ) → 1 ≤ d → turn t h fs n o d S.Shut ≡ got (unskipped d t h fs n o)
+shuts t h fs n o zero g = absurd (omega arith)
+shuts t h fs n o (suc zero) g = refl
+shuts t h fs n o (suc (suc d)) g = refl
+
+-- an inner block has closed
+inner-shut : (t : Set) (h : ℕ) (fs : List Figure) (n : ℕ) (o : Held) (d : ℕ) → 1 ≤ d → unskipped (suc d) t h fs n o ≡ skipped d t h fs n o
+inner-shut t h fs n o zero g = absurd (omega arith)
+inner-shut t h fs n o (suc d) g = refl
+
+early-turn : (t : Set) (h : ℕ) (fs : List Figure) (n : ℕ) (o : Held) (d : ℕ) → 1 ≤ d → (did : Skipped) → early (turn t h fs n o d did) ≡ earlySkip did
+early-turn t h fs n o d g S.Passes = refl
+early-turn t h fs n o d g S.Deeper = go (ltb d mostDepth)
+  where
+    go : (b : Bool) → early (unless b 18 (got (skipping t h fs n o (suc d)))) ≡ 9
+    go true = refl
+    go false = refl
+early-turn t h fs n o d g S.Shut = ap early (shuts t h fs n o d g)
+early-turn t h fs n o d g (S.Refuse m) = refl
+
+-- ── the loop ──
+-- its invariant: the run from p is the run from q
+pub record Going (s : List ℕ) (v : Volume) (left : ℕ) (p q : Pos) : Type 0 where
+  pub came : (ls : List (List ℕ)) → At s v p ls → isNil ls ≡ false → Came s v p ls (skipped (5 - left)) (skipped (5 - left)) q
+  pub low : Low q
+  pub on : p .at ≤ q .at
+  pub one : 1 ≤ left
+  pub four : left ≤ 4
+
+pub start : (s : List ℕ) (v : Volume) (left : ℕ) (p : Pos) → SkipReady p left → Going s v left p p
+start s v left p r =
+    record {
+      came = λ ls a n. record { rest = ls; at = a; some-left = n; eq = λ e t h fs k o next more. refl };
+      low = r .low;
+      on = omega arith;
+      one = r .one;
+      four = r .four;
+    }
+
+module _ (s : List ℕ) (v : Volume) (left : ℕ) (p q : Pos) (g : Going s v left p q) (f : Seen) (w : f ≡ seenFrom s v q) (did : Skipped) (z : did ≡ skippedBy (formIn s (f .form))) where
+  abbrev d : ℕ
+  d = 5 - left
+
+  deep : 1 ≤ d
+  deep = let b = g .four in omega arith
+
+  abbrev lineOf : List ℕ → Line
+  lineOf next = seenLine s v next q f
+
+  acts : (e : Env) (t : Set) (h : ℕ) (fs : List Figure) (n : ℕ) (o : Held) (next : List ℕ) → stepIn e (lineOf next) (skipped d t h fs n o) ≡ turn t h fs n o d did
+  acts e t h fs n o next = turns t h fs n o d (formIn s (f .form)) ∙ ap (turn t h fs n o d) (sym z)
+
+  -- the run from p is the run from this line
+  module _ (ls : List (List ℕ)) (a : At s v p ls) (n : isNil ls ≡ false) where
+    abbrev here : Came s v p ls (skipped d) (skipped d) q
+    here = g .came ls a n
+
+    abbrev this : Passed s v q (here .rest) f
+    this = passed-line s v q (here .rest) f w (here .at) (here .some-left)
+
+    abbrev behind-it : List ℕ → List Line → List Line
+    behind-it next more = todo v next (past q f) (this .others) more
+
+    comes : (e : Env) (t : Set) (h : ℕ) (fs : List Figure) (k : ℕ) (o : Held) (next : List ℕ) (more : List Line)
+        → run e (skipped d t h fs k o) (todo v next p ls more) ≡ run e (skipped d t h fs k o) (lineOf next ∷ behind-it next more)
+    comes e t h fs k o next more = here .eq e t h fs k o next more ∙ ap (run e (skipped d t h fs k o)) (this .cons next more)
+
+    -- it is not the last: the machine goes on
+    goes : f .last ≡ false → (to : InPlaced) → ((t : Set) (h : ℕ) (fs : List Figure) (k : ℕ) (o : Held) → turn t h fs k o d did ≡ got (to t h fs k o)) → Came s v p ls (skipped d) to (past q f)
+    goes l to y =
+        record {
+          rest = this .others;
+          at = this .at;
+          some-left = sym (this .last) ∙ l;
+          eq = λ e t h fs k o next more.
+              comes e t h fs k o next more ∙ step-on e (skipped d t h fs k o) (lineOf next) (behind-it next more) (to t h fs k o) l (acts e t h fs k o next ∙ y t h fs k o);
+        }
+
+    -- or it refuses
+    stops : f .last ≡ false → (m : ℕ) → ((t : Set) (h : ℕ) (fs : List Figure) (k : ℕ) (o : Held) → turn t h fs k o d did ≡ bad m) → Refused v p ls (skipped d) (stopAt v (past q f) m)
+    stops l m y =
+        record {
+          eq = λ e t h fs k o next more.
+              comes e t h fs k o next more ∙ step-refused e (skipped d t h fs k o) (lineOf next) (behind-it next more) m l (acts e t h fs k o next ∙ y t h fs k o);
+        }
+
+    -- it is the last of its volume
+    ends : f .last ≡ true → (m : ℕ) → m ≡ earlySkip did → Refused v p ls (skipped d) (stopAt v (past q f) m)
+    ends l m y =
+        record {
+          eq = λ e t h fs k o next more.
+              comes e t h fs k o next more
+              ∙ step-early e (skipped d t h fs k o) (lineOf next) (behind-it next more) refl l
+              ∙ ap (λ (x : ℕ). refused x (v .number) (q .line + 1)) (ap early (acts e t h fs k o next) ∙ early-turn t h fs k o d deep did ∙ sym y);
+        }
+
+  pub at-last : f .last ≡ true → (m : ℕ) → m ≡ earlySkip did → SkipMet s v p left (L.Stop (stopAt v (past q f) m))
+  at-last l m y = record { met = λ ls a n. ends ls a n l m y; further = tt }
+
+  module _ (l : f .last ≡ false) where
+    onward : (r : Pos) → past q f .at ≤ r .at → p .at < r .at
+    onward r h = let m = seen-forward s v q f w l in let a = g .on in omega (arith, m .0)
+
+    turned-to : S.Shut ≡ did → (t : Set) (h : ℕ) (fs : List Figure) (n : ℕ) (o : Held) → turn t h fs n o d did ≡ got (unskipped d t h fs n o)
+    turned-to y t h fs n o = ap (turn t h fs n o d) (sym y) ∙ shuts t h fs n o d deep
+
+    pub stays : S.Passes ≡ did → Going s v left p (past q f)
+    stays y =
+        let m = seen-forward s v q f w l in
+        let a = g .on in
+        record {
+          came = λ ls a n. goes ls a n l (skipped d) (λ t h fs k o. ap (turn t h fs k o d) (sym y));
+          low = low-past s v q f w l (g .low);
+          on = omega (arith, m .0);
+          one = g .one;
+          four = g .four;
+        }
+
+    pub shut : S.Shut ≡ did → SkipMet s v p left (L.Go (past q f))
+    shut y =
+        let m = seen-forward s v q f w l in
+        record { met = λ ls a n. goes ls a n l (unskipped d) (turned-to y); further = (low-past s v q f w l (g .low), onward (past q f) (omega arith), m .1) }
+
+    pub refuses : (m : ℕ) → S.Refuse m ≡ did → SkipMet s v p left (L.Stop (stopAt v (past q f) m))
+    refuses m y = record { met = λ ls a n. stops ls a n l m (λ t h fs k o. ap (turn t h fs k o d) (sym y)); further = tt }
+
+    pub too-deep : S.Deeper ≡ did → left ≡ 1 → SkipMet s v p left (L.Stop (stopAt v (past q f) 18))
+    too-deep y h =
+        let x : mostDepth ≤ d = omega arith in
+        record { met = λ ls a n. stops ls a n l 18 (λ t k fs m o. ap (turn t k fs m o d) (sym y) ∙ rw (le-ltb d mostDepth x) refl); further = tt }
+
+    -- the inner block
+    module _ (y : S.Deeper ≡ did) (h : left ≡ 1 → ⊥) where
+      fewer : 2 ≤ left
+      fewer = let a = g .one in omega (arith, h)
+
+      deeper-by : 5 - (left - 1) ≡ suc d
+      deeper-by = let a = fewer in let b = g .four in omega arith
+
+      pub inner-ready : SkipReady (past q f) (left - 1)
+      inner-ready = let a = fewer in let b = g .four in record { low = low-past s v q f w l (g .low); one = omega arith; four = omega arith }
+
+      opened : (t : Set) (k : ℕ) (fs : List Figure) (n : ℕ) (o : Held) → turn t k fs n o d did ≡ got (skipped (suc d) t k fs n o)
+      opened t k fs n o = let a = fewer in let x : d < mostDepth = omega arith in ap (turn t k fs n o d) (sym y) ∙ rw (lt-ltb d mostDepth x) refl
+
+      -- the inner block's contract, one deeper
+      inner : (r : Left) → SkipMet s v (past q f) (left - 1) r → (us : List (List ℕ)) → At s v (past q f) us → isNil us ≡ false → CameOr s v (past q f) us (skipped (suc d)) (unskipped (suc d)) r
+      inner r k us a n = subst (λ (m : ℕ). CameOr s v (past q f) us (skipped m) (unskipped m) r) deeper-by (k .met us a n)
+
+      pub inner-stops : (x : Refusal) → SkipMet s v (past q f) (left - 1) (L.Stop x) → SkipMet s v p left (L.Stop x)
+      inner-stops x k =
+          record {
+            met = λ ls a n.
+                let c = goes ls a n l (skipped (suc d)) opened in
+                let i = inner (L.Stop x) k (c .rest) (c .at) (c .some-left) in
+                record { eq = λ e t h fs m o next more. c .eq e t h fs m o next more ∙ i .eq e t h fs m o next more };
+            further = tt;
+          }
+
+      pub goes-on : (r : Pos) → SkipMet s v (past q f) (left - 1) (L.Go r) → Going s v left p r
+      goes-on r k =
+          let x = k .further in
+          let y = x .1 in
+          let b = onward r (omega arith) in
+          record {
+            came = λ ls a n.
+                let c = goes ls a n l (skipped (suc d)) opened in
+                let i = inner (L.Go r) k (c .rest) (c .at) (c .some-left) in
+                record {
+                  rest = i .rest;
+                  at = i .at;
+                  some-left = i .some-left;
+                  eq = λ e t h fs m o next more.
+                      c .eq e t h fs m o next more
+                      ∙ i .eq e t h fs m o next more
+                      ∙ ap (λ (st : State). run e st (todo v next r (i .rest) more)) (inner-shut t h fs m o d deep);
+                };
+            low = x .0;
+            on = omega arith;
+            one = g .one;
+            four = g .four;
+          }

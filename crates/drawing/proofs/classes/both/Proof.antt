@@ -1,0 +1,24 @@
+use mathlib.Core.Path.{sym, _∙_}
+use native.Mathlib.Omega.{arith}
+use borrow.Author.Tests.{lt-ltb, le-ltb, lt-leb, le-leb, not-true, not-false}
+use borrow.Author.Needs.{needs}
+use Rattle.drawing.proofs.classes.both.Statement.{statement}
+use Rattle.drawing.proofs.classes.both.Tie as tie
+use Rattle.drawing.proofs.classes.both.Reads as reads
+use Rattle.drawing.proofs.classes.both.Lts as lts
+use Rattle.drawing.proofs.classes.less.Reads as less-reads
+
+-- src/classes.rt:62:17
+less-requires : tie.Need-less-requires
+less-requires c κs = search needs
+
+-- src/classes.rt:63:15
+less-requires-2 : tie.Need-less-requires-2
+less-requires-2 c κs = search needs
+
+-- src/classes.rt:58:1
+returns : tie.Need-returns
+returns c = rw (c .before .less .ensures, c .less2 .ensures)
+
+pub both-spec : {M : Type 1} → statement M
+both-spec = tie.close (tie.spec less-requires less-requires-2 returns)

@@ -1,0 +1,18 @@
+use mathlib.Core.Path.{sym, _∙_}
+use native.Mathlib.Omega.{arith}
+use borrow.Author.Tests.{lt-ltb, le-ltb, lt-leb, le-leb, not-true, not-false}
+use Rattle.drawing.proofs.classes.exceeds.Statement.{statement}
+use Rattle.drawing.proofs.classes.exceeds.Tie as tie
+use Rattle.drawing.proofs.classes.exceeds.Reads as reads
+use Rattle.drawing.proofs.classes.exceeds.Lts as lts
+
+-- src/classes.rt:43:9
+returns : tie.Need-returns
+returns c = sym (rw (lt-ltb _ _ (c .if1 .taken)))
+
+-- src/classes.rt:39:1
+returns-2 : tie.Need-returns-2
+returns-2 c = sym (rw (le-ltb _ _ (c .before .before .if1 .left)))
+
+pub exceeds-spec : {M : Type 1} → statement M
+exceeds-spec = tie.close (tie.spec returns returns-2)

@@ -1,0 +1,26 @@
+use mathlib.Core.Path.{sym, _∙_}
+use borrow.Author.Needs.{needs}
+use Rattle.drawing.proofs.figures.unmark_if.Statement.{statement}
+use Rattle.drawing.proofs.figures.unmark_if.Tie as tie
+use Rattle.drawing.proofs.figures.unmark_if.Reads as reads
+use Rattle.drawing.proofs.figures.unmark_if.Lts as lts
+use Rattle.drawing.proofs.blocks.unmark.Reads as unmark-reads
+
+-- src/figures.rt:123:9
+unmark-requires : tie.Need-unmark-requires
+unmark-requires c κs = search needs
+
+-- src/figures.rt:119:1
+same-length : tie.Need-same-length
+same-length c = search needs
+
+-- src/figures.rt:119:1
+returns : tie.Need-returns
+returns c = c .before .before .unmark .ensures ∙ sym (rw (c .before .before .before .before .if1 .taken))
+
+-- src/figures.rt:119:1
+returns-2 : tie.Need-returns-2
+returns-2 c = search needs
+
+pub unmark-if-spec : {M : Type 1} → statement M
+unmark-if-spec = tie.close (tie.spec unmark-requires same-length returns returns-2)

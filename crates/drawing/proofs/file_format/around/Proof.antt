@@ -1,0 +1,17 @@
+use Rattle.account.proofs.FileParts.{around-inner}
+use borrow.Author.Needs.{needs}
+use Rattle.drawing.proofs.file_format.around.Statement.{statement}
+use Rattle.drawing.proofs.file_format.around.Tie as tie
+use Rattle.drawing.proofs.file_format.around.Reads as reads
+use Rattle.drawing.proofs.file_format.around.Lts as lts
+
+-- src/file_format.rt:98:9
+returns : tie.Need-returns
+returns c = search needs
+
+-- src/file_format.rt:93:1
+returns-2 : tie.Need-returns-2
+returns-2 c = around-inner _ (c .before .pre) (c .if1 .left)
+
+pub around-spec : {M : Type 1} → statement M
+around-spec = tie.close (tie.spec returns returns-2)

@@ -1,0 +1,235 @@
+// DRAWING_FORMAT, and the names of layers in it.
+use crate::blocks::at_block;
+use crate::blocks::digits_of;
+use crate::blocks::has_room;
+use crate::table::head;
+use account::DRAWING;
+use account::LAYER_NAMES;
+use account::LAYERS;
+use account::LayerName;
+use account::Now;
+use account::Step;
+use account::TOP;
+use account::Where;
+use entries::Index;
+use entries::Next;
+use entries::Rest;
+use entries::Shape;
+use entries::acts::act;
+use entries::names::index_of;
+use entries::names::part;
+use entries::shapes::shape_for;
+use leaves::Count;
+use leaves::bytes::is_layer_id;
+use leaves::numbers::fixed;
+use leaves::texts::fits;
+use rules::LineForm;
+use rules::Span;
+ghost use mathlib.Core.Path.{_≡_};
+ghost use mathlib.Core.Bool.{true};
+ghost use mathlib.Core.List.{[], _∷_};
+ghost use Prim.Native.Nat.{_+_, _≤_, _<_};
+ghost use lib.IntN.{pos};
+ghost use lib.ListN.{length, drop};
+ghost use Rattle.rules.specs.RefusalNumbers.{got, unless};
+ghost use Rattle.rules.specs.Lines.{formIn, freeShapeOf, bytesAt};
+ghost use Rattle.rules.specs.Numbers.{value};
+ghost use Rattle.rules.specs.Values.{isLayerId};
+ghost use Rattle.rules.specs.Machine.{layerValue};
+ghost use Rattle.entries.specs.Names.{knownIn};
+ghost use Rattle.entries.specs.Shapes.{restIn};
+ghost use Rattle.account.specs.Records.{hasRoom};
+ghost use Rattle.account.specs.TopLines.{Answered, layersOf};
+ghost use Rattle.account.specs.DrawingLines.{drawingAct, drawingNow, drawingMarks, drawingPut, nameOf, layerTaken, layerPut, LayerIn, layerGot, LayerLine, NamesLine};
+
+// A line in DRAWING_FORMAT.
+pub fn on_drawing(
+    s: &[u8],
+    symbols: &[u32],
+    layers: &[u32],
+    arc: u32,
+    here: Now,
+    form: LineForm,
+    marks: &mut [bool],
+    rec: &mut [i64],
+) -> Step
+    requires { ⌜ (length (now s) ≤ 61440) × (length (now symbols) ≤ 65536) × (length (now layers) ≤ 65536) × (length (now marks) ≡ 28) × (length (now rec) ≡ 32) ⌝ }
+    ensures { λ r. ⌜ Answered (drawingNow here (drawingAct (knownIn (now (s .entry)) (now (symbols .entry)) (now (layers .entry))) arc (now (marks .entry)) (formIn (now (s .entry)) form))) ((now (marks .exit) ≡ drawingMarks (now (marks .entry)) (drawingAct (knownIn (now (s .entry)) (now (symbols .entry)) (now (layers .entry))) arc (now (marks .entry)) (formIn (now (s .entry)) form))) × (now (rec .exit) ≡ drawingPut (now (rec .entry)) (drawingAct (knownIn (now (s .entry)) (now (symbols .entry)) (now (layers .entry))) arc (now (marks .entry)) (formIn (now (s .entry)) form)))) r ⌝ }
+{
+    let next = act(
+        7,
+        s,
+        symbols,
+        layers,
+        digits_of(arc),
+        &marks[..8],
+        form,
+        0,
+        rec,
+    );
+    match next {
+        Next::Stay => Step::Go(here),
+        Next::Entry(row) => {
+            marks[row as usize] = true;
+            Step::Go(here)
+        }
+        Next::Begin(inner) => {
+            marks[inner.row as usize] = true;
+            Step::Go(at_block(here, LAYER_NAMES, 0))
+        }
+        Next::Shut => Step::Go(at_block(here, TOP, 2)),
+        Next::Refuse(k) => Step::Stop(k),
+    }
+}
+
+// "name 0-20 bytes"
+fn layer_name(s: &[u8], rest: Rest) -> LayerName
+    ensures { λ r. ⌜ r ≡ nameOf (layerValue [] (freeShapeOf (restIn (now (s .entry)) rest))) ⌝ }
+{
+    let shape = shape_for(s, true, rest);
+    match shape {
+        Shape::Opener => LayerName::Bad(5),
+        Shape::NoContent => LayerName::Is(Span { at: 0, len: 0 }),
+        Shape::Content(c) => {
+            let bytes = part(s, c);
+            if !fits(bytes, 20, 0) {
+                return LayerName::Bad(11);
+            }
+            LayerName::Is(Span {
+                at: c.at,
+                len: bytes.len() as u32,
+            })
+        }
+        Shape::Opening(_) => LayerName::Bad(5),
+        Shape::Formless => LayerName::Bad(5),
+    }
+}
+
+// The three digits of a layer's id.
+fn layer_digits(id: &[u8]) -> u64
+    requires { ⌜ isLayerId (now id) ≡ true ⌝ }
+    ensures { λ r. ⌜ r ≡ value (drop 2 (now (id .entry))) ⌝ }
+{
+    let read = fixed(&id[2..], 3);
+    match read {
+        Count::Is(n) => n,
+        Count::Not => 0,
+    }
+}
+
+fn layer_taken(here: Now) -> Now
+    requires { ⌜ here .free + 32 ≤ 18446744073709551615 ⌝ }
+    ensures { λ r. ⌜ r ≡ layerTaken here ⌝ }
+{
+    Now {
+        block: here.block,
+        part: here.part,
+        layered: here.layered,
+        owner: here.owner,
+        own: here.own,
+        free: here.free + 32,
+        figures: here.figures,
+        points: here.points,
+    }
+}
+
+// "5 layer: letter's byte, number, name"
+fn put_layer(number: u32, id: &[u8], name: Span, at: Where, w: usize, t: &mut [i64])
+    requires { ⌜ (isLayerId (now id) ≡ true) × (w + 32 ≤ length (now t)) ⌝ }
+    ensures { λ _. ⌜ now (t .exit) ≡ layerPut w number at (now (id .entry)) (pos (name .at) ∷ pos (name .len) ∷ []) (now (t .entry)) ⌝ }
+{
+    head(t, w, 5, number, at.volume, at.line);
+    t[w + 5] = id[0] as i64;
+    t[w + 6] = layer_digits(id) as i64;
+    t[w + 7] = name.at as i64;
+    t[w + 8] = name.len as i64;
+}
+
+fn take_layer(
+    s: &[u8],
+    tally: &mut [u32],
+    layers: &mut [u32],
+    here: Now,
+    key: Span,
+    name: Span,
+    at: Where,
+    t: &mut [i64],
+) -> Step
+    requires { ⌜ (length (now s) ≤ 61440) × (length (now tally) ≡ 12) × (length (now layers) ≡ 64) × (layersOf (now tally) < 64) × (isLayerId (bytesAt (now s) key) ≡ true) ⌝ }
+    ensures { λ r. ⌜ Answered (unless (hasRoom (here .free) (now (t .entry))) 19 (got (layerTaken here))) (LayerIn (now (s .entry)) (here .free) at (bytesAt (now (s .entry)) key) (pos (name .at) ∷ pos (name .len) ∷ []) (now (tally .entry)) (now (tally .exit)) (now (layers .entry)) (now (layers .exit)) (now (t .entry)) (now (t .exit))) r ⌝ }
+{
+    let w = here.free;
+    if !has_room(t, w) {
+        return Step::Stop(19);
+    }
+    let count = tally[LAYERS];
+    put_layer(count, part(s, key), name, at, w, t);
+    // an id has five bytes
+    layers[count as usize] = key.at + 327680;
+    tally[LAYERS] = count + 1;
+    Step::Go(layer_taken(here))
+}
+
+// "A misspelt id is 6"; one line too many is 11, a layer declared twice 14
+fn layer_line(
+    s: &[u8],
+    tally: &mut [u32],
+    layers: &mut [u32],
+    here: Now,
+    key: Span,
+    rest: Rest,
+    at: Where,
+    t: &mut [i64],
+) -> Step
+    requires { ⌜ (length (now s) ≤ 61440) × (length (now tally) ≡ 12) × (length (now layers) ≡ 64) × (layersOf (now tally) ≤ 64) ⌝ }
+    ensures { λ r. ⌜ LayerLine (now (s .entry)) here at (bytesAt (now (s .entry)) key) (now (tally .entry)) (now (tally .exit)) (now (layers .entry)) (now (layers .exit)) (now (t .entry)) (now (t .exit)) (layerGot (now (s .entry)) (now (tally .entry)) (now (layers .entry)) (here .free) (now (t .entry)) (bytesAt (now (s .entry)) key) (restIn (now (s .entry)) rest)) r ⌝ }
+{
+    if !is_layer_id(part(s, key)) {
+        return Step::Stop(6);
+    }
+    let read = layer_name(s, rest);
+    match read {
+        LayerName::Bad(n) => Step::Stop(n),
+        LayerName::Is(name) => {
+            let count = tally[LAYERS] as usize;
+            if 64 <= count {
+                return Step::Stop(11);
+            }
+            let found = index_of(s, &layers[..count], part(s, key));
+            match found {
+                Index::At(_) => Step::Stop(14),
+                Index::None => take_layer(s, tally, layers, here, key, name, at, t),
+            }
+        }
+    }
+}
+
+// A line in `layer_name`.
+pub fn on_layer_names(
+    s: &[u8],
+    tally: &mut [u32],
+    layers: &mut [u32],
+    here: Now,
+    form: LineForm,
+    at: Where,
+    t: &mut [i64],
+) -> Step
+    requires { ⌜ (length (now s) ≤ 61440) × (length (now tally) ≡ 12) × (length (now layers) ≡ 64) × (layersOf (now tally) ≤ 64) ⌝ }
+    ensures { λ r. ⌜ NamesLine (now (s .entry)) here at (formIn (now (s .entry)) form) (now (tally .entry)) (now (tally .exit)) (now (layers .entry)) (now (layers .exit)) (now (t .entry)) (now (t .exit)) r ⌝ }
+{
+    match form {
+        LineForm::Ignored => Step::Go(here),
+        LineForm::Close => Step::Go(at_block(here, DRAWING, 0)),
+        LineForm::Eof => Step::Stop(9),
+        LineForm::Opens(o) => {
+            let key = o.key;
+            layer_line(s, tally, layers, here, key, Rest::Brace, at, t)
+        }
+        LineForm::Equals(q) => {
+            let key = q.key;
+            let rest = q.rest;
+            layer_line(s, tally, layers, here, key, Rest::Equals(rest), at, t)
+        }
+        LineForm::Refused(r) => Step::Stop(r.number),
+    }
+}

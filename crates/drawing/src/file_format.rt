@@ -1,0 +1,332 @@
+// FILE_FORMAT, and the parts of `range` in it.
+use crate::blocks::at_block;
+use crate::blocks::no_digits;
+use account::ALL;
+use account::ARC;
+use account::DATE;
+use account::DEFINE_RANGE;
+use account::ELEMENTS_HERE;
+use account::FILE;
+use account::HERE;
+use account::Now;
+use account::SYMBOL_RANGE;
+use account::Step;
+use account::TIME;
+use account::TOP;
+use entries::Next;
+use entries::acts::act;
+use entries::names::part;
+use rules::LineForm;
+use rules::Span;
+ghost use mathlib.Core.Path.{_≡_};
+ghost use mathlib.Core.List.{map};
+ghost use Prim.Native.Nat.{_+_, _≤_};
+ghost use lib.ListN.{length};
+ghost use lib.Seq.{paste};
+ghost use Rattle.rules.specs.Base.{same};
+ghost use Rattle.rules.specs.Lines.{formIn};
+ghost use Rattle.rules.specs.RangeClass.{digits};
+ghost use Rattle.rules.specs.Values.{capital};
+ghost use Rattle.rules.specs.Rows.{act};
+ghost use Rattle.rules.specs.Blocks.{around};
+ghost use Rattle.tables.specs.Tables.{tableOf};
+ghost use Rattle.entries.specs.Names.{knownIn};
+ghost use Rattle.account.specs.FileLines.{fileTableOf, marksFrom, marksTo, partMarks, Header, keptName, keptFirst, keptLater, kept, datedAs, rangesTally, setTally, hereTally, firstTally, laterTally, fileWidth, FileClosed, FileReady, FileLine};
+
+// Where the marks of a part's rows begin and end: FILE_FORMAT's own, `range`, `base`, `elec`, `sym`.
+fn marks_from(part: u8) -> usize
+    ensures { λ r. ⌜ r ≡ marksFrom part ⌝ }
+{
+    if part == 0 {
+        return 0;
+    }
+    if part == 1 {
+        return 16;
+    }
+    if part == 2 {
+        return 22;
+    }
+    if part == 3 {
+        return 23;
+    }
+    26
+}
+
+fn own_marks(first: bool) -> usize
+    ensures { λ r. ⌜ r ≡ marksTo first 0 ⌝ }
+{
+    if first {
+        return 16;
+    }
+    5
+}
+
+fn marks_to(first: bool, part: u8) -> usize
+    ensures { λ r. ⌜ r ≡ marksTo first part ⌝ }
+{
+    if part == 0 {
+        return own_marks(first);
+    }
+    if part == 1 {
+        return 22;
+    }
+    if part == 2 {
+        return 23;
+    }
+    if part == 3 {
+        return 26;
+    }
+    28
+}
+
+fn file_table(first: bool, part: u8) -> u8
+    requires { ⌜ part ≤ 4 ⌝ }
+    ensures { λ r. ⌜ r ≡ fileTableOf first part ⌝ }
+{
+    if first {
+        return part + 1;
+    }
+    6
+}
+
+// The part around an inner part: FILE_FORMAT around `range`, `range` around the others.
+fn around(part: u8) -> u8
+    requires { ⌜ 1 ≤ part ⌝ }
+    ensures { λ r. ⌜ r ≡ around part ⌝ }
+{
+    if part == 1 {
+        return 0;
+    }
+    1
+}
+
+// What a row without a place in the record left behind it is kept: next_file at 66 and 67, and in a later volume date at 68, time at 69.
+fn keep_name(header: &mut [i64])
+    requires { ⌜ length (now header) ≡ 70 ⌝ }
+    ensures { λ _. ⌜ now (header .exit) ≡ keptName (now (header .entry)) ⌝ }
+{
+    let at = header[64];
+    let len = header[65];
+    header[66] = at;
+    header[67] = len;
+}
+
+fn keep_first(row: u8, header: &mut [i64])
+    requires { ⌜ length (now header) ≡ 70 ⌝ }
+    ensures { λ _. ⌜ now (header .exit) ≡ keptFirst row (now (header .entry)) ⌝ }
+{
+    if row != 5 {
+        return;
+    }
+    keep_name(header);
+}
+
+fn keep_later(row: u8, header: &mut [i64])
+    requires { ⌜ length (now header) ≡ 70 ⌝ }
+    ensures { λ _. ⌜ now (header .exit) ≡ keptLater row (now (header .entry)) ⌝ }
+{
+    if row == 2 {
+        keep_name(header);
+        return;
+    }
+    if row == 3 {
+        header[68] = header[64];
+        return;
+    }
+    if row != 4 {
+        return;
+    }
+    header[69] = header[64];
+}
+
+fn keep(first: bool, row: u8, header: &mut [i64])
+    requires { ⌜ length (now header) ≡ 70 ⌝ }
+    ensures { λ _. ⌜ now (header .exit) ≡ kept first row (now (header .entry)) ⌝ }
+{
+    if first {
+        keep_first(row, header);
+        return;
+    }
+    keep_later(row, header);
+}
+
+fn capital(b: u8) -> u8
+    ensures { λ r. ⌜ r ≡ capital b ⌝ }
+{
+    if b < 97 {
+        return b;
+    }
+    if 122 < b {
+        return b;
+    }
+    b - 32
+}
+
+// "next_file names the next volume (a-z read as A-Z) and is empty in the last"
+fn names(c: &[u8], name: &[u8]) -> bool
+    ensures { λ r. ⌜ r ≡ same (map capital (now (c .entry))) (now (name .entry)) ⌝ }
+{
+    if c.len() != name.len() {
+        return false;
+    }
+    let mut i = 0;
+    while i < c.len() {
+        if capital(c[i]) != name[i] {
+            return false;
+        }
+        i += 1;
+    }
+    true
+}
+
+fn copy_record(header: &[i64], n: usize, w: usize, t: &mut [i64])
+    requires { ⌜ (n ≤ length (now header)) × (w + n ≤ length (now t)) ⌝ }
+    ensures { λ _. ⌜ now (t .exit) ≡ paste (now (t .entry)) w (now (header .entry)) n ⌝ }
+{
+    let mut i = 0;
+    while i < n {
+        t[w + i] = header[i];
+        i += 1;
+    }
+}
+
+// What the first volume's header says of the set: the ranges; date, time and all_ele.
+fn ranges_tally(header: &[i64], tally: &mut [u32])
+    requires { ⌜ Header (now header) × (length (now tally) ≡ 12) ⌝ }
+    ensures { λ _. ⌜ now (tally .exit) ≡ rangesTally (now (header .entry)) (now (tally .entry)) ⌝ }
+{
+    tally[ARC] = header[6] as u32;
+    tally[SYMBOL_RANGE] = header[8] as u32;
+    tally[DEFINE_RANGE] = header[11] as u32;
+}
+
+fn set_tally(header: &[i64], tally: &mut [u32])
+    requires { ⌜ Header (now header) × (length (now tally) ≡ 12) ⌝ }
+    ensures { λ _. ⌜ now (tally .exit) ≡ setTally (now (header .entry)) (now (tally .entry)) ⌝ }
+{
+    tally[DATE] = header[14] as u32;
+    tally[TIME] = header[15] as u32;
+    tally[ALL] = header[13] as u32;
+}
+
+// What a header says of its volume: this_ele, of which none is counted yet.
+fn here_tally(this: u32, tally: &mut [u32])
+    requires { ⌜ length (now tally) ≡ 12 ⌝ }
+    ensures { λ _. ⌜ now (tally .exit) ≡ hereTally this (now (tally .entry)) ⌝ }
+{
+    tally[HERE] = this;
+    tally[ELEMENTS_HERE] = 0;
+}
+
+fn first_tally(header: &[i64], tally: &mut [u32])
+    requires { ⌜ Header (now header) × (length (now tally) ≡ 12) ⌝ }
+    ensures { λ _. ⌜ now (tally .exit) ≡ firstTally (now (header .entry)) (now (tally .entry)) ⌝ }
+{
+    ranges_tally(header, tally);
+    set_tally(header, tally);
+    here_tally(header[38] as u32, tally);
+}
+
+fn later_tally(header: &[i64], tally: &mut [u32])
+    requires { ⌜ Header (now header) × (length (now tally) ≡ 12) ⌝ }
+    ensures { λ _. ⌜ now (tally .exit) ≡ laterTally (now (header .entry)) (now (tally .entry)) ⌝ }
+{
+    here_tally(header[6] as u32, tally);
+}
+
+// "date and time agree over the set"
+fn dated(header: &[i64], tally: &[u32]) -> bool
+    requires { ⌜ Header (now header) × (length (now tally) ≡ 12) ⌝ }
+    ensures { λ r. ⌜ r ≡ datedAs (now (tally .entry)) (now (header .entry)) ⌝ }
+{
+    if header[68] as u32 != tally[DATE] {
+        return false;
+    }
+    header[69] as u32 == tally[TIME]
+}
+
+// "16: volume chain, date or time unlike volume 1's, at FILE_FORMAT's close"
+fn close_file(
+    s: &[u8],
+    following: &[u8],
+    first: bool,
+    here: Now,
+    tally: &mut [u32],
+    header: &[i64],
+    t: &mut [i64],
+) -> Step
+    requires { ⌜ Header (now header) × (length (now tally) ≡ 12) × (fileWidth first ≤ here .free) × (here .free ≤ length (now t)) ⌝ }
+    ensures { λ r. ⌜ FileClosed (now (s .entry)) (now (following .entry)) first here (now (header .entry)) (now (tally .entry)) (now (tally .exit)) (now (t .entry)) (now (t .exit)) r ⌝ }
+{
+    let name = Span {
+        at: header[66] as u32,
+        len: header[67] as u32,
+    };
+    if !names(part(s, name), following) {
+        return Step::Stop(16);
+    }
+    if first {
+        copy_record(header, 64, here.free - 64, t);
+        first_tally(header, tally);
+        return Step::Go(at_block(here, TOP, 1));
+    }
+    if !dated(header, tally) {
+        return Step::Stop(16);
+    }
+    copy_record(header, 32, here.free - 32, t);
+    later_tally(header, tally);
+    Step::Go(at_block(here, TOP, 3))
+}
+
+// A line in FILE_FORMAT, in its own part or an inner one. Its numbers are kept apart till it closes.
+pub fn on_file(
+    s: &[u8],
+    symbols: &[u32],
+    layers: &[u32],
+    following: &[u8],
+    first: bool,
+    here: Now,
+    form: LineForm,
+    tally: &mut [u32],
+    marks: &mut [bool],
+    header: &mut [i64],
+    t: &mut [i64],
+) -> Step
+    requires { ⌜ (length (now s) ≤ 61440) × (length (now symbols) ≤ 65536) × (length (now layers) ≤ 65536) × FileReady first here (now tally) (now marks) (now header) (now t) ⌝ }
+    ensures { λ r. ⌜ FileLine (act (knownIn (now (s .entry)) (now (symbols .entry)) (now (layers .entry))) (tableOf (fileTableOf first (here .part))) (digits 0 0) (partMarks first (here .part) (now (marks .entry))) (formIn (now (s .entry)) form)) (now (s .entry)) (now (following .entry)) first here (now (tally .entry)) (now (tally .exit)) (now (marks .entry)) (now (marks .exit)) (now (header .entry)) (now (header .exit)) (now (t .entry)) (now (t .exit)) r ⌝ }
+{
+    let from = marks_from(here.part);
+    let to = marks_to(first, here.part);
+    let next = act(
+        file_table(first, here.part),
+        s,
+        symbols,
+        layers,
+        no_digits(),
+        &marks[from..to],
+        form,
+        64,
+        header,
+    );
+    match next {
+        Next::Stay => Step::Go(here),
+        Next::Entry(row) => {
+            marks[from + row as usize] = true;
+            if here.part == 0 {
+                keep(first, row, header);
+            }
+            Step::Go(here)
+        }
+        Next::Begin(inner) => {
+            marks[from + inner.row as usize] = true;
+            Step::Go(at_block(here, FILE, inner.block))
+        }
+        Next::Shut => {
+            if here.part == 0 {
+                return close_file(s, following, first, here, tally, header, t);
+            }
+            Step::Go(at_block(here, FILE, around(here.part)))
+        }
+        Next::Refuse(k) => Step::Stop(k),
+    }
+}

@@ -1,0 +1,158 @@
+// The numbers lent in place of a table. The reader is lent its table. The rewriter keeps no records: a scratch of three is enough for it,
+// and its table is one that is only thought of, as long as `limit` says. A line on the scratch has the places moved there and back.
+use crate::table::clear;
+use account::CHAIN;
+use account::DEFINES;
+use account::FILE;
+use account::Now;
+use account::PLACED;
+use account::Step;
+use account::TEXT;
+use account::TOP;
+ghost use mathlib.Core.Path.{_≡_};
+ghost use mathlib.Core.Bool.{false};
+ghost use Prim.Native.Nat.{_+_, _*_, _-_, _≤_};
+ghost use Rattle.account.specs.Points.{chainPlace};
+ghost use Rattle.account.specs.TableApart.{scratchPlace, scratchFree, movedTo, lentNow, chainAt, freshFor, opensOwn, backNow, backStep, Grows};
+
+// The place of the next record on the scratch.
+fn scratch_place(block: u8) -> usize
+    ensures { λ r. ⌜ r ≡ scratchPlace block ⌝ }
+{
+    if block == DEFINES {
+        return 0;
+    }
+    if block == FILE {
+        return 64;
+    }
+    if block == CHAIN {
+        return 64;
+    }
+    if block == TEXT {
+        return 64;
+    }
+    if block == PLACED {
+        return 64;
+    }
+    32
+}
+
+// Where the table has no room for another record, the scratch has none; the first FILE_FORMAT takes two.
+fn scratch_free(here: Now, limit: usize) -> usize
+    requires { ⌜ here .free ≤ limit ⌝ }
+    ensures { λ r. ⌜ r ≡ scratchFree here limit ⌝ }
+{
+    let left = limit - here.free;
+    if left < 32 {
+        return 96;
+    }
+    if here.block != TOP {
+        return scratch_place(here.block);
+    }
+    if left < 64 {
+        return 64;
+    }
+    0
+}
+
+fn moved_to(here: Now, own: usize, free: usize) -> Now
+    ensures { λ r. ⌜ r ≡ movedTo here own free ⌝ }
+{
+    Now {
+        block: here.block,
+        part: here.part,
+        layered: here.layered,
+        owner: here.owner,
+        own: own,
+        free: free,
+        figures: here.figures,
+        points: here.points,
+    }
+}
+
+// What is open, by the places of what is lent.
+pub fn lent_now(whole: bool, here: Now, limit: usize) -> Now
+    requires { ⌜ here .free ≤ limit ⌝ }
+    ensures { λ r. ⌜ r ≡ lentNow whole here limit ⌝ }
+{
+    if whole {
+        return here;
+    }
+    moved_to(here, 0, scratch_free(here, limit))
+}
+
+// The place of the own record of an open `successive`: in the table it stands before those of its points.
+pub fn chain_at(whole: bool, here: Now) -> usize
+    requires { ⌜ (here .block ≡ 9 → 32 * (here .points + 1) ≤ here .free) ⌝ }
+    ensures { λ r. ⌜ r ≡ chainAt whole here ⌝ }
+{
+    if !whole {
+        return 32;
+    }
+    if here.block != CHAIN {
+        return 0;
+    }
+    here.free - 32 * (here.points as usize + 1)
+}
+
+// A symbol begins with a record of zeros.
+pub fn make_fresh(whole: bool, here: Now, t: &mut [i64])
+    ensures { λ _. ⌜ now (t .exit) ≡ freshFor whole here (now (t .entry)) ⌝ }
+{
+    if whole {
+        return;
+    }
+    if here.block == DEFINES {
+        clear(t);
+    }
+}
+
+// At the top level and in SYMBOL_DEFINE a record that is taken is what opens.
+fn opens_own(block: u8) -> bool
+    ensures { λ r. ⌜ r ≡ opensOwn block ⌝ }
+{
+    if block == TOP {
+        return true;
+    }
+    block == DEFINES
+}
+
+// How many numbers a line took.
+fn taken(free: usize, behind: usize) -> usize
+    ensures { λ r. ⌜ r ≡ behind - free ⌝ }
+{
+    if behind <= free {
+        return 0;
+    }
+    behind - free
+}
+
+// What is open behind the line, by the places of the table.
+fn back_now(here: Now, free: usize, behind: Now) -> Now
+    requires { ⌜ here .free + (behind .free - free) ≤ 18446744073709551615 ⌝ }
+    ensures { λ r. ⌜ r ≡ backNow here free behind ⌝ }
+{
+    let next = here.free + taken(free, behind.free);
+    if !opens_own(here.block) {
+        return moved_to(behind, here.own, next);
+    }
+    if behind.free <= free {
+        return moved_to(behind, here.own, next);
+    }
+    moved_to(behind, here.free, next)
+}
+
+// The line's answer, by the places of the table.
+pub fn back_step(whole: bool, here: Now, free: usize, did: Step) -> Step
+    requires { ⌜ (whole ≡ false → Grows here free did) ⌝ }
+    ensures { λ r. ⌜ r ≡ backStep whole here free did ⌝ }
+{
+    if whole {
+        return did;
+    }
+    match did {
+        Step::Go(m) => Step::Go(back_now(here, free, m)),
+        Step::Skip(m) => Step::Skip(back_now(here, free, m)),
+        Step::Stop(k) => Step::Stop(k),
+    }
+}

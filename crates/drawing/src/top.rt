@@ -1,0 +1,240 @@
+// The top level: the blocks of a volume in their order, and EOF.
+use crate::blocks::at_block;
+use crate::blocks::has_room;
+use crate::blocks::no_digits;
+use crate::blocks::unmark;
+use crate::serials::all_marked;
+use crate::table::clear;
+use crate::table::head;
+use account::ALL;
+use account::DEFINES;
+use account::DRAWING;
+use account::ELEMENTS;
+use account::ENDED;
+use account::FILE;
+use account::LAYERS;
+use account::Now;
+use account::Step;
+use account::TOTAL;
+use account::Where;
+use entries::Next;
+use entries::acts::act;
+use rules::LineForm;
+ghost use mathlib.Core.Path.{_≡_};
+ghost use Prim.Native.Nat.{_+_, _≤_};
+ghost use lib.ListN.{length};
+ghost use Rattle.rules.specs.Lines.{formIn};
+ghost use Rattle.entries.specs.Names.{knownIn};
+ghost use Rattle.account.specs.Account.{headAt};
+ghost use Rattle.account.specs.TopLines.{stepOf, layersOf, eofNow, topLent, recordTaken, headerBegun, topAct, Answered, takingNow, fileSize, unmarked, blockNow, openedLent, keyNow, keyLent, topNow, topLentBy};
+
+// EOF: 9 where it is misplaced, then 14 for a layer that is not used, then 17 for all_ele.
+fn at_eof(here: Now, at: Where, tally: &[u32], used_all: &[bool]) -> Step
+    requires { ⌜ (length (now tally) ≡ 12) × (layersOf (now tally) ≤ length (now «used_all»)) ⌝ }
+    ensures { λ r. ⌜ r ≡ stepOf (eofNow here at (now (tally .entry)) (now («used_all» .entry))) ⌝ }
+{
+    if here.part != 4 {
+        return Step::Stop(9);
+    }
+    if !at.ends {
+        return Step::Stop(9);
+    }
+    let count = tally[LAYERS] as usize;
+    if !all_marked(&used_all[..count]) {
+        return Step::Stop(14);
+    }
+    if tally[ALL] != tally[TOTAL] {
+        return Step::Stop(17);
+    }
+    Step::Go(at_block(here, ENDED, 0))
+}
+
+fn record_taken(here: Now, block: u8, size: usize) -> Now
+    requires { ⌜ here .free + size ≤ 18446744073709551615 ⌝ }
+    ensures { λ r. ⌜ r ≡ recordTaken here block size ⌝ }
+{
+    Now {
+        block: block,
+        part: 0,
+        layered: false,
+        owner: 0,
+        own: here.free,
+        free: here.free + size,
+        figures: 0,
+        points: 0,
+    }
+}
+
+// The header's record and the volume's are begun, apart from the table.
+fn begin_header(first: bool, at: Where, header: &mut [i64])
+    requires { ⌜ length (now header) ≡ 70 ⌝ }
+    ensures { λ _. ⌜ now (header .exit) ≡ headerBegun first at (now (header .entry)) ⌝ }
+{
+    clear(header);
+    if first {
+        head(header, 0, 1, 0, at.volume, at.line);
+        head(header, 32, 2, 0, at.volume, at.line);
+        return;
+    }
+    head(header, 0, 2, 0, at.volume, at.line);
+}
+
+// FILE_FORMAT takes two records in the first volume, the header's and the volume's, and one in others.
+fn open_file(
+    here: Now,
+    first: bool,
+    at: Where,
+    marks: &mut [bool],
+    header: &mut [i64],
+    t: &[i64],
+) -> Step
+    requires { ⌜ length (now header) ≡ 70 ⌝ }
+    ensures { λ r. ⌜ Answered (takingNow here 1 (fileSize first) (now (t .entry))) ((now (marks .exit) ≡ unmarked (now (marks .entry))) × (now (header .exit) ≡ headerBegun first at (now (header .entry)))) r ⌝ }
+{
+    let w = here.free;
+    if !has_room(t, w) {
+        return Step::Stop(19);
+    }
+    unmark(marks);
+    begin_header(first, at, header);
+    if !first {
+        return Step::Go(record_taken(here, FILE, 32));
+    }
+    if !has_room(t, w + 32) {
+        return Step::Stop(19);
+    }
+    Step::Go(record_taken(here, FILE, 64))
+}
+
+fn open_drawing(here: Now, at: Where, marks: &mut [bool], t: &mut [i64]) -> Step
+    ensures { λ r. ⌜ Answered (takingNow here 2 32 (now (t .entry))) ((now (marks .exit) ≡ unmarked (now (marks .entry))) × (now (t .exit) ≡ headAt (here .free) 3 0 at (now (t .entry)))) r ⌝ }
+{
+    let w = here.free;
+    if !has_room(t, w) {
+        return Step::Stop(19);
+    }
+    head(t, w, 3, 0, at.volume, at.line);
+    unmark(marks);
+    Step::Go(record_taken(here, DRAWING, 32))
+}
+
+// "FILE_FORMAT, DRAWING_FORMAT, SYMBOL_DEFINE, ELEMENT, each once in this order"
+fn open_block(
+    here: Now,
+    first: bool,
+    at: Where,
+    block: u8,
+    marks: &mut [bool],
+    used: &mut [bool],
+    header: &mut [i64],
+    t: &mut [i64],
+) -> Step
+    requires { ⌜ length (now header) ≡ 70 ⌝ }
+    ensures { λ r. ⌜ Answered (blockNow first here (now (t .entry)) block) ((topLent (now (marks .exit)) (now (used .exit)) (now (header .exit)) (now (t .exit))) ≡ openedLent first here at block (topLent (now (marks .entry)) (now (used .entry)) (now (header .entry)) (now (t .entry)))) r ⌝ }
+{
+    if block != here.part {
+        return Step::Stop(9);
+    }
+    if block == 0 {
+        return open_file(here, first, at, marks, header, t);
+    }
+    if block == 1 {
+        return open_drawing(here, at, marks, t);
+    }
+    if block == 2 {
+        return Step::Go(at_block(here, DEFINES, 0));
+    }
+    unmark(used);
+    Step::Go(at_block(here, ELEMENTS, 0))
+}
+
+// A line outside all blocks.
+pub fn on_top(
+    s: &[u8],
+    symbols: &[u32],
+    layers: &[u32],
+    first: bool,
+    here: Now,
+    form: LineForm,
+    at: Where,
+    tally: &[u32],
+    marks: &mut [bool],
+    used: &mut [bool],
+    used_all: &[bool],
+    header: &mut [i64],
+    t: &mut [i64],
+) -> Step
+    requires { ⌜ (length (now s) ≤ 61440) × (length (now symbols) ≤ 65536) × (length (now layers) ≤ 65536) × (length (now tally) ≡ 12) × (layersOf (now tally) ≤ length (now «used_all»)) × (length (now header) ≡ 70) ⌝ }
+    ensures { λ r. ⌜ Answered (topNow (knownIn (now (s .entry)) (now (symbols .entry)) (now (layers .entry))) first here at (now (tally .entry)) (now («used_all» .entry)) (now (t .entry)) (formIn (now (s .entry)) form)) ((topLent (now (marks .exit)) (now (used .exit)) (now (header .exit)) (now (t .exit))) ≡ topLentBy (knownIn (now (s .entry)) (now (symbols .entry)) (now (layers .entry))) first here at (topLent (now (marks .entry)) (now (used .entry)) (now (header .entry)) (now (t .entry))) (formIn (now (s .entry)) form)) r ⌝ }
+{
+    match form {
+        LineForm::Ignored => Step::Go(here),
+        LineForm::Close => Step::Stop(9),
+        LineForm::Eof => at_eof(here, at, tally, used_all),
+        LineForm::Opens(_) => top_key(
+            s,
+            symbols,
+            layers,
+            first,
+            here,
+            form,
+            at,
+            marks,
+            used,
+            header,
+            t,
+        ),
+        LineForm::Equals(_) => top_key(
+            s,
+            symbols,
+            layers,
+            first,
+            here,
+            form,
+            at,
+            marks,
+            used,
+            header,
+            t,
+        ),
+        LineForm::Refused(r) => Step::Stop(r.number),
+    }
+}
+
+fn top_key(
+    s: &[u8],
+    symbols: &[u32],
+    layers: &[u32],
+    first: bool,
+    here: Now,
+    form: LineForm,
+    at: Where,
+    marks: &mut [bool],
+    used: &mut [bool],
+    header: &mut [i64],
+    t: &mut [i64],
+) -> Step
+    requires { ⌜ (length (now s) ≤ 61440) × (length (now symbols) ≤ 65536) × (length (now layers) ≤ 65536) × (length (now header) ≡ 70) ⌝ }
+    ensures { λ r. ⌜ Answered (keyNow first here (now (t .entry)) (topAct (knownIn (now (s .entry)) (now (symbols .entry)) (now (layers .entry))) (formIn (now (s .entry)) form))) ((topLent (now (marks .exit)) (now (used .exit)) (now (header .exit)) (now (t .exit))) ≡ keyLent first here at (topLent (now (marks .entry)) (now (used .entry)) (now (header .entry)) (now (t .entry))) (topAct (knownIn (now (s .entry)) (now (symbols .entry)) (now (layers .entry))) (formIn (now (s .entry)) form))) r ⌝ }
+{
+    let full = [false; 4];
+    let mut nothing = [0i64; 1];
+    let next = act(
+        0,
+        s,
+        symbols,
+        layers,
+        no_digits(),
+        &full,
+        form,
+        0,
+        &mut nothing,
+    );
+    match next {
+        Next::Stay => Step::Go(here),
+        Next::Entry(_) => Step::Stop(5),
+        Next::Begin(inner) => open_block(here, first, at, inner.row, marks, used, header, t),
+        Next::Shut => Step::Stop(9),
+        Next::Refuse(n) => Step::Stop(n),
+    }
+}

@@ -1,0 +1,77 @@
+use borrow.Author.Needs.{needs}
+use Rattle.sets.proofs.rewriter.write_set.Statement.{statement}
+use Rattle.sets.proofs.rewriter.write_set.Tie as tie
+use Rattle.sets.proofs.rewriter.write_set.Reads as reads
+use Rattle.sets.proofs.rewriter.write_set.Lts as lts
+use Rattle.pens.proofs.volumes.put_set.Reads as put-set-reads
+use Rattle.sets.proofs.rewriter.clear.Reads as clear-reads
+
+-- src/rewriter.rt:28:11
+put-set-requires : tie.Need-put-set-requires
+put-set-requires c κs = search needs
+
+-- src/rewriter.rt:29:22
+enum-known-n : tie.Need-enum-known-n
+enum-known-n c = search needs
+
+-- src/rewriter.rt:30:19
+sub-clear : tie.Need-sub-clear
+sub-clear c = ?
+
+-- src/rewriter.rt:30:19
+part-clear-start : tie.Need-part-clear-start
+part-clear-start c = ?
+
+-- src/rewriter.rt:30:19
+part-clear-end : tie.Need-part-clear-end
+part-clear-end c = search needs
+
+-- src/rewriter.rt:30:13
+clear-requires : tie.Need-clear-requires
+clear-requires c κs = search needs
+
+-- src/rewriter.rt:31:30
+cast-t13 : tie.Need-cast-t13
+cast-t13 c = ?
+
+-- src/rewriter.rt:34:19
+enum-told : tie.Need-enum-told
+enum-told c = search needs
+
+-- src/rewriter.rt:34:13
+clear-requires-2 : tie.Need-clear-requires-2
+clear-requires-2 c κs = search needs
+
+-- src/rewriter.rt:24:1
+same-length : tie.Need-same-length
+same-length c = search needs
+
+-- src/rewriter.rt:24:1
+returns : tie.Need-returns
+returns c = ?
+
+-- src/rewriter.rt:24:1
+same-length-2 : tie.Need-same-length-2
+same-length-2 c = search needs
+
+-- src/rewriter.rt:24:1
+returns-2 : tie.Need-returns-2
+returns-2 c = ?
+
+pub write-set-spec : {M : Type 1} → statement M
+write-set-spec =
+    tie.close
+    (tie.spec
+    put-set-requires
+    enum-known-n
+    sub-clear
+    part-clear-start
+    part-clear-end
+    clear-requires
+    cast-t13
+    enum-told
+    clear-requires-2
+    same-length
+    returns
+    same-length-2
+    returns-2)

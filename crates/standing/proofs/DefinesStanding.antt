@@ -1,0 +1,271 @@
+-- A line in SYMBOL_DEFINE: from the code's answer to the step that the definitions make.
+use Prim.Native.Nat.{ℕ, zero, suc, _+_, _*_, _≤_, _<_}
+use mathlib.Core.Bool.{Bool, true, false, cond, _||_, not}
+use mathlib.Core.List.{List, [], _∷_, _++_}
+use mathlib.Core.Option.{none}
+use mathlib.Core.Path.{_≡_, refl, sym, _∙_, ap, subst}
+use native.Mathlib.Omega.{arith}
+use lib.Dec.{eqb}
+use lib.IntN.{ℤ}
+use lib.ListN.{length, getD, take, replicate, length-replicate}
+use lib.Seq.{length-take-le}
+use borrow.Author.Tests.{leb-true, ne-eqb}
+use Rattle.rules.specs.declared.Digits.{Digits}
+use Rattle.rules.specs.declared.LineForm.{LineForm}
+use Rattle.rules.specs.Base.{isNil}
+use Rattle.rules.specs.RefusalNumbers.{got, unless}
+use Rattle.rules.specs.RangeClass.{digitsOf}
+use Rattle.rules.specs.Lines.{formIn}
+use Rattle.rules.specs.Values.{Known, Value}
+use Rattle.rules.specs.Rows.{Rule, Held, blank, marks, Act, stay, entry, begin, shut, refuse, act}
+use Rattle.rules.specs.Blocks.{definesTable, symbolTable}
+use Rattle.rules.specs.Sets.{Symbol, Contents, Set, knownOf, defineRange, withRecords}
+use Rattle.rules.specs.Machine.{Line, Env, State, top, defines, symbol, byAct, roomFor, newName, stepIn}
+use Rattle.rules.specs.RecordTable.{ruleAt, putSlots, start}
+use Rattle.rules.proofs.Chains.{clash}
+use Rattle.rules.proofs.Rows.{row-at, row-below}
+use Rattle.tables.specs.Tables.{tableOf}
+use Rattle.entries.specs.Names.{knownIn}
+use Rattle.account.specs.declared.Now.{Now}
+use Rattle.account.specs.declared.Where.{Where}
+use Rattle.account.specs.declared.Step.{Step}
+use Rattle.account.specs.declared.Step.the-variants as S
+use Rattle.standing.specs.Laid.{Laid}
+use Rattle.account.specs.Records.{hasRoom}
+use Rattle.account.specs.Account.{atBlock, headAt}
+use Rattle.standing.specs.SoFar.{volumeOf, frontRecords, baseRecords, soFar}
+use Rattle.standing.specs.Standing.{Desk, setOf, openFigures, nameBytes, serialBytes, Inside, First, InSymbol, CharsHere, isText, Stands, Under, LineHere, StepOut, symbolBytes, formSize}
+use Rattle.account.specs.SymbolLines.{nonIn, nonRead, symbolOpened, openSymbol, closeDefines, definesStep, SymbolBegun, Untouched, OpenedOr, DefinesTable, DefinesLine}
+use Rattle.standing.proofs.Openers.{plainKind}
+use Rattle.standing.proofs.LineOrigins.{From, begin-from}
+use Rattle.standing.proofs.OpenedRows.{begin-row}
+use Rattle.standing.proofs.LineSizes.{begin-size}
+use Rattle.standing.proofs.LaidTables.{laid-same}
+use Rattle.standing.proofs.HeadRecords.{head-laid}
+use Rattle.standing.proofs.Standings.{has-room, sight, deskWith, stands-on, known}
+
+-- ── what is computed of the tables ──
+pub defines-rows : tableOf 8 ≡ definesTable
+unfolding tableOf
+defines-rows = refl
+
+-- its record when it opens
+blank-record : (owner line : ℕ) → putSlots symbolTable (blank symbolTable) (start 4 owner 1 line) ≡ start 4 owner 1 line
+unfolding symbolTable
+blank-record owner line = refl
+
+abbrev pub blankSymbol : ℕ → Symbol
+blankSymbol line = record { line = line; own = blank symbolTable; figures = []; hidden = []; hideFirst = false }
+
+blank-bytes : (line : ℕ) → symbolBytes (blankSymbol line) ≡ 12
+unfolding symbolTable
+blank-bytes line = refl
+
+blank-slots : length (blank symbolTable) ≡ 4
+unfolding symbolTable
+blank-slots = refl
+
+blank-marks : marks (blank symbolTable) ≡ replicate 4 false
+unfolding symbolTable
+blank-marks = refl
+
+blank-new : (s : Set) (line : ℕ) → newName s (blankSymbol line) ≡ true
+unfolding symbolTable
+blank-new s line = refl
+
+blank-name : getD (blank symbolTable) 0 none ≡ none
+unfolding symbolTable
+blank-name = refl
+
+two-rows : length definesTable ≡ 2
+unfolding definesTable
+two-rows = refl
+
+-- "E_symbol" has eight bytes
+opener-key : (j : ℕ) → j < 2 → plainKind (ruleAt definesTable j .holds) ≡ false → length (ruleAt definesTable j .key) ≡ 8
+unfolding definesTable
+opener-key zero h e = clash refl e
+opener-key (suc zero) h e = refl
+opener-key (suc (suc j)) h e = absurd (omega (arith, h))
+
+-- ── counts and marks ──
+pub nil-count : {A : Type 0} (s : List A) → eqb (length s) 0 ≡ isNil s
+nil-count [] = refl
+nil-count (a ∷ s) = ne-eqb (suc (length s)) 0 (λ e. absurd (omega (arith, e)))
+
+non-in : (n : Now) (b : Bool) → n .part ≡ cond b 1 0 → nonIn n ≡ b
+non-in n true e = ap (λ (m : ℕ). not (eqb m 0)) e
+non-in n false e = ap (λ (m : ℕ). not (eqb m 0)) e
+
+first-volume : (k : ℕ) (s : Set) → First k s → k ≡ volumeOf s
+first-volume k s f = f .volume ∙ go (s .volumes) (f .first)
+  where
+    go : (vs : List Contents) → isNil vs ≡ true → 1 ≡ suc (length vs)
+    go [] e = refl
+    go (v ∷ vs) e = clash e refl
+
+module _ (c : Digits) (spool : List ℕ) (k : ℕ) (FileHere : Desk → Set → ℕ → Held → ℕ → Type 0) (d : Desk) (at to : ℕ) (e : Env) (l : Line) (w : Where) (form : LineForm) (u : Under c d e)
+    (x : LineHere spool k at to form w l) (s : Set) (b : Bool) (z : Stands c spool k d (FileHere d) at (defines s b)) where
+  abbrev st : State
+  st = defines s b
+
+  abbrev did : Act
+  did = act (knownOf s) definesTable (digitsOf (defineRange s)) (b ∷ false ∷ []) (l .form)
+
+  -- the act that the code goes by
+  abbrev pub definesAct : Act
+  definesAct =
+      act (knownIn spool (take (getD (d .tally) 9 0) (d .symbols)) (take (getD (d .tally) 10 0) (d .layers))) (tableOf 8) (digitsOf (getD (d .tally) 2 0)) (nonIn (d .now) ∷ false ∷ [])
+      (formIn spool form)
+
+  -- the names that are lent
+  abbrev pub namesLent : ℕ
+  namesLent = length (take (getD (d .tally) 9 0) (d .symbols))
+
+  first : First k s
+  first = z .block .2
+
+  non : nonIn (d .now) ≡ b
+  non = non-in (d .now) b (z .block .1)
+
+  defines-act : definesAct ≡ did
+  defines-act =
+      ap (λ (m : Known). act m (tableOf 8) (digitsOf (getD (d .tally) 2 0)) (nonIn (d .now) ∷ false ∷ []) (formIn spool form)) (known c spool k FileHere d at to st st z refl)
+      ∙ ap (λ (t : List Rule). act (knownOf s) t (digitsOf (getD (d .tally) 2 0)) (nonIn (d .now) ∷ false ∷ []) (formIn spool form)) defines-rows
+      ∙ ap (λ (t : List ℕ). act (knownOf s) definesTable (digitsOf (getD t 2 0)) (nonIn (d .now) ∷ false ∷ []) (formIn spool form)) (z .tally)
+      ∙ ap (λ (y : Bool). act (knownOf s) definesTable (digitsOf (defineRange s)) (y ∷ false ∷ []) (formIn spool form)) non
+      ∙ ap (act (knownOf s) definesTable (digitsOf (defineRange s)) (b ∷ false ∷ [])) (sym (x .is))
+
+  counted : namesLent ≡ length (s .symbols)
+  counted =
+      let a : getD (d .tally) 9 0 ≡ length (s .symbols) = ap (λ (t : List ℕ). getD t 9 0) (z .tally) in
+      length-take-le (getD (d .tally) 9 0) (d .symbols) (omega (arith, a, z .lengths .symbols, z .named, x .bytes, x .most)) ∙ a
+
+  none-yet : eqb namesLent 0 ≡ isNil (s .symbols)
+  none-yet = ap (λ (m : ℕ). eqb m 0) counted ∙ nil-count (s .symbols)
+
+  later : at ≤ to
+  later = omega (arith, x .bytes)
+
+  module _ (m₁ : List Bool) (t₁ : List ℤ) where
+    abbrev Out : Step → Type 0
+    Out r = StepOut c spool k FileHere e l to st (deskWith d (d .now) m₁ (d .inner) t₁) r
+
+    -- nothing but what is open, and the place in the spool
+    kept : (st′ : State) (n : Now) → sight st ≡ sight st′ → Untouched (d .marks) m₁ (d .table) t₁ → n .free ≡ d .now .free → soFar c st ≡ soFar c st′
+        → 32 * setOf st′ .taken ≡ d .now .free
+        → openFigures st′ ≡ 0 → nameBytes st′ ≡ 0 → serialBytes st′ ≡ 3
+        → Inside c spool k (deskWith d n m₁ (d .inner) t₁) (FileHere (deskWith d n m₁ (d .inner) t₁)) st′
+        → Stands c spool k (deskWith d n m₁ (d .inner) t₁) (FileHere (deskWith d n m₁ (d .inner) t₁)) to st′
+    kept st′ n v q f r t a g h i =
+        stands-on c spool k FileHere d at to st st′ z n m₁ (d .inner) t₁ v (ap length (q .marks) ∙ z .lengths .marks) (z .lengths .inner)
+        (subst (λ (y : ℕ). Laid t₁ (soFar c st′) y) (sym f) (subst (λ (y : List ℤ). Laid y (soFar c st′) (d .now .free)) (sym (q .table)) (laid-same (d .table) (soFar c st) (soFar c st′) (d .now .free) r (z .laid))))
+        (t ∙ sym f) (omega (arith, z .counted, later, a)) (omega (arith, z .named, later, g)) (omega (arith, z .numbered, later, h)) i
+
+    on-stay : did ≡ stay → Untouched (d .marks) m₁ (d .table) t₁ → Out (S.Go (d .now))
+    on-stay a q = (st, ap (byAct _ _ _ _) a, kept st (d .now) refl q refl refl (z .taken) refl refl refl (z .block))
+
+    -- `NON=`
+    on-entry : (j : ℕ) (v : Value) → did ≡ entry j v → Untouched (d .marks) m₁ (d .table) t₁ → Out (nonRead (d .now) namesLent)
+    on-entry j v a q = go (isNil (s .symbols)) (ap (byAct _ _ _ _) a) none-yet
+      where
+        go : (y : Bool) → stepIn e l st ≡ unless y 6 (got (defines s true)) → eqb namesLent 0 ≡ y → Out (nonRead (d .now) namesLent)
+        go true p h =
+            subst Out (ap (λ (y : Bool). cond y (S.Go (atBlock (d .now) 4 1)) (S.Stop 6)) (sym h))
+            (defines s true, p, kept (defines s true) (atBlock (d .now) 4 1) refl q refl refl (z .taken) refl refl refl (refl, refl, first))
+        go false p h = subst Out (ap (λ (y : Bool). cond y (S.Go (atBlock (d .now) 4 1)) (S.Stop 6)) (sym h)) p
+
+    -- the block closes
+    on-shut : did ≡ shut → Untouched (d .marks) m₁ (d .table) t₁ → Out (closeDefines (d .now) namesLent)
+    on-shut a q = go (b || not (isNil (s .symbols))) (ap (byAct _ _ _ _) a) (ap (λ (y : Bool). y || not (eqb namesLent 0)) non ∙ ap (λ (y : Bool). b || not y) none-yet)
+      where
+        go : (y : Bool) → stepIn e l st ≡ unless y 8 (got (top s 3)) → (nonIn (d .now) || not (eqb namesLent 0)) ≡ y → Out (closeDefines (d .now) namesLent)
+        go true p h =
+            subst Out (ap (λ (y : Bool). cond y (S.Go (atBlock (d .now) 0 3)) (S.Stop 8)) (sym h))
+            (top s 3, p, kept (top s 3) (atBlock (d .now) 0 3) refl q refl (ap (baseRecords c s) (sym (first .first))) (z .taken) refl refl refl (refl, refl, (first-volume k s first, first .blocks)))
+        go false p h = subst Out (ap (λ (y : Bool). cond y (S.Go (atBlock (d .now) 0 3)) (S.Stop 8)) (sym h)) p
+
+    on-refuse : (m : ℕ) → did ≡ refuse m → Out (S.Stop m)
+    on-refuse m a = ap (byAct _ _ _ _) a
+
+    -- a symbol is begun
+    module _ (i j : ℕ) (v : Value) (a : did ≡ begin i j v) where
+      from : From (knownOf s) definesTable (digitsOf (defineRange s)) (b ∷ false ∷ []) (l .form) j (begin i j v)
+      from = begin-from (knownOf s) definesTable (digitsOf (defineRange s)) (b ∷ false ∷ []) (l .form) i j v a
+
+      -- `E_symbol:{` and the line's end
+      long : at + 12 ≤ to
+      long =
+          let r : length (ruleAt definesTable j .key) + 2 ≤ formSize (l .form) =
+          subst (λ (y : Rule). length (y .key) + 2 ≤ formSize (l .form)) (sym (row-at (from .row) _))
+          (begin-size (knownOf s) definesTable (digitsOf (defineRange s)) (b ∷ false ∷ []) (l .form) i j v from) in
+          omega (arith, x .bytes, opener-key j (omega (arith, row-below (from .row), two-rows)) (begin-row (knownOf s) definesTable (digitsOf (defineRange s)) (b ∷ false ∷ []) (l .form) i j v from .0), r)
+
+      abbrev y₀ : Symbol
+      y₀ = blankSymbol (l .line)
+
+      abbrev st′ : State
+      st′ = symbol (withRecords 1 s) y₀
+
+      step : stepIn e l st ≡ unless (not b) 6 (unless (roomFor (e .limit) (s .taken + 1)) 19 (got st′))
+      step = ap (byAct _ _ _ _) a
+
+      module _ (room : hasRoom (d .now .free) (d .table) ≡ true) (q : SymbolBegun (d .now) namesLent w (d .marks) m₁ (d .table) t₁) where
+        fits : d .now .free + 32 ≤ length (d .table)
+        fits = leb-true (d .now .free + 32) (length (d .table)) room
+
+        made : start 4 namesLent (w .volume) (w .line) ≡ putSlots symbolTable (blank symbolTable) (start 4 (length (s .symbols)) 1 (l .line))
+        made =
+            ap (λ (m : ℕ). start 4 m (w .volume) (w .line)) counted ∙ ap (λ (m : ℕ). start 4 (length (s .symbols)) m (w .line)) (x .volume ∙ first .volume)
+            ∙ ap (start 4 (length (s .symbols)) 1) (x .line) ∙ sym (blank-record (length (s .symbols)) (l .line))
+
+        opened : InSymbol spool k (symbolOpened (d .now) namesLent) m₁ (d .inner) (withRecords 1 s) y₀
+        opened = record {
+          phase = record { volume = first .volume; first = first .first; blocks = first .blocks };
+          owner = counted;
+          own = sym (z .laid .size);
+          slots = blank-slots;
+          marked = ap (take 4) (q .marks) ∙ ap (λ (m : ℕ). take 4 (replicate m false)) (z .lengths .marks) ∙ sym blank-marks;
+          fresh = blank-new s (l .line);
+          name = subst (CharsHere spool) (sym blank-name) tt;
+          is-text = ap isText blank-name;
+          element-first = λ h. (refl, λ g. refl);
+          hide-first = λ h. refl;
+        }
+
+        on-open : Stands c spool k (deskWith d (symbolOpened (d .now) namesLent) m₁ (d .inner) t₁) (FileHere (deskWith d (symbolOpened (d .now) namesLent) m₁ (d .inner) t₁)) to st′
+        on-open =
+            stands-on c spool k FileHere d at to st st′ z (symbolOpened (d .now) namesLent) m₁ (d .inner) t₁ refl
+            (ap length (q .marks) ∙ length-replicate (length (d .marks)) false ∙ z .lengths .marks) (z .lengths .inner)
+            (subst (λ (t : List ℤ). Laid t (soFar c st′) (d .now .free + 32)) (sym (q .table))
+            (subst (λ (r : List ℤ). Laid (headAt (d .now .free) 4 namesLent w (d .table)) (frontRecords s ++ r ∷ []) (d .now .free + 32)) made
+            (head-laid (d .table) (soFar c st) (d .now .free) (z .laid) fits 4 namesLent w)))
+            (omega (arith, z .taken)) (omega (arith, z .counted, later)) (omega (arith, z .named, long, blank-bytes (l .line))) (omega (arith, z .numbered, later)) (refl, opened)
+
+      on-begin : OpenedOr (nonIn (d .now)) (hasRoom (d .now .free) (d .table)) (SymbolBegun (d .now) namesLent w (d .marks) m₁ (d .table) t₁)
+          → Out (openSymbol (d .now) namesLent (hasRoom (d .now .free) (d .table)))
+      on-begin o = go (nonIn (d .now)) (hasRoom (d .now .free) (d .table)) refl refl o
+        where
+          does : (y r : Bool) → nonIn (d .now) ≡ y → hasRoom (d .now .free) (d .table) ≡ r → stepIn e l st ≡ unless (not y) 6 (unless r 19 (got st′))
+          does y r p h =
+              step ∙ ap (λ (g : Bool). unless (not g) 6 (unless (roomFor (e .limit) (s .taken + 1)) 19 (got st′))) (sym non ∙ p)
+              ∙ ap (λ (g : Bool). unless (not y) 6 (unless g 19 (got st′))) (has-room c d e (s .taken) u (z .taken) ∙ h)
+
+          go : (y r : Bool) → nonIn (d .now) ≡ y → hasRoom (d .now .free) (d .table) ≡ r → OpenedOr y r (SymbolBegun (d .now) namesLent w (d .marks) m₁ (d .table) t₁)
+              → Out (cond y (S.Stop 6) (cond r (S.Go (symbolOpened (d .now) namesLent)) (S.Stop 19)))
+          go true r p h o = does true r p h
+          go false true p h o = (st′, does false true p h, on-open h o)
+          go false false p h o = does false false p h
+
+  pub defines-line : (m₁ : List Bool) (t₁ : List ℤ) (r : Step) → DefinesLine definesAct (d .now) namesLent w (d .marks) m₁ (d .table) t₁ r
+      → StepOut c spool k FileHere e l to (defines s b) (deskWith d (d .now) m₁ (d .inner) t₁) r
+  defines-line m₁ t₁ r h =
+      subst (Out m₁ t₁) (sym (h .answer ∙ ap (definesStep (d .now) namesLent (hasRoom (d .now .free) (d .table))) defines-act))
+      (go did refl (subst (DefinesTable (d .now) namesLent w (d .marks) m₁ (d .table) t₁) defines-act (h .table)))
+    where
+      go : (a : Act) → did ≡ a → DefinesTable (d .now) namesLent w (d .marks) m₁ (d .table) t₁ a → Out m₁ t₁ (definesStep (d .now) namesLent (hasRoom (d .now .free) (d .table)) a)
+      go stay p q = on-stay m₁ t₁ p q
+      go (entry j v) p q = on-entry m₁ t₁ j v p q
+      go (begin i j v) p q = on-begin m₁ t₁ i j v p q
+      go shut p q = on-shut m₁ t₁ p q
+      go (refuse n) p q = on-refuse m₁ t₁ n p

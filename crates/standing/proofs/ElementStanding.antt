@@ -1,0 +1,251 @@
+-- A line in ELEMENT, outside its layers: from the code's answer to the step that the definitions make.
+use Prim.Native.Nat.{ℕ, suc, _+_, _≤_, _<_}
+use mathlib.Core.Bool.{Bool, true, false, cond, not}
+use mathlib.Core.List.{List, [], _∷_, _++_, map, append-nil, append-assoc}
+use mathlib.Core.Path.{_≡_, refl, sym, _∙_, ap, subst}
+use native.Mathlib.Omega.{arith}
+use lib.Dec.{eqb}
+use lib.ListN.{length, getD, set, take, length-append, length-set}
+use Rattle.rules.specs.declared.Digits.{Digits}
+use Rattle.rules.specs.declared.LineForm.{LineForm}
+use Rattle.rules.specs.Base.{flat, total, hasNumber}
+use Rattle.rules.specs.RefusalNumbers.{got, unless}
+use Rattle.rules.specs.RangeClass.{digits}
+use Rattle.rules.specs.Lines.{formIn}
+use Rattle.rules.specs.Values.{Known, Value, amountAt}
+use Rattle.rules.specs.Rows.{Rule, Held, partOf, numberOf, fullAt, Act, stay, entry, begin, shut, refuse, act}
+use Rattle.rules.specs.Blocks.{fileTable, rangeTable, elecTable, symTable, elementTable}
+use Rattle.rules.specs.Sets.{Layer, Contents, Set, withVolume, firstContents, knownOf, serialsOfVolume, serialsIn, elementsOf, usedIn}
+use Rattle.rules.specs.VolumesAndTotals.{countedHere}
+use Rattle.rules.specs.Machine.{Line, Env, inLayer, State, top, elements, figures, byAct}
+use Rattle.rules.proofs.Chains.{clash, nil-snoc, total-more}
+use Rattle.rules.proofs.Runs.{head-snoc}
+use Rattle.tables.specs.Tables.{tableOf}
+use Rattle.entries.specs.Names.{knownIn}
+use Rattle.account.specs.declared.Where.{Where}
+use Rattle.account.specs.declared.Step.{Step}
+use Rattle.account.specs.declared.Step.the-variants as S
+use Rattle.account.specs.Account.{atBlock}
+use Rattle.standing.specs.SoFar.{layersRecords, soFar}
+use Rattle.standing.specs.Standing.{Desk, closedSerials, tallyOf, Stands, Under, LineHere, StepOut}
+use Rattle.account.specs.ElementLines.{layerOpened, agrees, elementStep, ElementTally, LayersInUse, ElementLine}
+use Rattle.standing.proofs.Openers.{isEntry, no-entry}
+use Rattle.standing.proofs.LaidTables.{laid-same}
+use Rattle.standing.proofs.MoreRecords.{volume-closed}
+use Rattle.standing.proofs.Standings.{stands-on, known}
+use Rattle.standing.proofs.UsedLayers.{element-rows, element-full, element-opens, layer-known, used-more, flat-more}
+
+-- ── a closed volume ──
+-- the tally by what the first volume's FILE_FORMAT says
+abbrev tallyBy : Contents → ℕ → ℕ → ℕ → ℕ → ℕ → ℕ → List ℕ
+tallyBy v here now closed symbols layers serials =
+    numberOf "arc" rangeTable (partOf (v .file) 1) ∷ numberOf "E_sym" elecTable (partOf (v .file) 3) ∷ numberOf "S_elec" symTable (partOf (v .file) 4)
+    ∷ numberOf "date" fileTable (partOf (v .file) 0) ∷ numberOf "time" fileTable (partOf (v .file) 0) ∷ numberOf "all_ele" fileTable (partOf (v .file) 0)
+    ∷ here ∷ now ∷ closed ∷ symbols ∷ layers ∷ serials ∷ []
+
+closed-serials : (s : Set) → closedSerials (withVolume s) ≡ serialsIn s
+closed-serials s = flat-more serialsOfVolume (s .volumes) (s .now)
+
+closed-tally : (s : Set) (here layers : ℕ)
+    → tallyOf (withVolume s) here layers (length (closedSerials (withVolume s))) ≡ tallyBy (firstContents s) here (elementsOf (s .now)) (total elementsOf (s .volumes) + elementsOf (s .now)) (length (s .symbols)) layers (length (serialsIn s))
+closed-tally s here layers =
+    let v : Set = withVolume s in
+    ap (λ (n : ℕ). tallyOf v here layers n) (ap length (closed-serials s))
+    ∙ ap (λ (n : ℕ). tallyBy (firstContents v) here (elementsOf (s .now)) n (length (s .symbols)) layers (length (serialsIn s))) (total-more elementsOf (s .volumes) (s .now))
+    ∙ ap (λ (u : Contents). tallyBy u here (elementsOf (s .now)) (total elementsOf (s .volumes) + elementsOf (s .now)) (length (s .symbols)) layers (length (serialsIn s))) (head-snoc (s .now) (s .now) (s .volumes))
+
+closed-used : (s : Set) → flat (map usedIn (s .volumes)) ++ usedIn (s .now) ≡ flat (map usedIn (withVolume s .volumes)) ++ []
+closed-used s = sym (append-nil (flat (map usedIn (withVolume s .volumes))) ∙ flat-more usedIn (s .volumes) (s .now))
+
+-- the act that the code goes by
+abbrev pub elementAct : List ℕ → Desk → LineForm → Act
+elementAct spool d form = act (knownIn spool (take (getD (d .tally) 9 0) (d .symbols)) (take (getD (d .tally) 10 0) (d .layers))) (tableOf 10) (digits 0 0) (false ∷ []) (formIn spool form)
+
+-- the same things lent, but for the tally and the layers in use
+abbrev pub elementDesk : Desk → List ℕ → List Bool → List Bool → Desk
+elementDesk d t used all = record {
+  now = d .now;
+  tally = t;
+  symbols = d .symbols;
+  layers = d .layers;
+  serials = d .serials;
+  used = used;
+  usedAll = all;
+  marks = d .marks;
+  inner = d .inner;
+  header = d .header;
+  table = d .table;
+}
+
+module _ (c : Digits) (spool : List ℕ) (k : ℕ) (FileHere : Desk → Set → ℕ → Held → ℕ → Type 0) (d : Desk) (at to : ℕ) (e : Env) (l : Line) (w : Where) (form : LineForm) (u : Under c d e)
+    (x : LineHere spool k at to form w l) (s : Set) (z : Stands c spool k d (FileHere d) at (elements s)) where
+  abbrev st : State
+  st = elements s
+
+  abbrev did : Act
+  did = act (knownOf s) elementTable (digits 0 0) (fullAt 0 elementTable) (l .form)
+
+  -- is the definitions' act
+  pub element-act : elementAct spool d form ≡ did
+  element-act =
+      ap (λ (m : Known). act m (tableOf 10) (digits 0 0) (false ∷ []) (formIn spool form)) (known c spool k FileHere d at to st st z refl)
+      ∙ ap (λ (t : List Rule). act (knownOf s) t (digits 0 0) (false ∷ []) (formIn spool form)) element-rows
+      ∙ ap (λ (b : List Bool). act (knownOf s) elementTable (digits 0 0) b (formIn spool form)) element-full
+      ∙ ap (act (knownOf s) elementTable (digits 0 0) (fullAt 0 elementTable)) (sym (x .is))
+
+  later : at ≤ to
+  later = omega (arith, x .bytes)
+
+  abbrev OutOf : List ℕ → List Bool → List Bool → Step → Type 0
+  OutOf t used all r = StepOut c spool k FileHere e l to st (elementDesk d t used all) r
+
+  -- ── nothing but the place in the spool ──
+  on-stay : did ≡ stay → OutOf (d .tally) (d .used) (d .usedAll) (S.Go (d .now))
+  on-stay a = (
+    st,
+    ap (byAct _ _ _ _) a,
+    stands-on c spool k FileHere d at to st st z (d .now) (d .marks) (d .inner) (d .table) refl (z .lengths .marks) (z .lengths .inner) (z .laid) (z .taken)
+        (omega (arith, z .counted, later)) (omega (arith, z .named, later)) (omega (arith, z .numbered, later)) (z .block),
+  )
+
+  -- ── a layer opens ──
+  module _ (i j : ℕ) (v : Value) (a : did ≡ begin i j v) where
+    abbrev m : ℕ
+    m = amountAt v 0
+
+    abbrev used : List ℕ
+    used = usedIn (s .now)
+
+    abbrev st′ : State
+    st′ = figures s (inLayer m) []
+
+    few : m < 64
+    few = omega (arith, layer-known (knownOf s) (digits 0 0) (fullAt 0 elementTable) (l .form) i j v a, names (s .drawing .layers), z .few-layers)
+      where
+        names : (ls : List Layer) → length (map (λ (y : Layer). y .id) ls) ≡ length ls
+        names [] = refl
+        names (y ∷ ls) = ap suc (names ls)
+
+    known-used : getD (d .used) m false ≡ hasNumber m used
+    known-used = z .used refl m few
+
+    -- "14: layer used twice"
+    on-twice : getD (d .used) m false ≡ true → (t : List ℕ) (us all : List Bool) → OutOf t us all (S.Stop 14)
+    on-twice b t us all = ap (byAct _ _ _ _) a ∙ ap (λ (y : Bool). unless (not y) 14 (got st′)) (sym known-used ∙ b)
+
+    on-begin : getD (d .used) m false ≡ false → OutOf (d .tally) (set (d .used) m true) (set (d .usedAll) m true) (S.Go (layerOpened (d .now) m))
+    on-begin b =
+        let same : serialsIn s ≡ serialsIn s ++ [] = sym (append-nil (serialsIn s)) in (
+          st′,
+          ap (byAct _ _ _ _) a ∙ ap (λ (y : Bool). unless (not y) 14 (got st′)) (sym known-used ∙ b),
+          record {
+            lengths = record {
+              symbols = z .lengths .symbols;
+              layers = z .lengths .layers;
+              serials = z .lengths .serials;
+              used = length-set (d .used) m true ∙ z .lengths .used;
+              usedAll = length-set (d .usedAll) m true ∙ z .lengths .usedAll;
+              marks = z .lengths .marks;
+              inner = z .lengths .inner;
+              header = z .lengths .header;
+            };
+            laid = laid-same (d .table) (soFar c st) (soFar c st′) (d .now .free) (sym (append-nil (layersRecords c s))) (z .laid);
+            taken = z .taken;
+            here = z .here;
+            this = z .this;
+            tally = z .tally ∙ ap (λ (n : List ℕ). tallyOf s (z .here) (length (s .drawing .layers)) (length n)) same;
+            symbols = z .symbols;
+            layers = z .layers;
+            few-layers = z .few-layers;
+            serials = subst (λ (n : List ℕ). take (length n) (d .serials) ≡ n) same (z .serials);
+            used = λ h n q. used-more (d .used) used m (omega (arith, few, z .lengths .used)) n (z .used refl n q);
+            used-all = λ n q.
+                used-more (d .usedAll) (flat (map usedIn (s .volumes)) ++ used) m (omega (arith, few, z .lengths .usedAll)) n (z .used-all n q)
+                ∙ ap (hasNumber n) (append-assoc (flat (map usedIn (s .volumes))) used (m ∷ []));
+            counted = omega (arith, z .counted, later);
+            named = omega (arith, z .named, later);
+            numbered = omega (arith, z .numbered, later, ap length same);
+            block = (refl, (z .block .1, refl, refl, few), refl);
+          },
+        )
+
+  -- ── its end ──
+  agrees-here : agrees (d .tally) ≡ countedHere s
+  agrees-here = ap agrees (z .tally) ∙ ap (λ (n : ℕ). eqb n (elementsOf (s .now))) (z .this refl)
+
+  module _ (a : did ≡ shut) where
+    abbrev st″ : State
+    st″ = top (withVolume s) 4
+
+    -- "17: this_ele at ELEMENT's close"
+    on-miscounted : agrees (d .tally) ≡ false → (t : List ℕ) (us all : List Bool) → OutOf t us all (S.Stop 17)
+    on-miscounted b t us all = ap (byAct _ _ _ _) a ∙ ap (λ (y : Bool). unless y 17 (got st″)) (sym agrees-here ∙ b)
+
+    on-shut : agrees (d .tally) ≡ true → OutOf (set (d .tally) 8 (getD (d .tally) 8 0 + getD (d .tally) 7 0)) (d .used) (d .usedAll) (S.Go (atBlock (d .now) 0 4))
+    on-shut b =
+        let same : serialsIn s ≡ closedSerials (withVolume s) = sym (closed-serials s) in (
+          st″,
+          ap (byAct _ _ _ _) a ∙ ap (λ (y : Bool). unless y 17 (got st″)) (sym agrees-here ∙ b),
+          record {
+            lengths = record {
+              symbols = z .lengths .symbols;
+              layers = z .lengths .layers;
+              serials = z .lengths .serials;
+              used = z .lengths .used;
+              usedAll = z .lengths .usedAll;
+              marks = z .lengths .marks;
+              inner = z .lengths .inner;
+              header = z .lengths .header;
+            };
+            laid = laid-same (d .table) (soFar c st) (soFar c st″) (d .now .free) (sym (volume-closed c s)) (z .laid);
+            taken = z .taken;
+            here = z .here;
+            this = λ h. clash h refl;
+            tally = ap (λ (t : List ℕ). set t 8 (getD t 8 0 + getD t 7 0)) (z .tally) ∙ sym (closed-tally s (z .here) (length (s .drawing .layers)));
+            symbols = z .symbols;
+            layers = z .layers;
+            few-layers = z .few-layers;
+            serials = subst (λ (n : List ℕ). take (length n) (d .serials) ≡ n) same (z .serials);
+            used = λ h. clash h refl;
+            used-all = λ n q. z .used-all n q ∙ ap (hasNumber n) (closed-used s);
+            counted = omega (arith, z .counted, later, total-more elementsOf (s .volumes) (s .now));
+            named = omega (arith, z .named, later);
+            numbered = omega (arith, z .numbered, later, ap length same);
+            block = (refl, refl, (omega (arith, z .block .1, length-append (s .volumes) (s .now ∷ [])), refl, nil-snoc (s .volumes) (s .now)));
+          },
+        )
+
+  -- ── by what the code promises ──
+  module _ (t₁ : List ℕ) (u₁ a₁ : List Bool) where
+    abbrev Out : Step → Type 0
+    Out r = OutOf t₁ u₁ a₁ r
+
+    come-back : (t : List ℕ) (us all : List Bool) (r : Step) → t₁ ≡ t → u₁ ≡ us → a₁ ≡ all → OutOf t us all r → Out r
+    come-back t us all r p q o y =
+        subst (λ (n : List ℕ). OutOf n u₁ a₁ r) (sym p) (subst (λ (n : List Bool). OutOf t n a₁ r) (sym q) (subst (λ (n : List Bool). OutOf t us n r) (sym o) y))
+
+    by-use : (i j : ℕ) (v : Value) → did ≡ begin i j v → (b : Bool) → getD (d .used) (amountAt v 0) false ≡ b
+        → t₁ ≡ d .tally → (getD (d .used) (amountAt v 0) false ≡ false → u₁ ≡ set (d .used) (amountAt v 0) true) → (getD (d .used) (amountAt v 0) false ≡ false → a₁ ≡ set (d .usedAll) (amountAt v 0) true)
+        → Out (cond b (S.Stop 14) (S.Go (layerOpened (d .now) (amountAt v 0))))
+    by-use i j v a true b p q o = on-twice i j v a b t₁ u₁ a₁
+    by-use i j v a false b p q o =
+        let n : ℕ = amountAt v 0 in
+        come-back (d .tally) (set (d .used) n true) (set (d .usedAll) n true) (S.Go (layerOpened (d .now) n)) p (q b) (o b) (on-begin i j v a b)
+
+    by-count : did ≡ shut → (b : Bool) → agrees (d .tally) ≡ b → (agrees (d .tally) ≡ true → t₁ ≡ set (d .tally) 8 (getD (d .tally) 8 0 + getD (d .tally) 7 0)) → u₁ ≡ d .used → a₁ ≡ d .usedAll
+        → Out (cond b (S.Go (atBlock (d .now) 0 4)) (S.Stop 17))
+    by-count a true b p q o = come-back (set (d .tally) 8 (getD (d .tally) 8 0 + getD (d .tally) 7 0)) (d .used) (d .usedAll) (S.Go (atBlock (d .now) 0 4)) (p b) q o (on-shut a b)
+    by-count a false b p q o = on-miscounted a b t₁ u₁ a₁
+
+    by-act : (y : Act) → did ≡ y → ElementTally (d .tally) t₁ y → LayersInUse (d .used) (d .used) u₁ y → LayersInUse (d .used) (d .usedAll) a₁ y → Out (elementStep (d .now) (d .tally) (d .used) y)
+    by-act stay a p q o = come-back (d .tally) (d .used) (d .usedAll) (S.Go (d .now)) p q o (on-stay a)
+    by-act (entry j v) a p q o = clash (ap isEntry a) (no-entry (knownOf s) elementTable (digits 0 0) (fullAt 0 elementTable) (l .form) element-opens)
+    by-act (begin i j v) a p q o = by-use i j v a (getD (d .used) (amountAt v 0) false) refl p q o
+    by-act shut a p q o = by-count a (agrees (d .tally)) refl p q o
+    by-act (refuse n) a p q o = ap (byAct _ _ _ _) a
+
+    pub element-line : (r : Step) → ElementLine (elementAct spool d form) (d .now) (d .tally) t₁ (d .used) u₁ (d .usedAll) a₁ r → Out r
+    element-line r y =
+        subst Out (sym (y .answer ∙ ap (elementStep (d .now) (d .tally) (d .used)) element-act))
+        (by-act did refl (subst (ElementTally (d .tally) t₁) element-act (y .tally)) (subst (LayersInUse (d .used) (d .used) u₁) element-act (y .used))
+        (subst (LayersInUse (d .used) (d .usedAll) a₁) element-act (y .all)))

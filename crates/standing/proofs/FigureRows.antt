@@ -1,0 +1,142 @@
+-- What is computed of the tables of figures: their rows, and the records of the lines that they take.
+use Prim.Native.Nat.{ℕ, zero, suc, _+_}
+use mathlib.Core.Bool.{Bool, true, false, cond, _&&_, _||_, not}
+use mathlib.Core.List.{List, [], _∷_}
+use mathlib.Core.Option.{some}
+use mathlib.Core.Path.{_≡_, refl, sym, _∙_, ap}
+use native.Mathlib.Omega.{arith}
+use borrow.Author.Tests.{eqb-true}
+use lib.Dec.{eqb, leb}
+use lib.IntN.{ℤ, pos}
+use lib.ListN.{length, replicate}
+use lib.Seq.{sets}
+use Rattle.rules.specs.declared.Digits.{Digits}
+use Rattle.rules.specs.Base.{all}
+use Rattle.rules.specs.RangeClass.{digits, digitsOf}
+use Rattle.rules.specs.Values.{Num, nums}
+use Rattle.rules.specs.Rows.{Rule, blank, fullAt, innerOf}
+use Rattle.rules.specs.Blocks.{blankHeld}
+use Rattle.rules.specs.Figures.{layerTable, figureTable, textTable, placedTable, placedTables}
+use Rattle.rules.specs.Sets.{Set, plain, symbolRange, rangeOf, isSingle}
+use Rattle.rules.specs.Machine as M
+use Rattle.rules.specs.Machine.{Home, inElement, inLayer, isLayer}
+use Rattle.rules.specs.RecordTable.{numbers, ruleAt, start, putSlot, putHeld, textRecord, placedRecord, lineRecord}
+use Rattle.rules.proofs.Chains.{clash}
+use Rattle.tables.specs.Tables.{tableOf}
+use Rattle.entries.specs.Acts.{putLine}
+use Rattle.account.specs.Placing.{fills}
+use Rattle.standing.specs.SoFar.{homeOwner, homeVolume, homeFigure}
+use Rattle.account.specs.FigureLines.{homeTable, homeRows, lineKind}
+use Rattle.standing.proofs.LineOrigins.{isValues}
+use Rattle.standing.proofs.RowOpeners.{isOpens}
+use Rattle.standing.proofs.RowRecords.{zeros, row-record}
+
+-- ── the table ──
+layer-rows : (b : Bool) → tableOf (cond b 12 11) ≡ layerTable b
+unfolding tableOf
+layer-rows true = refl
+layer-rows false = refl
+
+pub home-rows : (s : Set) (h : Home) → tableOf (homeTable (isLayer h) (symbolRange s)) ≡ M.homeTable s h
+unfolding tableOf
+home-rows s (inElement y) = refl
+home-rows s (inLayer m) = layer-rows (isSingle s)
+
+-- "any number": no row is ever full
+pub home-full : (s : Set) (h : Home) → replicate (homeRows (isLayer h)) false ≡ fullAt 0 (M.homeTable s h)
+unfolding layerTable figureTable
+home-full s (inElement y) = refl
+home-full s (inLayer m) = refl
+
+-- ── its rows ──
+-- a row has values, or opens one of the blocks 1 to `most`
+abbrev pub blockRow : ℕ → Rule → Bool
+blockRow most r = isOpens (r .holds) && (leb 1 (innerOf (r .holds)) && leb (innerOf (r .holds)) most)
+
+abbrev pub valuesRow : Rule → Bool
+valuesRow r = isValues (r .holds) && not (r .may)
+
+abbrev pub figureRow : ℕ → Rule → Bool
+figureRow most r = eqb (r .state) 0 && (valuesRow r || blockRow most r)
+
+abbrev pub mostBlock : Home → ℕ
+mostBlock (inElement y) = 2
+mostBlock (inLayer k) = 3
+
+pub layer-figure-rows : (b : Bool) → all (figureRow 3) (layerTable b) ≡ true
+unfolding layerTable
+layer-figure-rows true = refl
+layer-figure-rows false = refl
+
+pub figure-rows : (s : Set) (h : Home) → all (figureRow (mostBlock h)) (M.homeTable s h) ≡ true
+unfolding figureTable
+figure-rows s (inElement y) = refl
+figure-rows s (inLayer m) = layer-figure-rows (isSingle s)
+
+-- `E_symbol:{` has 8 bytes before its colon
+abbrev pub placedKey : Rule → Bool
+placedKey r = not (eqb (innerOf (r .holds)) 3) || eqb (length (r .key)) 8
+
+layer-placed-key : (b : Bool) → all placedKey (layerTable b) ≡ true
+unfolding layerTable
+layer-placed-key true = refl
+layer-placed-key false = refl
+
+pub placed-key : (s : Set) (h : Home) → all placedKey (M.homeTable s h) ≡ true
+unfolding figureTable
+placed-key s (inElement y) = refl
+placed-key s (inLayer m) = layer-placed-key (isSingle s)
+
+-- ── a figure on one line ──
+-- `E_symbol=`: at E_sym 001 no attribute is allowed, so none is unread
+single-record : (c : Digits) (v : List Num) (owner volume line : ℕ)
+    → putSlot (ruleAt (layerTable true) 6) (some (nums v)) (start 16 owner volume line) ≡ placedRecord c (digits 0 1) 0 owner volume line ((some (nums v) ∷ []) ∷ [])
+unfolding layerTable placedTable textTable
+single-record c v owner volume line = refl
+
+layer-line : (c d : Digits) (b : Bool) → (b ≡ true → d ≡ digits 0 1) → (j : ℕ) (v : List Num) (owner volume line : ℕ) → isValues (ruleAt (layerTable b) j .holds) ≡ true
+    → fills (ruleAt (layerTable b) j .holds) (numbers (nums v)) ≡ true
+    → sets (putLine (ruleAt (layerTable b) j) 0 (nums v) zeros) 0 (pos (lineKind true j) ∷ pos owner ∷ pos volume ∷ pos line ∷ []) ≡ lineRecord c d (layerTable b) 0 owner volume line j v
+unfolding layerTable
+layer-line c d b q zero v o vo li i f = row-record (ruleAt (layerTable b) 0) 3 (nums v) 10 o vo li refl (omega arith) refl refl refl f
+layer-line c d b q (suc zero) v o vo li i f = row-record (ruleAt (layerTable b) 1) 3 (nums v) 11 o vo li refl (omega arith) refl refl refl f
+layer-line c d b q (suc (suc zero)) v o vo li i f = row-record (ruleAt (layerTable b) 2) 3 (nums v) 12 o vo li refl (omega arith) refl refl refl f
+layer-line c d b q (suc (suc (suc zero))) v o vo li i f = row-record (ruleAt (layerTable b) 3) 3 (nums v) 13 o vo li refl (omega arith) refl refl refl f
+layer-line c d b q (suc (suc (suc (suc zero)))) v o vo li i f = clash i refl
+layer-line c d b q (suc (suc (suc (suc (suc zero))))) v o vo li i f = clash i refl
+layer-line c d true q (suc (suc (suc (suc (suc (suc zero)))))) v o vo li i f =
+    row-record (ruleAt (layerTable true) 6) 4 (nums v) 16 o vo li refl (omega arith) refl refl refl f
+    ∙ single-record c v o vo li ∙ ap (λ (y : Digits). placedRecord c y 0 o vo li ((some (nums v) ∷ []) ∷ [])) (sym (q refl))
+layer-line c d false q (suc (suc (suc (suc (suc (suc zero)))))) v o vo li i f = clash i refl
+layer-line c d b q (suc (suc (suc (suc (suc (suc (suc j))))))) v o vo li i f = clash i refl
+
+element-line : (c d : Digits) (j : ℕ) (v : List Num) (owner volume line : ℕ) → isValues (ruleAt figureTable j .holds) ≡ true
+    → fills (ruleAt figureTable j .holds) (numbers (nums v)) ≡ true
+    → sets (putLine (ruleAt figureTable j) 0 (nums v) zeros) 0 (pos (lineKind false j) ∷ pos owner ∷ pos volume ∷ pos line ∷ []) ≡ lineRecord c d figureTable 20 owner volume line j v
+unfolding figureTable
+element-line c d zero v o vo li i f = row-record (ruleAt figureTable 0) 3 (nums v) 30 o vo li refl (omega arith) refl refl refl f
+element-line c d (suc zero) v o vo li i f = row-record (ruleAt figureTable 1) 3 (nums v) 31 o vo li refl (omega arith) refl refl refl f
+element-line c d (suc (suc zero)) v o vo li i f = row-record (ruleAt figureTable 2) 3 (nums v) 32 o vo li refl (omega arith) refl refl refl f
+element-line c d (suc (suc (suc zero))) v o vo li i f = row-record (ruleAt figureTable 3) 3 (nums v) 33 o vo li refl (omega arith) refl refl refl f
+element-line c d (suc (suc (suc (suc zero)))) v o vo li i f = clash i refl
+element-line c d (suc (suc (suc (suc (suc zero))))) v o vo li i f = clash i refl
+element-line c d (suc (suc (suc (suc (suc (suc j)))))) v o vo li i f = clash i refl
+
+abbrev pub lineMade : Set → Home → ℕ → ℕ → List Num → List ℤ
+lineMade s h line j v =
+    sets (putLine (ruleAt (M.homeTable s h) j) 0 (nums v) zeros) 0 (pos (lineKind (isLayer h) j) ∷ pos (homeOwner s h) ∷ pos (homeVolume s h) ∷ pos line ∷ [])
+
+pub line-record : (c : Digits) (s : Set) (h : Home) (line j : ℕ) (v : List Num) → isValues (ruleAt (M.homeTable s h) j .holds) ≡ true
+    → fills (ruleAt (M.homeTable s h) j .holds) (numbers (nums v)) ≡ true → lineMade s h line j v ∷ [] ≡ homeFigure c s h (plain line j v)
+line-record c s (inElement y) line j v i f = ap (λ (r : List ℤ). r ∷ []) (element-line (digits 0 0) (digits 0 0) j v (homeOwner s (inElement y)) 1 line i f)
+line-record c s (inLayer m) line j v i f =
+    ap (λ (r : List ℤ). r ∷ []) (layer-line c (rangeOf s) (isSingle s) (λ q. ap digitsOf (eqb-true (symbolRange s) 1 q)) j v m (homeVolume s (inLayer m)) line i f)
+
+-- ── a figure that is a block, just begun ──
+pub text-begun : (b : Bool) (more owner volume line : ℕ) → textRecord more owner volume line (blank (textTable b 4 12)) ≡ start (15 + more) owner volume line
+unfolding textTable
+text-begun b more owner volume line = refl
+
+pub placed-begun : (owner volume line : ℕ) → putHeld placedTables (blankHeld placedTables) (start 16 owner volume line) ≡ start 16 owner volume line
+unfolding placedTable textTable
+placed-begun owner volume line = refl

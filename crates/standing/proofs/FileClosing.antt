@@ -1,0 +1,162 @@
+-- FILE_FORMAT's close: its test, its records in the table, and what the header says of the set.
+use Prim.Native.Nat.{ℕ, suc, _-_, _≤_}
+use mathlib.Core.Bool.{Bool, true, false, _&&_}
+use mathlib.Core.List.{List, [], _∷_, _++_, append-nil}
+use mathlib.Core.Path.{_≡_, refl, sym, _∙_, ap, ap₂, subst}
+use native.Mathlib.Omega.{arith}
+use lib.Dec.{eqb}
+use lib.IntN.{ℤ}
+use lib.ListN.{length, getD, take, drop, take-append-drop}
+use lib.Seq.{paste}
+use Rattle.rules.specs.declared.Digits.{Digits}
+use Rattle.rules.specs.Base.{isNil, same, flat, total}
+use Rattle.rules.specs.Rows.{Held}
+use Rattle.rules.specs.Blocks.{fileTables}
+use Rattle.rules.specs.Sets.{Drawing, Symbol, Contents, Set, withNow, arcOf, symbolRange, defineRange, elementsOf}
+use Rattle.rules.specs.VolumesAndTotals.{chained, dated}
+use Rattle.rules.specs.Machine.{Line, top, file}
+use Rattle.rules.specs.RecordTable.{putHeld, fileRecords}
+use Rattle.rules.proofs.Chains.{clash}
+use Rattle.standing.specs.Laid.{Laid}
+use Rattle.account.specs.Account.{atBlock}
+use Rattle.standing.specs.SoFar.{emptyRecords, closedRecords}
+use Rattle.standing.specs.Standing.{Desk, deskNow, closedSerials, thisOf, fileNumber, Stands}
+use Rattle.account.specs.FileLines.{countAt, chainedTo, datedAs, agrees, firstTally, laterTally}
+use Rattle.standing.specs.FileStanding.{fileHead, InFile}
+use Rattle.standing.proofs.SlotLengths.{length-held}
+use Rattle.standing.proofs.FileReadBack.{arc-back, sym-back, elec-back, date-back, time-back, all-back, this-back, later-back, laid-paste}
+
+-- the same things lent, but for the tally, the marks, the header and the table
+abbrev pub fileDesk : Desk → List ℕ → List Bool → List ℤ → List ℤ → Desk
+fileDesk d tally marks header t = record {
+  now = d .now;
+  tally = tally;
+  symbols = d .symbols;
+  layers = d .layers;
+  serials = d .serials;
+  used = d .used;
+  usedAll = d .usedAll;
+  marks = marks;
+  inner = d .inner;
+  header = header;
+  table = t;
+}
+
+module _ (c : Digits) (spool : List ℕ) (k : ℕ) (d : Desk) (at to : ℕ) (dr : Drawing) (sy : List Symbol) (nw : Contents) (taken n : ℕ) (h : Held) (p : ℕ) where
+  abbrev pub setWith : List Contents → Set
+  setWith vs = record { drawing = dr; symbols = sy; volumes = vs; now = nw; taken = taken }
+
+  abbrev pub headed : List Contents → Set
+  headed vs = withNow (record { line = n; file = h; blocks = [] }) (setWith vs)
+
+  abbrev pub Here : List Contents → Type 0
+  Here vs = Stands c spool k d (InFile spool k d) at (file (setWith vs) n h p)
+
+  -- ── "16: volume chain, date or time unlike volume 1's" ──
+  module _ (l : Line) (following : List ℕ) (nx : l .next ≡ following) where
+    chain-is : (vs : List Contents) → Here vs → chainedTo spool following (d .header) ≡ chained (isNil vs) (l .next) h
+    chain-is vs z = ap₂ same (sym (z .block .1 .next)) (sym nx)
+
+    date-is : (y : Contents) (vs : List Contents) → Here (y ∷ vs) → datedAs (d .tally) (d .header) ≡ dated (setWith (y ∷ vs)) false h
+    date-is y vs z =
+        let f = z .block .1 in
+        ap₂ _&&_ (ap₂ eqb (f .date refl) (ap (λ (t : List ℕ). getD t 3 0) (z .tally))) (ap₂ eqb (f .time refl) (ap (λ (t : List ℕ). getD t 4 0) (z .tally)))
+
+    pub agree-is : (vs : List Contents) → Here vs → agrees spool following (isNil vs) (d .tally) (d .header) ≡ (chained (isNil vs) (l .next) h && dated (setWith vs) (isNil vs) h)
+    agree-is [] z = ap (λ (b : Bool). b && true) (chain-is [] z)
+    agree-is (y ∷ vs) z = ap₂ _&&_ (chain-is (y ∷ vs) z) (date-is y vs z)
+
+  -- ── the state behind it ──
+  module _ (later : at ≤ to) (tally₁ : List ℕ) (m₁ : List Bool) (h₁ t₁ : List ℤ) (em : m₁ ≡ d .marks) (eh : h₁ ≡ d .header) where
+    abbrev desk : ℕ → Desk
+    desk m = deskNow (fileDesk d tally₁ m₁ h₁ t₁) (atBlock (d .now) 0 m)
+
+    -- "1 header", and "2 volume: this_line, this_ele; after the header"
+    pub closed-first : (z : Here []) → tally₁ ≡ firstTally (d .header) (d .tally) → t₁ ≡ paste (d .table) (d .now .free - 64) (d .header) 64
+        → Stands c spool k (desk 1) (InFile spool k (desk 1)) to (top (headed []) 1)
+    closed-first z et eq =
+        let f : InFile spool k d (setWith []) n h p = z .block .1 in
+        let hd : List ℤ = d .header in
+        let s′ : Set = headed [] in
+        let one : k ≡ 1 = f .volume in
+        let recs : List ℤ = putHeld (fileTables true) h (fileHead true 1 n) in
+        let fill : recs ≡ take 64 hd = sym (f .filled ∙ ap (λ (i : ℕ). putHeld (fileTables true) h (fileHead true i n)) one) in
+        let flat-is : flat (fileRecords true 1 (s′ .now)) ≡ take 64 hd = ap (λ (u : List ℤ). take 32 recs ++ u) (append-nil (drop 32 recs)) ∙ take-append-drop 32 recs ∙ fill in
+        let said : ℕ → ℕ → ℕ → ℕ → ℕ → ℕ → ℕ → List ℕ = λ a b c d e f g. a ∷ b ∷ c ∷ d ∷ e ∷ f ∷ g ∷ 0 ∷ 0 ∷ length sy ∷ length (dr .layers) ∷ 0 ∷ [] in
+        record {
+          lengths = record {
+            symbols = z .lengths .symbols;
+            layers = z .lengths .layers;
+            serials = z .lengths .serials;
+            used = z .lengths .used;
+            usedAll = z .lengths .usedAll;
+            marks = ap length em ∙ z .lengths .marks;
+            inner = z .lengths .inner;
+            header = ap length eh ∙ z .lengths .header;
+          };
+          laid =
+              subst (λ (t : List ℤ). Laid t (fileRecords true 1 (s′ .now)) (d .now .free)) (sym eq)
+              (laid-paste (d .table) [] (emptyRecords true) (fileRecords true 1 (s′ .now)) (d .now .free) 64 (z .laid) refl hd flat-is
+              (ap length (sym fill) ∙ length-held (fileTables true) h (fileHead true 1 n)) refl);
+          taken = z .taken;
+          here = thisOf s′;
+          this = λ _. refl;
+          tally =
+              et ∙ ap (firstTally hd) (z .tally)
+              ∙ ap₂ (λ (a b : ℕ). said a b (countAt hd 11) (countAt hd 14) (countAt hd 15) (countAt hd 13) (countAt hd 38)) (arc-back k n h hd (f .header) (f .filled) (f .counted)) (sym-back k n h hd (f .header) (f .filled) (f .counted))
+              ∙ ap₂ (λ (a b : ℕ). said (arcOf s′) (symbolRange s′) a b (countAt hd 15) (countAt hd 13) (countAt hd 38)) (elec-back k n h hd (f .header) (f .filled) (f .counted)) (date-back k n h hd (f .header) (f .filled) (f .counted))
+              ∙ ap₂ (λ (a b : ℕ). said (arcOf s′) (symbolRange s′) (defineRange s′) (fileNumber "date" s′) a b (countAt hd 38)) (time-back k n h hd (f .header) (f .filled) (f .counted)) (all-back k n h hd (f .header) (f .filled) (f .counted))
+              ∙ ap (said (arcOf s′) (symbolRange s′) (defineRange s′) (fileNumber "date" s′) (fileNumber "time" s′) (fileNumber "all_ele" s′)) (this-back k n h hd (f .header) (f .filled) (f .counted));
+          symbols = z .symbols;
+          layers = z .layers;
+          few-layers = z .few-layers;
+          serials = z .serials;
+          used = λ e. clash e refl;
+          used-all = z .used-all;
+          counted = omega (arith, z .counted, later);
+          named = omega (arith, z .named, later);
+          numbered = omega (arith, z .numbered, later);
+          block = (refl, refl, (record { volume = one; first = refl; blocks = refl }, record { layers = f .bare refl .layers; symbols = f .bare refl .symbols }));
+        }
+
+    pub closed-later : (y : Contents) (vs : List Contents) (z : Here (y ∷ vs)) → tally₁ ≡ laterTally (d .header) (d .tally) → t₁ ≡ paste (d .table) (d .now .free - 32) (d .header) 32
+        → Stands c spool k (desk 3) (InFile spool k (desk 3)) to (top (headed (y ∷ vs)) 3)
+    closed-later y vs z et eq =
+        let f : InFile spool k d (setWith (y ∷ vs)) n h p = z .block .1 in
+        let hd : List ℤ = d .header in
+        let s′ : Set = headed (y ∷ vs) in
+        let m : ℕ = suc (suc (length vs)) in
+        let recs : List ℤ = putHeld (fileTables false) h (fileHead false m n) in
+        let fill : recs ≡ take 32 hd = sym (f .filled ∙ ap (λ (i : ℕ). putHeld (fileTables false) h (fileHead false i n)) (f .volume)) in
+        record {
+          lengths = record {
+            symbols = z .lengths .symbols;
+            layers = z .lengths .layers;
+            serials = z .lengths .serials;
+            used = z .lengths .used;
+            usedAll = z .lengths .usedAll;
+            marks = ap length em ∙ z .lengths .marks;
+            inner = z .lengths .inner;
+            header = ap length eh ∙ z .lengths .header;
+          };
+          laid =
+              subst (λ (t : List ℤ). Laid t (closedRecords c s′ ++ fileRecords false m (s′ .now)) (d .now .free)) (sym eq)
+              (laid-paste (d .table) (closedRecords c s′) (emptyRecords false) (fileRecords false m (s′ .now)) (d .now .free) 32 (z .laid) refl hd (append-nil recs ∙ fill)
+              (ap length (sym fill) ∙ length-held (fileTables false) h (fileHead false m n)) refl);
+          taken = z .taken;
+          here = thisOf s′;
+          this = λ _. refl;
+          tally =
+              et ∙ ap (laterTally hd) (z .tally)
+              ∙ ap (λ (a : ℕ). arcOf s′ ∷ symbolRange s′ ∷ defineRange s′ ∷ fileNumber "date" s′ ∷ fileNumber "time" s′ ∷ fileNumber "all_ele" s′ ∷ a ∷ 0 ∷ total elementsOf (y ∷ vs) ∷ length sy ∷ length (dr .layers) ∷ length (closedSerials s′) ∷ []) (later-back k n h hd (f .header) (f .filled) (f .counted));
+          symbols = z .symbols;
+          layers = z .layers;
+          few-layers = z .few-layers;
+          serials = z .serials;
+          used = λ e. clash e refl;
+          used-all = z .used-all;
+          counted = omega (arith, z .counted, later);
+          named = omega (arith, z .named, later);
+          numbered = omega (arith, z .numbered, later);
+          block = (refl, refl, (f .volume, refl));
+        }

@@ -1,0 +1,123 @@
+-- A table that holds records and zeros behind them: one more record, a record with other numbers, and what stands at a record's place.
+use Prim.Native.Nat.{ℕ, zero, suc, _+_, _-_, _*_, _/_, _≤_, _<_}
+use mathlib.Core.Bool.{Bool, true, false}
+use mathlib.Core.List.{List, [], _∷_, _++_, append-assoc, append-nil}
+use mathlib.Core.Path.{_≡_, refl, sym, _∙_, ap, subst}
+use native.Mathlib.Omega.{arith}
+use lib.IntN.{ℤ, pos}
+use lib.ListN.{length, take, drop, replicate, length-append, length-replicate, replicate-append-replicate}
+use lib.Seq.{take-at, drop-at, drop-drop, take-all, take-append-le}
+use Rattle.rules.specs.Base.{flat}
+use Rattle.rules.specs.RecordTable.{tableOf}
+use Rattle.rules.proofs.Chains.{flat-append}
+use Rattle.account.specs.Records.{partAt, withPart}
+use Rattle.standing.specs.Laid.{Laid}
+
+-- ── a part of a list ──
+module _ (p u q : List ℤ) (a : ℕ) (ha : length p ≡ a) (hu : length u ≡ 32) where
+  pub part-of : partAt a (p ++ (u ++ q)) ≡ u
+  part-of = ap (take 32) (drop-at p (u ++ q) a ha) ∙ take-at u q 32 hu
+
+  pub behind-of : drop (a + 32) (p ++ (u ++ q)) ≡ q
+  behind-of = sym (drop-drop 32 a (p ++ (u ++ q))) ∙ ap (drop 32) (drop-at p (u ++ q) a ha) ∙ drop-at u q 32 hu
+
+  pub with-of : (x : List ℤ) → withPart a x (p ++ (u ++ q)) ≡ p ++ (x ++ q)
+  with-of x = ap (λ (y : List ℤ). y ++ (x ++ drop (a + 32) (p ++ (u ++ q)))) (take-at p (u ++ q) a ha) ∙ ap (λ (y : List ℤ). p ++ (x ++ y)) behind-of
+
+-- ── lists of records ──
+pub flat-one : (u : List ℤ) → flat (u ∷ []) ≡ u
+flat-one u = append-nil u
+
+pub flat-more : (fore : List (List ℤ)) (u : List ℤ) → flat (fore ++ u ∷ []) ≡ flat fore ++ u
+flat-more fore u = flat-append fore (u ∷ []) ∙ ap (λ (x : List ℤ). flat fore ++ x) (flat-one u)
+
+-- the records before one, it, and what stands behind
+split : (fore : List (List ℤ)) (u : List ℤ) (bs : List (List ℤ)) (z : List ℤ) → flat (fore ++ u ∷ bs) ++ z ≡ flat fore ++ (u ++ (flat bs ++ z))
+split fore u bs z =
+    ap (λ (x : List ℤ). x ++ z) (flat-append fore (u ∷ bs)) ∙ append-assoc (flat fore) (u ++ flat bs) z ∙ ap (λ (x : List ℤ). flat fore ++ x) (append-assoc u (flat bs) z)
+
+-- zeros that are at least 32 are 32 and others
+zeros : (n : ℕ) → 32 ≤ n → replicate n (pos 0) ≡ replicate 32 (pos 0) ++ replicate (n - 32) (pos 0)
+zeros n h =
+    let e : n ≡ 32 + (n - 32) = omega (arith, h) in
+    ap (λ (m : ℕ). replicate m (pos 0)) e ∙ sym (replicate-append-replicate 32 (n - 32) (pos 0))
+
+pub laid-same : (t : List ℤ) (rs rs′ : List (List ℤ)) (w : ℕ) → rs ≡ rs′ → Laid t rs w → Laid t rs′ w
+laid-same t rs rs′ w e l = subst (λ (x : List (List ℤ)). Laid t x w) e l
+
+-- ── one more record ──
+module _ (t : List ℤ) (rs : List (List ℤ)) (w : ℕ) (l : Laid t rs w) where
+  long : length t ≡ w + l .rest
+  long = ap length (l .eq) ∙ length-append (flat rs) (replicate (l .rest) (pos 0)) ∙ omega (arith, l .size, length-replicate (l .rest) (pos 0))
+
+  pub laid-room : w ≤ length t
+  laid-room = omega (arith, long)
+
+  module _ (h : w + 32 ≤ length t) where
+    cut : t ≡ flat rs ++ (replicate 32 (pos 0) ++ replicate (l .rest - 32) (pos 0))
+    cut = l .eq ∙ ap (λ (x : List ℤ). flat rs ++ x) (zeros (l .rest) (omega (arith, long, h)))
+
+    -- its part holds zeros
+    pub laid-blank : partAt w t ≡ replicate 32 (pos 0)
+    laid-blank = ap (partAt w) cut ∙ part-of (flat rs) (replicate 32 (pos 0)) (replicate (l .rest - 32) (pos 0)) w (l .size) refl
+
+    pub laid-more : (u : List ℤ) → length u ≡ 32 → Laid (withPart w u t) (rs ++ u ∷ []) (w + 32)
+    laid-more u k = record {
+      rest = l .rest - 32;
+      eq =
+          ap (withPart w u) cut ∙ with-of (flat rs) (replicate 32 (pos 0)) (replicate (l .rest - 32) (pos 0)) w (l .size) refl u
+          ∙ sym (append-assoc (flat rs) u (replicate (l .rest - 32) (pos 0))) ∙ ap (λ (x : List ℤ). x ++ replicate (l .rest - 32) (pos 0)) (sym (flat-more rs u));
+      size = ap length (flat-more rs u) ∙ length-append (flat rs) u ∙ omega (arith, l .size, k);
+      many = omega (arith, l .many, length-append rs (u ∷ []));
+    }
+
+    -- a record that stays empty for the time being
+    pub laid-empty : Laid t (rs ++ replicate 32 (pos 0) ∷ []) (w + 32)
+    laid-empty = record {
+      rest = l .rest - 32;
+      eq =
+          cut ∙ sym (append-assoc (flat rs) (replicate 32 (pos 0)) (replicate (l .rest - 32) (pos 0)))
+          ∙ ap (λ (x : List ℤ). x ++ replicate (l .rest - 32) (pos 0)) (sym (flat-more rs (replicate 32 (pos 0))));
+      size = ap length (flat-more rs (replicate 32 (pos 0))) ∙ length-append (flat rs) (replicate 32 (pos 0)) ∙ omega (arith, l .size);
+      many = omega (arith, l .many, length-append rs (replicate 32 (pos 0) ∷ []));
+    }
+
+-- ── a record with other numbers ──
+module _ (t : List ℤ) (fore : List (List ℤ)) (u : List ℤ) (bs : List (List ℤ)) (w a : ℕ) (l : Laid t (fore ++ u ∷ bs) w) (ha : length (flat fore) ≡ a) (hu : length u ≡ 32) where
+  apart : t ≡ flat fore ++ (u ++ (flat bs ++ replicate (l .rest) (pos 0)))
+  apart = l .eq ∙ split fore u bs (replicate (l .rest) (pos 0))
+
+  pub laid-part : partAt a t ≡ u
+  laid-part = ap (partAt a) apart ∙ part-of (flat fore) u (flat bs ++ replicate (l .rest) (pos 0)) a ha hu
+
+  pub laid-within : a + 32 ≤ length t
+  laid-within =
+      omega (arith, ap length apart, length-append (flat fore) (u ++ (flat bs ++ replicate (l .rest) (pos 0))), length-append u (flat bs ++ replicate (l .rest) (pos 0)), ha, hu)
+
+  same-size : (x : List ℤ) → length x ≡ 32 → length (flat (fore ++ x ∷ bs)) ≡ length (flat fore) + (length x + length (flat bs))
+  same-size x k = ap length (flat-append fore (x ∷ bs)) ∙ length-append (flat fore) (x ++ flat bs) ∙ ap (λ (n : ℕ). length (flat fore) + n) (length-append x (flat bs))
+
+  pub laid-change : (x : List ℤ) → length x ≡ 32 → Laid (withPart a x t) (fore ++ x ∷ bs) w
+  laid-change x k = record {
+    rest = l .rest;
+    eq = ap (withPart a x) apart ∙ with-of (flat fore) u (flat bs ++ replicate (l .rest) (pos 0)) a ha hu x ∙ sym (split fore x bs (replicate (l .rest) (pos 0)));
+    size = omega (arith, same-size x k, same-size u hu, l .size, k, hu);
+    many = omega (arith, l .many, length-append fore (x ∷ bs), length-append fore (u ∷ bs));
+  }
+
+-- ── the whole table ──
+pub laid-table : (t : List ℤ) (rs : List (List ℤ)) (w : ℕ) → Laid t rs w → t ≡ tableOf (length t) rs
+unfolding tableOf
+laid-table t rs w l =
+    let n = length t in
+    let e : n ≡ length (flat rs) + l .rest = ap length (l .eq) ∙ length-append (flat rs) (replicate (l .rest) (pos 0)) ∙ ap (λ (m : ℕ). length (flat rs) + m) (length-replicate (l .rest) (pos 0)) in
+    let f : n ≡ l .rest + (n - l .rest) = omega (arith, e) in
+    let z : replicate n (pos 0) ≡ replicate (l .rest) (pos 0) ++ replicate (n - l .rest) (pos 0) =
+    ap (λ (m : ℕ). replicate m (pos 0)) f ∙ sym (replicate-append-replicate (l .rest) (n - l .rest) (pos 0)) in
+    sym
+    (ap (λ (x : List ℤ). take n (flat rs ++ x)) z ∙ ap (take n) (sym (append-assoc (flat rs) (replicate (l .rest) (pos 0)) (replicate (n - l .rest) (pos 0))))
+    ∙ take-at (flat rs ++ replicate (l .rest) (pos 0)) (replicate (n - l .rest) (pos 0)) n (sym (ap length (l .eq))) ∙ sym (l .eq))
+
+-- a table of zeros holds no records
+pub laid-none : (n : ℕ) → Laid (replicate n (pos 0)) [] 0
+laid-none n = record { rest = n; eq = refl; size = refl; many = refl }

@@ -1,0 +1,190 @@
+-- The records so far, as a line or a closed block adds to them.
+use Prim.Native.Nat.{ℕ, zero, suc, _+_}
+use mathlib.Core.Bool.{Bool, true, false, cond}
+use mathlib.Core.List.{List, [], _∷_, _++_, map, append-assoc, append-nil}
+use mathlib.Core.Option.{Option, none, some}
+use mathlib.Core.Path.{_≡_, refl, sym, _∙_, ap, subst}
+use native.Mathlib.Omega.{arith}
+use lib.Dec.{eqb}
+use lib.IntN.{ℤ, pos}
+use lib.ListN.{length, length-append}
+use Rattle.rules.specs.declared.Digits.{Digits}
+use Rattle.rules.specs.Base.{flat, isNil}
+use Rattle.rules.specs.RangeClass.{digits, digitsOf}
+use Rattle.rules.specs.Values.{Num, Value, nums}
+use Rattle.rules.specs.Rows.{Rule}
+use Rattle.rules.specs.Blocks.{symbolTable}
+use Rattle.rules.specs.Figures.{layerTable, figureTable, pointTable, placedTables}
+use Rattle.rules.specs.Sets.{Point, Figure, Layer, Drawing, Symbol, LayerBlock, Contents, Set, isFirst, rangeOf, isSingle, symbolRange, withBlock, withRecords, withVolume, withSymbol, withLayer, symbolFigures, symbolHidden}
+use Rattle.rules.specs.Machine.{Home, inElement, inLayer}
+use Rattle.rules.specs.RecordTable.{putSlot, putSlots, ruleAt, start, fileRecords, drawingRecord, layerRecord, layerRecords, pointRecords, figureRecords, innerRecords, symbolRecords, blockRecords, bodyRecords, laterRecords, recordsFrom}
+use Rattle.rules.proofs.Chains.{flat-append}
+use Rattle.standing.specs.SoFar.{volumeOf, closedRecords, sheetRecords, frontRecords, baseRecords, layersRecords, symbolSoFar, homeRecords, homeOwner, homeVolume, homeMore, homeFigure, figuresSoFar}
+
+abbrev Records : Type 0
+Records = List (List ℤ)
+
+-- ── lists ──
+pub map-more : {A B : Type 0} (f : A → B) (s : List A) (a : A) → map f (s ++ a ∷ []) ≡ map f s ++ f a ∷ []
+map-more f [] a = refl
+map-more f (b ∷ s) a = ap (λ u. f b ∷ u) (map-more f s a)
+
+pub flat-map-more : {A : Type 0} (f : A → Records) (s : List A) (a : A) → flat (map f (s ++ a ∷ [])) ≡ flat (map f s) ++ f a
+flat-map-more f s a = ap flat (map-more f s a) ∙ flat-append (map f s) (f a ∷ []) ∙ ap (λ (u : Records). flat (map f s) ++ u) (append-nil (f a))
+
+from-zero : (n : ℕ) → 0 + n ≡ n
+from-zero n = omega arith
+
+-- ── figures and points ──
+pub more-figures : (c : Digits) (s : Set) (h : Home) (fs : List Figure) (f : Figure) → figuresSoFar c s h (fs ++ f ∷ []) ≡ figuresSoFar c s h fs ++ homeFigure c s h f
+more-figures c s h fs f =
+    ap (λ (u : Records). homeRecords c s h ++ u) (flat-map-more (homeFigure c s h) fs f) ∙ sym (append-assoc (homeRecords c s h) (flat (map (homeFigure c s h) fs)) (homeFigure c s h f))
+
+pub more-points : (kind owner volume : ℕ) (ps : List Point) (p : Point) → pointRecords kind owner volume (ps ++ p ∷ []) ≡ pointRecords kind owner volume ps ++ pointRecords kind owner volume (p ∷ [])
+more-points kind owner volume [] p = refl
+more-points kind owner volume (q ∷ ps) p =
+    ap (λ (u : Records). putSlot (ruleAt (pointTable true) 0) (some (nums (q .values))) (start kind owner volume (q .line)) ∷ u) (more-points kind owner volume ps p)
+
+-- ── layers ──
+pub more-layers : (n : ℕ) (ls : List Layer) (l : Layer) → layerRecords n (ls ++ l ∷ []) ≡ layerRecords n ls ++ layerRecord (n + length ls) l ∷ []
+more-layers n [] l = ap (λ (m : ℕ). layerRecord m l ∷ []) (omega arith)
+more-layers n (k ∷ ls) l =
+    ap (λ (u : Records). layerRecord n k ∷ u) (more-layers (suc n) ls l ∙ ap (λ (m : ℕ). layerRecords (suc n) ls ++ layerRecord m l ∷ []) (omega arith))
+
+pub layer-more : (s : Set) (d : Drawing) (l : Layer) → sheetRecords s (withLayer l d) ≡ sheetRecords s d ++ layerRecord (length (d .layers)) l ∷ []
+layer-more s d l =
+    ap (λ (u : Records). fileRecords true 1 (s .now) ++ drawingRecord d ∷ u) (more-layers 0 (d .layers) l ∙ ap (λ (m : ℕ). layerRecords 0 (d .layers) ++ layerRecord m l ∷ []) (from-zero (length (d .layers))))
+    ∙ sym (append-assoc (fileRecords true 1 (s .now)) (drawingRecord d ∷ layerRecords 0 (d .layers)) (layerRecord (length (d .layers)) l ∷ []))
+
+-- ── symbols ──
+abbrev pub ownRecord : ℕ → Symbol → List ℤ
+ownRecord n y = putSlots symbolTable (y .own) (start 4 n 1 (y .line))
+
+pub more-symbols : (n : ℕ) (ys : List Symbol) (y : Symbol) → symbolRecords n (ys ++ y ∷ []) ≡ symbolRecords n ys ++ ownRecord (n + length ys) y ∷ innerRecords (n + length ys) y
+more-symbols n [] y =
+    ap (λ (u : Records). ownRecord n y ∷ u) (append-nil (innerRecords n y)) ∙ ap (λ (m : ℕ). ownRecord m y ∷ innerRecords m y) (omega arith)
+more-symbols n (x ∷ ys) y =
+    ap (λ (u : Records). ownRecord n x ∷ innerRecords n x ++ u)
+    (more-symbols (suc n) ys y ∙ ap (λ (m : ℕ). symbolRecords (suc n) ys ++ ownRecord m y ∷ innerRecords m y) (omega arith))
+    ∙ ap (λ (u : Records). ownRecord n x ∷ u) (sym (append-assoc (innerRecords n x) (symbolRecords (suc n) ys) (ownRecord (n + length (x ∷ ys)) y ∷ innerRecords (n + length (x ∷ ys)) y)))
+
+-- a closed symbol
+pub symbol-more : (s : Set) (y : Symbol) → frontRecords (withSymbol y s) ≡ symbolSoFar s y
+symbol-more s y =
+    ap (λ (u : Records). sheetRecords s (s .drawing) ++ u) (more-symbols 0 (s .symbols) y ∙ ap (λ (m : ℕ). symbolRecords 0 (s .symbols) ++ ownRecord m y ∷ innerRecords m y) (from-zero (length (s .symbols))))
+    ∙ sym (append-assoc (sheetRecords s (s .drawing)) (symbolRecords 0 (s .symbols)) (ownRecord (length (s .symbols)) y ∷ innerRecords (length (s .symbols)) y))
+
+-- its `element` closed, where it had none: in the order written
+module _ (n : ℕ) (y : Symbol) where
+  abbrev pub shown : List Figure → Records
+  shown fs = flat (map (figureRecords (digits 0 0) (digits 0 0) figureTable 20 n 1) fs)
+
+  abbrev pub inOrder : Bool → Records → Records → Records
+  inOrder b a h = cond b (h ++ a) (a ++ h)
+
+  in-order : (b : Bool) (fs : List Figure) (ps : List Point) → (b ≡ false → ps ≡ []) → inOrder b (shown fs) (pointRecords 43 n 1 ps) ≡ inOrder b (shown []) (pointRecords 43 n 1 ps) ++ shown fs
+  in-order true fs ps e = ap (λ (u : Records). u ++ shown fs) (sym (append-nil (pointRecords 43 n 1 ps)))
+  in-order false fs ps e =
+      ap (λ (u : List Point). shown fs ++ pointRecords 43 n 1 u) (e refl) ∙ append-nil (shown fs) ∙ ap (λ (u : List Point). pointRecords 43 n 1 u ++ shown fs) (sym (e refl))
+
+  pub element-more : (fs : List Figure) → y .figures ≡ [] → (y .hideFirst ≡ false → y .hidden ≡ []) → innerRecords n (symbolFigures fs y) ≡ innerRecords n y ++ shown fs
+  element-more fs e h =
+      in-order (y .hideFirst) fs (y .hidden) h ∙ ap (λ (u : List Figure). inOrder (y .hideFirst) (shown u) (pointRecords 43 n 1 (y .hidden)) ++ shown fs) (sym e)
+
+  hide-order : (b : Bool) (fs : List Figure) (ps : List Point) → (b ≡ true → fs ≡ []) → inOrder b (shown fs) (pointRecords 43 n 1 ps) ≡ inOrder b (shown fs) [] ++ pointRecords 43 n 1 ps
+  hide-order true fs ps e =
+      ap (λ (u : List Figure). pointRecords 43 n 1 ps ++ shown u) (e refl) ∙ append-nil (pointRecords 43 n 1 ps) ∙ ap (λ (u : List Figure). shown u ++ pointRecords 43 n 1 ps) (sym (e refl))
+  hide-order false fs ps e = ap (λ (u : Records). u ++ pointRecords 43 n 1 ps) (sym (append-nil (shown fs)))
+
+  pub hide-more : (ps : List Point) → y .hidden ≡ [] → (y .hideFirst ≡ true → y .figures ≡ []) → innerRecords n (symbolHidden ps y) ≡ innerRecords n y ++ pointRecords 43 n 1 ps
+  hide-more ps e h =
+      hide-order (y .hideFirst) (y .figures) ps h ∙ ap (λ (u : List Point). inOrder (y .hideFirst) (shown (y .figures)) (pointRecords 43 n 1 u) ++ pointRecords 43 n 1 ps) (sym e)
+
+-- ── a closed layer ──
+-- what a volume's layers hold says nothing of the file's ranges
+pub range-block : (u : LayerBlock) (s : Set) → symbolRange (withBlock u s) ≡ symbolRange s
+range-block u s = go (s .volumes) refl
+  where
+    go : (vs : List Contents) → s .volumes ≡ vs → symbolRange (withBlock u s) ≡ symbolRange s
+    go [] e = rw e
+    go (v ∷ vs) e = rw e
+
+pub closed-block : (c : Digits) (u : LayerBlock) (s : Set) → closedRecords c (withBlock u s) ≡ closedRecords c s
+closed-block c u s = go (s .volumes) refl
+  where
+    go : (vs : List Contents) → s .volumes ≡ vs → closedRecords c (withBlock u s) ≡ closedRecords c s
+    go [] e = rw e
+    go (v ∷ vs) e = rw e
+
+base-block : (c : Digits) (u : LayerBlock) (s : Set) (b : Bool) → baseRecords c (withBlock u s) b ≡ baseRecords c s b
+base-block c u s true = refl
+base-block c u s false = ap (λ (r : Records). r ++ fileRecords false (volumeOf s) (s .now)) (closed-block c u s)
+
+-- the records of closed layers, by the file's E_sym
+abbrev pub layersBy : Digits → Set → List LayerBlock → ℕ → Records
+layersBy c s us n = flat (map (blockRecords c (digitsOf n) (layerTable (eqb n 1)) (volumeOf s)) us)
+
+pub layer-closed : (c : Digits) (u : LayerBlock) (s : Set) → layersRecords c (withBlock u s) ≡ layersRecords c s ++ flat (map (homeFigure c s (inLayer (u .layer))) (u .figures))
+layer-closed c u s =
+    ap (λ (n : ℕ). baseRecords c (withBlock u s) (isFirst s) ++ layersBy c s (s .now .blocks ++ u ∷ []) n) (range-block u s)
+    ∙ ap (λ (r : Records). r ++ layersBy c s (s .now .blocks ++ u ∷ []) (symbolRange s)) (base-block c u s (isFirst s))
+    ∙ ap (λ (r : Records). baseRecords c s (isFirst s) ++ r) (flat-map-more (blockRecords c (rangeOf s) (layerTable (isSingle s)) (volumeOf s)) (s .now .blocks) u)
+    ∙ sym (append-assoc (baseRecords c s (isFirst s)) (layersBy c s (s .now .blocks) (symbolRange s)) (flat (map (homeFigure c s (inLayer (u .layer))) (u .figures))))
+
+-- ── a closed volume ──
+module _ (c d : Digits) (t : List Rule) where
+  pub later-more : (k : ℕ) (vs : List Contents) (v : Contents)
+      → laterRecords c d t k (vs ++ v ∷ []) ≡ laterRecords c d t k vs ++ (fileRecords false (k + length vs) v ++ bodyRecords c d t (k + length vs) v)
+  later-more k [] v =
+      append-nil (fileRecords false k v ++ bodyRecords c d t k v) ∙ ap (λ (m : ℕ). fileRecords false m v ++ bodyRecords c d t m v) (up k)
+    where
+      up : (k : ℕ) → k ≡ k + 0
+      up k = omega arith
+  later-more k (u ∷ vs) v =
+      ap (λ (r : Records). fileRecords false k u ++ bodyRecords c d t k u ++ r)
+      (later-more (suc k) vs v ∙ ap (λ (m : ℕ). laterRecords c d t (suc k) vs ++ (fileRecords false m v ++ bodyRecords c d t m v)) (along k (length vs)))
+      ∙ sym (append-assoc (fileRecords false k u ++ bodyRecords c d t k u) (laterRecords c d t (suc k) vs) (fileRecords false (k + suc (length vs)) v ++ bodyRecords c d t (k + suc (length vs)) v))
+    where
+      along : (k n : ℕ) → suc k + n ≡ k + suc n
+      along k n = omega arith
+
+module _ (c : Digits) (d : Drawing) (ys : List Symbol) (now : Contents) (n : ℕ) where
+  abbrev with : List Contents → Set
+  with vs = record { drawing = d; symbols = ys; volumes = vs; now = now; taken = n }
+
+  abbrev first : Contents → List Contents → Records
+  first v vs = fileRecords true 1 v ++ (drawingRecord d ∷ layerRecords 0 (d .layers)) ++ symbolRecords 0 ys ++ bodyRecords c (rangeOf (with (v ∷ vs))) (layerTable (isSingle (with (v ∷ vs)))) 1 v
+
+  closed-with : (vs : List Contents) → closedRecords c (withVolume (with vs)) ≡ layersRecords c (with vs)
+  closed-with [] = append-nil (layersRecords c (with []))
+  closed-with (v ∷ vs) =
+      let e : Digits = rangeOf (with (v ∷ vs)) in
+      let t : List Rule = layerTable (isSingle (with (v ∷ vs))) in
+      let k : ℕ = volumeOf (with (v ∷ vs)) in
+      let up : 2 + length vs ≡ k = omega arith in
+      ap (λ (r : Records). first v vs ++ r) (later-more c e t 2 vs now ∙ ap (λ (m : ℕ). laterRecords c e t 2 vs ++ (fileRecords false m now ++ bodyRecords c e t m now)) up)
+      ∙ sym (append-assoc (first v vs) (laterRecords c e t 2 vs) (fileRecords false k now ++ bodyRecords c e t k now))
+      ∙ sym (append-assoc (first v vs ++ laterRecords c e t 2 vs) (fileRecords false k now) (bodyRecords c e t k now))
+
+pub volume-closed : (c : Digits) (s : Set) → closedRecords c (withVolume s) ≡ layersRecords c s
+volume-closed c s = closed-with c (s .drawing) (s .symbols) (s .now) (s .taken) (s .volumes)
+
+-- ── how many records were taken says nothing of what they are ──
+from-taken : (c : Digits) (s : Set) (m : ℕ) (vs : List Contents) → recordsFrom c (withRecords m s) vs ≡ recordsFrom c s vs
+from-taken c s m [] = refl
+from-taken c s m (v ∷ vs) = refl
+
+pub closed-taken : (c : Digits) (s : Set) (m : ℕ) → closedRecords c (withRecords m s) ≡ closedRecords c s
+closed-taken c s m = from-taken c s m (s .volumes)
+
+base-taken : (c : Digits) (s : Set) (m : ℕ) (b : Bool) → baseRecords c (withRecords m s) b ≡ baseRecords c s b
+base-taken c s m true = refl
+base-taken c s m false = ap (λ (r : Records). r ++ fileRecords false (volumeOf s) (s .now)) (closed-taken c s m)
+
+pub layers-taken : (c : Digits) (s : Set) (m : ℕ) → layersRecords c (withRecords m s) ≡ layersRecords c s
+layers-taken c s m =
+    ap (λ (r : Records). r ++ bodyRecords c (rangeOf s) (layerTable (isSingle s)) (volumeOf s) (s .now)) (base-taken c s m (isFirst s))
+
+pub figures-taken : (c : Digits) (s : Set) (m : ℕ) (h : Home) (fs : List Figure) → figuresSoFar c (withRecords m s) h fs ≡ figuresSoFar c s h fs
+figures-taken c s m (inElement y) fs = refl
+figures-taken c s m (inLayer i) fs = ap (λ (r : Records). r ++ flat (map (homeFigure c s (inLayer i)) fs)) (layers-taken c s m)

@@ -1,0 +1,369 @@
+-- A line of a key that the class knows, directly in a placed symbol: from the code's answer to the step that the definitions make.
+use Prim.Native.Nat.{ℕ, suc, _+_, _*_, _-_, _≤_, _<_}
+use mathlib.Core.Bool.{Bool, true, false, cond, _&&_, not}
+use mathlib.Core.List.{List, [], _∷_, _++_, append-nil}
+use mathlib.Core.Option.{Option, none, some}
+use mathlib.Core.Path.{_≡_, refl, sym, _∙_, ap, subst}
+use native.Mathlib.Omega.{arith}
+use borrow.Author.Tests.{eqb-true, eqb-false}
+use lib.Dec.{eqb}
+use lib.IntN.{ℤ}
+use lib.ListN.{length, getD, set, take, replicate, length-set, length-append, length-replicate}
+use lib.Seq.{getD-set-same, getD-set-other, take-set-lt, take-suc-set, getD-take}
+use Rattle.rules.specs.declared.Digits.{Digits}
+use Rattle.rules.specs.declared.LineForm.{LineForm}
+use Rattle.rules.specs.Base.{isNone, isSome, hasNumber}
+use Rattle.rules.specs.RefusalNumbers.{got, unless}
+use Rattle.rules.specs.RangeClass.{digitsOf}
+use Rattle.rules.specs.Lines.{Rest, keyed, shapeOf, freeShapeOf}
+use Rattle.rules.specs.Values.{Known, Value, linked, Kind, serials, isFree}
+use Rattle.rules.specs.Values.{serialsOf as numbersOf}
+use Rattle.rules.specs.Rows.{Rule, found, find, Slots, Held, partOf, enter, marks, slotValue, fits, isContent, shapeFor, innerOf, Act, stay, entry, begin, shut, refuse, actRow, actFound, act}
+use Rattle.rules.specs.Figures.{placedTable, placedTables}
+use Rattle.rules.specs.Sets.{Figure, ownSerial, Set, rangeOf, knownOf}
+use Rattle.rules.specs.Machine.{Line, Env, inLayer, State, placing, byAct, noneOf, newSerial, onPlaced, stepIn}
+use Rattle.rules.specs.RecordTable.{ruleAt, putHeld}
+use Rattle.rules.proofs.Chains.{clash, same-eq}
+use Rattle.rules.proofs.Rows.{found-row, row-at, row-below, row-did}
+use Rattle.tables.specs.Tables.{tableOf}
+use Rattle.entries.specs.Names.{knownIn}
+use Rattle.entries.specs.Acts.{putLine, nextOf, Entered}
+use Rattle.account.specs.declared.Where.{Where}
+use Rattle.account.specs.declared.Step.{Step}
+use Rattle.account.specs.declared.Step.the-variants as S
+use Rattle.account.specs.Records.{partAt}
+use Rattle.account.specs.Account.{atBlock}
+use Rattle.account.specs.PlacedLines.{Lent, lent, serialCount, ownNumber, inUse, clashes, lentAfter, lentInside, placedStep, PlacedLent, RowLine}
+use Rattle.standing.specs.Standing.{Desk, layersOf, serialsWith, serialsOf, tallyOf, formSize, restSize, InPlaced, Stands, deskNow, Under, LineHere, StandsAt, StepOut}
+use Rattle.account.proofs.RowsTaken.{Taken, entry-taken, begin-taken}
+use Rattle.standing.proofs.LineOrigins.{From, entry-from, begin-from}
+use Rattle.standing.proofs.Marks.{marks-set, mark-free}
+use Rattle.standing.proofs.Standings.{known}
+use Rattle.standing.proofs.SlotLengths.{length-held}
+use Rattle.standing.proofs.HomeFacts.{home-stays}
+use Rattle.account.proofs.PlacedLaws.{own-is}
+use Rattle.standing.proofs.PlacedFacts.{isSerials, placed-rows, placed-rows-six, placed-places, serial-rule, other-rule, entry-plain, entry-linked, content-size, begin-shape, begin-row, begin-inner, blank-marks, shape-shut, none-before, figure-serial}
+use Rattle.standing.proofs.PlacedTables.{lentOf, lentDesk, begun, shaped-enter, part-same, part-other, record-is, record-laid, record-entered, range-is, placing-on}
+
+-- a number is the only one of its kind, or one of those in use
+one-of : (n : ℕ) (used : List ℕ) → noneOf (n ∷ []) used ≡ not (hasNumber n used)
+one-of n used = go (hasNumber n used)
+  where
+    go : (b : Bool) → (not b && true) ≡ not b
+    go true = refl
+    go false = refl
+
+-- `serial=` and what stands behind it
+shape-plain : (r : Rule) (c : Rest) → r .holds ≡ serials → shapeFor r c ≡ shapeOf c
+shape-plain r c e = ap (λ (d : Kind). cond (isFree d) (freeShapeOf c) (shapeOf c)) e
+
+module _ (c : Digits) (spool : List ℕ) (k : ℕ) (FileHere : Desk → Set → ℕ → Held → ℕ → Type 0) (d : Desk) (at to : ℕ) (e : Env) (l : Line) (w : Where) (form : LineForm) (u : Under c d e)
+    (x : LineHere spool k at to form w l) (s : Set) (m : ℕ) (fs : List Figure) (n : ℕ) (o : Held) (z : Stands c spool k d (FileHere d) at (placing s m fs n o 0)) where
+  abbrev st : State
+  st = placing s m fs n o 0
+
+  abbrev full : List Bool
+  full = marks (partOf o 0)
+
+  inp : InPlaced spool k (d .now) (d .marks) (d .inner) s m fs o 0
+  inp = z .block .1
+
+  later : at ≤ to
+  later = omega (arith, x .bytes)
+
+  abbrev rec₀ : List ℤ
+  rec₀ = partAt (d .now .free - 32) (d .table)
+
+  abbrev begun₀ : List ℤ
+  begun₀ = begun c spool k FileHere d at to s m fs n o 0 z
+
+  six : length (partOf o 0) ≡ 6
+  six = inp .shaped .1 ∙ placed-rows-six
+
+  -- ── what a row's line leaves ──
+  marked-more : (i : ℕ) (v : Value) → i < 6 → take 6 (set (d .marks) i true) ≡ marks (partOf (enter o 0 i v) 0)
+  marked-more i v h =
+      take-set-lt 6 (d .marks) i true h ∙ ap (λ (b : List Bool). set b i true) (inp .marked) ∙ sym (marks-set (partOf o 0) i v) ∙ ap marks (sym (part-same o 0 i v (inp .shaped .0)))
+
+  text-kept : (i : ℕ) (v : Value) → partOf (enter o 0 i v) 1 ≡ partOf o 1
+  text-kept i v = part-other o 0 1 i v (λ y. omega (arith, y))
+
+  in-entered : (i : ℕ) (v : Value) → i < 6 → InPlaced spool k (d .now) (set (d .marks) i true) (d .inner) s m fs (enter o 0 i v) 0
+  in-entered i v h = record {
+    home = home-stays spool k (d .now) (d .now) (d .marks) (d .inner) (d .inner) s (inLayer m) refl refl refl (inp .home);
+    figures = inp .figures;
+    part = inp .part;
+    parts = inp .parts;
+    shaped = shaped-enter placedTables o 0 0 i v (inp .shaped);
+    marked = marked-more i v h;
+    inner = λ y. absurd (omega (arith, y));
+    unopened = λ y. text-kept i v ∙ inp .unopened (none-before (partOf o 0) i 1 v (ap (λ (b : Slots). isNone (getD b 1 none)) (sym (part-same o 0 i v (inp .shaped .0))) ∙ y));
+    opened = λ y. absurd (omega (arith, y));
+  }
+
+  -- a line that leaves all as it is
+  pub same-stands : (x₁ : Lent) (rec₁ : List ℤ) → x₁ ≡ lentOf d → rec₁ ≡ rec₀ → StandsAt c spool k FileHere (deskNow (lentDesk d x₁ rec₁) (d .now)) to st
+  same-stands x₁ rec₁ y q =
+      subst (λ (t : Lent). StandsAt c spool k FileHere (deskNow (lentDesk d t rec₁) (d .now)) to st) (sym y)
+      (placing-on c spool k FileHere d at to s m fs n o 0 z (d .now) (d .marks) (d .inner) rec₁ o 0 later refl (z .lengths .marks) (z .lengths .inner)
+      (q ∙ record-is c spool k FileHere d at to s m fs n o 0 z) refl (z .block .0) inp)
+
+  -- ── a line of the row `serial` ──
+  module _ (v : Value) (q : ℕ) (ps : List ℕ) (is : v ≡ linked q ps) (free : getD (partOf o 0) 5 none ≡ none) where
+    abbrev o′ : Held
+    o′ = enter o 0 5 v
+
+    abbrev st′ : State
+    st′ = placing s m fs n o′ 0
+
+    none-yet : serialsOf st ≡ serialsWith s fs
+    none-yet =
+        ap (λ (y : List ℕ). serialsWith s fs ++ y) (figure-serial n o ∙ ap (λ (y : Option Value). ownSerial (numbersOf (slotValue y))) free) ∙ append-nil (serialsWith s fs)
+
+    slot-now : getD (partOf o′ 0) 5 none ≡ some v
+    slot-now = ap (λ (y : Slots). getD y 5 none) (part-same o 0 5 v (inp .shaped .0)) ∙ getD-set-same (partOf o 0) 5 (some v) none (omega (arith, six))
+
+    one-more : serialsOf st′ ≡ serialsWith s fs ++ q ∷ []
+    one-more =
+        ap (λ (y : List ℕ). serialsWith s fs ++ y)
+        (figure-serial n o′ ∙ ap (λ (y : Option Value). ownSerial (numbersOf (slotValue y))) slot-now ∙ ap (λ (y : Value). ownSerial (numbersOf y)) is)
+
+    count : serialCount (d .tally) ≡ length (serialsOf st)
+    count = ap (λ (t : List ℕ). getD t 11 0) (z .tally)
+
+    -- the numbers in use
+    in-use : inUse (d .tally) (d .serials) q ≡ hasNumber q (serialsWith s fs)
+    in-use = ap (λ (i : ℕ). hasNumber q (take i (d .serials))) count ∙ ap (hasNumber q) (z .serials ∙ none-yet)
+
+    is-new : newSerial s fs v ≡ not (hasNumber q (serialsWith s fs))
+    is-new = ap (λ (y : Value). noneOf (ownSerial (numbersOf y)) (serialsWith s fs)) is ∙ one-of q (serialsWith s fs)
+
+    grown : length (serialsOf st′) ≡ length (serialsOf st) + 1
+    grown = ap length one-more ∙ length-append (serialsWith s fs) (q ∷ []) ∙ ap (λ (y : List ℕ). length y + 1) (sym none-yet)
+
+    module _ (size : 8 ≤ formSize (l .form)) (rec₁ : List ℤ) (put : rec₁ ≡ putHeld placedTables o′ begun₀) where
+      credit : 25 * length (serialsOf st) + 15 ≤ at + 3
+      credit = subst (λ (y : Option Value). 25 * length (serialsOf st) + cond (isSome y) 0 15 ≤ at + 3) free (z .numbered)
+
+      few : length (serialsOf st) < length (d .serials)
+      few = omega (arith, credit, x .bytes, x .most, size, z .lengths .serials)
+
+      serial-stands : StandsAt c spool k FileHere (deskNow (lentDesk d (lentAfter (lentOf d) 5 q) rec₁) (d .now)) to st′
+      serial-stands = record {
+        lengths = record {
+          symbols = z .lengths .symbols;
+          layers = z .lengths .layers;
+          serials = length-set (d .serials) (serialCount (d .tally)) q ∙ z .lengths .serials;
+          used = z .lengths .used;
+          usedAll = z .lengths .usedAll;
+          marks = length-set (d .marks) 5 true ∙ z .lengths .marks;
+          inner = z .lengths .inner;
+          header = z .lengths .header;
+        };
+        laid = record-laid c spool k FileHere d at to s m fs n o 0 z rec₁ (putHeld placedTables o′ begun₀) put (length-held placedTables o′ begun₀);
+        taken = z .taken;
+        here = z .here;
+        this = z .this;
+        tally = ap (λ (t : List ℕ). set t 11 (serialCount t + 1)) (z .tally) ∙ ap (tallyOf s (z .here) (length (layersOf st))) (sym grown);
+        symbols = z .symbols;
+        layers = z .layers;
+        few-layers = z .few-layers;
+        serials =
+            let up : length (serialsOf st′) ≡ suc (length (serialsOf st)) = omega (arith, grown) in
+            ap (λ (i : ℕ). take i (set (d .serials) (serialCount (d .tally)) q)) up
+            ∙ ap (λ (i : ℕ). take (suc (length (serialsOf st))) (set (d .serials) i q)) count
+            ∙ take-suc-set (d .serials) (length (serialsOf st)) q few
+            ∙ ap (λ (y : List ℕ). y ++ q ∷ []) (z .serials ∙ none-yet) ∙ sym one-more;
+        used = z .used;
+        used-all = z .used-all;
+        counted = omega (arith, z .counted, later);
+        named = omega (arith, z .named, later);
+        numbered =
+            subst (λ (y : Option Value). 25 * length (serialsOf st′) + cond (isSome y) 0 15 ≤ to + 3) (sym slot-now)
+            (omega (arith, credit, grown, x .bytes, size));
+        block = (z .block .0, in-entered 5 v (omega arith));
+      }
+
+  -- ── a row's line ──
+  module _ (key : List ℕ) (rest : Rest) (row : ℕ) (rule : Rule) (keyed-so : l .form ≡ keyed key rest) (place : find key placedTable ≡ found row rule) where
+    -- what the definitions do, and what the code goes by
+    abbrev did : Act
+    did = actRow (knownOf s) (rangeOf s) (getD full row false) row rule rest
+
+    abbrev pub rowAct : Act
+    rowAct =
+        actRow (knownIn spool (take (getD (d .tally) 9 0) (d .symbols)) (take (getD (d .tally) 10 0) (d .layers))) (digitsOf (getD (d .tally) 1 0)) (getD (d .marks) row false) row rule rest
+
+    row-act : rowAct ≡ did
+    row-act =
+        let below : row < 6 = omega (arith, row-below (found-row key placedTable row rule place .0), placed-rows-six) in
+        ap (λ (y : Known). actRow y (digitsOf (getD (d .tally) 1 0)) (getD (d .marks) row false) row rule rest) (known c spool k FileHere d at to st st z refl)
+        ∙ ap (λ (y : Digits). actRow (knownOf s) y (getD (d .marks) row false) row rule rest) (range-is c spool k FileHere d at to s m fs n o 0 z)
+        ∙ ap (λ (y : Bool). actRow (knownOf s) (rangeOf s) y row rule rest) (sym (getD-take 6 (d .marks) row false below) ∙ ap (λ (y : List Bool). getD y row false) (inp .marked))
+
+    whole : act (knownOf s) placedTable (rangeOf s) full (l .form) ≡ did
+    whole = ap (act (knownOf s) placedTable (rangeOf s) full) keyed-so ∙ ap (actFound (knownOf s) (rangeOf s) full rest) place
+
+    module _ (h : stepIn e l st ≡ onPlaced s m fs n o 0 did) (x₁ : Lent) (rec₁ : List ℤ) where
+      abbrev Out : Step → Type 0
+      Out r = StepOut c spool k FileHere e l to st (lentDesk d x₁ rec₁) r
+
+      -- ── a line entered ──
+      module _ (i : ℕ) (v : Value) (a : did ≡ entry i v) (q : rec₁ ≡ putLine (ruleAt (tableOf 18) i) 0 v rec₀) where
+        taken : Taken placedTable full i v
+        taken = entry-taken (knownOf s) placedTable (rangeOf s) full (l .form) i v (whole ∙ a)
+
+        from : From (knownOf s) placedTable (rangeOf s) full (l .form) i (entry i v)
+        from = entry-from (knownOf s) placedTable (rangeOf s) full (l .form) i v (whole ∙ a)
+
+        is-rule : ruleAt placedTable i ≡ from .rule
+        is-rule = row-at (from .row) _
+
+        below : i < 6
+        below = omega (arith, taken .row, placed-rows-six)
+
+        put-entry : rec₁ ≡ putHeld placedTables (enter o 0 i v) begun₀
+        put-entry =
+            record-entered c spool k FileHere d at to s m fs n o 0 z 0 i v rec₁ (omega arith) taken placed-places (q ∙ ap (λ (t : List Rule). putLine (ruleAt t i) 0 v rec₀) placed-rows)
+
+        abbrev st″ : State
+        st″ = placing s m fs n (enter o 0 i v) 0
+
+        -- of another row than `serial`
+        on-other : eqb i 5 ≡ false → x₁ ≡ lentAfter (lentOf d) i (ownNumber rec₁) → Out (S.Go (d .now))
+        on-other b y =
+            let plain : numbersOf v ≡ [] =
+            entry-plain (knownOf s) i i (from .rule) (shapeFor (from .rule) (from .rest)) v (subst (λ (r : Rule). isSerials (r .holds) ≡ false) is-rule (other-rule i below b)) (from .did .read) in
+            let lent-is : x₁ ≡ lent (d .tally) (d .serials) (set (d .marks) i true) (d .inner) =
+            y ∙ ap (λ (t : Bool). lent (cond t (set (d .tally) 11 (serialCount (d .tally) + 1)) (d .tally)) (cond t (set (d .serials) (serialCount (d .tally)) (ownNumber rec₁)) (d .serials)) (set (d .marks) i true) (d .inner)) b in (
+              st″,
+              h ∙ ap (byAct _ _ _ _) a ∙ ap (λ (t : List ℕ). unless (noneOf (ownSerial t) (serialsWith s fs)) 15 (got st″)) plain,
+              subst (λ (t : Lent). StandsAt c spool k FileHere (deskNow (lentDesk d t rec₁) (d .now)) to st″) (sym lent-is)
+                  (placing-on c spool k FileHere d at to s m fs n o 0 z (d .now) (set (d .marks) i true) (d .inner) rec₁ (enter o 0 i v) 0 later refl (length-set (d .marks) i true ∙ z .lengths .marks) (z .lengths .inner) put-entry
+                  (sym (ap (λ (t : Slots). getD t 5 none) (part-same o 0 i v (inp .shaped .0)) ∙ getD-set-other (partOf o 0) i 5 (some v) none (λ t. eqb-false i 5 b (sym t))))
+                  (z .block .0) (in-entered i v below)),
+            )
+
+        -- of the row `serial`
+        module _ (five : i ≡ 5) where
+          abbrev r₅ : Rule
+          r₅ = ruleAt placedTable 5
+
+          five-rule : r₅ ≡ from .rule
+          five-rule = ap (ruleAt placedTable) (sym five) ∙ is-rule
+
+          holds-serials : from .rule .holds ≡ serials
+          holds-serials = ap (λ (r : Rule). r .holds) (sym five-rule) ∙ serial-rule .0
+
+          linked-so : ((y : ℕ) × (ps : List ℕ) × (v ≡ linked y ps)) × (isContent (shapeFor (from .rule) (from .rest)) ≡ true)
+          linked-so =
+              entry-linked (knownOf s) i i (from .rule) (shapeFor (from .rule) (from .rest)) v holds-serials (ap (λ (r : Rule). r .may) (sym five-rule) ∙ serial-rule .1) (from .did .fit) (from .did .read)
+
+          size : 8 ≤ formSize (l .form)
+          size =
+              let long-key : length (from .key) ≡ 6 =
+              ap length (same-eq (from .key) (from .rule .key) (found-row (from .key) placedTable i (from .rule) (from .place) .1)) ∙ ap (λ (r : Rule). length (r .key)) (sym five-rule) ∙ serial-rule .2 in
+              let behind : 2 ≤ restSize (from .rest) = content-size (from .rest) (ap isContent (sym (shape-plain (from .rule) (from .rest) holds-serials)) ∙ linked-so .1) in
+              omega (arith, ap formSize (from .form), long-key, behind)
+
+          abbrev own : ℕ
+          own = linked-so .0 .0
+
+          free : getD (partOf o 0) 5 none ≡ none
+          free = ap (λ (y : ℕ). getD (partOf o 0) y none) (sym five) ∙ mark-free (partOf o 0) i (taken .free)
+
+          number : ownNumber rec₁ ≡ own
+          number =
+              ap ownNumber
+              (q ∙ ap (λ (y : ℕ). putLine (ruleAt (tableOf 18) y) 0 v rec₀) five ∙ ap (λ (y : Value). putLine (ruleAt (tableOf 18) 5) 0 y rec₀) (linked-so .0 .2))
+              ∙ own-is rec₀ own (linked-so .0 .1) (ap length (record-is c spool k FileHere d at to s m fs n o 0 z) ∙ length-held placedTables o begun₀)
+
+          used-so : inUse (d .tally) (d .serials) own ≡ hasNumber own (serialsWith s fs)
+          used-so = in-use v own (linked-so .0 .1) (linked-so .0 .2) free
+
+          new-so : newSerial s fs v ≡ not (hasNumber own (serialsWith s fs))
+          new-so = is-new v own (linked-so .0 .1) (linked-so .0 .2) free
+
+          on-used : inUse (d .tally) (d .serials) own ≡ true → Out (S.Stop 15)
+          on-used b = h ∙ ap (byAct _ _ _ _) a ∙ ap (λ (t : Bool). unless t 15 (got st″)) (new-so ∙ ap not (sym used-so ∙ b))
+
+          on-new : inUse (d .tally) (d .serials) own ≡ false → x₁ ≡ lentAfter (lentOf d) 5 own → Out (S.Go (d .now))
+          on-new b y = (
+            st″,
+            h ∙ ap (byAct _ _ _ _) a ∙ ap (λ (t : Bool). unless t 15 (got st″)) (new-so ∙ ap not (sym used-so ∙ b)),
+            subst (λ (t : ℕ). StandsAt c spool k FileHere (deskNow (lentDesk d x₁ rec₁) (d .now)) to (placing s m fs n (enter o 0 t v) 0)) (sym five)
+                (subst (λ (t : Lent). StandsAt c spool k FileHere (deskNow (lentDesk d t rec₁) (d .now)) to (placing s m fs n (enter o 0 5 v) 0)) (sym y)
+                (serial-stands v own (linked-so .0 .1) (linked-so .0 .2) free size rec₁ (put-entry ∙ ap (λ (t : ℕ). putHeld placedTables (enter o 0 t v) begun₀) five))),
+          )
+
+          by-use : (t : Bool) → inUse (d .tally) (d .serials) own ≡ t → (t ≡ false → x₁ ≡ lentAfter (lentOf d) 5 own) → Out (cond t (S.Stop 15) (S.Go (d .now)))
+          by-use true b y = on-used b
+          by-use false b y = on-new b (y refl)
+
+          on-serial : clashes (lentOf d) i (ownNumber rec₁) ≡ inUse (d .tally) (d .serials) (ownNumber rec₁) → (clashes (lentOf d) i (ownNumber rec₁) ≡ false → x₁ ≡ lentAfter (lentOf d) i (ownNumber rec₁))
+              → Out (cond (clashes (lentOf d) i (ownNumber rec₁)) (S.Stop 15) (S.Go (d .now)))
+          on-serial t y =
+              let same : clashes (lentOf d) i (ownNumber rec₁) ≡ inUse (d .tally) (d .serials) own = t ∙ ap (inUse (d .tally) (d .serials)) number in
+              subst Out (ap (λ (b : Bool). cond b (S.Stop 15) (S.Go (d .now))) (sym same))
+              (by-use (inUse (d .tally) (d .serials) own) refl
+              (λ f. y (same ∙ f) ∙ ap (λ (j : ℕ). lentAfter (lentOf d) j (ownNumber rec₁)) five ∙ ap (lentAfter (lentOf d) 5) number))
+
+        on-entry : (b : Bool) → eqb i 5 ≡ b → (clashes (lentOf d) i (ownNumber rec₁) ≡ false → x₁ ≡ lentAfter (lentOf d) i (ownNumber rec₁))
+            → Out (cond (clashes (lentOf d) i (ownNumber rec₁)) (S.Stop 15) (S.Go (d .now)))
+        on-entry true b y = on-serial (eqb-true i 5 b) (ap (λ (t : Bool). t && inUse (d .tally) (d .serials) (ownNumber rec₁)) b) y
+        on-entry false b y =
+            let quiet : clashes (lentOf d) i (ownNumber rec₁) ≡ false = ap (λ (t : Bool). t && inUse (d .tally) (d .serials) (ownNumber rec₁)) b in
+            subst Out (ap (λ (t : Bool). cond t (S.Stop 15) (S.Go (d .now))) (sym quiet)) (on-other b (y quiet))
+
+      -- ── its text opened ──
+      on-begin : (i j : ℕ) (v : Value) → did ≡ begin i j v → rec₁ ≡ putLine (ruleAt (tableOf 18) j) 0 v rec₀ → x₁ ≡ lentInside (lentOf d) j → Out (S.Go (atBlock (d .now) 11 1))
+      on-begin i j v a q y =
+          let taken : Taken placedTable full j v = begin-taken (knownOf s) placedTable (rangeOf s) full (l .form) i j v (whole ∙ a) in
+          let from : From (knownOf s) placedTable (rangeOf s) full (l .form) j (begin i j v) = begin-from (knownOf s) placedTable (rangeOf s) full (l .form) i j v (whole ∙ a) in
+          let is-rule : ruleAt placedTable j ≡ from .rule = row-at (from .row) _ in
+          let below : j < 6 = omega (arith, taken .row, placed-rows-six) in
+          let (plain, filled, inner-so) = begin-shape (knownOf s) j i j (from .rule) (shapeFor (from .rule) (from .rest)) v (from .did .read) in
+          let one : j ≡ 1 =
+          begin-row j (shapeFor (from .rule) (from .rest)) below (subst (λ (r : Rule). fits (r .holds) (r .may) (shapeFor (from .rule) (from .rest)) ≡ true) (sym is-rule) (from .did .fit)) plain filled in
+          let part-so : i ≡ 1 = inner-so ∙ ap (λ (r : Rule). innerOf (r .holds)) (sym is-rule ∙ ap (ruleAt placedTable) one) ∙ begin-inner in
+          let o′ : Held = enter o 0 j v in
+          let own : partOf o′ 0 ≡ set (partOf o 0) j (some v) = part-same o 0 j v (inp .shaped .0) in
+          let there : isNone (getD (partOf o′ 0) 1 none) ≡ false =
+          ap (λ (t : Slots). isNone (getD t 1 none)) own ∙ ap (λ (t : ℕ). isNone (getD (set (partOf o 0) t (some v)) 1 none)) one
+          ∙ ap isNone (getD-set-same (partOf o 0) 1 (some v) none (omega (arith, six))) in
+          let free : isNone (getD (partOf o 0) 1 none) ≡ true = ap (λ (t : ℕ). isNone (getD (partOf o 0) t none)) (sym one) ∙ ap isNone (mark-free (partOf o 0) j (taken .free)) in (
+            placing s m fs n o′ 1,
+            h ∙ ap (byAct _ _ _ _) a ∙ ap (λ (t : ℕ). got (placing s m fs n o′ t)) part-so,
+            subst (λ (t : Lent). StandsAt c spool k FileHere (deskNow (lentDesk d t rec₁) (atBlock (d .now) 11 1)) to (placing s m fs n o′ 1)) (sym y)
+                (placing-on c spool k FileHere d at to s m fs n o 0 z (atBlock (d .now) 11 1) (set (d .marks) j true) (replicate (length (d .inner)) false) rec₁ o′ 1 later refl
+                (length-set (d .marks) j true ∙ z .lengths .marks) (length-replicate (length (d .inner)) false ∙ z .lengths .inner)
+                (record-entered c spool k FileHere d at to s m fs n o 0 z 0 j v rec₁ (omega arith) taken placed-places (q ∙ ap (λ (t : List Rule). putLine (ruleAt t j) 0 v rec₀) placed-rows))
+                (sym (ap (λ (t : Slots). getD t 5 none) own ∙ getD-set-other (partOf o 0) j 5 (some v) none (λ t. omega (arith, t, one)))) refl
+                (record {
+                  home = home-stays spool k (d .now) (atBlock (d .now) 11 1) (d .marks) (d .inner) (d .inner) s (inLayer m) refl refl refl (inp .home);
+                  figures = inp .figures;
+                  part = refl;
+                  parts = omega arith;
+                  shaped = shaped-enter placedTables o 0 0 j v (inp .shaped);
+                  marked = marked-more j v below;
+                  inner = λ t. blank-marks (length (d .inner)) (z .lengths .inner) ∙ ap marks (sym (text-kept j v ∙ inp .unopened free));
+                  unopened = λ t. clash t there;
+                  opened = λ t. there;
+                })),
+          )
+
+      on-stay : did ≡ stay → x₁ ≡ lentOf d → rec₁ ≡ rec₀ → Out (S.Go (d .now))
+      on-stay a y q = (st, h ∙ ap (byAct _ _ _ _) a, same-stands x₁ rec₁ y q)
+
+      by-act : (a : Act) → did ≡ a → Entered (ruleAt (tableOf 18)) 0 rec₀ a rec₁ → PlacedLent (lentOf d) x₁ (ownNumber rec₁) (nextOf a) → Out (placedStep (d .now) (lentOf d) (ownNumber rec₁) (nextOf a))
+      by-act stay a q y = on-stay a y q
+      by-act (entry i v) a q y = on-entry i v a q (eqb i 5) refl y
+      by-act (begin i j v) a q y = on-begin i j v a q y
+      by-act shut a q y = absurd (shape-shut (knownOf s) row rule (shapeFor rule rest) (row-did (knownOf s) (rangeOf s) (getD full row false) row rule rest shut refl a .read))
+      by-act (refuse i) a q y = h ∙ ap (byAct _ _ _ _) a
+
+      pub row-line : (r : Step) → RowLine (d .now) (lentOf d) x₁ rec₀ rec₁ r rowAct → Out r
+      row-line r y =
+          subst Out (sym (y .did .answer ∙ ap (λ (a : Act). placedStep (d .now) (lentOf d) (ownNumber rec₁) (nextOf a)) row-act))
+          (by-act did refl (subst (λ (a : Act). Entered (ruleAt (tableOf 18)) 0 rec₀ a rec₁) row-act (y .entered))
+          (subst (λ (a : Act). PlacedLent (lentOf d) x₁ (ownNumber rec₁) (nextOf a)) row-act (y .did .lent)))

@@ -1,0 +1,209 @@
+-- A line in a placed symbol's block: from the code's answer to the step that the definitions make.
+use Prim.Native.Nat.{ℕ, zero, suc, _+_, _-_}
+use mathlib.Core.Bool.{Bool, true, false, cond}
+use mathlib.Core.List.{List, [], _∷_, _++_, map, append-assoc}
+use mathlib.Core.Path.{_≡_, refl, sym, _∙_, ap, subst}
+use native.Mathlib.Omega.{arith}
+use lib.Dec.{eqb}
+use lib.IntN.{ℤ, pos}
+use lib.ListN.{length, getD, set, take, length-set, length-append}
+use Rattle.rules.specs.declared.Digits.{Digits}
+use Rattle.rules.specs.declared.LineForm.{LineForm}
+use Rattle.rules.specs.Base.{flat}
+use Rattle.rules.specs.RefusalNumbers.{Got, got, bad, unless}
+use Rattle.rules.specs.RangeClass.{digitsOf, reaches, exceeds, both, hides, Skip, passes, deeper, noForm, skipOf}
+use Rattle.rules.specs.Lines.{Rest, Form, ignored, wrong, close, eof, keyed, formIn, shapeOf, hasForm}
+use Rattle.rules.specs.Values.{Known}
+use Rattle.rules.specs.Rows.{Rule, Found, absent, found, find, Held, partOf, marks, shut, refuse, orRefuse, actRow, actUnknown, complete}
+use Rattle.rules.specs.Figures.{placedTable, placedTables}
+use Rattle.rules.specs.Sets.{Figure, placed, figureSerial, Set, rangeOf, knownOf, serialsIn}
+use Rattle.rules.specs.Machine.{Line, Env, inLayer, State, figures, placing, skipping, byAct, bySkip, skipDeeper, onUnknown, onPlaced, onPlacedKey, onPlacedOwn, stepIn}
+use Rattle.rules.specs.RecordTable.{putHeld, unreadState, markUnread, placedRecord}
+use Rattle.tables.specs.Tables.{tableOf}
+use Rattle.entries.specs.Names.{knownIn}
+use Rattle.account.specs.declared.Where.{Where}
+use Rattle.account.specs.declared.Step.{Step}
+use Rattle.account.specs.declared.Step.the-variants as S
+use Rattle.account.specs.Records.{partAt, withPart}
+use Rattle.account.specs.Account.{figureDone}
+use Rattle.account.specs.SkippedLines.{skippedAs}
+use Rattle.standing.specs.SoFar.{volumeOf, figuresSoFar, soFar}
+use Rattle.account.specs.PlacedLines.{Lent, skipStep, unknownStep, FoundLine, KeyLine, isWhole, OwnLine, PlacedLine}
+use Rattle.standing.specs.Standing.{Desk, formSize, usedOf, InPlaced, Stands, deskNow, Under, LineHere, StandsAt, StepOut}
+use Rattle.standing.proofs.LaidTables.{laid-same}
+use Rattle.standing.proofs.MoreRecords.{more-figures}
+use Rattle.standing.proofs.Standings.{sight, stands-on}
+use Rattle.standing.proofs.HomeFacts.{home-stays}
+use Rattle.standing.proofs.FigureSights.{serials-more}
+use Rattle.standing.proofs.SlotLengths.{length-held}
+use Rattle.standing.proofs.PlacedFacts.{placed-rows}
+use Rattle.standing.proofs.PlacedTables.{lentOf, lentDesk, begun, record-is, record-laid, range-is}
+use Rattle.standing.proofs.PlacedTextStanding.{text-line}
+use Rattle.standing.proofs.PlacedKeyStanding.{same-stands, row-line}
+
+-- states of unread attributes are put where there are places for them
+state-length : (q : ℕ) (b : Bool) (t : List ℤ) → length (unreadState q b t) ≡ length t
+state-length zero b t = refl
+state-length (suc q) b t = length-set t (suc q) (cond b (pos 3) (getD t (suc q) (pos 0)))
+
+length-unread : (c d : Digits) (rs : List Rule) (t : List ℤ) → length (markUnread c d rs t) ≡ length t
+length-unread c d [] t = refl
+length-unread c d (r ∷ rs) t = state-length (r .state) (hides c d (r .least)) (markUnread c d rs t) ∙ length-unread c d rs t
+
+-- the closed symbol's serial number is that of a figure of the layer
+closed-sight : (s : Set) (m : ℕ) (fs : List Figure) (n : ℕ) (o : Held) → sight (placing s m fs n o 0) ≡ sight (figures s (inLayer m) (fs ++ placed n o ∷ []))
+closed-sight s m fs n o =
+    ap (λ (u : List ℕ). record { set = sight (placing s m fs n o 0) .set; layers = s .drawing .layers; serials = u; used = usedOf (placing s m fs n o 0); inside = true; counts = true })
+    (append-assoc (serialsIn s) (flat (map figureSerial fs)) (figureSerial (placed n o)) ∙ ap (λ (u : List ℕ). serialsIn s ++ u) (sym (serials-more fs (placed n o))))
+
+module _ (c : Digits) (spool : List ℕ) (k : ℕ) (FileHere : Desk → Set → ℕ → Held → ℕ → Type 0) (d : Desk) (at to : ℕ) (e : Env) (l : Line) (w : Where) (form : LineForm) (u : Under c d e)
+    (x : LineHere spool k at to form w l) (s : Set) (m : ℕ) (fs : List Figure) (n : ℕ) (o : Held) where
+  -- what the code goes by
+  abbrev known₀ : Known
+  known₀ = knownIn spool (take (getD (d .tally) 9 0) (d .symbols)) (take (getD (d .tally) 10 0) (d .layers))
+
+  abbrev range₀ : Digits
+  range₀ = digitsOf (getD (d .tally) 1 0)
+
+  abbrev rec₀ : List ℤ
+  rec₀ = partAt (d .now .free - 32) (d .table)
+
+  -- ── directly in the block ──
+  module _ (z : Stands c spool k d (FileHere d) at (placing s m fs n o 0)) (x₁ : Lent) (rec₁ : List ℤ) where
+    abbrev st : State
+    st = placing s m fs n o 0
+
+    abbrev Out : Step → Type 0
+    Out r = StepOut c spool k FileHere e l to st (lentDesk d x₁ rec₁) r
+
+    inp : InPlaced spool k (d .now) (d .marks) (d .inner) s m fs o 0
+    inp = z .block .1
+
+    as-before : x₁ ≡ lentOf d → rec₁ ≡ rec₀ → StandsAt c spool k FileHere (deskNow (lentDesk d x₁ rec₁) (d .now)) to st
+    as-before y q = same-stands c spool k FileHere d at to e l w form u x s m fs n o z x₁ rec₁ y q
+
+    -- ── a key that the class doesn't know ──
+    module _ (key : List ℕ) (rest : Rest) (h : stepIn e l st ≡ onUnknown e s m fs n o key rest) (y : x₁ ≡ lentOf d) (q : rec₁ ≡ rec₀) where
+      abbrev skipping₁ : Got State
+      skipping₁ = skipDeeper 0 (skipping s m fs n o 1)
+
+      abbrev refused : Got State
+      refused = byAct st (λ j v. bad 6) (λ i j v. bad 6) (λ _. bad 6) (actUnknown rest)
+
+      by-skip : (t : Skip) → skipOf key rest ≡ t → exceeds (rangeOf s) (e .class) ≡ true → Out (skipStep (d .now) (skippedAs t))
+      by-skip t f b = go t (h ∙ ap (λ (i : Bool). cond i (bySkip (skipOf key rest) (got st) skipping₁) refused) b ∙ ap (λ (i : Skip). bySkip i (got st) skipping₁) f)
+        where
+          go : (t : Skip) → stepIn e l st ≡ bySkip t (got st) skipping₁ → Out (skipStep (d .now) (skippedAs t))
+          go passes f = (st, f, as-before y q)
+          go deeper f = (s, m, fs, n, o, f, as-before y q)
+          go noForm f = f
+
+      by-form : (t : Bool) → hasForm (shapeOf rest) ≡ t → exceeds (rangeOf s) (e .class) ≡ false → Out (cond t (S.Stop 6) (S.Stop 5))
+      by-form t f b =
+          go t
+          (h ∙ ap (λ (i : Bool). cond i (bySkip (skipOf key rest) (got st) skipping₁) refused) b
+          ∙ ap (λ (i : Bool). byAct st (λ j v. bad 6) (λ i j v. bad 6) (λ _. bad 6) (orRefuse (unless i 5 (bad 6)))) f)
+        where
+          go : (t : Bool) → stepIn e l st ≡ byAct st (λ j v. bad 6) (λ i j v. bad 6) (λ _. bad 6) (orRefuse (unless t 5 (bad 6))) → Out (cond t (S.Stop 6) (S.Stop 5))
+          go true f = f
+          go false f = f
+
+      by-range : (t : Bool) → exceeds (rangeOf s) (e .class) ≡ t → Out (cond t (skipStep (d .now) (skippedAs (skipOf key rest))) (cond (hasForm (shapeOf rest)) (S.Stop 6) (S.Stop 5)))
+      by-range true b = by-skip (skipOf key rest) refl b
+      by-range false b = by-form (hasForm (shapeOf rest)) refl b
+
+      on-unknown : (r : Step) → r ≡ unknownStep c range₀ (d .now) (skippedAs (skipOf key rest)) rest → Out r
+      on-unknown r a =
+          let f : exceeds range₀ c ≡ exceeds (rangeOf s) (e .class) =
+          ap (λ (i : Digits). exceeds i c) (range-is c spool k FileHere d at to s m fs n o 0 z) ∙ ap (exceeds (rangeOf s)) (sym (u .class)) in
+          subst Out (sym (a ∙ ap (λ (i : Bool). cond i (skipStep (d .now) (skippedAs (skipOf key rest))) (cond (hasForm (shapeOf rest)) (S.Stop 6) (S.Stop 5))) f))
+          (by-range (exceeds (rangeOf s) (e .class)) refl)
+
+    -- ── the closing line ──
+    module _ (shut-so : l .form ≡ close) where
+      abbrev there : Bool
+      there = complete (both (e .class) (rangeOf s)) placedTable (marks (partOf o 0))
+
+      whole : isWhole c range₀ (d .marks) ≡ there
+      whole =
+          ap (λ (i : Digits). complete (both c i) (tableOf 18) (take 6 (d .marks))) (range-is c spool k FileHere d at to s m fs n o 0 z)
+          ∙ ap (λ (i : Digits). complete (both i (rangeOf s)) (tableOf 18) (take 6 (d .marks))) (sym (u .class))
+          ∙ ap (λ (i : List Rule). complete (both (e .class) (rangeOf s)) i (take 6 (d .marks))) placed-rows
+          ∙ ap (complete (both (e .class) (rangeOf s)) placedTable) (inp .marked)
+
+      stepped : stepIn e l st ≡ onPlaced s m fs n o 0 (cond there shut (refuse 8))
+      stepped = ap (onPlacedOwn e s m fs n o) shut-so
+
+      on-short : there ≡ false → Out (S.Stop 8)
+      on-short b = stepped ∙ ap (λ (i : Bool). onPlaced s m fs n o 0 (cond i shut (refuse 8))) b
+
+      on-whole : there ≡ true → x₁ ≡ lentOf d → rec₁ ≡ markUnread c range₀ placedTable rec₀ → Out (S.Go (figureDone (d .now)))
+      on-whole b y q =
+          let st′ : State = figures s (inLayer m) (fs ++ placed n o ∷ []) in
+          let begun₀ : List ℤ = begun c spool k FileHere d at to s m fs n o 0 z in
+          let made : List ℤ = placedRecord c (rangeOf s) 0 m (volumeOf s) n o in
+          let put : rec₁ ≡ made =
+          q ∙ ap (λ (i : Digits). markUnread c i placedTable rec₀) (range-is c spool k FileHere d at to s m fs n o 0 z)
+          ∙ ap (markUnread c (rangeOf s) placedTable) (record-is c spool k FileHere d at to s m fs n o 0 z) in
+          let long : length made ≡ 32 = length-unread c (rangeOf s) placedTable (putHeld placedTables o begun₀) ∙ length-held placedTables o begun₀ in
+          let grown : figuresSoFar c s (inLayer m) fs ++ made ∷ [] ≡ soFar c st′ = sym (more-figures c s (inLayer m) fs (placed n o)) in
+          let t₁ : List ℤ = withPart (d .now .free - 32) rec₁ (d .table) in
+          let one : formSize (l .form) ≡ 1 = ap formSize shut-so in (
+            st′,
+            stepped ∙ ap (λ (i : Bool). onPlaced s m fs n o 0 (cond i shut (refuse 8))) b,
+            subst (λ (i : Lent). StandsAt c spool k FileHere (deskNow (lentDesk d i rec₁) (figureDone (d .now))) to st′) (sym y)
+                (stands-on c spool k FileHere d at to st st′ z (figureDone (d .now)) (d .marks) (d .inner) t₁ (closed-sight s m fs n o) (z .lengths .marks) (z .lengths .inner)
+                (laid-same t₁ (figuresSoFar c s (inLayer m) fs ++ made ∷ []) (soFar c st′) (d .now .free) grown (record-laid c spool k FileHere d at to s m fs n o 0 z rec₁ made put long))
+                (z .taken) (omega (arith, z .counted, x .bytes, one, length-append fs (placed n o ∷ []))) (omega (arith, z .named, x .bytes)) (omega (arith, z .numbered, x .bytes, one))
+                (refl, home-stays spool k (d .now) (figureDone (d .now)) (d .marks) (d .inner) (d .inner) s (inLayer m) refl refl refl (inp .home), ap (λ (i : ℕ). i + 1) (inp .figures) ∙ sym (length-append fs (placed n o ∷ [])))),
+          )
+
+      on-close : (b : Bool) → there ≡ b → x₁ ≡ lentOf d → (b ≡ true → rec₁ ≡ markUnread c range₀ placedTable rec₀) → Out (cond b (S.Go (figureDone (d .now))) (S.Stop 8))
+      on-close true b y q = on-whole b y (q refl)
+      on-close false b y q = on-short b
+
+    -- ── any line ──
+    module _ (r : Step) where
+      on-key : (key : List ℕ) (rest : Rest) (f : Found) → l .form ≡ keyed key rest → find key placedTable ≡ f
+          → KeyLine known₀ c range₀ (d .now) (lentOf d) x₁ rec₀ rec₁ r (skippedAs (skipOf key rest)) rest f → Out r
+      on-key key rest absent a b v =
+          on-unknown key rest (ap (onPlacedOwn e s m fs n o) a ∙ ap (onPlacedKey e s m fs n o key rest) b) (v .lent) (v .rec) r (v .answer)
+      on-key key rest (found j q) a b v = go (reaches c (q .least)) refl v
+        where
+          reached : (i : Bool) → reaches c (q .least) ≡ i
+              → stepIn e l st ≡ cond i (onPlaced s m fs n o 0 (actRow (knownOf s) (rangeOf s) (getD (marks (partOf o 0)) j false) j q rest)) (onUnknown e s m fs n o key rest)
+          reached i g =
+              ap (onPlacedOwn e s m fs n o) a ∙ ap (onPlacedKey e s m fs n o key rest) b
+              ∙ ap (λ (t : Bool). cond t (onPlaced s m fs n o 0 (actRow (knownOf s) (rangeOf s) (getD (marks (partOf o 0)) j false) j q rest)) (onUnknown e s m fs n o key rest))
+              (ap (λ (t : Digits). reaches t (q .least)) (u .class) ∙ g)
+
+          go : (i : Bool) → reaches c (q .least) ≡ i → FoundLine known₀ c range₀ (d .now) (lentOf d) x₁ rec₀ rec₁ r (skippedAs (skipOf key rest)) rest j q i → Out r
+          go true g v = row-line c spool k FileHere d at to e l w form u x s m fs n o z key rest j q a b (reached true g) x₁ rec₁ r v
+          go false g v = on-unknown key rest (reached false g) (v .lent) (v .rec) r (v .answer)
+
+      on-form : (f : Form) → l .form ≡ f → OwnLine known₀ c range₀ (d .now) (lentOf d) x₁ rec₀ rec₁ r f → Out r
+      on-form ignored a v = subst Out (sym (v .0)) (st, ap (onPlacedOwn e s m fs n o) a, as-before (v .1) (v .2))
+      on-form (wrong i) a v = subst Out (sym v) (ap (onPlacedOwn e s m fs n o) a)
+      on-form close a v =
+          let b : isWhole c range₀ (d .marks) ≡ complete (both (e .class) (rangeOf s)) placedTable (marks (partOf o 0)) = whole a in
+          subst Out (sym (v .0 .answer ∙ ap (λ (t : Bool). cond t (S.Go (figureDone (d .now))) (S.Stop 8)) b))
+          (on-close a (complete (both (e .class) (rangeOf s)) placedTable (marks (partOf o 0))) refl (v .1) (λ t. v .0 .rec (b ∙ t)))
+      on-form eof a v = subst Out (sym v) (ap (onPlacedOwn e s m fs n o) a)
+      on-form (keyed key rest) a v =
+          on-key key rest (find key placedTable) a refl
+          (subst (λ (t : List Rule). KeyLine known₀ c range₀ (d .now) (lentOf d) x₁ rec₀ rec₁ r (skippedAs (skipOf key rest)) rest (find key t)) placed-rows v)
+
+      own-line : OwnLine known₀ c range₀ (d .now) (lentOf d) x₁ rec₀ rec₁ r (formIn spool form) → Out r
+      own-line v = on-form (l .form) refl (subst (OwnLine known₀ c range₀ (d .now) (lentOf d) x₁ rec₀ rec₁ r) (sym (x .is)) v)
+
+  -- ── in its text, or directly in it ──
+  pub placed-line : (p : ℕ) → Stands c spool k d (FileHere d) at (placing s m fs n o p) → (x₁ : Lent) (rec₁ : List ℤ) (r : Step)
+      → PlacedLine known₀ c range₀ (d .now) (lentOf d) x₁ rec₀ rec₁ r (eqb (d .now .part) 1) (formIn spool form)
+      → StepOut c spool k FileHere e l to (placing s m fs n o p) (lentDesk d x₁ rec₁) r
+  placed-line zero z x₁ rec₁ r v =
+      own-line z x₁ rec₁ r (subst (λ (i : ℕ). PlacedLine known₀ c range₀ (d .now) (lentOf d) x₁ rec₀ rec₁ r (eqb i 1) (formIn spool form)) (z .block .1 .part) v)
+  placed-line (suc zero) z x₁ rec₁ r v =
+      let y = subst (λ (i : ℕ). PlacedLine known₀ c range₀ (d .now) (lentOf d) x₁ rec₀ rec₁ r (eqb i 1) (formIn spool form)) (z .block .1 .part) v in
+      subst (λ (i : Lent). StepOut c spool k FileHere e l to (placing s m fs n o 1) (lentDesk d i rec₁) r) (sym (y .1))
+      (text-line c spool k FileHere d at to e l w form u x s m fs n o z (x₁ .inner) rec₁ r (y .0))
+  placed-line (suc (suc p)) z x₁ rec₁ r v = absurd (omega (arith, z .block .1 .parts))

@@ -1,0 +1,166 @@
+-- A line in the text of a placed symbol: from the code's answer to the step that the definitions make.
+use Prim.Native.Nat.{ℕ, _-_, _≤_}
+use mathlib.Core.Bool.{Bool, true, not}
+use mathlib.Core.List.{List, []}
+use mathlib.Core.Option.{Option, none}
+use mathlib.Core.Path.{_≡_, refl, sym, _∙_, ap, subst}
+use native.Mathlib.Omega.{arith}
+use borrow.Author.Tests.{not-true}
+use lib.IntN.{ℤ}
+use lib.ListN.{length, getD, set, take, length-set}
+use Rattle.rules.specs.declared.Digits.{Digits}
+use Rattle.rules.specs.declared.LineForm.{LineForm}
+use Rattle.rules.specs.Base.{isNone}
+use Rattle.rules.specs.RefusalNumbers.{got, unless}
+use Rattle.rules.specs.RangeClass.{digits}
+use Rattle.rules.specs.Lines.{formIn}
+use Rattle.rules.specs.Values.{Known, Value, serialsOf}
+use Rattle.rules.specs.Rows.{Rule, Slots, Held, partOf, enter, marks, shapeFor, Act, stay, entry, begin, shut, refuse, act}
+use Rattle.rules.specs.Figures.{textTable, placedTables}
+use Rattle.rules.specs.Sets.{Figure, Set, knownOf, ownSerial}
+use Rattle.rules.specs.Machine.{Line, Env, inLayer, State, placing, byAct, noneOf}
+use Rattle.rules.specs.RecordTable.{ruleAt, putHeld}
+use Rattle.rules.proofs.Chains.{clash}
+use Rattle.rules.proofs.Rows.{row-all}
+use Rattle.tables.specs.Tables.{tableOf}
+use Rattle.entries.specs.Names.{knownIn}
+use Rattle.entries.specs.Acts.{putLine, Entered}
+use Rattle.account.specs.declared.Where.{Where}
+use Rattle.account.specs.declared.Step.{Step}
+use Rattle.account.specs.declared.Step.the-variants as S
+use Rattle.account.specs.Records.{partAt, withPart}
+use Rattle.account.specs.Account.{atBlock}
+use Rattle.account.specs.PlacedLines.{placedTextStep, PlacedTextMarks, PlacedTextLine}
+use Rattle.standing.specs.Standing.{Desk, serialsWith, InPlaced, Stands, Under, LineHere, StepOut}
+use Rattle.standing.proofs.Openers.{isBegin, no-begin}
+use Rattle.account.proofs.RowsTaken.{Taken, entry-taken}
+use Rattle.standing.proofs.LineOrigins.{From, entry-from}
+use Rattle.standing.proofs.Marks.{marks-set}
+use Rattle.standing.proofs.Standings.{deskWith, known}
+use Rattle.standing.proofs.HomeFacts.{home-stays}
+use Rattle.standing.proofs.PlacedFacts.{isSerials, text-rows, plain-text, text-places, text-rule, entry-plain}
+use Rattle.standing.proofs.PlacedTables.{begun, shaped-enter, part-same, part-other, record-is, record-entered, placing-on}
+
+module _ (c : Digits) (spool : List ℕ) (k : ℕ) (FileHere : Desk → Set → ℕ → Held → ℕ → Type 0) (d : Desk) (at to : ℕ) (e : Env) (l : Line) (w : Where) (form : LineForm) (u : Under c d e)
+    (x : LineHere spool k at to form w l) (s : Set) (m : ℕ) (fs : List Figure) (n : ℕ) (o : Held) (z : Stands c spool k d (FileHere d) at (placing s m fs n o 1)) where
+  abbrev st : State
+  st = placing s m fs n o 1
+
+  abbrev rows : List Rule
+  rows = textTable true 16 24
+
+  abbrev did : Act
+  did = act (knownOf s) rows (digits 0 0) (marks (partOf o 1)) (l .form)
+
+  inp : InPlaced spool k (d .now) (d .marks) (d .inner) s m fs o 1
+  inp = z .block .1
+
+  -- the act that the code goes by
+  abbrev pub textAct : Act
+  textAct = act (knownIn spool (take (getD (d .tally) 9 0) (d .symbols)) (take (getD (d .tally) 10 0) (d .layers))) (tableOf 19) (digits 0 0) (d .inner) (formIn spool form)
+
+  text-act : textAct ≡ did
+  text-act =
+      ap (λ (y : Known). act y (tableOf 19) (digits 0 0) (d .inner) (formIn spool form)) (known c spool k FileHere d at to st st z refl)
+      ∙ ap (λ (y : List Rule). act (knownOf s) y (digits 0 0) (d .inner) (formIn spool form)) text-rows
+      ∙ ap (λ (y : List Bool). act (knownOf s) rows (digits 0 0) y (formIn spool form)) (inp .inner refl)
+      ∙ ap (act (knownOf s) rows (digits 0 0) (marks (partOf o 1))) (sym (x .is))
+
+  later : at ≤ to
+  later = omega (arith, x .bytes)
+
+  abbrev rec₀ : List ℤ
+  rec₀ = partAt (d .now .free - 32) (d .table)
+
+  module _ (is : List Bool) (rec₁ : List ℤ) where
+    abbrev Out : Step → Type 0
+    Out r = StepOut c spool k FileHere e l to st (deskWith d (d .now) (d .marks) is (withPart (d .now .free - 32) rec₁ (d .table))) r
+
+    same-record : rec₁ ≡ rec₀ → rec₁ ≡ putHeld placedTables o (begun c spool k FileHere d at to s m fs n o 1 z)
+    same-record q = q ∙ record-is c spool k FileHere d at to s m fs n o 1 z
+
+    long : is ≡ d .inner → length is ≡ 2
+    long q = ap length q ∙ z .lengths .inner
+
+    on-stay : did ≡ stay → is ≡ d .inner → rec₁ ≡ rec₀ → Out (S.Go (d .now))
+    on-stay a i q = (
+      st,
+      ap (byAct _ _ _ _) a,
+      placing-on c spool k FileHere d at to s m fs n o 1 z (d .now) (d .marks) is rec₁ o 1 later refl (z .lengths .marks) (long i) (same-record q) refl (z .block .0)
+          (record {
+            home = inp .home;
+            figures = inp .figures;
+            part = inp .part;
+            parts = inp .parts;
+            shaped = inp .shaped;
+            marked = inp .marked;
+            inner = λ y. i ∙ inp .inner y;
+            unopened = inp .unopened;
+            opened = inp .opened;
+          }),
+    )
+
+    -- one of its two lines
+    on-entry : (j : ℕ) (v : Value) → did ≡ entry j v → is ≡ set (d .inner) j true → rec₁ ≡ putLine (ruleAt (tableOf 19) j) 0 v rec₀ → Out (S.Go (d .now))
+    on-entry j v a i q =
+        let taken : Taken rows (marks (partOf o 1)) j v = entry-taken (knownOf s) rows (digits 0 0) (marks (partOf o 1)) (l .form) j v a in
+        let f : From (knownOf s) rows (digits 0 0) (marks (partOf o 1)) (l .form) j (entry j v) = entry-from (knownOf s) rows (digits 0 0) (marks (partOf o 1)) (l .form) j v a in
+        let plain : serialsOf v ≡ [] =
+        entry-plain (knownOf s) j j (f .rule) (shapeFor (f .rule) (f .rest)) v (not-true (isSerials (f .rule .holds)) (row-all (λ r. not (isSerials (r .holds))) (f .row) text-rule)) (f .did .read) in
+        let o′ : Held = enter o 1 j v in
+        let own : partOf o′ 0 ≡ partOf o 0 = part-other o 1 0 j v (λ y. omega (arith, y)) in
+        let first : Slots → Option Value = λ y. getD y 1 none in (
+          placing s m fs n o′ 1,
+          ap (byAct _ _ _ _) a ∙ ap (λ (y : List ℕ). unless (noneOf (ownSerial y) (serialsWith s fs)) 15 (got (placing s m fs n o′ 1))) plain,
+          placing-on c spool k FileHere d at to s m fs n o 1 z (d .now) (d .marks) is rec₁ o′ 1 later refl (z .lengths .marks) (ap length i ∙ length-set (d .inner) j true ∙ z .lengths .inner)
+              (record-entered c spool k FileHere d at to s m fs n o 1 z 1 j v rec₁ (omega arith) taken text-places (q ∙ ap (λ (y : List Rule). putLine (ruleAt y j) 0 v rec₀) text-rows))
+              (ap (λ (y : Slots). getD y 5 none) (sym own)) (z .block .0)
+              (record {
+                home = inp .home;
+                figures = inp .figures;
+                part = inp .part;
+                parts = inp .parts;
+                shaped = shaped-enter placedTables o 0 1 j v (inp .shaped);
+                marked = inp .marked ∙ ap marks (sym own);
+                inner = λ y. i ∙ ap (λ (b : List Bool). set b j true) (inp .inner refl) ∙ sym (marks-set (partOf o 1) j v) ∙ ap marks (sym (part-same o 1 j v (inp .shaped .2 .0)));
+                unopened = λ y. clash (ap (λ (b : Slots). isNone (first b)) (sym own) ∙ y) (inp .opened refl);
+                opened = λ y. ap (λ (b : Slots). isNone (first b)) own ∙ inp .opened refl;
+              }),
+        )
+
+    on-begin : (i j : ℕ) (v : Value) → did ≡ begin i j v → Out (S.Stop 5)
+    on-begin i j v a = clash (ap isBegin a) (no-begin (knownOf s) rows (digits 0 0) (marks (partOf o 1)) (l .form) plain-text)
+
+    -- its end: the placed symbol is open again
+    on-shut : did ≡ shut → is ≡ d .inner → rec₁ ≡ rec₀ → Out (S.Go (atBlock (d .now) 11 0))
+    on-shut a i q = (
+      placing s m fs n o 0,
+      ap (byAct _ _ _ _) a,
+      placing-on c spool k FileHere d at to s m fs n o 1 z (atBlock (d .now) 11 0) (d .marks) is rec₁ o 0 later refl (z .lengths .marks) (long i) (same-record q) refl refl
+          (record {
+            home = home-stays spool k (d .now) (atBlock (d .now) 11 0) (d .marks) (d .inner) is s (inLayer m) refl refl refl (inp .home);
+            figures = inp .figures;
+            part = refl;
+            parts = omega arith;
+            shaped = inp .shaped;
+            marked = inp .marked;
+            inner = λ y. absurd (omega (arith, y));
+            unopened = inp .unopened;
+            opened = λ y. absurd (omega (arith, y));
+          }),
+    )
+
+    on-refuse : (i : ℕ) → did ≡ refuse i → Out (S.Stop i)
+    on-refuse i a = ap (byAct _ _ _ _) a
+
+    by-act : (a : Act) → did ≡ a → PlacedTextMarks (d .inner) is a → Entered (ruleAt (tableOf 19)) 0 rec₀ a rec₁ → Out (placedTextStep (d .now) a)
+    by-act stay a i q = on-stay a i q
+    by-act (entry j v) a i q = on-entry j v a i q
+    by-act (begin h j v) a i q = on-begin h j v a
+    by-act shut a i q = on-shut a i q
+    by-act (refuse h) a i q = on-refuse h a
+
+    pub text-line : (r : Step) → PlacedTextLine textAct (d .now) (d .inner) is rec₀ rec₁ r → Out r
+    text-line r y =
+        subst Out (sym (y .answer ∙ ap (placedTextStep (d .now)) text-act))
+        (by-act did refl (subst (PlacedTextMarks (d .inner) is) text-act (y .inner)) (subst (λ (a : Act). Entered (ruleAt (tableOf 19)) 0 rec₀ a rec₁) text-act (y .rec)))

@@ -1,0 +1,111 @@
+-- A line that enters a point, in a `successive` or in a symbol's `hide`: what it holds, and its record in the table.
+use Prim.Native.Nat.{ℕ, _+_, _≤_, _<_}
+use mathlib.Core.Bool.{Bool, true, false}
+use mathlib.Core.List.{List, [], _∷_, _++_}
+use mathlib.Core.Option.{some}
+use mathlib.Core.Path.{_≡_, refl, sym, _∙_, ap, subst}
+use native.Mathlib.Omega.{arith}
+use borrow.Author.Tests.{leb-false}
+use lib.Dec.{leb}
+use lib.IntN.{ℤ, pos}
+use lib.ListN.{length, getD}
+use lib.Seq.{sets}
+use Rattle.rules.specs.Base.{all}
+use Rattle.rules.specs.RangeClass.{digits}
+use Rattle.rules.specs.Lines.{Form}
+use Rattle.rules.specs.Values.{Known, Value, nums, numsOf}
+use Rattle.rules.specs.Rows.{Rule, fullAt, entry, act}
+use Rattle.rules.specs.Figures.{pointTable}
+use Rattle.rules.specs.RecordTable.{numbers, ruleAt, start, putSlot}
+use Rattle.rules.proofs.Rows.{row-at}
+use Rattle.tables.specs.Tables.{tableOf}
+use Rattle.entries.specs.Acts.{putLine}
+use Rattle.account.specs.declared.Now.{Now}
+use Rattle.account.specs.declared.Where.{Where}
+use Rattle.account.specs.Placing.{fills}
+use Rattle.standing.specs.Laid.{Laid}
+use Rattle.account.specs.Records.{withPart}
+use Rattle.account.specs.Account.{headAt}
+use Rattle.account.specs.Points.{pointTableOf, pointPut}
+use Rattle.standing.proofs.Openers.{plainKind}
+use Rattle.account.proofs.RowsTaken.{Taken, entry-taken}
+use Rattle.standing.proofs.LineOrigins.{isValues, entry-from, entry-nums}
+use Rattle.standing.proofs.LaidTables.{laid-blank, laid-more}
+use Rattle.standing.proofs.RowRecords.{zeros, sets-part, row-record}
+use Rattle.standing.proofs.SlotLengths.{length-slot, length-line}
+
+-- ── what is computed of the table of points ──
+pub point-rows : (b : Bool) → tableOf (pointTableOf b) ≡ pointTable b
+unfolding tableOf
+point-rows true = refl
+point-rows false = refl
+
+pub plain-points : (b : Bool) → all (λ r. plainKind (r .holds)) (pointTable b) ≡ true
+unfolding pointTable
+plain-points b = refl
+
+pub one-row : (b : Bool) → length (pointTable b) ≡ 1
+unfolding pointTable
+one-row b = refl
+
+-- a point's record
+pub point-record : (b : Bool) (v : Value) (kind owner volume line : ℕ) → fills (ruleAt (pointTable b) 0 .holds) (numbers v) ≡ true
+    → sets (putLine (ruleAt (pointTable b) 0) 0 v zeros) 0 (pos kind ∷ pos owner ∷ pos volume ∷ pos line ∷ []) ≡ putSlot (ruleAt (pointTable true) 0) (some v) (start kind owner volume line)
+unfolding pointTable
+point-record b v kind owner volume line f = row-record (ruleAt (pointTable b) 0) 3 v kind owner volume line refl (omega arith) refl refl refl f
+
+pub values-row : (b : Bool) → (isValues (ruleAt (pointTable b) 0 .holds) ≡ true) × (ruleAt (pointTable b) 0 .may ≡ false)
+unfolding pointTable
+values-row b = (refl, refl)
+
+pub full-row : (b : Bool) (n : ℕ) → getD (fullAt n (pointTable b)) 0 false ≡ leb 100 n
+unfolding pointTable
+full-row b n = refl
+
+-- ── a line ──
+-- count: how many points there are already
+module _ (b : Bool) (known : Known) (count : ℕ) (f : Form) (j : ℕ) (v : Value) (a : act known (pointTable b) (digits 0 0) (fullAt count (pointTable b)) f ≡ entry j v) where
+  abbrev rows : List Rule
+  rows = pointTable b
+
+  point-taken : Taken rows (fullAt count rows) j v
+  point-taken = entry-taken known rows (digits 0 0) (fullAt count rows) f j v a
+
+  point-first : j ≡ 0
+  point-first = omega (arith, point-taken .row, one-row b)
+
+  pub point-few : count < 100
+  point-few = leb-false 100 count (sym (full-row b count) ∙ ap (λ (i : ℕ). getD (fullAt count rows) i false) (sym point-first) ∙ point-taken .free)
+
+  point-nums : v ≡ nums (numsOf v)
+  point-nums =
+      let g = entry-from known rows (digits 0 0) (fullAt count rows) f j v a in
+      let q : ruleAt rows 0 ≡ g .rule = ap (ruleAt rows) (sym point-first) ∙ row-at (g .row) _ in
+      entry-nums known rows (digits 0 0) (fullAt count rows) f j v g (subst (λ (r : Rule). isValues (r .holds) ≡ true) q (values-row b .0)) (subst (λ (r : Rule). r .may ≡ false) q (values-row b .1))
+
+  module _ (t : List ℤ) (rs : List (List ℤ)) (n : Now) (l : Laid t rs (n .free)) (room : n .free + 32 ≤ length t) (w : Where) (kind owner volume line : ℕ)
+      (ow : n .owner ≡ owner) (vo : w .volume ≡ volume) (li : w .line ≡ line) where
+    abbrev pub pointMade : List ℤ
+    pointMade = putSlot (ruleAt (pointTable true) 0) (some (nums (numsOf v))) (start kind owner volume line)
+
+    -- its record, and the table with it
+    pub point-put : pointPut n kind (pointTableOf b) w j v t ≡ withPart (n .free) pointMade t
+    point-put =
+        let m : ℕ = n .free in
+        let o : Rule → ℕ → ℕ → ℕ → List ℤ = λ r x y z. sets (withPart m (putLine r 0 v zeros) t) m (pos kind ∷ pos x ∷ pos y ∷ pos z ∷ []) in
+        let rule : ruleAt (tableOf (pointTableOf b)) j ≡ ruleAt rows 0 = ap (λ (y : List Rule). ruleAt y j) (point-rows b) ∙ ap (ruleAt rows) point-first in
+        let zero-place : m ≡ m + 0 = omega arith in
+        ap (λ (y : List ℤ). headAt m kind (n .owner) w (withPart m (putLine (ruleAt (tableOf (pointTableOf b)) j) 0 v y) t)) (laid-blank t rs m l room)
+        ∙ ap (λ (r : Rule). o r (n .owner) (w .volume) (w .line)) rule
+        ∙ ap (λ (i : ℕ). o (ruleAt rows 0) i (w .volume) (w .line)) ow
+        ∙ ap (λ (i : ℕ). o (ruleAt rows 0) owner i (w .line)) vo
+        ∙ ap (λ (i : ℕ). o (ruleAt rows 0) owner volume i) li
+        ∙ ap (λ (i : ℕ). sets (withPart m (putLine (ruleAt rows 0) 0 v zeros) t) i (pos kind ∷ pos owner ∷ pos volume ∷ pos line ∷ [])) zero-place
+        ∙ sets-part (pos kind ∷ pos owner ∷ pos volume ∷ pos line ∷ []) (putLine (ruleAt rows 0) 0 v zeros) t m 0 (omega (arith, room)) (length-line (ruleAt rows 0) 0 v zeros) (omega arith)
+        ∙ ap (λ (y : List ℤ). withPart m y t) (point-record b v kind owner volume line (subst (λ (i : ℕ). fills (ruleAt rows i .holds) (numbers v) ≡ true) point-first (point-taken .fill)))
+        ∙ ap (λ (y : Value). withPart m (putSlot (ruleAt (pointTable true) 0) (some y) (start kind owner volume line)) t) point-nums
+
+    pub point-laid : (t₁ : List ℤ) → t₁ ≡ pointPut n kind (pointTableOf b) w j v t → Laid t₁ (rs ++ pointMade ∷ []) (n .free + 32)
+    point-laid t₁ q =
+        subst (λ (y : List ℤ). Laid y (rs ++ pointMade ∷ []) (n .free + 32)) (sym (q ∙ point-put))
+        (laid-more t rs (n .free) l room pointMade (length-slot (ruleAt (pointTable true) 0) (some (nums (numsOf v))) (start kind owner volume line)))

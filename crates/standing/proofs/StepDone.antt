@@ -1,0 +1,119 @@
+-- What the code does with a line is what it promises of it.
+use Prim.Native.Nat.{ℕ, zero, suc, _≤_, _<_, _+_, _-_}
+use mathlib.Core.Bool.{Bool, true, false, cond}
+use mathlib.Core.List.{List}
+use mathlib.Core.Path.{_≡_, refl, sym, _∙_, ap, subst}
+use native.Mathlib.Omega.{arith}
+use lib.Dec.{eqb}
+use lib.IntN.{ℤ}
+use lib.ListN.{length, getD, set}
+use Rattle.rules.specs.declared.Digits.{Digits}
+use Rattle.rules.specs.declared.LineForm.{LineForm}
+use Rattle.account.specs.declared.Where.{Where}
+use Rattle.account.specs.declared.Step.{Step}
+use Rattle.account.specs.declared.Step.the-variants as S
+use Rattle.account.specs.Records.{withPart}
+use Rattle.standing.specs.Standing.{Desk, desk}
+use Rattle.account.specs.SymbolLines.{nameOf, nameNumber}
+use Rattle.account.specs.PlacedLines.{lent}
+use Rattle.account.specs.TopLines.{topLent}
+use Rattle.standing.specs.Reading.{tallyAfter, tallyNamed, symbolsNamed}
+use Rattle.account.specs.Points.{chainPlace}
+use Rattle.standing.specs.LineDone.{OnChain, OnDrawing, OnText, OnSymbol, OnFigures, OnPlaced, Done, top, file, drawing, layer-names, defines, symbol, hide, elements, figures, chain, text, placed, other}
+use Rattle.standing.proofs.Standings.{deskWith}
+use Rattle.standing.proofs.SymbolStanding.{nameKept, symbolDesk}
+use Rattle.standing.proofs.StepPromises.{Steps}
+use Rattle.standing.proofs.StepPromises as promise
+
+-- a closed symbol's name is kept, or nothing is
+named-desk : (d : Desk) (m₁ : List Bool) (rec₁ : List ℤ) (r : Step)
+    → symbolDesk d m₁ rec₁ r
+    ≡ desk (d .now) (tallyNamed (d .tally) r) (symbolsNamed (d .tally) rec₁ (d .symbols) r) (d .layers) (d .serials) (d .used) (d .usedAll) m₁ (d .inner) (d .header) (withPart (d .now .own) rec₁ (d .table))
+named-desk d m₁ rec₁ (S.Go n) = go (eqb (n .block) 4)
+  where
+    go : (b : Bool)
+        → cond b (nameKept d m₁ rec₁) (deskWith d (d .now) m₁ (d .inner) (withPart (d .now .own) rec₁ (d .table)))
+        ≡ desk (d .now) (cond b (set (d .tally) 9 (getD (d .tally) 9 0 + 1)) (d .tally)) (cond b (set (d .symbols) (getD (d .tally) 9 0) (nameNumber (nameOf rec₁))) (d .symbols))
+        (d .layers) (d .serials) (d .used) (d .usedAll) m₁ (d .inner) (d .header) (withPart (d .now .own) rec₁ (d .table))
+    go true = refl
+    go false = refl
+named-desk d m₁ rec₁ (S.Skip n) = refl
+named-desk d m₁ rec₁ (S.Stop n) = refl
+
+module _ (c : Digits) (spool following : List ℕ) (form : LineForm) (w : Where) (own : ℕ) (d d₁ : Desk) (r : Step) where
+  abbrev k : ℕ
+  k = w .volume
+
+  abbrev Promise : Desk → Type 0
+  Promise x = Steps c spool k form w d x following r
+
+  -- the same table, by what was put into it
+  abbrev drawn : List ℤ → Desk
+  drawn t = desk (d .now) (d .tally) (d .symbols) (d .layers) (d .serials) (d .used) (d .usedAll) (d₁ .marks) (d .inner) (d .header) t
+
+  abbrev tabled : List ℤ → Desk
+  tabled t = desk (d .now) (d .tally) (d .symbols) (d .layers) (d .serials) (d .used) (d .usedAll) (d .marks) (d .inner) (d .header) t
+
+  abbrev written : List ℤ → Desk
+  written t = desk (d .now) (d .tally) (d .symbols) (d .layers) (d .serials) (d .used) (d .usedAll) (d .marks) (d₁ .inner) (d .header) t
+
+  abbrev set-down : List ℤ → Desk
+  set-down t = desk (d .now) (d₁ .tally) (d .symbols) (d .layers) (d₁ .serials) (d .used) (d .usedAll) (d₁ .marks) (d₁ .inner) (d .header) t
+
+  abbrev counted : List ℕ → Desk
+  counted x = desk (d .now) x (d .symbols) (d .layers) (d .serials) (d .used) (d .usedAll) (d₁ .marks) (d₁ .inner) (d .header) (d₁ .table)
+
+  abbrev defined : List ℕ → List ℕ → List ℤ → Desk
+  defined x y t = desk (d .now) x y (d .layers) (d .serials) (d .used) (d .usedAll) (d₁ .marks) (d .inner) (d .header) t
+
+  on-drawing : d .now .block ≡ 2 → OnDrawing spool form (d .now) (d .tally) (d .symbols) (d .layers) (d .marks) (d₁ .marks) (d .table) (d₁ .table) r → d₁ ≡ drawn (d₁ .table) → Promise d₁
+  on-drawing b h e = subst Promise (sym (e ∙ ap drawn (h .back))) (promise.drawing-promise c spool k form w following d (d₁ .marks) (h .rec) r b (h .did))
+
+  on-text : d .now .block ≡ 10 → OnText spool form (d .now) (d .tally) (d .symbols) (d .layers) (d .inner) (d₁ .inner) (d .table) (d₁ .table) r → d₁ ≡ written (d₁ .table) → Promise d₁
+  on-text b h e = subst Promise (sym (e ∙ ap written (h .back))) (promise.text-promise c spool k form w following d (d₁ .inner) (h .rec) r b (h .did))
+
+  on-placed : d .now .block ≡ 11
+      → OnPlaced spool form (d .now) (d .tally) (d .symbols) (d .layers) c (lent (d .tally) (d .serials) (d .marks) (d .inner)) (lent (d₁ .tally) (d₁ .serials) (d₁ .marks) (d₁ .inner)) (d .table) (d₁ .table) r
+      → d₁ ≡ set-down (d₁ .table) → Promise d₁
+  on-placed b h e =
+      subst Promise (sym (e ∙ ap set-down (h .back)))
+      (promise.placed-promise c spool k form w following d (lent (d₁ .tally) (d₁ .serials) (d₁ .marks) (d₁ .inner)) (h .rec) r b (h .did))
+
+  on-figures : d .now .block ≡ 8
+      → OnFigures spool form (d .now) (d .tally) (d .symbols) (d .layers) w (d₁ .tally) (d .marks) (d₁ .marks) (d .inner) (d₁ .inner) (d .table) (d₁ .table) r
+      → d₁ ≡ counted (d₁ .tally) → Promise d₁
+  on-figures b h e = subst Promise (sym (e ∙ ap counted (h .1))) (promise.figures-promise c spool k form w following d (d₁ .marks) (d₁ .inner) (d₁ .table) r b (h .0))
+
+  on-symbol : length spool ≤ 61440 → d .now .block ≡ 5
+      → OnSymbol spool form (d .now) (d .tally) (d .symbols) (d .layers) (d₁ .tally) (d₁ .symbols) (d .marks) (d₁ .marks) (d .table) (d₁ .table) r
+      → d₁ ≡ defined (d₁ .tally) (d₁ .symbols) (d₁ .table) → Promise d₁
+  on-symbol short b h e =
+      subst Promise
+      (sym (
+      e
+      ∙ ap (λ (x : List ℕ). defined x (d₁ .symbols) (d₁ .table)) (h .did .1)
+      ∙ ap (λ (x : List ℕ). defined (tallyNamed (d .tally) r) x (d₁ .table)) (h .did .2)
+      ∙ ap (defined (tallyNamed (d .tally) r) (symbolsNamed (d .tally) (h .rec) (d .symbols) r)) (h .back)
+      ∙ sym (named-desk d (d₁ .marks) (h .rec) r)
+      ))
+      (promise.symbol-promise c spool k form w following d short (d₁ .marks) (h .rec) r b (h .did .0))
+
+  on-chain : d .now .block ≡ 9 → own ≡ chainPlace (d .now) → OnChain spool form (d .now) (d .tally) (d .symbols) (d .layers) own w (d .table) (d₁ .table) r → d₁ ≡ tabled (d₁ .table) → Promise d₁
+  on-chain b q h e =
+      subst Promise (sym e)
+      (promise.chain-promise c spool k form w following d (d₁ .table) r b (subst (λ (i : ℕ). OnChain spool form (d .now) (d .tally) (d .symbols) (d .layers) i w (d .table) (d₁ .table) r) q h))
+
+  pub done-promise : length spool ≤ 61440 → w .volume < 4294967296 → w .line < 4294967296 → (d .now .block ≡ 9 → own ≡ chainPlace (d .now)) → Done c spool following form w own d d₁ r → Promise d₁
+  done-promise short fv fl o (top b h e) = subst Promise (sym e) (promise.top-promise c spool k form w following d (topLent (d₁ .marks) (d₁ .used) (d₁ .header) (d₁ .table)) fv fl refl r b h)
+  done-promise short fv fl o (file b h e) = subst Promise (sym e) (promise.file-promise c spool k form w following d (d₁ .tally) (d₁ .marks) (d₁ .header) (d₁ .table) refl r b h)
+  done-promise short fv fl o (drawing b h e) = on-drawing b h e
+  done-promise short fv fl o (layer-names b h e) = subst Promise (sym e) (promise.names-promise c spool k form w following d (d₁ .tally) (d₁ .layers) (d₁ .table) (h .1) r b (h .0))
+  done-promise short fv fl o (defines b h e) = subst Promise (sym e) (promise.defines-promise c spool k form w following d (d₁ .marks) (d₁ .table) r b h)
+  done-promise short fv fl o (symbol b h e) = on-symbol short b h e
+  done-promise short fv fl o (hide b h e) = subst Promise (sym e) (promise.hide-promise c spool k form w following d (d₁ .table) r b h)
+  done-promise short fv fl o (elements b h e) = subst Promise (sym e) (promise.element-promise c spool k form w following d (d₁ .tally) (d₁ .used) (d₁ .usedAll) r b h)
+  done-promise short fv fl o (figures b h e) = on-figures b h e
+  done-promise short fv fl o (chain b h e) = on-chain b (o b) h e
+  done-promise short fv fl o (text b h e) = on-text b h e
+  done-promise short fv fl o (placed b h e) = on-placed b h e
+  done-promise short fv fl o (other b q e) = subst (λ (x : Step). Steps c spool k form w d d₁ following x) (sym q) (promise.other-promise c spool k form w following d d₁ b)

@@ -1,0 +1,251 @@
+-- What the code that cuts the lists and lends the records of a block asks for, and what comes back.
+use Prim.Native.Nat.{ℕ, zero, suc, _+_, _*_, _-_, _≤_, _<_}
+use mathlib.Core.Bool.{Bool, true, false, cond, _&&_, not}
+use mathlib.Core.List.{List, [], _∷_, _++_}
+use mathlib.Core.Path.{_≡_, refl, sym, _∙_, ap, subst}
+use native.Mathlib.Omega.{arith}
+use mir.Syntax.{w64}
+use mir.Val.{Fits}
+use lib.Dec.{eqb}
+use lib.IntN.{ℤ}
+use lib.ListN.{length, getD, take, drop, length-take, length-drop, length-append}
+use lib.Seq.{take-append-seam, drop-append-seam}
+use Rattle.rules.specs.Rows.{Act, stay, entry, begin, shut, refuse}
+use Rattle.rules.specs.RecordTable.{ruleAt}
+use Rattle.tables.specs.Tables.{tableOf}
+use Rattle.entries.specs.Acts.{Entered}
+use Rattle.rules.specs.declared.LineForm.{LineForm}
+use Rattle.account.specs.declared.Now.{Now}
+use Rattle.account.specs.declared.Where.{Where}
+use Rattle.account.specs.declared.Step.{Step}
+use Rattle.account.specs.declared.Step.the-variants as S
+use Rattle.account.specs.Records.{partAt, withPart}
+use Rattle.account.specs.Account.{atBlock}
+use Rattle.standing.specs.Reading.{tallyAfter, tallyNamed, symbolsNamed}
+use Rattle.account.specs.FigureLines.{moreFigures, figureOpened, figureStep, FigureLine}
+use Rattle.account.specs.SymbolLines.{isNamed, nameOf, isNew, symbolPart, symbolPut, symbolStep, SymbolLine}
+use Rattle.account.specs.PlacedLines.{Lent, LentReady}
+use Rattle.standing.specs.LineDone.{namesOf, idsOf, Named, Lends, symbolAct, SymbolReady, OnSymbol}
+use Rattle.account.proofs.Lent.{lent-part}
+
+-- ── the number of the open block ──
+pub one-left : (n : ℕ) → n < 2 → (n ≡ 0 → ⊥) → n ≡ 1
+one-left zero h a0 = absurd (a0 refl)
+one-left (suc zero) h a0 = refl
+one-left (suc (suc n)) h a0 = absurd (omega (arith, h))
+
+-- the last of the blocks before ELEMENT
+pub six-left : (n : ℕ) → 2 ≤ n → n < 7 → (n ≡ 2 → ⊥) → (n ≡ 3 → ⊥) → (n ≡ 4 → ⊥) → (n ≡ 5 → ⊥) → n ≡ 6
+six-left zero g h a2 a3 a4 a5 = absurd (omega (arith, g))
+six-left (suc zero) g h a2 a3 a4 a5 = absurd (omega (arith, g))
+six-left (suc (suc zero)) g h a2 a3 a4 a5 = absurd (a2 refl)
+six-left (suc (suc (suc zero))) g h a2 a3 a4 a5 = absurd (a3 refl)
+six-left (suc (suc (suc (suc zero)))) g h a2 a3 a4 a5 = absurd (a4 refl)
+six-left (suc (suc (suc (suc (suc zero))))) g h a2 a3 a4 a5 = absurd (a5 refl)
+six-left (suc (suc (suc (suc (suc (suc n)))))) g h a2 a3 a4 a5 = omega (arith, h)
+
+-- ELEMENT's own number is 7
+pub at-most : (n m : ℕ) → m ≡ n → (n ≡ 7 → ⊥) → n ≤ 7 → m < 7
+at-most n m e h g = go (7 - n) (omega (arith, g))
+  where
+    go : (i : ℕ) → n + i ≡ 7 → m < 7
+    go zero q = absurd (h (omega (arith, q)))
+    go (suc i) q = omega (arith, q, e)
+
+-- behind those of ELEMENT
+pub twelve-left : (n : ℕ) → 8 ≤ n → (n ≡ 8 → ⊥) → (n ≡ 9 → ⊥) → (n ≡ 10 → ⊥) → (n ≡ 11 → ⊥) → 12 ≤ n
+twelve-left n h a8 a9 a10 a11 = from-eight (n - 8) (omega (arith, h))
+  where
+    from-eight : (m : ℕ) → n ≡ 8 + m → 12 ≤ n
+    from-eight zero e = absurd (a8 e)
+    from-eight (suc zero) e = absurd (a9 e)
+    from-eight (suc (suc zero)) e = absurd (a10 e)
+    from-eight (suc (suc (suc zero))) e = absurd (a11 e)
+    from-eight (suc (suc (suc (suc m)))) e = omega (arith, e)
+
+-- ── the names ──
+module _ {tally symbols layers : List ℕ} (y : Named tally symbols layers) where
+  pub tally-0 : 0 < length tally
+  tally-0 = omega (arith, y .twelve)
+
+  pub tally-1 : 1 < length tally
+  tally-1 = omega (arith, y .twelve)
+
+  pub tally-2 : 2 < length tally
+  tally-2 = omega (arith, y .twelve)
+
+  pub tally-9 : 9 < length tally
+  tally-9 = omega (arith, y .twelve)
+
+  pub tally-10 : 10 < length tally
+  tally-10 = omega (arith, y .twelve)
+
+  pub names-count : getD tally 9 0 ≡ length (namesOf tally symbols)
+  names-count = omega (arith, length-take (getD tally 9 0) symbols, y .names)
+
+  pub ids-count : getD tally 10 0 ≡ length (idsOf tally layers)
+  ids-count = omega (arith, length-take (getD tally 10 0) layers, y .ids)
+
+  pub names-most : length (namesOf tally symbols) ≤ 65536
+  names-most = omega (arith, names-count, y .names, y .few-symbols)
+
+  pub ids-few : length (idsOf tally layers) ≤ 64
+  ids-few = omega (arith, ids-count, y .ids, y .few-layers)
+
+  pub ids-most : length (idsOf tally layers) ≤ 65536
+  ids-most = omega (arith, ids-few)
+
+  pub names-fit : Fits w64 (getD tally 9 0)
+  names-fit = record { fits = omega (arith, names-count, names-most) }
+
+  pub ids-fit : Fits w64 (getD tally 10 0)
+  ids-fit = record { fits = omega (arith, ids-count, ids-most) }
+
+-- ── a record that was lent ──
+-- as the code lends it: the part's length is found by its ends
+pub lends : (n k : ℕ) (t u : List ℤ) (P : List ℤ → List ℤ → Type 0) → k ≡ 32 → P (take k (drop n t)) u → Lends n t (take n t ++ (u ++ drop k (drop n t))) P
+lends n k t u P e h = record { rec = u; did = subst (λ (m : ℕ). P (take m (drop n t)) u) e h; back = lent-part n k t u e }
+
+-- the last record
+pub last-wide : (free : ℕ) → 32 ≤ free → free - (free - 32) ≡ 32
+last-wide free h = omega (arith, h)
+
+pub last-long : (free : ℕ) (t : List ℤ) → 32 ≤ free → free ≤ length t → length (take (free - (free - 32)) (drop (free - 32) t)) ≡ 32
+last-long free t h g = omega (arith, last-wide free h, length-take (free - (free - 32)) (drop (free - 32) t), length-drop (free - 32) t, g, h)
+
+pub last-ready : (x : Lent) (free : ℕ) (t : List ℤ) → 32 ≤ free → LentReady x (partAt (free - 32) t) → LentReady x (take (free - (free - 32)) (drop (free - 32) t))
+last-ready x free t h y = subst (λ (n : ℕ). LentReady x (take n (drop (free - 32) t))) (sym (last-wide free h)) y
+
+pub last-fits : (free long : ℕ) → free ≤ long → long * 8 < 9223372036854775808 → Fits w64 ((free - 32) * 8)
+last-fits free long g h = record { fits = omega (arith, g, h) }
+
+-- a record by its place
+pub own-wide : (n : ℕ) → n + 32 - n ≡ 32
+own-wide n = omega arith
+
+pub own-long : (n : ℕ) (t : List ℤ) → n + 32 ≤ length t → length (take (n + 32 - n) (drop n t)) ≡ 32
+own-long n t h = omega (arith, own-wide n, length-take (n + 32 - n) (drop n t), length-drop n t, h)
+
+pub own-fits : (n long : ℕ) → n + 32 ≤ long → long * 8 < 9223372036854775808 → Fits w64 (n * 8)
+own-fits n long h g = record { fits = omega (arith, h, g) }
+
+pub own-end-fits : (n long : ℕ) → n + 32 ≤ long → long * 8 < 9223372036854775808 → Fits w64 (n + 32)
+own-end-fits n long h g = record { fits = omega (arith, h, g) }
+
+-- the part that was put there is read there
+pub part-back : (n : ℕ) (u t : List ℤ) → n ≤ length t → length u ≡ 32 → partAt n (withPart n u t) ≡ u
+part-back n u t h e =
+    let fore : length (take n t) ≡ n = omega (arith, length-take n t, h) in
+    let rest : List ℤ = drop (n + 32) t in
+    ap (λ (m : ℕ). take 32 (drop m (withPart n u t))) (sym fore)
+    ∙ ap (take 32) (drop-append-seam (take n t) (u ++ rest))
+    ∙ ap (λ (m : ℕ). take m (u ++ rest)) (sym e)
+    ∙ take-append-seam u rest
+
+-- ── figures ──
+-- a layer that closes has one figure more at most than before the line
+step-figures : (n : Now) (a : Act) (m : Now) → figureStep n a ≡ S.Go m → m .figures ≤ n .figures + 1
+step-figures n stay m e = let q : n ≡ m = cc in omega (arith, ap (λ (x : Now). x .figures) q)
+step-figures n (entry j v) m e = let q : moreFigures n ≡ m = cc in omega (arith, ap (λ (x : Now). x .figures) q)
+step-figures n (begin i j v) m e = let q : figureOpened n i ≡ m = cc in omega (arith, ap (λ (x : Now). x .figures) q)
+step-figures n shut m e = go (n .layered) (eqb (n .figures) 0) e
+  where
+    go : (l b : Bool) → cond l (S.Go (atBlock n 7 0)) (cond b (S.Stop 8) (S.Go (atBlock n 5 0))) ≡ S.Go m → m .figures ≤ n .figures + 1
+    go true b e = let q : atBlock n 7 0 ≡ m = cc in omega (arith, ap (λ (x : Now). x .figures) q)
+    go false true e = absurd (let q : _≡_ {A = ℕ} 0 1 = cc in omega arith)
+    go false false e = let q : atBlock n 5 0 ≡ m = cc in omega (arith, ap (λ (x : Now). x .figures) q)
+step-figures n (refuse i) m e = absurd (let q : _≡_ {A = ℕ} 0 1 = cc in omega arith)
+
+pub count-asks : {a : Act} {n : Now} {range : ℕ} {w : Where} {t₀ t₁ : List ℤ} {m₀ m₁ i₀ i₁ : List Bool} {r : Step} → FigureLine a n range w t₀ t₁ m₀ m₁ i₀ i₁ r
+    → (tally : List ℕ) → length tally ≡ 12 → getD tally 7 0 + n .figures < 4294967295
+    → (length tally ≡ 12) × ((m : Now) → r ≡ S.Go m → m .block ≡ 7 → getD tally 7 0 + m .figures ≤ 4294967295)
+count-asks {a} {n} {range} {w} {t₀} {t₁} {m₀} {m₁} {i₀} {i₁} {r} h tally e g = (e, λ m q b. omega (arith, step-figures n a m (sym (h .answer) ∙ q), g))
+
+pub figures-back : {a : Act} {n : Now} {range : ℕ} {w : Where} {t₀ t₁ : List ℤ} {m₀ m₁ i₀ i₁ : List Bool} {r r₁ : Step} → FigureLine a n range w t₀ t₁ m₀ m₁ i₀ i₁ r → (tally tally₁ : List ℕ)
+    → (r₁ ≡ r) × (tally₁ ≡ tallyAfter tally r)
+    → FigureLine a n range w t₀ t₁ m₀ m₁ i₀ i₁ r₁ × (tally₁ ≡ tallyAfter tally r₁)
+figures-back {a} {n} {range} {w} {t₀} {t₁} {m₀} {m₁} {i₀} {i₁} {r} {r₁} h tally tally₁ q =
+    (subst (λ (x : Step). FigureLine a n range w t₀ t₁ m₀ m₁ i₀ i₁ x) (sym (q .0)) h, q .1 ∙ ap (tallyAfter tally) (sym (q .0)))
+
+-- ── a symbol that closes ──
+-- the block that is open after a line
+abbrev blockAfter : Step → ℕ
+blockAfter (S.Go n) = n .block
+blockAfter (S.Skip n) = 0
+blockAfter (S.Stop n) = 0
+
+-- a line that opens SYMBOL_DEFINE again has closed the symbol, and its record is as it was
+pub symbol-shut : (a : Act) (s symbols : List ℕ) (n : Now) (rec₀ rec₁ : List ℤ) (m : Now) → n .block ≡ 5 → S.Go m ≡ symbolStep s symbols n rec₀ a → Entered (ruleAt (tableOf 9)) 0 rec₀ a rec₁ → m .block ≡ 4
+    → (a ≡ shut) × (rec₁ ≡ rec₀)
+symbol-shut stay s symbols n rec₀ rec₁ m b e q h = absurd (omega (arith, ap blockAfter e, b, h))
+symbol-shut (entry j v) s symbols n rec₀ rec₁ m b e q h = go (eqb j 0 && not (isNew s symbols (nameOf (symbolPut rec₀ j v)))) e
+  where
+    go : (t : Bool) → S.Go m ≡ cond t (S.Stop 15) (S.Go n) → (entry j v ≡ shut) × (rec₁ ≡ rec₀)
+    go true e = absurd (omega (arith, ap blockAfter e, h))
+    go false e = absurd (omega (arith, ap blockAfter e, b, h))
+symbol-shut (begin i j v) s symbols n rec₀ rec₁ m b e q h = go (eqb i 1) e
+  where
+    go : (t : Bool) → S.Go m ≡ S.Go (cond t (symbolPart n 1) (symbolPart n 2)) → (begin i j v ≡ shut) × (rec₁ ≡ rec₀)
+    go true e = absurd (omega (arith, ap blockAfter e, h))
+    go false e = absurd (omega (arith, ap blockAfter e, h))
+symbol-shut shut s symbols n rec₀ rec₁ m b e q h = (refl, q)
+symbol-shut (refuse k) s symbols n rec₀ rec₁ m b e q h = absurd (omega (arith, ap blockAfter e, h))
+
+module _ (spool : List ℕ) (form : LineForm) (n : Now) (tally symbols layers : List ℕ) (y : Named tally symbols layers) (b : n .block ≡ 5) (m₀ : List Bool) (t : List ℤ)
+    (z : SymbolReady spool form n tally symbols layers m₀ t) (m₁ : List Bool) (rec₁ : List ℤ) (r : Step) where
+  abbrev own : ℕ
+  own = n .own
+
+  abbrev wide : ℕ
+  wide = own + 32 - own
+
+  abbrev back : List ℤ
+  back = take own t ++ (rec₁ ++ drop wide (drop own t))
+
+  abbrev Line : List ℤ → Type 0
+  Line rec₀ = SymbolLine (symbolAct spool form n tally symbols layers m₀) spool (namesOf tally symbols) n m₀ m₁ rec₀ rec₁ r
+
+  module _ (h : Line (take wide (drop own t))) (long : length rec₁ ≡ length (take wide (drop own t))) where
+    abbrev long32 : length rec₁ ≡ 32
+    long32 = long ∙ own-long own t (z .own)
+
+    pub symbol-end : own + 32 ≤ length back
+    symbol-end =
+        omega (
+          arith,
+          z .own,
+          long32,
+          own-wide own,
+          length-take own t,
+          length-drop own t,
+          length-drop wide (drop own t),
+          length-append (take own t) (rec₁ ++ drop wide (drop own t)),
+          length-append rec₁ (drop wide (drop own t)),
+        )
+
+    again : take wide (drop own back) ≡ rec₁
+    again =
+        ap (λ (i : ℕ). take i (drop own back)) (own-wide own)
+        ∙ ap (partAt own) (lent-part own wide t rec₁ (own-wide own))
+        ∙ part-back own rec₁ t (omega (arith, z .own)) long32
+
+    line : Line (partAt own t)
+    line = subst (λ (i : ℕ). Line (take i (drop own t))) (own-wide own) h
+
+    named : (m : Now) → r ≡ S.Go m → m .block ≡ 4 → isNamed rec₁ ≡ true
+    named m e q =
+        let (a, g) = symbol-shut (symbolAct spool form n tally symbols layers m₀) spool (namesOf tally symbols) n (partAt own t) rec₁ m b (sym e ∙ line .answer) (line .put) q in
+        ap isNamed g ∙ z .name a
+
+    pub kept-asks : (length tally ≡ 12) × (length symbols ≤ 65536) × (length (take wide (drop own back)) ≡ 32)
+        × ((m : Now) → r ≡ S.Go m → m .block ≡ 4 → (getD tally 9 0 < length symbols) × (isNamed (take wide (drop own back)) ≡ true))
+    kept-asks = (y .twelve, y .few-symbols, ap length again ∙ long32, λ m e q. (z .room, ap isNamed again ∙ named m e q))
+
+    pub symbol-keeps : (tally₁ symbols₁ : List ℕ) (r₁ : Step) → (r₁ ≡ r) × (tally₁ ≡ tallyNamed tally r) × (symbols₁ ≡ symbolsNamed tally (take wide (drop own back)) symbols r)
+        → OnSymbol spool form n tally symbols layers tally₁ symbols₁ m₀ m₁ t back r₁
+    symbol-keeps tally₁ symbols₁ r₁ q =
+        subst (λ (x : Step). OnSymbol spool form n tally symbols layers tally₁ symbols₁ m₀ m₁ t back x) (sym (q .0)) (record {
+          rec = rec₁;
+          did = (line, q .1, q .2 ∙ ap (λ (u : List ℤ). symbolsNamed tally u symbols r) again);
+          back = lent-part own wide t rec₁ (own-wide own);
+        })

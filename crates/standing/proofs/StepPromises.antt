@@ -1,0 +1,193 @@
+-- What the code does with a line in each block, as what it promises of any line; and what it needs there.
+use Prim.Native.Nat.{ℕ, zero, suc, _+_, _*_, _-_, _≤_, _<_}
+use mathlib.Core.Bool.{Bool, true, false, cond}
+use mathlib.Core.List.{List, [], _∷_, _++_}
+use mathlib.Core.Path.{_≡_, refl, sym, _∙_, ap, subst}
+use native.Mathlib.Omega.{arith}
+use lib.Dec.{eqb}
+use lib.IntN.{ℤ}
+use lib.ListN.{length, getD, take, length-take}
+use Rattle.rules.specs.declared.Digits.{Digits}
+use Rattle.rules.specs.declared.LineForm.{LineForm}
+use Rattle.rules.specs.Lines.{formIn}
+use Rattle.rules.specs.RangeClass.{digits, digitsOf}
+use Rattle.rules.specs.Rows.{Held, act}
+use Rattle.rules.specs.Sets.{Set}
+use Rattle.rules.specs.Machine.{Line, Env, State, top, file, drawing, layerNames, defines, symbol, hide, elements, figures, successive, texts, placing, skipping, ended}
+use Rattle.tables.specs.Tables.{tableOf}
+use Rattle.entries.specs.Names.{knownIn}
+use Rattle.account.specs.declared.Now.{Now}
+use Rattle.account.specs.declared.Where.{Where}
+use Rattle.account.specs.declared.Step.{Step}
+use Rattle.account.specs.declared.Step.the-variants as S
+use Rattle.account.specs.Records.{partAt, withPart}
+use Rattle.standing.specs.Standing.{Desk, setOf, layersOf, Inside, Stands, Under, LineHere, StepOut}
+use Rattle.standing.specs.FileStanding.{InFile}
+use Rattle.standing.specs.Reading.{Standing, PlacedForm, tallyAfter}
+use Rattle.account.specs.Points.{pointTableOf, pointAct, chainPlace, ChainLine, HideLine}
+use Rattle.account.specs.TextLines.{textTableOf, TextLine}
+use Rattle.account.specs.FigureLines.{FigureLine}
+use Rattle.account.specs.ElementLines.{ElementLine}
+use Rattle.account.specs.SymbolLines.{nonIn, DefinesLine, SymbolLine}
+use Rattle.account.specs.PlacedLines.{Lent, PlacedLine, LentReady}
+use Rattle.account.specs.TopLines.{Answered, TopLent, topLent, topNow, topLentBy}
+use Rattle.account.specs.DrawingLines.{drawingAct, drawingNow, drawingMarks, drawingPut, NamesLine}
+use Rattle.account.specs.FileLines.{fileTableOf, partMarks, FileLine}
+use Rattle.standing.proofs.FormPlaces.{file-placed}
+use Rattle.standing.proofs.FileClosing.{fileDesk}
+use Rattle.standing.proofs.FileFormatStanding.{file-line}
+use Rattle.standing.proofs.Standings.{deskWith}
+use Rattle.standing.proofs.LaidTables.{laid-room}
+use Rattle.standing.proofs.OpenBlocks
+use Rattle.standing.proofs.ChainStanding.{chain-line}
+use Rattle.standing.proofs.HideStanding.{hide-line}
+use Rattle.standing.proofs.TextStanding.{codeAct, text-line}
+use Rattle.standing.proofs.FiguresStanding.{figureAct, deskLent, figures-line}
+use Rattle.standing.proofs.ElementStanding.{elementAct, elementDesk, element-line}
+use Rattle.standing.proofs.DefinesStanding.{defines-line}
+use Rattle.standing.proofs.SymbolStanding.{symbolDesk, symbol-line}
+use Rattle.standing.proofs.DrawingStanding.{drawing-line}
+use Rattle.standing.proofs.LayerNamesStanding.{deskNames, names-line}
+use Rattle.standing.proofs.TopStanding.{deskTop, top-line}
+use Rattle.standing.proofs.PlacedTables.{lentOf, lentDesk, placed-ready}
+use Rattle.standing.proofs.PlacedStanding.{placed-line}
+
+-- the answer is the step that the definitions make, at any state that the desk stands at
+abbrev pub Steps : Digits → List ℕ → ℕ → LineForm → Where → Desk → Desk → List ℕ → Step → Type 0
+Steps c spool k form w d₀ d₁ following r =
+    (e : Env) (l : Line) (at to : ℕ) (st : State) → Under c d₀ e → LineHere spool k at to form w l → l .next ≡ following → PlacedForm (l .form) → Standing c spool k d₀ at st
+    → StepOut c spool k (InFile spool k) e l to st d₁ r
+
+-- ── promises ──
+module _ (c : Digits) (spool : List ℕ) (k : ℕ) (form : LineForm) (w : Where) (following : List ℕ) (d : Desk) where
+  abbrev F : Desk → Set → ℕ → Held → ℕ → Type 0
+  F = InFile spool k
+
+  abbrev names : List ℕ
+  names = take (getD (d .tally) 9 0) (d .symbols)
+
+  abbrev ids : List ℕ
+  ids = take (getD (d .tally) 10 0) (d .layers)
+
+  abbrev Promise : Desk → Step → Type 0
+  Promise d₁ r = Steps c spool k form w d d₁ following r
+
+  pub chain-promise : (t₁ : List ℤ) (r : Step) → d .now .block ≡ 9 → ChainLine (pointAct (pointTableOf (d .now .layered)) spool names ids (d .now) form (d .table)) (d .now) (chainPlace (d .now)) w (d .table) t₁ r
+      → Promise (deskWith d (d .now) (d .marks) (d .inner) t₁) r
+  chain-promise t₁ r b y e l at to st u x q p z = go st (OpenBlocks.in-chain c spool k d (F d) st (z .block) b) z
+    where
+      go : (st : State) → OpenBlocks.InAChain st → Standing c spool k d at st → StepOut c spool k F e l to st (deskWith d (d .now) (d .marks) (d .inner) t₁) r
+      go _ (OpenBlocks.here s h fs n ps) z = chain-line c spool k F d at to e l w form u x s h fs n ps z t₁ r y
+
+  pub hide-promise : (t₁ : List ℤ) (r : Step) → d .now .block ≡ 6 → HideLine (pointAct 15 spool names ids (d .now) form (d .table)) (d .now) w (d .table) t₁ r
+      → Promise (deskWith d (d .now) (d .marks) (d .inner) t₁) r
+  hide-promise t₁ r b y e l at to st u x q p z = go st (OpenBlocks.in-hide c spool k d (F d) st (z .block) b) z
+    where
+      go : (st : State) → OpenBlocks.InAHide st → Standing c spool k d at st → StepOut c spool k F e l to st (deskWith d (d .now) (d .marks) (d .inner) t₁) r
+      go _ (OpenBlocks.here s v ps) z = hide-line c spool k F d at to e l w form u x s v ps z t₁ r y
+
+  pub text-promise : (m₁ : List Bool) (rec₁ : List ℤ) (r : Step) → d .now .block ≡ 10 → TextLine (act (knownIn spool names ids) (tableOf (textTableOf (d .now .layered))) (digits 0 0) (d .inner) (formIn spool form)) (d .now) (d .inner) m₁ (partAt (d .now .free - 32) (d .table)) rec₁ r
+      → Promise (deskWith d (d .now) (d .marks) m₁ (withPart (d .now .free - 32) rec₁ (d .table))) r
+  text-promise m₁ rec₁ r b y e l at to st u x q p z = go st (OpenBlocks.in-text c spool k d (F d) st (z .block) b) z
+    where
+      go : (st : State) → OpenBlocks.InAText st → Standing c spool k d at st → StepOut c spool k F e l to st (deskWith d (d .now) (d .marks) m₁ (withPart (d .now .free - 32) rec₁ (d .table))) r
+      go _ (OpenBlocks.here s h fs n o) z = text-line c spool k F d at to e l w form u x s h fs n o z m₁ rec₁ r y
+
+  pub figures-promise : (m₁ i₁ : List Bool) (t₁ : List ℤ) (r : Step) → d .now .block ≡ 8 → FigureLine (figureAct spool d form) (d .now) (getD (d .tally) 1 0) w (d .table) t₁ (d .marks) m₁ (d .inner) i₁ r
+      → Promise (deskLent d (tallyAfter (d .tally) r) m₁ i₁ t₁) r
+  figures-promise m₁ i₁ t₁ r b y e l at to st u x q p z = go st (OpenBlocks.among-figures c spool k d (F d) st (z .block) b) z
+    where
+      go : (st : State) → OpenBlocks.AmongFigures st → Standing c spool k d at st → StepOut c spool k F e l to st (deskLent d (tallyAfter (d .tally) r) m₁ i₁ t₁) r
+      go _ (OpenBlocks.here s h fs) z = figures-line c spool k F d at to e l w form u x s fs h z m₁ i₁ t₁ r y
+
+  pub element-promise : (t₁ : List ℕ) (u₁ a₁ : List Bool) (r : Step) → d .now .block ≡ 7 → ElementLine (elementAct spool d form) (d .now) (d .tally) t₁ (d .used) u₁ (d .usedAll) a₁ r
+      → Promise (elementDesk d t₁ u₁ a₁) r
+  element-promise t₁ u₁ a₁ r b y e l at to st u x q p z = go st (OpenBlocks.in-element c spool k d (F d) st (z .block) b) z
+    where
+      go : (st : State) → OpenBlocks.InElement st → Standing c spool k d at st → StepOut c spool k F e l to st (elementDesk d t₁ u₁ a₁) r
+      go _ (OpenBlocks.here s) z = element-line c spool k F d at to e l w form u x s z t₁ u₁ a₁ r y
+
+  pub defines-promise : (m₁ : List Bool) (t₁ : List ℤ) (r : Step) → d .now .block ≡ 4 → DefinesLine (act (knownIn spool names ids) (tableOf 8) (digitsOf (getD (d .tally) 2 0)) (nonIn (d .now) ∷ false ∷ []) (formIn spool form)) (d .now) (length names) w (d .marks) m₁ (d .table) t₁ r
+      → Promise (deskWith d (d .now) m₁ (d .inner) t₁) r
+  defines-promise m₁ t₁ r b y e l at to st u x q p z = go st (OpenBlocks.in-defines c spool k d (F d) st (z .block) b) z
+    where
+      go : (st : State) → OpenBlocks.InDefines st → Standing c spool k d at st → StepOut c spool k F e l to st (deskWith d (d .now) m₁ (d .inner) t₁) r
+      go _ (OpenBlocks.here s v) z = defines-line c spool k F d at to e l w form u x s v z m₁ t₁ r y
+
+  pub symbol-promise : length spool ≤ 61440 → (m₁ : List Bool) (rec₁ : List ℤ) (r : Step) → d .now .block ≡ 5
+      → SymbolLine (act (knownIn spool names ids) (tableOf 9) (digitsOf (getD (d .tally) 2 0)) (take 4 (d .marks)) (formIn spool form)) spool names (d .now) (d .marks) m₁ (partAt (d .now .own) (d .table)) rec₁ r
+      → Promise (symbolDesk d m₁ rec₁ r) r
+  symbol-promise short m₁ rec₁ r b y e l at to st u x q p z = go st (OpenBlocks.in-symbol c spool k d (F d) st (z .block) b) z
+    where
+      go : (st : State) → OpenBlocks.InASymbol st → Standing c spool k d at st → StepOut c spool k F e l to st (symbolDesk d m₁ rec₁ r) r
+      go _ (OpenBlocks.here s v) z = symbol-line c spool short k F d at to e l w form u x s v z m₁ rec₁ r y
+
+  pub placed-promise : (x₁ : Lent) (rec₁ : List ℤ) (r : Step) → d .now .block ≡ 11
+      → PlacedLine (knownIn spool names ids) c (digitsOf (getD (d .tally) 1 0)) (d .now) (lentOf d) x₁ (partAt (d .now .free - 32) (d .table)) rec₁ r (eqb (d .now .part) 1) (formIn spool form)
+      → Promise (lentDesk d x₁ rec₁) r
+  placed-promise x₁ rec₁ r b y e l at to st u x q p z = go st (OpenBlocks.in-placed c spool k d (F d) st (z .block) b) z
+    where
+      go : (st : State) → OpenBlocks.InAPlaced st → Standing c spool k d at st → StepOut c spool k F e l to st (lentDesk d x₁ rec₁) r
+      go _ (OpenBlocks.here s m fs n o i) z = placed-line c spool k F d at to e l w form u x s m fs n o i z x₁ rec₁ r y
+
+  pub drawing-promise : (m₁ : List Bool) (rec₁ : List ℤ) (r : Step) → d .now .block ≡ 2
+      → Answered (drawingNow (d .now) (drawingAct (knownIn spool names []) (getD (d .tally) 0 0) (d .marks) (formIn spool form)))
+      ((m₁ ≡ drawingMarks (d .marks) (drawingAct (knownIn spool names []) (getD (d .tally) 0 0) (d .marks) (formIn spool form)))
+      × (rec₁ ≡ drawingPut (partAt (d .now .own) (d .table)) (drawingAct (knownIn spool names []) (getD (d .tally) 0 0) (d .marks) (formIn spool form)))) r
+      → Promise (deskWith d (d .now) m₁ (d .inner) (withPart (d .now .own) rec₁ (d .table))) r
+  drawing-promise m₁ rec₁ r b y e l at to st u x q p z = go st (OpenBlocks.in-drawing c spool k d (F d) st (z .block) b) z
+    where
+      go : (st : State) → OpenBlocks.InDrawingFormat st → Standing c spool k d at st → StepOut c spool k F e l to st (deskWith d (d .now) m₁ (d .inner) (withPart (d .now .own) rec₁ (d .table))) r
+      go _ (OpenBlocks.here s g) z = drawing-line c spool k F d at to e l w form u x s g z m₁ rec₁ r y
+
+  pub names-promise : (tally₁ layers₁ : List ℕ) (t₁ : List ℤ) → length layers₁ ≡ length (d .layers) → (r : Step) → d .now .block ≡ 3
+      → NamesLine spool (d .now) w (formIn spool form) (d .tally) tally₁ (d .layers) layers₁ (d .table) t₁ r
+      → Promise (deskNames d tally₁ layers₁ t₁) r
+  names-promise tally₁ layers₁ t₁ kept r b y e l at to st u x q p z = go st (OpenBlocks.in-names c spool k d (F d) st (z .block) b) z
+    where
+      go : (st : State) → OpenBlocks.InLayerNames st → Standing c spool k d at st → StepOut c spool k F e l to st (deskNames d tally₁ layers₁ t₁) r
+      go _ (OpenBlocks.here s g) z = names-line c spool k F d at to e l w form u x s g z tally₁ layers₁ t₁ kept r y
+
+  pub top-promise : (b : TopLent) → w .volume < 4294967296 → w .line < 4294967296 → w .volume ≡ k → (r : Step) → d .now .block ≡ 0
+      → Answered (topNow (knownIn spool names ids) (eqb (w .volume) 1) (d .now) w (d .tally) (d .usedAll) (d .table) (formIn spool form))
+      (b ≡ topLentBy (knownIn spool names ids) (eqb (w .volume) 1) (d .now) w (topLent (d .marks) (d .used) (d .header) (d .table)) (formIn spool form)) r
+      → Promise (deskTop d b) r
+  top-promise b fv fl vk r o y e l at to st u x q p z = go st (OpenBlocks.at-top c spool k d (F d) st (z .block) o) z
+    where
+      go : (st : State) → OpenBlocks.AtTop st → Standing c spool k d at st → StepOut c spool k F e l to st (deskTop d b) r
+      go _ (OpenBlocks.here s m) z =
+          top-line c spool k d at to e l w form u x s m z b fv fl r
+          (subst (λ (i : ℕ). Answered (topNow (knownIn spool names ids) (eqb i 1) (d .now) w (d .tally) (d .usedAll) (d .table) (formIn spool form))
+          (b ≡ topLentBy (knownIn spool names ids) (eqb i 1) (d .now) w (topLent (d .marks) (d .used) (d .header) (d .table)) (formIn spool form)) r) vk y)
+
+  pub file-promise : (tally₁ : List ℕ) (m₁ : List Bool) (h₁ t₁ : List ℤ) → w .volume ≡ k → (r : Step) → d .now .block ≡ 1
+      → FileLine (act (knownIn spool names ids) (tableOf (fileTableOf (eqb (w .volume) 1) (d .now .part))) (digits 0 0) (partMarks (eqb (w .volume) 1) (d .now .part) (d .marks)) (formIn spool form)) spool following (eqb (w .volume) 1) (d .now)
+      (d .tally) tally₁ (d .marks) m₁ (d .header) h₁ (d .table) t₁ r
+      → Promise (fileDesk d tally₁ m₁ h₁ t₁) r
+  file-promise tally₁ m₁ h₁ t₁ vk r b y e l at to st u x q p z = go st (OpenBlocks.in-file c spool k d (F d) st (z .block) b) z
+    where
+      go : (st : State) → OpenBlocks.InFileFormat st → Standing c spool k d at st → StepOut c spool k F e l to st (fileDesk d tally₁ m₁ h₁ t₁) r
+      go _ (OpenBlocks.here s n h i) z =
+          file-line c spool k d at to e l w form u x following q (file-placed (l .form) p) s n h i z tally₁ m₁ h₁ t₁ r
+          (subst (λ (o : ℕ). FileLine (act (knownIn spool names ids) (tableOf (fileTableOf (eqb o 1) (d .now .part))) (digits 0 0) (partMarks (eqb o 1) (d .now .part) (d .marks)) (formIn spool form)) spool following (eqb o 1) (d .now)
+          (d .tally) tally₁ (d .marks) m₁ (d .header) h₁ (d .table) t₁ r) vk y)
+
+  -- no other block is ever open
+  pub other-promise : (d₁ : Desk) → 12 ≤ d .now .block → Promise d₁ (S.Stop 9)
+  other-promise d₁ b e l at to st u x q p z = go st z
+    where
+      go : (st : State) → Standing c spool k d at st → StepOut c spool k F e l to st d₁ (S.Stop 9)
+      go (top s m) z = absurd (omega (arith, z .block .0, b))
+      go (file s i h o) z = absurd (omega (arith, z .block .0, b))
+      go (drawing s g) z = absurd (omega (arith, z .block .0, b))
+      go (layerNames s g) z = absurd (omega (arith, z .block .0, b))
+      go (defines s g) z = absurd (omega (arith, z .block .0, b))
+      go (symbol s g) z = absurd (omega (arith, z .block .0, b))
+      go (hide s g ps) z = absurd (omega (arith, z .block .0, b))
+      go (elements s) z = absurd (omega (arith, z .block .0, b))
+      go (figures s h fs) z = absurd (omega (arith, z .block .0, b))
+      go (successive s h fs i ps) z = absurd (omega (arith, z .block .0, b))
+      go (texts s h fs i o) z = absurd (omega (arith, z .block .0, b))
+      go (placing s m fs i o g) z = absurd (omega (arith, z .block .0, b))
+      go (skipping s m fs i o g) z = absurd (z .block)
+      go (ended s) z = refl

@@ -1,0 +1,182 @@
+-- What the code needs of what it remembers, in each block that can be open.
+use Prim.Native.Nat.{ℕ, zero, suc, _+_, _*_, _-_, _≤_, _<_, min}
+use mathlib.Core.Bool.{Bool, true, false, cond}
+use mathlib.Core.List.{List, [], _∷_, _++_}
+use mathlib.Core.Path.{_≡_, refl, sym, _∙_, ap, subst}
+use native.Mathlib.Omega.{arith}
+use borrow.Author.Tests.{ne-eqb}
+use lib.Dec.{eqb}
+use lib.IntN.{ℤ}
+use lib.ListN.{length, getD, take, length-take, length-append}
+use Rattle.rules.specs.declared.Digits.{Digits}
+use Rattle.rules.specs.declared.LineForm.{LineForm}
+use Rattle.rules.specs.Base.{flat, isNil}
+use Rattle.rules.specs.Lines.{brace, equals, Form, ignored, wrong, close, eof, keyed, formIn}
+use Rattle.rules.specs.Rows.{Held, Act, shut}
+use Rattle.rules.specs.Sets.{Contents, Set, isFirst}
+use Rattle.rules.specs.Machine.{Line, Env, State, elements, figures, successive, texts, placing, hide, top, drawing, layerNames, symbol, inLayer}
+use Rattle.rules.specs.Blocks.{drawingTable, symbolTable}
+use Rattle.rules.specs.Figures.{placedTables}
+use Rattle.rules.specs.RecordTable.{start, pointRecords, textRecord, putHeld, drawingRecord, layerRecords, fileRecords, innerRecords, putSlots}
+use Rattle.rules.proofs.Chains.{flat-append}
+use Rattle.account.specs.declared.Now.{Now}
+use Rattle.account.specs.declared.Where.{Where}
+use Rattle.account.specs.declared.Step.the-variants as S
+use Rattle.standing.specs.SoFar.{volumeOf, closedRecords, frontRecords, emptyRecords, homeMore, homeOwner, homeVolume, figuresSoFar, soFar}
+use Rattle.standing.specs.Laid.{Laid}
+use Rattle.account.specs.Records.{partAt}
+use Rattle.account.specs.PlacedLines.{LentReady}
+use Rattle.account.specs.SymbolLines.{ContentPlaced, isNamed, SymbolLine}
+use Rattle.account.specs.Points.{chainPlace}
+use Rattle.standing.specs.LineDone.{symbolAct, SymbolReady, LineFits}
+use Rattle.standing.specs.Standing.{Desk, setOf, layersOf, Stands, Under, LineHere}
+use Rattle.standing.specs.FileStanding.{InFile}
+use Rattle.standing.specs.Reading.{Standing, PlacedForm}
+use Rattle.account.specs.Account.{atBlock}
+use Rattle.account.specs.FileLines.{PartOpen, fileWidth, FileReady}
+use Rattle.standing.proofs.LaidTables.{laid-room, laid-within}
+use Rattle.standing.proofs.RecordStores.{points-size}
+use Rattle.standing.proofs.SlotLengths.{length-slots}
+use Rattle.standing.proofs.SymbolStanding.{symbol-keeps}
+use Rattle.standing.proofs.PlacedTables.{lentOf, placed-ready}
+use Rattle.standing.proofs.OpenBlocks
+use Rattle.standing.proofs.OpenPlaces as places
+
+-- some state that the desk stands at, before a line that ends within a spool's places
+pub record Ready (c : Digits) (spool : List ℕ) (k : ℕ) (form : LineForm) (w : Where) (d : Desk) : Type 0 where
+  pub at : ℕ
+  pub to : ℕ
+  pub state : State
+  pub env : Env
+  pub line : Line
+  pub stands : Standing c spool k d at state
+  pub under : Under c d env
+  pub here : LineHere spool k at to form w line
+  pub placed : PlacedForm (line .form)
+  pub early : at ≤ 61440
+  pub short : length spool ≤ 61440
+
+module _ (c : Digits) (spool : List ℕ) (k : ℕ) (form : LineForm) (w : Where) (d : Desk) (y : Ready c spool k form w d) where
+  abbrev at : ℕ
+  at = y .at
+
+  abbrev st : State
+  st = y .state
+
+  z : Standing c spool k d at st
+  z = y .stands
+
+  early : at ≤ 61440
+  early = y .early
+
+  spool-short : length spool ≤ 61440
+  spool-short = y .short
+
+  names-are : getD (d .tally) 9 0 ≡ length (setOf st .symbols)
+  names-are = ap (λ (t : List ℕ). getD t 9 0) (z .tally)
+
+  ids-are : getD (d .tally) 10 0 ≡ length (layersOf st)
+  ids-are = ap (λ (t : List ℕ). getD t 10 0) (z .tally)
+
+  names-within : getD (d .tally) 9 0 ≤ length (d .symbols)
+  names-within = omega (arith, names-are, z .named, early, z .lengths .symbols)
+
+  ids-within : getD (d .tally) 10 0 ≤ length (d .layers)
+  ids-within = omega (arith, ids-are, z .few-layers, z .lengths .layers)
+
+  -- ── a `successive` ──
+  chain-figures : d .now .block ≡ 9 → d .now .figures < 4294967295
+  chain-figures b = go st (OpenBlocks.in-chain c spool k d (InFile spool k d) st (z .block) b) z
+    where
+      go : (st : State) → OpenBlocks.InAChain st → Standing c spool k d at st → d .now .figures < 4294967295
+      go _ (OpenBlocks.here s h fs n ps) z = omega (arith, z .block .1 .figures, z .counted, early)
+
+  -- ── a text ──
+  text-figures : d .now .block ≡ 10 → d .now .figures < 4294967295
+  text-figures b = go st (OpenBlocks.in-text c spool k d (InFile spool k d) st (z .block) b) z
+    where
+      go : (st : State) → OpenBlocks.InAText st → Standing c spool k d at st → d .now .figures < 4294967295
+      go _ (OpenBlocks.here s h fs n o) z = omega (arith, z .block .2, z .counted, early)
+
+  -- ── figures ──
+  -- of the layers that closed, and of the one that is open
+  figures-few : d .now .block ≡ 8 → getD (d .tally) 7 0 + d .now .figures < 4294967295
+  figures-few b = go st (OpenBlocks.among-figures c spool k d (InFile spool k d) st (z .block) b) z
+    where
+      go : (st : State) → OpenBlocks.AmongFigures st → Standing c spool k d at st → getD (d .tally) 7 0 + d .now .figures < 4294967295
+      go _ (OpenBlocks.here s h fs) z = omega (arith, z .block .2, z .counted, early, ap (λ (t : List ℕ). getD t 7 0) (z .tally))
+
+  -- ── ELEMENT ──
+  element-sum : d .now .block ≡ 7 → getD (d .tally) 8 0 + getD (d .tally) 7 0 ≤ 4294967295
+  element-sum b = go st (OpenBlocks.in-element c spool k d (InFile spool k d) st (z .block) b) z
+    where
+      go : (st : State) → OpenBlocks.InElement st → Standing c spool k d at st → getD (d .tally) 8 0 + getD (d .tally) 7 0 ≤ 4294967295
+      go _ (OpenBlocks.here s) z = omega (arith, z .counted, early, ap (λ (t : List ℕ). getD t 7 0) (z .tally), ap (λ (t : List ℕ). getD t 8 0) (z .tally))
+
+  placed-lent : d .now .block ≡ 11 → LentReady (lentOf d) (partAt (d .now .free - 32) (d .table)) × (d .now .figures < 4294967295)
+  placed-lent b = go st (OpenBlocks.in-placed c spool k d (InFile spool k d) st (z .block) b) z
+    where
+      go : (st : State) → OpenBlocks.InAPlaced st → Standing c spool k d at st → LentReady (lentOf d) (partAt (d .now .free - 32) (d .table)) × (d .now .figures < 4294967295)
+      go _ (OpenBlocks.here s m fs n o p) z = placed-ready c spool k (InFile spool k) d at at s m fs n o p z early
+
+  -- a symbol that closes
+  content-placed : ContentPlaced (formIn spool form)
+  content-placed = subst ContentPlaced (y .here .is) (go (y .line .form) (y .placed))
+    where
+      go : (f : Form) → PlacedForm f → ContentPlaced f
+      go ignored h = tt
+      go (wrong n) h = tt
+      go close h = tt
+      go eof h = tt
+      go (keyed i brace) h = tt
+      go (keyed i (equals a b)) h = h .0
+
+  -- where the line closes it, its record has a name
+  symbol-named : d .now .block ≡ 5 → symbolAct spool form (d .now) (d .tally) (d .symbols) (d .layers) (d .marks) ≡ shut → isNamed (partAt (d .now .own) (d .table)) ≡ true
+  symbol-named b q = go st (OpenBlocks.in-symbol c spool k d (InFile spool k d) st (z .block) b) z
+    where
+      rec : List ℤ
+      rec = partAt (d .now .own) (d .table)
+
+      line : SymbolLine (symbolAct spool form (d .now) (d .tally) (d .symbols) (d .layers) (d .marks)) spool (take (getD (d .tally) 9 0) (d .symbols)) (d .now) (d .marks) (d .marks) rec rec (S.Go (atBlock (d .now) 4 0))
+      line = subst (λ (a : Act). SymbolLine a spool (take (getD (d .tally) 9 0) (d .symbols)) (d .now) (d .marks) (d .marks) rec rec (S.Go (atBlock (d .now) 4 0))) (sym q) (record { answer = refl; marks = refl; put = refl })
+
+      go : (st : State) → OpenBlocks.InASymbol st → Standing c spool k d at st → isNamed rec ≡ true
+      go _ (OpenBlocks.here s g) z = symbol-keeps c spool spool-short k (InFile spool k) d at (y .to) (y .env) (y .line) w form (y .under) (y .here) s g z (d .marks) rec (atBlock (d .now) 4 0) line refl .below
+
+  symbol-ready : d .now .block ≡ 5 → SymbolReady spool form (d .now) (d .tally) (d .symbols) (d .layers) (d .marks) (d .table)
+  symbol-ready b = record {
+    own = places.symbol-own c spool k d at st z b;
+    marks = z .lengths .marks;
+    content = content-placed;
+    room = omega (arith, names-are, z .named, early, z .lengths .symbols);
+    name = symbol-named b;
+  }
+
+  -- ── any block ──
+  pub line-fits : w .volume ≡ k → (own : ℕ) → (d .now .block ≡ 9 → own ≡ chainPlace (d .now)) → LineFits spool form w own d
+  line-fits vk own o = record {
+    short = spool-short;
+    named = record {
+      twelve = places.tally-long c spool k d at st z;
+      names = names-within;
+      ids = ids-within;
+      few-symbols = omega (arith, z .lengths .symbols);
+      few-layers = omega (arith, z .lengths .layers);
+    };
+    lengths = z .lengths;
+    free = places.free-within c spool k d at st z;
+    file = λ b. subst (λ (i : ℕ). FileReady (eqb i 1) (d .now) (d .tally) (d .marks) (d .header) (d .table)) (sym vk) (places.file-ready c spool k d at st z b);
+    drawing = places.drawing-own c spool k d at st z;
+    symbol = symbol-ready;
+    hide = places.hide-points c spool k d at st z;
+    elements = element-sum;
+    figures = figures-few;
+    chain = λ b. (
+      chain-figures b,
+      places.chain-points c spool k d at st z b,
+      λ g. omega (arith, g, o b, places.chain-place c spool k d at st z b, places.free-within c spool k d at st z),
+    );
+    text = λ b. (places.text-place c spool k d at st z b, text-figures b);
+    placed = λ b. (places.placed-place c spool k d at st z b, placed-lent b .0, placed-lent b .1);
+  }

@@ -1,0 +1,651 @@
+-- A line in a symbol of SYMBOL_DEFINE: from the code's answer to the step that the definitions make.
+use Prim.Native.Nat.{ℕ, zero, suc, _+_, _*_, _≤_, _<_}
+use mathlib.Core.Bool.{Bool, true, false, cond, _&&_, _||_, not}
+use mathlib.Core.List.{List, [], _∷_, _++_, map, append-nil}
+use mathlib.Core.Option.{Option, none, some}
+use mathlib.Core.Path.{_≡_, refl, sym, _∙_, ap, subst}
+use native.Mathlib.Omega.{arith}
+use lib.Dec.{eqb, ltb}
+use lib.IntN.{ℤ, pos}
+use lib.ListN.{length, getD, set, take, drop, length-set, length-append, length-take, length-drop}
+use lib.Seq.{sets, take-set-lt, take-suc-set, getD-set-same, getD-set-other}
+use borrow.Author.Tests.{eqb-true, eqb-false, lt-ltb}
+use Rattle.rules.specs.declared.Digits.{Digits}
+use Rattle.rules.specs.declared.LineForm.{LineForm}
+use Rattle.rules.specs.declared.Span.{Span}
+use Rattle.rules.specs.Base.{all, flat, among, isNil, isNone, isSome}
+use Rattle.rules.specs.RefusalNumbers.{got, unless}
+use Rattle.rules.specs.RangeClass.{digits, digitsOf, reaches}
+use Rattle.rules.specs.Lines.{close, span, bytesAt, formIn}
+use Rattle.rules.specs.Values.{Known, Value, empty, nums, chars, linked, word, lettersAndDigits, charsOf}
+use Rattle.rules.specs.Rows.{Rule, Held, Slots, marks, slotValue, innerOf, Act, stay, entry, begin, shut, refuse, complete, act}
+use Rattle.rules.specs.Blocks.{symbolTable}
+use Rattle.rules.specs.Figures.{figureTable}
+use Rattle.rules.specs.Sets.{Symbol, Set, knownOf, defineRange, symbolNameOf, symbolOwn, symbolOrder, withSymbol}
+use Rattle.rules.specs.Machine.{Line, Env, inElement, State, defines, symbol, hide, figures, byAct, newName, openSymbol}
+use Rattle.rules.specs.RecordTable.{numbersOf, firstOr0, others, firstSlot, otherSlots, ruleAt, putSlots, start, pointRecords, figureRecords, innerRecords}
+use Rattle.rules.proofs.Chains.{clash, and-left}
+use Rattle.rules.proofs.Rows.{row-at, reaches-none}
+use Rattle.tables.specs.Tables.{tableOf}
+use Rattle.entries.specs.Names.{nameIn, namesIn, knownIn}
+use Rattle.entries.specs.Acts.{putLine, Entered}
+use Rattle.account.specs.declared.Now.{Now}
+use Rattle.account.specs.declared.Where.{Where}
+use Rattle.account.specs.declared.Step.{Step}
+use Rattle.account.specs.declared.Step.the-variants as S
+use Rattle.account.specs.Placing.{clearTable}
+use Rattle.standing.specs.Laid.{Laid}
+use Rattle.account.specs.Records.{partAt, withPart}
+use Rattle.account.specs.Account.{atBlock}
+use Rattle.standing.specs.SoFar.{frontRecords, symbolSoFar, soFar}
+use Rattle.standing.specs.Standing.{Desk, InSymbol, CharsHere, isText, Stands, Under, LineHere, StepOut, symbolBytes, formSize, tallyOf, closedSerials}
+use Rattle.account.specs.SymbolLines.{asPlace, isPlace, nameOf, isNamed, isNew, symbolEntry, symbolPart, symbolPut, symbolStep, SymbolMarks, SymbolLine, nameNumber}
+use Rattle.standing.proofs.Openers.{plainKind}
+use Rattle.standing.proofs.OpenedRows.{begin-row}
+use Rattle.standing.proofs.LineOrigins.{From, entry-from, begin-from}
+use Rattle.standing.proofs.LineSizes.{line-size, shut-close}
+use Rattle.standing.proofs.WordPlaces.{name-back, WordRead, word-read}
+use Rattle.standing.proofs.OwnLines.{housed, own-line, was-none}
+use Rattle.standing.proofs.Marks.{marks-set, mark-free}
+use Rattle.account.proofs.RowsTaken.{Taken, entry-taken, begin-taken}
+use Rattle.account.proofs.Lent.{with-same}
+use Rattle.standing.proofs.LaidTables.{laid-part, laid-within, laid-change, laid-same}
+use Rattle.standing.proofs.MoreRecords.{map-more, ownRecord, symbol-more}
+use Rattle.standing.proofs.SlotLengths.{length-slots}
+use Rattle.standing.proofs.Standings.{deskWith, stands-on, known}
+
+-- ── what is computed of the table ──
+pub symbol-rows : tableOf 9 ≡ symbolTable
+unfolding tableOf
+symbol-rows = refl
+
+symbol-length : length symbolTable ≡ 4
+unfolding symbolTable
+symbol-length = refl
+
+symbol-clear : clearTable symbolTable ≡ true
+unfolding symbolTable
+symbol-clear = refl
+
+symbol-housed : all housed symbolTable ≡ true
+unfolding symbolTable
+symbol-housed = refl
+
+name-row : (ruleAt symbolTable 0 .holds ≡ word 32 lettersAndDigits) × (ruleAt symbolTable 0 .may ≡ false) × (length (ruleAt symbolTable 0 .key) ≡ 4)
+unfolding symbolTable
+name-row = (refl, refl, refl)
+
+-- `element` is the second row and opens block 1, `hide` the third and opens block 2
+data Opened (i j : ℕ) : Type 0 where
+  element : i ≡ 1 → j ≡ 1 → Opened i j
+  hidden : i ≡ 2 → j ≡ 2 → Opened i j
+
+opened-rows : (i j : ℕ) → j < 4 → plainKind (ruleAt symbolTable j .holds) ≡ false → i ≡ innerOf (ruleAt symbolTable j .holds) → Opened i j
+unfolding symbolTable
+opened-rows i zero h e q = clash refl e
+opened-rows i (suc zero) h e q = element q refl
+opened-rows i (suc (suc zero)) h e q = hidden q refl
+opened-rows i (suc (suc (suc zero))) h e q = clash refl e
+opened-rows i (suc (suc (suc (suc j)))) h e q = absurd (omega (arith, h))
+
+-- the order of figures and hide points, where there are no hide points
+by-order : (b : Bool) (a h : List (List ℤ)) → h ≡ [] → cond b (h ++ a) (a ++ h) ≡ a
+by-order true a h e = ap (λ (r : List (List ℤ)). r ++ a) e
+by-order false a h e = ap (λ (r : List (List ℤ)). a ++ r) e ∙ append-nil a
+
+same-order : (m : ℕ) (y : Symbol) (b : Bool) → y .hidden ≡ [] → innerRecords m y ≡ innerRecords m (symbolOrder b y)
+same-order m y b e =
+    let h : pointRecords 43 m 1 (y .hidden) ≡ [] = ap (pointRecords 43 m 1) e in
+    let a : List (List ℤ) = flat (map (figureRecords (digits 0 0) (digits 0 0) figureTable 20 m 1) (y .figures)) in
+    by-order (y .hideFirst) a (pointRecords 43 m 1 (y .hidden)) h ∙ sym (by-order b a (pointRecords 43 m 1 (y .hidden)) h)
+
+-- a symbol's name is what its first row holds
+name-slot : (y : Symbol) → symbolNameOf y ≡ charsOf (slotValue (getD (y .own) 0 none))
+unfolding symbolTable
+name-slot y = refl
+
+-- ── its name in its record ──
+first-is : (o : Slots) → firstSlot o ≡ getD o 0 none
+first-is [] = refl
+first-is (a ∷ o) = refl
+
+module _ (t : List ℤ) (a b : ℤ) (h : length t ≡ 32) where
+  at-five : getD (sets t 5 (a ∷ b ∷ [])) 5 (pos 0) ≡ a
+  at-five =
+      getD-set-other (set t 5 a) 6 5 b (pos 0) (λ e. absurd (omega (arith, e))) ∙ getD-set-same t 5 a (pos 0) (omega (arith, h))
+
+  at-six : getD (sets t 5 (a ∷ b ∷ [])) 6 (pos 0) ≡ b
+  at-six = getD-set-same (set t 5 a) 6 b (pos 0) (omega (arith, h, length-set t 5 a))
+
+-- its place and its length
+record-name : (o : Slots) (b : List ℤ) (at : ℕ) (c : List ℕ) → length b ≡ 32 → getD o 0 none ≡ some (chars at c)
+    → (getD (putSlots symbolTable o b) 5 (pos 0) ≡ pos at) × (getD (putSlots symbolTable o b) 6 (pos 0) ≡ pos (length c))
+unfolding symbolTable
+record-name o b at c h e =
+    let t : List ℤ = putSlots (drop 1 symbolTable) (otherSlots o) b in
+    let n : List ℤ = numbersOf (firstSlot o) in
+    let k : length t ≡ 32 = length-slots (drop 1 symbolTable) (otherSlots o) b ∙ h in
+    let q : firstSlot o ≡ some (chars at c) = first-is o ∙ e in
+    (at-five t (firstOr0 n) (firstOr0 (others n)) k ∙ ap (λ (v : Option Value). firstOr0 (numbersOf v)) q, at-six t (firstOr0 n) (firstOr0 (others n)) k ∙ ap (λ (v : Option Value). firstOr0 (others (numbersOf v))) q)
+
+name-of : (rec : List ℤ) (at len : ℕ) → (getD rec 5 (pos 0) ≡ pos at) × (getD rec 6 (pos 0) ≡ pos len) → nameOf rec ≡ span at len
+name-of rec at len h = ap (λ (a : ℤ). span (asPlace a) (asPlace (getD rec 6 (pos 0)))) (h .0) ∙ ap (λ (a : ℤ). span at (asPlace a)) (h .1)
+
+named-below : (rec : List ℤ) (at len : ℕ) → (getD rec 5 (pos 0) ≡ pos at) × (getD rec 6 (pos 0) ≡ pos len) → at < 65536 → len < 65536 → isNamed rec ≡ true
+named-below rec at len h a b =
+    ap (λ (y : ℤ). isPlace y && isPlace (getD rec 6 (pos 0))) (h .0) ∙ ap (λ (y : ℤ). ltb at 65536 && isPlace y) (h .1) ∙ ap (λ (y : Bool). y && ltb len 65536) (lt-ltb at 65536 a) ∙ lt-ltb len 65536 b
+
+-- a symbol that closes has a name
+must-name : (g : Digits) (o : Slots) → length o ≡ 4 → complete g symbolTable (marks o) ≡ true → isSome (getD o 0 none) ≡ true
+unfolding symbolTable
+must-name g [] h e = absurd (omega (arith, h))
+must-name g (a ∷ o) h e = ap (λ (b : Bool). not b || isSome a) (sym (reaches-none g)) ∙ and-left (not (reaches g (digits 0 0)) || isSome a) _ e
+
+text-is : (o : Option Value) → isSome o ≡ true → isText o ≡ true → (at : ℕ) × (c : List ℕ) × (o ≡ some (chars at c))
+text-is none h t = clash h refl
+text-is (some empty) h t = clash t refl
+text-is (some (nums v)) h t = clash t refl
+text-is (some (chars at c)) h t = (at, c, refl)
+text-is (some (linked n ps)) h t = clash t refl
+
+-- ── what is lent on return ──
+-- a symbol's record that was lent, on return
+abbrev pub recordBack : Desk → List ℤ → List ℤ
+recordBack d rec = withPart (d .now .own) rec (d .table)
+
+-- a closed symbol's name joins the others
+abbrev pub nameKept : Desk → List Bool → List ℤ → Desk
+nameKept d m rec = record {
+  now = d .now;
+  tally = set (d .tally) 9 (getD (d .tally) 9 0 + 1);
+  symbols = set (d .symbols) (getD (d .tally) 9 0) (nameNumber (nameOf rec));
+  layers = d .layers;
+  serials = d .serials;
+  used = d .used;
+  usedAll = d .usedAll;
+  marks = m;
+  inner = d .inner;
+  header = d .header;
+  table = recordBack d rec;
+}
+
+-- the block that is open after a line
+abbrev blockAfter : Step → ℕ
+blockAfter (S.Go n) = n .block
+blockAfter (S.Skip n) = 0
+blockAfter (S.Stop n) = 0
+
+-- SYMBOL_DEFINE is open again: the symbol is closed
+abbrev pub symbolDesk : Desk → List Bool → List ℤ → Step → Desk
+symbolDesk d m rec (S.Go n) = cond (eqb (n .block) 4) (nameKept d m rec) (deskWith d (d .now) m (d .inner) (recordBack d rec))
+symbolDesk d m rec (S.Skip n) = deskWith d (d .now) m (d .inner) (recordBack d rec)
+symbolDesk d m rec (S.Stop n) = deskWith d (d .now) m (d .inner) (recordBack d rec)
+
+-- what the keeping of a name asks for: room for it, and a record that has one
+pub record Keeps (d : Desk) (rec : List ℤ) : Type 0 where
+  pub room : getD (d .tally) 9 0 < length (d .symbols)
+  pub below : isNamed rec ≡ true
+  pub wide : length rec ≡ 32
+  pub back : partAt (d .now .own) (recordBack d rec) ≡ rec
+
+module _ (c : Digits) (spool : List ℕ) (short : length spool ≤ 61440) (k : ℕ) (FileHere : Desk → Set → ℕ → Held → ℕ → Type 0) (d : Desk) (at to : ℕ) (e : Env) (l : Line) (w : Where)
+    (form : LineForm) (u : Under c d e) (x : LineHere spool k at to form w l) (s : Set) (y : Symbol) (z : Stands c spool k d (FileHere d) at (symbol s y)) where
+  abbrev st : State
+  st = symbol s y
+
+  abbrev full : List Bool
+  full = marks (y .own)
+
+  abbrev did : Act
+  did = act (knownOf s) symbolTable (digitsOf (defineRange s)) full (l .form)
+
+  -- the names that are lent, and the act that the code goes by
+  abbrev pub symbolNames : List ℕ
+  symbolNames = take (getD (d .tally) 9 0) (d .symbols)
+
+  abbrev pub symbolAct : Act
+  symbolAct =
+      act (knownIn spool symbolNames (take (getD (d .tally) 10 0) (d .layers))) (tableOf 9) (digitsOf (getD (d .tally) 2 0)) (take 4 (d .marks)) (formIn spool form)
+
+  iny : InSymbol spool k (d .now) (d .marks) (d .inner) s y
+  iny = z .block .1
+
+  symbol-act : symbolAct ≡ did
+  symbol-act =
+      ap (λ (m : Known). act m (tableOf 9) (digitsOf (getD (d .tally) 2 0)) (take 4 (d .marks)) (formIn spool form)) (known c spool k FileHere d at to st st z refl)
+      ∙ ap (λ (t : List Rule). act (knownOf s) t (digitsOf (getD (d .tally) 2 0)) (take 4 (d .marks)) (formIn spool form)) symbol-rows
+      ∙ ap (λ (t : List ℕ). act (knownOf s) symbolTable (digitsOf (getD t 2 0)) (take 4 (d .marks)) (formIn spool form)) (z .tally)
+      ∙ ap (λ (b : List Bool). act (knownOf s) symbolTable (digitsOf (defineRange s)) b (formIn spool form)) (iny .marked)
+      ∙ ap (act (knownOf s) symbolTable (digitsOf (defineRange s)) full) (sym (x .is))
+
+  abbrev n : ℕ
+  n = length (s .symbols)
+
+  abbrev base : List ℤ
+  base = start 4 n 1 (y .line)
+
+  -- its record, as it is lent
+  abbrev pub symbolRecord : List ℤ
+  symbolRecord = partAt (d .now .own) (d .table)
+
+  own-part : symbolRecord ≡ ownRecord n y
+  own-part = laid-part (d .table) (frontRecords s) (ownRecord n y) (innerRecords n y) (d .now .free) (d .now .own) (z .laid) (sym (iny .own)) (length-slots symbolTable (y .own) base)
+
+  names-are : namesIn spool symbolNames ≡ map symbolNameOf (s .symbols)
+  names-are = ap (λ (t : List ℕ). namesIn spool (take (getD t 9 0) (d .symbols))) (z .tally) ∙ z .symbols
+
+  -- it lies within the table
+  pub symbol-lent : d .now .own + 32 ≤ length (d .table)
+  symbol-lent = laid-within (d .table) (frontRecords s) (ownRecord n y) (innerRecords n y) (d .now .free) (d .now .own) (z .laid) (sym (iny .own)) (length-slots symbolTable (y .own) base)
+
+  later : at ≤ to
+  later = omega (arith, x .bytes)
+
+  module _ (m₁ : List Bool) (rec₁ : List ℤ) where
+    abbrev t₁ : List ℤ
+    t₁ = recordBack d rec₁
+
+    abbrev Out : Step → Type 0
+    Out r = StepOut c spool k FileHere e l to st (deskWith d (d .now) m₁ (d .inner) t₁) r
+
+    same-table : rec₁ ≡ symbolRecord → t₁ ≡ d .table
+    same-table q = ap (λ (r : List ℤ). withPart (d .now .own) r (d .table)) q ∙ with-same (d .now .own) (d .table)
+
+    -- nothing but the place in the spool
+    on-stay : did ≡ stay → m₁ ≡ d .marks → rec₁ ≡ symbolRecord → Out (S.Go (d .now))
+    on-stay a p q = (
+      st,
+      ap (byAct _ _ _ _) a,
+      stands-on c spool k FileHere d at to st st z (d .now) m₁ (d .inner) t₁ refl (ap length p ∙ z .lengths .marks) (z .lengths .inner)
+          (subst (λ (t : List ℤ). Laid t (soFar c st) (d .now .free)) (sym (same-table q)) (z .laid)) (z .taken) (omega (arith, z .counted, later)) (omega (arith, z .named, later))
+          (omega (arith, z .numbered, later))
+          (z .block .0, subst (λ (m : List Bool). InSymbol spool k (d .now) m (d .inner) s y) (sym p) iny),
+    )
+
+    on-refuse : (m : ℕ) → did ≡ refuse m → Out (S.Stop m)
+    on-refuse m a = ap (byAct _ _ _ _) a
+
+    -- ── a row more ──
+    module _ (j : ℕ) (v : Value) (taken : Taken symbolTable full j v) (qm : m₁ ≡ set (d .marks) j true) (q : rec₁ ≡ putLine (ruleAt (tableOf 9) j) 0 v symbolRecord) where
+      abbrev own′ : Slots
+      own′ = set (y .own) j (some v)
+
+      abbrev y′ : Symbol
+      y′ = symbolOwn own′ y
+
+      row : j < 4
+      row = omega (arith, taken .row, symbol-length)
+
+      was-free : getD (y .own) j none ≡ none
+      was-free = mark-free (y .own) j (taken .free)
+
+      put : rec₁ ≡ ownRecord n y′
+      put =
+          q ∙ ap (λ (t : List Rule). putLine (ruleAt t j) 0 v symbolRecord) symbol-rows ∙ ap (putLine (ruleAt symbolTable j) 0 v) own-part
+          ∙ own-line symbolTable (y .own) j v base (iny .slots ∙ sym symbol-length) (taken .row) was-free (taken .fill) symbol-clear symbol-housed
+
+      laid′ : Laid t₁ (symbolSoFar s y′) (d .now .free)
+      laid′ =
+          subst (λ (r : List ℤ). Laid (withPart (d .now .own) r (d .table)) (frontRecords s ++ ownRecord n y′ ∷ innerRecords n y) (d .now .free)) (sym put)
+          (laid-change (d .table) (frontRecords s) (ownRecord n y) (innerRecords n y) (d .now .free) (d .now .own) (z .laid) (sym (iny .own)) (length-slots symbolTable (y .own) base) (ownRecord n y′)
+          (length-slots symbolTable own′ base))
+
+      marked′ : take 4 m₁ ≡ marks own′
+      marked′ = ap (take 4) qm ∙ take-set-lt 4 (d .marks) j true row ∙ ap (λ (b : List Bool). set b j true) (iny .marked) ∙ sym (marks-set (y .own) j v)
+
+      long-marks : length m₁ ≡ 28
+      long-marks = ap length qm ∙ length-set (d .marks) j true ∙ z .lengths .marks
+
+      slots′ : length own′ ≡ 4
+      slots′ = length-set (y .own) j (some v) ∙ iny .slots
+
+      -- another row than the name's
+      module _ (other : 0 ≡ j → ⊥) where
+        same-slot : getD own′ 0 none ≡ getD (y .own) 0 none
+        same-slot = getD-set-other (y .own) j 0 (some v) none other
+
+        same-name : symbolNameOf y′ ≡ symbolNameOf y
+        same-name = name-slot y′ ∙ ap (λ (o : Option Value). charsOf (slotValue o)) same-slot ∙ sym (name-slot y)
+
+        still-new : newName s y′ ≡ true
+        still-new = ap (λ (b : List ℕ). isNil b || not (among b (knownOf s .symbols))) same-name ∙ iny .fresh
+
+        same-bytes : symbolBytes y′ ≡ symbolBytes y
+        same-bytes = ap (λ (o : Option Value). cond (isSome o) 20 12) same-slot
+
+      -- ── a line that opens nothing ──
+      module _ (a : did ≡ entry j v) where
+        abbrev st′ : State
+        st′ = symbol s y′
+
+        entered : newName s y′ ≡ true → CharsHere spool (getD own′ 0 none) → isText (getD own′ 0 none) ≡ true → 23 * n + symbolBytes y′ ≤ to → Out (S.Go (d .now))
+        entered fresh name text paid = (
+          st′,
+          ap (byAct _ _ _ _) a ∙ ap (λ (b : Bool). unless b 15 (got st′)) fresh,
+          stands-on c spool k FileHere d at to st st′ z (d .now) m₁ (d .inner) t₁ refl long-marks (z .lengths .inner) laid′ (z .taken) (omega (arith, z .counted, later)) paid
+              (omega (arith, z .numbered, later)) (
+                z .block .0,
+                record {
+                  phase = iny .phase;
+                  owner = iny .owner;
+                  own = iny .own;
+                  slots = slots′;
+                  marked = marked′;
+                  fresh = fresh;
+                  name = name;
+                  is-text = text;
+                  element-first = λ h. iny .element-first (was-none (y .own) 1 j v h);
+                  hide-first = λ h. iny .hide-first (was-none (y .own) 2 j v h);
+                },
+              ),
+        )
+
+        on-other : (0 ≡ j → ⊥) → Out (S.Go (d .now))
+        on-other o =
+            entered (still-new o) (subst (CharsHere spool) (sym (same-slot o)) (iny .name)) (ap isText (same-slot o) ∙ iny .is-text) (omega (arith, z .named, later, same-bytes o))
+
+        -- its name
+        module _ (first : j ≡ 0) where
+          from : From (knownOf s) symbolTable (digitsOf (defineRange s)) full (l .form) j (entry j v)
+          from = entry-from (knownOf s) symbolTable (digitsOf (defineRange s)) full (l .form) j v a
+
+          is-row : ruleAt symbolTable 0 ≡ from .rule
+          is-row = ap (ruleAt symbolTable) (sym first) ∙ row-at (from .row) _
+
+          held : WordRead spool (from .rest) v
+          held =
+              word-read spool form (knownOf s) symbolTable (digitsOf (defineRange s)) full (l .form) 32 lettersAndDigits j v from (x .is)
+              (ap (λ (r : Rule). r .holds) (sym is-row) ∙ name-row .0) (ap (λ (r : Rule). r .may) (sym is-row) ∙ name-row .1)
+
+          -- `name=` and a byte, and the line's end
+          long : at + 8 ≤ to
+          long =
+              omega (arith, x .bytes, line-size (knownOf s) symbolTable (digitsOf (defineRange s)) full (l .form) j (entry j v) from, ap (λ (r : Rule). length (r .key)) is-row, name-row .2, held .long)
+
+          slot : getD own′ 0 none ≡ some (chars (held .at) (held .bytes))
+          slot =
+              ap (λ (i : ℕ). getD (set (y .own) i (some v)) 0 none) first ∙ getD-set-same (y .own) 0 (some v) none (omega (arith, iny .slots)) ∙ ap some (held .is)
+
+          short-name : length (held .bytes) < 65536
+          short-name = omega (arith, short, ap length (held .here), length-take (length (held .bytes)) (drop (held .at) spool), length-drop (held .at) spool)
+
+          here : CharsHere spool (getD own′ 0 none)
+          here = subst (CharsHere spool) (sym slot) (held .here, omega (arith, held .low, short), short-name)
+
+          paid : 23 * n + symbolBytes y′ ≤ to
+          paid =
+              let b : symbolBytes y′ ≡ 20 = ap (λ (o : Option Value). cond (isSome o) 20 12) slot in
+              let f : symbolBytes y ≡ 12 = ap (λ (o : Option Value). cond (isSome o) 20 12) (ap (λ (i : ℕ). getD (y .own) i none) (sym first) ∙ was-free) in
+              omega (arith, z .named, long, b, f)
+
+          -- it is new, as the code finds it
+          new : newName s y′ ≡ isNew spool symbolNames (nameOf rec₁)
+          new =
+              let m : List (List ℕ) = map symbolNameOf (s .symbols) in
+              let nm : symbolNameOf y′ ≡ held .bytes = name-slot y′ ∙ ap (λ (o : Option Value). charsOf (slotValue o)) slot in
+              let at-place : bytesAt spool (nameOf rec₁) ≡ held .bytes =
+              ap (λ (r : List ℤ). bytesAt spool (nameOf r)) put
+              ∙ ap (bytesAt spool) (name-of (ownRecord n y′) (held .at) (length (held .bytes)) (record-name own′ base (held .at) (held .bytes) refl slot)) ∙ sym (held .here) in
+              ap (λ (b : List ℕ). isNil b || not (among b m)) nm ∙ ap (λ (b : Bool). b || not (among (held .bytes) m)) (held .filled)
+              ∙ ap (λ (b : List ℕ). not (among b m)) (sym at-place) ∙ ap (λ (ns : List (List ℕ)). not (among (bytesAt spool (nameOf rec₁)) ns)) (sym names-are)
+
+          on-name : (b : Bool) → isNew spool symbolNames (nameOf rec₁) ≡ b → Out (cond (not b) (S.Stop 15) (S.Go (d .now)))
+          on-name true h = entered (new ∙ h) here (ap isText slot) paid
+          on-name false h = ap (byAct _ _ _ _) a ∙ ap (λ (b : Bool). unless b 15 (got st′)) (new ∙ h)
+
+        on-entry : Out (symbolEntry spool symbolNames (d .now) j (symbolPut symbolRecord j v))
+        on-entry = subst (λ (r : List ℤ). Out (symbolEntry spool symbolNames (d .now) j r)) q (go (eqb j 0) refl)
+          where
+            go : (b : Bool) → eqb j 0 ≡ b → Out (cond (b && not (isNew spool symbolNames (nameOf rec₁))) (S.Stop 15) (S.Go (d .now)))
+            go true h = on-name (eqb-true j 0 h) (isNew spool symbolNames (nameOf rec₁)) refl
+            go false h = on-other (λ o. absurd (eqb-false j 0 h (sym o)))
+
+      -- ── `element` or `hide` is begun ──
+      module _ (i : ℕ) (a : did ≡ begin i j v) where
+        -- the symbol around it
+        around : (n′ : Now) (b : Bool) → n′ .owner ≡ d .now .owner → n′ .own ≡ d .now .own → (0 ≡ j → ⊥)
+            → (isNone (getD own′ 1 none) ≡ true → (y .figures ≡ []) × (b ≡ false → y .hidden ≡ [])) → (isNone (getD own′ 2 none) ≡ true → y .hidden ≡ [])
+            → InSymbol spool k n′ m₁ (d .inner) s (symbolOrder b y′)
+        around n′ b g o other f h = record {
+          phase = iny .phase;
+          owner = g ∙ iny .owner;
+          own = o ∙ iny .own;
+          slots = slots′;
+          marked = marked′;
+          fresh = still-new other;
+          name = subst (CharsHere spool) (sym (same-slot other)) (iny .name);
+          is-text = ap isText (same-slot other) ∙ iny .is-text;
+          element-first = f;
+          hide-first = h;
+        }
+
+        -- a row that was just read is there
+        there : (m : ℕ) → j ≡ m → isNone (getD own′ m none) ≡ false
+        there m p = ap (λ (r : ℕ). isNone (getD (set (y .own) r (some v)) m none)) p ∙ ap isNone (getD-set-same (y .own) m (some v) none (omega (arith, row, p, iny .slots)))
+
+        was : (m : ℕ) → j ≡ m → isNone (getD (y .own) m none) ≡ true
+        was m p = ap (λ (r : ℕ). isNone (getD (y .own) r none)) (sym p) ∙ ap isNone was-free
+
+        on-element : i ≡ 1 → j ≡ 1 → Out (S.Go (symbolPart (d .now) i))
+        on-element p r =
+            let st″ : State = figures s (inElement y′) [] in
+            let other : 0 ≡ j → ⊥ = λ o. absurd (omega (arith, o, r)) in
+            let f : (y .figures ≡ []) × (y .hideFirst ≡ false → y .hidden ≡ []) = iny .element-first (was 1 r) in
+            subst (λ (m : ℕ). Out (S.Go (symbolPart (d .now) m))) (sym p) (
+              st″,
+              ap (byAct _ _ _ _) a ∙ ap (openSymbol s y′) p,
+              stands-on c spool k FileHere d at to st st″ z (symbolPart (d .now) 1) m₁ (d .inner) t₁ refl long-marks (z .lengths .inner)
+                  (laid-same t₁ (symbolSoFar s y′) (soFar c st″) (d .now .free) (sym (append-nil (symbolSoFar s y′))) laid′) (z .taken) (omega (arith, z .counted, later))
+                  (omega (arith, z .named, later, same-bytes other)) (omega (arith, z .numbered, later))
+                  (refl, (around (symbolPart (d .now) 1) (y .hideFirst) refl refl other (λ h. clash h (there 1 r)) (λ h. iny .hide-first (was-none (y .own) 2 j v h)), refl, f .0, f .1, there 1 r), refl),
+            )
+
+        on-hide : i ≡ 2 → j ≡ 2 → Out (S.Go (symbolPart (d .now) i))
+        on-hide p r =
+            let b : Bool = isNone (getD own′ 1 none) in
+            let y″ : Symbol = symbolOrder b y′ in
+            let st″ : State = hide s y″ [] in
+            let other : 0 ≡ j → ⊥ = λ o. absurd (omega (arith, o, r)) in
+            let none-yet : y .hidden ≡ [] = iny .hide-first (was 2 r) in
+            let shown : b ≡ true → y .figures ≡ [] = λ h. iny .element-first (was-none (y .own) 1 j v h) .0 in
+            subst (λ (m : ℕ). Out (S.Go (symbolPart (d .now) m))) (sym p) (
+              st″,
+              ap (byAct _ _ _ _) a ∙ ap (openSymbol s y′) p,
+              stands-on c spool k FileHere d at to st st″ z (symbolPart (d .now) 2) m₁ (d .inner) t₁ refl long-marks (z .lengths .inner)
+                  (laid-same t₁ (symbolSoFar s y′) (soFar c st″) (d .now .free)
+                  (ap (λ (q : List (List ℤ)). frontRecords s ++ ownRecord n y′ ∷ q) (same-order n y′ b none-yet) ∙ sym (append-nil (symbolSoFar s y″))) laid′)
+                  (z .taken) (omega (arith, z .counted, later)) (omega (arith, z .named, later, same-bytes other)) (omega (arith, z .numbered, later)) (
+                    refl,
+                    record {
+                      in-symbol = around (symbolPart (d .now) 2) b refl refl other (λ h. (shown h, λ g. none-yet)) (λ h. clash h (there 2 r));
+                      points = refl;
+                      few = omega arith;
+                      hidden = none-yet;
+                      shown = shown;
+                      ordered = refl;
+                      entered = there 2 r;
+                    },
+                  ),
+            )
+
+        on-begin : Out (S.Go (symbolPart (d .now) i))
+        on-begin =
+            let from = begin-from (knownOf s) symbolTable (digitsOf (defineRange s)) full (l .form) i j v a in
+            let r = begin-row (knownOf s) symbolTable (digitsOf (defineRange s)) full (l .form) i j v from in
+            go (opened-rows i j row (r .0) (r .1))
+          where
+            go : Opened i j → Out (S.Go (symbolPart (d .now) i))
+            go (element p r) = on-element p r
+            go (hidden p r) = on-hide p r
+
+    -- ── the symbol closes ──
+    module _ (a : did ≡ shut) (qm : m₁ ≡ d .marks) (q : rec₁ ≡ symbolRecord) where
+      closes : (l .form ≡ close) × (complete (digitsOf (defineRange s)) symbolTable full ≡ true)
+      closes = shut-close (knownOf s) symbolTable (digitsOf (defineRange s)) full (l .form) a
+
+      named : isSome (getD (y .own) 0 none) ≡ true
+      named = must-name (digitsOf (defineRange s)) (y .own) (iny .slots) (closes .1)
+
+      text : (i : ℕ) × (b : List ℕ) × (getD (y .own) 0 none ≡ some (chars i b))
+      text = text-is (getD (y .own) 0 none) named (iny .is-text)
+
+      abbrev place : ℕ
+      place = text .0
+
+      abbrev bytes : List ℕ
+      bytes = text .1
+
+      lies : (bytes ≡ bytesAt spool (span place (length bytes))) × (place < 65536) × (length bytes < 65536)
+      lies = subst (CharsHere spool) (text .2) (iny .name)
+
+      at-record : (getD rec₁ 5 (pos 0) ≡ pos place) × (getD rec₁ 6 (pos 0) ≡ pos (length bytes))
+      at-record =
+          subst (λ (r : List ℤ). (getD r 5 (pos 0) ≡ pos place) × (getD r 6 (pos 0) ≡ pos (length bytes))) (sym (q ∙ own-part)) (record-name (y .own) base place bytes refl (text .2))
+
+      -- the number under which its name is kept
+      kept-name : nameIn spool (nameNumber (nameOf rec₁)) ≡ symbolNameOf y
+      kept-name =
+          ap (λ (p : Span). nameIn spool (nameNumber p)) (name-of rec₁ place (length bytes) at-record) ∙ name-back spool place (length bytes) (lies .1) ∙ sym (lies .0)
+          ∙ sym (name-slot y ∙ ap (λ (o : Option Value). charsOf (slotValue o)) (text .2))
+
+      name-below : isNamed rec₁ ≡ true
+      name-below = named-below rec₁ place (length bytes) at-record (lies .1) (lies .2)
+
+      count : getD (d .tally) 9 0 ≡ n
+      count = ap (λ (t : List ℕ). getD t 9 0) (z .tally)
+
+      through : 23 * n + 23 ≤ to
+      through =
+          let b : symbolBytes y ≡ 20 = ap (λ (o : Option Value). cond (isSome o) 20 12) (text .2) in
+          let f : formSize (l .form) ≡ 1 = ap formSize (closes .0) in
+          omega (arith, z .named, x .bytes, b, f)
+
+      room : n < length (d .symbols)
+      room = omega (arith, z .lengths .symbols, through, x .most)
+
+      name-room : getD (d .tally) 9 0 < length (d .symbols)
+      name-room = omega (arith, count, room)
+
+      abbrev s′ : Set
+      s′ = withSymbol y s
+
+      one-more : n + 1 ≡ length (s′ .symbols)
+      one-more = sym (length-append (s .symbols) (y ∷ []))
+
+      abbrev number : ℕ
+      number = nameNumber (nameOf rec₁)
+
+      all-names : namesIn spool (take (length (s′ .symbols)) (set (d .symbols) (getD (d .tally) 9 0) number)) ≡ map symbolNameOf (s′ .symbols)
+      all-names =
+          let up : length (s′ .symbols) ≡ suc n = omega (arith, one-more) in
+          ap (λ (m : ℕ). namesIn spool (take m (set (d .symbols) (getD (d .tally) 9 0) number))) up
+          ∙ ap (λ (m : ℕ). namesIn spool (take (suc n) (set (d .symbols) m number))) count
+          ∙ ap (namesIn spool) (take-suc-set (d .symbols) n number room)
+          ∙ map-more (nameIn spool) (take n (d .symbols)) number
+          ∙ ap (λ (ns : List (List ℕ)). ns ++ nameIn spool number ∷ []) (z .symbols)
+          ∙ ap (λ (b : List ℕ). map symbolNameOf (s .symbols) ++ b ∷ []) kept-name
+          ∙ sym (map-more symbolNameOf (s .symbols) y)
+
+      on-shut : StepOut c spool k FileHere e l to st (nameKept d m₁ rec₁) (S.Go (atBlock (d .now) 4 0))
+      on-shut = (
+        defines s′ false,
+        ap (byAct _ _ _ _) a,
+        record {
+          lengths = record {
+            symbols = length-set (d .symbols) (getD (d .tally) 9 0) number ∙ z .lengths .symbols;
+            layers = z .lengths .layers;
+            serials = z .lengths .serials;
+            used = z .lengths .used;
+            usedAll = z .lengths .usedAll;
+            marks = ap length qm ∙ z .lengths .marks;
+            inner = z .lengths .inner;
+            header = z .lengths .header;
+          };
+          laid =
+              subst (λ (t : List ℤ). Laid t (frontRecords s′) (d .now .free)) (sym (same-table q))
+              (laid-same (d .table) (symbolSoFar s y) (frontRecords s′) (d .now .free) (sym (symbol-more s y)) (z .laid));
+          taken = z .taken;
+          here = z .here;
+          this = z .this;
+          tally =
+              ap (λ (t : List ℕ). set t 9 (getD t 9 0 + 1)) (z .tally)
+              ∙ ap (λ (m : ℕ). set (tallyOf s (z .here) (length (s .drawing .layers)) (length (closedSerials s))) 9 m) one-more;
+          symbols = all-names;
+          layers = z .layers;
+          few-layers = z .few-layers;
+          serials = z .serials;
+          used = λ h. clash h refl;
+          used-all = z .used-all;
+          counted = omega (arith, z .counted, later);
+          named = omega (arith, through, one-more);
+          numbered = omega (arith, z .numbered, later);
+          block = (refl, refl, record { volume = iny .phase .volume; first = iny .phase .first; blocks = iny .phase .blocks });
+        },
+      )
+
+      keeps : Keeps d rec₁
+      keeps = record {
+        room = name-room;
+        below = name-below;
+        wide = ap length (q ∙ own-part) ∙ length-slots symbolTable (y .own) base;
+        back = ap (partAt (d .now .own)) (same-table q) ∙ sym q;
+      }
+
+    -- ── any line ──
+    abbrev OutOf : Step → Type 0
+    OutOf r = StepOut c spool k FileHere e l to st (symbolDesk d m₁ rec₁ r) r
+
+    -- the symbol is not closed
+    unclosed : (n′ : Now) → eqb (n′ .block) 4 ≡ false → Out (S.Go n′) → OutOf (S.Go n′)
+    unclosed n′ h o = subst (λ (b : Bool). StepOut c spool k FileHere e l to st (cond b (nameKept d m₁ rec₁) (deskWith d (d .now) m₁ (d .inner) t₁)) (S.Go n′)) (sym h) o
+
+    in-it : eqb (d .now .block) 4 ≡ false
+    in-it = ap (λ (m : ℕ). eqb m 4) (z .block .0)
+
+    entry-out : (b : Bool) → Out (cond b (S.Stop 15) (S.Go (d .now))) → OutOf (cond b (S.Stop 15) (S.Go (d .now)))
+    entry-out true o = o
+    entry-out false o = unclosed (d .now) in-it o
+
+    part-block : (i : ℕ) → eqb (symbolPart (d .now) i .block) 4 ≡ false
+    part-block i = go (eqb i 1)
+      where
+        go : (b : Bool) → eqb (cond b (symbolPart (d .now) 1) (symbolPart (d .now) 2) .block) 4 ≡ false
+        go true = refl
+        go false = refl
+
+    by-act : (a : Act) → did ≡ a → SymbolMarks (d .marks) m₁ a → Entered (ruleAt (tableOf 9)) 0 symbolRecord a rec₁ → OutOf (symbolStep spool symbolNames (d .now) symbolRecord a)
+    by-act stay p m q = unclosed (d .now) in-it (on-stay p m q)
+    by-act (entry j v) p m q =
+        entry-out (eqb j 0 && not (isNew spool symbolNames (nameOf (symbolPut symbolRecord j v))))
+        (on-entry j v (entry-taken (knownOf s) symbolTable (digitsOf (defineRange s)) full (l .form) j v p) m q p)
+    by-act (begin i j v) p m q =
+        unclosed (symbolPart (d .now) i) (part-block i) (on-begin j v (begin-taken (knownOf s) symbolTable (digitsOf (defineRange s)) full (l .form) i j v p) m q i p)
+    by-act shut p m q = on-shut p m q
+    by-act (refuse g) p m q = on-refuse g p
+
+  pub symbol-line : (m₁ : List Bool) (rec₁ : List ℤ) (r : Step) → SymbolLine symbolAct spool symbolNames (d .now) (d .marks) m₁ symbolRecord rec₁ r
+      → StepOut c spool k FileHere e l to (symbol s y) (symbolDesk d m₁ rec₁ r) r
+  symbol-line m₁ rec₁ r h =
+      subst (OutOf m₁ rec₁) (sym (h .answer ∙ ap (symbolStep spool symbolNames (d .now) symbolRecord) symbol-act))
+      (by-act m₁ rec₁ did refl (subst (SymbolMarks (d .marks) m₁) symbol-act (h .marks)) (subst (λ (a : Act). Entered (ruleAt (tableOf 9)) 0 symbolRecord a rec₁) symbol-act (h .put)))
+
+  -- a line after which SYMBOL_DEFINE is open leaves a name to be kept
+  pub symbol-keeps : (m₁ : List Bool) (rec₁ : List ℤ) (n′ : Now) → SymbolLine symbolAct spool symbolNames (d .now) (d .marks) m₁ symbolRecord rec₁ (S.Go n′) → n′ .block ≡ 4 → Keeps d rec₁
+  symbol-keeps m₁ rec₁ n′ h b =
+      go did refl (subst (SymbolMarks (d .marks) m₁) symbol-act (h .marks)) (subst (λ (a : Act). Entered (ruleAt (tableOf 9)) 0 symbolRecord a rec₁) symbol-act (h .put))
+      (sym b ∙ ap blockAfter (h .answer ∙ ap (symbolStep spool symbolNames (d .now) symbolRecord) symbol-act))
+    where
+      entered : (t : Bool) → 4 ≡ blockAfter (cond t (S.Stop 15) (S.Go (d .now))) → Keeps d rec₁
+      entered true g = absurd (omega (arith, g))
+      entered false g = absurd (omega (arith, g, z .block .0))
+
+      begun : (t : Bool) → 4 ≡ blockAfter (S.Go (cond t (symbolPart (d .now) 1) (symbolPart (d .now) 2))) → Keeps d rec₁
+      begun true g = absurd (omega (arith, g))
+      begun false g = absurd (omega (arith, g))
+
+      go : (a : Act) → did ≡ a → SymbolMarks (d .marks) m₁ a → Entered (ruleAt (tableOf 9)) 0 symbolRecord a rec₁ → 4 ≡ blockAfter (symbolStep spool symbolNames (d .now) symbolRecord a) → Keeps d rec₁
+      go stay p m q g = absurd (omega (arith, g, z .block .0))
+      go (entry j v) p m q g = entered (eqb j 0 && not (isNew spool symbolNames (nameOf (symbolPut symbolRecord j v)))) g
+      go (begin i j v) p m q g = begun (eqb i 1) g
+      go shut p m q g = keeps m₁ rec₁ p m q
+      go (refuse n) p m q g = absurd (omega (arith, g))

@@ -1,0 +1,6 @@
+pub mod SoFar
+pub mod Laid
+pub mod Standing
+pub mod FileStanding
+pub mod Reading
+pub mod LineDone

@@ -1,0 +1,204 @@
+-- What the code does with a line, by the block that is open, and what it needs for it.
+use Prim.Native.Nat.{ℕ, _+_, _-_, _≤_, _<_}
+use mathlib.Core.Bool.{Bool, true, false}
+use mathlib.Core.Path.{_≡_}
+use mathlib.Core.List.{List, [], _∷_}
+use lib.Dec.{eqb}
+use lib.IntN.{ℤ}
+use lib.ListN.{length, getD, take, replicate}
+use Rattle.rules.specs.declared.Digits.{Digits}
+use Rattle.rules.specs.declared.LineForm.{LineForm}
+use Rattle.rules.specs.Lines.{Form, formIn}
+use Rattle.rules.specs.RangeClass.{digits, digitsOf}
+use Rattle.rules.specs.Values.{Known}
+use Rattle.rules.specs.Rows.{Act, shut, act}
+use Rattle.rules.specs.Figures.{leastPoints}
+use Rattle.tables.specs.Tables.{tableOf}
+use Rattle.entries.specs.Names.{knownIn}
+use Rattle.account.specs.declared.Now.{Now}
+use Rattle.account.specs.declared.Where.{Where}
+use Rattle.account.specs.declared.Step.{Step}
+use Rattle.account.specs.declared.Step.the-variants as S
+use Rattle.account.specs.Records.{hasRoom, partAt, withPart}
+use Rattle.account.specs.Account.{taking}
+use Rattle.standing.specs.Standing.{Desk, desk, Lengths}
+use Rattle.standing.specs.Reading.{tallyAfter, tallyNamed, symbolsNamed}
+use Rattle.account.specs.Points.{pointTableOf, pointAct, ChainLine, HideLine}
+use Rattle.account.specs.TextLines.{textTableOf, TextLine}
+use Rattle.account.specs.FigureLines.{homeTable, homeRows, FigureLine}
+use Rattle.account.specs.ElementLines.{ElementLine}
+use Rattle.account.specs.SymbolLines.{nonIn, isNamed, ContentPlaced, DefinesLine, SymbolLine}
+use Rattle.account.specs.PlacedLines.{Lent, lent, PlacedLine, LentReady}
+use Rattle.account.specs.TopLines.{Answered, TopLent, topLent, topNow, topLentBy}
+use Rattle.account.specs.DrawingLines.{drawingAct, drawingNow, drawingMarks, drawingPut, NamesLine}
+use Rattle.account.specs.FileLines.{fileTableOf, partMarks, FileLine, FileReady}
+
+-- ── the names in use ──
+-- the tally tells how many of the kept names there are: the symbols', and the layers'
+abbrev pub namesOf : List ℕ → List ℕ → List ℕ
+namesOf tally symbols = take (getD tally 9 0) symbols
+
+abbrev pub idsOf : List ℕ → List ℕ → List ℕ
+idsOf tally layers = take (getD tally 10 0) layers
+
+pub record Named (tally symbols layers : List ℕ) : Type 0 where
+  pub twelve : length tally ≡ 12
+  pub names : getD tally 9 0 ≤ length symbols
+  pub ids : getD tally 10 0 ≤ length layers
+  pub few-symbols : length symbols ≤ 65536
+  pub few-layers : length layers ≤ 64
+
+-- ── a record that is lent ──
+-- P says what becomes of the record at n; the rest of the table stays
+pub record Lends (n : ℕ) (t₀ t₁ : List ℤ) (P : List ℤ → List ℤ → Type 0) : Type 0 where
+  pub rec : List ℤ
+  pub did : P (partAt n t₀) rec
+  pub back : t₁ ≡ withPart n rec t₀
+
+-- ── a line in each block ──
+module _ (spool : List ℕ) (form : LineForm) (n : Now) (tally symbols layers : List ℕ) where
+  abbrev names : List ℕ
+  names = namesOf tally symbols
+
+  abbrev ids : List ℕ
+  ids = idsOf tally layers
+
+  abbrev known : Known
+  known = knownIn spool names ids
+
+  abbrev line : Form
+  line = formIn spool form
+
+  abbrev pub OnChain : ℕ → Where → List ℤ → List ℤ → Step → Type 0
+  OnChain own w t₀ t₁ r = ChainLine (pointAct (pointTableOf (n .layered)) spool names ids n form t₀) n own w t₀ t₁ r
+
+  abbrev pub OnHide : Where → List ℤ → List ℤ → Step → Type 0
+  OnHide w t₀ t₁ r = HideLine (pointAct 15 spool names ids n form t₀) n w t₀ t₁ r
+
+  -- its record is the last one
+  abbrev pub OnText : List Bool → List Bool → List ℤ → List ℤ → Step → Type 0
+  OnText i₀ i₁ t₀ t₁ r = Lends (n .free - 32) t₀ t₁ λ rec₀ rec₁. TextLine (act known (tableOf (textTableOf (n .layered))) (digits 0 0) i₀ line) n i₀ i₁ rec₀ rec₁ r
+
+  abbrev pub figureAct : List ℤ → Act
+  figureAct t =
+      taking (hasRoom (n .free) t)
+      (act known (tableOf (homeTable (n .layered) (getD tally 1 0))) (digitsOf (getD tally 1 0)) (replicate (homeRows (n .layered)) false) line)
+
+  -- a layer that closes is counted
+  abbrev pub OnFigures : Where → List ℕ → List Bool → List Bool → List Bool → List Bool → List ℤ → List ℤ → Step → Type 0
+  OnFigures w tally₁ m₀ m₁ i₀ i₁ t₀ t₁ r = FigureLine (figureAct t₀) n (getD tally 1 0) w t₀ t₁ m₀ m₁ i₀ i₁ r × (tally₁ ≡ tallyAfter tally r)
+
+  abbrev pub OnElements : List ℕ → List Bool → List Bool → List Bool → List Bool → Step → Type 0
+  OnElements tally₁ u₀ u₁ a₀ a₁ r = ElementLine (act known (tableOf 10) (digits 0 0) (false ∷ []) line) n tally tally₁ u₀ u₁ a₀ a₁ r
+
+  abbrev pub OnDefines : Where → List Bool → List Bool → List ℤ → List ℤ → Step → Type 0
+  OnDefines w m₀ m₁ t₀ t₁ r = DefinesLine (act known (tableOf 8) (digitsOf (getD tally 2 0)) (nonIn n ∷ false ∷ []) line) n (length names) w m₀ m₁ t₀ t₁ r
+
+  abbrev pub symbolAct : List Bool → Act
+  symbolAct m = act known (tableOf 9) (digitsOf (getD tally 2 0)) (take 4 m) line
+
+  -- its record stands before those of its figures; the name of a symbol that closes is kept
+  abbrev pub OnSymbol : List ℕ → List ℕ → List Bool → List Bool → List ℤ → List ℤ → Step → Type 0
+  OnSymbol tally₁ symbols₁ m₀ m₁ t₀ t₁ r =
+      Lends (n .own) t₀ t₁ λ rec₀ rec₁.
+      SymbolLine (symbolAct m₀) spool names n m₀ m₁ rec₀ rec₁ r × (tally₁ ≡ tallyNamed tally r) × (symbols₁ ≡ symbolsNamed tally rec₁ symbols r)
+
+  -- a symbol that closes has a name, and there is room for it
+  pub record SymbolReady (m : List Bool) (t : List ℤ) : Type 0 where
+    pub own : n .own + 32 ≤ length t
+    pub marks : length m ≡ 28
+    pub content : ContentPlaced line
+    pub room : getD tally 9 0 < length symbols
+    pub name : symbolAct m ≡ shut → isNamed (partAt (n .own) t) ≡ true
+
+  abbrev pub OnPlaced : Digits → Lent → Lent → List ℤ → List ℤ → Step → Type 0
+  OnPlaced c x₀ x₁ t₀ t₁ r = Lends (n .free - 32) t₀ t₁ λ rec₀ rec₁. PlacedLine known c (digitsOf (getD tally 1 0)) n x₀ x₁ rec₀ rec₁ r (eqb (n .part) 1) line
+
+  -- no layer has a name that a line of DRAWING_FORMAT asks for
+  abbrev sheetAct : List Bool → Act
+  sheetAct m = drawingAct (knownIn spool names []) (getD tally 0 0) m line
+
+  abbrev pub OnDrawing : List Bool → List Bool → List ℤ → List ℤ → Step → Type 0
+  OnDrawing m₀ m₁ t₀ t₁ r =
+      Lends (n .own) t₀ t₁ λ rec₀ rec₁. Answered (drawingNow n (sheetAct m₀)) ((m₁ ≡ drawingMarks m₀ (sheetAct m₀)) × (rec₁ ≡ drawingPut rec₀ (sheetAct m₀))) r
+
+  abbrev pub OnNames : Where → List ℕ → List ℕ → List ℤ → List ℤ → Step → Type 0
+  OnNames w tally₁ layers₁ t₀ t₁ r = NamesLine spool n w line tally tally₁ layers layers₁ t₀ t₁ r × (length layers₁ ≡ length layers)
+
+  abbrev pub OnTop : Where → List Bool → TopLent → TopLent → Step → Type 0
+  OnTop w usedAll b₀ b₁ r = Answered (topNow known (eqb (w .volume) 1) n w tally usedAll (b₀ .table) line) (b₁ ≡ topLentBy known (eqb (w .volume) 1) n w b₀ line) r
+
+  abbrev pub OnFile : List ℕ → Where → List ℕ → List Bool → List Bool → List ℤ → List ℤ → List ℤ → List ℤ → Step → Type 0
+  OnFile following w tally₁ m₀ m₁ h₀ h₁ t₀ t₁ r =
+      FileLine (act known (tableOf (fileTableOf (eqb (w .volume) 1) (n .part))) (digits 0 0) (partMarks (eqb (w .volume) 1) (n .part) m₀) line) spool following
+      (eqb (w .volume) 1) n tally tally₁ m₀ m₁ h₀ h₁ t₀ t₁ r
+
+-- ── any line ──
+-- what is lent on return; a line leaves what its block has no use for. The own record of an open `successive` stands at `own`.
+pub data Done (c : Digits) (spool following : List ℕ) (form : LineForm) (w : Where) (own : ℕ) (d d₁ : Desk) (r : Step) : Type 0 where
+  top : d .now .block ≡ 0
+      → OnTop spool form (d .now) (d .tally) (d .symbols) (d .layers) w (d .usedAll) (topLent (d .marks) (d .used) (d .header) (d .table)) (topLent (d₁ .marks) (d₁ .used) (d₁ .header) (d₁ .table)) r
+      → d₁ ≡ desk (d .now) (d .tally) (d .symbols) (d .layers) (d .serials) (d₁ .used) (d .usedAll) (d₁ .marks) (d .inner) (d₁ .header) (d₁ .table)
+      → Done c spool following form w own d d₁ r
+  file : d .now .block ≡ 1
+      → OnFile spool form (d .now) (d .tally) (d .symbols) (d .layers) following w (d₁ .tally) (d .marks) (d₁ .marks) (d .header) (d₁ .header) (d .table) (d₁ .table) r
+      → d₁ ≡ desk (d .now) (d₁ .tally) (d .symbols) (d .layers) (d .serials) (d .used) (d .usedAll) (d₁ .marks) (d .inner) (d₁ .header) (d₁ .table)
+      → Done c spool following form w own d d₁ r
+  drawing : d .now .block ≡ 2
+      → OnDrawing spool form (d .now) (d .tally) (d .symbols) (d .layers) (d .marks) (d₁ .marks) (d .table) (d₁ .table) r
+      → d₁ ≡ desk (d .now) (d .tally) (d .symbols) (d .layers) (d .serials) (d .used) (d .usedAll) (d₁ .marks) (d .inner) (d .header) (d₁ .table)
+      → Done c spool following form w own d d₁ r
+  layer-names : d .now .block ≡ 3
+      → OnNames spool form (d .now) (d .tally) (d .symbols) (d .layers) w (d₁ .tally) (d₁ .layers) (d .table) (d₁ .table) r
+      → d₁ ≡ desk (d .now) (d₁ .tally) (d .symbols) (d₁ .layers) (d .serials) (d .used) (d .usedAll) (d .marks) (d .inner) (d .header) (d₁ .table)
+      → Done c spool following form w own d d₁ r
+  defines : d .now .block ≡ 4
+      → OnDefines spool form (d .now) (d .tally) (d .symbols) (d .layers) w (d .marks) (d₁ .marks) (d .table) (d₁ .table) r
+      → d₁ ≡ desk (d .now) (d .tally) (d .symbols) (d .layers) (d .serials) (d .used) (d .usedAll) (d₁ .marks) (d .inner) (d .header) (d₁ .table)
+      → Done c spool following form w own d d₁ r
+  symbol : d .now .block ≡ 5
+      → OnSymbol spool form (d .now) (d .tally) (d .symbols) (d .layers) (d₁ .tally) (d₁ .symbols) (d .marks) (d₁ .marks) (d .table) (d₁ .table) r
+      → d₁ ≡ desk (d .now) (d₁ .tally) (d₁ .symbols) (d .layers) (d .serials) (d .used) (d .usedAll) (d₁ .marks) (d .inner) (d .header) (d₁ .table)
+      → Done c spool following form w own d d₁ r
+  hide : d .now .block ≡ 6
+      → OnHide spool form (d .now) (d .tally) (d .symbols) (d .layers) w (d .table) (d₁ .table) r
+      → d₁ ≡ desk (d .now) (d .tally) (d .symbols) (d .layers) (d .serials) (d .used) (d .usedAll) (d .marks) (d .inner) (d .header) (d₁ .table)
+      → Done c spool following form w own d d₁ r
+  elements : d .now .block ≡ 7
+      → OnElements spool form (d .now) (d .tally) (d .symbols) (d .layers) (d₁ .tally) (d .used) (d₁ .used) (d .usedAll) (d₁ .usedAll) r
+      → d₁ ≡ desk (d .now) (d₁ .tally) (d .symbols) (d .layers) (d .serials) (d₁ .used) (d₁ .usedAll) (d .marks) (d .inner) (d .header) (d .table)
+      → Done c spool following form w own d d₁ r
+  figures : d .now .block ≡ 8
+      → OnFigures spool form (d .now) (d .tally) (d .symbols) (d .layers) w (d₁ .tally) (d .marks) (d₁ .marks) (d .inner) (d₁ .inner) (d .table) (d₁ .table) r
+      → d₁ ≡ desk (d .now) (d₁ .tally) (d .symbols) (d .layers) (d .serials) (d .used) (d .usedAll) (d₁ .marks) (d₁ .inner) (d .header) (d₁ .table)
+      → Done c spool following form w own d d₁ r
+  chain : d .now .block ≡ 9
+      → OnChain spool form (d .now) (d .tally) (d .symbols) (d .layers) own w (d .table) (d₁ .table) r
+      → d₁ ≡ desk (d .now) (d .tally) (d .symbols) (d .layers) (d .serials) (d .used) (d .usedAll) (d .marks) (d .inner) (d .header) (d₁ .table)
+      → Done c spool following form w own d d₁ r
+  text : d .now .block ≡ 10
+      → OnText spool form (d .now) (d .tally) (d .symbols) (d .layers) (d .inner) (d₁ .inner) (d .table) (d₁ .table) r
+      → d₁ ≡ desk (d .now) (d .tally) (d .symbols) (d .layers) (d .serials) (d .used) (d .usedAll) (d .marks) (d₁ .inner) (d .header) (d₁ .table)
+      → Done c spool following form w own d d₁ r
+  placed : d .now .block ≡ 11
+      → OnPlaced spool form (d .now) (d .tally) (d .symbols) (d .layers) c (lent (d .tally) (d .serials) (d .marks) (d .inner)) (lent (d₁ .tally) (d₁ .serials) (d₁ .marks) (d₁ .inner)) (d .table) (d₁ .table) r
+      → d₁ ≡ desk (d .now) (d₁ .tally) (d .symbols) (d .layers) (d₁ .serials) (d .used) (d .usedAll) (d₁ .marks) (d₁ .inner) (d .header) (d₁ .table)
+      → Done c spool following form w own d d₁ r
+  other : 12 ≤ d .now .block → r ≡ S.Stop 9 → d₁ ≡ d → Done c spool following form w own d d₁ r
+
+-- what a line needs
+pub record LineFits (spool : List ℕ) (form : LineForm) (w : Where) (own : ℕ) (d : Desk) : Type 0 where
+  pub short : length spool ≤ 61440
+  pub named : Named (d .tally) (d .symbols) (d .layers)
+  pub lengths : Lengths d
+  pub free : d .now .free ≤ length (d .table)
+  pub file : d .now .block ≡ 1 → FileReady (eqb (w .volume) 1) (d .now) (d .tally) (d .marks) (d .header) (d .table)
+  pub drawing : d .now .block ≡ 2 → d .now .own + 32 ≤ length (d .table)
+  pub symbol : d .now .block ≡ 5 → SymbolReady spool form (d .now) (d .tally) (d .symbols) (d .layers) (d .marks) (d .table)
+  pub hide : d .now .block ≡ 6 → d .now .points < 4294967295
+  pub elements : d .now .block ≡ 7 → getD (d .tally) 8 0 + getD (d .tally) 7 0 ≤ 4294967295
+  pub figures : d .now .block ≡ 8 → getD (d .tally) 7 0 + d .now .figures < 4294967295
+  pub chain : d .now .block ≡ 9 → (d .now .figures < 4294967295) × (d .now .points < 4294967295) × (leastPoints ≤ d .now .points → own + 64 ≤ length (d .table))
+  pub text : d .now .block ≡ 10 → (32 ≤ d .now .free) × (d .now .figures < 4294967295)
+  pub placed : d .now .block ≡ 11
+      → (32 ≤ d .now .free) × LentReady (lent (d .tally) (d .serials) (d .marks) (d .inner)) (partAt (d .now .free - 32) (d .table)) × (d .now .figures < 4294967295)

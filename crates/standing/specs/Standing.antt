@@ -1,0 +1,469 @@
+-- What the code remembers of a reading, and what it is worth: how the numbers and marks between two lines stand to the state that the
+-- definitions are in.
+use Prim.Native.Nat.{ℕ, zero, suc, _+_, _*_, _/_, _≤_, _<_}
+use mathlib.Core.Bool.{Bool, true, false, cond, _&&_}
+use mathlib.Core.Path.{_≡_}
+use mathlib.Core.List.{List, [], _∷_, _++_, map}
+use mathlib.Core.Option.{Option, none, some}
+use lib.IntN.{ℤ}
+use lib.ListN.{length, getD, take}
+use Rattle.rules.specs.declared.Digits.{Digits}
+use Rattle.rules.specs.Base.{flat, total, hasNumber, isNil, isNone, isSome}
+use Rattle.rules.specs.RefusalNumbers.{Got, got, bad}
+use Rattle.rules.specs.Lines.{Rest, brace, equals, Form, ignored, wrong, close, eof, keyed, span, bytesAt, formIn}
+use Rattle.rules.specs.Values.{Value, empty, nums, chars, linked}
+use Rattle.rules.specs.Rows.{Rule, Slots, blank, Held, partOf, marks, numberOf}
+use Rattle.rules.specs.Blocks.{fileTable, fileTables}
+use Rattle.rules.specs.Figures.{textTable, placedTables}
+use Rattle.rules.specs.Sets.{Point, Figure, placed, Layer, Drawing, Symbol, Contents, Set, isFirst, firstContents, arcOf, symbolRange, defineRange, symbolNameOf, figureSerial, serialsOfVolume, serialsIn, elementsOf, usedIn}
+use Rattle.rules.specs.VolumesAndTotals.{ownTable}
+use Rattle.rules.specs.Machine.{Line, Env, Home, inElement, inLayer, State, top, file, drawing, layerNames, defines, symbol, hide, elements, figures, successive, texts, placing, skipping, ended, newName, stepIn}
+use Rattle.rules.specs.RecordTable.{fileRecords}
+use Rattle.entries.specs.Names.{namesIn}
+use Rattle.rules.specs.declared.LineForm.{LineForm}
+use Rattle.account.specs.declared.Now.{Now}
+use Rattle.account.specs.declared.Where.{Where}
+use Rattle.account.specs.declared.Step.{Step}
+use Rattle.account.specs.declared.Step.the-variants as S
+use Rattle.account.specs.Placing.{Shaped}
+use Rattle.standing.specs.Laid.{Laid}
+use Rattle.standing.specs.SoFar.{volumeOf, frontRecords, soFar}
+
+-- ── what is lent from line to line ──
+pub record Desk : Type 0 where
+  pub now : Now
+  pub tally : List ℕ
+  pub symbols : List ℕ
+  pub layers : List ℕ
+  pub serials : List ℕ
+  pub used : List Bool
+  pub usedAll : List Bool
+  pub marks : List Bool
+  pub inner : List Bool
+  pub header : List ℤ
+  pub table : List ℤ
+
+abbrev pub desk : Now → List ℕ → List ℕ → List ℕ → List ℕ → List Bool → List Bool → List Bool → List Bool → List ℤ → List ℤ → Desk
+desk n tally symbols layers serials used usedAll marks inner header table = record {
+  now = n;
+  tally = tally;
+  symbols = symbols;
+  layers = layers;
+  serials = serials;
+  used = used;
+  usedAll = usedAll;
+  marks = marks;
+  inner = inner;
+  header = header;
+  table = table;
+}
+
+-- a symbol takes 23 bytes of a spool at least, a placed symbol with a serial number 25
+pub record Lengths (d : Desk) : Type 0 where
+  pub symbols : length (d .symbols) ≡ 2672
+  pub layers : length (d .layers) ≡ 64
+  pub serials : length (d .serials) ≡ 2458
+  pub used : length (d .used) ≡ 64
+  pub usedAll : length (d .usedAll) ≡ 64
+  pub marks : length (d .marks) ≡ 28
+  pub inner : length (d .inner) ≡ 2
+  pub header : length (d .header) ≡ 70
+
+-- ── what a state says ──
+abbrev pub setOf : State → Set
+setOf (top s k) = s
+setOf (file s n h p) = s
+setOf (drawing s d) = s
+setOf (layerNames s d) = s
+setOf (defines s b) = s
+setOf (symbol s y) = s
+setOf (hide s y ps) = s
+setOf (elements s) = s
+setOf (figures s h fs) = s
+setOf (successive s h fs n ps) = s
+setOf (texts s h fs n o) = s
+setOf (placing s k fs n o p) = s
+setOf (skipping s k fs n o d) = s
+setOf (ended s) = s
+
+-- the layers declared so far
+abbrev pub layersOf : State → List Layer
+layersOf (drawing s d) = d .layers
+layersOf (layerNames s d) = d .layers
+layersOf (top s k) = s .drawing .layers
+layersOf (file s n h p) = s .drawing .layers
+layersOf (defines s b) = s .drawing .layers
+layersOf (symbol s y) = s .drawing .layers
+layersOf (hide s y ps) = s .drawing .layers
+layersOf (elements s) = s .drawing .layers
+layersOf (figures s h fs) = s .drawing .layers
+layersOf (successive s h fs n ps) = s .drawing .layers
+layersOf (texts s h fs n o) = s .drawing .layers
+layersOf (placing s k fs n o p) = s .drawing .layers
+layersOf (skipping s k fs n o d) = s .drawing .layers
+layersOf (ended s) = s .drawing .layers
+
+-- the own serial numbers read so far
+abbrev pub closedSerials : Set → List ℕ
+closedSerials s = flat (map serialsOfVolume (s .volumes))
+
+abbrev pub serialsWith : Set → List Figure → List ℕ
+serialsWith s fs = serialsIn s ++ flat (map figureSerial fs)
+
+abbrev pub homeSerials : Set → Home → List Figure → List ℕ
+homeSerials s (inElement y) fs = closedSerials s
+homeSerials s (inLayer k) fs = serialsWith s fs
+
+abbrev pub serialsOf : State → List ℕ
+serialsOf (top s k) = closedSerials s
+serialsOf (file s n h p) = closedSerials s
+serialsOf (drawing s d) = closedSerials s
+serialsOf (layerNames s d) = closedSerials s
+serialsOf (defines s b) = closedSerials s
+serialsOf (symbol s y) = closedSerials s
+serialsOf (hide s y ps) = closedSerials s
+serialsOf (elements s) = serialsIn s
+serialsOf (figures s h fs) = homeSerials s h fs
+serialsOf (successive s h fs n ps) = homeSerials s h fs
+serialsOf (texts s h fs n o) = homeSerials s h fs
+serialsOf (placing s k fs n o p) = serialsWith s fs ++ figureSerial (placed n o)
+serialsOf (skipping s k fs n o d) = serialsWith s fs ++ figureSerial (placed n o)
+serialsOf (ended s) = closedSerials s
+
+-- the layers used so far in the volume at hand
+abbrev pub homeUsed : Set → Home → List ℕ
+homeUsed s (inElement y) = []
+homeUsed s (inLayer k) = usedIn (s .now) ++ k ∷ []
+
+abbrev pub usedOf : State → List ℕ
+usedOf (top s k) = []
+usedOf (file s n h p) = []
+usedOf (drawing s d) = []
+usedOf (layerNames s d) = []
+usedOf (defines s b) = []
+usedOf (symbol s y) = []
+usedOf (hide s y ps) = []
+usedOf (elements s) = usedIn (s .now)
+usedOf (figures s h fs) = homeUsed s h
+usedOf (successive s h fs n ps) = homeUsed s h
+usedOf (texts s h fs n o) = homeUsed s h
+usedOf (placing s k fs n o p) = homeUsed s (inLayer k)
+usedOf (skipping s k fs n o d) = homeUsed s (inLayer k)
+usedOf (ended s) = []
+
+-- the figures of the layer or symbol that is open
+abbrev pub openFigures : State → ℕ
+openFigures (top s k) = 0
+openFigures (file s n h p) = 0
+openFigures (drawing s d) = 0
+openFigures (layerNames s d) = 0
+openFigures (defines s b) = 0
+openFigures (symbol s y) = 0
+openFigures (hide s y ps) = 0
+openFigures (elements s) = 0
+openFigures (figures s h fs) = length fs
+openFigures (successive s h fs n ps) = length fs
+openFigures (texts s h fs n o) = length fs
+openFigures (placing s k fs n o p) = length fs
+openFigures (skipping s k fs n o d) = length fs
+openFigures (ended s) = 0
+
+-- ELEMENT is open
+abbrev pub homeInside : Home → Bool
+homeInside (inElement y) = false
+homeInside (inLayer k) = true
+
+abbrev pub inside : State → Bool
+inside (top s k) = false
+inside (file s n h p) = false
+inside (drawing s d) = false
+inside (layerNames s d) = false
+inside (defines s b) = false
+inside (symbol s y) = false
+inside (hide s y ps) = false
+inside (elements s) = true
+inside (figures s h fs) = homeInside h
+inside (successive s h fs n ps) = homeInside h
+inside (texts s h fs n o) = homeInside h
+inside (placing s k fs n o p) = true
+inside (skipping s k fs n o d) = true
+inside (ended s) = false
+
+-- FILE_FORMAT of the volume at hand is closed, ELEMENT is not
+abbrev pub headed : ℕ → Bool
+headed zero = false
+headed (suc zero) = true
+headed (suc (suc zero)) = true
+headed (suc (suc (suc zero))) = true
+headed (suc (suc (suc (suc k)))) = false
+
+abbrev pub counts : State → Bool
+counts (top s k) = headed k
+counts (file s n h p) = false
+counts (drawing s d) = true
+counts (layerNames s d) = true
+counts (defines s b) = true
+counts (symbol s y) = true
+counts (hide s y ps) = true
+counts (elements s) = true
+counts (figures s h fs) = true
+counts (successive s h fs n ps) = true
+counts (texts s h fs n o) = true
+counts (placing s k fs n o p) = true
+counts (skipping s k fs n o d) = true
+counts (ended s) = false
+
+-- the figures in the closed layers of the volume at hand; from ELEMENT's end on they are among those of the closed volumes
+abbrev pub elementsHere : State → ℕ
+elementsHere st = cond (counts st) (elementsOf (setOf st .now)) 0
+
+-- this_ele of the volume at hand
+abbrev pub thisOf : Set → ℕ
+thisOf s = numberOf "this_ele" (ownTable (isFirst s)) (partOf (s .now .file) 0)
+
+abbrev pub fileNumber : Prim.Native.String.String → Set → ℕ
+fileNumber k s = numberOf k fileTable (partOf (firstContents s .file) 0)
+
+-- the tally: arc, E_sym, S_elec, date, time, all_ele; this_ele; figures in closed layers of this volume, in closed volumes; symbols,
+-- layers, serial numbers
+abbrev pub tallyOf : Set → ℕ → ℕ → ℕ → List ℕ
+tallyOf s here layers serials =
+    arcOf s ∷ symbolRange s ∷ defineRange s ∷ fileNumber "date" s ∷ fileNumber "time" s ∷ fileNumber "all_ele" s ∷ here ∷ elementsOf (s .now)
+    ∷ total elementsOf (s .volumes) ∷ length (s .symbols) ∷ layers ∷ serials ∷ []
+
+-- ── bytes that must have been read: each line has its bytes, and two for its end ──
+abbrev pub restSize : Rest → ℕ
+restSize brace = 2
+restSize (equals at c) = suc (length c)
+
+abbrev pub formSize : Form → ℕ
+formSize ignored = 0
+formSize (wrong n) = 0
+formSize close = 1
+formSize eof = 3
+formSize (keyed k r) = length k + restSize r
+
+-- of a symbol that is open: `E_symbol:{` and its name's line
+abbrev pub symbolBytes : Symbol → ℕ
+symbolBytes y = cond (isSome (getD (y .own) 0 none)) 20 12
+
+abbrev pub homeBytes : Home → ℕ
+homeBytes (inElement y) = symbolBytes y
+homeBytes (inLayer k) = 0
+
+abbrev pub nameBytes : State → ℕ
+nameBytes (top s k) = 0
+nameBytes (file s n h p) = 0
+nameBytes (drawing s d) = 0
+nameBytes (layerNames s d) = 0
+nameBytes (defines s b) = 0
+nameBytes (symbol s y) = symbolBytes y
+nameBytes (hide s y ps) = symbolBytes y
+nameBytes (elements s) = 0
+nameBytes (figures s h fs) = homeBytes h
+nameBytes (successive s h fs n ps) = homeBytes h
+nameBytes (texts s h fs n o) = homeBytes h
+nameBytes (placing s k fs n o p) = 0
+nameBytes (skipping s k fs n o d) = 0
+nameBytes (ended s) = 0
+
+-- of a placed symbol that is open: `E_symbol:{`, and 3 for its end; with its serial's line counted as a whole one that lacks its end
+abbrev pub placedBytes : Held → ℕ
+placedBytes o = cond (isSome (getD (partOf o 0) 5 none)) 0 15
+
+abbrev pub serialBytes : State → ℕ
+serialBytes (top s k) = 3
+serialBytes (file s n h p) = 3
+serialBytes (drawing s d) = 3
+serialBytes (layerNames s d) = 3
+serialBytes (defines s b) = 3
+serialBytes (symbol s y) = 3
+serialBytes (hide s y ps) = 3
+serialBytes (elements s) = 3
+serialBytes (figures s h fs) = 3
+serialBytes (successive s h fs n ps) = 3
+serialBytes (texts s h fs n o) = 3
+serialBytes (placing s k fs n o p) = placedBytes o
+serialBytes (skipping s k fs n o d) = placedBytes o
+serialBytes (ended s) = 3
+
+-- ── the block that is open ──
+-- no layers are declared yet, and no symbols
+pub record Bare (s : Set) : Type 0 where
+  pub layers : s .drawing .layers ≡ []
+  pub symbols : s .symbols ≡ []
+
+-- before ELEMENT in the first volume, its FILE_FORMAT closed
+pub record First (k : ℕ) (s : Set) : Type 0 where
+  pub volume : k ≡ 1
+  pub first : isFirst s ≡ true
+  pub blocks : s .now .blocks ≡ []
+
+abbrev pub TopPhase : ℕ → Set → ℕ → Type 0
+TopPhase k s zero = (k ≡ volumeOf s) × (isFirst s ≡ true → Bare s)
+TopPhase k s (suc zero) = First k s × Bare s
+TopPhase k s (suc (suc zero)) = First k s × (s .symbols ≡ [])
+TopPhase k s (suc (suc (suc zero))) = (k ≡ volumeOf s) × (s .now .blocks ≡ [])
+TopPhase k s (suc (suc (suc (suc m)))) = (k ≡ length (s .volumes)) × (m ≡ 0) × (isFirst s ≡ false)
+
+-- a text's bytes are where its value says
+abbrev pub CharsHere : List ℕ → Option Value → Type 0
+CharsHere spool none = Unit {0}
+CharsHere spool (some empty) = Unit {0}
+CharsHere spool (some (nums v)) = Unit {0}
+CharsHere spool (some (chars at c)) = (c ≡ bytesAt spool (span at (length c))) × (at < 65536) × (length c < 65536)
+CharsHere spool (some (linked n ps)) = Unit {0}
+
+-- a text, or nothing yet
+abbrev pub isText : Option Value → Bool
+isText none = true
+isText (some empty) = false
+isText (some (nums v)) = false
+isText (some (chars at c)) = true
+isText (some (linked n ps)) = false
+
+-- n, ms, is: what the code remembers, the marks of the open block and those of its inner part
+module _ (spool : List ℕ) (k : ℕ) (n : Now) (ms is : List Bool) where
+  -- a symbol that is open: what it holds, in the order written
+  pub record InSymbol (s : Set) (y : Symbol) : Type 0 where
+    pub phase : First k s
+    pub owner : n .owner ≡ length (s .symbols)
+    pub own : n .own ≡ length (flat (frontRecords s))
+    pub slots : length (y .own) ≡ 4
+    pub marked : take 4 ms ≡ marks (y .own)
+    pub fresh : newName s y ≡ true
+    pub name : CharsHere spool (getD (y .own) 0 none)
+    pub is-text : isText (getD (y .own) 0 none) ≡ true
+    pub element-first : isNone (getD (y .own) 1 none) ≡ true → (y .figures ≡ []) × (y .hideFirst ≡ false → y .hidden ≡ [])
+    pub hide-first : isNone (getD (y .own) 2 none) ≡ true → y .hidden ≡ []
+
+  -- where the figures stand
+  abbrev pub InHome : Set → Home → Type 0
+  InHome s (inElement y) = InSymbol s y × (n .layered ≡ false) × (y .figures ≡ []) × (y .hideFirst ≡ false → y .hidden ≡ []) × (isNone (getD (y .own) 1 none) ≡ false)
+  InHome s (inLayer m) = (k ≡ volumeOf s) × (n .layered ≡ true) × (n .owner ≡ m) × (m < 64)
+
+  pub record InDrawing (s : Set) (w : Drawing) : Type 0 where
+    pub phase : First k s
+    pub bare : Bare s
+    pub own : n .own ≡ length (flat (fileRecords true 1 (s .now)))
+    pub slots : length (w .own) ≡ 8
+    pub marked : take 8 ms ≡ marks (w .own)
+
+  pub record InChain (s : Set) (h : Home) (fs : List Figure) (ps : List Point) : Type 0 where
+    pub home : InHome s h
+    pub figures : n .figures ≡ length fs
+    pub points : n .points ≡ length ps
+    pub few : length ps ≤ 100
+
+  pub record InHide (s : Set) (y : Symbol) (ps : List Point) : Type 0 where
+    pub in-symbol : InSymbol s y
+    pub points : n .points ≡ length ps
+    pub few : length ps ≤ 100
+    pub hidden : y .hidden ≡ []
+    pub shown : y .hideFirst ≡ true → y .figures ≡ []
+    pub ordered : y .hideFirst ≡ isNone (getD (y .own) 1 none)  -- its `hide` comes first where no `element` was read
+    pub entered : isNone (getD (y .own) 2 none) ≡ false  -- and it has been read
+
+  pub record InPlaced (s : Set) (m : ℕ) (fs : List Figure) (o : Held) (p : ℕ) : Type 0 where
+    pub home : InHome s (inLayer m)
+    pub figures : n .figures ≡ length fs
+    pub part : n .part ≡ p
+    pub parts : p ≤ 1
+    pub shaped : Shaped 0 placedTables o
+    pub marked : take 6 ms ≡ marks (partOf o 0)
+    pub inner : p ≡ 1 → is ≡ marks (partOf o 1)
+    pub unopened : isNone (getD (partOf o 0) 1 none) ≡ true → partOf o 1 ≡ blank (textTable true 16 24)
+    pub opened : p ≡ 1 → isNone (getD (partOf o 0) 1 none) ≡ false
+
+module _ (c : Digits) (spool : List ℕ) (k : ℕ) (d : Desk) where
+  -- FILE_FORMAT's part is said in FileStanding
+  abbrev pub Inside : (FileHere : Set → ℕ → Held → ℕ → Type 0) → State → Type 0
+  Inside FileHere (top s m) = (d .now .block ≡ 0) × (d .now .part ≡ m) × TopPhase k s m
+  Inside FileHere (file s n h p) = (d .now .block ≡ 1) × FileHere s n h p
+  Inside FileHere (drawing s w) = (d .now .block ≡ 2) × InDrawing spool k (d .now) (d .marks) (d .inner) s w
+  Inside FileHere (layerNames s w) = (d .now .block ≡ 3) × InDrawing spool k (d .now) (d .marks) (d .inner) s w
+  Inside FileHere (defines s b) = (d .now .block ≡ 4) × (d .now .part ≡ cond b 1 0) × First k s
+  Inside FileHere (symbol s y) = (d .now .block ≡ 5) × InSymbol spool k (d .now) (d .marks) (d .inner) s y
+  Inside FileHere (hide s y ps) = (d .now .block ≡ 6) × InHide spool k (d .now) (d .marks) (d .inner) s y ps
+  Inside FileHere (elements s) = (d .now .block ≡ 7) × (k ≡ volumeOf s)
+  Inside FileHere (figures s h fs) = (d .now .block ≡ 8) × InHome spool k (d .now) (d .marks) (d .inner) s h × (d .now .figures ≡ length fs)
+  Inside FileHere (successive s h fs n ps) = (d .now .block ≡ 9) × InChain spool k (d .now) (d .marks) (d .inner) s h fs ps
+  Inside FileHere (texts s h fs n o) = (d .now .block ≡ 10) × InHome spool k (d .now) (d .marks) (d .inner) s h × (d .now .figures ≡ length fs) × (length o ≡ 2) × (d .inner ≡ marks o)
+  Inside FileHere (placing s m fs n o p) = (d .now .block ≡ 11) × InPlaced spool k (d .now) (d .marks) (d .inner) s m fs o p
+  Inside FileHere (skipping s m fs n o q) = ⊥
+  Inside FileHere (ended s) = d .now .block ≡ 12
+
+  -- the reading stands behind the line that ends at `at`
+  pub record Stands (FileHere : Set → ℕ → Held → ℕ → Type 0) (at : ℕ) (st : State) : Type 0 where
+    pub lengths : Lengths d
+    pub laid : Laid (d .table) (soFar c st) (d .now .free)
+    pub taken : 32 * setOf st .taken ≡ d .now .free
+    pub here : ℕ
+    pub this : counts st ≡ true → here ≡ thisOf (setOf st)
+    pub tally : d .tally ≡ tallyOf (setOf st) here (length (layersOf st)) (length (serialsOf st))
+    pub symbols : namesIn spool (take (length (setOf st .symbols)) (d .symbols)) ≡ map symbolNameOf (setOf st .symbols)
+    pub layers : namesIn spool (take (length (layersOf st)) (d .layers)) ≡ map (λ l. l .id) (layersOf st)
+    pub few-layers : length (layersOf st) ≤ 64
+    pub serials : take (length (serialsOf st)) (d .serials) ≡ serialsOf st
+    pub used : inside st ≡ true → (j : ℕ) → j < 64 → getD (d .used) j false ≡ hasNumber j (usedOf st)
+    pub used-all : (j : ℕ) → j < 64 → getD (d .usedAll) j false ≡ hasNumber j (flat (map usedIn (setOf st .volumes)) ++ usedOf st)
+    pub counted : total elementsOf (setOf st .volumes) + elementsHere st + openFigures st ≤ at
+    pub named : 23 * length (setOf st .symbols) + nameBytes st ≤ at
+    pub numbered : 25 * length (serialsOf st) + serialBytes st ≤ at + 3
+    pub block : Inside FileHere st
+
+-- ── what a line does ──
+abbrev pub deskNow : Desk → Now → Desk
+deskNow d n = record {
+  now = n;
+  tally = d .tally;
+  symbols = d .symbols;
+  layers = d .layers;
+  serials = d .serials;
+  used = d .used;
+  usedAll = d .usedAll;
+  marks = d .marks;
+  inner = d .inner;
+  header = d .header;
+  table = d .table;
+}
+
+-- with another table
+abbrev pub deskTable : Desk → List ℤ → Desk
+deskTable d t = record {
+  now = d .now;
+  tally = d .tally;
+  symbols = d .symbols;
+  layers = d .layers;
+  serials = d .serials;
+  used = d .used;
+  usedAll = d .usedAll;
+  marks = d .marks;
+  inner = d .inner;
+  header = d .header;
+  table = t;
+}
+
+-- the class, and how many records the table holds
+pub record Under (c : Digits) (d : Desk) (e : Env) : Type 0 where
+  pub class : e .class ≡ c
+  pub limit : e .limit ≡ some (length (d .table) / 32)
+
+-- the line l, as the code has it: in volume k, behind it the place `to`
+pub record LineHere (spool : List ℕ) (k at to : ℕ) (form : LineForm) (w : Where) (l : Line) : Type 0 where
+  pub volume : w .volume ≡ k
+  pub line : w .line ≡ l .line
+  pub ends : w .ends ≡ (isNil (l .next) && l .last)
+  pub is : l .form ≡ formIn spool form
+  pub bytes : at + formSize (l .form) + 2 ≤ to
+  pub most : to ≤ 61442
+
+module _ (c : Digits) (spool : List ℕ) (k : ℕ) (FileHere : Desk → Set → ℕ → Held → ℕ → Type 0) where
+  abbrev pub StandsAt : Desk → ℕ → State → Type 0
+  StandsAt d at st = Stands c spool k d (FileHere d) at st
+
+  -- the code's answer to the line l in the state st, with these things lent back: the step that the definitions make
+  abbrev pub StepOut : Env → Line → ℕ → State → Desk → Step → Type 0
+  StepOut e l to st d (S.Go n) = (st′ : State) × (stepIn e l st ≡ got st′) × StandsAt (deskNow d n) to st′
+  StepOut e l to st d (S.Skip n) = (s : Set) × (m : ℕ) × (fs : List Figure) × (i : ℕ) × (o : Held) × (stepIn e l st ≡ got (skipping s m fs i o 1)) × StandsAt (deskNow d n) to (placing s m fs i o 0)
+  StepOut e l to st d (S.Stop n) = stepIn e l st ≡ bad n
