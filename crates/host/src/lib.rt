@@ -1,9 +1,10 @@
-// The reader for the plot server's host, written in C: include/ploverdell.h.
+// The reader and the rewriter for the plot server's host, written in C: include/ploverdell.h.
 use rules::Answer;
 use sets::read;
+use sets::rewrite;
 ghost use mathlib.Core.Path.{_≡_};
 ghost use lib.ListN.{length};
-ghost use Rattle.rules.specs.Answers.{answerCount, readAnswer, readTable, packed, checkAnswer};
+ghost use Rattle.rules.specs.Answers.{answerCount, readAnswer, readTable, packed, checkAnswer, rewriteAnswer, rewriteOutput};
 
 // "answers one number: answer + 100 × volume + 10,000 × line"
 fn pack(a: Answer) -> u64
@@ -39,6 +40,16 @@ pub extern "C" fn ploverdell_read(spool: &[u8], cls: u64, table: &mut [i64], cou
     ensures { λ r. ⌜ (r ≡ packed (readAnswer cls (length (now (table .entry))) (now (spool .entry)))) × (now (table .exit) ≡ readTable cls (length (now (table .entry))) (now (spool .entry))) × (now (count .exit) ≡ answerCount (readAnswer cls (length (now (table .entry))) (now (spool .entry)))) ⌝ }
 {
     let a = read(spool, cls, table);
+    *count = count_of(a);
+    pack(a)
+}
+
+// The rewriter: the packed number, the fixed form in the lent output, and how many bytes it has.
+#[no_mangle]
+pub extern "C" fn ploverdell_rewrite(spool: &[u8], out: &mut [u8], count: &mut u64) -> u64
+    ensures { λ r. ⌜ (r ≡ packed (rewriteAnswer (length (now (out .entry))) (now (spool .entry)))) × (now (out .exit) ≡ rewriteOutput (length (now (out .entry))) (now (spool .entry))) × (now (count .exit) ≡ answerCount (rewriteAnswer (length (now (out .entry))) (now (spool .entry)))) ⌝ }
+{
+    let a = rewrite(spool, out);
     *count = count_of(a);
     pack(a)
 }

@@ -1,8 +1,8 @@
 -- The rewriter's answer and the output on return, by what the judging and the writing come to.
 use Prim.Native.Nat.{ℕ, _-_, _≤_}
 use mathlib.Core.Bool.{Bool, true, false, cond}
-use mathlib.Core.List.{List, [], _++_}
-use mathlib.Core.Path.{_≡_, refl, sym, _∙_, ap, ap₂, subst}
+use mathlib.Core.List.{List, _++_}
+use mathlib.Core.Path.{_≡_, refl, sym, _∙_, ap, ap₂}
 use native.Mathlib.Omega.{arith}
 use lib.Dec.{leb}
 use lib.ListN.{length, take, replicate}
@@ -20,6 +20,8 @@ use Rattle.leaves.specs.declared.Wrote.the-variants as W
 use Rattle.leaves.specs.Writing.{putAnswer}
 use Rattle.lines.proofs.VolumePlaces.{volumes-laid}
 use Rattle.pens.specs.Volumes.{Fronts, SetPromise}
+use Rattle.pens.specs.Printed.{Within}
+use Rattle.pens.proofs.LentOutput.{full-not, lent, back, lent-long, back-is}
 use Rattle.pens.proofs.SetWalk.{accepted-so}
 use Rattle.sets.specs.SetReading.{IsAccepted, Judged}
 
@@ -43,38 +45,49 @@ module _ (len : ℕ) (spool : List ℕ) where
     accepts : rewriteAnswer len spool ≡ cond (leb (length (written spool)) len) (A.Accepted (length (written spool))) (refusal 20 0 0)
     accepts = answer-of (accepted (yes .0)) (yes .1)
 
-    module _ (before after : List ℕ) (long : length before ≡ len) where
-      put-full : W.Full ≡ putAnswer (written spool) (length before) → leb (length (written spool)) len ≡ false
-      put-full e = subst (λ (m : ℕ). leb (length (written spool)) m ≡ false) long (go (leb (length (written spool)) (length before)) e)
-        where
-          go : (b : Bool) → W.Full ≡ cond b (W.Bytes (length (written spool))) W.Full → b ≡ false
-          go true q = absurd (let z : _≡_ {A = ℕ} 0 1 = cc in omega arith)
-          go false q = refl
+-- an accepted spool, behind the writing
+module _ (spool before after : List ℕ) (r : Wrote) (yes : IsAccepted spool) (within : Within before after r) (promise : SetPromise spool before after r) where
+  abbrev len : ℕ
+  len = length before
 
-      -- it does not fit
-      pub rewrites-full : SetPromise spool before after W.Full → (out : List ℕ) → out ≡ replicate len 0 → Rewrites (refusal 20 0 0) out
-      rewrites-full p out h =
-          refused-so _ out (accepts ∙ ap (λ (b : Bool). cond b (A.Accepted (length (written spool))) (refusal 20 0 0)) (put-full (p (yes .0) (yes .1) .answer))) h
+  abbrev text : List ℕ
+  text = written spool
 
-      module _ (n : ℕ) (p : SetPromise spool before after (W.Bytes n)) where
-        pub wrote : (leb (length (written spool)) len ≡ true) × (n ≡ length (written spool))
-        wrote = subst (λ (m : ℕ). (leb (length (written spool)) m ≡ true) × (n ≡ length (written spool))) long (go (leb (length (written spool)) (length before)) (p (yes .0) (yes .1) .answer))
-          where
-            go : (b : Bool) → W.Bytes n ≡ cond b (W.Bytes (length (written spool))) W.Full → (b ≡ true) × (n ≡ length (written spool))
-            go true q = (refl, cc)
-            go false q = absurd (let z : _≡_ {A = ℕ} 0 1 = cc in omega arith)
+  fronts : Fronts text before after r
+  fronts = promise (yes .0) (yes .1)
 
-        -- the fixed form is no longer than the spool
-        pub wrote-few : n ≤ mostBytes
-        wrote-few =
-            let a = accepted-so spool (yes .0) (yes .1) in
-            omega (arith, wrote .1, demand-two spool (yes .0) (yes .1) .noLonger, volumes-laid spool (a .volumes) (a .are) .spool)
+  -- it does not fit
+  pub rewrites-full : r ≡ W.Full → (out : List ℕ) → out ≡ replicate (length after) 0 → Rewrites len spool (refusal 20 0 0) out
+  rewrites-full e out h =
+      refused-so len spool _ out (accepts len spool yes ∙ ap (λ (b : Bool). cond b (A.Accepted (length text)) (refusal 20 0 0)) (go (leb (length text) len) (sym e ∙ fronts .answer))) (h ∙ ap (λ (m : ℕ). replicate m 0) (within .long))
+    where
+      go : (b : Bool) → W.Full ≡ cond b (W.Bytes (length text)) W.Full → b ≡ false
+      go true q = full-not q
+      go false q = refl
 
-        pub rewrites-accepted : (out : List ℕ) → out ≡ take n after ++ replicate (len - n) 0 → Rewrites (A.Accepted n) out
-        rewrites-accepted out h =
-            let (fits, size) = wrote in
-            let e : rewriteAnswer len spool ≡ A.Accepted n =
-            accepts ∙ ap (λ (b : Bool). cond b (A.Accepted (length (written spool))) (refusal 20 0 0)) fits ∙ ap A.Accepted (sym size) in
-            let room : length (written spool) ≤ length before = omega (arith, leb-true (length (written spool)) len fits, long) in
-            let text : take n after ≡ written spool = ap (λ (m : ℕ). take m after) size ∙ p (yes .0) (yes .1) .memory room in
-            (sym e, h ∙ ap (λ (w : List ℕ). w ++ replicate (len - n) 0) text ∙ sym (demand-one .rewriter len spool .whenAccepted n e .stands))
+  module _ (n : ℕ) (e : r ≡ W.Bytes n) where
+    wrote : (leb (length text) len ≡ true) × (n ≡ length text)
+    wrote = go (leb (length text) len) (sym e ∙ fronts .answer)
+      where
+        go : (b : Bool) → W.Bytes n ≡ cond b (W.Bytes (length text)) W.Full → (b ≡ true) × (n ≡ length text)
+        go true q = (refl, cc)
+        go false q = full-not (sym q)
+
+    pub wrote-inside : n ≤ length after
+    wrote-inside = omega (arith, within .within n e, within .long)
+
+    -- the fixed form is no longer than the spool
+    pub wrote-few : n ≤ mostBytes
+    wrote-few =
+        let a = accepted-so spool (yes .0) (yes .1) in
+        omega (arith, wrote .1, demand-two spool (yes .0) (yes .1) .noLonger, volumes-laid spool (a .volumes) (a .are) .spool)
+
+    -- what is behind it is cleared
+    pub rewrites-accepted : (rest : List ℕ) → rest ≡ replicate (length (lent n after wrote-inside)) 0 → Rewrites len spool (A.Accepted n) (back n after wrote-inside rest)
+    rewrites-accepted rest h =
+        let (fits, size) = wrote in
+        let is : rewriteAnswer len spool ≡ A.Accepted n =
+        accepts len spool yes ∙ ap (λ (b : Bool). cond b (A.Accepted (length text)) (refusal 20 0 0)) fits ∙ ap A.Accepted (sym size) in
+        let front : take n after ≡ text = ap (λ (m : ℕ). take m after) size ∙ fronts .memory (leb-true (length text) len fits) in
+        let zeros : rest ≡ replicate (len - n) 0 = h ∙ ap (λ (m : ℕ). replicate m 0) (lent-long n after wrote-inside ∙ ap (λ (m : ℕ). m - n) (within .long)) in
+        (sym is, back-is n after wrote-inside rest ∙ ap₂ _++_ front zeros ∙ sym (demand-one .rewriter len spool .whenAccepted n is .stands))

@@ -1,5 +1,5 @@
--- The public function of this crate has one answer (as `Unique` in leaves has it: read-unique in the contract's own words, read-code of the
--- contract as the code has it), and leaves one table behind.
+-- The public functions of this crate have one answer each (as `Unique` in leaves has it: FUNCTION-unique in the contract's own words,
+-- FUNCTION-code of the contract as the code has it), and leave one table and one output behind.
 use Prim.Native.Nat.{ℕ}
 use mathlib.Core.List.{List}
 use mathlib.Core.Path.{_≡_, sym, _∙_}
@@ -7,9 +7,10 @@ use lib.IntN.{ℤ}
 use lib.ListN.{length}
 use denote.Ref.{now}
 use Rattle.rules.specs.declared.Answer.{Answer}
-use Rattle.rules.specs.Answers.{readAnswer, readTable}
+use Rattle.rules.specs.Answers.{readAnswer, readTable, rewriteAnswer, rewriteOutput}
 use Rattle.leaves.proofs.Unique.{One, paired}
 use Rattle.sets.proofs.reader.read as read′
+use Rattle.sets.proofs.rewriter.rewrite as rewrite′
 
 pub read-unique : (s : List ℕ) (class : ℕ) (t t₁ t₂ : List ℤ) (r₁ r₂ : Answer)
     → (r₁ ≡ readAnswer class (length t) s) × (t₁ ≡ readTable class (length t) s)
@@ -18,3 +19,11 @@ read-unique s class t t₁ t₂ r₁ r₂ c₁ c₂ = (c₁ .0 ∙ sym (c₂ .0)
 
 read-code : One read′.Kinds.ps read′.Kinds.r read′.Reads.Learnt {A = Answer × List ℤ} (λ κs r e. (r, now (e .1 .1 .0)))
 read-code κs x r₁ r₂ e₁ e₂ c₁ c₂ = paired (read-unique (now (x .0)) (x .1 .0) (now (x .1 .1 .0)) (now (e₁ .1 .1 .0)) (now (e₂ .1 .1 .0)) r₁ r₂ c₁ c₂)
+
+pub rewrite-unique : (s out out₁ out₂ : List ℕ) (r₁ r₂ : Answer)
+    → (r₁ ≡ rewriteAnswer (length out) s) × (out₁ ≡ rewriteOutput (length out) s)
+    → (r₂ ≡ rewriteAnswer (length out) s) × (out₂ ≡ rewriteOutput (length out) s) → (r₁ ≡ r₂) × (out₁ ≡ out₂)
+rewrite-unique s out out₁ out₂ r₁ r₂ c₁ c₂ = (c₁ .0 ∙ sym (c₂ .0), c₁ .1 ∙ sym (c₂ .1))
+
+rewrite-code : One rewrite′.Kinds.ps rewrite′.Kinds.r rewrite′.Reads.Learnt {A = Answer × List ℕ} (λ κs r e. (r, now (e .1 .0)))
+rewrite-code κs x r₁ r₂ e₁ e₂ c₁ c₂ = paired (rewrite-unique (now (x .0)) (now (x .1 .0)) (now (e₁ .1 .0)) (now (e₂ .1 .0)) r₁ r₂ c₁ c₂)

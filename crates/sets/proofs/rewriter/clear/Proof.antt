@@ -34,8 +34,8 @@ loop-again c =
     let v = c .before .loop in
     let z = replicate {A = ℕ} (length t) 0 in
     let h : v .i < length t = omega arith in
-    let e : getD z (v .i) 0 ≡ 0 = getD-replicate (length t) (v .i) 0 0 h in
-    (omega arith, simp length-set (v .inv .1), rw (v .inv .2, add-one) (ap (set (paste t 0 z (v .i)) (v .i)) (sym e) ∙ ap (λ k. set (paste t 0 z (v .i)) k (getD z (v .i) 0)) (sym (zero-add (v .i))) ∙ paste-suc t 0 z (v .i) 0 (omega arith) (rw (length-replicate (length t) 0) h)))
+    let e : getD z (v .i) 0 ≡ 0 = getD-replicate {A = ℕ} (length t) (v .i) 0 0 h in
+    (omega arith, simp length-set (v .inv .1), rw (v .inv .2, add-one) (ap (set (paste t 0 z (v .i)) (v .i)) (sym e) ∙ ap (λ k. set (paste t 0 z (v .i)) k (getD z (v .i) 0)) (sym (zero-add (v .i))) ∙ paste-suc t 0 z (v .i) 0 (omega arith) (rw (length-replicate {A = ℕ} (length t) 0) h)))
 
 same-length : tie.Need-same-length Inv-loop μ-loop
 same-length c = c .before .loop .inv .1
@@ -46,7 +46,7 @@ returns c =
     let v = c .before .loop in
     let z = replicate {A = ℕ} (length t) 0 in
     let e : v .i ≡ length t = omega arith in
-    v .inv .2 ∙ rw (e, take-all (length t) z (omega (arith, length-replicate (length t) 0)), drop-of-length-le t {i = 0 + length t} (omega arith)) (append-nil z)
+    v .inv .2 ∙ rw (e, take-all (length t) z (omega (arith, length-replicate {A = ℕ} (length t) 0)), drop-of-length-le t {i = 0 + length t} (omega arith)) (append-nil z)
 
 pub clear-spec : {M : Type 1} → statement M
 clear-spec =

@@ -1,3 +1,7 @@
+use mathlib.Core.Path.{subst}
+use lib.ListN.{length}
+use Rattle.sets.specs.SetReading.{Judged}
+use Rattle.sets.proofs.Rewritten.{rewrites-refused}
 use borrow.Author.Needs.{needs}
 use Rattle.sets.proofs.rewriter.rewrite.Statement.{statement}
 use Rattle.sets.proofs.rewriter.rewrite.Tie as tie
@@ -17,7 +21,7 @@ enum-told c = search needs
 
 -- src/rewriter.rt:51:32
 write-set-requires : tie.Need-write-set-requires
-write-set-requires c κs = ?
+write-set-requires c κs = subst (Judged (c .before .before .before .before .before .before .args .s .now)) (c .before .enum-told .given .1) (c .before .before .before .judge .ensures)
 
 -- src/rewriter.rt:52:25
 enum-known-f : tie.Need-enum-known-f
@@ -41,7 +45,7 @@ same-length-2 c = search needs
 
 -- src/rewriter.rt:47:1
 returns-2 : tie.Need-returns-2
-returns-2 c = ?
+returns-2 c = rewrites-refused (length (c .before .before .before .before .before .before .before .before .before .before .args .out .now)) (c .before .before .before .before .before .before .before .before .before .before .args .s .now) (c .before .before .before .before .before .f .given .0 .0) (c .before .before .clear .last .0) (subst (Judged (c .before .before .before .before .before .before .before .before .before .before .args .s .now)) (c .before .before .before .before .before .f .given .1) (c .before .before .before .before .before .before .before .judge .ensures)) (c .before .before .clear .ensures)
 
 pub rewrite-spec : {M : Type 1} → statement M
 rewrite-spec =

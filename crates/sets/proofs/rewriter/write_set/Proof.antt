@@ -1,3 +1,5 @@
+use native.Mathlib.Omega.{arith}
+use Rattle.sets.proofs.Rewritten.{wrote-inside, wrote-few, rewrites-accepted, rewrites-full}
 use borrow.Author.Needs.{needs}
 use Rattle.sets.proofs.rewriter.write_set.Statement.{statement}
 use Rattle.sets.proofs.rewriter.write_set.Tie as tie
@@ -16,11 +18,11 @@ enum-known-n c = search needs
 
 -- src/rewriter.rt:30:19
 sub-clear : tie.Need-sub-clear
-sub-clear c = ?
+sub-clear c = wrote-inside (c .before .before .before .before .before .before .before .before .before .args .s .now) (c .before .before .before .before .before .before .before .before .before .args .out .now) (c .before .before .before .before .before .put-set .last .1 .0) (c .before .before .before .before .before .put-set .result) (c .before .before .before .before .before .before .before .before .before .pre) (c .before .before .before .before .before .put-set .ensures .0) (c .before .before .before .before .before .put-set .ensures .1) _ (c .before .n .given .1)
 
 -- src/rewriter.rt:30:19
 part-clear-start : tie.Need-part-clear-start
-part-clear-start c = ?
+part-clear-start c = wrote-inside (c .before .before .before .before .before .before .before .before .before .args .s .now) (c .before .before .before .before .before .before .before .before .before .args .out .now) (c .before .before .before .before .before .put-set .last .1 .0) (c .before .before .before .before .before .put-set .result) (c .before .before .before .before .before .before .before .before .before .pre) (c .before .before .before .before .before .put-set .ensures .0) (c .before .before .before .before .before .put-set .ensures .1) _ (c .before .n .given .1)
 
 -- src/rewriter.rt:30:19
 part-clear-end : tie.Need-part-clear-end
@@ -32,7 +34,7 @@ clear-requires c κs = search needs
 
 -- src/rewriter.rt:31:30
 cast-t13 : tie.Need-cast-t13
-cast-t13 c = ?
+cast-t13 c = omega (arith, wrote-few (c .before .before .before .before .before .before .before .before .before .before .before .before .before .args .s .now) (c .before .before .before .before .before .before .before .before .before .before .before .before .before .args .out .now) (c .before .before .before .before .before .before .before .before .before .put-set .last .1 .0) (c .before .before .before .before .before .before .before .before .before .put-set .result) (c .before .before .before .before .before .before .before .before .before .before .before .before .before .pre) (c .before .before .before .before .before .before .before .before .before .put-set .ensures .0) (c .before .before .before .before .before .before .before .before .before .put-set .ensures .1) _ (c .before .before .before .before .before .n .given .1))
 
 -- src/rewriter.rt:34:19
 enum-told : tie.Need-enum-told
@@ -48,7 +50,7 @@ same-length c = search needs
 
 -- src/rewriter.rt:24:1
 returns : tie.Need-returns
-returns c = ?
+returns c = rewrites-accepted (c .before .before .before .before .before .before .before .before .before .before .before .before .before .args .s .now) (c .before .before .before .before .before .before .before .before .before .before .before .before .before .args .out .now) (c .before .before .before .before .before .before .before .before .before .put-set .last .1 .0) (c .before .before .before .before .before .before .before .before .before .put-set .result) (c .before .before .before .before .before .before .before .before .before .before .before .before .before .pre) (c .before .before .before .before .before .before .before .before .before .put-set .ensures .0) (c .before .before .before .before .before .before .before .before .before .put-set .ensures .1) _ (c .before .before .before .before .before .n .given .1) (c .before .before .clear .last .0) (c .before .before .clear .ensures)
 
 -- src/rewriter.rt:24:1
 same-length-2 : tie.Need-same-length-2
@@ -56,7 +58,7 @@ same-length-2 c = search needs
 
 -- src/rewriter.rt:24:1
 returns-2 : tie.Need-returns-2
-returns-2 c = ?
+returns-2 c = rewrites-full (c .before .before .before .before .before .before .before .before .before .before .before .before .args .s .now) (c .before .before .before .before .before .before .before .before .before .before .before .before .args .out .now) (c .before .before .before .before .before .before .before .before .put-set .last .1 .0) (c .before .before .before .before .before .before .before .before .put-set .result) (c .before .before .before .before .before .before .before .before .before .before .before .before .pre) (c .before .before .before .before .before .before .before .before .put-set .ensures .0) (c .before .before .before .before .before .before .before .before .put-set .ensures .1) (c .before .before .before .before .enum-told .given .1) (c .before .before .clear2 .last .0) (c .before .before .clear2 .ensures)
 
 pub write-set-spec : {M : Type 1} → statement M
 write-set-spec =
