@@ -8,7 +8,7 @@ from decimal import Decimal
 RECORD = 32
 HEADER, VOLUME, DRAWING, SYMBOL, LAYER = 1, 2, 3, 4, 5
 LINE, CIRCLE, ELLIPSE, POINT, SUCCESSIVE, TEXT, PLACED, SUCCESSIVE_POINT = 10, 11, 12, 13, 14, 15, 16, 17
-HIDE_POINT = 43
+SYMBOL_TEXT, HIDE_POINT = 35, 43
 ABSENT, EMPTY, GIVEN, UNREAD = 0, 1, 2, 3
 
 # A placed symbol's attributes: which digit of a range asks for it and from which value on, its places in the record, its state's place.
@@ -43,6 +43,17 @@ def at_class(records, cls):
                     rec[i] = 0
                 rec[state] = UNREAD
     return out
+
+
+# Where a record of a kind has the byte places of its texts.
+TEXT_PLACES = {HEADER: range(16, 32, 2), DRAWING: (12, 14, 16), SYMBOL: (5,), LAYER: (7,), TEXT: (12,), SYMBOL_TEXT: (12,), PLACED: (12, 24)}
+LINE_PLACE = 3
+
+
+def places_apart(record):
+    """A record with its line and the byte places of its texts made 0."""
+    places = (LINE_PLACE, *TEXT_PLACES.get(record[0], ()))
+    return [0 if i in places else n for i, n in enumerate(record)]
 
 
 def shown(records):

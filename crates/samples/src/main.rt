@@ -17,66 +17,6 @@ const SAME_SPOOL: usize = 65535;
 // A length that no spool has.
 const END: usize = 65536;
 
-fn show(n: u64) {
-    io::print_decimal(1, n);
-}
-
-fn space() {
-    io::write_all(1, b" ");
-}
-
-fn newline() {
-    io::write_all(1, b"\n");
-}
-
-fn show_signed(z: i64) {
-    if z < 0 {
-        io::write_all(1, b"-");
-        show(-(z + 1) as u64 + 1);
-        return;
-    }
-    show(z as u64);
-}
-
-// A record's numbers, single spaces between them.
-fn show_record(rec: &[i64]) {
-    let mut i = 0;
-    while i < rec.len() {
-        if 0 < i {
-            space();
-        }
-        show_signed(rec[i]);
-        i += 1;
-    }
-    newline();
-}
-
-fn show_records(count: u64, table: &[i64]) {
-    let mut i = 0;
-    while i < MOST_RECORDS {
-        if count <= i as u64 {
-            return;
-        }
-        let from = 32 * i;
-        if table.len() < from + 32 {
-            return;
-        }
-        show_record(&table[from..from + 32]);
-        i += 1;
-    }
-}
-
-fn show_answer(number: u8, volume: u8, line: u32, count: u64) {
-    show(number as u64);
-    space();
-    show(volume as u64);
-    space();
-    show(line as u64);
-    space();
-    show(count);
-    newline();
-}
-
 // Says so where a number of the table from this place on is not 0.
 fn show_leavings(from: u64, table: &[i64]) {
     let mut i = 0;
@@ -96,12 +36,12 @@ fn answer(spool: &[u8], cls: u64, table: &mut [i64]) {
     let answer = read(spool, cls, table);
     match answer {
         Answer::Accepted(count) => {
-            show_answer(0, 0, 0, count as u64);
-            show_records(count as u64, table);
+            shows::answer_line(1, 0, 0, 0, count as u64);
+            shows::records(count as u64, table);
             show_leavings(32 * count as u64, table);
         }
         Answer::Refused(f) => {
-            show_answer(f.number, f.volume, f.line, 0);
+            shows::answer_line(1, f.number, f.volume, f.line, 0);
             show_leavings(0, table);
         }
     }

@@ -69,9 +69,9 @@ fn read_set(s: &[u8], class: Digits, limit: usize, t: &mut [i64]) -> Answer
         });
     }
     let mut tally = [0u32; 12];
-    let mut symbols = [0u32; 2672];
+    let mut symbols = [0u32; 1280];
     let mut layers = [0u32; 64];
-    let mut serials = [0u64; 2458];
+    let mut serials = [0u64; 1464];
     let mut used = [false; 64];
     let mut used_all = [false; 64];
     let mut marks = [false; 28];

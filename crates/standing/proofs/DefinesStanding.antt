@@ -154,7 +154,7 @@ module _ (c : Digits) (spool : List ℕ) (k : ℕ) (FileHere : Desk → Set → 
     -- nothing but what is open, and the place in the spool
     kept : (st′ : State) (n : Now) → sight st ≡ sight st′ → Untouched (d .marks) m₁ (d .table) t₁ → n .free ≡ d .now .free → soFar c st ≡ soFar c st′
         → 32 * setOf st′ .taken ≡ d .now .free
-        → openFigures st′ ≡ 0 → nameBytes st′ ≡ 0 → serialBytes st′ ≡ 3
+        → openFigures st′ ≡ 0 → nameBytes st′ ≡ 0 → serialBytes st′ ≡ 20
         → Inside c spool k (deskWith d n m₁ (d .inner) t₁) (FileHere (deskWith d n m₁ (d .inner) t₁)) st′
         → Stands c spool k (deskWith d n m₁ (d .inner) t₁) (FileHere (deskWith d n m₁ (d .inner) t₁)) to st′
     kept st′ n v q f r t a g h i =

@@ -43,6 +43,7 @@ use Rattle.account.specs.FigureLines.{homeTable, homeRows, homeRule, lineKind, 
 use Rattle.account.proofs.RowsTaken.{entry-taken}
 use Rattle.standing.proofs.LineOrigins.{From, isValues, entry-from, begin-from, entry-nums}
 use Rattle.standing.proofs.RowOpeners.{isOpens, entry-opens, begin-values, begin-opens}
+use Rattle.standing.proofs.LineSizes.{shut-close}
 use Rattle.standing.proofs.FigureRows.{home-rows, home-full, figureRow, valuesRow, blockRow, mostBlock, figure-rows, placedKey, placed-key, lineMade, line-record, text-begun, placed-begun}
 use Rattle.standing.proofs.LaidTables.{laid-more, laid-blank, laid-same}
 use Rattle.standing.proofs.MoreRecords.{more-figures, figures-taken, layer-closed, ownRecord, shown, element-more}
@@ -129,7 +130,7 @@ unfolding placedTable textTable
 blank-shaped = (omega arith, refl, (omega arith, refl, tt))
 
 -- `E_symbol:{` is read, the line of its serial number isn't
-placed-bytes : (s : Set) (m : ℕ) (fs : List Figure) (n : ℕ) → serialBytes (placing s m fs n (blankHeld placedTables) 0) ≡ 15
+placed-bytes : (s : Set) (m : ℕ) (fs : List Figure) (n : ℕ) → serialBytes (placing s m fs n (blankHeld placedTables) 0) ≡ 32
 unfolding placedTable
 placed-bytes s m fs n = refl
 
@@ -523,7 +524,7 @@ module _ (c : Digits) (spool : List ℕ) (k : ℕ) (FileHere : Desk → Set → 
             used-all = subst (λ (ns : List ℕ). (j : ℕ) → j < 64 → getD (d .usedAll) j false ≡ hasNumber j (flat (map usedIn (s .volumes)) ++ ns)) (used-closed s m fs) (z .used-all);
             counted = omega (arith, z .counted, elements-closed s m fs, later);
             named = omega (arith, z .named, later);
-            numbered = subst (λ (ns : List ℕ). 25 * length ns + 3 ≤ to + 3) (serials-closed s m fs) (omega (arith, z .numbered, later));
+            numbered = subst (λ (ns : List ℕ). 42 * length ns + 20 ≤ to + 20) (serials-closed s m fs) (omega (arith, z .numbered, later));
             block = (refl, z .block .1 .0);
           },
         )
@@ -539,6 +540,8 @@ module _ (c : Digits) (spool : List ℕ) (k : ℕ) (FileHere : Desk → Set → 
         let st : State = figures s (inElement y) fs in
         let st′ : State = symbol s y′ in
         let i : InSymbol spool k (d .now) (d .marks) (d .inner) s y = z .block .1 .0 in
+        let f : formSize (l .form) ≡ 1 = ap formSize (shut-close (knownOf s) (rows (inElement y) z) (rangeOf s) (fullAt 0 (rows (inElement y) z)) (l .form) a .0) in
+        let bytes : ℕ → Bool → ℕ = λ m b. cond (not b) m 0 in
         subst (λ (o : List Bool). StepOut c spool k FileHere e l to st (deskWith d (d .now) o i₁ t₁) (S.Go n)) (sym qm)
         (subst (λ (o : List Bool). StepOut c spool k FileHere e l to st (deskWith d (d .now) (d .marks) o t₁) (S.Go n)) (sym qi) (
           st′,
@@ -548,7 +551,7 @@ module _ (c : Digits) (spool : List ℕ) (k : ℕ) (FileHere : Desk → Set → 
               (append-assoc (frontRecords s) (ownRecord number y ∷ innerRecords number y) (shown number y fs)
               ∙ ap (λ (o : List (List ℤ)). frontRecords s ++ ownRecord number y ∷ o) (sym (element-more number y fs (z .block .1 .2) (z .block .1 .3))))
               (subst (λ (t : List ℤ). Laid t (soFar c st) (d .now .free)) (sym q) (z .laid)))
-              (z .taken) (omega (arith, z .counted, later)) (omega (arith, z .named, later)) (omega (arith, z .numbered, later)) (
+              (z .taken) (omega (arith, z .counted, later)) (omega (arith, z .named, x .bytes, f, ap (bytes 11) (z .block .1 .4), ap (bytes 14) (z .block .1 .4))) (omega (arith, z .numbered, later)) (
                 refl,
                 record {
                   phase = i .phase;

@@ -1,6 +1,6 @@
 -- A line in a symbol's `hide`: from the code's answer to the step that the definitions make.
 use Prim.Native.Nat.{ℕ, _+_, _≤_}
-use mathlib.Core.Bool.{Bool, true, false}
+use mathlib.Core.Bool.{Bool, true, false, cond, not}
 use mathlib.Core.List.{List, [], _∷_, _++_, append-assoc}
 use mathlib.Core.Option.{none, some}
 use mathlib.Core.Path.{_≡_, refl, sym, _∙_, ap, subst}
@@ -30,9 +30,10 @@ use Rattle.standing.specs.Laid.{Laid}
 use Rattle.account.specs.Records.{hasRoom}
 use Rattle.account.specs.Account.{taking, atBlock}
 use Rattle.standing.specs.SoFar.{frontRecords, symbolSoFar, soFar}
-use Rattle.standing.specs.Standing.{Desk, InSymbol, InHide, Stands, Under, LineHere, StepOut}
+use Rattle.standing.specs.Standing.{Desk, InSymbol, InHide, Stands, Under, LineHere, StepOut, formSize}
 use Rattle.account.specs.Points.{pointAct, morePoints, pointPut, hideStep, HideTable, HideLine}
 use Rattle.standing.proofs.Openers.{isBegin, no-begin}
+use Rattle.standing.proofs.LineSizes.{shut-close}
 use Rattle.standing.proofs.LaidTables.{laid-same}
 use Rattle.standing.proofs.MoreRecords.{more-points, ownRecord, hide-more}
 use Rattle.standing.proofs.Standings.{has-room, deskWith, stands-on, known}
@@ -163,13 +164,15 @@ module _ (c : Digits) (spool : List ℕ) (k : ℕ) (FileHere : Desk → Set → 
         }
 
     on-shut : did ≡ shut → t₁ ≡ d .table → Out (S.Go (atBlock (d .now) 5 0))
-    on-shut a q = (
-      symbol s closed,
-      ap (byAct _ _ _ _) a,
-      stands-on c spool k FileHere d at to st (symbol s closed) z (atBlock (d .now) 5 0) (d .marks) (d .inner) t₁ refl (z .lengths .marks) (z .lengths .inner)
-          (laid-same t₁ (soFar c st) (soFar c (symbol s closed)) (d .now .free) grown-closed (subst (λ (t : List ℤ). Laid t (soFar c st) (d .now .free)) (sym q) (z .laid))) (z .taken)
-          (omega (arith, z .counted, later)) (omega (arith, z .named, later)) (omega (arith, z .numbered, later)) (refl, in-closed),
-    )
+    on-shut a q =
+        let f : formSize (l .form) ≡ 1 = ap formSize (shut-close (knownOf s) rows (digits 0 0) (fullAt (length ps) rows) (l .form) a .0) in
+        let bytes : ℕ → Bool → ℕ = λ m b. cond (not b) m 0 in (
+          symbol s closed,
+          ap (byAct _ _ _ _) a,
+          stands-on c spool k FileHere d at to st (symbol s closed) z (atBlock (d .now) 5 0) (d .marks) (d .inner) t₁ refl (z .lengths .marks) (z .lengths .inner)
+              (laid-same t₁ (soFar c st) (soFar c (symbol s closed)) (d .now .free) grown-closed (subst (λ (t : List ℤ). Laid t (soFar c st) (d .now .free)) (sym q) (z .laid))) (z .taken)
+              (omega (arith, z .counted, later)) (omega (arith, z .named, x .bytes, f, ap (bytes 8) (inh .entered), ap (bytes 11) (inh .entered))) (omega (arith, z .numbered, later)) (refl, in-closed),
+        )
 
     by-act : (b : Bool) → hasRoom (d .now .free) (d .table) ≡ b → (f : Act) → did ≡ f → HideTable (d .now) w (d .table) t₁ (taking b f) → Out (hideStep (d .now) (taking b f))
     by-act true r stay a q = on-stay a q

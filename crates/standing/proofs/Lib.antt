@@ -24,6 +24,7 @@ pub mod FormPlaces
 pub mod DefinesStanding
 pub mod SymbolStanding
 pub mod LineSizes
+pub mod ValueSizes
 pub mod OpenedRows
 pub mod HeadRecords
 pub mod WordPlaces

@@ -10,15 +10,18 @@ use lib.Dec.{eqb, leb}
 use lib.IntN.{ℤ}
 use lib.ListN.{length, getD, set, replicate}
 use lib.Seq.{sets}
-use Rattle.rules.specs.Base.{all, split, isNone}
+use Rattle.rules.specs.declared.Digits.{Digits}
+use Rattle.rules.specs.Base.{all, split, isNone, isSome}
 use Rattle.rules.specs.RefusalNumbers.{Got, got, bad, unless, mapG, keep, orBad}
 use Rattle.rules.specs.Lines.{Rest, brace, equals, Shape, opener, noContent, content, opening, formless, shapeOf}
 use Rattle.rules.specs.Values.{Num, Value, empty, nums, chars, linked, Known, byteIn, lettersAndDigits, capital, Kind, values, text, word, volumeName, sheet, ratio, serials, nothing, opens, headed, either, range, readPart, readAll, readRatio, findSheet, sheets, agree, readKind, serialsOf}
-use Rattle.rules.specs.Rows.{Rule, Slots, blank, Held, partOf, marks, slotValue, fits, isContent, isEmpty, entry, begin, shut, innerOf, readShape}
-use Rattle.rules.specs.Figures.{placedTable, textTable, placedTables}
+use Rattle.rules.specs.Rows.{Rule, Slots, blank, Held, partOf, marks, slotValue, fits, isContent, isEmpty, entry, begin, shut, innerOf, readShape, complete}
+use Rattle.rules.specs.RangeClass.{digits, reaches}
+use Rattle.rules.specs.Figures.{placing, placedTable, textTable, placedTables}
 use Rattle.rules.specs.RecordTable.{numbers, given, columns, putNumbers, putState, ruleAt}
 use Rattle.rules.specs.Sets.{placed, figureSerial, ownSerial}
-use Rattle.rules.proofs.Chains.{clash, never, map-got, unless-got}
+use Rattle.rules.proofs.Chains.{clash, and-left, never, map-got, unless-got}
+use Rattle.rules.proofs.Rows.{reaches-none}
 use Rattle.tables.specs.Tables.{tableOf}
 use Rattle.entries.specs.Acts.{placeOf, putLine, valueOf}
 use Rattle.entries.specs.Entering.{On}
@@ -150,6 +153,17 @@ content-size (equals at (b ∷ c)) h = omega arith
 pub serial-rule : (ruleAt placedTable 5 .holds ≡ serials) × (ruleAt placedTable 5 .may ≡ false) × (length (ruleAt placedTable 5 .key) ≡ 6)
 unfolding placedTable
 serial-rule = (refl, refl, refl)
+
+-- `symbol=`: four commas and four decimals
+pub symbol-rule : (ruleAt placedTable 0 .holds ≡ placing) × (ruleAt placedTable 0 .may ≡ false) × (length (ruleAt placedTable 0 .key) ≡ 6)
+unfolding placedTable
+symbol-rule = (refl, refl, refl)
+
+-- a placed symbol that closes has it
+pub must-symbol : (g : Digits) (o : Slots) → length o ≡ 6 → complete g placedTable (marks o) ≡ true → isSome (getD o 0 none) ≡ true
+unfolding placedTable
+must-symbol g [] h e = absurd (omega (arith, h))
+must-symbol g (a ∷ o) h e = ap (λ (b : Bool). not b || isSome a) (sym (reaches-none g)) ∙ and-left (not (reaches g (digits 0 0)) || isSome a) _ e
 
 pub other-rule : (j : ℕ) → j < 6 → eqb j 5 ≡ false → isSerials (ruleAt placedTable j .holds) ≡ false
 unfolding placedTable

@@ -12,11 +12,11 @@ use lib.ListN.{length, getD, set, take, replicate, length-set, length-append, le
 use lib.Seq.{getD-set-same, getD-set-other, take-set-lt, take-suc-set, getD-take}
 use Rattle.rules.specs.declared.Digits.{Digits}
 use Rattle.rules.specs.declared.LineForm.{LineForm}
-use Rattle.rules.specs.Base.{isNone, isSome, hasNumber}
+use Rattle.rules.specs.Base.{isNone, hasNumber}
 use Rattle.rules.specs.RefusalNumbers.{got, unless}
 use Rattle.rules.specs.RangeClass.{digitsOf}
 use Rattle.rules.specs.Lines.{Rest, keyed, shapeOf, freeShapeOf}
-use Rattle.rules.specs.Values.{Known, Value, linked, Kind, serials, isFree}
+use Rattle.rules.specs.Values.{Known, Value, linked, notNegative, aboveZero, angle, decimal, symbolName, nothingMore, Kind, serials, isFree}
 use Rattle.rules.specs.Values.{serialsOf as numbersOf}
 use Rattle.rules.specs.Rows.{Rule, found, find, Slots, Held, partOf, enter, marks, slotValue, fits, isContent, shapeFor, innerOf, Act, stay, entry, begin, shut, refuse, actRow, actFound, act}
 use Rattle.rules.specs.Figures.{placedTable, placedTables}
@@ -34,15 +34,17 @@ use Rattle.account.specs.declared.Step.the-variants as S
 use Rattle.account.specs.Records.{partAt}
 use Rattle.account.specs.Account.{atBlock}
 use Rattle.account.specs.PlacedLines.{Lent, lent, serialCount, ownNumber, inUse, clashes, lentAfter, lentInside, placedStep, PlacedLent, RowLine}
-use Rattle.standing.specs.Standing.{Desk, layersOf, serialsWith, serialsOf, tallyOf, formSize, restSize, InPlaced, Stands, deskNow, Under, LineHere, StandsAt, StepOut}
+use Rattle.standing.specs.Standing.{Desk, layersOf, serialsWith, serialsOf, tallyOf, formSize, restSize, rowBytes, serialDue, InPlaced, Stands, deskNow, Under, LineHere, StandsAt, StepOut}
 use Rattle.account.proofs.RowsTaken.{Taken, entry-taken, begin-taken}
 use Rattle.standing.proofs.LineOrigins.{From, entry-from, begin-from}
+use Rattle.standing.proofs.LineSizes.{line-size}
+use Rattle.standing.proofs.ValueSizes.{values-size}
 use Rattle.standing.proofs.Marks.{marks-set, mark-free}
 use Rattle.standing.proofs.Standings.{known}
 use Rattle.standing.proofs.SlotLengths.{length-held}
 use Rattle.standing.proofs.HomeFacts.{home-stays}
 use Rattle.account.proofs.PlacedLaws.{own-is}
-use Rattle.standing.proofs.PlacedFacts.{isSerials, placed-rows, placed-rows-six, placed-places, serial-rule, other-rule, entry-plain, entry-linked, content-size, begin-shape, begin-row, begin-inner, blank-marks, shape-shut, none-before, figure-serial}
+use Rattle.standing.proofs.PlacedFacts.{isSerials, placed-rows, placed-rows-six, placed-places, serial-rule, symbol-rule, other-rule, entry-plain, entry-linked, content-size, begin-shape, begin-row, begin-inner, blank-marks, shape-shut, none-before, figure-serial}
 use Rattle.standing.proofs.PlacedTables.{lentOf, lentDesk, begun, shaped-enter, part-same, part-other, record-is, record-laid, record-entered, range-is, placing-on}
 
 -- a number is the only one of its kind, or one of those in use
@@ -85,6 +87,10 @@ module _ (c : Digits) (spool : List ℕ) (k : ℕ) (FileHere : Desk → Set → 
   marked-more i v h =
       take-set-lt 6 (d .marks) i true h ∙ ap (λ (b : List Bool). set b i true) (inp .marked) ∙ sym (marks-set (partOf o 0) i v) ∙ ap marks (sym (part-same o 0 i v (inp .shaped .0)))
 
+  -- the other rows stay
+  other-slot : (i q : ℕ) (v : Value) → (q ≡ i → ⊥) → getD (partOf (enter o 0 i v) 0) q none ≡ getD (partOf o 0) q none
+  other-slot i q v h = ap (λ (y : Slots). getD y q none) (part-same o 0 i v (inp .shaped .0)) ∙ getD-set-other (partOf o 0) i q (some v) none h
+
   text-kept : (i : ℕ) (v : Value) → partOf (enter o 0 i v) 1 ≡ partOf o 1
   text-kept i v = part-other o 0 1 i v (λ y. omega (arith, y))
 
@@ -105,7 +111,7 @@ module _ (c : Digits) (spool : List ℕ) (k : ℕ) (FileHere : Desk → Set → 
   pub same-stands : (x₁ : Lent) (rec₁ : List ℤ) → x₁ ≡ lentOf d → rec₁ ≡ rec₀ → StandsAt c spool k FileHere (deskNow (lentDesk d x₁ rec₁) (d .now)) to st
   same-stands x₁ rec₁ y q =
       subst (λ (t : Lent). StandsAt c spool k FileHere (deskNow (lentDesk d t rec₁) (d .now)) to st) (sym y)
-      (placing-on c spool k FileHere d at to s m fs n o 0 z (d .now) (d .marks) (d .inner) rec₁ o 0 later refl (z .lengths .marks) (z .lengths .inner)
+      (placing-on c spool k FileHere d at to s m fs n o 0 z (d .now) (d .marks) (d .inner) rec₁ o 0 later (omega (arith, later)) refl (z .lengths .marks) (z .lengths .inner)
       (q ∙ record-is c spool k FileHere d at to s m fs n o 0 z) refl (z .block .0) inp)
 
   -- ── a line of the row `serial` ──
@@ -142,8 +148,15 @@ module _ (c : Digits) (spool : List ℕ) (k : ℕ) (FileHere : Desk → Set → 
     grown = ap length one-more ∙ length-append (serialsWith s fs) (q ∷ []) ∙ ap (λ (y : List ℕ). length y + 1) (sym none-yet)
 
     module _ (size : 8 ≤ formSize (l .form)) (rec₁ : List ℤ) (put : rec₁ ≡ putHeld placedTables o′ begun₀) where
-      credit : 25 * length (serialsOf st) + 15 ≤ at + 3
-      credit = subst (λ (y : Option Value). 25 * length (serialsOf st) + cond (isSome y) 0 15 ≤ at + 3) free (z .numbered)
+      -- what `symbol=` has taken
+      abbrev symbol-bytes : Held → ℕ
+      symbol-bytes h = rowBytes 17 (getD (partOf h 0) 0 none)
+
+      same-symbol : symbol-bytes o′ ≡ symbol-bytes o
+      same-symbol = ap (rowBytes 17) (other-slot 5 0 v (λ y. omega (arith, y)))
+
+      credit : 42 * length (serialsOf st) + (32 + symbol-bytes o) ≤ at + 20
+      credit = omega (arith, z .numbered, ap serialDue free)
 
       few : length (serialsOf st) < length (d .serials)
       few = omega (arith, credit, x .bytes, x .most, size, z .lengths .serials)
@@ -178,9 +191,7 @@ module _ (c : Digits) (spool : List ℕ) (k : ℕ) (FileHere : Desk → Set → 
         used-all = z .used-all;
         counted = omega (arith, z .counted, later);
         named = omega (arith, z .named, later);
-        numbered =
-            subst (λ (y : Option Value). 25 * length (serialsOf st′) + cond (isSome y) 0 15 ≤ to + 3) (sym slot-now)
-            (omega (arith, credit, grown, x .bytes, size));
+        numbered = omega (arith, credit, grown, x .bytes, size, same-symbol, ap serialDue slot-now);
         block = (z .block .0, in-entered 5 v (omega arith));
       }
 
@@ -229,6 +240,24 @@ module _ (c : Digits) (spool : List ℕ) (k : ℕ) (FileHere : Desk → Set → 
         abbrev st″ : State
         st″ = placing s m fs n (enter o 0 i v) 0
 
+        -- `symbol=` is paid by its line
+        paid : at + rowBytes 17 (getD (partOf (enter o 0 i v) 0) 0 none) ≤ to + rowBytes 17 (getD (partOf o 0) 0 none)
+        paid = go (eqb i 0) refl
+          where
+            most : (y : Option Value) → rowBytes 17 y ≤ 17
+            most none = omega arith
+            most (some y) = omega arith
+
+            go : (b : Bool) → eqb i 0 ≡ b → at + rowBytes 17 (getD (partOf (enter o 0 i v) 0) 0 none) ≤ to + rowBytes 17 (getD (partOf o 0) 0 none)
+            go true b =
+                let symbol-row : ruleAt placedTable 0 ≡ from .rule = ap (ruleAt placedTable) (sym (eqb-true i 0 b)) ∙ is-rule in
+                let behind : 9 ≤ restSize (from .rest) =
+                values-size (knownOf s) placedTable (rangeOf s) full (l .form) symbolName (decimal notNegative ∷ decimal notNegative ∷ decimal angle ∷ decimal aboveZero ∷ []) nothingMore i v from
+                (ap (λ (r : Rule). r .holds) (sym symbol-row) ∙ symbol-rule .0) (ap (λ (r : Rule). r .may) (sym symbol-row) ∙ symbol-rule .1) in
+                omega
+                (arith, x .bytes, line-size (knownOf s) placedTable (rangeOf s) full (l .form) i (entry i v) from, ap (λ (r : Rule). length (r .key)) symbol-row, symbol-rule .2, behind, most (getD (partOf (enter o 0 i v) 0) 0 none))
+            go false b = omega (arith, later, ap (rowBytes 17) (other-slot i 0 v (λ y. eqb-false i 0 b (sym y))))
+
         -- of another row than `serial`
         on-other : eqb i 5 ≡ false → x₁ ≡ lentAfter (lentOf d) i (ownNumber rec₁) → Out (S.Go (d .now))
         on-other b y =
@@ -239,8 +268,8 @@ module _ (c : Digits) (spool : List ℕ) (k : ℕ) (FileHere : Desk → Set → 
               st″,
               h ∙ ap (byAct _ _ _ _) a ∙ ap (λ (t : List ℕ). unless (noneOf (ownSerial t) (serialsWith s fs)) 15 (got st″)) plain,
               subst (λ (t : Lent). StandsAt c spool k FileHere (deskNow (lentDesk d t rec₁) (d .now)) to st″) (sym lent-is)
-                  (placing-on c spool k FileHere d at to s m fs n o 0 z (d .now) (set (d .marks) i true) (d .inner) rec₁ (enter o 0 i v) 0 later refl (length-set (d .marks) i true ∙ z .lengths .marks) (z .lengths .inner) put-entry
-                  (sym (ap (λ (t : Slots). getD t 5 none) (part-same o 0 i v (inp .shaped .0)) ∙ getD-set-other (partOf o 0) i 5 (some v) none (λ t. eqb-false i 5 b (sym t))))
+                  (placing-on c spool k FileHere d at to s m fs n o 0 z (d .now) (set (d .marks) i true) (d .inner) rec₁ (enter o 0 i v) 0 later paid refl (length-set (d .marks) i true ∙ z .lengths .marks) (z .lengths .inner) put-entry
+                  (sym (other-slot i 5 v (λ t. eqb-false i 5 b (sym t))))
                   (z .block .0) (in-entered i v below)),
             )
 
@@ -335,10 +364,10 @@ module _ (c : Digits) (spool : List ℕ) (k : ℕ) (FileHere : Desk → Set → 
             placing s m fs n o′ 1,
             h ∙ ap (byAct _ _ _ _) a ∙ ap (λ (t : ℕ). got (placing s m fs n o′ t)) part-so,
             subst (λ (t : Lent). StandsAt c spool k FileHere (deskNow (lentDesk d t rec₁) (atBlock (d .now) 11 1)) to (placing s m fs n o′ 1)) (sym y)
-                (placing-on c spool k FileHere d at to s m fs n o 0 z (atBlock (d .now) 11 1) (set (d .marks) j true) (replicate (length (d .inner)) false) rec₁ o′ 1 later refl
+                (placing-on c spool k FileHere d at to s m fs n o 0 z (atBlock (d .now) 11 1) (set (d .marks) j true) (replicate (length (d .inner)) false) rec₁ o′ 1 later (omega (arith, later, ap (rowBytes 17) (other-slot j 0 v (λ t. omega (arith, t, one))))) refl
                 (length-set (d .marks) j true ∙ z .lengths .marks) (length-replicate (length (d .inner)) false ∙ z .lengths .inner)
                 (record-entered c spool k FileHere d at to s m fs n o 0 z 0 j v rec₁ (omega arith) taken placed-places (q ∙ ap (λ (t : List Rule). putLine (ruleAt t j) 0 v rec₀) placed-rows))
-                (sym (ap (λ (t : Slots). getD t 5 none) own ∙ getD-set-other (partOf o 0) j 5 (some v) none (λ t. omega (arith, t, one)))) refl
+                (sym (other-slot j 5 v (λ t. omega (arith, t, one)))) refl
                 (record {
                   home = home-stays spool k (d .now) (atBlock (d .now) 11 1) (d .marks) (d .inner) (d .inner) s (inLayer m) refl refl refl (inp .home);
                   figures = inp .figures;

@@ -2,6 +2,7 @@
 use Prim.Native.Nat.{ℕ, zero, suc, _+_, _-_}
 use mathlib.Core.Bool.{Bool, true, false, cond}
 use mathlib.Core.List.{List, [], _∷_, _++_, map, append-assoc}
+use mathlib.Core.Option.{none}
 use mathlib.Core.Path.{_≡_, refl, sym, _∙_, ap, subst}
 use native.Mathlib.Omega.{arith}
 use lib.Dec.{eqb}
@@ -29,14 +30,14 @@ use Rattle.account.specs.Account.{figureDone}
 use Rattle.account.specs.SkippedLines.{skippedAs}
 use Rattle.standing.specs.SoFar.{volumeOf, figuresSoFar, soFar}
 use Rattle.account.specs.PlacedLines.{Lent, skipStep, unknownStep, FoundLine, KeyLine, isWhole, OwnLine, PlacedLine}
-use Rattle.standing.specs.Standing.{Desk, formSize, usedOf, InPlaced, Stands, deskNow, Under, LineHere, StandsAt, StepOut}
+use Rattle.standing.specs.Standing.{Desk, formSize, usedOf, rowBytes, InPlaced, Stands, deskNow, Under, LineHere, StandsAt, StepOut}
 use Rattle.standing.proofs.LaidTables.{laid-same}
 use Rattle.standing.proofs.MoreRecords.{more-figures}
 use Rattle.standing.proofs.Standings.{sight, stands-on}
 use Rattle.standing.proofs.HomeFacts.{home-stays}
 use Rattle.standing.proofs.FigureSights.{serials-more}
 use Rattle.standing.proofs.SlotLengths.{length-held}
-use Rattle.standing.proofs.PlacedFacts.{placed-rows}
+use Rattle.standing.proofs.PlacedFacts.{placed-rows, placed-rows-six, must-symbol}
 use Rattle.standing.proofs.PlacedTables.{lentOf, lentDesk, begun, record-is, record-laid, range-is}
 use Rattle.standing.proofs.PlacedTextStanding.{text-line}
 use Rattle.standing.proofs.PlacedKeyStanding.{same-stands, row-line}
@@ -148,13 +149,15 @@ module _ (c : Digits) (spool : List ℕ) (k : ℕ) (FileHere : Desk → Set → 
           let long : length made ≡ 32 = length-unread c (rangeOf s) placedTable (putHeld placedTables o begun₀) ∙ length-held placedTables o begun₀ in
           let grown : figuresSoFar c s (inLayer m) fs ++ made ∷ [] ≡ soFar c st′ = sym (more-figures c s (inLayer m) fs (placed n o)) in
           let t₁ : List ℤ = withPart (d .now .free - 32) rec₁ (d .table) in
-          let one : formSize (l .form) ≡ 1 = ap formSize shut-so in (
+          let one : formSize (l .form) ≡ 1 = ap formSize shut-so in
+          let symbol-read : rowBytes 17 (getD (partOf o 0) 0 none) ≡ 17 =
+          ap (λ (i : Bool). cond i 17 0) (must-symbol (both (e .class) (rangeOf s)) (partOf o 0) (inp .shaped .1 ∙ placed-rows-six) b) in (
             st′,
             stepped ∙ ap (λ (i : Bool). onPlaced s m fs n o 0 (cond i shut (refuse 8))) b,
             subst (λ (i : Lent). StandsAt c spool k FileHere (deskNow (lentDesk d i rec₁) (figureDone (d .now))) to st′) (sym y)
                 (stands-on c spool k FileHere d at to st st′ z (figureDone (d .now)) (d .marks) (d .inner) t₁ (closed-sight s m fs n o) (z .lengths .marks) (z .lengths .inner)
                 (laid-same t₁ (figuresSoFar c s (inLayer m) fs ++ made ∷ []) (soFar c st′) (d .now .free) grown (record-laid c spool k FileHere d at to s m fs n o 0 z rec₁ made put long))
-                (z .taken) (omega (arith, z .counted, x .bytes, one, length-append fs (placed n o ∷ []))) (omega (arith, z .named, x .bytes)) (omega (arith, z .numbered, x .bytes, one))
+                (z .taken) (omega (arith, z .counted, x .bytes, one, length-append fs (placed n o ∷ []))) (omega (arith, z .named, x .bytes)) (omega (arith, z .numbered, x .bytes, one, symbol-read))
                 (refl, home-stays spool k (d .now) (figureDone (d .now)) (d .marks) (d .inner) (d .inner) s (inLayer m) refl refl refl (inp .home), ap (λ (i : ℕ). i + 1) (inp .figures) ∙ sym (length-append fs (placed n o ∷ [])))),
           )
 

@@ -1,6 +1,6 @@
 -- A placed symbol's record in the table, and what a line there that reads no serial number keeps.
 use Prim.Native.Nat.{ℕ, zero, suc, _+_, _*_, _-_, _≤_, _<_}
-use mathlib.Core.Bool.{Bool, true, cond}
+use mathlib.Core.Bool.{Bool, true}
 use mathlib.Core.List.{List, [], _∷_, _++_}
 use mathlib.Core.Option.{Option, none, some}
 use mathlib.Core.Path.{_≡_, refl, sym, _∙_, ap, subst}
@@ -9,7 +9,7 @@ use lib.IntN.{ℤ}
 use lib.ListN.{length, getD, set, length-append, length-set}
 use lib.Seq.{getD-set-same, getD-set-other}
 use Rattle.rules.specs.declared.Digits.{Digits}
-use Rattle.rules.specs.Base.{all, flat, isSome}
+use Rattle.rules.specs.Base.{all, flat}
 use Rattle.rules.specs.RangeClass.{digitsOf}
 use Rattle.rules.specs.Values.{Value}
 use Rattle.rules.specs.Values.{serialsOf as numbersOf}
@@ -25,7 +25,7 @@ use Rattle.standing.specs.Laid.{Laid}
 use Rattle.account.specs.Records.{partAt, withPart}
 use Rattle.standing.specs.SoFar.{volumeOf, figuresSoFar, soFar}
 use Rattle.account.specs.PlacedLines.{Lent, lent, serialCount, LentReady}
-use Rattle.standing.specs.Standing.{Desk, serialsWith, serialsOf, InPlaced, Stands}
+use Rattle.standing.specs.Standing.{Desk, serialsWith, serialsOf, rowBytes, serialDue, placedBytes, InPlaced, Stands}
 use Rattle.standing.proofs.Puts.{all-at, held-set}
 use Rattle.standing.proofs.Marks.{mark-free}
 use Rattle.account.proofs.RowsTaken.{Taken}
@@ -112,18 +112,18 @@ module _ (c : Digits) (spool : List ℕ) (k : ℕ) (FileHere : Desk → Set → 
   pub range-is : digitsOf (getD (d .tally) 1 0) ≡ rangeOf s
   range-is = ap (λ (t : List ℕ). digitsOf (getD t 1 0)) (z .tally)
 
-  -- a line that reads no serial number
-  pub placing-on : (now : Now) (ms is : List Bool) (u : List ℤ) (o′ : Held) (p′ : ℕ) → at ≤ to → now .free ≡ d .now .free → length ms ≡ 28 → length is ≡ 2
+  -- a line that reads no serial number; `symbol=` has its bytes
+  pub placing-on : (now : Now) (ms is : List Bool) (u : List ℤ) (o′ : Held) (p′ : ℕ) → at ≤ to
+      → at + rowBytes 17 (getD (partOf o′ 0) 0 none) ≤ to + rowBytes 17 (getD (partOf o 0) 0 none) → now .free ≡ d .now .free → length ms ≡ 28 → length is ≡ 2
       → u ≡ putHeld placedTables o′ begun → getD (partOf o 0) 5 none ≡ getD (partOf o′ 0) 5 none → now .block ≡ 11 → InPlaced spool k now ms is s m fs o′ p′
       → Stands c spool k (deskWith d now ms is (withPart place u (d .table))) (FileHere (deskWith d now ms is (withPart place u (d .table)))) to (placing s m fs n o′ p′)
-  placing-on now ms is u o′ p′ later f lm li e same b w =
+  placing-on now ms is u o′ p′ later paid f lm li e same b w =
       let st : State = placing s m fs n o p in
       let st′ : State = placing s m fs n o′ p′ in
       let seen : sight st ≡ sight st′ =
       ap (λ (y : List ℕ). record { set = sight st .set; layers = s .drawing .layers; serials = serialsWith s fs ++ y; used = sight st .used; inside = true; counts = true })
       (figure-serial n o ∙ ap (λ (y : Option Value). ownSerial (numbersOf (slotValue y))) same ∙ sym (figure-serial n o′)) in
-      let few : 25 * length (serialsOf st) + cond (isSome (getD (partOf o′ 0) 5 none)) 0 15 ≤ to + 3 =
-      subst (λ (y : Option Value). 25 * length (serialsOf st) + cond (isSome y) 0 15 ≤ to + 3) same (omega (arith, z .numbered, later)) in
+      let few : 42 * length (serialsOf st) + placedBytes o′ ≤ to + 20 = omega (arith, z .numbered, paid, ap serialDue same) in
       stands-on c spool k FileHere d at to st st′ z now ms is (withPart place u (d .table)) seen lm li
       (subst (Laid (withPart place u (d .table)) (soFar c st′)) (sym f) (record-laid u (putHeld placedTables o′ begun) e (length-held placedTables o′ begun)))
       (z .taken ∙ sym f) (omega (arith, z .counted, later)) (omega (arith, z .named, later)) few (b, w)

@@ -31,7 +31,7 @@ use Rattle.account.specs.declared.Step.the-variants as S
 use Rattle.account.specs.Records.{partAt, withPart}
 use Rattle.account.specs.Account.{atBlock}
 use Rattle.account.specs.PlacedLines.{placedTextStep, PlacedTextMarks, PlacedTextLine}
-use Rattle.standing.specs.Standing.{Desk, serialsWith, InPlaced, Stands, Under, LineHere, StepOut}
+use Rattle.standing.specs.Standing.{Desk, serialsWith, rowBytes, InPlaced, Stands, Under, LineHere, StepOut}
 use Rattle.standing.proofs.Openers.{isBegin, no-begin}
 use Rattle.account.proofs.RowsTaken.{Taken, entry-taken}
 use Rattle.standing.proofs.LineOrigins.{From, entry-from}
@@ -86,7 +86,7 @@ module _ (c : Digits) (spool : List ℕ) (k : ℕ) (FileHere : Desk → Set → 
     on-stay a i q = (
       st,
       ap (byAct _ _ _ _) a,
-      placing-on c spool k FileHere d at to s m fs n o 1 z (d .now) (d .marks) is rec₁ o 1 later refl (z .lengths .marks) (long i) (same-record q) refl (z .block .0)
+      placing-on c spool k FileHere d at to s m fs n o 1 z (d .now) (d .marks) is rec₁ o 1 later (omega (arith, later)) refl (z .lengths .marks) (long i) (same-record q) refl (z .block .0)
           (record {
             home = inp .home;
             figures = inp .figures;
@@ -112,7 +112,7 @@ module _ (c : Digits) (spool : List ℕ) (k : ℕ) (FileHere : Desk → Set → 
         let first : Slots → Option Value = λ y. getD y 1 none in (
           placing s m fs n o′ 1,
           ap (byAct _ _ _ _) a ∙ ap (λ (y : List ℕ). unless (noneOf (ownSerial y) (serialsWith s fs)) 15 (got (placing s m fs n o′ 1))) plain,
-          placing-on c spool k FileHere d at to s m fs n o 1 z (d .now) (d .marks) is rec₁ o′ 1 later refl (z .lengths .marks) (ap length i ∙ length-set (d .inner) j true ∙ z .lengths .inner)
+          placing-on c spool k FileHere d at to s m fs n o 1 z (d .now) (d .marks) is rec₁ o′ 1 later (omega (arith, later, ap (λ (y : Slots). rowBytes 17 (getD y 0 none)) own)) refl (z .lengths .marks) (ap length i ∙ length-set (d .inner) j true ∙ z .lengths .inner)
               (record-entered c spool k FileHere d at to s m fs n o 1 z 1 j v rec₁ (omega arith) taken text-places (q ∙ ap (λ (y : List Rule). putLine (ruleAt y j) 0 v rec₀) text-rows))
               (ap (λ (y : Slots). getD y 5 none) (sym own)) (z .block .0)
               (record {
@@ -136,7 +136,7 @@ module _ (c : Digits) (spool : List ℕ) (k : ℕ) (FileHere : Desk → Set → 
     on-shut a i q = (
       placing s m fs n o 0,
       ap (byAct _ _ _ _) a,
-      placing-on c spool k FileHere d at to s m fs n o 1 z (atBlock (d .now) 11 0) (d .marks) is rec₁ o 0 later refl (z .lengths .marks) (long i) (same-record q) refl refl
+      placing-on c spool k FileHere d at to s m fs n o 1 z (atBlock (d .now) 11 0) (d .marks) is rec₁ o 0 later (omega (arith, later)) refl (z .lengths .marks) (long i) (same-record q) refl refl
           (record {
             home = home-stays spool k (d .now) (atBlock (d .now) 11 0) (d .marks) (d .inner) is s (inLayer m) refl refl refl (inp .home);
             figures = inp .figures;

@@ -79,8 +79,8 @@ module _ (c : Digits) (spool : List ℕ) (k : ℕ) (FileHere : Desk → Set → 
   pub stands-on : (n : Now) (marks inner : List Bool) (t : List ℤ) → sight st ≡ sight st′ → length marks ≡ 28 → length inner ≡ 2
       → Laid t (soFar c st′) (n .free) → 32 * setOf st′ .taken ≡ n .free
       → total elementsOf (setOf st .volumes) + elementsHere st + openFigures st′ ≤ to
-      → 23 * length (setOf st .symbols) + nameBytes st′ ≤ to
-      → 25 * length (serialsOf st) + serialBytes st′ ≤ to + 3
+      → 48 * length (setOf st .symbols) + nameBytes st′ ≤ to
+      → 42 * length (serialsOf st) + serialBytes st′ ≤ to + 20
       → Inside c spool k (deskWith d n marks inner t) (FileHere (deskWith d n marks inner t)) st′
       → Stands c spool k (deskWith d n marks inner t) (FileHere (deskWith d n marks inner t)) to st′
   stands-on n marks inner t v lm li laid taken counted named numbered block = record {
@@ -106,8 +106,8 @@ module _ (c : Digits) (spool : List ℕ) (k : ℕ) (FileHere : Desk → Set → 
     used = subst (λ (x : Sight). x .inside ≡ true → (j : ℕ) → j < 64 → getD (d .used) j false ≡ hasNumber j (x .used)) v (z .used);
     used-all = subst (λ (x : Sight). (j : ℕ) → j < 64 → getD (d .usedAll) j false ≡ hasNumber j (flat (map usedIn (x .set .volumes)) ++ x .used)) v (z .used-all);
     counted = subst (λ (x : Sight). total elementsOf (x .set .volumes) + cond (x .counts) (elementsOf (x .set .now)) 0 + openFigures st′ ≤ to) v counted;
-    named = subst (λ (x : Sight). 23 * length (x .set .symbols) + nameBytes st′ ≤ to) v named;
-    numbered = subst (λ (x : Sight). 25 * length (x .serials) + serialBytes st′ ≤ to + 3) v numbered;
+    named = subst (λ (x : Sight). 48 * length (x .set .symbols) + nameBytes st′ ≤ to) v named;
+    numbered = subst (λ (x : Sight). 42 * length (x .serials) + serialBytes st′ ≤ to + 20) v numbered;
     block = block;
   }
 

@@ -144,12 +144,19 @@ module _ (c : Digits) (spool : List ℕ) (k : ℕ) (form : LineForm) (w : Where)
       go : (st : State) → OpenBlocks.InASymbol st → Standing c spool k d at st → isNamed rec ≡ true
       go _ (OpenBlocks.here s g) z = symbol-keeps c spool spool-short k (InFile spool k) d at (y .to) (y .env) (y .line) w form (y .under) (y .here) s g z (d .marks) rec (atBlock (d .now) 4 0) line refl .below
 
+  -- the symbol that is open has taken bytes too
+  symbol-room : d .now .block ≡ 5 → getD (d .tally) 9 0 < length (d .symbols)
+  symbol-room b = go st (OpenBlocks.in-symbol c spool k d (InFile spool k d) st (z .block) b) z
+    where
+      go : (st : State) → OpenBlocks.InASymbol st → Standing c spool k d at st → getD (d .tally) 9 0 < length (d .symbols)
+      go _ (OpenBlocks.here s g) z = omega (arith, ap (λ (t : List ℕ). getD t 9 0) (z .tally), z .named, early, z .lengths .symbols)
+
   symbol-ready : d .now .block ≡ 5 → SymbolReady spool form (d .now) (d .tally) (d .symbols) (d .layers) (d .marks) (d .table)
   symbol-ready b = record {
     own = places.symbol-own c spool k d at st z b;
     marks = z .lengths .marks;
     content = content-placed;
-    room = omega (arith, names-are, z .named, early, z .lengths .symbols);
+    room = symbol-room b;
     name = symbol-named b;
   }
 

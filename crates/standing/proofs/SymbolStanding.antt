@@ -24,7 +24,7 @@ use Rattle.rules.specs.Figures.{figureTable}
 use Rattle.rules.specs.Sets.{Symbol, Set, knownOf, defineRange, symbolNameOf, symbolOwn, symbolOrder, withSymbol}
 use Rattle.rules.specs.Machine.{Line, Env, inElement, State, defines, symbol, hide, figures, byAct, newName, openSymbol}
 use Rattle.rules.specs.RecordTable.{numbersOf, firstOr0, others, firstSlot, otherSlots, ruleAt, putSlots, start, pointRecords, figureRecords, innerRecords}
-use Rattle.rules.proofs.Chains.{clash, and-left}
+use Rattle.rules.proofs.Chains.{clash, and-left, and-right}
 use Rattle.rules.proofs.Rows.{row-at, reaches-none}
 use Rattle.tables.specs.Tables.{tableOf}
 use Rattle.entries.specs.Names.{nameIn, namesIn, knownIn}
@@ -38,12 +38,13 @@ use Rattle.standing.specs.Laid.{Laid}
 use Rattle.account.specs.Records.{partAt, withPart}
 use Rattle.account.specs.Account.{atBlock}
 use Rattle.standing.specs.SoFar.{frontRecords, symbolSoFar, soFar}
-use Rattle.standing.specs.Standing.{Desk, InSymbol, CharsHere, isText, Stands, Under, LineHere, StepOut, symbolBytes, formSize, tallyOf, closedSerials}
+use Rattle.standing.specs.Standing.{Desk, InSymbol, CharsHere, isText, Stands, Under, LineHere, StepOut, rowBytes, symbolWith, symbolBytes, hideBytes, formSize, tallyOf, closedSerials}
 use Rattle.account.specs.SymbolLines.{asPlace, isPlace, nameOf, isNamed, isNew, symbolEntry, symbolPart, symbolPut, symbolStep, SymbolMarks, SymbolLine, nameNumber}
 use Rattle.standing.proofs.Openers.{plainKind}
 use Rattle.standing.proofs.OpenedRows.{begin-row}
+use Rattle.standing.proofs.RowOpeners.{isOpens, entry-opens}
 use Rattle.standing.proofs.LineOrigins.{From, entry-from, begin-from}
-use Rattle.standing.proofs.LineSizes.{line-size, shut-close}
+use Rattle.standing.proofs.LineSizes.{line-size, begin-size, shut-close}
 use Rattle.standing.proofs.WordPlaces.{name-back, WordRead, word-read}
 use Rattle.standing.proofs.OwnLines.{housed, own-line, was-none}
 use Rattle.standing.proofs.Marks.{marks-set, mark-free}
@@ -74,6 +75,23 @@ symbol-housed = refl
 name-row : (ruleAt symbolTable 0 .holds ≡ word 32 lettersAndDigits) × (ruleAt symbolTable 0 .may ≡ false) × (length (ruleAt symbolTable 0 .key) ≡ 4)
 unfolding symbolTable
 name-row = (refl, refl, refl)
+
+element-key : length (ruleAt symbolTable 1 .key) ≡ 7
+unfolding symbolTable
+element-key = refl
+
+hide-key : length (ruleAt symbolTable 2 .key) ≡ 4
+unfolding symbolTable
+hide-key = refl
+
+-- beside the name's row only the fourth, `wall`, opens nothing
+wall-row : (j : ℕ) → j < 4 → (0 ≡ j → ⊥) → isOpens (ruleAt symbolTable j .holds) ≡ false → j ≡ 3
+unfolding symbolTable
+wall-row zero h o e = absurd (o refl)
+wall-row (suc zero) h o e = clash refl e
+wall-row (suc (suc zero)) h o e = clash refl e
+wall-row (suc (suc (suc zero))) h o e = refl
+wall-row (suc (suc (suc (suc j)))) h o e = absurd (omega (arith, h))
 
 -- `element` is the second row and opens block 1, `hide` the third and opens block 2
 data Opened (i j : ℕ) : Type 0 where
@@ -135,11 +153,21 @@ named-below : (rec : List ℤ) (at len : ℕ) → (getD rec 5 (pos 0) ≡ pos at
 named-below rec at len h a b =
     ap (λ (y : ℤ). isPlace y && isPlace (getD rec 6 (pos 0))) (h .0) ∙ ap (λ (y : ℤ). ltb at 65536 && isPlace y) (h .1) ∙ ap (λ (y : Bool). y && ltb len 65536) (lt-ltb at 65536 a) ∙ lt-ltb len 65536 b
 
--- a symbol that closes has a name
-must-name : (g : Digits) (o : Slots) → length o ≡ 4 → complete g symbolTable (marks o) ≡ true → isSome (getD o 0 none) ≡ true
+-- a row that is required at every range is there
+must-row : (g : Digits) (a : Option Value) → (not (reaches g (digits 0 0)) || isSome a) ≡ true → isSome a ≡ true
+must-row g a e = ap (λ (b : Bool). not b || isSome a) (sym (reaches-none g)) ∙ e
+
+-- a symbol that closes has a name, `element` and `hide`
+must-hold : (g : Digits) (o : Slots) → length o ≡ 4 → complete g symbolTable (marks o) ≡ true
+    → (isSome (getD o 0 none) ≡ true) × (isSome (getD o 1 none) ≡ true) × (isSome (getD o 2 none) ≡ true)
 unfolding symbolTable
-must-name g [] h e = absurd (omega (arith, h))
-must-name g (a ∷ o) h e = ap (λ (b : Bool). not b || isSome a) (sym (reaches-none g)) ∙ and-left (not (reaches g (digits 0 0)) || isSome a) _ e
+must-hold g [] h e = absurd (omega (arith, h))
+must-hold g (a ∷ []) h e = absurd (omega (arith, h))
+must-hold g (a ∷ b ∷ []) h e = absurd (omega (arith, h))
+must-hold g (a ∷ b ∷ i ∷ o) h e =
+    let more = and-right (not (reaches g (digits 0 0)) || isSome a) _ e in
+    let last = and-right (not (reaches g (digits 0 0)) || isSome b) _ more in
+    (must-row g a (and-left _ _ e), must-row g b (and-left _ _ more), must-row g i (and-left _ _ last))
 
 text-is : (o : Option Value) → isSome o ≡ true → isText o ≡ true → (at : ℕ) × (c : List ℕ) × (o ≡ some (chars at c))
 text-is none h t = clash h refl
@@ -299,10 +327,22 @@ module _ (c : Digits) (spool : List ℕ) (short : length spool ≤ 61440) (k : �
       slots′ : length own′ ≡ 4
       slots′ = length-set (y .own) j (some v) ∙ iny .slots
 
+      -- the other rows stay
+      stays : (i : ℕ) → (i ≡ j → ⊥) → getD own′ i none ≡ getD (y .own) i none
+      stays i other = getD-set-other (y .own) j i (some v) none other
+
+      -- what the row takes, before and after
+      unread : (b i : ℕ) → j ≡ i → rowBytes b (getD (y .own) i none) ≡ 0
+      unread b i p = ap (rowBytes b) (ap (λ (m : ℕ). getD (y .own) m none) (sym p) ∙ was-free)
+
+      read : (b i : ℕ) → j ≡ i → rowBytes b (getD own′ i none) ≡ b
+      read b i p =
+          ap (rowBytes b) (ap (λ (m : ℕ). getD (set (y .own) m (some v)) i none) p ∙ getD-set-same (y .own) i (some v) none (omega (arith, row, p, iny .slots)))
+
       -- another row than the name's
       module _ (other : 0 ≡ j → ⊥) where
         same-slot : getD own′ 0 none ≡ getD (y .own) 0 none
-        same-slot = getD-set-other (y .own) j 0 (some v) none other
+        same-slot = stays 0 other
 
         same-name : symbolNameOf y′ ≡ symbolNameOf y
         same-name = name-slot y′ ∙ ap (λ (o : Option Value). charsOf (slotValue o)) same-slot ∙ sym (name-slot y)
@@ -310,15 +350,12 @@ module _ (c : Digits) (spool : List ℕ) (short : length spool ≤ 61440) (k : �
         still-new : newName s y′ ≡ true
         still-new = ap (λ (b : List ℕ). isNil b || not (among b (knownOf s .symbols))) same-name ∙ iny .fresh
 
-        same-bytes : symbolBytes y′ ≡ symbolBytes y
-        same-bytes = ap (λ (o : Option Value). cond (isSome o) 20 12) same-slot
-
       -- ── a line that opens nothing ──
       module _ (a : did ≡ entry j v) where
         abbrev st′ : State
         st′ = symbol s y′
 
-        entered : newName s y′ ≡ true → CharsHere spool (getD own′ 0 none) → isText (getD own′ 0 none) ≡ true → 23 * n + symbolBytes y′ ≤ to → Out (S.Go (d .now))
+        entered : newName s y′ ≡ true → CharsHere spool (getD own′ 0 none) → isText (getD own′ 0 none) ≡ true → 48 * n + symbolBytes y′ ≤ to → Out (S.Go (d .now))
         entered fresh name text paid = (
           st′,
           ap (byAct _ _ _ _) a ∙ ap (λ (b : Bool). unless b 15 (got st′)) fresh,
@@ -340,15 +377,19 @@ module _ (c : Digits) (spool : List ℕ) (short : length spool ≤ 61440) (k : �
               ),
         )
 
+        from : From (knownOf s) symbolTable (digitsOf (defineRange s)) full (l .form) j (entry j v)
+        from = entry-from (knownOf s) symbolTable (digitsOf (defineRange s)) full (l .form) j v a
+
+        -- `wall`
         on-other : (0 ≡ j → ⊥) → Out (S.Go (d .now))
         on-other o =
-            entered (still-new o) (subst (CharsHere spool) (sym (same-slot o)) (iny .name)) (ap isText (same-slot o) ∙ iny .is-text) (omega (arith, z .named, later, same-bytes o))
+            let fourth : j ≡ 3 =
+            wall-row j row o (ap (λ (r : Rule). isOpens (r .holds)) (row-at (from .row) _) ∙ entry-opens (knownOf s) symbolTable (digitsOf (defineRange s)) full (l .form) j v from) in
+            entered (still-new o) (subst (CharsHere spool) (sym (same-slot o)) (iny .name)) (ap isText (same-slot o) ∙ iny .is-text)
+            (omega (arith, z .named, later, ap (rowBytes 8) (same-slot o), ap (rowBytes 14) (stays 1 (λ p. omega (arith, p, fourth))), ap (rowBytes 11) (stays 2 (λ p. omega (arith, p, fourth)))))
 
         -- its name
         module _ (first : j ≡ 0) where
-          from : From (knownOf s) symbolTable (digitsOf (defineRange s)) full (l .form) j (entry j v)
-          from = entry-from (knownOf s) symbolTable (digitsOf (defineRange s)) full (l .form) j v a
-
           is-row : ruleAt symbolTable 0 ≡ from .rule
           is-row = ap (ruleAt symbolTable) (sym first) ∙ row-at (from .row) _
 
@@ -372,11 +413,10 @@ module _ (c : Digits) (spool : List ℕ) (short : length spool ≤ 61440) (k : �
           here : CharsHere spool (getD own′ 0 none)
           here = subst (CharsHere spool) (sym slot) (held .here, omega (arith, held .low, short), short-name)
 
-          paid : 23 * n + symbolBytes y′ ≤ to
+          paid : 48 * n + symbolBytes y′ ≤ to
           paid =
-              let b : symbolBytes y′ ≡ 20 = ap (λ (o : Option Value). cond (isSome o) 20 12) slot in
-              let f : symbolBytes y ≡ 12 = ap (λ (o : Option Value). cond (isSome o) 20 12) (ap (λ (i : ℕ). getD (y .own) i none) (sym first) ∙ was-free) in
-              omega (arith, z .named, long, b, f)
+              omega
+              (arith, z .named, long, unread 8 0 first, read 8 0 first, ap (rowBytes 14) (stays 1 (λ p. omega (arith, p, first))), ap (rowBytes 11) (stays 2 (λ p. omega (arith, p, first))))
 
           -- it is new, as the code finds it
           new : newName s y′ ≡ isNew spool symbolNames (nameOf rec₁)
@@ -402,6 +442,15 @@ module _ (c : Digits) (spool : List ℕ) (short : length spool ≤ 61440) (k : �
 
       -- ── `element` or `hide` is begun ──
       module _ (i : ℕ) (a : did ≡ begin i j v) where
+        from-begin : From (knownOf s) symbolTable (digitsOf (defineRange s)) full (l .form) j (begin i j v)
+        from-begin = begin-from (knownOf s) symbolTable (digitsOf (defineRange s)) full (l .form) i j v a
+
+        -- its key, `:{` and the line's end
+        long-begin : at + length (ruleAt symbolTable j .key) + 4 ≤ to
+        long-begin =
+            let is-row : ruleAt symbolTable j ≡ from-begin .rule = row-at (from-begin .row) _ in
+            omega (arith, x .bytes, begin-size (knownOf s) symbolTable (digitsOf (defineRange s)) full (l .form) i j v from-begin, ap (λ (r : Rule). length (r .key)) is-row)
+
         -- the symbol around it
         around : (n′ : Now) (b : Bool) → n′ .owner ≡ d .now .owner → n′ .own ≡ d .now .own → (0 ≡ j → ⊥)
             → (isNone (getD own′ 1 none) ≡ true → (y .figures ≡ []) × (b ≡ false → y .hidden ≡ [])) → (isNone (getD own′ 2 none) ≡ true → y .hidden ≡ [])
@@ -430,13 +479,16 @@ module _ (c : Digits) (spool : List ℕ) (short : length spool ≤ 61440) (k : �
         on-element p r =
             let st″ : State = figures s (inElement y′) [] in
             let other : 0 ≡ j → ⊥ = λ o. absurd (omega (arith, o, r)) in
+            let long : at + 11 ≤ to = omega (arith, long-begin, ap (λ (m : ℕ). length (ruleAt symbolTable m .key)) r, element-key) in
+            let paid : 48 * n + symbolWith 11 11 y′ ≤ to =
+            omega (arith, z .named, long, unread 14 1 r, read 11 1 r, ap (rowBytes 8) (same-slot other), ap (rowBytes 11) (stays 2 (λ p. omega (arith, p, r)))) in
             let f : (y .figures ≡ []) × (y .hideFirst ≡ false → y .hidden ≡ []) = iny .element-first (was 1 r) in
             subst (λ (m : ℕ). Out (S.Go (symbolPart (d .now) m))) (sym p) (
               st″,
               ap (byAct _ _ _ _) a ∙ ap (openSymbol s y′) p,
               stands-on c spool k FileHere d at to st st″ z (symbolPart (d .now) 1) m₁ (d .inner) t₁ refl long-marks (z .lengths .inner)
                   (laid-same t₁ (symbolSoFar s y′) (soFar c st″) (d .now .free) (sym (append-nil (symbolSoFar s y′))) laid′) (z .taken) (omega (arith, z .counted, later))
-                  (omega (arith, z .named, later, same-bytes other)) (omega (arith, z .numbered, later))
+                  paid (omega (arith, z .numbered, later))
                   (refl, (around (symbolPart (d .now) 1) (y .hideFirst) refl refl other (λ h. clash h (there 1 r)) (λ h. iny .hide-first (was-none (y .own) 2 j v h)), refl, f .0, f .1, there 1 r), refl),
             )
 
@@ -446,6 +498,9 @@ module _ (c : Digits) (spool : List ℕ) (short : length spool ≤ 61440) (k : �
             let y″ : Symbol = symbolOrder b y′ in
             let st″ : State = hide s y″ [] in
             let other : 0 ≡ j → ⊥ = λ o. absurd (omega (arith, o, r)) in
+            let long : at + 8 ≤ to = omega (arith, long-begin, ap (λ (m : ℕ). length (ruleAt symbolTable m .key)) r, hide-key) in
+            let paid : 48 * n + hideBytes y′ ≤ to =
+            omega (arith, z .named, long, unread 11 2 r, read 8 2 r, ap (rowBytes 8) (same-slot other), ap (rowBytes 14) (stays 1 (λ p. omega (arith, p, r)))) in
             let none-yet : y .hidden ≡ [] = iny .hide-first (was 2 r) in
             let shown : b ≡ true → y .figures ≡ [] = λ h. iny .element-first (was-none (y .own) 1 j v h) .0 in
             subst (λ (m : ℕ). Out (S.Go (symbolPart (d .now) m))) (sym p) (
@@ -454,7 +509,7 @@ module _ (c : Digits) (spool : List ℕ) (short : length spool ≤ 61440) (k : �
               stands-on c spool k FileHere d at to st st″ z (symbolPart (d .now) 2) m₁ (d .inner) t₁ refl long-marks (z .lengths .inner)
                   (laid-same t₁ (symbolSoFar s y′) (soFar c st″) (d .now .free)
                   (ap (λ (q : List (List ℤ)). frontRecords s ++ ownRecord n y′ ∷ q) (same-order n y′ b none-yet) ∙ sym (append-nil (symbolSoFar s y″))) laid′)
-                  (z .taken) (omega (arith, z .counted, later)) (omega (arith, z .named, later, same-bytes other)) (omega (arith, z .numbered, later)) (
+                  (z .taken) (omega (arith, z .counted, later)) paid (omega (arith, z .numbered, later)) (
                     refl,
                     record {
                       in-symbol = around (symbolPart (d .now) 2) b refl refl other (λ h. (shown h, λ g. none-yet)) (λ h. clash h (there 2 r));
@@ -470,8 +525,7 @@ module _ (c : Digits) (spool : List ℕ) (short : length spool ≤ 61440) (k : �
 
         on-begin : Out (S.Go (symbolPart (d .now) i))
         on-begin =
-            let from = begin-from (knownOf s) symbolTable (digitsOf (defineRange s)) full (l .form) i j v a in
-            let r = begin-row (knownOf s) symbolTable (digitsOf (defineRange s)) full (l .form) i j v from in
+            let r = begin-row (knownOf s) symbolTable (digitsOf (defineRange s)) full (l .form) i j v from-begin in
             go (opened-rows i j row (r .0) (r .1))
           where
             go : Opened i j → Out (S.Go (symbolPart (d .now) i))
@@ -483,11 +537,11 @@ module _ (c : Digits) (spool : List ℕ) (short : length spool ≤ 61440) (k : �
       closes : (l .form ≡ close) × (complete (digitsOf (defineRange s)) symbolTable full ≡ true)
       closes = shut-close (knownOf s) symbolTable (digitsOf (defineRange s)) full (l .form) a
 
-      named : isSome (getD (y .own) 0 none) ≡ true
-      named = must-name (digitsOf (defineRange s)) (y .own) (iny .slots) (closes .1)
+      holds : (isSome (getD (y .own) 0 none) ≡ true) × (isSome (getD (y .own) 1 none) ≡ true) × (isSome (getD (y .own) 2 none) ≡ true)
+      holds = must-hold (digitsOf (defineRange s)) (y .own) (iny .slots) (closes .1)
 
       text : (i : ℕ) × (b : List ℕ) × (getD (y .own) 0 none ≡ some (chars i b))
-      text = text-is (getD (y .own) 0 none) named (iny .is-text)
+      text = text-is (getD (y .own) 0 none) (holds .0) (iny .is-text)
 
       abbrev place : ℕ
       place = text .0
@@ -514,11 +568,11 @@ module _ (c : Digits) (spool : List ℕ) (short : length spool ≤ 61440) (k : �
       count : getD (d .tally) 9 0 ≡ n
       count = ap (λ (t : List ℕ). getD t 9 0) (z .tally)
 
-      through : 23 * n + 23 ≤ to
+      through : 48 * n + 48 ≤ to
       through =
-          let b : symbolBytes y ≡ 20 = ap (λ (o : Option Value). cond (isSome o) 20 12) (text .2) in
+          let take-all : ℕ → Bool → ℕ = λ m b. cond b m 0 in
           let f : formSize (l .form) ≡ 1 = ap formSize (closes .0) in
-          omega (arith, z .named, x .bytes, b, f)
+          omega (arith, z .named, x .bytes, f, ap (take-all 8) (holds .0), ap (take-all 14) (holds .1), ap (take-all 11) (holds .2))
 
       room : n < length (d .symbols)
       room = omega (arith, z .lengths .symbols, through, x .most)

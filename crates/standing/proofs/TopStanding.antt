@@ -221,7 +221,7 @@ module _ (c : Digits) (spool : List ℕ) (k : ℕ) (d : Desk) (at to : ℕ) (e :
         used-all = λ j h. z .used-all j h ∙ ap (λ (y : List ℕ). hasNumber j (flat (map usedIn (s .volumes)) ++ y)) (sym (blockless-used (s .now) none));
         counted = omega (arith, z .counted, later);
         named = omega (arith, z .named, later);
-        numbered = subst (λ (y : List ℕ). 25 * length y + 3 ≤ to + 3) serial (omega (arith, z .numbered, later));
+        numbered = subst (λ (y : List ℕ). 42 * length y + 20 ≤ to + 20) serial (omega (arith, z .numbered, later));
         block = (refl, z .block .2 .0);
       }
 

@@ -58,11 +58,12 @@ desk n tally symbols layers serials used usedAll marks inner header table = reco
   table = table;
 }
 
--- a symbol takes 23 bytes of a spool at least, a placed symbol with a serial number 25
+-- a symbol takes 48 bytes of a spool at least, a placed symbol with a serial number 42: at most 1,280 names, and 1,463 serials with one free
+-- place behind them, which a line in a placed symbol asks for
 pub record Lengths (d : Desk) : Type 0 where
-  pub symbols : length (d .symbols) ≡ 2672
+  pub symbols : length (d .symbols) ≡ 1280
   pub layers : length (d .layers) ≡ 64
-  pub serials : length (d .serials) ≡ 2458
+  pub serials : length (d .serials) ≡ 1464
   pub used : length (d .used) ≡ 64
   pub usedAll : length (d .usedAll) ≡ 64
   pub marks : length (d .marks) ≡ 28
@@ -243,12 +244,24 @@ formSize close = 1
 formSize eof = 3
 formSize (keyed k r) = length k + restSize r
 
--- of a symbol that is open: `E_symbol:{` and its name's line
+-- of a row that was read: this many
+abbrev pub rowBytes : ℕ → Option Value → ℕ
+rowBytes n o = cond (isSome o) n 0
+
+-- of a symbol that is open: `E_symbol:{`, its name's line, and so many of `element` and of `hide`, where they were read
+abbrev pub symbolWith : ℕ → ℕ → Symbol → ℕ
+symbolWith element hidden y =
+    12 + rowBytes 8 (getD (y .own) 0 none) + rowBytes element (getD (y .own) 1 none) + rowBytes hidden (getD (y .own) 2 none)
+
+-- `element:{` and `hide:{` with their ends (what they hold is not counted); the one that is open lacks its end
 abbrev pub symbolBytes : Symbol → ℕ
-symbolBytes y = cond (isSome (getD (y .own) 0 none)) 20 12
+symbolBytes y = symbolWith 14 11 y
+
+abbrev pub hideBytes : Symbol → ℕ
+hideBytes y = symbolWith 14 8 y
 
 abbrev pub homeBytes : Home → ℕ
-homeBytes (inElement y) = symbolBytes y
+homeBytes (inElement y) = symbolWith 11 11 y
 homeBytes (inLayer k) = 0
 
 abbrev pub nameBytes : State → ℕ
@@ -258,7 +271,7 @@ nameBytes (drawing s d) = 0
 nameBytes (layerNames s d) = 0
 nameBytes (defines s b) = 0
 nameBytes (symbol s y) = symbolBytes y
-nameBytes (hide s y ps) = symbolBytes y
+nameBytes (hide s y ps) = hideBytes y
 nameBytes (elements s) = 0
 nameBytes (figures s h fs) = homeBytes h
 nameBytes (successive s h fs n ps) = homeBytes h
@@ -267,25 +280,30 @@ nameBytes (placing s k fs n o p) = 0
 nameBytes (skipping s k fs n o d) = 0
 nameBytes (ended s) = 0
 
--- of a placed symbol that is open: `E_symbol:{`, and 3 for its end; with its serial's line counted as a whole one that lacks its end
+-- A serial number counts as a whole placed symbol from its own line on, though `symbol=` (17: four commas, and a digit of each number) and
+-- the end (3) may be still to come: these 20 are always lent. Before its serial's line (10) an open placed symbol has them and `E_symbol:{`,
+-- behind it all 42 are spent.
+abbrev pub serialDue : Option Value → ℕ
+serialDue o = cond (isSome o) 0 32
+
 abbrev pub placedBytes : Held → ℕ
-placedBytes o = cond (isSome (getD (partOf o 0) 5 none)) 0 15
+placedBytes o = serialDue (getD (partOf o 0) 5 none) + rowBytes 17 (getD (partOf o 0) 0 none)
 
 abbrev pub serialBytes : State → ℕ
-serialBytes (top s k) = 3
-serialBytes (file s n h p) = 3
-serialBytes (drawing s d) = 3
-serialBytes (layerNames s d) = 3
-serialBytes (defines s b) = 3
-serialBytes (symbol s y) = 3
-serialBytes (hide s y ps) = 3
-serialBytes (elements s) = 3
-serialBytes (figures s h fs) = 3
-serialBytes (successive s h fs n ps) = 3
-serialBytes (texts s h fs n o) = 3
+serialBytes (top s k) = 20
+serialBytes (file s n h p) = 20
+serialBytes (drawing s d) = 20
+serialBytes (layerNames s d) = 20
+serialBytes (defines s b) = 20
+serialBytes (symbol s y) = 20
+serialBytes (hide s y ps) = 20
+serialBytes (elements s) = 20
+serialBytes (figures s h fs) = 20
+serialBytes (successive s h fs n ps) = 20
+serialBytes (texts s h fs n o) = 20
 serialBytes (placing s k fs n o p) = placedBytes o
 serialBytes (skipping s k fs n o d) = placedBytes o
-serialBytes (ended s) = 3
+serialBytes (ended s) = 20
 
 -- ── the block that is open ──
 -- no layers are declared yet, and no symbols
@@ -408,8 +426,8 @@ module _ (c : Digits) (spool : List ℕ) (k : ℕ) (d : Desk) where
     pub used : inside st ≡ true → (j : ℕ) → j < 64 → getD (d .used) j false ≡ hasNumber j (usedOf st)
     pub used-all : (j : ℕ) → j < 64 → getD (d .usedAll) j false ≡ hasNumber j (flat (map usedIn (setOf st .volumes)) ++ usedOf st)
     pub counted : total elementsOf (setOf st .volumes) + elementsHere st + openFigures st ≤ at
-    pub named : 23 * length (setOf st .symbols) + nameBytes st ≤ at
-    pub numbered : 25 * length (serialsOf st) + serialBytes st ≤ at + 3
+    pub named : 48 * length (setOf st .symbols) + nameBytes st ≤ at
+    pub numbered : 42 * length (serialsOf st) + serialBytes st ≤ at + 20
     pub block : Inside FileHere st
 
 -- ── what a line does ──

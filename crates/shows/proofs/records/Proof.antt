@@ -1,10 +1,10 @@
 use Prim.Native.Nat.{_≤_, _-_}
 use borrow.Author.Needs.{needs}
-use Rattle.accread.proofs.show_records.Statement.{statement}
-use Rattle.accread.proofs.show_records.Tie as tie
-use Rattle.accread.proofs.show_records.Reads as reads
-use Rattle.accread.proofs.show_records.Lts as lts
-use Rattle.accread.proofs.show_record.Reads as show-record-reads
+use Rattle.shows.proofs.records.Statement.{statement}
+use Rattle.shows.proofs.records.Tie as tie
+use Rattle.shows.proofs.records.Reads as reads
+use Rattle.shows.proofs.records.Lts as lts
+use Rattle.shows.proofs.record.Reads as record-reads
 
 abbrev Inv-loop : tie.InvT-loop
 Inv-loop count table i₀ i = i ≤ 256
@@ -33,28 +33,28 @@ returns-2 : tie.Need-returns-2 Inv-loop μ-loop
 returns-2 c = search needs
 
 -- src/main.rt:55:34
-add-show-record : tie.Need-add-show-record Inv-loop μ-loop
-add-show-record c = search needs
+add-record : tie.Need-add-record Inv-loop μ-loop
+add-record c = search needs
 
 -- src/main.rt:55:21
-mul-show-record : tie.Need-mul-show-record Inv-loop μ-loop
-mul-show-record c = search needs
+mul-record : tie.Need-mul-record Inv-loop μ-loop
+mul-record c = search needs
 
 -- src/main.rt:55:21
-sub-show-record : tie.Need-sub-show-record Inv-loop μ-loop
-sub-show-record c = search needs
+sub-record : tie.Need-sub-record Inv-loop μ-loop
+sub-record c = search needs
 
 -- src/main.rt:55:21
-part-show-record-start : tie.Need-part-show-record-start Inv-loop μ-loop
-part-show-record-start c = search needs
+part-record-start : tie.Need-part-record-start Inv-loop μ-loop
+part-record-start c = search needs
 
 -- src/main.rt:55:21
-part-show-record-end : tie.Need-part-show-record-end Inv-loop μ-loop
-part-show-record-end c = search needs
+part-record-end : tie.Need-part-record-end Inv-loop μ-loop
+part-record-end c = search needs
 
 -- src/main.rt:55:9
-show-record-requires : tie.Need-show-record-requires Inv-loop μ-loop
-show-record-requires c κs = search needs
+record-requires : tie.Need-record-requires Inv-loop μ-loop
+record-requires c κs = search needs
 
 -- src/main.rt:56:9
 add-i : tie.Need-add-i Inv-loop μ-loop
@@ -72,8 +72,8 @@ loop-again c = search needs
 returns-3 : tie.Need-returns-3 Inv-loop μ-loop
 returns-3 c = search needs
 
-pub show-records-spec : {M : Type 1} → statement M
-show-records-spec =
+pub records-spec : {M : Type 1} → statement M
+records-spec =
     tie.close
     (tie.spec
     Inv-loop
@@ -83,12 +83,12 @@ show-records-spec =
     mul-from
     add-if2
     returns-2
-    add-show-record
-    mul-show-record
-    sub-show-record
-    part-show-record-start
-    part-show-record-end
-    show-record-requires
+    add-record
+    mul-record
+    sub-record
+    part-record-start
+    part-record-end
+    record-requires
     add-i
     loop-less
     loop-again

@@ -1,13 +1,13 @@
 use borrow.Author.Needs.{needs}
 use Prim.Native.Nat.{_≤_, _-_}
 use lib.ListN.{length}
-use Rattle.samples.proofs.show_record.Statement.{statement}
-use Rattle.samples.proofs.show_record.Tie as tie
-use Rattle.samples.proofs.show_record.Reads as reads
-use Rattle.samples.proofs.show_record.Lts as lts
-use Rattle.samples.proofs.newline.Reads as newline-reads
-use Rattle.samples.proofs.show_signed.Reads as show-signed-reads
-use Rattle.samples.proofs.space.Reads as space-reads
+use Rattle.shows.proofs.record.Statement.{statement}
+use Rattle.shows.proofs.record.Tie as tie
+use Rattle.shows.proofs.record.Reads as reads
+use Rattle.shows.proofs.record.Lts as lts
+use Rattle.shows.proofs.newline.Reads as newline-reads
+use Rattle.shows.proofs.signed.Reads as signed-reads
+use Rattle.shows.proofs.space.Reads as space-reads
 
 abbrev Inv-loop : tie.InvT-loop
 Inv-loop rec i₀ i = i ≤ length rec
@@ -24,16 +24,16 @@ space-requires : tie.Need-space-requires Inv-loop μ-loop
 space-requires c κs = search needs
 
 -- src/main.rt:39:21
-mul-show-signed : tie.Need-mul-show-signed Inv-loop μ-loop
-mul-show-signed c = search needs
+mul-signed : tie.Need-mul-signed Inv-loop μ-loop
+mul-signed c = search needs
 
 -- src/main.rt:39:21
-shared-slice-copy-out-show-signed : tie.Need-shared-slice-copy-out-show-signed Inv-loop μ-loop
-shared-slice-copy-out-show-signed c = search needs
+shared-slice-copy-out-signed : tie.Need-shared-slice-copy-out-signed Inv-loop μ-loop
+shared-slice-copy-out-signed c = search needs
 
 -- src/main.rt:39:9
-show-signed-requires : tie.Need-show-signed-requires Inv-loop μ-loop
-show-signed-requires c κs = search needs
+signed-requires : tie.Need-signed-requires Inv-loop μ-loop
+signed-requires c κs = search needs
 
 -- src/main.rt:40:9
 add-i : tie.Need-add-i Inv-loop μ-loop
@@ -55,17 +55,17 @@ newline-requires c κs = search needs
 returns : tie.Need-returns Inv-loop μ-loop
 returns c = search needs
 
-pub show-record-spec : {M : Type 1} → statement M
-show-record-spec =
+pub record-spec : {M : Type 1} → statement M
+record-spec =
     tie.close
     (tie.spec
     Inv-loop
     μ-loop
     loop-holds
     space-requires
-    mul-show-signed
-    shared-slice-copy-out-show-signed
-    show-signed-requires
+    mul-signed
+    shared-slice-copy-out-signed
+    signed-requires
     add-i
     loop-less
     loop-again

@@ -4,11 +4,11 @@ use mir.Val.{SFits}
 use mir.Facts.{toZ-ofZ}
 use Rattle.leaves.proofs.Ints.{below, more-fits, turned-fits, turned-back, not-below, not-below-back}
 use borrow.Author.Needs.{needs}
-use Rattle.samples.proofs.show_signed.Statement.{statement}
-use Rattle.samples.proofs.show_signed.Tie as tie
-use Rattle.samples.proofs.show_signed.Reads as reads
-use Rattle.samples.proofs.show_signed.Lts as lts
-use Rattle.samples.proofs.show.Reads as show-reads
+use Rattle.shows.proofs.signed.Statement.{statement}
+use Rattle.shows.proofs.signed.Tie as tie
+use Rattle.shows.proofs.signed.Reads as reads
+use Rattle.shows.proofs.signed.Lts as lts
+use Rattle.shows.proofs.show.Reads as show-reads
 use Rattle.io.proofs.write_all.Reads as write-all-reads
 
 -- src/main.rt:25:26
@@ -55,8 +55,8 @@ show-requires-2 c κs = search needs
 returns-2 : tie.Need-returns-2
 returns-2 c = search needs
 
-pub show-signed-spec : {M : Type 1} → statement M
-show-signed-spec =
+pub signed-spec : {M : Type 1} → statement M
+signed-spec =
     tie.close
     (tie.spec
     slice-aggregate-write-all
