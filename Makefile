@@ -1,7 +1,10 @@
 # make rules   prove the definitions of document 01 and compute its sample rulings
-# make test    the gate: layout, samples, broken rules refused, then every proof, must-fail edit and program from nothing (rt ci)
+# make test    the gate: layout, samples, sentences, broken rules refused, then every proof, must-fail edit and program from nothing (rt ci)
 # make samples the sample spools and their listed answers are what their scripts make: a second
+# make sentences   tools/explain says what it must of the listed answers: seconds
+# make answer SPOOL=FILE   build accread where it is not built, and say in a sentence what it answers for a spool
 # make accread prove the reader and build target/bin/accread: about ten minutes
+# make accfix  prove the rewriter and build target/bin/accfix
 # make host    prove the C side and build target/staticlib/libhost.a and target/host (examples/host.c)
 # make edits   the wrong programs that the gate leaves out, tried and refused: most of an hour
 # make bench   ns per byte of splitting and of reading a spool, beside plain C (bench/FIGURES.md)
@@ -9,7 +12,7 @@
 # make stack   the bytes of stack that the check and the reader take
 # make compare N=100000 SEED=1   the library's answers beside those of tests/reference, on N questions; LIBRARY=FILE takes a built one
 
-.PHONY: rules accread host test layout samples broken-rules edits bench bench-spools native-bench stack compare
+.PHONY: rules accread accfix answer host test layout samples sentences broken-rules edits bench bench-spools native-bench stack compare
 
 # The spools that the reader is timed on; the first is the mixed floor that the others are compared with.
 TIMED = floor-60k floor-8k lines mixed-figures placed-symbols only-symbols only-long-names only-serials only-partners only-layers \
@@ -21,6 +24,14 @@ rules:
 
 accread:
 	rt check accread
+
+accfix:
+	rt check accfix
+
+SPOOL = examples/floor.spool
+
+answer: accread
+	@tools/x86 run target/bin/accread <$(SPOOL) | tools/explain $(SPOOL)
 
 host:
 	rt staticlib host
@@ -36,8 +47,12 @@ broken-rules:
 samples:
 	tools/make-samples --check
 	tools/frame-samples --check
+	tools/frame-rewritten --check
 
-test: layout samples broken-rules
+sentences:
+	tools/explain-test
+
+test: layout samples sentences broken-rules
 	rt ci
 
 edits:
