@@ -1,9 +1,3 @@
-pub mod FormSizes
-pub mod VolumeStanding
-pub mod VolumeEnds
-pub mod VolumeRun
-pub mod VolumeLoop
-pub mod VolumeLoopTurns
 pub mod SetRunTaken
 pub mod SetRunVolumes
 pub mod SetRunStart

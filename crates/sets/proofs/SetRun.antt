@@ -38,7 +38,7 @@ use Rattle.standing.specs.FileStanding.{InFile}
 use Rattle.standing.specs.Reading.{Standing, startOf, nextNumber, nextState, VolumeReady, VolumeOut, VolumePromise}
 use Rattle.sets.specs.SetReading.{envOf, nameBehind, LentFor}
 use Rattle.standing.proofs.LaidTables.{laid-table}
-use Rattle.sets.proofs.VolumeRun.{stands-later, seen-long}
+use Rattle.steps.proofs.VolumeRun.{stands-later, seen-long}
 use Rattle.sets.proofs.SetRunTaken.{few-taken}
 use Rattle.sets.proofs.SetRunVolumes.{Grown, volumes-grow, next-nil, over-few}
 use Rattle.sets.proofs.SetRunStart.{Begins, begin-stands}

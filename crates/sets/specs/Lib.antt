@@ -1,2 +1,1 @@
-pub mod VolumeLines
 pub mod SetReading

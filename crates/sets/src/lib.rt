@@ -1,8 +1,6 @@
 // The set: its volumes one after the other, read and written.
 mod reader;
 mod rewriter;
-mod steps;
-mod volumes;
 
 pub use reader::read;
 pub use rewriter::rewrite;

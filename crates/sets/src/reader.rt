@@ -1,5 +1,4 @@
 // The reader.
-use crate::volumes::read_volume;
 use account::Class;
 use account::Now;
 use account::TOP;
@@ -13,6 +12,7 @@ use lines::spool::volumes;
 use rules::Answer;
 use rules::Digits;
 use rules::Refusal;
+use steps::read_volume;
 ghost use mathlib.Core.Path.{_≡_};
 ghost use Prim.Native.Nat.{_≤_, _<_};
 ghost use lib.IntN.{pos};

@@ -1,0 +1,57 @@
+use Rattle.standing.proofs.StepParts.{tally-9, names-fit, tally-10, ids-fit, names-count, ids-count, names-most, ids-most}
+use borrow.Author.Needs.{needs}
+use Rattle.steps.proofs.line.at_top.Statement.{statement}
+use Rattle.steps.proofs.line.at_top.Tie as tie
+
+shared-slice-read-ns : tie.Need-shared-slice-read-ns
+shared-slice-read-ns c = tally-9 (c .before .before .before .before .before .before .before .before .pre .1)
+
+cast-ns : tie.Need-cast-ns
+cast-ns c = names-fit (c .before .before .before .before .before .before .before .before .pre .1)
+
+shared-slice-read-nl : tie.Need-shared-slice-read-nl
+shared-slice-read-nl c = tally-10 (c .before .before .before .before .before .before .before .before .before .pre .1)
+
+cast-nl : tie.Need-cast-nl
+cast-nl c = ids-fit (c .before .before .before .before .before .before .before .before .before .pre .1)
+
+slice-aggregate-on-top : tie.Need-slice-aggregate-on-top
+slice-aggregate-on-top c = names-count (c .before .before .before .before .before .before .before .before .before .before .before .pre .1)
+
+slice-aggregate-on-top-2 : tie.Need-slice-aggregate-on-top-2
+slice-aggregate-on-top-2 c = ids-count (c .before .before .before .before .before .before .before .before .before .before .before .before .pre .1)
+
+on-top-requires : tie.Need-on-top-requires
+on-top-requires c κs = (c .before .before .before .before .before .before .before .before .before .before .before .before .before .before .before .before .pre .0, names-most (c .before .before .before .before .before .before .before .before .before .before .before .before .before .before .before .before .pre .1), ids-most (c .before .before .before .before .before .before .before .before .before .before .before .before .before .before .before .before .pre .1), c .before .before .before .before .before .before .before .before .before .before .before .before .before .before .before .before .pre .1 .twelve, c .before .before .before .before .before .before .before .before .before .before .before .before .before .before .before .before .pre .2, c .before .before .before .before .before .before .before .before .before .before .before .before .before .before .before .before .pre .3)
+
+same-length : tie.Need-same-length
+same-length c = search needs
+
+same-length-2 : tie.Need-same-length-2
+same-length-2 c = search needs
+
+same-length-3 : tie.Need-same-length-3
+same-length-3 c = search needs
+
+same-length-4 : tie.Need-same-length-4
+same-length-4 c = search needs
+
+returns : tie.Need-returns
+returns c = c .before .before .before .before .before .before .on-top .ensures
+
+pub at-top-spec : {M : Type 1} → statement M
+at-top-spec =
+    tie.close
+    (tie.spec
+    shared-slice-read-ns
+    cast-ns
+    shared-slice-read-nl
+    cast-nl
+    slice-aggregate-on-top
+    slice-aggregate-on-top-2
+    on-top-requires
+    same-length
+    same-length-2
+    same-length-3
+    same-length-4
+    returns)

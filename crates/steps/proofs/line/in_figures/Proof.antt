@@ -1,0 +1,66 @@
+use native.Mathlib.Omega.{arith}
+use Rattle.standing.proofs.StepParts.{tally-9, names-fit, tally-10, ids-fit, names-count, ids-count, tally-1, names-most, ids-most, count-asks, figures-back}
+use borrow.Author.Needs.{needs}
+use Rattle.steps.proofs.line.in_figures.Statement.{statement}
+use Rattle.steps.proofs.line.in_figures.Tie as tie
+
+slice-read-ns : tie.Need-slice-read-ns
+slice-read-ns c = tally-9 (c .before .before .before .before .before .before .before .pre .1)
+
+cast-ns : tie.Need-cast-ns
+cast-ns c = names-fit (c .before .before .before .before .before .before .before .pre .1)
+
+slice-read-nl : tie.Need-slice-read-nl
+slice-read-nl c = tally-10 (c .before .before .before .before .before .before .before .before .pre .1)
+
+cast-nl : tie.Need-cast-nl
+cast-nl c = ids-fit (c .before .before .before .before .before .before .before .before .pre .1)
+
+slice-read-range : tie.Need-slice-read-range
+slice-read-range c = tally-1 (c .before .before .before .before .before .before .before .before .before .pre .1)
+
+slice-aggregate-on-figures : tie.Need-slice-aggregate-on-figures
+slice-aggregate-on-figures c = names-count (c .before .before .before .before .before .before .before .before .before .before .pre .1)
+
+slice-aggregate-on-figures-2 : tie.Need-slice-aggregate-on-figures-2
+slice-aggregate-on-figures-2 c = ids-count (c .before .before .before .before .before .before .before .before .before .before .before .pre .1)
+
+on-figures-requires : tie.Need-on-figures-requires
+on-figures-requires c κs = (c .before .before .before .before .before .before .before .before .before .before .before .before .before .before .pre .0, names-most (c .before .before .before .before .before .before .before .before .before .before .before .before .before .before .pre .1), ids-most (c .before .before .before .before .before .before .before .before .before .before .before .before .before .before .pre .1), omega (arith, c .before .before .before .before .before .before .before .before .before .before .before .before .before .before .pre .2))
+
+layer-counted-requires : tie.Need-layer-counted-requires
+layer-counted-requires c κs = count-asks (c .before .before .before .before .before .before .on-figures .ensures) (c .before .before .before .before .before .before .before .before .before .before .before .before .before .before .before .before .before .before .before .before .before .args .tally .now) (c .before .before .before .before .before .before .before .before .before .before .before .before .before .before .before .before .before .before .before .before .before .pre .1 .twelve) (c .before .before .before .before .before .before .before .before .before .before .before .before .before .before .before .before .before .before .before .before .before .pre .2)
+
+same-length : tie.Need-same-length
+same-length c = search needs
+
+same-length-2 : tie.Need-same-length-2
+same-length-2 c = search needs
+
+same-length-3 : tie.Need-same-length-3
+same-length-3 c = search needs
+
+same-length-4 : tie.Need-same-length-4
+same-length-4 c = search needs
+
+returns : tie.Need-returns
+returns c = figures-back (c .before .before .before .before .before .before .before .before .before .on-figures .ensures) (c .before .before .before .before .before .before .before .before .before .before .before .before .before .before .before .before .before .before .before .before .before .before .before .before .args .tally .now) _ (c .before .before .layer-counted .ensures)
+
+pub in-figures-spec : {M : Type 1} → statement M
+in-figures-spec =
+    tie.close
+    (tie.spec
+    slice-read-ns
+    cast-ns
+    slice-read-nl
+    cast-nl
+    slice-read-range
+    slice-aggregate-on-figures
+    slice-aggregate-on-figures-2
+    on-figures-requires
+    layer-counted-requires
+    same-length
+    same-length-2
+    same-length-3
+    same-length-4
+    returns)
