@@ -3,16 +3,19 @@
 # make samples the sample spools and their listed answers are what their scripts make: a second
 # make sentences   tools/explain says what it must of the listed answers: seconds
 # make answer SPOOL=FILE   build accread where it is not built, and say in a sentence what it answers for a spool
+# make compared   the questions that the gate's program asks, and the reference's answers to them: a few seconds
 # make accread prove the reader and build target/bin/accread: about ten minutes
 # make accfix  prove the rewriter and build target/bin/accfix
 # make host    prove the C side and build target/staticlib/libhost.a and target/host (examples/host.c)
 # make edits   the wrong programs that the gate leaves out, tried and refused: most of an hour
-# make bench   ns per byte of splitting and of reading a spool, beside plain C (bench/FIGURES.md)
-# make native-bench   the reader's figures where the machine is not x86-64, without an emulator
-# make stack   the bytes of stack that the check and the reader take
+# make bench   ns per byte of splitting, of reading and of rewriting a spool, beside plain C (bench/FIGURES.md)
+# make native-bench   the reader's and the rewriter's figures where the machine is not x86-64, without an emulator
+# make stack   the bytes of stack that the check, the reader and the rewriter take
 # make compare N=100000 SEED=1   the library's answers beside those of tests/reference, on N questions; LIBRARY=FILE takes a built one
+# make sanitize   a thousand questions under AddressSanitizer, UndefinedBehaviorSanitizer and valgrind: about two minutes
 
-.PHONY: rules accread accfix answer host test layout samples sentences broken-rules edits bench bench-spools native-bench stack compare
+.PHONY: rules accread accfix answer host test layout samples sentences compared broken-rules edits bench bench-spools native-bench stack compare \
+	sanitize
 
 # The spools that the reader is timed on; the first is the mixed floor that the others are compared with.
 TIMED = floor-60k floor-8k lines mixed-figures placed-symbols only-symbols only-long-names only-serials only-partners only-layers \
@@ -52,7 +55,11 @@ samples:
 sentences:
 	tools/explain-test
 
-test: layout samples sentences broken-rules
+# What the program of crates/compared reads and must print. Emulated it takes about half a minute for these.
+compared:
+	tools/frame-compared 20000 1997
+
+test: layout samples sentences compared broken-rules
 	rt ci
 
 edits:
@@ -86,3 +93,6 @@ SEED = 1
 compare:
 	$(if $(LIBRARY),,rt staticlib host)
 	tools/compare $(N) $(SEED) $(LIBRARY)
+
+sanitize:
+	tools/sanitize 1000 $(SEED)

@@ -1,11 +1,11 @@
 /* driver [STACK]: answers the questions on standard input by the product's library, as `answers` of tests/reference answers them by its own
- * reading (README.md there describes questions and answers); the rewriter's fields only where it is compiled with -DREWRITER. With STACK,
- * on a thread whose stack has so many bytes and no more.
+ * reading (README.md there describes questions and answers). With STACK, on a thread whose stack has so many bytes and no more.
  *
  * What is lent holds other numbers than zeros before a call, and stands between pages that may not be touched. Where the spool's length is
  * even it ends right before such a page, where odd it begins right behind one; the less than a page that may be left on its other side is
  * looked at after the call. The spool stands likewise, and can't be written. So a wrong access ends the driver, and each line is handed out
  * before the next question is begun: the one that ended it is the one after the last line. */
+#include "checkers.h"
 #include "ploverdell.h"
 #include <inttypes.h>
 #include <pthread.h>
@@ -13,10 +13,6 @@
 #include <stdlib.h>
 #include <string.h>
 #include <sys/mman.h>
-
-#ifdef REWRITER
-uint64_t ploverdell_rewrite(const uint8_t *spool, size_t spool_len, uint8_t *out, size_t out_len, uint64_t *count);
-#endif
 
 #define PAGE 4096
 #define PATTERN 0xA5
@@ -42,6 +38,8 @@ static struct fenced lend(size_t len, int at_the_end) {
     if (room == MAP_FAILED) fail("no memory");
     if (inside_len != 0 && mprotect(inside, inside_len, PROT_READ | PROT_WRITE) != 0) fail("no memory");
     memset(inside, PATTERN, inside_len);
+    FORBID(inside, inside_len);
+    LEND(lent.first, len);
     return lent;
 }
 
@@ -50,6 +48,7 @@ static void make_readable_only(struct fenced lent) {
 }
 
 static void take_back(struct fenced lent) {
+    ALLOW(lent.inside, lent.inside_len);
     for (size_t k = 0; k < lent.inside_len; k++) {
         int is_lent = lent.inside + k >= lent.first && lent.inside + k < lent.first + lent.len;
         if (!is_lent && lent.inside[k] != PATTERN) fail("a byte that was not lent was written");
@@ -76,7 +75,6 @@ static void print_reading(struct fenced spool, uint64_t cls, size_t table_len, i
     take_back(table);
 }
 
-#ifdef REWRITER
 static void print_rewriting(struct fenced spool, size_t out_len, int at_the_end) {
     struct fenced out = lend(out_len, at_the_end);
     uint64_t count = UINT64_MAX;
@@ -84,7 +82,6 @@ static void print_rewriting(struct fenced spool, size_t out_len, int at_the_end)
     print_answer(answer, count, out);
     take_back(out);
 }
-#endif
 
 static size_t number(const uint8_t *bytes) {
     return (size_t)bytes[0] << 24 | (size_t)bytes[1] << 16 | (size_t)bytes[2] << 8 | bytes[3];
@@ -97,18 +94,15 @@ static int answered(void) {
     if (got == 0 && feof(stdin)) return 0;
     if (got != sizeof head) fail("a question is cut short");
     uint64_t cls = head[0];
-    size_t table_len = number(head + 1), spool_len = number(head + 9);
+    size_t table_len = number(head + 1), out_len = number(head + 5), spool_len = number(head + 9);
     int at_the_end = spool_len % 2 == 0;
 
     struct fenced spool = lend(spool_len, at_the_end);
     if (fread(spool.first, 1, spool_len, stdin) != spool_len) fail("a spool is cut short");
     make_readable_only(spool);
     print_reading(spool, cls, table_len, at_the_end);
-    printf(" %" PRIu64, ploverdell_check(spool.first, spool_len, cls));
-#ifdef REWRITER
-    putchar(' ');
-    print_rewriting(spool, number(head + 5), at_the_end);
-#endif
+    printf(" %" PRIu64 " ", ploverdell_check(spool.first, spool_len, cls));
+    print_rewriting(spool, out_len, at_the_end);
     putchar('\n');
     take_back(spool);
     return 1;

@@ -6,3 +6,4 @@ pub mod Lent
 pub mod FileCounts
 pub mod FileParts
 pub mod PlacedLaws
+pub mod SkipRun

@@ -2,7 +2,6 @@ pub mod ClassDigits
 pub mod Stores
 pub mod MarkScan
 pub mod StemEnds
-pub mod SkipRun
 pub mod FileCloses
 pub mod FileActs
 pub mod TopSteps

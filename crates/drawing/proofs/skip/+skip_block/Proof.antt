@@ -3,7 +3,7 @@ use mathlib.Core.Path.{sym}
 use native.Mathlib.Omega.{arith}
 use borrow.Author.Needs.{needs}
 use Rattle.account.proofs.SeenLines.{seen-forward}
-use Rattle.drawing.proofs.SkipRun.{Going, start, at-last, stays, shut, refuses, too-deep, inner-ready, inner-stops, goes-on}
+use Rattle.account.proofs.SkipRun.{Going, start, at-last, stays, shut, refuses, too-deep, inner-ready, inner-stops, goes-on}
 use Prim.Native.Nat.{ℕ, _<_}
 use borrow.Fn.Kinds.{In}
 use borrow.Fn.PlainCycle.{Measures, is, falls, and}
