@@ -5,4 +5,5 @@ pub mod SetRun
 pub mod SetRunAnswer
 pub mod SetRunUnlimited
 pub mod Rewritten
+pub mod Called
 pub mod Unique

@@ -1,0 +1,57 @@
+-- The demands of the functions themselves: what a caller of `read` or `rewrite` learns is a call as `promises` has it, so its corollaries
+-- hold of the code, from the contracts and the theorems alone.
+use Prim.Native.Nat.{ℕ}
+use mathlib.Core.List.{List}
+use mathlib.Core.Path.{_≡_}
+use contract.Lifetimes.{Lfts}
+use denote.Ref.{now}
+use denote.Triple.Clauses.{AtExit}
+use borrow.Fn.Kinds.{PK, RK, Out, Dens, resT, endedOf}
+use Rattle.rules.specs.declared.Refusal.{Refusal}
+use Rattle.rules.specs.declared.Answer.the-variants.{Accepted, Refused}
+use Rattle.promises.specs.ReaderCalls.{Call, TwoCalls, Accepts, Refuses}
+use Rattle.promises.specs.RewriterCalls.{Rewriting, CallsBack}
+use Rattle.promises.proofs.Calls.{lower-call-accepts, higher-call-refuses}
+use Rattle.promises.proofs.RewriterBack.{rewriter-calls}
+use Rattle.sets.proofs.reader.read as read′
+use Rattle.sets.proofs.rewriter.rewrite as rewrite′
+
+-- what a contract's callers learn (C), of the arguments, the answer and the lent memory on return, gives an A
+abbrev Learns : {n : ℕ} (ps : List (PK n)) (r : RK n) → Out n ps r → Type 0 → Type 0
+Learns {n} ps r C A = (κs : Lfts n) (x : Dens κs ps) (a : resT r κs .Denot) (e : AtExit (endedOf n ps r) κs) → C κs x a e → A
+
+abbrev pub read-call : Learns read′.Kinds.ps read′.Kinds.r read′.Reads.Learnt Call
+read-call κs x r e c = record {
+  spool = now (x .0);
+  class = x .1 .0;
+  before = now (x .1 .1 .0);
+  answer = r;
+  after = now (e .1 .1 .0);
+  answers = c .0;
+  fills = c .1;
+}
+
+abbrev pub rewrite-call : Learns rewrite′.Kinds.ps rewrite′.Kinds.r rewrite′.Reads.Learnt Rewriting
+rewrite-call κs x r e c = record {
+  spool = now (x .0);
+  before = now (x .1 .0);
+  answer = r;
+  after = now (e .1 .0);
+  answers = c .0;
+  fills = c .1;
+}
+
+-- ── demand 2: the bytes that `rewrite` wrote, read and rewritten ──
+pub rewrites-back : (κs : Lfts 2) (x : Dens κs rewrite′.Kinds.ps) (r : resT rewrite′.Kinds.r κs .Denot) (e : AtExit (endedOf 2 rewrite′.Kinds.ps rewrite′.Kinds.r) κs)
+    (c : rewrite′.Reads.Learnt κs x r e) (n : ℕ) → r ≡ Accepted n → CallsBack (rewrite-call κs x r e c) n
+rewrites-back κs x r e c n = rewriter-calls (rewrite-call κs x r e c) n
+
+-- ── demand 3: two calls of `read` ──
+module _ (κs κs′ : Lfts 2) (x : Dens κs read′.Kinds.ps) (x′ : Dens κs′ read′.Kinds.ps) (r : resT read′.Kinds.r κs .Denot) (r′ : resT read′.Kinds.r κs′ .Denot)
+    (e : AtExit (endedOf 2 read′.Kinds.ps read′.Kinds.r) κs) (e′ : AtExit (endedOf 2 read′.Kinds.ps read′.Kinds.r) κs′)
+    (c : read′.Reads.Learnt κs x r e) (c′ : read′.Reads.Learnt κs′ x′ r′ e′) (two : TwoCalls (read-call κs x r e c) (read-call κs′ x′ r′ e′ c′)) where
+  pub lower-reads : (n : ℕ) → r′ ≡ Accepted n → Accepts (read-call κs x r e c) (read-call κs′ x′ r′ e′ c′) (two .low) n
+  lower-reads = lower-call-accepts (read-call κs x r e c) (read-call κs′ x′ r′ e′ c′) two
+
+  pub higher-reads : (f : Refusal) → r ≡ Refused f → Refuses (read-call κs x r e c) (read-call κs′ x′ r′ e′ c′) f
+  higher-reads = higher-call-refuses (read-call κs x r e c) (read-call κs′ x′ r′ e′ c′) two
