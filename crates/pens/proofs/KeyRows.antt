@@ -19,7 +19,7 @@ use Rattle.tables.specs.declared.Found.the-variants as F
 use Rattle.tables.specs.Rows.{kindOf, ruleOf, forLine, foundForLine, foundOf}
 use Rattle.tables.specs.Tables.{tableOf}
 use Rattle.entries.specs.declared.Rest.{Rest}
-use Rattle.prints.specs.Keys.{keyAt}
+use Rattle.keywords.specs.Keys.{keyAt}
 use Rattle.pens.specs.declared.Pen.{Pen}
 use Rattle.pens.specs.declared.Drawn.{Drawn}
 use Rattle.pens.specs.declared.Drawn.the-variants as D

@@ -34,7 +34,7 @@ use Rattle.entries.specs.Shapes.{restIn, shapeIn, sortOf, shapeBy}
 use Rattle.entries.specs.Acts.{valueOf}
 use Rattle.entries.proofs.ByShape.{free-is}
 use Rattle.prints.specs.Reading.{Reads}
-use Rattle.prints.specs.Keys.{keyAt}
+use Rattle.keywords.specs.Keys.{keyAt}
 use Rattle.pens.specs.Printed.{Prints, Within}
 use Rattle.pens.specs.Moves.{isOpener}
 use Rattle.pens.specs.Noting.{noteOf, restOf, partTable}

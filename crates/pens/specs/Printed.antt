@@ -15,7 +15,7 @@ use Rattle.leaves.specs.Writing.{putAnswer}
 use Rattle.tables.specs.declared.Row.{Row}
 use Rattle.tables.specs.Rows.{ruleOf, forLine}
 use Rattle.tables.specs.Tables.{tableOf}
-use Rattle.prints.specs.Keys.{keyAt}
+use Rattle.keywords.specs.Keys.{keyAt}
 use Rattle.prints.specs.Reading.{Reads}
 
 -- all of the text at the front, where it fits; where it does not, who lent the output makes it zeros

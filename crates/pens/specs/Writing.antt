@@ -21,7 +21,7 @@ use Rattle.entries.specs.declared.Rest.{Rest as CodeRest}
 use Rattle.entries.specs.Shapes.{restIn}
 use Rattle.tables.specs.Tables.{tableOf}
 use Rattle.prints.specs.Reading.{Reads}
-use Rattle.prints.specs.Keys.{keyAt}
+use Rattle.keywords.specs.Keys.{keyAt}
 use Rattle.pens.specs.Printed.{Prints}
 use Rattle.pens.specs.Texts.{lineBytes}
 use Rattle.pens.specs.Noting.{restOf, Noted, tablesOf, partTable, NotedParts, showDepth}

@@ -1,5 +1,4 @@
 pub mod Going
 pub mod Shown
 pub mod Commas
-pub mod KeyTexts
 pub mod Whole

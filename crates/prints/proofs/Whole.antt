@@ -28,7 +28,7 @@ use Rattle.tables.specs.Rows.{kindOf, ruleOf, forLine}
 use Rattle.tables.specs.Tables.{tableOf}
 use Rattle.entries.specs.Shapes.{shapeBy}
 use Rattle.entries.proofs.ByShape.{free-is}
-use Rattle.prints.specs.Keys.{keyAt}
+use Rattle.keywords.specs.Keys.{keyAt}
 use Rattle.prints.specs.Printing.{Prints, Writes}
 use Rattle.prints.specs.Texts.{sheetText, ratioText, behindText, lineEnd}
 use Rattle.prints.specs.Reading.{Reads, PrintsRow, PrintsLayer}

@@ -1,4 +1,3 @@
-pub mod Keys
 pub mod Printing
 pub mod Texts
 pub mod Reading

@@ -16,7 +16,7 @@ use Rattle.tables.specs.declared.Row.{Row}
 use Rattle.tables.specs.Rows.{ruleOf, forLine}
 use Rattle.tables.specs.Tables.{tableOf}
 use Rattle.entries.specs.Acts.{valueOf}
-use Rattle.prints.specs.Keys.{keyAt}
+use Rattle.keywords.specs.Keys.{keyAt}
 use Rattle.prints.specs.Texts.{lineEnd}
 use Rattle.prints.specs.Printing.{Prints}
 

@@ -1,6 +1,5 @@
 // The fixed form: one line, written from a line of an accepted spool.
 mod contents;
-pub mod keys;
 mod pieces;
 pub mod rows;
 mod texts;

@@ -1,11 +1,11 @@
 // One line of the fixed form, from a line of the spool.
 use crate::contents::content;
-use crate::keys::put_key;
 use crate::texts::text;
 use entries::Rest;
 use entries::Shape;
 use entries::names::part;
 use entries::shapes::shape_for;
+use keywords::put_key;
 use leaves::Wrote;
 use rules::Span;
 use tables::Row;

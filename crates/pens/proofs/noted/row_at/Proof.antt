@@ -6,7 +6,7 @@ use Rattle.pens.proofs.noted.row_at.Statement.{statement}
 use Rattle.pens.proofs.noted.row_at.Tie as tie
 use Rattle.pens.proofs.noted.row_at.Reads as reads
 use Rattle.pens.proofs.noted.row_at.Lts as lts
-use Rattle.prints.proofs.keys.put_key.Reads as put-key-reads
+use Rattle.keywords.proofs.put_key.Reads as put-key-reads
 use Rattle.tables.proofs.lookup.row_of.Reads as row-of-reads
 
 -- src/noted.rt:160:9

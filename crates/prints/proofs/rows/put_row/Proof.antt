@@ -1,6 +1,6 @@
 use Rattle.entries.specs.Shapes.{restIn, shapeIn}
 use Rattle.tables.specs.Tables.{tableOf}
-use Rattle.prints.specs.Keys.{keyAt}
+use Rattle.keywords.specs.Keys.{keyAt}
 use Rattle.prints.proofs.Going.{put-prints, from-front}
 use Rattle.prints.proofs.Whole.{row-line}
 use borrow.Author.Needs.{needs}
@@ -9,7 +9,7 @@ use Rattle.prints.proofs.rows.put_row.Tie as tie
 use Rattle.prints.proofs.rows.put_row.Reads as reads
 use Rattle.prints.proofs.rows.put_row.Lts as lts
 use Rattle.entries.proofs.shapes.shape_for.Reads as shape-for-reads
-use Rattle.prints.proofs.keys.put_key.Reads as put-key-reads
+use Rattle.keywords.proofs.put_key.Reads as put-key-reads
 use Rattle.prints.proofs.rows.behind.Reads as behind-reads
 use Rattle.prints.proofs.rows.end.Reads as end-reads
 

@@ -1,0 +1,38 @@
+use Prim.Native.Nat.{zero-le}
+use mathlib.Core.Path.{refl}
+use Rattle.rules.specs.Figures.{pointTable}
+use Rattle.keywords.proofs.KeyTexts.{past, key-none}
+use mathlib.Core.Bool.{true}
+use borrow.Author.Needs.{needs}
+use Rattle.keywords.proofs.point_key.Statement.{statement}
+use Rattle.keywords.proofs.point_key.Tie as tie
+use Rattle.keywords.proofs.point_key.Reads as reads
+use Rattle.keywords.proofs.point_key.Lts as lts
+use Rattle.leaves.proofs.write.put.Reads as put-reads
+
+slice-aggregate-put : tie.Need-slice-aggregate-put
+slice-aggregate-put c = refl
+
+put-requires : tie.Need-put-requires
+put-requires c κs = tt
+
+same-length : tie.Need-same-length
+same-length c = search needs
+
+returns : tie.Need-returns
+unfolding pointTable
+returns c = rw (c .before .before .before .before .before .if1 .taken) (c .before .before .put .ensures)
+
+returns-2 : tie.Need-returns-2
+unfolding pointTable
+returns-2 c = key-none (pointTable true) (c .before .before .args .row) (c .before .before .args .out .now) (past _ 0 zero-le (c .if1 .left))
+
+pub point-key-spec : {M : Type 1} → statement M
+point-key-spec =
+    tie.close
+    (tie.spec
+    slice-aggregate-put
+    put-requires
+    same-length
+    returns
+    returns-2)

@@ -1,0 +1,54 @@
+use Prim.Native.Nat.{zero-le}
+use mathlib.Core.Path.{refl}
+use Rattle.rules.specs.Blocks.{symTable}
+use Rattle.keywords.proofs.KeyTexts.{past, key-none}
+use borrow.Author.Needs.{needs}
+use Rattle.keywords.proofs.sym_key.Statement.{statement}
+use Rattle.keywords.proofs.sym_key.Tie as tie
+use Rattle.keywords.proofs.sym_key.Reads as reads
+use Rattle.keywords.proofs.sym_key.Lts as lts
+use Rattle.leaves.proofs.write.put.Reads as put-reads
+
+slice-aggregate-put : tie.Need-slice-aggregate-put
+slice-aggregate-put c = refl
+
+put-requires : tie.Need-put-requires
+put-requires c κs = tt
+
+same-length : tie.Need-same-length
+same-length c = search needs
+
+returns : tie.Need-returns
+unfolding symTable
+returns c = rw (c .before .before .before .before .before .if1 .taken) (c .before .before .put .ensures)
+
+slice-aggregate-put-2 : tie.Need-slice-aggregate-put-2
+slice-aggregate-put-2 c = refl
+
+put-requires-2 : tie.Need-put-requires-2
+put-requires-2 c κs = tt
+
+same-length-2 : tie.Need-same-length-2
+same-length-2 c = search needs
+
+returns-2 : tie.Need-returns-2
+unfolding symTable
+returns-2 c = rw (c .before .before .before .before .before .if2 .taken) (c .before .before .put2 .ensures)
+
+returns-3 : tie.Need-returns-3
+unfolding symTable
+returns-3 c = key-none symTable (c .before .before .before .args .row) (c .before .before .before .args .out .now) (past _ 1 (past _ 0 zero-le (c .before .if1 .left)) (c .if2 .left))
+
+pub sym-key-spec : {M : Type 1} → statement M
+sym-key-spec =
+    tie.close
+    (tie.spec
+    slice-aggregate-put
+    put-requires
+    same-length
+    returns
+    slice-aggregate-put-2
+    put-requires-2
+    same-length-2
+    returns-2
+    returns-3)

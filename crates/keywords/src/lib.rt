@@ -1,0 +1,446 @@
+// The keys of document 01, written: each from the byte string that it is compared with.
+use leaves::Wrote;
+use leaves::write::put;
+use tables::keys::AIR;
+use tables::keys::ALL_ELE;
+use tables::keys::ALL_LINE;
+use tables::keys::ARC;
+use tables::keys::B_SYM;
+use tables::keys::BASE;
+use tables::keys::CAD;
+use tables::keys::CHARACTER;
+use tables::keys::CIRCLE;
+use tables::keys::CIRCUIT;
+use tables::keys::CORP;
+use tables::keys::DATE;
+use tables::keys::DRAWER;
+use tables::keys::DRAWING_FORMAT;
+use tables::keys::DRAWNAME;
+use tables::keys::E_CIRNO;
+use tables::keys::E_SYM;
+use tables::keys::E_SYMBOL;
+use tables::keys::E_WIRE;
+use tables::keys::ELEC;
+use tables::keys::ELEMENT;
+use tables::keys::ELEMENT_BLOCK;
+use tables::keys::ELLIPSE;
+use tables::keys::FILE_FORMAT;
+use tables::keys::FLOOR_HEIGHT;
+use tables::keys::HARD;
+use tables::keys::HIDE;
+use tables::keys::HIGHT;
+use tables::keys::LAYER;
+use tables::keys::LAYER_NAME;
+use tables::keys::LINE;
+use tables::keys::MAKE;
+use tables::keys::NAME;
+use tables::keys::NEXT_FILE;
+use tables::keys::NON;
+use tables::keys::OS;
+use tables::keys::PIPE;
+use tables::keys::POINT;
+use tables::keys::POS;
+use tables::keys::PROJECT;
+use tables::keys::RANGE;
+use tables::keys::S_BASE;
+use tables::keys::S_ELEC;
+use tables::keys::SCALE;
+use tables::keys::SERIAL;
+use tables::keys::SIZE;
+use tables::keys::SUCCESSIVE;
+use tables::keys::SYM;
+use tables::keys::SYMBOL;
+use tables::keys::SYMBOL_DEFINE;
+use tables::keys::TEL;
+use tables::keys::TEXT;
+use tables::keys::THIS_ELE;
+use tables::keys::THIS_LINE;
+use tables::keys::TIME;
+use tables::keys::TYPE;
+use tables::keys::VER;
+use tables::keys::WALL;
+ghost use mathlib.Core.Bool.{true, false};
+ghost use Rattle.rules.specs.Blocks.{topTable, fileTable, rangeTable, baseTable, elecTable, symTable, laterTable, drawingTable, definesTable, symbolTable, elementTable};
+ghost use Rattle.rules.specs.Figures.{layerTable, pointTable, textTable, placedTable};
+ghost use Rattle.leaves.specs.Writing.{Puts};
+ghost use Rattle.keywords.specs.Keys.{keyAt};
+ghost use Rattle.tables.specs.Tables.{tableOf};
+
+// Outside all blocks.
+fn top_key(row: u8, out: &mut [u8]) -> Wrote
+    ensures { λ r. ⌜ Puts (keyAt topTable row) (now (out .entry)) (now (out .exit)) r ⌝ }
+{
+    if row == 0 {
+        return put(&FILE_FORMAT, out);
+    }
+    if row == 1 {
+        return put(&DRAWING_FORMAT, out);
+    }
+    if row == 2 {
+        return put(&SYMBOL_DEFINE, out);
+    }
+    if row == 3 {
+        return put(&ELEMENT_BLOCK, out);
+    }
+    Wrote::Bytes(0)
+}
+
+// FILE_FORMAT of the first volume.
+fn file_key(row: u8, out: &mut [u8]) -> Wrote
+    ensures { λ r. ⌜ Puts (keyAt fileTable row) (now (out .entry)) (now (out .exit)) r ⌝ }
+{
+    if row == 0 {
+        return put(&RANGE, out);
+    }
+    if row == 1 {
+        return put(&ALL_LINE, out);
+    }
+    if row == 2 {
+        return put(&THIS_LINE, out);
+    }
+    if row == 3 {
+        return put(&ALL_ELE, out);
+    }
+    if row == 4 {
+        return put(&THIS_ELE, out);
+    }
+    if row == 5 {
+        return put(&NEXT_FILE, out);
+    }
+    if row == 6 {
+        return put(&DATE, out);
+    }
+    if row == 7 {
+        return put(&TIME, out);
+    }
+    if row == 8 {
+        return put(&CAD, out);
+    }
+    if row == 9 {
+        return put(&OS, out);
+    }
+    if row == 10 {
+        return put(&HARD, out);
+    }
+    if row == 11 {
+        return put(&VER, out);
+    }
+    if row == 12 {
+        return put(&CORP, out);
+    }
+    if row == 13 {
+        return put(&MAKE, out);
+    }
+    if row == 14 {
+        return put(&TEL, out);
+    }
+    if row == 15 {
+        return put(&NAME, out);
+    }
+    Wrote::Bytes(0)
+}
+
+// `range`.
+fn range_key(row: u8, out: &mut [u8]) -> Wrote
+    ensures { λ r. ⌜ Puts (keyAt rangeTable row) (now (out .entry)) (now (out .exit)) r ⌝ }
+{
+    if row == 0 {
+        return put(&BASE, out);
+    }
+    if row == 1 {
+        return put(&ARC, out);
+    }
+    if row == 2 {
+        return put(&ELEC, out);
+    }
+    if row == 3 {
+        return put(&AIR, out);
+    }
+    if row == 4 {
+        return put(&PIPE, out);
+    }
+    if row == 5 {
+        return put(&SYM, out);
+    }
+    Wrote::Bytes(0)
+}
+
+// `base`.
+fn base_key(row: u8, out: &mut [u8]) -> Wrote
+    ensures { λ r. ⌜ Puts (keyAt baseTable row) (now (out .entry)) (now (out .exit)) r ⌝ }
+{
+    if row == 0 {
+        return put(&B_SYM, out);
+    }
+    Wrote::Bytes(0)
+}
+
+// `elec`.
+fn elec_key(row: u8, out: &mut [u8]) -> Wrote
+    ensures { λ r. ⌜ Puts (keyAt elecTable row) (now (out .entry)) (now (out .exit)) r ⌝ }
+{
+    if row == 0 {
+        return put(&E_SYM, out);
+    }
+    if row == 1 {
+        return put(&E_WIRE, out);
+    }
+    if row == 2 {
+        return put(&E_CIRNO, out);
+    }
+    Wrote::Bytes(0)
+}
+
+// `sym`.
+fn sym_key(row: u8, out: &mut [u8]) -> Wrote
+    ensures { λ r. ⌜ Puts (keyAt symTable row) (now (out .entry)) (now (out .exit)) r ⌝ }
+{
+    if row == 0 {
+        return put(&S_BASE, out);
+    }
+    if row == 1 {
+        return put(&S_ELEC, out);
+    }
+    Wrote::Bytes(0)
+}
+
+// FILE_FORMAT of a later volume.
+fn later_key(row: u8, out: &mut [u8]) -> Wrote
+    ensures { λ r. ⌜ Puts (keyAt laterTable row) (now (out .entry)) (now (out .exit)) r ⌝ }
+{
+    if row == 0 {
+        return put(&THIS_LINE, out);
+    }
+    if row == 1 {
+        return put(&THIS_ELE, out);
+    }
+    if row == 2 {
+        return put(&NEXT_FILE, out);
+    }
+    if row == 3 {
+        return put(&DATE, out);
+    }
+    if row == 4 {
+        return put(&TIME, out);
+    }
+    Wrote::Bytes(0)
+}
+
+// DRAWING_FORMAT.
+fn drawing_key(row: u8, out: &mut [u8]) -> Wrote
+    ensures { λ r. ⌜ Puts (keyAt drawingTable row) (now (out .entry)) (now (out .exit)) r ⌝ }
+{
+    if row == 0 {
+        return put(&SIZE, out);
+    }
+    if row == 1 {
+        return put(&SCALE, out);
+    }
+    if row == 2 {
+        return put(&PROJECT, out);
+    }
+    if row == 3 {
+        return put(&DRAWNAME, out);
+    }
+    if row == 4 {
+        return put(&DATE, out);
+    }
+    if row == 5 {
+        return put(&DRAWER, out);
+    }
+    if row == 6 {
+        return put(&FLOOR_HEIGHT, out);
+    }
+    if row == 7 {
+        return put(&LAYER_NAME, out);
+    }
+    Wrote::Bytes(0)
+}
+
+// SYMBOL_DEFINE.
+fn defines_key(row: u8, out: &mut [u8]) -> Wrote
+    ensures { λ r. ⌜ Puts (keyAt definesTable row) (now (out .entry)) (now (out .exit)) r ⌝ }
+{
+    if row == 0 {
+        return put(&NON, out);
+    }
+    if row == 1 {
+        return put(&E_SYMBOL, out);
+    }
+    Wrote::Bytes(0)
+}
+
+// A symbol's block.
+fn symbol_key(row: u8, out: &mut [u8]) -> Wrote
+    ensures { λ r. ⌜ Puts (keyAt symbolTable row) (now (out .entry)) (now (out .exit)) r ⌝ }
+{
+    if row == 0 {
+        return put(&NAME, out);
+    }
+    if row == 1 {
+        return put(&ELEMENT, out);
+    }
+    if row == 2 {
+        return put(&HIDE, out);
+    }
+    if row == 3 {
+        return put(&WALL, out);
+    }
+    Wrote::Bytes(0)
+}
+
+// ELEMENT.
+fn element_key(row: u8, out: &mut [u8]) -> Wrote
+    ensures { λ r. ⌜ Puts (keyAt elementTable row) (now (out .entry)) (now (out .exit)) r ⌝ }
+{
+    if row == 0 {
+        return put(&LAYER, out);
+    }
+    Wrote::Bytes(0)
+}
+
+// The figures, and a placed symbol among those of a layer.
+fn figure_key(row: u8, out: &mut [u8]) -> Wrote
+    ensures { λ r. ⌜ Puts (keyAt (layerTable false) row) (now (out .entry)) (now (out .exit)) r ⌝ }
+{
+    if row == 0 {
+        return put(&LINE, out);
+    }
+    if row == 1 {
+        return put(&CIRCLE, out);
+    }
+    if row == 2 {
+        return put(&ELLIPSE, out);
+    }
+    if row == 3 {
+        return put(&POINT, out);
+    }
+    if row == 4 {
+        return put(&SUCCESSIVE, out);
+    }
+    if row == 5 {
+        return put(&TEXT, out);
+    }
+    if row == 6 {
+        return put(&E_SYMBOL, out);
+    }
+    Wrote::Bytes(0)
+}
+
+// `successive` or `hide`.
+fn point_key(row: u8, out: &mut [u8]) -> Wrote
+    ensures { λ r. ⌜ Puts (keyAt (pointTable true) row) (now (out .entry)) (now (out .exit)) r ⌝ }
+{
+    if row == 0 {
+        return put(&POINT, out);
+    }
+    Wrote::Bytes(0)
+}
+
+// `text`.
+fn lettering_key(row: u8, out: &mut [u8]) -> Wrote
+    ensures { λ r. ⌜ Puts (keyAt (textTable true 4 12) row) (now (out .entry)) (now (out .exit)) r ⌝ }
+{
+    if row == 0 {
+        return put(&TYPE, out);
+    }
+    if row == 1 {
+        return put(&CHARACTER, out);
+    }
+    Wrote::Bytes(0)
+}
+
+// A placed symbol's block.
+fn placed_key(row: u8, out: &mut [u8]) -> Wrote
+    ensures { λ r. ⌜ Puts (keyAt placedTable row) (now (out .entry)) (now (out .exit)) r ⌝ }
+{
+    if row == 0 {
+        return put(&SYMBOL, out);
+    }
+    if row == 1 {
+        return put(&TEXT, out);
+    }
+    if row == 2 {
+        return put(&HIGHT, out);
+    }
+    if row == 3 {
+        return put(&POS, out);
+    }
+    if row == 4 {
+        return put(&CIRCUIT, out);
+    }
+    if row == 5 {
+        return put(&SERIAL, out);
+    }
+    Wrote::Bytes(0)
+}
+
+// The key of a table's row at the front of out, where it fits; what is no row has no key.
+pub fn put_key(table: u8, row: u8, out: &mut [u8]) -> Wrote
+    ensures { λ r. ⌜ Puts (keyAt (tableOf table) row) (now (out .entry)) (now (out .exit)) r ⌝ }
+{
+    if table == 0 {
+        return top_key(row, out);
+    }
+    if table == 1 {
+        return file_key(row, out);
+    }
+    if table == 2 {
+        return range_key(row, out);
+    }
+    if table == 3 {
+        return base_key(row, out);
+    }
+    if table == 4 {
+        return elec_key(row, out);
+    }
+    if table == 5 {
+        return sym_key(row, out);
+    }
+    if table == 6 {
+        return later_key(row, out);
+    }
+    if table == 7 {
+        return drawing_key(row, out);
+    }
+    if table == 8 {
+        return defines_key(row, out);
+    }
+    if table == 9 {
+        return symbol_key(row, out);
+    }
+    if table == 10 {
+        return element_key(row, out);
+    }
+    if table == 11 {
+        return figure_key(row, out);
+    }
+    if table == 12 {
+        return figure_key(row, out);
+    }
+    if table == 13 {
+        if row == 6 {
+            return Wrote::Bytes(0);
+        }
+        return figure_key(row, out);
+    }
+    if table == 14 {
+        return point_key(row, out);
+    }
+    if table == 15 {
+        return point_key(row, out);
+    }
+    if table == 16 {
+        return lettering_key(row, out);
+    }
+    if table == 17 {
+        return lettering_key(row, out);
+    }
+    if table == 18 {
+        return placed_key(row, out);
+    }
+    if table == 19 {
+        return lettering_key(row, out);
+    }
+    Wrote::Bytes(0)
+}
