@@ -1,1 +1,2 @@
 pub mod KeyTexts
+pub mod Unique
