@@ -1,5 +1,5 @@
 -- A line in a `successive`: from the code's answer to the step that the definitions make.
-use Prim.Native.Nat.{ℕ, _+_, _*_, _-_, _≤_}
+use Prim.Native.Nat.{ℕ, _+_, _*_, _≤_}
 use mathlib.Core.Bool.{Bool, true, false, cond}
 use mathlib.Core.List.{List, [], _∷_, _++_, append-assoc}
 use mathlib.Core.Option.{some}
@@ -35,7 +35,7 @@ use Rattle.account.specs.Points.{pointTableOf, chainKind, pointAct, morePoints,
 use Rattle.standing.proofs.Openers.{isBegin, no-begin}
 use Rattle.standing.proofs.LaidTables.{laid-same, laid-part, laid-within, laid-change}
 use Rattle.standing.proofs.MoreRecords.{more-points, more-figures, figures-taken}
-use Rattle.standing.proofs.Standings.{has-room, sight, deskWith, stands-on, known}
+use Rattle.standing.proofs.Standings.{has-room, sight, deskWith, stands-on, known, stands-still}
 use Rattle.standing.proofs.HomeFacts.{home-layered, home-owner, home-volume, home-on, home-stays}
 use Rattle.standing.proofs.FigureSights.{plain-serials}
 use Rattle.standing.proofs.RecordStores.{store-part, laid-get, points-size}
@@ -108,12 +108,7 @@ module _ (c : Digits) (spool : List ℕ) (k : ℕ) (FileHere : Desk → Set → 
 
     -- nothing but the place in the spool
     on-stay : did ≡ stay → t₁ ≡ d .table → Out (S.Go (d .now))
-    on-stay a q = (
-      st,
-      ap (byAct _ _ _ _) a,
-      stands-on c spool k FileHere d at to st st z (d .now) (d .marks) (d .inner) t₁ refl (z .lengths .marks) (z .lengths .inner) (subst (λ (t : List ℤ). Laid t (soFar c st) (d .now .free)) (sym q) (z .laid)) (z .taken)
-          (omega (arith, z .counted, later)) (omega (arith, z .named, later)) (omega (arith, z .numbered, later)) (z .block),
-    )
+    on-stay a q = (st, ap (byAct _ _ _ _) a, stands-still c spool k FileHere d at to st z later (d .tally) (d .marks) (d .inner) (d .header) t₁ refl refl refl refl q)
 
     -- one more point
     module _ (j : ℕ) (v : Value) (a : did ≡ entry j v) where

@@ -9,7 +9,7 @@ use lib.Dec.{eqb}
 use lib.IntN.{ℤ}
 use lib.ListN.{length, getD, take, replicate, length-replicate}
 use lib.Seq.{length-take-le}
-use borrow.Author.Tests.{leb-true, ne-eqb}
+use borrow.Author.Tests.{leb-true}
 use Rattle.rules.specs.declared.Digits.{Digits}
 use Rattle.rules.specs.declared.LineForm.{LineForm}
 use Rattle.rules.specs.Base.{isNil}
@@ -38,11 +38,11 @@ use Rattle.standing.specs.Standing.{Desk, setOf, openFigures, nameBytes,
 use Rattle.account.specs.SymbolLines.{nonIn, nonRead, symbolOpened, openSymbol, closeDefines, definesStep, SymbolBegun, Untouched, OpenedOr, DefinesTable, DefinesLine}
 use Rattle.standing.proofs.Openers.{plainKind}
 use Rattle.standing.proofs.LineOrigins.{From, begin-from}
-use Rattle.standing.proofs.OpenedRows.{begin-row}
 use Rattle.standing.proofs.LineSizes.{begin-size}
 use Rattle.standing.proofs.LaidTables.{laid-same}
 use Rattle.standing.proofs.HeadRecords.{head-laid}
-use Rattle.standing.proofs.Standings.{has-room, sight, deskWith, stands-on, known}
+use Rattle.standing.proofs.Standings.{has-room, sight, deskWith, stands-on, known, nil-count}
+use Rattle.standing.proofs.RowOpeners.{begin-row}
 
 -- ── what is computed of the tables ──
 pub defines-rows : tableOf 8 ≡ definesTable
@@ -89,16 +89,12 @@ opener-key (suc zero) h e = refl
 opener-key (suc (suc j)) h e = absurd (omega (arith, h))
 
 -- ── counts and marks ──
-pub nil-count : {A : Type 0} (s : List A) → eqb (length s) 0 ≡ isNil s
-nil-count [] = refl
-nil-count (a ∷ s) = ne-eqb (suc (length s)) 0 (λ e. absurd (omega (arith, e)))
-
 non-in : (n : Now) (b : Bool) → n .part ≡ cond b 1 0 → nonIn n ≡ b
 non-in n true e = ap (λ (m : ℕ). not (eqb m 0)) e
 non-in n false e = ap (λ (m : ℕ). not (eqb m 0)) e
 
-first-volume : (k : ℕ) (s : Set) → First k s → k ≡ volumeOf s
-first-volume k s f = f .volume ∙ go (s .volumes) (f .first)
+volume-here : (k : ℕ) (s : Set) → First k s → k ≡ volumeOf s
+volume-here k s f = f .volume ∙ go (s .volumes) (f .first)
   where
     go : (vs : List Contents) → isNil vs ≡ true → 1 ≡ suc (length vs)
     go [] e = refl
@@ -182,7 +178,7 @@ module _ (c : Digits) (spool : List ℕ) (k : ℕ) (FileHere : Desk → Set → 
         go : (y : Bool) → stepIn e l st ≡ unless y 8 (got (top s 3)) → (nonIn (d .now) || not (eqb namesLent 0)) ≡ y → Out (closeDefines (d .now) namesLent)
         go true p h =
             subst Out (ap (λ (y : Bool). cond y (S.Go (atBlock (d .now) 0 3)) (S.Stop 8)) (sym h))
-            (top s 3, p, kept (top s 3) (atBlock (d .now) 0 3) refl q refl (ap (baseRecords c s) (sym (first .first))) (z .taken) refl refl refl (refl, refl, (first-volume k s first, first .blocks)))
+            (top s 3, p, kept (top s 3) (atBlock (d .now) 0 3) refl q refl (ap (baseRecords c s) (sym (first .first))) (z .taken) refl refl refl (refl, refl, (volume-here k s first, first .blocks)))
         go false p h = subst Out (ap (λ (y : Bool). cond y (S.Go (atBlock (d .now) 0 3)) (S.Stop 8)) (sym h)) p
 
     on-refuse : (m : ℕ) → did ≡ refuse m → Out (S.Stop m)
@@ -199,7 +195,7 @@ module _ (c : Digits) (spool : List ℕ) (k : ℕ) (FileHere : Desk → Set → 
           let r : length (ruleAt definesTable j .key) + 2 ≤ formSize (l .form) =
           subst (λ (y : Rule). length (y .key) + 2 ≤ formSize (l .form)) (sym (row-at (from .row) _))
           (begin-size (knownOf s) definesTable (digitsOf (defineRange s)) (b ∷ false ∷ []) (l .form) i j v from) in
-          omega (arith, x .bytes, opener-key j (omega (arith, row-below (from .row), two-rows)) (begin-row (knownOf s) definesTable (digitsOf (defineRange s)) (b ∷ false ∷ []) (l .form) i j v from .0), r)
+          omega (arith, x .bytes, opener-key j (omega (arith, row-below (from .row), two-rows)) (begin-row (knownOf s) definesTable (digitsOf (defineRange s)) (b ∷ false ∷ []) (l .form) j i v from .0), r)
 
       abbrev y₀ : Symbol
       y₀ = blankSymbol (l .line)

@@ -1,34 +1,32 @@
 -- A line in DRAWING_FORMAT: from the code's answer to the step that the definitions make.
-use Prim.Native.Nat.{ℕ, zero, suc, _≤_}
-use mathlib.Core.Bool.{Bool, true, _||_, not}
+use Prim.Native.Nat.{ℕ, _≤_}
+use mathlib.Core.Bool.{Bool, true}
 use mathlib.Core.List.{List, [], _∷_, _++_, map}
 use mathlib.Core.Option.{some}
 use mathlib.Core.Path.{_≡_, refl, sym, _∙_, ap, subst}
 use native.Mathlib.Omega.{arith}
-use borrow.Author.Tests.{eqb-true}
-use lib.Dec.{eqb}
 use lib.IntN.{ℤ}
 use lib.ListN.{length, getD, set, take, length-set}
-use lib.Seq.{sets, take-set-lt}
+use lib.Seq.{take-set-lt}
 use Rattle.rules.specs.declared.Digits.{Digits}
 use Rattle.rules.specs.declared.LineForm.{LineForm}
 use Rattle.rules.specs.Base.{all}
 use Rattle.rules.specs.RangeClass.{digitsOf}
 use Rattle.rules.specs.Lines.{formIn}
-use Rattle.rules.specs.Values.{Known, Value, Kind}
+use Rattle.rules.specs.Values.{Known, Value}
 use Rattle.rules.specs.Rows.{Rule, Slots, Held, marks, Act, stay, entry, begin, shut, refuse, act}
 use Rattle.rules.specs.Blocks.{drawingTable}
 use Rattle.rules.specs.Sets.{Layer, Drawing, Set, withOwn, withDrawing, arcOf, symbolNameOf, knownOf}
 use Rattle.rules.specs.Machine.{Line, Env, State, top, drawing, layerNames, byAct}
-use Rattle.rules.specs.RecordTable.{numbers, given, columns, ruleAt, start, putNumbers, putState, fileRecords, drawingRecord, layerRecords}
+use Rattle.rules.specs.RecordTable.{ruleAt, start, fileRecords, drawingRecord, layerRecords}
 use Rattle.tables.specs.Tables.{tableOf}
 use Rattle.entries.specs.Names.{namesIn, knownIn}
-use Rattle.entries.specs.Acts.{placeOf, putLine}
+use Rattle.entries.specs.Acts.{putLine}
 use Rattle.account.specs.declared.Where.{Where}
 use Rattle.account.specs.declared.Now.{Now}
 use Rattle.account.specs.declared.Step.{Step}
 use Rattle.account.specs.declared.Step.the-variants as S
-use Rattle.account.specs.Placing.{putValue, fills, clearTable}
+use Rattle.account.specs.Placing.{clearTable}
 use Rattle.standing.specs.Laid.{Laid}
 use Rattle.account.specs.Records.{partAt, withPart}
 use Rattle.account.specs.Account.{atBlock}
@@ -37,12 +35,11 @@ use Rattle.standing.specs.Standing.{Desk, InDrawing, Stands, Under, Line
 use Rattle.account.specs.TopLines.{Answered}
 use Rattle.account.specs.DrawingLines.{drawingAct, drawingNow, drawingMarks, drawingPut}
 use Rattle.account.proofs.RowsTaken.{Taken, entry-taken, begin-taken}
-use Rattle.standing.proofs.Puts.{all-at, slots-set}
 use Rattle.standing.proofs.Marks.{marks-set, mark-free}
-use Rattle.account.proofs.Lent.{with-same}
-use Rattle.standing.proofs.LaidTables.{laid-part, laid-change}
+use Rattle.standing.proofs.LaidTables.{laid-part, laid-change, with-back}
 use Rattle.standing.proofs.SlotLengths.{length-slots}
-use Rattle.standing.proofs.Standings.{deskWith, stands-on}
+use Rattle.standing.proofs.Standings.{deskWith, stands-on, lengths-kept, stands-still}
+use Rattle.standing.proofs.OwnLines.{housed, own-line}
 
 -- ── what is computed of the table ──
 pub drawing-table : tableOf 7 ≡ drawingTable
@@ -57,25 +54,9 @@ eight-rows : length drawingTable ≡ 8
 unfolding drawingTable
 eight-rows = refl
 
--- a row has places of its own, or no numbers to put
-abbrev settledRow : Rule → Bool
-settledRow r = not (eqb (r .place) 0) || eqb (columns (r .holds)) 0
-
-settled-rows : all settledRow drawingTable ≡ true
+housed-rows : all housed drawingTable ≡ true
 unfolding drawingTable
-settled-rows = refl
-
--- ── a row's numbers, at its places ──
-none-put : (h : Kind) (zs : List ℤ) → columns h ≡ 0 → fills h zs ≡ true → zs ≡ []
-none-put h [] e f = refl
-none-put h (z ∷ zs) e f = absurd (omega (arith, e, eqb-true (length (z ∷ zs)) (columns h) f))
-
-put-place : (p q : ℕ) (h : Kind) (z : ℤ) (zs t : List ℤ) → (not (eqb p 0) || eqb (columns h) 0) ≡ true → fills h zs ≡ true → putState q z (sets t (placeOf p 0) zs) ≡ putState q z (putNumbers p zs t)
-put-place zero q h z zs t e f = ap (λ (y : List ℤ). putState q z (sets t 0 y)) (none-put h zs (eqb-true (columns h) 0 e) f)
-put-place (suc p) q h z zs t e f = refl
-
-pub row-value : (r : Rule) (v : Value) (t : List ℤ) → settledRow r ≡ true → fills (r .holds) (numbers v) ≡ true → putLine r 0 v t ≡ putValue r v t
-row-value r v t e f = put-place (r .place) (r .state) (r .holds) (given v) (numbers v) t e f
+housed-rows = refl
 
 -- ── the drawing's record ──
 drawing-length : (g : Drawing) → length (drawingRecord g) ≡ 32
@@ -85,8 +66,7 @@ drawing-length g = length-slots drawingTable (g .own) (start 3 0 1 (g .line))
 drawing-entry : (g : Drawing) (j : ℕ) (v : Value) → length (g .own) ≡ 8 → Taken drawingTable (marks (g .own)) j v
     → putLine (ruleAt drawingTable j) 0 v (drawingRecord g) ≡ drawingRecord (withOwn (set (g .own) j (some v)) g)
 drawing-entry g j v e k =
-    row-value (ruleAt drawingTable j) v (drawingRecord g) (all-at settledRow drawingTable j (k .row) settled-rows) (k .fill)
-    ∙ sym (slots-set drawingTable (g .own) j v (start 3 0 1 (g .line)) (e ∙ sym eight-rows) (k .row) (mark-free (g .own) j (k .free)) (k .fill) clear-rows)
+    own-line drawingTable (g .own) j v (start 3 0 1 (g .line)) (e ∙ sym eight-rows) (k .row) (mark-free (g .own) j (k .free)) (k .fill) clear-rows housed-rows
 
 module _ (c : Digits) (spool : List ℕ) (k : ℕ) (FileHere : Desk → Set → ℕ → Held → ℕ → Type 0) (d : Desk) (at to : ℕ) (e : Env) (l : Line) (w : Where) (form : LineForm) (u : Under c d e)
     (x : LineHere spool k at to form w l) (s : Set) (g : Drawing) (z : Stands c spool k d (FileHere d) at (drawing s g)) where
@@ -144,18 +124,9 @@ module _ (c : Digits) (spool : List ℕ) (k : ℕ) (FileHere : Desk → Set → 
     abbrev Out : Step → Type 0
     Out r = StepOut c spool k FileHere e l to st (deskWith d (d .now) m₁ (d .inner) t₁) r
 
-    same-laid : rec₁ ≡ partAt place (d .table) → Laid t₁ (soFar c st) (d .now .free)
-    same-laid q = subst (λ (t : List ℤ). Laid t (soFar c st) (d .now .free)) (sym (ap (λ (y : List ℤ). withPart place y (d .table)) q ∙ with-same place (d .table))) (z .laid)
-
     -- nothing but the place in the spool
     on-stay : did ≡ stay → m₁ ≡ d .marks → rec₁ ≡ partAt place (d .table) → Out (S.Go (d .now))
-    on-stay a m q = (
-      st,
-      ap (byAct _ _ _ _) a,
-      stands-on c spool k FileHere d at to st st z (d .now) m₁ (d .inner) t₁ refl (ap length m ∙ z .lengths .marks) (z .lengths .inner) (same-laid q) (z .taken)
-          (omega (arith, z .counted, later)) (omega (arith, z .named, later)) (omega (arith, z .numbered, later))
-          (z .block .0, record { phase = inw .phase; bare = inw .bare; own = inw .own; slots = inw .slots; marked = ap (take 8) m ∙ inw .marked }),
-    )
+    on-stay a m q = (st, ap (byAct _ _ _ _) a, stands-still c spool k FileHere d at to st z later (d .tally) m₁ (d .inner) (d .header) t₁ refl m refl refl (with-back place rec₁ (d .table) q))
 
     -- one of its rows: j, with these numbers
     module _ (j : ℕ) (v : Value) (it : Taken drawingTable (marks (g .own)) j v) (m : m₁ ≡ set (d .marks) j true) (q : rec₁ ≡ putLine (ruleAt (tableOf 7) j) 0 v (partAt place (d .table))) where
@@ -209,17 +180,8 @@ module _ (c : Digits) (spool : List ℕ) (k : ℕ) (FileHere : Desk → Set → 
       top (withDrawing g s) 2,
       ap (byAct _ _ _ _) a,
       record {
-        lengths = record {
-          symbols = z .lengths .symbols;
-          layers = z .lengths .layers;
-          serials = z .lengths .serials;
-          used = z .lengths .used;
-          usedAll = z .lengths .usedAll;
-          marks = ap length m ∙ z .lengths .marks;
-          inner = z .lengths .inner;
-          header = z .lengths .header;
-        };
-        laid = same-laid q;
+        lengths = lengths-kept d (atBlock (d .now) 0 2) (d .tally) m₁ (d .inner) (d .header) t₁ (z .lengths) (ap length m ∙ z .lengths .marks) (z .lengths .inner) (z .lengths .header);
+        laid = subst (λ (t : List ℤ). Laid t (soFar c st) (d .now .free)) (sym (with-back place rec₁ (d .table) q)) (z .laid);
         taken = z .taken;
         here = z .here;
         this = z .this;

@@ -8,18 +8,17 @@ use lib.Dec.{eqb}
 use lib.ListN.{length, getD, set, take, length-append, length-set}
 use Rattle.rules.specs.declared.Digits.{Digits}
 use Rattle.rules.specs.declared.LineForm.{LineForm}
-use Rattle.rules.specs.Base.{flat, total, hasNumber}
+use Rattle.rules.specs.Base.{flat, hasNumber}
 use Rattle.rules.specs.RefusalNumbers.{got, unless}
 use Rattle.rules.specs.RangeClass.{digits}
 use Rattle.rules.specs.Lines.{formIn}
 use Rattle.rules.specs.Values.{Known, Value, amountAt}
-use Rattle.rules.specs.Rows.{Rule, Held, partOf, numberOf, fullAt, Act, stay, entry, begin, shut, refuse, act}
-use Rattle.rules.specs.Blocks.{fileTable, rangeTable, elecTable, symTable, elementTable}
-use Rattle.rules.specs.Sets.{Layer, Contents, Set, withVolume, firstContents, knownOf, serialsOfVolume, serialsIn, elementsOf, usedIn}
+use Rattle.rules.specs.Rows.{Rule, Held, fullAt, Act, stay, entry, begin, shut, refuse, act}
+use Rattle.rules.specs.Blocks.{elementTable}
+use Rattle.rules.specs.Sets.{Layer, Set, withVolume, knownOf, serialsIn, elementsOf, usedIn}
 use Rattle.rules.specs.VolumesAndTotals.{countedHere}
 use Rattle.rules.specs.Machine.{Line, Env, inLayer, State, top, elements, figures, byAct}
 use Rattle.rules.proofs.Chains.{clash, nil-snoc, total-more}
-use Rattle.rules.proofs.Runs.{head-snoc}
 use Rattle.tables.specs.Tables.{tableOf}
 use Rattle.entries.specs.Names.{knownIn}
 use Rattle.account.specs.declared.Where.{Where}
@@ -32,30 +31,9 @@ use Rattle.account.specs.ElementLines.{layerOpened, agrees, elementStep, Elemen
 use Rattle.standing.proofs.Openers.{isEntry, no-entry}
 use Rattle.standing.proofs.LaidTables.{laid-same}
 use Rattle.standing.proofs.MoreRecords.{volume-closed}
-use Rattle.standing.proofs.Standings.{stands-on, known}
-use Rattle.standing.proofs.UsedLayers.{element-rows, element-full, element-opens, layer-known, used-more, flat-more}
-
--- ── a closed volume ──
--- the tally by what the first volume's FILE_FORMAT says
-abbrev tallyBy : Contents → ℕ → ℕ → ℕ → ℕ → ℕ → ℕ → List ℕ
-tallyBy v here now closed symbols layers serials =
-    numberOf "arc" rangeTable (partOf (v .file) 1) ∷ numberOf "E_sym" elecTable (partOf (v .file) 3) ∷ numberOf "S_elec" symTable (partOf (v .file) 4)
-    ∷ numberOf "date" fileTable (partOf (v .file) 0) ∷ numberOf "time" fileTable (partOf (v .file) 0) ∷ numberOf "all_ele" fileTable (partOf (v .file) 0)
-    ∷ here ∷ now ∷ closed ∷ symbols ∷ layers ∷ serials ∷ []
-
-closed-serials : (s : Set) → closedSerials (withVolume s) ≡ serialsIn s
-closed-serials s = flat-more serialsOfVolume (s .volumes) (s .now)
-
-closed-tally : (s : Set) (here layers : ℕ)
-    → tallyOf (withVolume s) here layers (length (closedSerials (withVolume s))) ≡ tallyBy (firstContents s) here (elementsOf (s .now)) (total elementsOf (s .volumes) + elementsOf (s .now)) (length (s .symbols)) layers (length (serialsIn s))
-closed-tally s here layers =
-    let v : Set = withVolume s in
-    ap (λ (n : ℕ). tallyOf v here layers n) (ap length (closed-serials s))
-    ∙ ap (λ (n : ℕ). tallyBy (firstContents v) here (elementsOf (s .now)) n (length (s .symbols)) layers (length (serialsIn s))) (total-more elementsOf (s .volumes) (s .now))
-    ∙ ap (λ (u : Contents). tallyBy u here (elementsOf (s .now)) (total elementsOf (s .volumes) + elementsOf (s .now)) (length (s .symbols)) layers (length (serialsIn s))) (head-snoc (s .now) (s .now) (s .volumes))
-
-closed-used : (s : Set) → flat (map usedIn (s .volumes)) ++ usedIn (s .now) ≡ flat (map usedIn (withVolume s .volumes)) ++ []
-closed-used s = sym (append-nil (flat (map usedIn (withVolume s .volumes))) ∙ flat-more usedIn (s .volumes) (s .now))
+use Rattle.standing.proofs.Standings.{known, lengths-kept, stands-still}
+use Rattle.standing.proofs.UsedLayers.{element-rows, element-full, element-opens, layer-known, used-more}
+use Rattle.standing.proofs.ClosedLayers.{closed-serials, closed-tally, closed-used}
 
 -- the act that the code goes by
 abbrev pub elementAct : List ℕ → Desk → LineForm → Act
@@ -101,12 +79,7 @@ module _ (c : Digits) (spool : List ℕ) (k : ℕ) (FileHere : Desk → Set → 
 
   -- ── nothing but the place in the spool ──
   on-stay : did ≡ stay → OutOf (d .tally) (d .used) (d .usedAll) (S.Go (d .now))
-  on-stay a = (
-    st,
-    ap (byAct _ _ _ _) a,
-    stands-on c spool k FileHere d at to st st z (d .now) (d .marks) (d .inner) (d .table) refl (z .lengths .marks) (z .lengths .inner) (z .laid) (z .taken)
-        (omega (arith, z .counted, later)) (omega (arith, z .named, later)) (omega (arith, z .numbered, later)) (z .block),
-  )
+  on-stay a = (st, ap (byAct _ _ _ _) a, stands-still c spool k FileHere d at to st z later (d .tally) (d .marks) (d .inner) (d .header) (d .table) refl refl refl refl refl)
 
   -- ── a layer opens ──
   module _ (i j : ℕ) (v : Value) (a : did ≡ begin i j v) where
@@ -187,16 +160,7 @@ module _ (c : Digits) (spool : List ℕ) (k : ℕ) (FileHere : Desk → Set → 
           st″,
           ap (byAct _ _ _ _) a ∙ ap (λ (y : Bool). unless y 17 (got st″)) (sym agrees-here ∙ b),
           record {
-            lengths = record {
-              symbols = z .lengths .symbols;
-              layers = z .lengths .layers;
-              serials = z .lengths .serials;
-              used = z .lengths .used;
-              usedAll = z .lengths .usedAll;
-              marks = z .lengths .marks;
-              inner = z .lengths .inner;
-              header = z .lengths .header;
-            };
+            lengths = lengths-kept d (atBlock (d .now) 0 4) (set (d .tally) 8 (getD (d .tally) 8 0 + getD (d .tally) 7 0)) (d .marks) (d .inner) (d .header) (d .table) (z .lengths) (z .lengths .marks) (z .lengths .inner) (z .lengths .header);
             laid = laid-same (d .table) (soFar c st) (soFar c st″) (d .now .free) (sym (volume-closed c s)) (z .laid);
             taken = z .taken;
             here = z .here;

@@ -1,29 +1,29 @@
 -- A line among the figures of a layer or of a symbol's `element`: from the code's answer to the step that the definitions make.
 use Prim.Native.Nat.{ℕ, zero, suc, _+_, _*_, _≤_, _<_}
 use mathlib.Core.Bool.{Bool, true, false, cond, _&&_, _||_, not}
-use mathlib.Core.List.{List, [], _∷_, _++_, map, append-assoc, append-nil}
+use mathlib.Core.List.{List, [], _∷_, _++_, map, append-assoc}
 use mathlib.Core.Path.{_≡_, refl, sym, _∙_, ap, subst}
 use native.Mathlib.Omega.{arith}
-use borrow.Author.Tests.{eqb-true, eq-eqb, ne-eqb, leb-true, not-true}
+use borrow.Author.Tests.{eqb-true, eq-eqb, leb-true, not-true}
 use lib.Dec.{eqb, leb}
 use lib.IntN.{ℤ, pos}
 use lib.ListN.{length, getD, set, take, replicate, length-append, length-replicate}
 use lib.Seq.{sets, length-sets}
 use Rattle.rules.specs.declared.Digits.{Digits}
 use Rattle.rules.specs.declared.LineForm.{LineForm}
-use Rattle.rules.specs.Base.{flat, total, isNil, hasNumber}
+use Rattle.rules.specs.Base.{flat, isNil, hasNumber}
 use Rattle.rules.specs.RefusalNumbers.{got, bad, unless}
 use Rattle.rules.specs.RangeClass.{digitsOf}
 use Rattle.rules.specs.Lines.{Rest, brace, formIn}
-use Rattle.rules.specs.Values.{Num, Known, Value, nums, numsOf}
-use Rattle.rules.specs.Rows.{Rule, Held, blank, partOf, marks, fullAt, Act, stay, entry, begin, shut, refuse, act, innerOf, numberOf}
-use Rattle.rules.specs.Blocks.{blankHeld, fileTable, rangeTable, elecTable, symTable}
-use Rattle.rules.specs.Figures.{textTable, placedTable, placedTables}
-use Rattle.rules.specs.Sets.{Figure, plain, placed, Symbol, LayerBlock, Contents, Set, headOr, firstContents, symbolRange, rangeOf, knownOf, withRecords, withBlock, symbolFigures, elementsOf, usedIn, figureSerial, serialsOfBlock, serialsOfVolume, serialsIn}
+use Rattle.rules.specs.Values.{Known, Value, nums, numsOf}
+use Rattle.rules.specs.Rows.{Rule, Held, blank, marks, fullAt, Act, stay, entry, begin, shut, refuse, act, innerOf}
+use Rattle.rules.specs.Blocks.{blankHeld}
+use Rattle.rules.specs.Figures.{textTable, placedTables}
+use Rattle.rules.specs.Sets.{Figure, plain, Symbol, Set, symbolRange, rangeOf, knownOf, withRecords, symbolFigures, usedIn}
 use Rattle.rules.specs.Machine as M
 use Rattle.rules.specs.Machine.{Line, Env, Home, inElement, inLayer, isLayer, State, symbol, elements, figures, successive, texts, placing, byAct, openFigure, roomFor}
-use Rattle.rules.specs.RecordTable.{numbers, ruleAt, start, putState, putHeld, textRecord, innerRecords}
-use Rattle.rules.proofs.Chains.{clash, and-left, and-right, same-eq, or-left, map-append, flat-append, total-more}
+use Rattle.rules.specs.RecordTable.{numbers, ruleAt, start, innerRecords}
+use Rattle.rules.proofs.Chains.{clash, and-left, and-right, same-eq, or-left}
 use Rattle.rules.proofs.Rows.{row-at, row-all, found-row}
 use Rattle.tables.specs.Tables.{tableOf}
 use Rattle.entries.specs.Names.{knownIn}
@@ -32,155 +32,29 @@ use Rattle.account.specs.declared.Now.{Now}
 use Rattle.account.specs.declared.Where.{Where}
 use Rattle.account.specs.declared.Step.{Step}
 use Rattle.account.specs.declared.Step.the-variants as S
-use Rattle.account.specs.Placing.{fills, Shaped}
+use Rattle.account.specs.Placing.{fills}
 use Rattle.standing.specs.Laid.{Laid}
 use Rattle.account.specs.Records.{hasRoom, withPart}
-use Rattle.account.specs.Account.{taking, headAt, atBlock}
+use Rattle.account.specs.Account.{taking, atBlock}
 use Rattle.standing.specs.SoFar.{frontRecords, homeOwner, homeVolume, homeMore, homeFigure, figuresSoFar, soFar}
 use Rattle.standing.specs.Reading.{tallyAfter}
-use Rattle.standing.specs.Standing.{Desk, InHome, InSymbol, Stands, Under, LineHere, StepOut, homeUsed, serialsWith, closedSerials, formSize, restSize, serialBytes, tallyOf}
+use Rattle.standing.specs.Standing.{Desk, InHome, InSymbol, Stands, Under, LineHere, StepOut, formSize, restSize}
 use Rattle.account.specs.FigureLines.{homeTable, homeRows, homeRule, lineKind, blockKind, figureAt, moreFigures, figureOpened, figuresClosed, figureStep, FigureTable, unmarkedIf, MarksFor, FigureLine}
 use Rattle.account.proofs.RowsTaken.{entry-taken}
 use Rattle.standing.proofs.LineOrigins.{From, isValues, entry-from, begin-from, entry-nums}
 use Rattle.standing.proofs.RowOpeners.{isOpens, entry-opens, begin-values, begin-opens}
 use Rattle.standing.proofs.LineSizes.{shut-close}
-use Rattle.standing.proofs.FigureRows.{home-rows, home-full, figureRow, valuesRow, blockRow, mostBlock, figure-rows, placedKey, placed-key, lineMade, line-record, text-begun, placed-begun}
-use Rattle.standing.proofs.LaidTables.{laid-more, laid-blank, laid-same}
+use Rattle.standing.proofs.FigureRows.{home-rows, home-full, figureRow, valuesRow, blockRow, mostBlock, figure-rows, placedKey, placed-key, lineMade, line-record}
+use Rattle.standing.proofs.LaidTables.{laid-more, laid-same}
 use Rattle.standing.proofs.MoreRecords.{more-figures, figures-taken, layer-closed, ownRecord, shown, element-more}
-use Rattle.standing.proofs.FigureSights.{plain-serials}
-use Rattle.standing.proofs.RowRecords.{zeros, sets-part}
-use Rattle.standing.proofs.Standings.{has-room, Sight, sight, deskWith, stands-on, known}
+use Rattle.standing.proofs.RowRecords.{zeros}
+use Rattle.standing.proofs.Standings.{has-room, deskWith, stands-on, known, deskKept, lengths-kept, nil-count, stands-still}
 use Rattle.standing.proofs.HomeFacts.{home-layered, home-owner, home-volume, home-on}
 use Rattle.standing.proofs.SlotLengths.{length-line}
 use Rattle.standing.proofs.Marks.{marks-length}
-
--- ── what a begun or a plain figure leaves alone ──
-abbrev sighted : Set → List ℕ → List ℕ → Bool → Sight
-sighted s serials used inside =
-    record { set = sight (elements s) .set; layers = s .drawing .layers; serials = serials; used = used; inside = inside; counts = true }
-
-plain-sight : (s : Set) (h : Home) (fs : List Figure) (n j : ℕ) (v : List Num) → sight (figures s h fs) ≡ sight (figures (withRecords 1 s) h (fs ++ plain n j v ∷ []))
-plain-sight s (inElement y) fs n j v = refl
-plain-sight s (inLayer m) fs n j v = ap (λ (u : List ℕ). sighted s u (homeUsed s (inLayer m)) true) (plain-serials s (inLayer m) fs (plain n j v) refl)
-
-chain-sight : (s : Set) (h : Home) (fs : List Figure) (n : ℕ) → sight (figures s h fs) ≡ sight (successive (withRecords 1 s) h fs n [])
-chain-sight s (inElement y) fs n = refl
-chain-sight s (inLayer m) fs n = refl
-
-text-sight : (s : Set) (h : Home) (fs : List Figure) (n : ℕ) → sight (figures s h fs) ≡ sight (texts (withRecords 1 s) h fs n (blank (textTable (isLayer h) 4 12)))
-text-sight s (inElement y) fs n = refl
-text-sight s (inLayer m) fs n = refl
-
-no-serial : (n : ℕ) → figureSerial (placed n (blankHeld placedTables)) ≡ []
-unfolding placedTable
-no-serial n = refl
-
-placed-sight : (s : Set) (m : ℕ) (fs : List Figure) (n : ℕ) → sight (figures s (inLayer m) fs) ≡ sight (placing (withRecords 1 s) m fs n (blankHeld placedTables) 0)
-placed-sight s m fs n =
-    ap (λ (u : List ℕ). sighted s u (homeUsed s (inLayer m)) true)
-    (sym (ap (λ (u : List ℕ). serialsWith s fs ++ u) (no-serial n) ∙ append-nil (serialsWith s fs)))
-
--- ── the kinds of the figures that are blocks ──
-chain-kind : (h : Home) → blockKind (isLayer h) 1 ≡ 14 + homeMore h
-chain-kind (inElement y) = refl
-chain-kind (inLayer m) = refl
-
-text-kind : (h : Home) → blockKind (isLayer h) 2 ≡ 15 + homeMore h
-text-kind (inElement y) = refl
-text-kind (inLayer m) = refl
-
--- ── a figure that is a block, just begun ──
-chain-begun : (c : Digits) (s : Set) (h : Home) (fs : List Figure) (n : ℕ)
-    → soFar c (figures s h fs) ++ start (14 + homeMore h) (homeOwner s h) (homeVolume s h) n ∷ [] ≡ soFar c (successive (withRecords 1 s) h fs n [])
-chain-begun c s (inElement y) fs n = refl
-chain-begun c s (inLayer m) fs n = ap (λ (r : List (List ℤ)). r ++ start 14 m (homeVolume s (inLayer m)) n ∷ []) (sym (figures-taken c s 1 (inLayer m) fs))
-
-texts-begun : (c : Digits) (s : Set) (h : Home) (fs : List Figure) (n : ℕ)
-    → soFar c (figures s h fs) ++ start (15 + homeMore h) (homeOwner s h) (homeVolume s h) n ∷ [] ≡ soFar c (texts (withRecords 1 s) h fs n (blank (textTable (isLayer h) 4 12)))
-texts-begun c s (inElement y) fs n = ap (λ (r : List ℤ). soFar c (figures s (inElement y) fs) ++ r ∷ []) (sym (text-begun false 20 (homeOwner s (inElement y)) 1 n))
-texts-begun c s (inLayer m) fs n =
-    ap (λ (r : List ℤ). soFar c (figures s (inLayer m) fs) ++ r ∷ []) (sym (text-begun true 0 m (homeVolume s (inLayer m)) n))
-    ∙ ap (λ (r : List (List ℤ)). r ++ textRecord 0 m (homeVolume s (inLayer m)) n (blank (textTable true 4 12)) ∷ []) (sym (figures-taken c s 1 (inLayer m) fs))
-
-placed-so-far : (c : Digits) (s : Set) (m : ℕ) (fs : List Figure) (n : ℕ)
-    → soFar c (figures s (inLayer m) fs) ++ start 16 m (homeVolume s (inLayer m)) n ∷ [] ≡ soFar c (placing (withRecords 1 s) m fs n (blankHeld placedTables) 0)
-placed-so-far c s m fs n =
-    ap (λ (r : List ℤ). soFar c (figures s (inLayer m) fs) ++ r ∷ []) (sym (placed-begun m (homeVolume s (inLayer m)) n))
-    ∙ ap (λ (r : List (List ℤ)). r ++ putHeld placedTables (blankHeld placedTables) (start 16 m (homeVolume s (inLayer m)) n) ∷ []) (sym (figures-taken c s 1 (inLayer m) fs))
-
--- a line that holds nothing leaves its record empty but for its head
-empty-line : (r : Rule) → r .state ≡ 0 → putLine r 0 (nums []) zeros ≡ zeros
-empty-line r q = ap (λ (m : ℕ). putState m (pos 2) zeros) q
-
--- ── marks ──
-two-unmarked : (b : Bool) (i : List Bool) → length i ≡ 2 → replicate (length i) false ≡ marks (blank (textTable b 4 12))
-unfolding textTable
-two-unmarked b i q = ap (λ (m : ℕ). replicate m false) q
-
-two-slots : (b : Bool) → length (blank (textTable b 4 12)) ≡ 2
-unfolding textTable
-two-slots b = refl
-
-unmarked : (ms : List Bool) → length ms ≡ 28 → take 6 (replicate (length ms) false) ≡ marks (partOf (blankHeld placedTables) 0)
-unfolding placedTable
-unmarked ms q = ap (λ (m : ℕ). take 6 (replicate m false)) q
-
-blank-shaped : Shaped 0 placedTables (blankHeld placedTables)
-unfolding placedTable textTable
-blank-shaped = (omega arith, refl, (omega arith, refl, tt))
-
--- `E_symbol:{` is read, the line of its serial number isn't
-placed-bytes : (s : Set) (m : ℕ) (fs : List Figure) (n : ℕ) → serialBytes (placing s m fs n (blankHeld placedTables) 0) ≡ 32
-unfolding placedTable
-placed-bytes s m fs n = refl
-
--- ── a closed layer, as the set says it ──
-module _ (s : Set) (m : ℕ) (fs : List Figure) where
-  abbrev closedLayer : LayerBlock
-  closedLayer = record { layer = m; figures = fs }
-
-  abbrev withClosed : Set
-  withClosed = withBlock closedLayer s
-
-  serials-closed : serialsWith s fs ≡ serialsIn withClosed
-  serials-closed =
-      let bs : List LayerBlock = s .now .blocks in
-      append-assoc (closedSerials s) (serialsOfVolume (s .now)) (serialsOfBlock closedLayer)
-      ∙ ap (λ (y : List ℕ). closedSerials s ++ y)
-      (sym (ap flat (map-append serialsOfBlock bs (closedLayer ∷ [])) ∙ flat-append (map serialsOfBlock bs) (serialsOfBlock closedLayer ∷ []) ∙ ap (λ (y : List ℕ). flat (map serialsOfBlock bs) ++ y) (append-nil (serialsOfBlock closedLayer))))
-
-  used-closed : homeUsed s (inLayer m) ≡ usedIn (withClosed .now)
-  used-closed = sym (map-append (λ (y : LayerBlock). y .layer) (s .now .blocks) (closedLayer ∷ []))
-
-  elements-closed : elementsOf (withClosed .now) ≡ elementsOf (s .now) + length fs
-  elements-closed = total-more (λ (y : LayerBlock). length (y .figures)) (s .now .blocks) closedLayer
-
-  file-closed : firstContents s .file ≡ firstContents withClosed .file
-  file-closed = go (s .volumes)
-    where
-      go : (vs : List Contents) → headOr (s .now) vs .file ≡ headOr (withClosed .now) vs .file
-      go [] = refl
-      go (v ∷ vs) = refl
-
-  -- the tally, by what FILE_FORMAT of the first volume holds
-  abbrev tallyBy : Held → ℕ → ℕ → ℕ → ℕ → List ℕ
-  tallyBy f here count layers serials =
-      numberOf "arc" rangeTable (partOf f 1) ∷ numberOf "E_sym" elecTable (partOf f 3) ∷ numberOf "S_elec" symTable (partOf f 4) ∷ numberOf "date" fileTable (partOf f 0) ∷ numberOf "time" fileTable (partOf f 0)
-      ∷ numberOf "all_ele" fileTable (partOf f 0) ∷ here ∷ count ∷ total elementsOf (s .volumes) ∷ length (s .symbols) ∷ layers ∷ serials ∷ []
-
-  tally-closed : (t : List ℕ) (here n : ℕ) → n ≡ length fs → t ≡ tallyOf s here (length (s .drawing .layers)) (length (serialsWith s fs))
-      → set t 7 (getD t 7 0 + n) ≡ tallyOf withClosed here (length (s .drawing .layers)) (length (serialsIn withClosed))
-  tally-closed t here n q e =
-      let ls : ℕ = length (s .drawing .layers) in
-      ap (λ (y : List ℕ). set y 7 (getD y 7 0 + n)) e
-      ∙ ap (λ (y : ℕ). tallyBy (firstContents s .file) here (elementsOf (s .now) + y) ls (length (serialsWith s fs))) q
-      ∙ ap (λ (y : ℕ). tallyBy (firstContents s .file) here y ls (length (serialsWith s fs))) (sym elements-closed)
-      ∙ ap (λ (y : List ℕ). tallyBy (firstContents s .file) here (elementsOf (withClosed .now)) ls (length y)) serials-closed
-      ∙ ap (λ (y : Held). tallyBy y here (elementsOf (withClosed .now)) ls (length (serialsIn withClosed))) file-closed
-
-nil-zero : (fs : List Figure) → isNil fs ≡ eqb (length fs) 0
-nil-zero [] = refl
-nil-zero (f ∷ fs) = sym (ne-eqb (suc (length fs)) 0 (λ q. omega (arith, q)))
+use Rattle.standing.proofs.HeadRecords.{line-put}
+use Rattle.standing.proofs.BegunFigures.{plain-sight, chain-sight, text-sight, placed-sight, chain-kind, text-kind, chain-begun, texts-begun, placed-so-far, empty-line, two-unmarked, two-slots, unmarked, blank-shaped, placed-bytes}
+use Rattle.standing.proofs.ClosedLayers.{closedLayer, withClosed, serials-closed, used-closed, elements-closed, tally-closed}
 
 or-second : (a b : Bool) → a ≡ false → (a || b) ≡ true → b ≡ true
 or-second true b q e = clash refl q
@@ -195,19 +69,7 @@ figureAct spool d form =
 
 -- ── the tally behind the line ──
 abbrev pub deskLent : Desk → List ℕ → List Bool → List Bool → List ℤ → Desk
-deskLent d tally marks inner t = record {
-  now = d .now;
-  tally = tally;
-  symbols = d .symbols;
-  layers = d .layers;
-  serials = d .serials;
-  used = d .used;
-  usedAll = d .usedAll;
-  marks = marks;
-  inner = inner;
-  header = d .header;
-  table = t;
-}
+deskLent d tally marks inner t = deskKept d (d .now) tally marks inner (d .header) t
 
 module _ (c : Digits) (spool : List ℕ) (k : ℕ) (FileHere : Desk → Set → ℕ → Held → ℕ → Type 0) (d : Desk) (at to : ℕ) (e : Env) (l : Line) (w : Where) (form : LineForm) (u : Under c d e)
     (x : LineHere spool k at to form w l) (s : Set) (fs : List Figure) where
@@ -256,14 +118,7 @@ module _ (c : Digits) (spool : List ℕ) (k : ℕ) (FileHere : Desk → Set → 
 
       -- nothing but the place in the spool
       on-stay : did ≡ stay → t₁ ≡ d .table → m₁ ≡ d .marks → i₁ ≡ d .inner → Out (S.Go (d .now))
-      on-stay a q qm qi =
-          subst (λ (y : List Bool). StepOut c spool k FileHere e l to st (deskWith d (d .now) y i₁ t₁) (S.Go (d .now))) (sym qm)
-          (subst (λ (y : List Bool). StepOut c spool k FileHere e l to st (deskWith d (d .now) (d .marks) y t₁) (S.Go (d .now))) (sym qi) (
-            st,
-            ap (byAct _ _ _ _) a,
-            stands-on c spool k FileHere d at to st st z (d .now) (d .marks) (d .inner) t₁ refl (z .lengths .marks) (z .lengths .inner)
-                (subst (λ (t : List ℤ). Laid t (soFar c st) (d .now .free)) (sym q) (z .laid)) (z .taken) (omega (arith, z .counted, later)) (omega (arith, z .named, later)) (omega (arith, z .numbered, later)) (z .block),
-          ))
+      on-stay a q qm qi = (st, ap (byAct _ _ _ _) a, stands-still c spool k FileHere d at to st z later (d .tally) m₁ i₁ (d .header) t₁ refl qm qi refl q)
 
       on-refuse : (m : ℕ) → did ≡ refuse m → Out (S.Stop m)
       on-refuse m a = ap (byAct _ _ _ _) a
@@ -282,20 +137,11 @@ module _ (c : Digits) (spool : List ℕ) (k : ℕ) (FileHere : Desk → Set → 
         put : (j : ℕ) (v : Value) (kind kind′ : ℕ) → kind ≡ kind′ → t₁ ≡ figureAt (d .now) w kind (homeRule (d .now .layered) range j) v (d .table)
             → t₁ ≡ withPart (d .now .free) (headed kind′ (putLine (ruleAt rows j) 0 v zeros)) (d .table)
         put j v kind kind′ g q =
-            let f : ℕ = d .now .free in
-            let t : List ℤ = d .table in
-            let o : Rule → ℕ → ℕ → ℕ → ℕ → List ℤ = λ r kd ow vo li. sets (withPart f (putLine r 0 v zeros) t) f (pos kd ∷ pos ow ∷ pos vo ∷ pos li ∷ []) in
-            let r : Rule = ruleAt rows j in
-            let zero-place : f ≡ f + 0 = omega arith in
             q
-            ∙ ap (λ (y : List ℤ). headAt f kind (d .now .owner) w (withPart f (putLine (homeRule (d .now .layered) range j) 0 v y) t)) (laid-blank t (soFar c st) f (z .laid) room)
-            ∙ ap (λ (y : List Rule). o (ruleAt y j) kind (d .now .owner) (w .volume) (w .line)) rows-here
-            ∙ ap (λ (m : ℕ). o r m (d .now .owner) (w .volume) (w .line)) g
-            ∙ ap (λ (m : ℕ). o r kind′ m (w .volume) (w .line)) (home-owner spool k (d .now) (d .marks) (d .inner) s h home)
-            ∙ ap (λ (m : ℕ). o r kind′ (homeOwner s h) m (w .line)) (x .volume ∙ home-volume spool k (d .now) (d .marks) (d .inner) s h home)
-            ∙ ap (λ (m : ℕ). o r kind′ (homeOwner s h) (homeVolume s h) m) (x .line)
-            ∙ ap (λ (m : ℕ). sets (withPart f (putLine r 0 v zeros) t) m (heading kind′)) zero-place
-            ∙ sets-part (heading kind′) (putLine r 0 v zeros) t f 0 (omega (arith, room)) (length-line r 0 v zeros) (omega arith)
+            ∙ line-put (d .now) w kind (homeOwner s h) (homeVolume s h) (l .line) (homeRule (d .now .layered) range j) v (d .table) (soFar c st) (z .laid) room
+            (home-owner spool k (d .now) (d .marks) (d .inner) s h home) (x .volume ∙ home-volume spool k (d .now) (d .marks) (d .inner) s h home) (x .line)
+            ∙ ap (λ (y : List Rule). withPart (d .now .free) (headed kind (putLine (ruleAt y j) 0 v zeros)) (d .table)) rows-here
+            ∙ ap (λ (m : ℕ). withPart (d .now .free) (headed m (putLine (ruleAt rows j) 0 v zeros)) (d .table)) g
 
         more : (made : List ℤ) (rs : List (List ℤ)) → t₁ ≡ withPart (d .now .free) made (d .table) → length made ≡ 32 → soFar c st ++ made ∷ [] ≡ rs → Laid t₁ rs (d .now .free + 32)
         more made rs q n g =
@@ -499,16 +345,7 @@ module _ (c : Digits) (spool : List ℕ) (k : ℕ) (FileHere : Desk → Set → 
           elements s′,
           ap (byAct _ _ _ _) a,
           record {
-            lengths = record {
-              symbols = z .lengths .symbols;
-              layers = z .lengths .layers;
-              serials = z .lengths .serials;
-              used = z .lengths .used;
-              usedAll = z .lengths .usedAll;
-              marks = ap length qm ∙ z .lengths .marks;
-              inner = ap length qi ∙ z .lengths .inner;
-              header = z .lengths .header;
-            };
+            lengths = lengths-kept d (atBlock (d .now) 7 0) (set (d .tally) 7 (getD (d .tally) 7 0 + d .now .figures)) m₁ i₁ (d .header) t₁ (z .lengths) (ap length qm ∙ z .lengths .marks) (ap length qi ∙ z .lengths .inner) (z .lengths .header);
             laid =
                 laid-same t₁ (soFar c (figures s h fs)) (soFar c (elements s′)) (d .now .free) (sym (layer-closed c (closedLayer s m fs) s))
                 (subst (λ (t : List ℤ). Laid t (soFar c (figures s h fs)) (d .now .free)) (sym q) (z .laid));
@@ -587,7 +424,7 @@ module _ (c : Digits) (spool : List ℕ) (k : ℕ) (FileHere : Desk → Set → 
       → Counted h z m₁ i₁ t₁ (figuresClosed (d .now))
   on-end (inElement y) z m₁ i₁ t₁ a q qm qi =
       subst (λ (b : Bool). Counted (inElement y) z m₁ i₁ t₁ (cond b (S.Go (atBlock (d .now) 7 0)) (cond (eqb (d .now .figures) 0) (S.Stop 8) (S.Go (atBlock (d .now) 5 0))))) (sym (layered (inElement y) z))
-      (go (eqb (d .now .figures) 0) (nil-zero fs ∙ ap (λ (m : ℕ). eqb m 0) (sym (z .block .2))))
+      (go (eqb (d .now .figures) 0) (sym (nil-count fs) ∙ ap (λ (m : ℕ). eqb m 0) (sym (z .block .2))))
     where
       go : (b : Bool) → isNil fs ≡ b → Counted (inElement y) z m₁ i₁ t₁ (cond b (S.Stop 8) (S.Go (atBlock (d .now) 5 0)))
       go true o = on-element-empty y z m₁ i₁ t₁ a o

@@ -25,22 +25,11 @@ use Rattle.account.specs.FileLines.{countAt, chainedTo, datedAs, agrees, firstT
 use Rattle.standing.specs.FileStanding.{fileHead, InFile}
 use Rattle.standing.proofs.SlotLengths.{length-held}
 use Rattle.standing.proofs.FileReadBack.{arc-back, sym-back, elec-back, date-back, time-back, all-back, this-back, later-back, laid-paste}
+use Rattle.standing.proofs.Standings.{deskKept, lengths-kept}
 
 -- the same things lent, but for the tally, the marks, the header and the table
 abbrev pub fileDesk : Desk → List ℕ → List Bool → List ℤ → List ℤ → Desk
-fileDesk d tally marks header t = record {
-  now = d .now;
-  tally = tally;
-  symbols = d .symbols;
-  layers = d .layers;
-  serials = d .serials;
-  used = d .used;
-  usedAll = d .usedAll;
-  marks = marks;
-  inner = d .inner;
-  header = header;
-  table = t;
-}
+fileDesk d tally marks header t = deskKept d (d .now) tally marks (d .inner) header t
 
 module _ (c : Digits) (spool : List ℕ) (k : ℕ) (d : Desk) (at to : ℕ) (dr : Drawing) (sy : List Symbol) (nw : Contents) (taken n : ℕ) (h : Held) (p : ℕ) where
   abbrev pub setWith : List Contents → Set
@@ -84,16 +73,7 @@ module _ (c : Digits) (spool : List ℕ) (k : ℕ) (d : Desk) (at to : ℕ) (dr 
         let flat-is : flat (fileRecords true 1 (s′ .now)) ≡ take 64 hd = ap (λ (u : List ℤ). take 32 recs ++ u) (append-nil (drop 32 recs)) ∙ take-append-drop 32 recs ∙ fill in
         let said : ℕ → ℕ → ℕ → ℕ → ℕ → ℕ → ℕ → List ℕ = λ a b c d e f g. a ∷ b ∷ c ∷ d ∷ e ∷ f ∷ g ∷ 0 ∷ 0 ∷ length sy ∷ length (dr .layers) ∷ 0 ∷ [] in
         record {
-          lengths = record {
-            symbols = z .lengths .symbols;
-            layers = z .lengths .layers;
-            serials = z .lengths .serials;
-            used = z .lengths .used;
-            usedAll = z .lengths .usedAll;
-            marks = ap length em ∙ z .lengths .marks;
-            inner = z .lengths .inner;
-            header = ap length eh ∙ z .lengths .header;
-          };
+          lengths = lengths-kept d (atBlock (d .now) 0 1) tally₁ m₁ (d .inner) h₁ t₁ (z .lengths) (ap length em ∙ z .lengths .marks) (z .lengths .inner) (ap length eh ∙ z .lengths .header);
           laid =
               subst (λ (t : List ℤ). Laid t (fileRecords true 1 (s′ .now)) (d .now .free)) (sym eq)
               (laid-paste (d .table) [] (emptyRecords true) (fileRecords true 1 (s′ .now)) (d .now .free) 64 (z .laid) refl hd flat-is
@@ -129,16 +109,7 @@ module _ (c : Digits) (spool : List ℕ) (k : ℕ) (d : Desk) (at to : ℕ) (dr 
         let recs : List ℤ = putHeld (fileTables false) h (fileHead false m n) in
         let fill : recs ≡ take 32 hd = sym (f .filled ∙ ap (λ (i : ℕ). putHeld (fileTables false) h (fileHead false i n)) (f .volume)) in
         record {
-          lengths = record {
-            symbols = z .lengths .symbols;
-            layers = z .lengths .layers;
-            serials = z .lengths .serials;
-            used = z .lengths .used;
-            usedAll = z .lengths .usedAll;
-            marks = ap length em ∙ z .lengths .marks;
-            inner = z .lengths .inner;
-            header = ap length eh ∙ z .lengths .header;
-          };
+          lengths = lengths-kept d (atBlock (d .now) 0 3) tally₁ m₁ (d .inner) h₁ t₁ (z .lengths) (ap length em ∙ z .lengths .marks) (z .lengths .inner) (ap length eh ∙ z .lengths .header);
           laid =
               subst (λ (t : List ℤ). Laid t (closedRecords c s′ ++ fileRecords false m (s′ .now)) (d .now .free)) (sym eq)
               (laid-paste (d .table) (closedRecords c s′) (emptyRecords false) (fileRecords false m (s′ .now)) (d .now .free) 32 (z .laid) refl hd (append-nil recs ∙ fill)

@@ -30,10 +30,11 @@ use Rattle.standing.proofs.Marks.{marks-set, mark-free}
 use Rattle.standing.proofs.Openers.{plainKind}
 use Rattle.account.proofs.FileParts.{first-other}
 use Rattle.standing.proofs.FileKeeps.{nextRow, records-taken}
-use Rattle.standing.proofs.FilePartMarks.{part-open, part-number, mark-own, mark-other, enter-other, enter-own, shaped-enter, shaped-at}
+use Rattle.standing.proofs.FilePartMarks.{part-open, part-number, mark-own, mark-other}
 use Rattle.standing.proofs.FileEntries.{NameHere}
 use Rattle.standing.proofs.FileNames.{next-on, date-on, time-on}
 use Rattle.standing.proofs.FileClosing.{fileDesk}
+use Rattle.standing.proofs.HeldParts.{enter-other, enter-own, shaped-enter, shaped-at}
 
 -- ── what is computed of the tables ──
 clear-parts : (first : Bool) → clearParts (fileTables first) ≡ true

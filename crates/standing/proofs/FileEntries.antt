@@ -1,18 +1,17 @@
 -- What FILE_FORMAT's lines hold: next_file a name of the spool, a row of one number that number.
-use Prim.Native.Nat.{ℕ, zero, suc}
+use Prim.Native.Nat.{ℕ}
 use mathlib.Core.Bool.{Bool, true, false, cond}
 use mathlib.Core.List.{List, [], _∷_, map}
 use mathlib.Core.Option.{Option, none, some}
 use mathlib.Core.Path.{_≡_, refl, sym, _∙_, ap, subst}
 use native.Mathlib.Omega.{arith}
 use lib.IntN.{ℤ, pos, negsuc, natAbs}
-use lib.ListN.{length, take, drop}
+use lib.ListN.{length}
 use Rattle.rules.specs.declared.Digits.{Digits}
 use Rattle.rules.specs.declared.LineForm.{LineForm}
-use Rattle.rules.specs.declared.LineForm.the-variants as L
 use Rattle.rules.specs.Base.{all, split}
 use Rattle.rules.specs.RefusalNumbers.{got, keep}
-use Rattle.rules.specs.Lines.{Rest, brace, equals, Form, ignored, wrong, close, eof, keyed, Shape, opener, noContent, content, opening, formless, stem, byStem, shapeOf, freeShapeOf, span, bytesAt, formIn}
+use Rattle.rules.specs.Lines.{Rest, brace, equals, Form, Shape, opener, noContent, content, opening, formless, stem, byStem, shapeOf, freeShapeOf, span, bytesAt, formIn}
 use Rattle.rules.specs.Values.{Num, num, Value, empty, nums, chars, linked, Known, byteIn, lettersAndDigits, capital, Part, range, Across, Kind, values, text, word, volumeName, sheet, ratio, serials, nothing, opens, headed, either, isFree, readPart, readAll, agree, readKind, amount, amountAt}
 use Rattle.rules.specs.Rows.{Rule, fits, shapeFor, Act, entry, begin, innerOf, readShape, slotValue}
 use Rattle.rules.specs.RecordTable.{numbersOf, columns, firstOr0}
@@ -20,35 +19,11 @@ use Rattle.rules.proofs.Chains.{clash, never, map-got, keep-got, cons-got, unle
 use Rattle.entries.specs.Acts.{valueOf}
 use Rattle.account.specs.FileLines.{isCount}
 use Rattle.standing.specs.FileStanding.{isNumbers}
-use Rattle.standing.proofs.LineOrigins.{From}
+use Rattle.standing.proofs.LineOrigins.{From, ContentKind, values-content, content-read}
 use Rattle.account.proofs.FileParts.{capital-length}
+use Rattle.standing.proofs.WordPlaces.{RestHere, rest-here}
 
 -- ── next_file ──
--- the rest of a line stands in the spool
-abbrev RestHere : List ℕ → Rest → Type 0
-RestHere spool brace = Unit {0}
-RestHere spool (equals at c) = c ≡ bytesAt spool (span at (length c))
-
-abbrev FormHere : List ℕ → Form → Type 0
-FormHere spool ignored = Unit {0}
-FormHere spool (wrong n) = Unit {0}
-FormHere spool close = Unit {0}
-FormHere spool eof = Unit {0}
-FormHere spool (keyed k r) = RestHere spool r
-
-take-own : (n : ℕ) (l : List ℕ) → take n l ≡ take (length (take n l)) l
-take-own zero l = refl
-take-own (suc n) [] = refl
-take-own (suc n) (x ∷ l) = ap (λ (u : List ℕ). x ∷ u) (take-own n l)
-
-form-here : (spool : List ℕ) (f : LineForm) → FormHere spool (formIn spool f)
-form-here spool L.Ignored = tt
-form-here spool L.Close = tt
-form-here spool L.Eof = tt
-form-here spool (L.Opens o) = tt
-form-here spool (L.Equals q) = take-own (q .rest .len) (drop (q .rest .at) spool)
-form-here spool (L.Refused r) = tt
-
 abbrev ShapeHere : List ℕ → Shape → Type 0
 ShapeHere spool opener = Unit {0}
 ShapeHere spool noContent = Unit {0}
@@ -76,9 +51,6 @@ NameHere spool (linked n ps) = ⊥
 name-here : (spool : List ℕ) (at : ℕ) (c : List ℕ) → c ≡ bytesAt spool (span at (length c)) → NameHere spool (chars at (map capital c))
 name-here spool at c h = ap (map capital) h ∙ ap (λ (n : ℕ). map capital (bytesAt spool (span at n))) (sym (capital-length c))
 
-entry-value : {i j : ℕ} {v w : Value} → entry i v ≡ entry j w → v ≡ w
-entry-value e = ap valueOf e
-
 name-read : (spool : List ℕ) (k : Known) (j : ℕ) (r : Rule) (s : Shape) (v : Value) → r .holds ≡ volumeName → ShapeHere spool s → readShape k j r s ≡ got (entry j v) → NameHere spool v
 name-read spool k j r opener v e h q = absurd (let z : _≡_ {A = ℕ} 0 1 = cc in omega (arith, z))
 name-read spool k j r noContent v e h q = let z : empty ≡ v = cc in subst (NameHere spool) z tt
@@ -86,7 +58,7 @@ name-read spool k j r (content at c) v e h q =
     let (w, p, t) = map-got (entry j) (readKind k (r .holds) at c) (entry j v) q in
     let (b, u) = unless-got (all (byteIn lettersAndDigits) c) 11 (got (chars at (map capital c))) w (ap (λ (d : Kind). readKind k d at c) (sym e) ∙ p) in
     let z : chars at (map capital c) ≡ w = cc in
-    subst (NameHere spool) (z ∙ entry-value t) (name-here spool at c h)
+    subst (NameHere spool) (z ∙ ap valueOf t) (name-here spool at c h)
 name-read spool k j r (opening at c) v e h q = let (w, p, t) = map-got (begin (innerOf (r .holds)) j) (readKind k (r .holds) at c) (entry j v) q in absurd (let z : _≡_ {A = ℕ} 0 1 = cc in omega (arith, z))
 name-read spool k j r formless v e h q = never q
 
@@ -96,8 +68,7 @@ shape-for r x e = ap (λ (d : Kind). cond (isFree d) (freeShapeOf x) (shapeOf x)
 pub name-value : (spool : List ℕ) (form : LineForm) (k : Known) (t : List Rule) (d : Digits) (full : List Bool) (f : Form) (j : ℕ) (v : Value) → f ≡ formIn spool form → (x : From k t d full f j (entry j v)) → x .rule .holds ≡ volumeName
     → NameHere spool v
 name-value spool form k t d full f j v e x q =
-    let h : RestHere spool (x .rest) = subst (FormHere spool) (sym e ∙ x .form) (form-here spool form) in
-    name-read spool k j (x .rule) (shapeFor (x .rule) (x .rest)) v q (subst (ShapeHere spool) (sym (shape-for (x .rule) (x .rest) q)) (shape-here spool (x .rest) h)) (x .did .read)
+    name-read spool k j (x .rule) (shapeFor (x .rule) (x .rest)) v q (subst (ShapeHere spool) (sym (shape-for (x .rule) (x .rest) q)) (shape-here spool (x .rest) (rest-here spool form k t d full f j (entry j v) x e))) (x .did .read)
 
 -- it opens nothing
 pub name-closed : (k : Known) (t : List Rule) (d : Digits) (full : List Bool) (f : Form) (i j : ℕ) (v : Value) → (x : From k t d full f j (begin i j v)) → x .rule .holds ≡ volumeName → ⊥
@@ -153,17 +124,9 @@ one-values k p a at c v e =
 
 pub one-number : (k : Known) (t : List Rule) (d : Digits) (full : List Bool) (f : Form) (j : ℕ) (v : Value) (p : Part) (a : Across) (x : From k t d full f j (entry j v)) → x .rule .holds ≡ values p [] a → x .rule .may ≡ false
     → (n : Num) × (v ≡ nums (n ∷ []))
-one-number k t d full f j v p a x q m = go (shapeFor (x .rule) (x .rest)) (ap (λ (h : Kind). fits h false (shapeFor (x .rule) (x .rest))) (sym q) ∙ ap (λ (b : Bool). fits (x .rule .holds) b (shapeFor (x .rule) (x .rest))) (sym m) ∙ x .did .fit) (x .did .read)
-  where
-    go : (s : Shape) → fits (values p [] a) false s ≡ true → readShape k j (x .rule) s ≡ got (entry j v) → (n : Num) × (v ≡ nums (n ∷ []))
-    go opener h e = clash h refl
-    go noContent h e = clash h refl
-    go (content at c) h e =
-        let (w, r, u) = map-got (entry j) (readKind k (x .rule .holds) at c) (entry j v) e in
-        let (n, z) = one-values k p a at c w (ap (λ (h : Kind). readKind k h at c) (sym q) ∙ r) in
-        (n, sym (entry-value u) ∙ z)
-    go (opening at c) h e = clash h refl
-    go formless h e = clash h refl
+one-number k t d full f j v p a x q m =
+    let y = content-read k t d full f j v x (subst ContentKind (sym q) (values-content p [] a)) m in
+    one-values k p a (y .at) (y .bytes) v (ap (λ (h : Kind). readKind k h (y .at) (y .bytes)) (sym q) ∙ y .read)
 
 -- ── a count as it is read back ──
 amount-of : (z : ℤ) → isCount z ≡ true → natAbs z ≡ amount (num z)

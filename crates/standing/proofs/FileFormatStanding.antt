@@ -4,13 +4,12 @@ use mathlib.Core.Bool.{Bool, true, false, cond}
 use mathlib.Core.List.{List, [], _∷_}
 use mathlib.Core.Path.{_≡_, refl, sym, _∙_, ap, subst}
 use native.Mathlib.Omega.{arith}
-use borrow.Author.Tests.{ne-eqb}
 use lib.Dec.{eqb}
 use lib.IntN.{ℤ}
-use lib.ListN.{length, getD, set, take, length-set, length-append}
+use lib.ListN.{length, getD, set, take, length-set}
 use Rattle.rules.specs.declared.Digits.{Digits}
 use Rattle.rules.specs.declared.LineForm.{LineForm}
-use Rattle.rules.specs.Base.{isNil, flat}
+use Rattle.rules.specs.Base.{isNil}
 use Rattle.rules.specs.RefusalNumbers.{got, unless}
 use Rattle.rules.specs.RangeClass.{digits}
 use Rattle.rules.specs.Lines.{formIn}
@@ -20,7 +19,7 @@ use Rattle.rules.specs.Blocks.{around, fileTables}
 use Rattle.rules.specs.Sets.{Contents, Set, withNow, isFirst, knownOf}
 use Rattle.rules.specs.Machine.{Line, Env, State, top, file, byAct, closeFile, shutPart, stepIn}
 use Rattle.rules.specs.RecordTable.{columns, ruleAt}
-use Rattle.rules.proofs.Chains.{clash, flat-append}
+use Rattle.rules.proofs.Chains.{clash}
 use Rattle.rules.proofs.Rows.{row-at}
 use Rattle.tables.specs.Tables.{tableOf}
 use Rattle.entries.specs.Names.{knownIn}
@@ -31,15 +30,14 @@ use Rattle.account.specs.declared.Step.{Step}
 use Rattle.account.specs.declared.Step.the-variants as S
 use Rattle.standing.specs.Laid.{Laid}
 use Rattle.account.specs.Account.{atBlock}
-use Rattle.standing.specs.SoFar.{closedRecords, emptyRecords, soFar}
+use Rattle.standing.specs.SoFar.{soFar}
 use Rattle.standing.specs.Standing.{Desk, deskNow, Stands, Under, LineHere, StepOut}
-use Rattle.account.specs.FileLines.{PartOpen, fileTableOf, marksFrom, partMarks, keptIn, agrees, closedFile, closedTally, closedTable, shutFile, fileWidth, fileStep, FileMarks, FileHeader, Shut, AtShut, FileLine, FileReady}
+use Rattle.account.specs.FileLines.{fileTableOf, marksFrom, partMarks, keptIn, agrees, closedFile, closedTally, closedTable, shutFile, fileStep, FileMarks, FileHeader, Shut, AtShut, FileLine}
 use Rattle.standing.specs.FileStanding.{InFile}
-use Rattle.standing.proofs.LaidTables.{laid-room}
 use Rattle.standing.proofs.Openers.{isBegin, no-begin}
 use Rattle.account.proofs.RowsTaken.{entry-taken, begin-taken}
 use Rattle.standing.proofs.LineOrigins.{From, entry-from, begin-from}
-use Rattle.standing.proofs.Standings.{known}
+use Rattle.standing.proofs.Standings.{known, first-volume, stands-with, stands-still}
 use Rattle.standing.proofs.FileHeld.{PlacedForm, Holds, file-holds}
 use Rattle.standing.proofs.FileGoes.{Behind, file-behind}
 use Rattle.standing.proofs.FileKeeps.{nextRow}
@@ -47,38 +45,6 @@ use Rattle.standing.proofs.FilePartMarks.{file-table, part-number}
 use Rattle.standing.proofs.FileEntries.{name-value, name-closed, one-numbers, one-number}
 use Rattle.standing.proofs.FileEntered.{name-kind, date-kind, time-kind, plain-later, kept-open, part-moved, row-entered}
 use Rattle.standing.proofs.FileClosing.{fileDesk, agree-is, closed-first, closed-later}
-
--- the first volume by its number, and by what the set says
-first-volume : (vs : List Contents) → eqb (suc (length vs)) 1 ≡ isNil vs
-first-volume [] = refl
-first-volume (v ∷ vs) = ne-eqb (suc (suc (length vs))) 1 (λ e. absurd (omega (arith, e)))
-
--- what a line finds, as the code asks for it
-module _ (c : Digits) (spool : List ℕ) (k : ℕ) (d : Desk) (at : ℕ) (s : Set) (n : ℕ) (h : Held) (p : ℕ) (z : Stands c spool k d (InFile spool k d) at (file s n h p)) where
-  width-is : (b : Bool) → length (flat (emptyRecords b)) ≡ fileWidth b
-  width-is true = refl
-  width-is false = refl
-
-  pub first-is : eqb k 1 ≡ isFirst s
-  first-is = ap (λ (m : ℕ). eqb m 1) (z .block .1 .volume) ∙ first-volume (s .volumes)
-
-  pub file-ready : FileReady (eqb k 1) (d .now) (d .tally) (d .marks) (d .header) (d .table)
-  file-ready =
-      subst (λ (b : Bool). FileReady b (d .now) (d .tally) (d .marks) (d .header) (d .table)) (sym first-is)
-      (record {
-        part = subst (PartOpen (isFirst s)) (sym (z .block .1 .part)) (z .block .1 .parts);
-        twelve = ap length (z .tally);
-        marks = z .lengths .marks;
-        header = z .block .1 .header;
-        taken = omega (
-          arith,
-          z .laid .size,
-          ap length (flat-append (closedRecords c s) (emptyRecords (isFirst s))),
-          length-append (flat (closedRecords c s)) (flat (emptyRecords (isFirst s))),
-          width-is (isFirst s),
-        );
-        inside = laid-room (d .table) (soFar c (file s n h p)) (d .now .free) (z .laid);
-      })
 
 module _ (c : Digits) (spool : List ℕ) (k : ℕ) (d : Desk) (at to : ℕ) (e : Env) (l : Line) (w : Where) (form : LineForm) (u : Under c d e)
     (x : LineHere spool k at to form w l) (following : List ℕ) (nx : l .next ≡ following) (pf : PlacedForm (l .form)) (s : Set) (n : ℕ) (h : Held) (p : ℕ)
@@ -102,7 +68,7 @@ module _ (c : Digits) (spool : List ℕ) (k : ℕ) (d : Desk) (at to : ℕ) (e :
   later = omega (arith, x .bytes)
 
   is-first : eqb k 1 ≡ first
-  is-first = first-is c spool k d at s n h p z
+  is-first = first-volume k s (f .volume)
 
   -- the act that the code goes by, where it knows whether the volume is the first
   abbrev pub codeAct : Bool → Act
@@ -137,33 +103,13 @@ module _ (c : Digits) (spool : List ℕ) (k : ℕ) (d : Desk) (at to : ℕ) (e :
     stays : (now : Now) (h′ : Held) (q : ℕ) → tally₁ ≡ d .tally → t₁ ≡ d .table → length m₁ ≡ 28 → length h₁ ≡ 70 → now .free ≡ d .now .free → now .block ≡ 1
         → InFile spool k (deskNow (fileDesk d tally₁ m₁ h₁ t₁) now) s n h′ q
         → Stands c spool k (deskNow (fileDesk d tally₁ m₁ h₁ t₁) now) (InFile spool k (deskNow (fileDesk d tally₁ m₁ h₁ t₁) now)) to (file s n h′ q)
-    stays now h′ q et eq lm lh free block held = record {
-      lengths = record {
-        symbols = z .lengths .symbols;
-        layers = z .lengths .layers;
-        serials = z .lengths .serials;
-        used = z .lengths .used;
-        usedAll = z .lengths .usedAll;
-        marks = lm;
-        inner = z .lengths .inner;
-        header = lh;
-      };
-      laid = subst (λ (i : ℕ). Laid t₁ (soFar c st) i) (sym free) (subst (λ (t : List ℤ). Laid t (soFar c st) (d .now .free)) (sym eq) (z .laid));
-      taken = z .taken ∙ sym free;
-      here = z .here;
-      this = z .this;
-      tally = et ∙ z .tally;
-      symbols = z .symbols;
-      layers = z .layers;
-      few-layers = z .few-layers;
-      serials = z .serials;
-      used = z .used;
-      used-all = z .used-all;
-      counted = omega (arith, z .counted, later);
-      named = omega (arith, z .named, later);
-      numbered = omega (arith, z .numbered, later);
-      block = (block, held);
-    }
+    stays now h′ q et eq lm lh free block held =
+        subst (λ (y : List ℕ). InFile spool k (deskNow (fileDesk d y m₁ h₁ t₁) now) s n h′ q
+        → Stands c spool k (deskNow (fileDesk d y m₁ h₁ t₁) now) (InFile spool k (deskNow (fileDesk d y m₁ h₁ t₁) now)) to (file s n h′ q)) (sym et)
+        (λ y. stands-with c spool k (InFile spool k) d at to st (file s n h′ q) z now m₁ (d .inner) h₁ t₁ refl lm (z .lengths .inner) lh
+        (subst (λ (i : ℕ). Laid t₁ (soFar c st) i) (sym free) (subst (λ (t : List ℤ). Laid t (soFar c st) (d .now .free)) (sym eq) (z .laid))) (z .taken ∙ sym free)
+        (omega (arith, z .counted, later)) (omega (arith, z .named, later)) (omega (arith, z .numbered, later)) (block, y))
+        held
 
     same-marks : m₁ ≡ d .marks → length m₁ ≡ 28
     same-marks em = ap length em ∙ z .lengths .marks
@@ -179,11 +125,7 @@ module _ (c : Digits) (spool : List ℕ) (k : ℕ) (d : Desk) (at to : ℕ) (e :
 
     -- nothing but the place in the spool
     on-stay : did ≡ stay → tally₁ ≡ d .tally → m₁ ≡ d .marks → h₁ ≡ d .header → t₁ ≡ d .table → Out (S.Go (d .now))
-    on-stay a et em eh eq = (
-      st,
-      ap (byAct _ _ _ _) a,
-      stays (d .now) h p et eq (same-marks em) (same-header eh) refl (z .block .0) (part-moved spool k d s n h p f tally₁ m₁ h₁ t₁ (d .now) p (f .part) (f .parts) em eh),
-    )
+    on-stay a et em eh eq = (st, ap (byAct _ _ _ _) a, stands-still c spool k (InFile spool k) d at to st z later tally₁ m₁ (d .inner) h₁ t₁ et em refl eh eq)
 
     on-refuse : (m : ℕ) → did ≡ refuse m → Out (S.Stop m)
     on-refuse m a = ap (byAct _ _ _ _) a

@@ -7,10 +7,10 @@ use native.Mathlib.Omega.{arith}
 use borrow.Author.Tests.{leb-true, eqb-true, ne-eqb}
 use lib.Dec.{eqb, leb}
 use lib.IntN.{ℤ, pos}
-use lib.ListN.{length, getD, set, take, length-take, length-set}
+use lib.ListN.{length, getD, set, take, length-set}
 use lib.Seq.{sets, getD-set-other}
 use Rattle.rules.specs.Base.{all}
-use Rattle.rules.specs.Values.{Value, Kind, opens}
+use Rattle.rules.specs.Values.{Value, opens}
 use Rattle.rules.specs.Rows.{Rule, row}
 use Rattle.rules.specs.RecordTable.{numbers, given, columns, putNumbers, putState, ruleAt}
 use Rattle.rules.specs.Blocks.{fileTable, rangeTable, baseTable, elecTable, symTable, laterTable, fileTables}
@@ -18,7 +18,8 @@ use Rattle.rules.proofs.Chains.{and-left, and-right, by-cond}
 use Rattle.entries.specs.Acts.{placeOf, putLine}
 use Rattle.account.specs.Placing.{putValue, fills}
 use Rattle.account.specs.FileLines.{PartOpen, keptName, kept, keptIn, fileWidth}
-use Rattle.standing.proofs.Puts.{all-at}
+use Rattle.standing.proofs.Puts.{all-at, fills-le}
+use Rattle.standing.proofs.ForeParts.{fore-sets}
 
 -- ── the first numbers of a list ──
 take-set : (n : ℕ) (l : List ℤ) (i : ℕ) (a : ℤ) → take n (set l i a) ≡ set (take n l) i a
@@ -31,26 +32,13 @@ take-sets : (vs : List ℤ) (n : ℕ) (l : List ℤ) (i : ℕ) → take n (sets 
 take-sets [] n l i = refl
 take-sets (v ∷ vs) n l i = take-sets vs n (set l i v) (suc i) ∙ ap (λ (u : List ℤ). sets u (suc i) vs) (take-set n l i v)
 
--- stores behind the end
-set-beyond : (l : List ℤ) (i : ℕ) (a : ℤ) → length l ≤ i → set l i a ≡ l
-set-beyond [] i a h = refl
-set-beyond (x ∷ l) zero a h = absurd (omega arith)
-set-beyond (x ∷ l) (suc i) a h = ap (λ (u : List ℤ). x ∷ u) (set-beyond l i a (omega arith))
-
-sets-beyond : (vs l : List ℤ) (i : ℕ) → length l ≤ i → sets l i vs ≡ l
-sets-beyond [] l i h = refl
-sets-beyond (v ∷ vs) l i h = ap (λ (u : List ℤ). sets u (suc i) vs) (set-beyond l i v h) ∙ sets-beyond vs l (suc i) (omega (arith, h))
-
-width-most : (first : Bool) → fileWidth first ≤ 64
+pub width-most : (first : Bool) → fileWidth first ≤ 64
 width-most true = omega arith
 width-most false = omega arith
 
-record-short : (first : Bool) (h : List ℤ) (i : ℕ) → 64 ≤ i → length (take (fileWidth first) h) ≤ i
-record-short first h i l = omega (arith, l, length-take (fileWidth first) h, width-most first)
-
 -- ── a line's numbers, in the records ──
 place-taken : (first : Bool) (p : ℕ) (zs h : List ℤ) → take (fileWidth first) (sets h (placeOf p 64) zs) ≡ putNumbers p zs (take (fileWidth first) h)
-place-taken first zero zs h = take-sets zs (fileWidth first) h 64 ∙ sets-beyond zs (take (fileWidth first) h) 64 (record-short first h 64 (omega arith))
+place-taken first zero zs h = fore-sets (fileWidth first) 64 zs h (width-most first)
 place-taken first (suc p) zs h = take-sets zs (fileWidth first) h (suc p)
 
 state-taken : (n q : ℕ) (z : ℤ) (h : List ℤ) → take n (putState q z h) ≡ putState q z (take n h)
@@ -64,7 +52,7 @@ line-taken first r v h =
 
 -- what is kept of a row without a place lies behind the records
 stored-behind : (first : Bool) (vs h : List ℤ) (i : ℕ) → 64 ≤ i → take (fileWidth first) (sets h i vs) ≡ take (fileWidth first) h
-stored-behind first vs h i l = take-sets vs (fileWidth first) h i ∙ sets-beyond vs (take (fileWidth first) h) i (record-short first h i l)
+stored-behind first vs h i l = fore-sets (fileWidth first) i vs h (omega (arith, l, width-most first))
 
 kept-taken : (first b : Bool) (j : ℕ) (h : List ℤ) → take (fileWidth first) (kept b j h) ≡ take (fileWidth first) h
 kept-taken first true j h =
@@ -88,16 +76,12 @@ sets-before (v ∷ vs) l i q h = sets-before vs (set l i v) (suc i) q (omega (ar
 abbrev pub short : ℕ → Rule → Bool
 short n r = eqb (r .state) 0 && leb (placeOf (r .place) 64 + columns (r .holds)) n
 
-fills-most : (d : Kind) (zs : List ℤ) → fills d zs ≡ true → length zs ≤ columns d
-fills-most d [] e = omega arith
-fills-most d (z ∷ zs) e = omega (arith, eqb-true (length (z ∷ zs)) (columns d) e)
-
 pub short-put : (n : ℕ) (r : Rule) (v : Value) (h : List ℤ) (q : ℕ) → short n r ≡ true → fills (r .holds) (numbers v) ≡ true → n ≤ q → getD (putLine r 64 v h) q (pos 0) ≡ getD h q (pos 0)
 short-put n r v h q e f l =
     let s = eqb-true (r .state) 0 (and-left (eqb (r .state) 0) _ e) in
     let w = leb-true (placeOf (r .place) 64 + columns (r .holds)) n (and-right (eqb (r .state) 0) _ e) in
     ap (λ (m : ℕ). getD (putState m (given v) (sets h (placeOf (r .place) 64) (numbers v))) q (pos 0)) s
-    ∙ sets-before (numbers v) h (placeOf (r .place) 64) q (omega (arith, w, l, fills-most (r .holds) (numbers v) f))
+    ∙ sets-before (numbers v) h (placeOf (r .place) 64) q (omega (arith, w, l, fills-le (r .holds) (numbers v) f))
 
 -- all rows but next_file's are short
 abbrev pub nextRow : Bool → ℕ

@@ -24,8 +24,9 @@ use Rattle.account.specs.FileLines.{PartOpen, Header, isCount, countAt, keptNam
 use Rattle.account.proofs.RowsTaken.{Taken}
 use Rattle.standing.proofs.Marks.{mark-free}
 use Rattle.standing.proofs.FileKeeps.{short-put, nextRow, short-row, later-row, keptIn-else, later-else}
-use Rattle.standing.proofs.FilePartMarks.{enter-other, enter-own, shaped-at, part-number}
+use Rattle.standing.proofs.FilePartMarks.{part-number}
 use Rattle.standing.proofs.FileEntries.{NameHere, amount-back}
+use Rattle.standing.proofs.HeldParts.{enter-other, enter-own, shaped-at}
 
 -- ── by number of the row ──
 pub next-slot : (first : Bool) (o : Slots) → held "next_file" (ownTable first) o ≡ getD o (nextRow first) none
@@ -68,10 +69,6 @@ date-put v h = refl
 time-put : (v : Value) (h : List ℤ) → keptIn false 0 4 (putLine (ruleAt laterTable 4) 64 v h) ≡ set (sets h 64 (numbers v)) 69 (getD (sets h 64 (numbers v)) 64 (pos 0))
 unfolding laterTable
 time-put v h = refl
-
-later-rows : length laterTable ≡ 5
-unfolding laterTable
-later-rows = refl
 
 -- ── after a line ──
 module _ (spool : List ℕ) (first : Bool) (p j : ℕ) (h : Held) (v : Value) (h₀ h₁ : List ℤ) (o : PartOpen first p) (sh : Shaped 0 (fileTables first) h) (tk : Taken (getD (fileTables first) p []) (marks (partOf h p)) j v)

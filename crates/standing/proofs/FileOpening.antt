@@ -1,7 +1,7 @@
--- FILE_FORMAT as it opens: nothing is held yet, and the header kept apart says no more than the head of its records.
-use Prim.Native.Nat.{ℕ, zero, suc, _<_}
+-- FILE_FORMAT as it opens: its records stay empty till it closes, nothing is held yet, and the header kept apart says no more than the head of its records.
+use Prim.Native.Nat.{ℕ, zero, suc, _<_, _+_, _≤_}
 use mathlib.Core.Bool.{Bool, true, false}
-use mathlib.Core.List.{List, [], _∷_, map}
+use mathlib.Core.List.{List, [], _∷_, map, _++_, append-assoc}
 use mathlib.Core.Option.{none}
 use mathlib.Core.Path.{_≡_, refl, sym, _∙_, ap, subst}
 use native.Mathlib.Omega.{arith}
@@ -20,35 +20,39 @@ use Rattle.rules.proofs.Chains.{clash}
 use Rattle.account.specs.declared.Where.{Where}
 use Rattle.account.specs.Placing.{Shaped}
 use Rattle.account.specs.Account.{headAt}
-use Rattle.standing.specs.SoFar.{volumeOf}
+use Rattle.standing.specs.SoFar.{volumeOf, emptyRecord, emptyRecords}
 use Rattle.standing.specs.Standing.{Desk, Bare}
-use Rattle.account.specs.TopLines.{unmarked, headerBegun}
-use Rattle.account.specs.FileLines.{PartOpen, partMarks, Header, isCount, countAt, fileWidth}
+use Rattle.account.specs.TopLines.{headerBegun, fileSize}
+use Rattle.account.specs.FileLines.{partMarks, Header, isCount, countAt, fileWidth}
 use Rattle.standing.specs.FileStanding.{fileHead, isNumbers, InFile}
+use Rattle.standing.specs.Laid.{Laid}
+use Rattle.standing.proofs.LaidTables.{laid-same, laid-empty}
 
--- the header's seventy numbers
+-- ── its records ──
+pub file-laid : (first : Bool) (t : List ℤ) (rs : List (List ℤ)) (w : ℕ) → Laid t rs w → w + fileSize first ≤ length t → Laid t (rs ++ emptyRecords first) (w + fileSize first)
+file-laid false t rs w l h = laid-empty t rs w l h
+file-laid true t rs w l h =
+    let e : w + 32 + 32 ≡ w + 64 = omega arith in
+    subst (λ (n : ℕ). Laid t (rs ++ emptyRecords true) n) e
+    (laid-same t ((rs ++ emptyRecord ∷ []) ++ emptyRecord ∷ []) (rs ++ emptyRecords true) (w + 32 + 32) (append-assoc rs (emptyRecord ∷ []) (emptyRecord ∷ []))
+    (laid-empty t (rs ++ emptyRecord ∷ []) (w + 32) (laid-empty t rs w l (omega (arith, h))) (omega (arith, h))))
+
+-- ── the header kept apart: seventy numbers ──
 abbrev begun : Bool → Where → List ℤ
-begun true w = headAt 32 2 0 w (headAt 0 1 0 w (replicate 70 (pos 0)))
-begun false w = headAt 0 2 0 w (replicate 70 (pos 0))
+begun first w = headerBegun first w (replicate 70 (pos 0))
 
-begun-is : (first : Bool) (w : Where) (h : List ℤ) → length h ≡ 70 → headerBegun first w h ≡ begun first w
-begun-is true w h l = ap (λ (n : ℕ). headAt 32 2 0 w (headAt 0 1 0 w (replicate n (pos 0)))) l
-begun-is false w h l = ap (λ (n : ℕ). headAt 0 2 0 w (replicate n (pos 0))) l
+-- whatever it held before
+pub header-same : (first : Bool) (w : Where) (h : List ℤ) → length h ≡ 70 → headerBegun first w h ≡ headerBegun first w (replicate 70 (pos 0))
+header-same true w h e = ap (λ (n : ℕ). headAt 32 2 0 w (headAt 0 1 0 w (replicate n (pos 0)))) e
+header-same false w h e = ap (λ (n : ℕ). headAt 0 2 0 w (replicate n (pos 0))) e
 
-module _ (w : Where) (v : w .volume < 4294967296) (l : w .line < 4294967296) where
-  volume-count : isCount (pos (w .volume)) ≡ true
-  volume-count = lt-ltb (w .volume) 4294967296 v
+pub begun-long : (w : Where) (first : Bool) → length (begun first w) ≡ 70
+begun-long w true = refl
+begun-long w false = refl
 
-  line-count : isCount (pos (w .line)) ≡ true
-  line-count = lt-ltb (w .line) 4294967296 l
-
-  begun-counts : (first : Bool) → all isCount (begun first w) ≡ true
-  begun-counts true = rw (volume-count, line-count)
-  begun-counts false = rw (volume-count, line-count)
-
-  begun-header : (first : Bool) → Header (begun first w)
-  begun-header true = record { long = refl; counts = begun-counts true }
-  begun-header false = record { long = refl; counts = begun-counts false }
+begun-counts : (first : Bool) (w : Where) → w .volume < 4294967296 → w .line < 4294967296 → all isCount (begun first w) ≡ true
+begun-counts true w a b = rw (lt-ltb (w .volume) 4294967296 a, lt-ltb (w .line) 4294967296 b)
+begun-counts false w a b = rw (lt-ltb (w .volume) 4294967296 a, lt-ltb (w .line) 4294967296 b)
 
 begun-filled : (first : Bool) (w : Where) → take (fileWidth first) (begun first w) ≡ putHeld (fileTables first) (blankHeld (fileTables first)) (fileHead first (w .volume) (w .line))
 unfolding fileTable rangeTable baseTable elecTable symTable laterTable
@@ -96,32 +100,28 @@ unfolding laterTable
 blank-dated true e = clash refl e
 blank-dated false e = (refl, refl)
 
-own-part : (first : Bool) → PartOpen first 0
-own-part first = record { five = omega arith; later = λ _. refl }
-
--- FILE_FORMAT of the volume at hand has just opened, at the line w
-pub file-opened : (spool : List ℕ) (k : ℕ) (d : Desk) (s : Set) (w : Where) (m₀ : List Bool) (h₀ : List ℤ) → k ≡ volumeOf s → (isFirst s ≡ true → Bare s) → d .now .part ≡ 0 → w .volume ≡ k
-    → w .volume < 4294967296 → w .line < 4294967296 → length m₀ ≡ 28 → length h₀ ≡ 70 → d .marks ≡ unmarked m₀ → d .header ≡ headerBegun (isFirst s) w h₀
-    → InFile spool k d s (w .line) (blankHeld (fileTables (isFirst s))) 0
-file-opened spool k d s w m₀ h₀ ev bare ep ew bv bl lm lh em eh =
+-- ── so it stands behind its opening line w ──
+pub file-begins : (spool : List ℕ) (k : ℕ) (d : Desk) (s : Set) (w : Where) (line : ℕ) → w .volume ≡ k → w .line ≡ line → w .volume < 4294967296 → w .line < 4294967296
+    → k ≡ volumeOf s → (isFirst s ≡ true → Bare s) → d .now .part ≡ 0 → d .marks ≡ replicate 28 false → d .header ≡ headerBegun (isFirst s) w (replicate 70 (pos 0))
+    → InFile spool k d s line (blankHeld (fileTables (isFirst s))) 0
+file-begins spool k d s w line ew el bv bl ev bare ep em eh =
     let first : Bool = isFirst s in
-    let hd : d .header ≡ begun first w = eh ∙ begun-is first w h₀ lh in
-    let md : d .marks ≡ replicate 28 false = em ∙ ap (λ (n : ℕ). replicate n false) lm in
     let zeros = begun-name first w in
-    record {
+    subst (λ (i : ℕ). InFile spool k d s i (blankHeld (fileTables first)) 0) el
+    (record {
       volume = ev;
       bare = bare;
       part = ep;
-      parts = own-part first;
-      header = subst Header (sym hd) (begun-header w bv bl first);
+      parts = record { five = omega arith; later = λ _. refl };
+      header = subst Header (sym eh) (record { long = begun-long w first; counts = begun-counts first w bv bl });
       shaped = blank-shaped first;
-      filled = ap (take (fileWidth first)) hd ∙ begun-filled first w ∙ ap (λ (i : ℕ). putHeld (fileTables first) (blankHeld (fileTables first)) (fileHead first i (w .line))) ew;
-      marked = λ q l. ap (partMarks first q) md ∙ blank-marked first q l;
+      filled = ap (take (fileWidth first)) eh ∙ begun-filled first w ∙ ap (λ (i : ℕ). putHeld (fileTables first) (blankHeld (fileTables first)) (fileHead first i (w .line))) ew;
+      marked = λ q l. ap (partMarks first q) em ∙ blank-marked first q l;
       next =
           blank-name first ∙ ap (λ (i : ℕ). map capital (bytesAt spool (span (countAt (begun first w) 66) i))) (sym (zeros .1))
-          ∙ ap (λ (t : List ℤ). map capital (bytesAt spool (span (countAt t 66) (countAt t 67)))) (sym hd);
-      date = λ e. ap (λ (t : List ℤ). countAt t 68) hd ∙ zeros .2 ∙ sym (blank-dated first e .0);
-      time = λ e. ap (λ (t : List ℤ). countAt t 69) hd ∙ zeros .3 ∙ sym (blank-dated first e .1);
+          ∙ ap (λ (t : List ℤ). map capital (bytesAt spool (span (countAt t 66) (countAt t 67)))) (sym eh);
+      date = λ e. ap (λ (t : List ℤ). countAt t 68) eh ∙ zeros .2 ∙ sym (blank-dated first e .0);
+      time = λ e. ap (λ (t : List ℤ). countAt t 69) eh ∙ zeros .3 ∙ sym (blank-dated first e .1);
       counted = λ q j _. ap isNumbers (blank-held (fileTables first) q j);
-      unnamed = λ _. ap (λ (t : List ℤ). countAt t 65) hd ∙ zeros .0;
-    }
+      unnamed = λ _. ap (λ (t : List ℤ). countAt t 65) eh ∙ zeros .0;
+    })

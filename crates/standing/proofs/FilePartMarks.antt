@@ -1,20 +1,16 @@
--- The marks of FILE_FORMAT's parts, and its slots: a line in one part leaves those of the others alone.
+-- The marks of FILE_FORMAT's parts: a line in one part leaves those of the others alone.
 use Prim.Native.Nat.{ℕ, zero, suc, _+_, _-_, _≤_, _<_}
 use mathlib.Core.Bool.{Bool, true, false}
-use mathlib.Core.List.{List, [], _∷_}
-use mathlib.Core.Option.{some}
+use mathlib.Core.List.{List, []}
 use mathlib.Core.Path.{_≡_, refl, sym, _∙_, ap}
 use native.Mathlib.Omega.{arith}
 use borrow.Author.Tests.{eqb-true, eqb-false, ltb-true, ltb-false}
 use lib.Dec.{eqb, ltb}
-use lib.ListN.{length, getD, set, take, drop, length-set}
-use lib.Seq.{getD-set-same, getD-set-other, drop-set-lt, drop-set-add, take-set-le, take-set-lt}
-use Rattle.rules.specs.Values.{Value}
-use Rattle.rules.specs.Rows.{Rule, Held, partOf, enter}
+use lib.ListN.{length, getD, set, take, drop}
+use lib.Seq.{drop-set-lt, drop-set-add, take-set-le, take-set-lt}
 use Rattle.rules.specs.Blocks.{fileTables}
 use Rattle.rules.proofs.Chains.{clash}
 use Rattle.tables.specs.Tables.{tableOf}
-use Rattle.account.specs.Placing.{Shaped}
 use Rattle.account.specs.FileLines.{PartOpen, fileTableOf, marksFrom, marksTo, partMarks}
 use Rattle.account.proofs.FileParts.{part-rows}
 
@@ -102,38 +98,3 @@ module _ (first : Bool) (p j : ℕ) (o : PartOpen first p) (l : j < length (getD
               differ : (b : Bool) → eqb q p ≡ b → p < q
               differ true e = absurd (n (eqb-true q p e))
               differ false e = omega (arith, h, eqb-false q p e)
-
--- ── the slots ──
-pub enter-other : (h : Held) (p q j : ℕ) (v : Value) → (q ≡ p → ⊥) → partOf (enter h p j v) q ≡ partOf h q
-enter-other h p q j v n = getD-set-other h p q (set (partOf h p) j (some v)) [] n
-
-pub enter-own : (h : Held) (p j : ℕ) (v : Value) → p < length h → partOf (enter h p j v) p ≡ set (partOf h p) j (some v)
-enter-own h p j v l = getD-set-same h p (set (partOf h p) j (some v)) [] l
-
-enter-length : (h : Held) (p q j : ℕ) (v : Value) → q < length h → length (partOf (enter h p j v) q) ≡ length (partOf h q)
-enter-length h p q j v l = go (eqb q p) refl
-  where
-    go : (b : Bool) → eqb q p ≡ b → length (partOf (enter h p j v) q) ≡ length (partOf h q)
-    go true e =
-        let w : q ≡ p = eqb-true q p e in
-        ap (λ (x : ℕ). length (partOf (enter h p j v) x)) w ∙ ap length (enter-own h p j v (omega (arith, l, w))) ∙ length-set (partOf h p) j (some v) ∙ ap (λ (x : ℕ). length (partOf h x)) (sym w)
-    go false e = ap length (enter-other h p q j v (eqb-false q p e))
-
-pub shaped-enter : (ts : List (List Rule)) (q : ℕ) (h : Held) (p j : ℕ) (v : Value) → Shaped q ts h → Shaped q ts (enter h p j v)
-shaped-enter [] q h p j v s = tt
-shaped-enter (t ∷ ts) q h p j v s = (
-  omega (arith, s .0, length-set h p (set (partOf h p) j (some v))),
-  enter-length h p q j v (s .0) ∙ s .1,
-  shaped-enter ts (suc q) h p j v (s .2),
-)
-
--- a part is there, with its slots
-pub shaped-at : (ts : List (List Rule)) (q i : ℕ) (h : Held) → Shaped q ts h → i < length ts → (q + i < length h) × (length (partOf h (q + i)) ≡ length (getD ts i []))
-shaped-at [] q i h s l = absurd (omega (arith, l))
-shaped-at (t ∷ ts) q zero h s l =
-    let e : q + 0 ≡ q = omega arith in
-    (omega (arith, s .0), ap (λ (x : ℕ). length (partOf h x)) e ∙ s .1)
-shaped-at (t ∷ ts) q (suc i) h s l =
-    let e : q + suc i ≡ suc q + i = omega arith in
-    let w = shaped-at ts (suc q) i h (s .2) (omega (arith, l)) in
-    (omega (arith, w .0, e), ap (λ (x : ℕ). length (partOf h x)) e ∙ w .1)

@@ -1,10 +1,10 @@
 -- What stands before a place of a table is left by what is put at it and behind it; and how long the table stays.
-use Prim.Native.Nat.{ℕ, zero, suc, _+_, _*_, _-_, _≤_, _<_}
+use Prim.Native.Nat.{ℕ, zero, suc, _+_, _≤_}
 use mathlib.Core.List.{List, [], _∷_, _++_}
-use mathlib.Core.Path.{_≡_, refl, sym, _∙_, ap, subst}
+use mathlib.Core.Path.{_≡_, refl, sym, _∙_, ap}
 use native.Mathlib.Omega.{arith}
 use lib.IntN.{ℤ, pos}
-use lib.ListN.{length, set, take, drop, replicate, length-take, length-drop, length-append}
+use lib.ListN.{length, set, take, drop, length-take, length-drop, length-append}
 use lib.Seq.{sets, take-nil, drop-nil, take-set-le, take-append-le, length-sets, length-take-le, take-take}
 use Rattle.account.specs.declared.Where.{Where}
 use Rattle.account.specs.Records.{partAt, withPart}

@@ -2,23 +2,20 @@
 use Prim.Native.Nat.{ℕ, _+_, _≤_}
 use mathlib.Core.Bool.{Bool, true, false, cond, not}
 use mathlib.Core.List.{List, [], _∷_, _++_, append-assoc}
-use mathlib.Core.Option.{none, some}
 use mathlib.Core.Path.{_≡_, refl, sym, _∙_, ap, subst}
 use native.Mathlib.Omega.{arith}
 use borrow.Author.Tests.{leb-true}
 use lib.IntN.{ℤ}
-use lib.ListN.{length, getD, set, take, length-append}
-use lib.Seq.{getD-set-same}
+use lib.ListN.{length, getD, take, length-append}
 use Rattle.rules.specs.declared.Digits.{Digits}
 use Rattle.rules.specs.declared.LineForm.{LineForm}
-use Rattle.rules.specs.Base.{isNone}
 use Rattle.rules.specs.RefusalNumbers.{got, unless}
 use Rattle.rules.specs.RangeClass.{digits}
 use Rattle.rules.specs.Lines.{formIn}
 use Rattle.rules.specs.Values.{Known, Value}
-use Rattle.rules.specs.Rows.{Rule, Slots, Held, fullAt, Act, stay, entry, begin, shut, refuse, act}
+use Rattle.rules.specs.Rows.{Rule, Held, fullAt, Act, stay, entry, begin, shut, refuse, act}
 use Rattle.rules.specs.Figures.{pointTable}
-use Rattle.rules.specs.Sets.{Point, Symbol, Set, knownOf, withRecords, symbolHidden, symbolOrder}
+use Rattle.rules.specs.Sets.{Point, Symbol, Set, knownOf, withRecords, symbolHidden}
 use Rattle.rules.specs.Machine.{Line, Env, State, symbol, hide, byAct, pointAt}
 use Rattle.rules.specs.RecordTable.{pointRecords, innerRecords}
 use Rattle.rules.proofs.Chains.{clash}
@@ -36,16 +33,9 @@ use Rattle.standing.proofs.Openers.{isBegin, no-begin}
 use Rattle.standing.proofs.LineSizes.{shut-close}
 use Rattle.standing.proofs.LaidTables.{laid-same}
 use Rattle.standing.proofs.MoreRecords.{more-points, ownRecord, hide-more}
-use Rattle.standing.proofs.Standings.{has-room, deskWith, stands-on, known}
+use Rattle.standing.proofs.Standings.{has-room, deskWith, stands-on, known, stands-still}
 use Rattle.standing.proofs.HomeFacts.{symbol-on}
 use Rattle.standing.proofs.PointEntries.{point-rows, plain-points, point-few, point-laid}
-
--- ── where it opens: what `InHide` asks of the symbol ──
-pub opened-order : (y : Symbol) → symbolOrder (isNone (getD (y .own) 1 none)) y .hideFirst ≡ isNone (getD (symbolOrder (isNone (getD (y .own) 1 none)) y .own) 1 none)
-opened-order y = refl
-
-pub opened-entered : (o : Slots) (v : Value) → length o ≡ 4 → isNone (getD (set o 2 (some v)) 2 none) ≡ false
-opened-entered o v e = ap isNone (getD-set-same o 2 (some v) none (omega (arith, e)))
 
 module _ (c : Digits) (spool : List ℕ) (k : ℕ) (FileHere : Desk → Set → ℕ → Held → ℕ → Type 0) (d : Desk) (at to : ℕ) (e : Env) (l : Line) (w : Where) (form : LineForm) (u : Under c d e)
     (x : LineHere spool k at to form w l) (s : Set) (y : Symbol) (ps : List Point) (z : Stands c spool k d (FileHere d) at (hide s y ps)) where
@@ -82,12 +72,7 @@ module _ (c : Digits) (spool : List ℕ) (k : ℕ) (FileHere : Desk → Set → 
 
     -- nothing but the place in the spool
     on-stay : did ≡ stay → t₁ ≡ d .table → Out (S.Go (d .now))
-    on-stay a q = (
-      st,
-      ap (byAct _ _ _ _) a,
-      stands-on c spool k FileHere d at to st st z (d .now) (d .marks) (d .inner) t₁ refl (z .lengths .marks) (z .lengths .inner) (subst (λ (t : List ℤ). Laid t (soFar c st) (d .now .free)) (sym q) (z .laid)) (z .taken)
-          (omega (arith, z .counted, later)) (omega (arith, z .named, later)) (omega (arith, z .numbered, later)) (z .block),
-    )
+    on-stay a q = (st, ap (byAct _ _ _ _) a, stands-still c spool k FileHere d at to st z later (d .tally) (d .marks) (d .inner) (d .header) t₁ refl refl refl refl q)
 
     -- one more point
     module _ (j : ℕ) (v : Value) (a : did ≡ entry j v) where

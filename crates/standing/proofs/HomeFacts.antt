@@ -1,13 +1,12 @@
 -- Where figures stand, as the code has it: the layer's or the symbol's number, the volume, the table of points.
-use Prim.Native.Nat.{ℕ, suc, _+_}
-use mathlib.Core.Bool.{Bool, true, false}
-use mathlib.Core.Path.{_≡_, refl, sym, _∙_}
-use lib.ListN.{length}
-use Rattle.rules.specs.Sets.{Symbol, Set, withRecords}
+use Prim.Native.Nat.{ℕ}
+use mathlib.Core.Bool.{Bool}
+use mathlib.Core.Path.{_≡_, _∙_}
 use mathlib.Core.List.{List}
+use Rattle.rules.specs.Sets.{Symbol, Set, withRecords}
 use Rattle.rules.specs.Machine.{Home, inElement, inLayer, isLayer}
 use Rattle.account.specs.declared.Now.{Now}
-use Rattle.standing.specs.SoFar.{homeOwner, homeVolume, homeMore}
+use Rattle.standing.specs.SoFar.{homeOwner, homeVolume}
 use Rattle.standing.specs.Standing.{InSymbol, InHome}
 
 module _ (spool : List ℕ) (k : ℕ) (n : Now) (ms is : List Bool) (s : Set) where

@@ -1,17 +1,17 @@
 -- A table that holds records and zeros behind them: one more record, a record with other numbers, and what stands at a record's place.
-use Prim.Native.Nat.{ℕ, zero, suc, _+_, _-_, _*_, _/_, _≤_, _<_}
-use mathlib.Core.Bool.{Bool, true, false}
+use Prim.Native.Nat.{ℕ, _+_, _-_, _≤_}
 use mathlib.Core.List.{List, [], _∷_, _++_, append-assoc, append-nil}
 use mathlib.Core.Path.{_≡_, refl, sym, _∙_, ap, subst}
 use native.Mathlib.Omega.{arith}
 use lib.IntN.{ℤ, pos}
 use lib.ListN.{length, take, drop, replicate, length-append, length-replicate, replicate-append-replicate}
-use lib.Seq.{take-at, drop-at, drop-drop, take-all, take-append-le}
+use lib.Seq.{take-at, drop-at, drop-drop}
 use Rattle.rules.specs.Base.{flat}
 use Rattle.rules.specs.RecordTable.{tableOf}
 use Rattle.rules.proofs.Chains.{flat-append}
 use Rattle.account.specs.Records.{partAt, withPart}
 use Rattle.standing.specs.Laid.{Laid}
+use Rattle.account.proofs.Lent.{with-same}
 
 -- ── a part of a list ──
 module _ (p u q : List ℤ) (a : ℕ) (ha : length p ≡ a) (hu : length u ≡ 32) where
@@ -23,6 +23,10 @@ module _ (p u q : List ℤ) (a : ℕ) (ha : length p ≡ a) (hu : length u ≡ 3
 
   pub with-of : (x : List ℤ) → withPart a x (p ++ (u ++ q)) ≡ p ++ (x ++ q)
   with-of x = ap (λ (y : List ℤ). y ++ (x ++ drop (a + 32) (p ++ (u ++ q)))) (take-at p (u ++ q) a ha) ∙ ap (λ (y : List ℤ). p ++ (x ++ y)) behind-of
+
+-- a part put back as it was
+pub with-back : (n : ℕ) (u t : List ℤ) → u ≡ partAt n t → withPart n u t ≡ t
+with-back n u t q = ap (λ (y : List ℤ). withPart n y t) q ∙ with-same n t
 
 -- ── lists of records ──
 pub flat-one : (u : List ℤ) → flat (u ∷ []) ≡ u

@@ -21,7 +21,7 @@ use Rattle.rules.specs.Blocks.{mostLayers}
 use Rattle.rules.specs.Sets.{Layer, Drawing, Set, withLayer, withRecords}
 use Rattle.rules.specs.Machine.{Line, Env, State, drawing, layerNames, roomFor, layerValue, onLayerNames, stepIn}
 use Rattle.rules.specs.RecordTable.{numbers, padded, start, layerRecord}
-use Rattle.rules.proofs.Chains.{unless-got, then-got}
+use Rattle.rules.proofs.Chains.{unless-got, then-got, map-append}
 use Rattle.entries.specs.Names.{namesIn}
 use Rattle.account.specs.declared.Where.{Where}
 use Rattle.account.specs.declared.Step.{Step}
@@ -33,11 +33,11 @@ use Rattle.standing.specs.SoFar.{soFar}
 use Rattle.standing.specs.Standing.{Desk, InDrawing, Stands, Under, LineHere, StepOut}
 use Rattle.account.specs.TopLines.{layersOf}
 use Rattle.account.specs.DrawingLines.{layerTaken, layerPut, LayerIn, layerGot, LayerOn, layerStep, namesStep, NamesOn, NamesLine}
-use Rattle.standing.proofs.HeadPuts.{head-put}
 use Rattle.standing.proofs.LaidTables.{laid-same, laid-more}
-use Rattle.standing.proofs.MoreRecords.{map-more, layer-more}
+use Rattle.standing.proofs.MoreRecords.{layer-more}
 use Rattle.standing.proofs.RowRecords.{sets-part}
 use Rattle.standing.proofs.Standings.{has-room, stands-on}
+use Rattle.standing.proofs.HeadRecords.{head-put}
 
 -- ── a layer's record ──
 layer-length : (n : ℕ) (y : Layer) → length (layerRecord n y) ≡ 32
@@ -203,7 +203,7 @@ module _ (c : Digits) (spool : List ℕ) (k : ℕ) (FileHere : Desk → Set → 
               layers =
                   ap (λ (n : ℕ). namesIn spool (take n layers₁)) (sym up) ∙ y .names
                   ∙ ap (λ (n : ℕ). namesIn spool (take n (d .layers)) ++ (id ∷ [])) counted-layers
-                  ∙ ap (λ (ns : List (List ℕ)). ns ++ (id ∷ [])) (z .layers) ∙ sym (map-more (λ (y : Layer). y .id) (g .layers) (layer v));
+                  ∙ ap (λ (ns : List (List ℕ)). ns ++ (id ∷ [])) (z .layers) ∙ sym (map-append (λ (y : Layer). y .id) (g .layers) (layer v ∷ []));
               few-layers = omega (arith, more, counted-layers, ltb-true (layersOf (d .tally)) mostLayers few);
               serials = z .serials;
               used = z .used;

@@ -1,18 +1,21 @@
 -- Where an act came from: a line that entered a row, or opened a block, had that row's key, and its content was read as the row's kind.
-use Prim.Native.Nat.{ℕ, _<_}
-use mathlib.Core.Bool.{Bool, true, false, cond, _||_, _&&_}
+use Prim.Native.Nat.{ℕ, _≤_}
+use mathlib.Core.Bool.{Bool, true, false, cond}
 use mathlib.Core.List.{List, [], _∷_}
 use mathlib.Core.Path.{_≡_, refl, sym, _∙_, ap, subst}
-use lib.ListN.{length, getD}
+use mathlib.Core.Option.{Option, none, some}
+use native.Mathlib.Omega.{arith}
+use lib.ListN.{getD}
 use Rattle.rules.specs.declared.Digits.{Digits}
-use Rattle.rules.specs.Base.{split}
-use Rattle.rules.specs.RefusalNumbers.{Got, got, bad, unless, mapG, keep}
-use Rattle.rules.specs.Lines.{Rest, Form, ignored, wrong, close, eof, keyed, Shape, opener, noContent, content, opening, formless, hasForm, shapeOf}
-use Rattle.rules.specs.Values.{Num, Value, empty, nums, chars, linked, Known, Part, Across, Kind, values, text, word, volumeName, sheet, ratio, serials, nothing, opens, headed, either, readAll, agree, readKind, numsOf}
+use Rattle.rules.specs.Base.{split, isNil}
+use Rattle.rules.specs.RefusalNumbers.{got, bad, unless, keep}
+use Rattle.rules.specs.Lines.{Rest, Form, ignored, wrong, close, eof, keyed, Shape, opener, noContent, content, opening, formless, hasForm, shapeOf, equals, brace, stem, byStem, freeShapeOf}
+use Rattle.rules.specs.Values.{Value, empty, nums, Known, Part, Across, Kind, values, text, word, volumeName, sheet, ratio, serials, nothing, opens, headed, either, readAll, agree, readKind, numsOf, Bytes, isFree}
 use Rattle.rules.specs.Rows.{Rule, Found, absent, found, find, shapeFor, fits, Act, stay, entry, begin, shut, refuse, orRefuse, innerOf, isContent, readShape, actRow, actUnknown, actFound, complete, act}
+use Rattle.rules.proofs.Chains.{clash, never, map-got, by-cond, or-left}
+use Rattle.rules.proofs.Rows.{Row, found-row, isRefusal, Did, row-did}
 use Rattle.entries.specs.Acts.{valueOf}
-use Rattle.rules.proofs.Chains.{clash, never, map-got, keep-got, by-cond}
-use Rattle.rules.proofs.Rows.{Row, found-row, row-at, row-below, isRefusal, Did, row-did}
+use Rattle.standing.specs.Standing.{restSize}
 
 -- the row and the rest of the line behind its key
 pub record From (k : Known) (t : List Rule) (d : Digits) (full : List Bool) (f : Form) (j : ℕ) (a : Act) : Type 0 where
@@ -88,6 +91,50 @@ module _ (k : Known) (t : List Rule) (d : Digits) (full : List Bool) where
   pub begin-from : (f : Form) (i j : ℕ) (v : Value) → act k t d full f ≡ begin i j v → From k t d full f j (begin i j v)
   begin-from f i j v e = subst (λ (a : Act). Came k t d full f a a) e (came f)
 
+-- ── content ──
+-- a kind whose rows take content alone, where they may not be empty
+pub record ContentKind (h : Kind) : Type 0 where
+  pub plain : isFree h ≡ false
+  pub filled : (s : Shape) → fits h false s ≡ true → isContent s ≡ true
+
+pub values-content : (p : Part) (ps : List Part) (a : Across) → ContentKind (values p ps a)
+values-content p ps a = record { plain = refl; filled = λ s e. or-left (isContent s) false refl e }
+
+pub word-content : (n : ℕ) (b : Bytes) → ContentKind (word n b)
+word-content n b = record { plain = refl; filled = λ s e. or-left (isContent s) false refl e }
+
+pub serials-content : ContentKind serials
+serials-content = record { plain = refl; filled = λ s e. or-left (isContent s) false refl e }
+
+-- what stood behind the key: `=`, some bytes and their place, and what was read of them
+pub record ContentRead (k : Known) (h : Kind) (x : Rest) (v : Value) : Type 0 where
+  pub at : ℕ
+  pub bytes : List ℕ
+  pub behind : x ≡ equals at bytes
+  pub filled : isNil bytes ≡ false
+  pub long : 2 ≤ restSize x
+  pub read : readKind k h at bytes ≡ got v
+
+rest-read : (k : Known) (j : ℕ) (r : Rule) (x : Rest) (v : Value) → isContent (shapeOf x) ≡ true → readShape k j r (shapeOf x) ≡ got (entry j v) → ContentRead k (r .holds) x v
+rest-read k j r brace v i e = clash i refl
+rest-read k j r (equals at []) v i e = clash i refl
+rest-read k j r (equals at (b ∷ c)) v i e = by-stem (stem (b ∷ c)) i e
+  where
+    by-stem : (o : Option (List ℕ)) → isContent (byStem at (b ∷ c) o) ≡ true → readShape k j r (byStem at (b ∷ c) o) ≡ got (entry j v) → ContentRead k (r .holds) (equals at (b ∷ c)) v
+    by-stem none i e =
+        let (w, p, q) = map-got (entry j) (readKind k (r .holds) at (b ∷ c)) (entry j v) e in
+        record { at = at; bytes = b ∷ c; behind = refl; filled = refl; long = omega arith; read = p ∙ ap got (ap valueOf q) }
+    by-stem (some []) i e = clash i refl
+    by-stem (some (q ∷ t)) i e = clash i refl
+
+pub content-read : (k : Known) (t : List Rule) (d : Digits) (full : List Bool) (f : Form) (j : ℕ) (v : Value) (x : From k t d full f j (entry j v))
+    → ContentKind (x .rule .holds) → x .rule .may ≡ false → ContentRead k (x .rule .holds) (x .rest) v
+content-read k t d full f j v x h m =
+    let shape : shapeFor (x .rule) (x .rest) ≡ shapeOf (x .rest) = ap (λ (b : Bool). cond b (freeShapeOf (x .rest)) (shapeOf (x .rest))) (h .plain) in
+    rest-read k j (x .rule) (x .rest) v
+    (ap isContent (sym shape) ∙ h .filled (shapeFor (x .rule) (x .rest)) (subst (λ (b : Bool). fits (x .rule .holds) b (shapeFor (x .rule) (x .rest)) ≡ true) m (x .did .fit)))
+    (ap (readShape k j (x .rule)) (sym shape) ∙ x .did .read)
+
 -- ── values ──
 abbrev pub isValues : Kind → Bool
 isValues (values p ps a) = true
@@ -115,32 +162,22 @@ read-nums k (opens n) at c v i e = clash i refl
 read-nums k (headed n p) at c v i e = clash i refl
 read-nums k (either n) at c v i e = clash i refl
 
-fit-values : (h : Kind) (s : Shape) → isValues h ≡ true → fits h false s ≡ isContent s || false
-fit-values (values p ps a) s i = refl
-fit-values (text n b) s i = clash i refl
-fit-values (word n b) s i = clash i refl
-fit-values volumeName s i = clash i refl
-fit-values sheet s i = clash i refl
-fit-values ratio s i = clash i refl
-fit-values serials s i = clash i refl
-fit-values nothing s i = clash i refl
-fit-values (opens n) s i = clash i refl
-fit-values (headed n p) s i = clash i refl
-fit-values (either n) s i = clash i refl
-
-entry-value : {i j : ℕ} {v w : Value} → entry i v ≡ entry j w → v ≡ w
-entry-value e = ap valueOf e
+content-of-values : (h : Kind) → isValues h ≡ true → ContentKind h
+content-of-values (values p ps a) i = values-content p ps a
+content-of-values (text n b) i = clash i refl
+content-of-values (word n b) i = clash i refl
+content-of-values volumeName i = clash i refl
+content-of-values sheet i = clash i refl
+content-of-values ratio i = clash i refl
+content-of-values serials i = clash i refl
+content-of-values nothing i = clash i refl
+content-of-values (opens n) i = clash i refl
+content-of-values (headed n p) i = clash i refl
+content-of-values (either n) i = clash i refl
 
 -- a row of values that may not be empty holds numbers
 pub entry-nums : (k : Known) (t : List Rule) (d : Digits) (full : List Bool) (f : Form) (j : ℕ) (v : Value) (x : From k t d full f j (entry j v))
     → isValues (x .rule .holds) ≡ true → x .rule .may ≡ false → v ≡ nums (numsOf v)
-entry-nums k t d full f j v x i m = go (shapeFor (x .rule) (x .rest)) (x .did .read) (subst (λ (b : Bool). fits (x .rule .holds) b (shapeFor (x .rule) (x .rest)) ≡ true) m (x .did .fit))
-  where
-    go : (s : Shape) → readShape k j (x .rule) s ≡ got (entry j v) → fits (x .rule .holds) false s ≡ true → v ≡ nums (numsOf v)
-    go opener e h = clash h (fit-values (x .rule .holds) opener i)
-    go noContent e h = clash h (fit-values (x .rule .holds) noContent i)
-    go (content at c) e h =
-        let (w, p, q) = map-got (entry j) (readKind k (x .rule .holds) at c) (entry j v) e in
-        subst (λ (y : Value). y ≡ nums (numsOf y)) (entry-value q) (read-nums k (x .rule .holds) at c w i p)
-    go (opening at c) e h = clash h (fit-values (x .rule .holds) (opening at c) i)
-    go formless e h = clash h (fit-values (x .rule .holds) formless i)
+entry-nums k t d full f j v x i m =
+    let y = content-read k t d full f j v x (content-of-values (x .rule .holds) i) m in
+    read-nums k (x .rule .holds) (y .at) (y .bytes) v i (y .read)

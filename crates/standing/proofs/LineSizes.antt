@@ -4,17 +4,18 @@ use mathlib.Core.Bool.{Bool, true, false, cond}
 use mathlib.Core.List.{List, [], _∷_}
 use mathlib.Core.Path.{_≡_, refl, sym, _∙_, ap}
 use native.Mathlib.Omega.{arith}
-use lib.ListN.{length, getD}
+use lib.ListN.{length}
 use Rattle.rules.specs.declared.Digits.{Digits}
-use Rattle.rules.specs.RefusalNumbers.{got, bad, unless}
-use Rattle.rules.specs.Lines.{Rest, brace, equals, Form, ignored, wrong, close, eof, keyed, Shape, opener, noContent, content, opening, formless, shapeOf, freeShapeOf, hasForm}
+use Rattle.rules.specs.RefusalNumbers.{got}
+use Rattle.rules.specs.Lines.{Rest, brace, equals, Form, ignored, wrong, close, eof, keyed, Shape, opener, noContent, content, opening, formless, shapeOf, freeShapeOf}
 use Rattle.rules.specs.Values.{Known, Value, empty, nums, isFree, readKind}
-use Rattle.rules.specs.Rows.{Rule, Found, absent, found, find, isEmpty, shapeFor, Act, stay, entry, begin, shut, refuse, orRefuse, innerOf, readShape, actRow, actFound, complete, act}
+use Rattle.rules.specs.Rows.{Rule, isEmpty, shapeFor, Act, stay, entry, begin, shut, refuse, innerOf, readShape, complete, act}
+use Rattle.rules.specs.Base.{all}
 use Rattle.rules.proofs.Chains.{clash, never, same-eq, map-got}
-use Rattle.rules.proofs.Rows.{found-row, isRefusal, row-did}
+use Rattle.rules.proofs.Rows.{found-row}
 use Rattle.standing.specs.Standing.{restSize, formSize}
 use Rattle.standing.proofs.LineOrigins.{From}
-use Rattle.standing.proofs.Openers.{isEntry}
+use Rattle.standing.proofs.Openers.{isEntry, found-quiet}
 
 -- ── behind the key ──
 free-size : (x : Rest) → isEmpty (freeShapeOf x) ≡ false → 2 ≤ restSize x
@@ -60,26 +61,16 @@ isShut (begin i j v) = false
 isShut shut = true
 isShut (refuse n) = false
 
-refusal-shut : (a : Act) → isRefusal a ≡ true → isShut a ≡ false
-refusal-shut stay e = clash e refl
-refusal-shut (entry j v) e = clash e refl
-refusal-shut (begin i j v) e = clash e refl
-refusal-shut shut e = clash e refl
-refusal-shut (refuse n) e = refl
-
-read-shut : (k : Known) (j : ℕ) (r : Rule) (s : Shape) (a : Act) → readShape k j r s ≡ got a → isShut a ≡ false
+pub read-shut : (k : Known) (j : ℕ) (r : Rule) (s : Shape) (a : Act) → readShape k j r s ≡ got a → isShut a ≡ false
 read-shut k j r opener a e = let q : begin (innerOf (r .holds)) j (nums []) ≡ a = cc in ap isShut (sym q)
 read-shut k j r noContent a e = let q : entry j empty ≡ a = cc in ap isShut (sym q)
 read-shut k j r (content at c) a e = let m = map-got (entry j) (readKind k (r .holds) at c) a e in ap isShut (sym (m .2))
 read-shut k j r (opening at c) a e = let m = map-got (begin (innerOf (r .holds)) j) (readKind k (r .holds) at c) a e in ap isShut (sym (m .2))
 read-shut k j r formless a e = never e
 
-row-shut : (k : Known) (d : Digits) (full : Bool) (j : ℕ) (r : Rule) (x : Rest) → isShut (actRow k d full j r x) ≡ false
-row-shut k d full j r x = go (isRefusal (actRow k d full j r x)) refl
-  where
-    go : (b : Bool) → isRefusal (actRow k d full j r x) ≡ b → isShut (actRow k d full j r x) ≡ false
-    go true e = refusal-shut (actRow k d full j r x) e
-    go false e = let a = actRow k d full j r x in read-shut k j r (shapeFor r x) a (row-did k d full j r x a e refl .read)
+every-row : (t : List Rule) → all (λ r. true) t ≡ true
+every-row [] = refl
+every-row (r ∷ t) = every-row t
 
 -- a block closes at a `}`, with all that it must have
 pub shut-close : (k : Known) (t : List Rule) (d : Digits) (full : List Bool) (f : Form) → act k t d full f ≡ shut → (f ≡ close) × (complete d t full ≡ true)
@@ -91,12 +82,5 @@ shut-close k t d full close e = (refl, go (complete d t full) refl e)
     go true h e = refl
     go false h e = ap isShut e
 shut-close k t d full eof e = clash (ap isShut e) refl
-shut-close k t d full (keyed key x) e = go (find key t) e
-  where
-    unknown : (b : Bool) → isShut (orRefuse (unless b 5 (bad 6))) ≡ false
-    unknown true = refl
-    unknown false = refl
-
-    go : (g : Found) → actFound k d full x g ≡ shut → (keyed key x ≡ close) × (complete d t full ≡ true)
-    go absent e = clash (ap isShut e) (unknown (hasForm (shapeOf x)))
-    go (found j r) e = clash (ap isShut e) (row-shut k d (getD full j false) j r x)
+shut-close k t d full (keyed key x) e =
+    clash (ap isShut e) (found-quiet isShut (λ h. true) (λ n. refl) (λ k d full j r x a p w. read-shut k j r (shapeFor r x) a (w .read)) k t d full key x (every-row t))

@@ -1,14 +1,17 @@
 -- Slots and the marks of what has been.
-use Prim.Native.Nat.{ℕ, zero, suc, _<_}
-use mathlib.Core.Bool.{Bool, true, false}
-use mathlib.Core.List.{List, [], _∷_, map}
+use Prim.Native.Nat.{ℕ, zero, suc}
+use mathlib.Core.Bool.{Bool, true, false, _||_, not}
+use mathlib.Core.List.{List, [], _∷_}
 use mathlib.Core.Option.{Option, none, some}
-use mathlib.Core.Path.{_≡_, refl, ap}
+use mathlib.Core.Path.{_≡_, refl, ap, sym, _∙_}
 use lib.ListN.{length, getD, set}
 use Rattle.rules.specs.Base.{isSome}
 use Rattle.rules.specs.Values.{Value}
 use Rattle.rules.specs.Rows.{Rule, Slots, blank, marks}
+use Rattle.rules.specs.declared.Digits.{Digits}
+use Rattle.rules.specs.RangeClass.{digits, reaches}
 use Rattle.rules.proofs.Chains.{clash}
+use Rattle.rules.proofs.Rows.{reaches-none}
 
 -- a slot entered is a mark set
 pub marks-set : (o : Slots) (j : ℕ) (v : Value) → marks (set o j (some v)) ≡ set (marks o) j true
@@ -30,3 +33,7 @@ marks-length (x ∷ o) = ap suc (marks-length o)
 pub blank-length : (t : List Rule) → length (blank t) ≡ length t
 blank-length [] = refl
 blank-length (r ∷ t) = ap suc (blank-length t)
+
+-- a row that is required at every range is there
+pub must-row : (g : Digits) (a : Option Value) → (not (reaches g (digits 0 0)) || isSome a) ≡ true → isSome a ≡ true
+must-row g a e = ap (λ (b : Bool). not b || isSome a) (sym (reaches-none g)) ∙ e

@@ -1,36 +1,32 @@
 -- The records so far, as a line or a closed block adds to them.
-use Prim.Native.Nat.{ℕ, zero, suc, _+_}
+use Prim.Native.Nat.{ℕ, suc, _+_}
 use mathlib.Core.Bool.{Bool, true, false, cond}
 use mathlib.Core.List.{List, [], _∷_, _++_, map, append-assoc, append-nil}
-use mathlib.Core.Option.{Option, none, some}
-use mathlib.Core.Path.{_≡_, refl, sym, _∙_, ap, subst}
+use mathlib.Core.Option.{some}
+use mathlib.Core.Path.{_≡_, refl, sym, _∙_, ap}
 use native.Mathlib.Omega.{arith}
 use lib.Dec.{eqb}
-use lib.IntN.{ℤ, pos}
-use lib.ListN.{length, length-append}
+use lib.IntN.{ℤ}
+use lib.ListN.{length}
 use Rattle.rules.specs.declared.Digits.{Digits}
-use Rattle.rules.specs.Base.{flat, isNil}
+use Rattle.rules.specs.Base.{flat}
 use Rattle.rules.specs.RangeClass.{digits, digitsOf}
-use Rattle.rules.specs.Values.{Num, Value, nums}
-use Rattle.rules.specs.Rows.{Rule}
-use Rattle.rules.specs.Blocks.{symbolTable}
-use Rattle.rules.specs.Figures.{layerTable, figureTable, pointTable, placedTables}
-use Rattle.rules.specs.Sets.{Point, Figure, Layer, Drawing, Symbol, LayerBlock, Contents, Set, isFirst, rangeOf, isSingle, symbolRange, withBlock, withRecords, withVolume, withSymbol, withLayer, symbolFigures, symbolHidden}
+use Rattle.rules.specs.Values.{nums}
+use Rattle.rules.specs.Rows.{Rule, Held, partOf, numberOf}
+use Rattle.rules.specs.Blocks.{symbolTable, elecTable}
+use Rattle.rules.specs.Figures.{layerTable, figureTable, pointTable}
+use Rattle.rules.specs.Sets.{Point, Figure, Layer, Drawing, Symbol, LayerBlock, Contents, Set, isFirst, rangeOf, isSingle, symbolRange, withBlock, withRecords, withVolume, withSymbol, withLayer, symbolFigures, symbolHidden, firstContents, headOr}
 use Rattle.rules.specs.Machine.{Home, inElement, inLayer}
 use Rattle.rules.specs.RecordTable.{putSlot, putSlots, ruleAt, start, fileRecords, drawingRecord, layerRecord, layerRecords, pointRecords, figureRecords, innerRecords, symbolRecords, blockRecords, bodyRecords, laterRecords, recordsFrom}
-use Rattle.rules.proofs.Chains.{flat-append}
-use Rattle.standing.specs.SoFar.{volumeOf, closedRecords, sheetRecords, frontRecords, baseRecords, layersRecords, symbolSoFar, homeRecords, homeOwner, homeVolume, homeMore, homeFigure, figuresSoFar}
+use Rattle.rules.proofs.Chains.{flat-append, map-append}
+use Rattle.standing.specs.SoFar.{volumeOf, closedRecords, sheetRecords, frontRecords, baseRecords, layersRecords, symbolSoFar, homeRecords, homeFigure, figuresSoFar}
 
 abbrev Records : Type 0
 Records = List (List ℤ)
 
 -- ── lists ──
-pub map-more : {A B : Type 0} (f : A → B) (s : List A) (a : A) → map f (s ++ a ∷ []) ≡ map f s ++ f a ∷ []
-map-more f [] a = refl
-map-more f (b ∷ s) a = ap (λ u. f b ∷ u) (map-more f s a)
-
-pub flat-map-more : {A : Type 0} (f : A → Records) (s : List A) (a : A) → flat (map f (s ++ a ∷ [])) ≡ flat (map f s) ++ f a
-flat-map-more f s a = ap flat (map-more f s a) ∙ flat-append (map f s) (f a ∷ []) ∙ ap (λ (u : Records). flat (map f s) ++ u) (append-nil (f a))
+pub flat-map-more : {A B : Type 0} (f : A → List B) (s : List A) (a : A) → flat (map f (s ++ a ∷ [])) ≡ flat (map f s) ++ f a
+flat-map-more {A} {B} f s a = ap flat (map-append f s (a ∷ [])) ∙ flat-append (map f s) (f a ∷ []) ∙ ap (λ (u : List B). flat (map f s) ++ u) (append-nil (f a))
 
 from-zero : (n : ℕ) → 0 + n ≡ n
 from-zero n = omega arith
@@ -101,15 +97,18 @@ module _ (n : ℕ) (y : Symbol) where
       hide-order (y .hideFirst) (y .figures) ps h ∙ ap (λ (u : List Point). inOrder (y .hideFirst) (shown (y .figures)) (pointRecords 43 n 1 u) ++ pointRecords 43 n 1 ps) (sym e)
 
 -- ── a closed layer ──
--- what a volume's layers hold says nothing of the file's ranges
-pub range-block : (u : LayerBlock) (s : Set) → symbolRange (withBlock u s) ≡ symbolRange s
-range-block u s = go (s .volumes) refl
+-- what a volume's layers hold says nothing of FILE_FORMAT, nor of its ranges
+pub file-block : (u : LayerBlock) (s : Set) → firstContents (withBlock u s) .file ≡ firstContents s .file
+file-block u s = go (s .volumes)
   where
-    go : (vs : List Contents) → s .volumes ≡ vs → symbolRange (withBlock u s) ≡ symbolRange s
-    go [] e = rw e
-    go (v ∷ vs) e = rw e
+    go : (vs : List Contents) → headOr (withBlock u s .now) vs .file ≡ headOr (s .now) vs .file
+    go [] = refl
+    go (v ∷ vs) = refl
 
-pub closed-block : (c : Digits) (u : LayerBlock) (s : Set) → closedRecords c (withBlock u s) ≡ closedRecords c s
+range-block : (u : LayerBlock) (s : Set) → symbolRange (withBlock u s) ≡ symbolRange s
+range-block u s = ap (λ (f : Held). numberOf "E_sym" elecTable (partOf f 3)) (file-block u s)
+
+closed-block : (c : Digits) (u : LayerBlock) (s : Set) → closedRecords c (withBlock u s) ≡ closedRecords c s
 closed-block c u s = go (s .volumes) refl
   where
     go : (vs : List Contents) → s .volumes ≡ vs → closedRecords c (withBlock u s) ≡ closedRecords c s

@@ -1,9 +1,9 @@
 -- The state by the number of the block that is open.
 use Prim.Native.Nat.{ℕ}
 use mathlib.Core.Bool.{Bool}
-use mathlib.Core.List.{List}
-use mathlib.Core.Path.{_≡_}
-use native.Mathlib.Omega.{arith}
+use mathlib.Core.List.{List, [], _∷_}
+use mathlib.Core.Path.{_≡_, sym, subst}
+use lib.ListN.{getD}
 use Rattle.rules.specs.declared.Digits.{Digits}
 use Rattle.rules.specs.Rows.{Slots, Held}
 use Rattle.rules.specs.Sets.{Point, Figure, Drawing, Symbol, Set}
@@ -46,195 +46,59 @@ pub data InAText : State → Type 0 where
 pub data InAPlaced : State → Type 0 where
   here : (s : Set) (m : ℕ) (fs : List Figure) (n : ℕ) (o : Held) (p : ℕ) → InAPlaced (placing s m fs n o p)
 
+-- the blocks by their numbers; behind EOF none is open
+abbrev Open : ℕ → State → Type 0
+Open n st = getD (AtTop st ∷ InFileFormat st ∷ InDrawingFormat st ∷ InLayerNames st ∷ InDefines st ∷ InASymbol st ∷ InAHide st ∷ InElement st ∷ AmongFigures st ∷ InAChain st ∷ InAText st ∷ InAPlaced st ∷ []) n (Unit {0})
+
 module _ (c : Digits) (spool : List ℕ) (k : ℕ) (d : Desk) (F : Set → ℕ → Held → ℕ → Type 0) where
+  open-block : (st : State) → Inside c spool k d F st → Open (d .now .block) st
+  open-block (top s m) i = subst (λ (block : ℕ). Open block (top s m)) (sym (i .0)) (here s m)
+  open-block (file s n h p) i = subst (λ (block : ℕ). Open block (file s n h p)) (sym (i .0)) (here s n h p)
+  open-block (drawing s w) i = subst (λ (block : ℕ). Open block (drawing s w)) (sym (i .0)) (here s w)
+  open-block (layerNames s w) i = subst (λ (block : ℕ). Open block (layerNames s w)) (sym (i .0)) (here s w)
+  open-block (defines s b) i = subst (λ (block : ℕ). Open block (defines s b)) (sym (i .0)) (here s b)
+  open-block (symbol s y) i = subst (λ (block : ℕ). Open block (symbol s y)) (sym (i .0)) (here s y)
+  open-block (hide s y ps) i = subst (λ (block : ℕ). Open block (hide s y ps)) (sym (i .0)) (here s y ps)
+  open-block (elements s) i = subst (λ (block : ℕ). Open block (elements s)) (sym (i .0)) (here s)
+  open-block (figures s h fs) i = subst (λ (block : ℕ). Open block (figures s h fs)) (sym (i .0)) (here s h fs)
+  open-block (successive s h fs n ps) i = subst (λ (block : ℕ). Open block (successive s h fs n ps)) (sym (i .0)) (here s h fs n ps)
+  open-block (texts s h fs n o) i = subst (λ (block : ℕ). Open block (texts s h fs n o)) (sym (i .0)) (here s h fs n o)
+  open-block (placing s m fs n o p) i = subst (λ (block : ℕ). Open block (placing s m fs n o p)) (sym (i .0)) (here s m fs n o p)
+  open-block (skipping s m fs n o p) i = absurd i
+  open-block (ended s) i = subst (λ (block : ℕ). Open block (ended s)) (sym i) tt
+
   pub at-top : (st : State) → Inside c spool k d F st → d .now .block ≡ 0 → AtTop st
-  at-top (top s m) i q = here s m
-  at-top (file s n h p) i q = absurd (omega (arith, i .0, q))
-  at-top (drawing s w) i q = absurd (omega (arith, i .0, q))
-  at-top (layerNames s w) i q = absurd (omega (arith, i .0, q))
-  at-top (defines s b) i q = absurd (omega (arith, i .0, q))
-  at-top (symbol s y) i q = absurd (omega (arith, i .0, q))
-  at-top (hide s y ps) i q = absurd (omega (arith, i .0, q))
-  at-top (elements s) i q = absurd (omega (arith, i .0, q))
-  at-top (figures s h fs) i q = absurd (omega (arith, i .0, q))
-  at-top (successive s h fs n ps) i q = absurd (omega (arith, i .0, q))
-  at-top (texts s h fs n o) i q = absurd (omega (arith, i .0, q))
-  at-top (placing s m fs n o p) i q = absurd (omega (arith, i .0, q))
-  at-top (skipping s m fs n o p) i q = absurd i
-  at-top (ended s) i q = absurd (omega (arith, i, q))
+  at-top st i q = subst (λ (block : ℕ). Open block st) q (open-block st i)
 
   pub in-file : (st : State) → Inside c spool k d F st → d .now .block ≡ 1 → InFileFormat st
-  in-file (top s m) i q = absurd (omega (arith, i .0, q))
-  in-file (file s n h p) i q = here s n h p
-  in-file (drawing s w) i q = absurd (omega (arith, i .0, q))
-  in-file (layerNames s w) i q = absurd (omega (arith, i .0, q))
-  in-file (defines s b) i q = absurd (omega (arith, i .0, q))
-  in-file (symbol s y) i q = absurd (omega (arith, i .0, q))
-  in-file (hide s y ps) i q = absurd (omega (arith, i .0, q))
-  in-file (elements s) i q = absurd (omega (arith, i .0, q))
-  in-file (figures s h fs) i q = absurd (omega (arith, i .0, q))
-  in-file (successive s h fs n ps) i q = absurd (omega (arith, i .0, q))
-  in-file (texts s h fs n o) i q = absurd (omega (arith, i .0, q))
-  in-file (placing s m fs n o p) i q = absurd (omega (arith, i .0, q))
-  in-file (skipping s m fs n o p) i q = absurd i
-  in-file (ended s) i q = absurd (omega (arith, i, q))
+  in-file st i q = subst (λ (block : ℕ). Open block st) q (open-block st i)
 
   pub in-drawing : (st : State) → Inside c spool k d F st → d .now .block ≡ 2 → InDrawingFormat st
-  in-drawing (top s m) i q = absurd (omega (arith, i .0, q))
-  in-drawing (file s n h p) i q = absurd (omega (arith, i .0, q))
-  in-drawing (drawing s w) i q = here s w
-  in-drawing (layerNames s w) i q = absurd (omega (arith, i .0, q))
-  in-drawing (defines s b) i q = absurd (omega (arith, i .0, q))
-  in-drawing (symbol s y) i q = absurd (omega (arith, i .0, q))
-  in-drawing (hide s y ps) i q = absurd (omega (arith, i .0, q))
-  in-drawing (elements s) i q = absurd (omega (arith, i .0, q))
-  in-drawing (figures s h fs) i q = absurd (omega (arith, i .0, q))
-  in-drawing (successive s h fs n ps) i q = absurd (omega (arith, i .0, q))
-  in-drawing (texts s h fs n o) i q = absurd (omega (arith, i .0, q))
-  in-drawing (placing s m fs n o p) i q = absurd (omega (arith, i .0, q))
-  in-drawing (skipping s m fs n o p) i q = absurd i
-  in-drawing (ended s) i q = absurd (omega (arith, i, q))
+  in-drawing st i q = subst (λ (block : ℕ). Open block st) q (open-block st i)
 
   pub in-names : (st : State) → Inside c spool k d F st → d .now .block ≡ 3 → InLayerNames st
-  in-names (top s m) i q = absurd (omega (arith, i .0, q))
-  in-names (file s n h p) i q = absurd (omega (arith, i .0, q))
-  in-names (drawing s w) i q = absurd (omega (arith, i .0, q))
-  in-names (layerNames s w) i q = here s w
-  in-names (defines s b) i q = absurd (omega (arith, i .0, q))
-  in-names (symbol s y) i q = absurd (omega (arith, i .0, q))
-  in-names (hide s y ps) i q = absurd (omega (arith, i .0, q))
-  in-names (elements s) i q = absurd (omega (arith, i .0, q))
-  in-names (figures s h fs) i q = absurd (omega (arith, i .0, q))
-  in-names (successive s h fs n ps) i q = absurd (omega (arith, i .0, q))
-  in-names (texts s h fs n o) i q = absurd (omega (arith, i .0, q))
-  in-names (placing s m fs n o p) i q = absurd (omega (arith, i .0, q))
-  in-names (skipping s m fs n o p) i q = absurd i
-  in-names (ended s) i q = absurd (omega (arith, i, q))
+  in-names st i q = subst (λ (block : ℕ). Open block st) q (open-block st i)
 
   pub in-defines : (st : State) → Inside c spool k d F st → d .now .block ≡ 4 → InDefines st
-  in-defines (top s m) i q = absurd (omega (arith, i .0, q))
-  in-defines (file s n h p) i q = absurd (omega (arith, i .0, q))
-  in-defines (drawing s w) i q = absurd (omega (arith, i .0, q))
-  in-defines (layerNames s w) i q = absurd (omega (arith, i .0, q))
-  in-defines (defines s b) i q = here s b
-  in-defines (symbol s y) i q = absurd (omega (arith, i .0, q))
-  in-defines (hide s y ps) i q = absurd (omega (arith, i .0, q))
-  in-defines (elements s) i q = absurd (omega (arith, i .0, q))
-  in-defines (figures s h fs) i q = absurd (omega (arith, i .0, q))
-  in-defines (successive s h fs n ps) i q = absurd (omega (arith, i .0, q))
-  in-defines (texts s h fs n o) i q = absurd (omega (arith, i .0, q))
-  in-defines (placing s m fs n o p) i q = absurd (omega (arith, i .0, q))
-  in-defines (skipping s m fs n o p) i q = absurd i
-  in-defines (ended s) i q = absurd (omega (arith, i, q))
+  in-defines st i q = subst (λ (block : ℕ). Open block st) q (open-block st i)
 
   pub in-symbol : (st : State) → Inside c spool k d F st → d .now .block ≡ 5 → InASymbol st
-  in-symbol (top s m) i q = absurd (omega (arith, i .0, q))
-  in-symbol (file s n h p) i q = absurd (omega (arith, i .0, q))
-  in-symbol (drawing s w) i q = absurd (omega (arith, i .0, q))
-  in-symbol (layerNames s w) i q = absurd (omega (arith, i .0, q))
-  in-symbol (defines s b) i q = absurd (omega (arith, i .0, q))
-  in-symbol (symbol s y) i q = here s y
-  in-symbol (hide s y ps) i q = absurd (omega (arith, i .0, q))
-  in-symbol (elements s) i q = absurd (omega (arith, i .0, q))
-  in-symbol (figures s h fs) i q = absurd (omega (arith, i .0, q))
-  in-symbol (successive s h fs n ps) i q = absurd (omega (arith, i .0, q))
-  in-symbol (texts s h fs n o) i q = absurd (omega (arith, i .0, q))
-  in-symbol (placing s m fs n o p) i q = absurd (omega (arith, i .0, q))
-  in-symbol (skipping s m fs n o p) i q = absurd i
-  in-symbol (ended s) i q = absurd (omega (arith, i, q))
+  in-symbol st i q = subst (λ (block : ℕ). Open block st) q (open-block st i)
 
   pub in-hide : (st : State) → Inside c spool k d F st → d .now .block ≡ 6 → InAHide st
-  in-hide (top s m) i q = absurd (omega (arith, i .0, q))
-  in-hide (file s n h p) i q = absurd (omega (arith, i .0, q))
-  in-hide (drawing s w) i q = absurd (omega (arith, i .0, q))
-  in-hide (layerNames s w) i q = absurd (omega (arith, i .0, q))
-  in-hide (defines s b) i q = absurd (omega (arith, i .0, q))
-  in-hide (symbol s y) i q = absurd (omega (arith, i .0, q))
-  in-hide (hide s y ps) i q = here s y ps
-  in-hide (elements s) i q = absurd (omega (arith, i .0, q))
-  in-hide (figures s h fs) i q = absurd (omega (arith, i .0, q))
-  in-hide (successive s h fs n ps) i q = absurd (omega (arith, i .0, q))
-  in-hide (texts s h fs n o) i q = absurd (omega (arith, i .0, q))
-  in-hide (placing s m fs n o p) i q = absurd (omega (arith, i .0, q))
-  in-hide (skipping s m fs n o p) i q = absurd i
-  in-hide (ended s) i q = absurd (omega (arith, i, q))
+  in-hide st i q = subst (λ (block : ℕ). Open block st) q (open-block st i)
 
   pub in-element : (st : State) → Inside c spool k d F st → d .now .block ≡ 7 → InElement st
-  in-element (top s m) i q = absurd (omega (arith, i .0, q))
-  in-element (file s n h p) i q = absurd (omega (arith, i .0, q))
-  in-element (drawing s w) i q = absurd (omega (arith, i .0, q))
-  in-element (layerNames s w) i q = absurd (omega (arith, i .0, q))
-  in-element (defines s b) i q = absurd (omega (arith, i .0, q))
-  in-element (symbol s y) i q = absurd (omega (arith, i .0, q))
-  in-element (hide s y ps) i q = absurd (omega (arith, i .0, q))
-  in-element (elements s) i q = here s
-  in-element (figures s h fs) i q = absurd (omega (arith, i .0, q))
-  in-element (successive s h fs n ps) i q = absurd (omega (arith, i .0, q))
-  in-element (texts s h fs n o) i q = absurd (omega (arith, i .0, q))
-  in-element (placing s m fs n o p) i q = absurd (omega (arith, i .0, q))
-  in-element (skipping s m fs n o p) i q = absurd i
-  in-element (ended s) i q = absurd (omega (arith, i, q))
+  in-element st i q = subst (λ (block : ℕ). Open block st) q (open-block st i)
 
   pub among-figures : (st : State) → Inside c spool k d F st → d .now .block ≡ 8 → AmongFigures st
-  among-figures (top s m) i q = absurd (omega (arith, i .0, q))
-  among-figures (file s n h p) i q = absurd (omega (arith, i .0, q))
-  among-figures (drawing s w) i q = absurd (omega (arith, i .0, q))
-  among-figures (layerNames s w) i q = absurd (omega (arith, i .0, q))
-  among-figures (defines s b) i q = absurd (omega (arith, i .0, q))
-  among-figures (symbol s y) i q = absurd (omega (arith, i .0, q))
-  among-figures (hide s y ps) i q = absurd (omega (arith, i .0, q))
-  among-figures (elements s) i q = absurd (omega (arith, i .0, q))
-  among-figures (figures s h fs) i q = here s h fs
-  among-figures (successive s h fs n ps) i q = absurd (omega (arith, i .0, q))
-  among-figures (texts s h fs n o) i q = absurd (omega (arith, i .0, q))
-  among-figures (placing s m fs n o p) i q = absurd (omega (arith, i .0, q))
-  among-figures (skipping s m fs n o p) i q = absurd i
-  among-figures (ended s) i q = absurd (omega (arith, i, q))
+  among-figures st i q = subst (λ (block : ℕ). Open block st) q (open-block st i)
 
   pub in-chain : (st : State) → Inside c spool k d F st → d .now .block ≡ 9 → InAChain st
-  in-chain (top s m) i q = absurd (omega (arith, i .0, q))
-  in-chain (file s n h p) i q = absurd (omega (arith, i .0, q))
-  in-chain (drawing s w) i q = absurd (omega (arith, i .0, q))
-  in-chain (layerNames s w) i q = absurd (omega (arith, i .0, q))
-  in-chain (defines s b) i q = absurd (omega (arith, i .0, q))
-  in-chain (symbol s y) i q = absurd (omega (arith, i .0, q))
-  in-chain (hide s y ps) i q = absurd (omega (arith, i .0, q))
-  in-chain (elements s) i q = absurd (omega (arith, i .0, q))
-  in-chain (figures s h fs) i q = absurd (omega (arith, i .0, q))
-  in-chain (successive s h fs n ps) i q = here s h fs n ps
-  in-chain (texts s h fs n o) i q = absurd (omega (arith, i .0, q))
-  in-chain (placing s m fs n o p) i q = absurd (omega (arith, i .0, q))
-  in-chain (skipping s m fs n o p) i q = absurd i
-  in-chain (ended s) i q = absurd (omega (arith, i, q))
+  in-chain st i q = subst (λ (block : ℕ). Open block st) q (open-block st i)
 
   pub in-text : (st : State) → Inside c spool k d F st → d .now .block ≡ 10 → InAText st
-  in-text (top s m) i q = absurd (omega (arith, i .0, q))
-  in-text (file s n h p) i q = absurd (omega (arith, i .0, q))
-  in-text (drawing s w) i q = absurd (omega (arith, i .0, q))
-  in-text (layerNames s w) i q = absurd (omega (arith, i .0, q))
-  in-text (defines s b) i q = absurd (omega (arith, i .0, q))
-  in-text (symbol s y) i q = absurd (omega (arith, i .0, q))
-  in-text (hide s y ps) i q = absurd (omega (arith, i .0, q))
-  in-text (elements s) i q = absurd (omega (arith, i .0, q))
-  in-text (figures s h fs) i q = absurd (omega (arith, i .0, q))
-  in-text (successive s h fs n ps) i q = absurd (omega (arith, i .0, q))
-  in-text (texts s h fs n o) i q = here s h fs n o
-  in-text (placing s m fs n o p) i q = absurd (omega (arith, i .0, q))
-  in-text (skipping s m fs n o p) i q = absurd i
-  in-text (ended s) i q = absurd (omega (arith, i, q))
+  in-text st i q = subst (λ (block : ℕ). Open block st) q (open-block st i)
 
   pub in-placed : (st : State) → Inside c spool k d F st → d .now .block ≡ 11 → InAPlaced st
-  in-placed (top s m) i q = absurd (omega (arith, i .0, q))
-  in-placed (file s n h p) i q = absurd (omega (arith, i .0, q))
-  in-placed (drawing s w) i q = absurd (omega (arith, i .0, q))
-  in-placed (layerNames s w) i q = absurd (omega (arith, i .0, q))
-  in-placed (defines s b) i q = absurd (omega (arith, i .0, q))
-  in-placed (symbol s y) i q = absurd (omega (arith, i .0, q))
-  in-placed (hide s y ps) i q = absurd (omega (arith, i .0, q))
-  in-placed (elements s) i q = absurd (omega (arith, i .0, q))
-  in-placed (figures s h fs) i q = absurd (omega (arith, i .0, q))
-  in-placed (successive s h fs n ps) i q = absurd (omega (arith, i .0, q))
-  in-placed (texts s h fs n o) i q = absurd (omega (arith, i .0, q))
-  in-placed (placing s m fs n o p) i q = here s m fs n o p
-  in-placed (skipping s m fs n o p) i q = absurd i
-  in-placed (ended s) i q = absurd (omega (arith, i, q))
+  in-placed st i q = subst (λ (block : ℕ). Open block st) q (open-block st i)

@@ -1,44 +1,31 @@
 -- Where the records of the open block stand in the table, and what else the code asks for that the reading alone tells.
-use Prim.Native.Nat.{ℕ, zero, suc, _+_, _*_, _-_, _≤_, _<_, min}
-use mathlib.Core.Bool.{Bool, true, false, cond}
+use Prim.Native.Nat.{ℕ, _+_, _*_, _≤_, _<_}
+use mathlib.Core.Bool.{Bool, true, false}
 use mathlib.Core.List.{List, [], _∷_, _++_}
-use mathlib.Core.Path.{_≡_, refl, sym, _∙_, ap, subst}
+use mathlib.Core.Path.{_≡_, sym, _∙_, ap, subst}
 use native.Mathlib.Omega.{arith}
-use borrow.Author.Tests.{ne-eqb}
 use lib.Dec.{eqb}
 use lib.IntN.{ℤ}
-use lib.ListN.{length, getD, take, length-take, length-append}
+use lib.ListN.{length, length-append}
 use Rattle.rules.specs.declared.Digits.{Digits}
-use Rattle.rules.specs.declared.LineForm.{LineForm}
-use Rattle.rules.specs.Base.{flat, isNil}
-use Rattle.rules.specs.Lines.{brace, equals, Form, ignored, wrong, close, eof, keyed, formIn}
-use Rattle.rules.specs.Rows.{Held, Act, shut}
-use Rattle.rules.specs.Sets.{Contents, Set, isFirst}
-use Rattle.rules.specs.Machine.{Line, Env, State, elements, figures, successive, texts, placing, hide, top, drawing, layerNames, symbol, inLayer}
+use Rattle.rules.specs.Base.{flat}
+use Rattle.rules.specs.Sets.{isFirst}
+use Rattle.rules.specs.Machine.{State, inLayer}
 use Rattle.rules.specs.Blocks.{drawingTable, symbolTable}
 use Rattle.rules.specs.Figures.{placedTables}
 use Rattle.rules.specs.RecordTable.{start, pointRecords, textRecord, putHeld, drawingRecord, layerRecords, fileRecords, innerRecords, putSlots}
 use Rattle.rules.proofs.Chains.{flat-append}
-use Rattle.account.specs.declared.Now.{Now}
-use Rattle.account.specs.declared.Where.{Where}
-use Rattle.account.specs.declared.Step.the-variants as S
 use Rattle.standing.specs.SoFar.{volumeOf, closedRecords, frontRecords, emptyRecords, homeMore, homeOwner, homeVolume, figuresSoFar, soFar}
 use Rattle.standing.specs.Laid.{Laid}
-use Rattle.account.specs.Records.{partAt}
-use Rattle.account.specs.PlacedLines.{LentReady}
-use Rattle.account.specs.SymbolLines.{ContentPlaced, isNamed, SymbolLine}
-use Rattle.standing.specs.LineDone.{symbolAct, SymbolReady, LineFits}
-use Rattle.standing.specs.Standing.{Desk, setOf, layersOf, Stands}
+use Rattle.standing.specs.Standing.{Desk}
 use Rattle.standing.specs.FileStanding.{InFile}
 use Rattle.standing.specs.Reading.{Standing}
-use Rattle.account.specs.Account.{atBlock}
 use Rattle.account.specs.FileLines.{PartOpen, fileWidth, FileReady}
 use Rattle.standing.proofs.LaidTables.{laid-room, laid-within}
 use Rattle.standing.proofs.RecordStores.{points-size}
 use Rattle.standing.proofs.SlotLengths.{length-slots}
-use Rattle.standing.proofs.SymbolStanding.{symbol-keeps}
-use Rattle.standing.proofs.PlacedTables.{lentOf, placed-ready}
 use Rattle.standing.proofs.OpenBlocks
+use Rattle.standing.proofs.Standings.{first-volume}
 
 module _ (c : Digits) (spool : List ℕ) (k : ℕ) (d : Desk) (at : ℕ) (st : State) (z : Standing c spool k d at st) where
   -- ── in every block ──
@@ -116,10 +103,6 @@ module _ (c : Digits) (spool : List ℕ) (k : ℕ) (d : Desk) (at : ℕ) (st : S
           (sym (z .block .1 .own)) (length-slots symbolTable (g .own) (start 4 (length (s .symbols)) 1 (g .line)))
 
   -- ── FILE_FORMAT ──
-  first-is : (vs : List Contents) → k ≡ suc (length vs) → isNil vs ≡ eqb k 1
-  first-is [] e = sym (ap (λ (m : ℕ). eqb m 1) e)
-  first-is (v ∷ vs) e = sym (ne-eqb k 1 (λ q. absurd (omega (arith, e, q))))
-
   file-width : (b : Bool) → (rs : List (List ℤ)) → Laid (d .table) (rs ++ emptyRecords b) (d .now .free) → fileWidth b ≤ d .now .free
   file-width true rs l = omega (arith, l .many, length-append rs (emptyRecords true))
   file-width false rs l = omega (arith, l .many, length-append rs (emptyRecords false))
@@ -130,7 +113,7 @@ module _ (c : Digits) (spool : List ℕ) (k : ℕ) (d : Desk) (at : ℕ) (st : S
       go : (st : State) → OpenBlocks.InFileFormat st → Standing c spool k d at st → FileReady (eqb k 1) (d .now) (d .tally) (d .marks) (d .header) (d .table)
       go _ (OpenBlocks.here s n h p) z =
           let i = z .block .1 in
-          let f : isFirst s ≡ eqb k 1 = first-is (s .volumes) (i .volume) in
+          let f : isFirst s ≡ eqb k 1 = sym (first-volume k s (i .volume)) in
           record {
             part = subst (λ (x : Bool). PartOpen x (d .now .part)) f (subst (PartOpen (isFirst s)) (sym (i .part)) (i .parts));
             twelve = tally-long;

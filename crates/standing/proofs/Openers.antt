@@ -1,17 +1,17 @@
 -- Which lines a table's rows can open: a table without openers begins no block, one of openers alone enters nothing.
 use Prim.Native.Nat.{ℕ}
-use mathlib.Core.Bool.{Bool, true, false, cond, _&&_, _||_, not}
-use mathlib.Core.List.{List, [], _∷_}
-use mathlib.Core.Path.{_≡_, refl, sym, _∙_, ap, subst}
+use mathlib.Core.Bool.{Bool, true, false, _&&_, _||_}
+use mathlib.Core.List.{List, []}
+use mathlib.Core.Path.{_≡_, refl, sym, ap}
 use lib.ListN.{getD}
 use Rattle.rules.specs.declared.Digits.{Digits}
 use Rattle.rules.specs.Base.{all}
-use Rattle.rules.specs.RefusalNumbers.{Got, got, bad, unless, mapG}
+use Rattle.rules.specs.RefusalNumbers.{got, bad, unless}
 use Rattle.rules.specs.Lines.{Rest, Form, ignored, wrong, close, eof, keyed, Shape, opener, noContent, content, opening, formless, hasForm, shapeOf}
-use Rattle.rules.specs.Values.{Known, Value, empty, nums, Kind, values, text, word, volumeName, sheet, ratio, serials, nothing, opens, headed, either, readKind}
+use Rattle.rules.specs.Values.{Known, empty, nums, Kind, values, text, word, volumeName, sheet, ratio, serials, nothing, opens, headed, either, readKind}
 use Rattle.rules.specs.Rows.{Rule, Found, absent, found, find, isContent, isEmpty, isOpener, isOpening, fits, shapeFor, Act, stay, entry, begin, shut, refuse, orRefuse, innerOf, readShape, actRow, actUnknown, actFound, complete, act}
 use Rattle.rules.proofs.Chains.{clash, map-got, never, or-true, by-cond}
-use Rattle.rules.proofs.Rows.{Row, found-row, row-all, isRefusal, Did, row-did}
+use Rattle.rules.proofs.Rows.{found-row, row-all, isRefusal, Did, row-did}
 
 abbrev pub isBegin : Act → Bool
 isBegin stay = false
@@ -55,7 +55,7 @@ openingKind (headed i p) = true
 openingKind (either i) = false
 
 -- ── by shape ──
-abbrev opensShape : Shape → Bool
+abbrev pub opensShape : Shape → Bool
 opensShape s = isOpener s || isOpening s
 
 empty-shape : (s : Shape) → isEmpty s ≡ true → opensShape s ≡ false
@@ -74,7 +74,7 @@ plain-shape true (opening at c) e = clash e refl
 plain-shape false (opening at c) e = clash e refl
 plain-shape may formless e = refl
 
-plain-fits : (d : Kind) (may : Bool) (s : Shape) → plainKind d ≡ true → fits d may s ≡ true → opensShape s ≡ false
+pub plain-fits : (d : Kind) (may : Bool) (s : Shape) → plainKind d ≡ true → fits d may s ≡ true → opensShape s ≡ false
 plain-fits (values p ps a) may s h e = plain-shape may s e
 plain-fits (text n b) may s h e = plain-shape may s e
 plain-fits (word n b) may s h e = plain-shape may s e
@@ -101,7 +101,7 @@ opening-fits (headed i p) may s h e = rw e (or-true (isOpener s))
 opening-fits (either i) may s h e = clash h refl
 
 -- what a line of that shape does
-read-entry : (k : Known) (j : ℕ) (r : Rule) (s : Shape) (a : Act) → opensShape s ≡ false → readShape k j r s ≡ got a → isBegin a ≡ false
+pub read-entry : (k : Known) (j : ℕ) (r : Rule) (s : Shape) (a : Act) → opensShape s ≡ false → readShape k j r s ≡ got a → isBegin a ≡ false
 read-entry k j r opener a h e = clash refl h
 read-entry k j r noContent a h e = let q : entry j empty ≡ a = cc in ap isBegin (sym q)
 read-entry k j r (content at c) a h e = let m = map-got (entry j) (readKind k (r .holds) at c) a e in ap isBegin (sym (m .2))
@@ -116,6 +116,7 @@ read-begin k j r (opening at c) a h e = let m = map-got (begin (innerOf (r .hold
 read-begin k j r formless a h e = never e
 
 -- ── over a table ──
+-- no line of a table of rows K acts as P says, where no refusal does and no line of such a row
 module _ (P : Act → Bool) (K : Kind → Bool) (quiet : (n : ℕ) → P (refuse n) ≡ false)
     (reads : (k : Known) (d : Digits) (full : Bool) (j : ℕ) (r : Rule) (x : Rest) (a : Act) → K (r .holds) ≡ true → Did k d full j r x a → P a ≡ false) where
   refusal-quiet : (a : Act) → isRefusal a ≡ true → P a ≡ false
@@ -139,7 +140,7 @@ module _ (P : Act → Bool) (K : Kind → Bool) (quiet : (n : ℕ) → P (refuse
       go true = quiet 6
       go false = quiet 5
 
-  found-quiet : (k : Known) (t : List Rule) (d : Digits) (full : List Bool) (key : List ℕ) (x : Rest) → all (λ r. K (r .holds)) t ≡ true → P (actFound k d full x (find key t)) ≡ false
+  pub found-quiet : (k : Known) (t : List Rule) (d : Digits) (full : List Bool) (key : List ℕ) (x : Rest) → all (λ r. K (r .holds)) t ≡ true → P (actFound k d full x (find key t)) ≡ false
   found-quiet k t d full key x h = go (find key t) refl
     where
       go : (f : Found) → find key t ≡ f → P (actFound k d full x f) ≡ false

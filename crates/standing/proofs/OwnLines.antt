@@ -19,7 +19,7 @@ use Rattle.entries.specs.Acts.{placeOf, putLine}
 use Rattle.account.specs.Placing.{putValue, fills, clearTable}
 use Rattle.standing.proofs.Puts.{all-at, slots-set}
 
--- a row has a place for its numbers, or it has none
+-- a row has places of its own, or no numbers to put
 abbrev pub housed : Rule → Bool
 housed r = not (eqb (r .place) 0) || eqb (columns (r .holds)) 0
 
@@ -27,7 +27,7 @@ no-numbers : (h : Kind) (zs : List ℤ) → columns h ≡ 0 → fills h zs ≡ t
 no-numbers h [] e f = refl
 no-numbers h (y ∷ zs) e f = absurd (omega (arith, eqb-true (length (y ∷ zs)) (columns h) f, e))
 
-line-value : (r : Rule) (v : Value) (t : List ℤ) → housed r ≡ true → fills (r .holds) (numbers v) ≡ true → putLine r 0 v t ≡ putValue r v t
+pub line-value : (r : Rule) (v : Value) (t : List ℤ) → housed r ≡ true → fills (r .holds) (numbers v) ≡ true → putLine r 0 v t ≡ putValue r v t
 line-value r v t g f = ap (putState (r .state) (given v)) (go (r .place) g)
   where
     go : (p : ℕ) → (not (eqb p 0) || eqb (columns (r .holds)) 0) ≡ true → sets t (placeOf p 0) (numbers v) ≡ putNumbers p (numbers v) t

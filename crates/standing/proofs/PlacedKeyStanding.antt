@@ -15,15 +15,15 @@ use Rattle.rules.specs.declared.LineForm.{LineForm}
 use Rattle.rules.specs.Base.{isNone, hasNumber}
 use Rattle.rules.specs.RefusalNumbers.{got, unless}
 use Rattle.rules.specs.RangeClass.{digitsOf}
-use Rattle.rules.specs.Lines.{Rest, keyed, shapeOf, freeShapeOf}
-use Rattle.rules.specs.Values.{Known, Value, linked, notNegative, aboveZero, angle, decimal, symbolName, nothingMore, Kind, serials, isFree}
+use Rattle.rules.specs.Lines.{Rest, keyed}
+use Rattle.rules.specs.Values.{Known, Value, linked, notNegative, aboveZero, angle, decimal, symbolName, nothingMore, Kind, serials, readKind}
 use Rattle.rules.specs.Values.{serialsOf as numbersOf}
-use Rattle.rules.specs.Rows.{Rule, found, find, Slots, Held, partOf, enter, marks, slotValue, fits, isContent, shapeFor, innerOf, Act, stay, entry, begin, shut, refuse, actRow, actFound, act}
+use Rattle.rules.specs.Rows.{Rule, found, find, Slots, Held, partOf, enter, marks, slotValue, shapeFor, innerOf, Act, stay, entry, begin, shut, refuse, actRow, actFound, act}
 use Rattle.rules.specs.Figures.{placedTable, placedTables}
 use Rattle.rules.specs.Sets.{Figure, ownSerial, Set, rangeOf, knownOf}
 use Rattle.rules.specs.Machine.{Line, Env, inLayer, State, placing, byAct, noneOf, newSerial, onPlaced, stepIn}
 use Rattle.rules.specs.RecordTable.{ruleAt, putHeld}
-use Rattle.rules.proofs.Chains.{clash, same-eq}
+use Rattle.rules.proofs.Chains.{clash}
 use Rattle.rules.proofs.Rows.{found-row, row-at, row-below, row-did}
 use Rattle.tables.specs.Tables.{tableOf}
 use Rattle.entries.specs.Names.{knownIn}
@@ -36,16 +36,19 @@ use Rattle.account.specs.Account.{atBlock}
 use Rattle.account.specs.PlacedLines.{Lent, lent, serialCount, ownNumber, inUse, clashes, lentAfter, lentInside, placedStep, PlacedLent, RowLine}
 use Rattle.standing.specs.Standing.{Desk, layersOf, serialsWith, serialsOf, tallyOf, formSize, restSize, rowBytes, serialDue, InPlaced, Stands, deskNow, Under, LineHere, StandsAt, StepOut}
 use Rattle.account.proofs.RowsTaken.{Taken, entry-taken, begin-taken}
-use Rattle.standing.proofs.LineOrigins.{From, entry-from, begin-from}
-use Rattle.standing.proofs.LineSizes.{line-size}
+use Rattle.standing.proofs.LineOrigins.{From, entry-from, begin-from, ContentKind, ContentRead, serials-content, content-read}
+use Rattle.standing.proofs.LineSizes.{line-size, read-shut}
 use Rattle.standing.proofs.ValueSizes.{values-size}
 use Rattle.standing.proofs.Marks.{marks-set, mark-free}
 use Rattle.standing.proofs.Standings.{known}
 use Rattle.standing.proofs.SlotLengths.{length-held}
 use Rattle.standing.proofs.HomeFacts.{home-stays}
 use Rattle.account.proofs.PlacedLaws.{own-is}
-use Rattle.standing.proofs.PlacedFacts.{isSerials, placed-rows, placed-rows-six, placed-places, serial-rule, symbol-rule, other-rule, entry-plain, entry-linked, content-size, begin-shape, begin-row, begin-inner, blank-marks, shape-shut, none-before, figure-serial}
-use Rattle.standing.proofs.PlacedTables.{lentOf, lentDesk, begun, shaped-enter, part-same, part-other, record-is, record-laid, record-entered, range-is, placing-on}
+use Rattle.standing.proofs.PlacedFacts.{isSerials, placed-rows, placed-rows-six, placed-places, serial-rule, symbol-rule, other-rule, entry-plain, begin-inner, blank-marks, figure-serial, opening-row, serials-linked}
+use Rattle.standing.proofs.PlacedTables.{lentOf, lentDesk, begun, record-is, record-laid, record-entered, range-is, placing-on}
+use Rattle.standing.proofs.OwnLines.{was-none}
+use Rattle.standing.proofs.HeldParts.{shaped-enter, enter-own, enter-other}
+use Rattle.standing.proofs.RowOpeners.{begin-row}
 
 -- a number is the only one of its kind, or one of those in use
 one-of : (n : ℕ) (used : List ℕ) → noneOf (n ∷ []) used ≡ not (hasNumber n used)
@@ -54,10 +57,6 @@ one-of n used = go (hasNumber n used)
     go : (b : Bool) → (not b && true) ≡ not b
     go true = refl
     go false = refl
-
--- `serial=` and what stands behind it
-shape-plain : (r : Rule) (c : Rest) → r .holds ≡ serials → shapeFor r c ≡ shapeOf c
-shape-plain r c e = ap (λ (d : Kind). cond (isFree d) (freeShapeOf c) (shapeOf c)) e
 
 module _ (c : Digits) (spool : List ℕ) (k : ℕ) (FileHere : Desk → Set → ℕ → Held → ℕ → Type 0) (d : Desk) (at to : ℕ) (e : Env) (l : Line) (w : Where) (form : LineForm) (u : Under c d e)
     (x : LineHere spool k at to form w l) (s : Set) (m : ℕ) (fs : List Figure) (n : ℕ) (o : Held) (z : Stands c spool k d (FileHere d) at (placing s m fs n o 0)) where
@@ -85,14 +84,14 @@ module _ (c : Digits) (spool : List ℕ) (k : ℕ) (FileHere : Desk → Set → 
   -- ── what a row's line leaves ──
   marked-more : (i : ℕ) (v : Value) → i < 6 → take 6 (set (d .marks) i true) ≡ marks (partOf (enter o 0 i v) 0)
   marked-more i v h =
-      take-set-lt 6 (d .marks) i true h ∙ ap (λ (b : List Bool). set b i true) (inp .marked) ∙ sym (marks-set (partOf o 0) i v) ∙ ap marks (sym (part-same o 0 i v (inp .shaped .0)))
+      take-set-lt 6 (d .marks) i true h ∙ ap (λ (b : List Bool). set b i true) (inp .marked) ∙ sym (marks-set (partOf o 0) i v) ∙ ap marks (sym (enter-own o 0 i v (inp .shaped .0)))
 
   -- the other rows stay
   other-slot : (i q : ℕ) (v : Value) → (q ≡ i → ⊥) → getD (partOf (enter o 0 i v) 0) q none ≡ getD (partOf o 0) q none
-  other-slot i q v h = ap (λ (y : Slots). getD y q none) (part-same o 0 i v (inp .shaped .0)) ∙ getD-set-other (partOf o 0) i q (some v) none h
+  other-slot i q v h = ap (λ (y : Slots). getD y q none) (enter-own o 0 i v (inp .shaped .0)) ∙ getD-set-other (partOf o 0) i q (some v) none h
 
   text-kept : (i : ℕ) (v : Value) → partOf (enter o 0 i v) 1 ≡ partOf o 1
-  text-kept i v = part-other o 0 1 i v (λ y. omega (arith, y))
+  text-kept i v = enter-other o 0 1 i v (λ y. omega (arith, y))
 
   in-entered : (i : ℕ) (v : Value) → i < 6 → InPlaced spool k (d .now) (set (d .marks) i true) (d .inner) s m fs (enter o 0 i v) 0
   in-entered i v h = record {
@@ -100,10 +99,10 @@ module _ (c : Digits) (spool : List ℕ) (k : ℕ) (FileHere : Desk → Set → 
     figures = inp .figures;
     part = inp .part;
     parts = inp .parts;
-    shaped = shaped-enter placedTables o 0 0 i v (inp .shaped);
+    shaped = shaped-enter placedTables 0 o 0 i v (inp .shaped);
     marked = marked-more i v h;
     inner = λ y. absurd (omega (arith, y));
-    unopened = λ y. text-kept i v ∙ inp .unopened (none-before (partOf o 0) i 1 v (ap (λ (b : Slots). isNone (getD b 1 none)) (sym (part-same o 0 i v (inp .shaped .0))) ∙ y));
+    unopened = λ y. text-kept i v ∙ inp .unopened (was-none (partOf o 0) 1 i v (ap (λ (b : Slots). isNone (getD b 1 none)) (sym (enter-own o 0 i v (inp .shaped .0))) ∙ y));
     opened = λ y. absurd (omega (arith, y));
   }
 
@@ -127,7 +126,7 @@ module _ (c : Digits) (spool : List ℕ) (k : ℕ) (FileHere : Desk → Set → 
         ap (λ (y : List ℕ). serialsWith s fs ++ y) (figure-serial n o ∙ ap (λ (y : Option Value). ownSerial (numbersOf (slotValue y))) free) ∙ append-nil (serialsWith s fs)
 
     slot-now : getD (partOf o′ 0) 5 none ≡ some v
-    slot-now = ap (λ (y : Slots). getD y 5 none) (part-same o 0 5 v (inp .shaped .0)) ∙ getD-set-same (partOf o 0) 5 (some v) none (omega (arith, six))
+    slot-now = ap (λ (y : Slots). getD y 5 none) (enter-own o 0 5 v (inp .shaped .0)) ∙ getD-set-same (partOf o 0) 5 (some v) none (omega (arith, six))
 
     one-more : serialsOf st′ ≡ serialsWith s fs ++ q ∷ []
     one-more =
@@ -284,19 +283,20 @@ module _ (c : Digits) (spool : List ℕ) (k : ℕ) (FileHere : Desk → Set → 
           holds-serials : from .rule .holds ≡ serials
           holds-serials = ap (λ (r : Rule). r .holds) (sym five-rule) ∙ serial-rule .0
 
-          linked-so : ((y : ℕ) × (ps : List ℕ) × (v ≡ linked y ps)) × (isContent (shapeFor (from .rule) (from .rest)) ≡ true)
-          linked-so =
-              entry-linked (knownOf s) i i (from .rule) (shapeFor (from .rule) (from .rest)) v holds-serials (ap (λ (r : Rule). r .may) (sym five-rule) ∙ serial-rule .1) (from .did .fit) (from .did .read)
+          content : ContentRead (knownOf s) (from .rule .holds) (from .rest) v
+          content =
+              content-read (knownOf s) placedTable (rangeOf s) full (l .form) i v from (subst ContentKind (sym holds-serials) serials-content)
+              (ap (λ (r : Rule). r .may) (sym five-rule) ∙ serial-rule .1)
+
+          linked-so : (y : ℕ) × (ps : List ℕ) × (v ≡ linked y ps)
+          linked-so = serials-linked (knownOf s) (content .at) (content .bytes) v (ap (λ (d : Kind). readKind (knownOf s) d (content .at) (content .bytes)) (sym holds-serials) ∙ content .read)
 
           size : 8 ≤ formSize (l .form)
           size =
-              let long-key : length (from .key) ≡ 6 =
-              ap length (same-eq (from .key) (from .rule .key) (found-row (from .key) placedTable i (from .rule) (from .place) .1)) ∙ ap (λ (r : Rule). length (r .key)) (sym five-rule) ∙ serial-rule .2 in
-              let behind : 2 ≤ restSize (from .rest) = content-size (from .rest) (ap isContent (sym (shape-plain (from .rule) (from .rest) holds-serials)) ∙ linked-so .1) in
-              omega (arith, ap formSize (from .form), long-key, behind)
+              omega (arith, line-size (knownOf s) placedTable (rangeOf s) full (l .form) i (entry i v) from, ap (λ (r : Rule). length (r .key)) five-rule, serial-rule .2, content .long)
 
           abbrev own : ℕ
-          own = linked-so .0 .0
+          own = linked-so .0
 
           free : getD (partOf o 0) 5 none ≡ none
           free = ap (λ (y : ℕ). getD (partOf o 0) y none) (sym five) ∙ mark-free (partOf o 0) i (taken .free)
@@ -304,14 +304,14 @@ module _ (c : Digits) (spool : List ℕ) (k : ℕ) (FileHere : Desk → Set → 
           number : ownNumber rec₁ ≡ own
           number =
               ap ownNumber
-              (q ∙ ap (λ (y : ℕ). putLine (ruleAt (tableOf 18) y) 0 v rec₀) five ∙ ap (λ (y : Value). putLine (ruleAt (tableOf 18) 5) 0 y rec₀) (linked-so .0 .2))
-              ∙ own-is rec₀ own (linked-so .0 .1) (ap length (record-is c spool k FileHere d at to s m fs n o 0 z) ∙ length-held placedTables o begun₀)
+              (q ∙ ap (λ (y : ℕ). putLine (ruleAt (tableOf 18) y) 0 v rec₀) five ∙ ap (λ (y : Value). putLine (ruleAt (tableOf 18) 5) 0 y rec₀) (linked-so .2))
+              ∙ own-is rec₀ own (linked-so .1) (ap length (record-is c spool k FileHere d at to s m fs n o 0 z) ∙ length-held placedTables o begun₀)
 
           used-so : inUse (d .tally) (d .serials) own ≡ hasNumber own (serialsWith s fs)
-          used-so = in-use v own (linked-so .0 .1) (linked-so .0 .2) free
+          used-so = in-use v own (linked-so .1) (linked-so .2) free
 
           new-so : newSerial s fs v ≡ not (hasNumber own (serialsWith s fs))
-          new-so = is-new v own (linked-so .0 .1) (linked-so .0 .2) free
+          new-so = is-new v own (linked-so .1) (linked-so .2) free
 
           on-used : inUse (d .tally) (d .serials) own ≡ true → Out (S.Stop 15)
           on-used b = h ∙ ap (byAct _ _ _ _) a ∙ ap (λ (t : Bool). unless t 15 (got st″)) (new-so ∙ ap not (sym used-so ∙ b))
@@ -322,7 +322,7 @@ module _ (c : Digits) (spool : List ℕ) (k : ℕ) (FileHere : Desk → Set → 
             h ∙ ap (byAct _ _ _ _) a ∙ ap (λ (t : Bool). unless t 15 (got st″)) (new-so ∙ ap not (sym used-so ∙ b)),
             subst (λ (t : ℕ). StandsAt c spool k FileHere (deskNow (lentDesk d x₁ rec₁) (d .now)) to (placing s m fs n (enter o 0 t v) 0)) (sym five)
                 (subst (λ (t : Lent). StandsAt c spool k FileHere (deskNow (lentDesk d t rec₁) (d .now)) to (placing s m fs n (enter o 0 5 v) 0)) (sym y)
-                (serial-stands v own (linked-so .0 .1) (linked-so .0 .2) free size rec₁ (put-entry ∙ ap (λ (t : ℕ). putHeld placedTables (enter o 0 t v) begun₀) five))),
+                (serial-stands v own (linked-so .1) (linked-so .2) free size rec₁ (put-entry ∙ ap (λ (t : ℕ). putHeld placedTables (enter o 0 t v) begun₀) five))),
           )
 
           by-use : (t : Bool) → inUse (d .tally) (d .serials) own ≡ t → (t ≡ false → x₁ ≡ lentAfter (lentOf d) 5 own) → Out (cond t (S.Stop 15) (S.Go (d .now)))
@@ -349,14 +349,12 @@ module _ (c : Digits) (spool : List ℕ) (k : ℕ) (FileHere : Desk → Set → 
       on-begin i j v a q y =
           let taken : Taken placedTable full j v = begin-taken (knownOf s) placedTable (rangeOf s) full (l .form) i j v (whole ∙ a) in
           let from : From (knownOf s) placedTable (rangeOf s) full (l .form) j (begin i j v) = begin-from (knownOf s) placedTable (rangeOf s) full (l .form) i j v (whole ∙ a) in
-          let is-rule : ruleAt placedTable j ≡ from .rule = row-at (from .row) _ in
           let below : j < 6 = omega (arith, taken .row, placed-rows-six) in
-          let (plain, filled, inner-so) = begin-shape (knownOf s) j i j (from .rule) (shapeFor (from .rule) (from .rest)) v (from .did .read) in
-          let one : j ≡ 1 =
-          begin-row j (shapeFor (from .rule) (from .rest)) below (subst (λ (r : Rule). fits (r .holds) (r .may) (shapeFor (from .rule) (from .rest)) ≡ true) (sym is-rule) (from .did .fit)) plain filled in
-          let part-so : i ≡ 1 = inner-so ∙ ap (λ (r : Rule). innerOf (r .holds)) (sym is-rule ∙ ap (ruleAt placedTable) one) ∙ begin-inner in
+          let (opening, inner-so) = begin-row (knownOf s) placedTable (rangeOf s) full (l .form) j i v from in
+          let one : j ≡ 1 = opening-row j below opening in
+          let part-so : i ≡ 1 = inner-so ∙ ap (λ (y : ℕ). innerOf (ruleAt placedTable y .holds)) one ∙ begin-inner in
           let o′ : Held = enter o 0 j v in
-          let own : partOf o′ 0 ≡ set (partOf o 0) j (some v) = part-same o 0 j v (inp .shaped .0) in
+          let own : partOf o′ 0 ≡ set (partOf o 0) j (some v) = enter-own o 0 j v (inp .shaped .0) in
           let there : isNone (getD (partOf o′ 0) 1 none) ≡ false =
           ap (λ (t : Slots). isNone (getD t 1 none)) own ∙ ap (λ (t : ℕ). isNone (getD (set (partOf o 0) t (some v)) 1 none)) one
           ∙ ap isNone (getD-set-same (partOf o 0) 1 (some v) none (omega (arith, six))) in
@@ -373,7 +371,7 @@ module _ (c : Digits) (spool : List ℕ) (k : ℕ) (FileHere : Desk → Set → 
                   figures = inp .figures;
                   part = refl;
                   parts = omega arith;
-                  shaped = shaped-enter placedTables o 0 0 j v (inp .shaped);
+                  shaped = shaped-enter placedTables 0 o 0 j v (inp .shaped);
                   marked = marked-more j v below;
                   inner = λ t. blank-marks (length (d .inner)) (z .lengths .inner) ∙ ap marks (sym (text-kept j v ∙ inp .unopened free));
                   unopened = λ t. clash t there;
@@ -388,7 +386,7 @@ module _ (c : Digits) (spool : List ℕ) (k : ℕ) (FileHere : Desk → Set → 
       by-act stay a q y = on-stay a y q
       by-act (entry i v) a q y = on-entry i v a q (eqb i 5) refl y
       by-act (begin i j v) a q y = on-begin i j v a q y
-      by-act shut a q y = absurd (shape-shut (knownOf s) row rule (shapeFor rule rest) (row-did (knownOf s) (rangeOf s) (getD full row false) row rule rest shut refl a .read))
+      by-act shut a q y = clash refl (read-shut (knownOf s) row rule (shapeFor rule rest) shut (row-did (knownOf s) (rangeOf s) (getD full row false) row rule rest shut refl a .read))
       by-act (refuse i) a q y = h ∙ ap (byAct _ _ _ _) a
 
       pub row-line : (r : Step) → RowLine (d .now) (lentOf d) x₁ rec₀ rec₁ r rowAct → Out r

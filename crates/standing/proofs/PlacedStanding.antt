@@ -6,20 +6,20 @@ use mathlib.Core.Option.{none}
 use mathlib.Core.Path.{_≡_, refl, sym, _∙_, ap, subst}
 use native.Mathlib.Omega.{arith}
 use lib.Dec.{eqb}
-use lib.IntN.{ℤ, pos}
-use lib.ListN.{length, getD, set, take, length-set, length-append}
+use lib.IntN.{ℤ}
+use lib.ListN.{length, getD, set, take, length-append}
 use Rattle.rules.specs.declared.Digits.{Digits}
 use Rattle.rules.specs.declared.LineForm.{LineForm}
 use Rattle.rules.specs.Base.{flat}
 use Rattle.rules.specs.RefusalNumbers.{Got, got, bad, unless}
-use Rattle.rules.specs.RangeClass.{digitsOf, reaches, exceeds, both, hides, Skip, passes, deeper, noForm, skipOf}
+use Rattle.rules.specs.RangeClass.{digitsOf, reaches, exceeds, both, Skip, passes, deeper, noForm, skipOf}
 use Rattle.rules.specs.Lines.{Rest, Form, ignored, wrong, close, eof, keyed, formIn, shapeOf, hasForm}
 use Rattle.rules.specs.Values.{Known}
 use Rattle.rules.specs.Rows.{Rule, Found, absent, found, find, Held, partOf, marks, shut, refuse, orRefuse, actRow, actUnknown, complete}
 use Rattle.rules.specs.Figures.{placedTable, placedTables}
 use Rattle.rules.specs.Sets.{Figure, placed, figureSerial, Set, rangeOf, knownOf, serialsIn}
 use Rattle.rules.specs.Machine.{Line, Env, inLayer, State, figures, placing, skipping, byAct, bySkip, skipDeeper, onUnknown, onPlaced, onPlacedKey, onPlacedOwn, stepIn}
-use Rattle.rules.specs.RecordTable.{putHeld, unreadState, markUnread, placedRecord}
+use Rattle.rules.specs.RecordTable.{putHeld, markUnread, placedRecord}
 use Rattle.tables.specs.Tables.{tableOf}
 use Rattle.entries.specs.Names.{knownIn}
 use Rattle.account.specs.declared.Where.{Where}
@@ -32,30 +32,20 @@ use Rattle.standing.specs.SoFar.{volumeOf, figuresSoFar, soFar}
 use Rattle.account.specs.PlacedLines.{Lent, skipStep, unknownStep, FoundLine, KeyLine, isWhole, OwnLine, PlacedLine}
 use Rattle.standing.specs.Standing.{Desk, formSize, usedOf, rowBytes, InPlaced, Stands, deskNow, Under, LineHere, StandsAt, StepOut}
 use Rattle.standing.proofs.LaidTables.{laid-same}
-use Rattle.standing.proofs.MoreRecords.{more-figures}
+use Rattle.standing.proofs.MoreRecords.{more-figures, flat-map-more}
 use Rattle.standing.proofs.Standings.{sight, stands-on}
 use Rattle.standing.proofs.HomeFacts.{home-stays}
-use Rattle.standing.proofs.FigureSights.{serials-more}
-use Rattle.standing.proofs.SlotLengths.{length-held}
+use Rattle.standing.proofs.SlotLengths.{length-held, length-unread}
 use Rattle.standing.proofs.PlacedFacts.{placed-rows, placed-rows-six, must-symbol}
 use Rattle.standing.proofs.PlacedTables.{lentOf, lentDesk, begun, record-is, record-laid, range-is}
 use Rattle.standing.proofs.PlacedTextStanding.{text-line}
 use Rattle.standing.proofs.PlacedKeyStanding.{same-stands, row-line}
 
--- states of unread attributes are put where there are places for them
-state-length : (q : ℕ) (b : Bool) (t : List ℤ) → length (unreadState q b t) ≡ length t
-state-length zero b t = refl
-state-length (suc q) b t = length-set t (suc q) (cond b (pos 3) (getD t (suc q) (pos 0)))
-
-length-unread : (c d : Digits) (rs : List Rule) (t : List ℤ) → length (markUnread c d rs t) ≡ length t
-length-unread c d [] t = refl
-length-unread c d (r ∷ rs) t = state-length (r .state) (hides c d (r .least)) (markUnread c d rs t) ∙ length-unread c d rs t
-
 -- the closed symbol's serial number is that of a figure of the layer
 closed-sight : (s : Set) (m : ℕ) (fs : List Figure) (n : ℕ) (o : Held) → sight (placing s m fs n o 0) ≡ sight (figures s (inLayer m) (fs ++ placed n o ∷ []))
 closed-sight s m fs n o =
     ap (λ (u : List ℕ). record { set = sight (placing s m fs n o 0) .set; layers = s .drawing .layers; serials = u; used = usedOf (placing s m fs n o 0); inside = true; counts = true })
-    (append-assoc (serialsIn s) (flat (map figureSerial fs)) (figureSerial (placed n o)) ∙ ap (λ (u : List ℕ). serialsIn s ++ u) (sym (serials-more fs (placed n o))))
+    (append-assoc (serialsIn s) (flat (map figureSerial fs)) (figureSerial (placed n o)) ∙ ap (λ (u : List ℕ). serialsIn s ++ u) (sym (flat-map-more figureSerial fs (placed n o))))
 
 module _ (c : Digits) (spool : List ℕ) (k : ℕ) (FileHere : Desk → Set → ℕ → Held → ℕ → Type 0) (d : Desk) (at to : ℕ) (e : Env) (l : Line) (w : Where) (form : LineForm) (u : Under c d e)
     (x : LineHere spool k at to form w l) (s : Set) (m : ℕ) (fs : List Figure) (n : ℕ) (o : Held) where

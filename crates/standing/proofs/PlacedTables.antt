@@ -1,13 +1,12 @@
 -- A placed symbol's record in the table, and what a line there that reads no serial number keeps.
-use Prim.Native.Nat.{ℕ, zero, suc, _+_, _*_, _-_, _≤_, _<_}
+use Prim.Native.Nat.{ℕ, _+_, _*_, _-_, _≤_, _<_}
 use mathlib.Core.Bool.{Bool, true}
 use mathlib.Core.List.{List, [], _∷_, _++_}
-use mathlib.Core.Option.{Option, none, some}
-use mathlib.Core.Path.{_≡_, refl, sym, _∙_, ap, subst}
+use mathlib.Core.Option.{Option, none}
+use mathlib.Core.Path.{_≡_, sym, _∙_, ap, subst}
 use native.Mathlib.Omega.{arith}
 use lib.IntN.{ℤ}
-use lib.ListN.{length, getD, set, length-append, length-set}
-use lib.Seq.{getD-set-same, getD-set-other}
+use lib.ListN.{length, getD, set, length-append}
 use Rattle.rules.specs.declared.Digits.{Digits}
 use Rattle.rules.specs.Base.{all, flat}
 use Rattle.rules.specs.RangeClass.{digitsOf}
@@ -20,7 +19,6 @@ use Rattle.rules.specs.Machine.{inLayer, State, placing}
 use Rattle.rules.specs.RecordTable.{ruleAt, start, putHeld}
 use Rattle.entries.specs.Acts.{putLine}
 use Rattle.account.specs.declared.Now.{Now}
-use Rattle.account.specs.Placing.{Shaped}
 use Rattle.standing.specs.Laid.{Laid}
 use Rattle.account.specs.Records.{partAt, withPart}
 use Rattle.standing.specs.SoFar.{volumeOf, figuresSoFar, soFar}
@@ -32,7 +30,8 @@ use Rattle.account.proofs.RowsTaken.{Taken}
 use Rattle.standing.proofs.LaidTables.{flat-more, laid-part, laid-change}
 use Rattle.standing.proofs.Standings.{sight, deskWith, stands-on}
 use Rattle.standing.proofs.SlotLengths.{length-held}
-use Rattle.standing.proofs.PlacedFacts.{hasPlace, clear-placed, line-value, figure-serial}
+use Rattle.standing.proofs.PlacedFacts.{clear-placed, figure-serial}
+use Rattle.standing.proofs.OwnLines.{housed, line-value}
 
 -- ── what is lent, and given back ──
 abbrev pub lentOf : Desk → Lent
@@ -53,25 +52,6 @@ lentDesk d x u = record {
   header = d .header;
   table = withPart (d .now .free - 32) u (d .table);
 }
-
--- ── a slot entered ──
-part-length : (h : Held) (p q j : ℕ) (v : Value) → length (partOf (enter h p j v) q) ≡ length (partOf h q)
-part-length [] p q j v = refl
-part-length (s ∷ h) zero zero j v = length-set s j (some v)
-part-length (s ∷ h) zero (suc q) j v = refl
-part-length (s ∷ h) (suc p) zero j v = refl
-part-length (s ∷ h) (suc p) (suc q) j v = part-length h p q j v
-
-pub shaped-enter : (ts : List (List Rule)) (h : Held) (q p j : ℕ) (v : Value) → Shaped q ts h → Shaped q ts (enter h p j v)
-shaped-enter [] h q p j v w = tt
-shaped-enter (t ∷ ts) h q p j v w =
-    (omega (arith, w .0, length-set h p (set (partOf h p) j (some v))), part-length h p q j v ∙ w .1, shaped-enter ts h (suc q) p j v (w .2))
-
-pub part-same : (h : Held) (p j : ℕ) (v : Value) → p < length h → partOf (enter h p j v) p ≡ set (partOf h p) j (some v)
-part-same h p j v l = getD-set-same h p (set (partOf h p) j (some v)) [] l
-
-pub part-other : (h : Held) (p q j : ℕ) (v : Value) → (q ≡ p → ⊥) → partOf (enter h p j v) q ≡ partOf h q
-part-other h p q j v l = getD-set-other h p q (set (partOf h p) j (some v)) [] l
 
 module _ (c : Digits) (spool : List ℕ) (k : ℕ) (FileHere : Desk → Set → ℕ → Held → ℕ → Type 0) (d : Desk) (at to : ℕ) (s : Set) (m : ℕ) (fs : List Figure) (n : ℕ) (o : Held) (p : ℕ)
     (z : Stands c spool k d (FileHere d) at (placing s m fs n o p)) where
@@ -101,11 +81,11 @@ module _ (c : Digits) (spool : List ℕ) (k : ℕ) (FileHere : Desk → Set → 
       (laid-change (d .table) fore (putHeld placedTables o begun) [] (d .now .free) place (z .laid) at-place long u′ h)
 
   -- a line of the part q entered
-  pub record-entered : (q j : ℕ) (v : Value) (u : List ℤ) → q < 2 → Taken (getD placedTables q []) (marks (partOf o q)) j v → all hasPlace (getD placedTables q []) ≡ true
+  pub record-entered : (q j : ℕ) (v : Value) (u : List ℤ) → q < 2 → Taken (getD placedTables q []) (marks (partOf o q)) j v → all housed (getD placedTables q []) ≡ true
       → u ≡ putLine (ruleAt (getD placedTables q []) j) 0 v (partAt place (d .table)) → u ≡ putHeld placedTables (enter o q j v) begun
   record-entered q j v u h w r e =
       let t : List Rule = getD placedTables q [] in
-      e ∙ ap (putLine (ruleAt t j) 0 v) record-is ∙ line-value (ruleAt t j) v (putHeld placedTables o begun) (w .fill) (all-at hasPlace t j (w .row) r)
+      e ∙ ap (putLine (ruleAt t j) 0 v) record-is ∙ line-value (ruleAt t j) v (putHeld placedTables o begun) (all-at housed t j (w .row) r) (w .fill)
       ∙ sym (held-set placedTables o q j v begun (z .block .1 .shaped) h (w .row) (mark-free (partOf o q) j (w .free)) (w .fill) clear-placed)
 
   -- the range that the code goes by

@@ -39,7 +39,8 @@ use Rattle.standing.proofs.Marks.{marks-set}
 use Rattle.standing.proofs.Standings.{deskWith, known}
 use Rattle.standing.proofs.HomeFacts.{home-stays}
 use Rattle.standing.proofs.PlacedFacts.{isSerials, text-rows, plain-text, text-places, text-rule, entry-plain}
-use Rattle.standing.proofs.PlacedTables.{begun, shaped-enter, part-same, part-other, record-is, record-entered, placing-on}
+use Rattle.standing.proofs.PlacedTables.{begun, record-is, record-entered, placing-on}
+use Rattle.standing.proofs.HeldParts.{shaped-enter, enter-own, enter-other}
 
 module _ (c : Digits) (spool : List ℕ) (k : ℕ) (FileHere : Desk → Set → ℕ → Held → ℕ → Type 0) (d : Desk) (at to : ℕ) (e : Env) (l : Line) (w : Where) (form : LineForm) (u : Under c d e)
     (x : LineHere spool k at to form w l) (s : Set) (m : ℕ) (fs : List Figure) (n : ℕ) (o : Held) (z : Stands c spool k d (FileHere d) at (placing s m fs n o 1)) where
@@ -108,7 +109,7 @@ module _ (c : Digits) (spool : List ℕ) (k : ℕ) (FileHere : Desk → Set → 
         let plain : serialsOf v ≡ [] =
         entry-plain (knownOf s) j j (f .rule) (shapeFor (f .rule) (f .rest)) v (not-true (isSerials (f .rule .holds)) (row-all (λ r. not (isSerials (r .holds))) (f .row) text-rule)) (f .did .read) in
         let o′ : Held = enter o 1 j v in
-        let own : partOf o′ 0 ≡ partOf o 0 = part-other o 1 0 j v (λ y. omega (arith, y)) in
+        let own : partOf o′ 0 ≡ partOf o 0 = enter-other o 1 0 j v (λ y. omega (arith, y)) in
         let first : Slots → Option Value = λ y. getD y 1 none in (
           placing s m fs n o′ 1,
           ap (byAct _ _ _ _) a ∙ ap (λ (y : List ℕ). unless (noneOf (ownSerial y) (serialsWith s fs)) 15 (got (placing s m fs n o′ 1))) plain,
@@ -120,9 +121,9 @@ module _ (c : Digits) (spool : List ℕ) (k : ℕ) (FileHere : Desk → Set → 
                 figures = inp .figures;
                 part = inp .part;
                 parts = inp .parts;
-                shaped = shaped-enter placedTables o 0 1 j v (inp .shaped);
+                shaped = shaped-enter placedTables 0 o 1 j v (inp .shaped);
                 marked = inp .marked ∙ ap marks (sym own);
-                inner = λ y. i ∙ ap (λ (b : List Bool). set b j true) (inp .inner refl) ∙ sym (marks-set (partOf o 1) j v) ∙ ap marks (sym (part-same o 1 j v (inp .shaped .2 .0)));
+                inner = λ y. i ∙ ap (λ (b : List Bool). set b j true) (inp .inner refl) ∙ sym (marks-set (partOf o 1) j v) ∙ ap marks (sym (enter-own o 1 j v (inp .shaped .2 .0)));
                 unopened = λ y. clash (ap (λ (b : Slots). isNone (first b)) (sym own) ∙ y) (inp .opened refl);
                 opened = λ y. ap (λ (b : Slots). isNone (first b)) own ∙ inp .opened refl;
               }),

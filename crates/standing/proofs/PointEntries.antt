@@ -25,14 +25,14 @@ use Rattle.account.specs.declared.Where.{Where}
 use Rattle.account.specs.Placing.{fills}
 use Rattle.standing.specs.Laid.{Laid}
 use Rattle.account.specs.Records.{withPart}
-use Rattle.account.specs.Account.{headAt}
 use Rattle.account.specs.Points.{pointTableOf, pointPut}
 use Rattle.standing.proofs.Openers.{plainKind}
 use Rattle.account.proofs.RowsTaken.{Taken, entry-taken}
 use Rattle.standing.proofs.LineOrigins.{isValues, entry-from, entry-nums}
-use Rattle.standing.proofs.LaidTables.{laid-blank, laid-more}
-use Rattle.standing.proofs.RowRecords.{zeros, sets-part, row-record}
-use Rattle.standing.proofs.SlotLengths.{length-slot, length-line}
+use Rattle.standing.proofs.LaidTables.{laid-more}
+use Rattle.standing.proofs.RowRecords.{zeros, row-record}
+use Rattle.standing.proofs.SlotLengths.{length-slot}
+use Rattle.standing.proofs.HeadRecords.{line-put}
 
 -- ── what is computed of the table of points ──
 pub point-rows : (b : Bool) → tableOf (pointTableOf b) ≡ pointTable b
@@ -91,19 +91,11 @@ module _ (b : Bool) (known : Known) (count : ℕ) (f : Form) (j : ℕ) (v : Valu
     -- its record, and the table with it
     pub point-put : pointPut n kind (pointTableOf b) w j v t ≡ withPart (n .free) pointMade t
     point-put =
-        let m : ℕ = n .free in
-        let o : Rule → ℕ → ℕ → ℕ → List ℤ = λ r x y z. sets (withPart m (putLine r 0 v zeros) t) m (pos kind ∷ pos x ∷ pos y ∷ pos z ∷ []) in
         let rule : ruleAt (tableOf (pointTableOf b)) j ≡ ruleAt rows 0 = ap (λ (y : List Rule). ruleAt y j) (point-rows b) ∙ ap (ruleAt rows) point-first in
-        let zero-place : m ≡ m + 0 = omega arith in
-        ap (λ (y : List ℤ). headAt m kind (n .owner) w (withPart m (putLine (ruleAt (tableOf (pointTableOf b)) j) 0 v y) t)) (laid-blank t rs m l room)
-        ∙ ap (λ (r : Rule). o r (n .owner) (w .volume) (w .line)) rule
-        ∙ ap (λ (i : ℕ). o (ruleAt rows 0) i (w .volume) (w .line)) ow
-        ∙ ap (λ (i : ℕ). o (ruleAt rows 0) owner i (w .line)) vo
-        ∙ ap (λ (i : ℕ). o (ruleAt rows 0) owner volume i) li
-        ∙ ap (λ (i : ℕ). sets (withPart m (putLine (ruleAt rows 0) 0 v zeros) t) i (pos kind ∷ pos owner ∷ pos volume ∷ pos line ∷ [])) zero-place
-        ∙ sets-part (pos kind ∷ pos owner ∷ pos volume ∷ pos line ∷ []) (putLine (ruleAt rows 0) 0 v zeros) t m 0 (omega (arith, room)) (length-line (ruleAt rows 0) 0 v zeros) (omega arith)
-        ∙ ap (λ (y : List ℤ). withPart m y t) (point-record b v kind owner volume line (subst (λ (i : ℕ). fills (ruleAt rows i .holds) (numbers v) ≡ true) point-first (point-taken .fill)))
-        ∙ ap (λ (y : Value). withPart m (putSlot (ruleAt (pointTable true) 0) (some y) (start kind owner volume line)) t) point-nums
+        line-put n w kind owner volume line (ruleAt (tableOf (pointTableOf b)) j) v t rs l room ow vo li
+        ∙ ap (λ (r : Rule). withPart (n .free) (sets (putLine r 0 v zeros) 0 (pos kind ∷ pos owner ∷ pos volume ∷ pos line ∷ [])) t) rule
+        ∙ ap (λ (y : List ℤ). withPart (n .free) y t) (point-record b v kind owner volume line (subst (λ (i : ℕ). fills (ruleAt rows i .holds) (numbers v) ≡ true) point-first (point-taken .fill)))
+        ∙ ap (λ (y : Value). withPart (n .free) (putSlot (ruleAt (pointTable true) 0) (some y) (start kind owner volume line)) t) point-nums
 
     pub point-laid : (t₁ : List ℤ) → t₁ ≡ pointPut n kind (pointTableOf b) w j v t → Laid t₁ (rs ++ pointMade ∷ []) (n .free + 32)
     point-laid t₁ q =

@@ -1,6 +1,6 @@
 -- A line's value put into a record that its block's rows filled: the same as the rows with that slot set.
 use Prim.Native.Nat.{ℕ, zero, suc, _+_, _<_, _≤_}
-use mathlib.Core.Bool.{Bool, true, false, cond, _&&_, _||_}
+use mathlib.Core.Bool.{Bool, true, false, _&&_, _||_}
 use mathlib.Core.List.{List, [], _∷_}
 use mathlib.Core.Option.{Option, none, some}
 use mathlib.Core.Path.{_≡_, refl, sym, _∙_, ap}
@@ -8,27 +8,18 @@ use native.Mathlib.Omega.{arith}
 use lib.Dec.{eqb, leb}
 use lib.IntN.{ℤ, pos}
 use lib.ListN.{length, getD, set}
-use lib.Seq.{sets, getD-set-same, getD-set-other}
+use lib.Seq.{sets, getD-set-same, getD-set-other, set-set, set-comm}
 use borrow.Author.Tests.{eqb-true, leb-true}
-use Rattle.rules.specs.Base.{all, isNil}
+use Rattle.rules.specs.Base.{all}
 use Rattle.rules.specs.Values.{Value, Kind}
 use Rattle.rules.specs.Rows.{Rule, Slots, Held, partOf, enter}
-use Rattle.rules.specs.RecordTable.{numbers, numbersOf, given, stateOf, columns, firstOr0, others, padded, putNumbers, putState, putSlot, firstSlot, otherSlots, putSlots, putParts, putHeld, ruleAt}
+use Rattle.rules.specs.RecordTable.{numbers, numbersOf, given, stateOf, columns, others, padded, putNumbers, putState, putSlot, firstSlot, otherSlots, putSlots, putParts, putHeld, ruleAt}
 use Rattle.rules.proofs.Chains.{and-left, and-right, clash}
 use Rattle.account.specs.Placing.{putValue, fills, clear, clearRows, clearRow, clearTable, clearParts, Shaped}
 
 -- ── stores at different places ──
-set-set : (l : List ℤ) (i : ℕ) (a b : ℤ) → set (set l i a) i b ≡ set l i b
-set-set [] i a b = refl
-set-set (x ∷ l) zero a b = refl
-set-set (x ∷ l) (suc i) a b = ap (λ (u : List ℤ). x ∷ u) (set-set l i a b)
-
 set-low : (l : List ℤ) (i j : ℕ) (a b : ℤ) → i < j → set (set l j b) i a ≡ set (set l i a) j b
-set-low [] i j a b h = refl
-set-low (x ∷ l) zero zero a b h = absurd (omega arith)
-set-low (x ∷ l) zero (suc j) a b h = refl
-set-low (x ∷ l) (suc i) zero a b h = absurd (omega arith)
-set-low (x ∷ l) (suc i) (suc j) a b h = ap (λ (u : List ℤ). x ∷ u) (set-low l i j a b (omega arith))
+set-low l i j a b h = sym (set-comm l i j a b (λ e. absurd (omega (arith, h, e))))
 
 -- a store before a run of stores, and one behind it
 sets-low : (vs l : List ℤ) (i j : ℕ) (a : ℤ) → i < j → set (sets l j vs) i a ≡ sets (set l i a) j vs
@@ -123,7 +114,7 @@ numbers-again zero ys zs l h = refl
 numbers-again (suc p) ys zs l h = sets-again ys zs l (suc p) h
 
 -- ── a row ──
-fills-le : (d : Kind) (zs : List ℤ) → fills d zs ≡ true → length zs ≤ columns d
+pub fills-le : (d : Kind) (zs : List ℤ) → fills d zs ≡ true → length zs ≤ columns d
 fills-le d [] e = omega arith
 fills-le d (z ∷ zs) e = omega (arith, eqb-true (length (z ∷ zs)) (columns d) e)
 
@@ -200,10 +191,13 @@ slots-comm (r ∷ t) q s v l c f =
     ap (putSlot r (firstSlot s)) (slots-comm t q (otherSlots s) v l (and-right (clearRows r q) _ c) f)
     ∙ slot-comm r q (and-left (clearRows r q) _ c) (firstSlot s) v (putSlots t (otherSlots s) l) f
 
+all-of : {A : Type 0} (p : A → Bool) (t : List A) (d : A) (j : ℕ) → j < length t → all p t ≡ true → p (getD t j d) ≡ true
+all-of p [] d j h e = absurd (omega arith)
+all-of p (r ∷ t) d zero h e = and-left (p r) (all p t) e
+all-of p (r ∷ t) d (suc j) h e = all-of p t d j (omega arith) (and-right (p r) (all p t) e)
+
 pub all-at : (p : Rule → Bool) (t : List Rule) (j : ℕ) → j < length t → all p t ≡ true → p (ruleAt t j) ≡ true
-all-at p [] j h e = absurd (omega arith)
-all-at p (r ∷ t) zero h e = and-left (p r) (all p t) e
-all-at p (r ∷ t) (suc j) h e = all-at p t j (omega arith) (and-right (p r) (all p t) e)
+all-at p t j h e = all-of p t _ j h e
 
 -- the value of a row whose slot was empty
 pub slots-set : (t : List Rule) (s : Slots) (j : ℕ) (v : Value) (b : List ℤ) → length s ≡ length t → j < length t → getD s j none ≡ none
@@ -226,11 +220,6 @@ parts-other (t ∷ ts) h q p x b l =
     ap (λ (s : Slots). putSlots t s (putParts (suc q) ts (set h p x) b)) (getD-set-other h p q x [] (λ e. absurd (omega arith)))
     ∙ ap (putSlots t (partOf h q)) (parts-other ts h (suc q) p x b (omega arith))
 
-all-of : (p : List Rule → Bool) (ts : List (List Rule)) (i : ℕ) → i < length ts → all p ts ≡ true → p (getD ts i []) ≡ true
-all-of p [] i h e = absurd (omega arith)
-all-of p (t ∷ ts) zero h e = and-left (p t) (all p ts) e
-all-of p (t ∷ ts) (suc i) h e = all-of p ts i (omega arith) (and-right (p t) (all p ts) e)
-
 parts-set : (ts : List (List Rule)) (h : Held) (q i j : ℕ) (v : Value) (b : List ℤ) → Shaped q ts h → i < length ts → j < length (getD ts i [])
     → getD (partOf h (q + i)) j none ≡ none → fills (ruleAt (getD ts i []) j .holds) (numbers v) ≡ true → clearParts ts ≡ true
     → putParts q ts (enter h (q + i) j v) b ≡ putValue (ruleAt (getD ts i []) j) v (putParts q ts h b)
@@ -250,7 +239,7 @@ parts-set (t ∷ ts) h q (suc i) j v b s l m e f c =
     let d = and-right (clearTable t) _ c in
     let r = ruleAt (getD ts i []) j in
     let k = all-at (λ u. all (λ w. clearRows w u) t) (getD ts i []) j m
-    (all-of (λ u. all (λ y. all (λ w. clearRows w y) t) u) ts i (omega arith) (and-left (all (λ u. all (λ y. all (λ w. clearRows w y) t) u) ts) _ d)) in
+    (all-of (λ u. all (λ y. all (λ w. clearRows w y) t) u) ts [] i (omega arith) (and-left (all (λ u. all (λ y. all (λ w. clearRows w y) t) u) ts) _ d)) in
     ap (λ (n : ℕ). putParts q (t ∷ ts) (enter h n j v) b) z
     ∙ ap (λ (u : Slots). putSlots t u (putParts (suc q) ts (set h p x) b)) (getD-set-other h p q x [] (λ w. absurd (omega arith)))
     ∙ ap (putSlots t (partOf h q))

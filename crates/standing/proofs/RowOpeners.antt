@@ -7,11 +7,13 @@ use mathlib.Core.Path.{_≡_, refl, sym, _∙_, ap}
 use Rattle.rules.specs.declared.Digits.{Digits}
 use Rattle.rules.specs.RefusalNumbers.{got}
 use Rattle.rules.specs.Lines.{Rest, brace, equals, Form, Shape, opener, noContent, content, opening, formless, shapeOf, freeShapeOf, stem, byStem}
-use Rattle.rules.specs.Values.{Value, empty, nums, Known, Kind, values, text, word, volumeName, sheet, ratio, serials, nothing, opens, headed, either, isFree, readKind}
-use Rattle.rules.specs.Rows.{Rule, isOpener, fits, shapeFor, Act, stay, entry, begin, shut, refuse, innerOf, readShape}
-use Rattle.entries.specs.Acts.{valueOf}
+use Rattle.rules.specs.Values.{Value, nums, Known, Kind, values, text, word, volumeName, sheet, ratio, serials, nothing, opens, headed, either, isFree, readKind}
+use Rattle.rules.specs.Rows.{Rule, isOpener, fits, shapeFor, entry, begin, innerOf, readShape}
+use Rattle.rules.specs.RecordTable.{ruleAt}
 use Rattle.rules.proofs.Chains.{clash, never, map-got}
-use Rattle.standing.proofs.Openers.{isBegin}
+use Rattle.rules.proofs.Rows.{row-at}
+use Rattle.entries.specs.Acts.{valueOf}
+use Rattle.standing.proofs.Openers.{isBegin, plainKind, opensShape, plain-fits, read-entry}
 use Rattle.standing.proofs.LineOrigins.{From, isValues}
 
 abbrev pub isOpens : Kind → Bool
@@ -26,13 +28,6 @@ isOpens nothing = false
 isOpens (opens i) = true
 isOpens (headed i p) = false
 isOpens (either i) = false
-
-abbrev pub innerAct : Act → ℕ
-innerAct stay = 0
-innerAct (entry j v) = 0
-innerAct (begin i j v) = i
-innerAct shut = 0
-innerAct (refuse n) = 0
 
 -- ── by kind and shape ──
 opens-shape : (h : Kind) (may : Bool) (s : Shape) → isOpens h ≡ true → fits h may s ≡ true → s ≡ opener
@@ -52,25 +47,34 @@ opens-shape (opens n) may formless i e = clash e refl
 opens-shape (headed n p) may s i e = clash i refl
 opens-shape (either n) may s i e = clash i refl
 
--- values never open anything
-values-read : (k : Known) (j : ℕ) (r : Rule) (h : Kind) (may : Bool) (s : Shape) (a : Act) → isValues h ≡ true → fits h may s ≡ true → readShape k j r s ≡ got a → isBegin a ≡ false
-values-read k j r (values p ps x) true opener a i e q = clash e refl
-values-read k j r (values p ps x) false opener a i e q = clash e refl
-values-read k j r (values p ps x) may noContent a i e q = let y : entry j empty ≡ a = cc in ap isBegin (sym y)
-values-read k j r (values p ps x) may (content at c) a i e q = let m = map-got (entry j) (readKind k (r .holds) at c) a q in ap isBegin (sym (m .2))
-values-read k j r (values p ps x) true (opening at c) a i e q = clash e refl
-values-read k j r (values p ps x) false (opening at c) a i e q = clash e refl
-values-read k j r (values p ps x) may formless a i e q = never q
-values-read k j r (text n b) may s a i e q = clash i refl
-values-read k j r (word n b) may s a i e q = clash i refl
-values-read k j r volumeName may s a i e q = clash i refl
-values-read k j r sheet may s a i e q = clash i refl
-values-read k j r ratio may s a i e q = clash i refl
-values-read k j r serials may s a i e q = clash i refl
-values-read k j r nothing may s a i e q = clash i refl
-values-read k j r (opens n) may s a i e q = clash i refl
-values-read k j r (headed n p) may s a i e q = clash i refl
-values-read k j r (either n) may s a i e q = clash i refl
+values-plain : (h : Kind) → isValues h ≡ true → plainKind h ≡ true
+values-plain (values p ps a) e = refl
+values-plain (text n b) e = refl
+values-plain (word n b) e = refl
+values-plain volumeName e = refl
+values-plain sheet e = refl
+values-plain ratio e = refl
+values-plain serials e = refl
+values-plain nothing e = refl
+values-plain (opens i) e = clash e refl
+values-plain (headed i p) e = clash e refl
+values-plain (either i) e = clash e refl
+
+-- a shape that opens a block fits rows that open one
+opened-kind : (h : Kind) (may : Bool) (s : Shape) → opensShape s ≡ true → fits h may s ≡ true → plainKind h ≡ false
+opened-kind h may s o e = go (plainKind h) refl
+  where
+    go : (b : Bool) → plainKind h ≡ b → b ≡ false
+    go true p = clash o (plain-fits h may s p e)
+    go false p = refl
+
+-- a line that opened a block had such a shape, and its row names the block
+begin-shape : (k : Known) (j i n : ℕ) (r : Rule) (s : Shape) (v : Value) → readShape k j r s ≡ got (begin i n v) → (opensShape s ≡ true) × (i ≡ innerOf (r .holds))
+begin-shape k j i n r opener v e = (refl, cc)
+begin-shape k j i n r noContent v e = clash refl (read-entry k j r noContent (begin i n v) refl e)
+begin-shape k j i n r (content at c) v e = clash refl (read-entry k j r (content at c) (begin i n v) refl e)
+begin-shape k j i n r (opening at c) v e = let (w, p, q) = map-got (begin (innerOf (r .holds)) j) (readKind k (r .holds) at c) (begin i n v) e in (refl, cc)
+begin-shape k j i n r formless v e = never e
 
 -- `key:{` has nothing behind its brace
 stem-shape : (at : ℕ) (c : List ℕ) (o : Option (List ℕ)) → isOpener (byStem at c o) ≡ false
@@ -110,19 +114,32 @@ module _ (k : Known) (t : List Rule) (d : Digits) (full : List Bool) (f : Form) 
           ap isBegin y
       go false i = refl
 
-  -- a row of values opens nothing
-  pub begin-values : (i : ℕ) (v : Value) (x : From k t d full f j (begin i j v)) → isValues (x .rule .holds) ≡ false
-  begin-values i v x = go (isValues (x .rule .holds)) refl
-    where
-      go : (b : Bool) → isValues (x .rule .holds) ≡ b → b ≡ false
-      go true h = values-read k j (x .rule) (x .rule .holds) (x .rule .may) (shapeFor (x .rule) (x .rest)) (begin i j v) h (x .did .fit) (x .did .read)
-      go false h = refl
+  module _ (i : ℕ) (v : Value) (x : From k t d full f j (begin i j v)) where
+    shape-is : (opensShape (shapeFor (x .rule) (x .rest)) ≡ true) × (i ≡ innerOf (x .rule .holds))
+    shape-is = begin-shape k j i j (x .rule) (shapeFor (x .rule) (x .rest)) v (x .did .read)
 
-  -- `key:{`: it holds nothing, and its row says which block it opens
-  pub begin-opens : (i : ℕ) (v : Value) (x : From k t d full f j (begin i j v)) → isOpens (x .rule .holds) ≡ true → (i ≡ innerOf (x .rule .holds)) × (v ≡ nums []) × (x .rest ≡ brace)
-  begin-opens i v x h =
-      let s = opens-shape (x .rule .holds) (x .rule .may) (shapeFor (x .rule) (x .rest)) h (x .did .fit) in
-      let q : got (begin (innerOf (x .rule .holds)) j (nums [])) ≡ got (begin i j v) = ap (readShape k j (x .rule)) (sym s) ∙ x .did .read in
-      let y : begin (innerOf (x .rule .holds)) j (nums []) ≡ begin i j v = cc in
-      let o : shapeOf (x .rest) ≡ opener = ap (λ (b : Bool). cond b (freeShapeOf (x .rest)) (shapeOf (x .rest))) (sym (free-kind (x .rule .holds) h)) ∙ s in
-      (ap innerAct (sym y), ap valueOf (sym y), opener-rest (x .rest) o)
+    kind-is : plainKind (x .rule .holds) ≡ false
+    kind-is = opened-kind (x .rule .holds) (x .rule .may) (shapeFor (x .rule) (x .rest)) (shape-is .0) (x .did .fit)
+
+    -- the row of a line that opened a block: one that opens, and the block is the one that it names
+    pub begin-row : (plainKind (ruleAt t j .holds) ≡ false) × (i ≡ innerOf (ruleAt t j .holds))
+    begin-row =
+        let q : ruleAt t j ≡ x .rule = row-at (x .row) _ in
+        (ap (λ (y : Rule). plainKind (y .holds)) q ∙ kind-is, shape-is .1 ∙ ap (λ (y : Rule). innerOf (y .holds)) (sym q))
+
+    -- a row of values opens nothing
+    pub begin-values : isValues (x .rule .holds) ≡ false
+    begin-values = go (isValues (x .rule .holds)) refl
+      where
+        go : (b : Bool) → isValues (x .rule .holds) ≡ b → b ≡ false
+        go true h = clash (values-plain (x .rule .holds) h) kind-is
+        go false h = refl
+
+    -- `key:{`: it holds nothing, and its row says which block it opens
+    pub begin-opens : isOpens (x .rule .holds) ≡ true → (i ≡ innerOf (x .rule .holds)) × (v ≡ nums []) × (x .rest ≡ brace)
+    begin-opens h =
+        let s = opens-shape (x .rule .holds) (x .rule .may) (shapeFor (x .rule) (x .rest)) h (x .did .fit) in
+        let q : got (begin (innerOf (x .rule .holds)) j (nums [])) ≡ got (begin i j v) = ap (readShape k j (x .rule)) (sym s) ∙ x .did .read in
+        let y : begin (innerOf (x .rule .holds)) j (nums []) ≡ begin i j v = cc in
+        let o : shapeOf (x .rest) ≡ opener = ap (λ (b : Bool). cond b (freeShapeOf (x .rest)) (shapeOf (x .rest))) (sym (free-kind (x .rule .holds) h)) ∙ s in
+        (shape-is .1, ap valueOf (sym y), opener-rest (x .rest) o)

@@ -1,22 +1,19 @@
 -- A record that one line fills: its numbers put over zeros, and its head before them, are the record that the rules give it.
-use Prim.Native.Nat.{ℕ, zero, suc, _+_, _≤_, _<_}
-use mathlib.Core.Bool.{Bool, true, false}
+use Prim.Native.Nat.{ℕ, suc, _+_, _≤_}
+use mathlib.Core.Bool.{true}
 use mathlib.Core.List.{List, [], _∷_, _++_}
-use mathlib.Core.Option.{Option, none, some}
-use mathlib.Core.Path.{_≡_, refl, sym, _∙_, ap, subst}
+use mathlib.Core.Option.{none, some}
+use mathlib.Core.Path.{_≡_, refl, sym, _∙_, ap}
 use native.Mathlib.Omega.{arith}
-use lib.Dec.{eqb, leb}
 use lib.IntN.{ℤ, pos}
-use lib.ListN.{length, getD, set, take, drop, replicate, length-set, length-append, length-take, length-drop}
-use lib.Seq.{sets, length-sets, set-append-left, set-append-seam, drop-drop, take-all}
-use Rattle.rules.specs.Values.{Value, nums}
+use lib.ListN.{length, set, take, drop, replicate, length-set, length-take}
+use lib.Seq.{sets, set-append-left}
+use Rattle.rules.specs.Values.{Value}
 use Rattle.rules.specs.Rows.{Rule}
-use Rattle.rules.specs.RecordTable.{numbers, given, columns, putNumbers, putState, putSlot, start}
+use Rattle.rules.specs.RecordTable.{numbers, given, putNumbers, putState, putSlot, start}
 use Rattle.entries.specs.Acts.{putLine, placeOf}
-use Rattle.account.specs.declared.Where.{Where}
 use Rattle.account.specs.Placing.{putValue, fills, clearRow}
-use Rattle.account.specs.Records.{partAt, withPart}
-use Rattle.account.specs.Account.{headAt}
+use Rattle.account.specs.Records.{withPart}
 use Rattle.standing.proofs.Puts.{runs-low, first-put}
 
 -- ── stores in a part ──

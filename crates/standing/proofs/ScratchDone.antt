@@ -1,13 +1,13 @@
 -- A line on the scratch, in any block: what it needs there, and what it does with the table's places.
-use Prim.Native.Nat.{ℕ, zero, suc, _+_, _*_, _-_, _≤_, _<_}
-use mathlib.Core.Bool.{Bool, true, false, cond, _&&_, _||_, not}
-use mathlib.Core.List.{List, [], _∷_, _++_}
+use Prim.Native.Nat.{ℕ, _+_, _*_, _-_, _≤_, _<_}
+use mathlib.Core.Bool.{Bool, true, false, cond}
+use mathlib.Core.List.{List}
 use mathlib.Core.Path.{_≡_, refl, sym, _∙_, ap, subst}
 use native.Mathlib.Omega.{arith}
-use borrow.Author.Tests.{eqb-true, eqb-false, eq-eqb, ne-eqb}
+use borrow.Author.Tests.{eqb-true, eqb-false}
 use lib.Dec.{eqb}
 use lib.IntN.{ℤ, pos}
-use lib.ListN.{length, getD, take, replicate, length-replicate}
+use lib.ListN.{length, replicate, length-replicate}
 use Rattle.rules.specs.declared.Digits.{Digits}
 use Rattle.rules.specs.declared.LineForm.{LineForm}
 use Rattle.rules.specs.Machine.{Line, Env, State, placing}
@@ -16,28 +16,29 @@ use Rattle.account.specs.declared.Now.{Now}
 use Rattle.account.specs.declared.Where.{Where}
 use Rattle.account.specs.declared.Step.{Step}
 use Rattle.account.specs.declared.Step.the-variants as S
-use Rattle.account.specs.Records.{partAt}
 use Rattle.account.specs.Points.{chainPlace}
 use Rattle.account.specs.SymbolLines.{isNamed}
 use Rattle.account.specs.PlacedLines.{lent}
-use Rattle.account.specs.TopLines.{topLent}
-use Rattle.account.specs.FileLines.{fileWidth, FileReady}
+use Rattle.account.specs.FileLines.{fileWidth}
 use Rattle.standing.specs.SoFar.{soFar}
-use Rattle.standing.specs.Standing.{Desk, desk, deskNow, deskTable, Under, LineHere, StepOut}
+use Rattle.standing.specs.Standing.{Desk, deskNow, deskTable, StepOut}
 use Rattle.standing.specs.FileStanding.{InFile}
-use Rattle.standing.specs.Reading.{Standing, PlacedForm, LineReady, LinePromise}
-use Rattle.standing.specs.LineDone.{SymbolReady, LineFits, Done, top, file, drawing, layer-names, defines, symbol, hide, elements, figures, chain, text, placed, other}
-use Rattle.account.specs.TableApart.{symbolIn, symbolOpen, OwnSeen, Seen, whole, apart, SeenBy, scratchPlace, scratchFree, movedTo, lentNow, chainAt, freshFor, putBack, backStep, Grows}
+use Rattle.standing.specs.Reading.{Standing, LineReady, LinePromise}
+use Rattle.standing.specs.LineDone.{LineFits, Done, top, file, drawing, layer-names, defines, symbol, hide, elements, figures, chain, text, placed, other}
+use Rattle.account.specs.TableApart.{symbolIn, symbolOpen, OwnSeen, Seen, whole, apart, SeenBy, scratchFree, lentNow, chainAt, freshFor, putBack, backStep, Grows}
 use Rattle.standing.proofs.LaidTables.{laid-room}
 use Rattle.standing.proofs.ForeParts.{part-long}
-use Rattle.standing.proofs.ScratchPlaces.{Room, room-apart, OwnBy, seen-by, Moved}
+use Rattle.standing.proofs.ScratchPlaces.{Room, room-apart, OwnBy, seen-by, least-at}
 use Rattle.standing.proofs.ScratchFigures.{chain-moved, hide-moved, figures-moved, text-moved, elements-moved}
 use Rattle.standing.proofs.ScratchPlaced.{placed-moved}
-use Rattle.standing.proofs.ScratchSheet.{top-moved, drawing-moved, names-moved, file-moved, defines-moved, symbol-moved}
+use Rattle.standing.proofs.ScratchSheet.{top-moved, drawing-moved, names-moved, file-moved}
 use Rattle.standing.proofs.OpenPlaces as places
 use Rattle.standing.proofs.StepReady.{Ready, line-fits}
 use Rattle.standing.proofs.StepPromises.{Steps}
 use Rattle.standing.proofs.StepDone.{done-promise}
+use Rattle.standing.proofs.ScratchSymbols.{defines-moved, symbol-moved}
+use Rattle.standing.proofs.FileKeeps.{width-most}
+use Rattle.standing.proofs.Standings.{lengths-kept}
 
 -- the desk that a line is shown
 abbrev pub inside : Bool → ℕ → Desk → Desk
@@ -50,9 +51,6 @@ module _ (d : Desk) (table : List ℤ) (long : length (d .table) ≡ 96) (seen :
 
   abbrev f : ℕ
   f = scratchFree n (length table)
-
-  abbrev n′ : Now
-  n′ = movedTo n 0 f
 
   abbrev t : List ℤ
   t = freshFor false n (d .table)
@@ -85,9 +83,6 @@ module _ (d : Desk) (table : List ℤ) (long : length (d .table) ≡ 96) (seen :
     room : Room n (length table) f
     room = room-apart n (length table) fit
 
-    least : (b : ℕ) → n .block ≡ b → (b ≡ 0 → ⊥) → scratchPlace b ≤ f
-    least b e h = subst (λ (m : ℕ). scratchPlace m ≤ f) e (room .least (λ z. h (sym e ∙ z)))
-
     within : f ≤ length t
     within = omega (arith, room .low, fresh-long)
 
@@ -96,16 +91,7 @@ module _ (d : Desk) (table : List ℤ) (long : length (d .table) ≡ 96) (seen :
     fits-inside spool form w own y = record {
       short = y .short;
       named = y .named;
-      lengths = record {
-        symbols = y .lengths .symbols;
-        layers = y .lengths .layers;
-        serials = y .lengths .serials;
-        used = y .lengths .used;
-        usedAll = y .lengths .usedAll;
-        marks = y .lengths .marks;
-        inner = y .lengths .inner;
-        header = y .lengths .header;
-      };
+      lengths = lengths-kept Thought (Scratch .now) (d .tally) (d .marks) (d .inner) (d .header) (Scratch .table) (y .lengths) (y .lengths .marks) (y .lengths .inner) (y .lengths .header);
       free = within;
       file = λ b.
           let z = y .file b in
@@ -114,7 +100,7 @@ module _ (d : Desk) (table : List ℤ) (long : length (d .table) ≡ 96) (seen :
             twelve = z .twelve;
             marks = z .marks;
             header = z .header;
-            taken = omega (arith, file-width (eqb (w .volume) 1), least 1 b (λ e. absurd (omega (arith, e))));
+            taken = omega (arith, width-most (eqb (w .volume) 1), least-at n (length table) f room 1 b (λ e. absurd (omega (arith, e))));
             inside = within;
           };
       drawing = λ b. omega (arith, fresh-long);
@@ -131,10 +117,10 @@ module _ (d : Desk) (table : List ℤ) (long : length (d .table) ≡ 96) (seen :
       elements = y .elements;
       figures = y .figures;
       chain = λ b. (y .chain b .0, y .chain b .1, λ _. omega (arith, fresh-long));
-      text = λ b. (omega (arith, least 10 b (λ e. absurd (omega (arith, e)))), y .text b .1);
+      text = λ b. (omega (arith, least-at n (length table) f room 10 b (λ e. absurd (omega (arith, e)))), y .text b .1);
       placed = λ b.
           let z = y .placed b in
-          let low : 64 ≤ f = least 11 b (λ e. absurd (omega (arith, e))) in (
+          let low : 64 ≤ f = least-at n (length table) f room 11 b (λ e. absurd (omega (arith, e))) in (
             omega (arith, low),
             record {
               tally = z .1 .tally;
@@ -147,10 +133,6 @@ module _ (d : Desk) (table : List ℤ) (long : length (d .table) ≡ 96) (seen :
             z .2,
           );
     }
-      where
-        file-width : (c : Bool) → fileWidth c ≤ 64
-        file-width true = omega arith
-        file-width false = omega arith
 
     -- what it does
     module _ (c : Digits) (spool following : List ℕ) (k : ℕ) (form : LineForm) (w : Where) (vk : w .volume ≡ k) (at : ℕ) (st : State) (z : Standing c spool k Thought at st) (d₁ : Desk) (r : Step) where
@@ -243,14 +225,11 @@ module _ (c : Digits) (spool following : List ℕ) (form : LineForm) (w : Where)
   not-whole : (b : Bool) → b ≡ eqb (length (d .table)) limit → b ≡ false → length (d .table) ≡ limit → ⊥
   not-whole b q e h = eqb-false (length (d .table)) limit (sym q ∙ e) h
 
-  free-within : (table : List ℤ) (at : ℕ) (st : State) → Standing c spool k (deskTable d table) at st → d .now .free ≤ length table
-  free-within table at st z = laid-room table (soFar c st) (d .now .free) (z .laid)
-
   pub step-free : LineReady c spool k form w limit d following → d .now .free ≤ limit
   step-free y = go (y .seen)
     where
       fit : d .now .free ≤ length (y .table)
-      fit = free-within (y .table) (y .at) (y .state) (y .stands)
+      fit = places.free-within c spool k (deskTable d (y .table)) (y .at) (y .state) (y .stands)
 
       go : Seen (d .now) (d .table) limit (y .table) → d .now .free ≤ limit
       go (whole e l) = omega (arith, fit, l)
@@ -271,7 +250,7 @@ module _ (c : Digits) (spool following : List ℕ) (form : LineForm) (w : Where)
       go (whole e l) = absurd (not-whole false q refl (ap length e ∙ sym l))
       go (apart a l g o) =
           subst (λ (i : ℕ). LineFits spool form w 32 (inside false i d)) (sym l)
-          (fits-inside d (y .table) a o (free-within (y .table) (y .at) (y .state) (y .stands)) spool form w (chainPlace (d .now))
+          (fits-inside d (y .table) a o (places.free-within c spool k (deskTable d (y .table)) (y .at) (y .state) (y .stands)) spool form w (chainPlace (d .now))
           (line-fits c spool k form w (deskTable d (y .table)) (as-ready y) refl (chainPlace (d .now)) (λ _. refl)))
 
   -- what the line does is what it promises
@@ -290,7 +269,7 @@ module _ (c : Digits) (spool following : List ℕ) (form : LineForm) (w : Where)
     module _ (table : List ℤ) (a : length (d .table) ≡ 96) (o : symbolOpen (d .now) ≡ true → OwnSeen (d .now) (d .table) table) (at : ℕ) (st : State) (z : Standing c spool k (deskTable d table) at st)
         (y : Done c spool following form w 32 (inside false (length table) d) d₁ r) where
       fit : d .now .free ≤ length table
-      fit = free-within table at st z
+      fit = places.free-within c spool k (deskTable d table) at st z
 
       abbrev free : ℕ
       free = scratchFree (d .now) (length table)

@@ -1,11 +1,11 @@
 -- A line in ELEMENT, among figures or points, or in a figure, on the scratch: the same line with the table's places.
-use Prim.Native.Nat.{ℕ, zero, suc, _+_, _*_, _-_, _≤_, _<_}
-use mathlib.Core.Bool.{Bool, true, false, cond, _&&_, _||_, not}
-use mathlib.Core.List.{List, [], _∷_, _++_}
+use Prim.Native.Nat.{ℕ, _+_, _-_, _≤_}
+use mathlib.Core.Bool.{Bool, true, false, cond, _||_, not}
+use mathlib.Core.List.{List, [], _∷_}
 use mathlib.Core.Path.{_≡_, refl, sym, _∙_, ap, subst}
 use native.Mathlib.Omega.{arith}
 use borrow.Author.Tests.{leb-true, ne-eqb}
-use lib.Dec.{eqb, leb, ltb}
+use lib.Dec.{eqb, ltb}
 use lib.IntN.{ℤ, pos}
 use lib.ListN.{length, getD, set, take, replicate, length-set}
 use lib.Seq.{take-set-le}
@@ -25,17 +25,17 @@ use Rattle.account.specs.declared.Where.{Where}
 use Rattle.account.specs.declared.Step.{Step}
 use Rattle.account.specs.declared.Step.the-variants as S
 use Rattle.account.specs.Records.{hasRoom, partAt, withPart}
-use Rattle.account.specs.Account.{atBlock, figureDone, roomlessAct, taking}
+use Rattle.account.specs.Account.{atBlock, figureDone, taking}
 use Rattle.standing.specs.Reading.{tallyAfter}
-use Rattle.account.specs.Points.{pointTableOf, chainKind, morePoints, pointPut, chainPlace, chainClosed, chainEnd, chainStep, ChainTable, ChainLine, hideStep, HideTable, HideLine}
-use Rattle.account.specs.TextLines.{textTableOf, textStep, textMarks, TextLine}
-use Rattle.account.specs.FigureLines.{homeTable, homeRows, homeRule, lineKind, blockKind, figureAt, moreFigures, figureOpened, figuresClosed, figureStep, FigureTable, MarksFor, FigureLine}
-use Rattle.account.specs.ElementLines.{layerOpened, openLayer, elementClosed, elementStep, agrees, ElementLine}
+use Rattle.account.specs.Points.{pointTableOf, chainKind, morePoints, pointPut, chainPlace, chainClosed, ChainLine, HideLine}
+use Rattle.account.specs.TextLines.{textTableOf, textStep, TextLine}
+use Rattle.account.specs.FigureLines.{homeTable, homeRows, homeRule, lineKind, blockKind, figureAt, moreFigures, figureOpened, figuresClosed, FigureLine}
+use Rattle.account.specs.ElementLines.{layerOpened, elementStep, agrees, ElementLine}
 use Rattle.standing.specs.LineDone.{namesOf, idsOf, Lends, OnChain, OnHide, OnText, OnFigures, OnElements}
-use Rattle.account.specs.TableApart.{symbolIn, symbolOpen, OwnSeen, scratchPlace, movedTo, putBack}
+use Rattle.account.specs.TableApart.{symbolIn, symbolOpen, OwnSeen, movedTo, putBack}
 use Rattle.standing.proofs.SlotLengths.{length-line}
 use Rattle.standing.proofs.ForeParts.{fore-head, long-head, fore-part, long-part, part-long}
-use Rattle.standing.proofs.ScratchPlaces.{Room, OwnBy, back-still, back-on, own-kept, Moved, moved-as}
+use Rattle.standing.proofs.ScratchPlaces.{Room, OwnBy, back-still, back-on, own-kept, Moved, moved-as, back-same, room-same, least-at}
 
 -- ── a record that a line takes ──
 module _ (n : Now) (w : Where) (kind : ℕ) (r : Rule) (v : Value) (t : List ℤ) where
@@ -82,9 +82,6 @@ module _ (spool : List ℕ) (form : LineForm) (n : Now) (tally symbols layers : 
   abbrev ids : List ℕ
   ids = idsOf tally layers
 
-  room-same : hasRoom f t ≡ hasRoom (n .free) table
-  room-same = ap (leb (f + 32)) long ∙ room .one
-
   within-scratch : f ≤ length t
   within-scratch = omega (arith, room .low, long)
 
@@ -93,7 +90,7 @@ module _ (spool : List ℕ) (form : LineForm) (n : Now) (tally symbols layers : 
 
   -- what is open is still open, nothing else has changed
   still : (r : Step) (t₁ : List ℤ) → r ≡ S.Go n′ → putBack n f r ≡ S.Go n
-  still r t₁ e = ap (putBack n f) e ∙ ap (λ (m : Now). S.Go m) (back-still n f n′ refl)
+  still r t₁ e = ap (putBack n f) e ∙ ap (λ (m : Now). S.Go m) (back-same n f)
 
   seen-still : (t₁ : List ℤ) → t₁ ≡ t → symbolOpen n ≡ true → OwnSeen n t₁ table
   seen-still t₁ e o = subst (λ (u : List ℤ). OwnSeen n u table) (sym e) (seen o)
@@ -104,9 +101,6 @@ module _ (spool : List ℕ) (form : LineForm) (n : Now) (tally symbols layers : 
   -- the number of the open block
   opens-not : (b : ℕ) → n .block ≡ b → eqb b 0 || eqb b 4 ≡ false → eqb (n .block) 0 || eqb (n .block) 4 ≡ false
   opens-not b e h = ap (λ (m : ℕ). eqb m 0 || eqb m 4) e ∙ h
-
-  least : (b : ℕ) → n .block ≡ b → (b ≡ 0 → ⊥) → scratchPlace b ≤ f
-  least b e h = subst (λ (m : ℕ). scratchPlace m ≤ f) e (room .least (λ z. h (sym e ∙ z)))
 
   open-as : (b c : ℕ) → n .block ≡ b → symbolIn b (n .layered) ≡ symbolIn c (n .layered) → symbolIn c (n .layered) ≡ true → symbolOpen n ≡ true
   open-as b c e q o = ap (λ (m : ℕ). symbolIn m (n .layered)) e ∙ q ∙ o
@@ -127,7 +121,7 @@ module _ (spool : List ℕ) (form : LineForm) (n : Now) (tally symbols layers : 
             at-long n w (chainKind (n .layered)) (ruleAt (tableOf (pointTableOf (n .layered))) j) v table (has-room e),
             λ o.
                 own-kept n (morePoints n) t t₁ table _ (seen o) refl (omega arith) (λ _. omega (arith, seen o .fore-chain b)) (λ z. absurd (omega (arith, z, b)))
-                (ap (take 32) (y .table) ∙ at-fore n′ w (chainKind (n .layered)) (ruleAt (tableOf (pointTableOf (n .layered))) j) v t 32 (omega (arith, least 9 b (λ z. absurd (omega (arith, z))))) within-scratch)
+                (ap (take 32) (y .table) ∙ at-fore n′ w (chainKind (n .layered)) (ruleAt (tableOf (pointTableOf (n .layered))) j) v t 32 (omega (arith, least-at n (length table) f room 9 b (λ z. absurd (omega (arith, z))))) within-scratch)
                 (at-fore n w (chainKind (n .layered)) (ruleAt (tableOf (pointTableOf (n .layered))) j) v table (n .own + 32) (seen o .fore) fit),
           );
         })
@@ -201,7 +195,7 @@ module _ (spool : List ℕ) (form : LineForm) (n : Now) (tally symbols layers : 
     chainAct = act (knownIn spool names ids) (tableOf (pointTableOf (n .layered))) (digits 0 0) (fullAt (n .points) (tableOf (pointTableOf (n .layered)))) (formIn spool form)
 
     pub chain-moved : OnChain spool form n′ tally symbols layers 32 w t t₁ r → Moved (λ u x. OnChain spool form n tally symbols layers (chainPlace n) w table u x) (length table) t₁ (putBack n f r)
-    chain-moved y = chain-by (hasRoom (n .free) table) refl chainAct (subst (λ (c : Bool). ChainLine (taking c chainAct) n′ 32 w t t₁ r) room-same y)
+    chain-moved y = chain-by (hasRoom (n .free) table) refl chainAct (subst (λ (c : Bool). ChainLine (taking c chainAct) n′ 32 w t t₁ r) (room-same n f t table long room) y)
 
   -- ── `hide` ──
   module _ (b : n .block ≡ 6) (t₁ : List ℤ) (r : Step) where
@@ -219,7 +213,7 @@ module _ (spool : List ℕ) (form : LineForm) (n : Now) (tally symbols layers : 
             at-long n w 43 (ruleAt (tableOf 15) j) v table (has-room e),
             λ o.
                 own-kept n (morePoints n) t t₁ table _ (seen o) refl (omega arith) (λ z. absurd (omega (arith, z, b))) (λ z. absurd (omega (arith, z, b)))
-                (ap (take 32) (y .table) ∙ at-fore n′ w 43 (ruleAt (tableOf 15) j) v t 32 (least 6 b (λ z. absurd (omega (arith, z)))) within-scratch)
+                (ap (take 32) (y .table) ∙ at-fore n′ w 43 (ruleAt (tableOf 15) j) v t 32 (least-at n (length table) f room 6 b (λ z. absurd (omega (arith, z)))) within-scratch)
                 (at-fore n w 43 (ruleAt (tableOf 15) j) v table (n .own + 32) (seen o .fore) fit),
           );
         })
@@ -266,7 +260,7 @@ module _ (spool : List ℕ) (form : LineForm) (n : Now) (tally symbols layers : 
     hideAct = act (knownIn spool names ids) (tableOf 15) (digits 0 0) (fullAt (n .points) (tableOf 15)) (formIn spool form)
 
     pub hide-moved : OnHide spool form n′ tally symbols layers w t t₁ r → Moved (λ u x. OnHide spool form n tally symbols layers w table u x) (length table) t₁ (putBack n f r)
-    hide-moved y = hide-by (hasRoom (n .free) table) refl hideAct (subst (λ (c : Bool). HideLine (taking c hideAct) n′ w t t₁ r) room-same y)
+    hide-moved y = hide-by (hasRoom (n .free) table) refl hideAct (subst (λ (c : Bool). HideLine (taking c hideAct) n′ w t t₁ r) (room-same n f t table long room) y)
 
   -- ── figures ──
   module _ (b : n .block ≡ 8) (t₁ : List ℤ) (m₀ m₁ i₀ i₁ : List Bool) (r : Step) where
@@ -283,7 +277,7 @@ module _ (spool : List ℕ) (form : LineForm) (n : Now) (tally symbols layers : 
     After a = Moved (Figure a) (length table) t₁ (putBack n f r)
 
     first-own : 32 ≤ f
-    first-own = least 8 b (λ z. absurd (omega (arith, z)))
+    first-own = least-at n (length table) f room 8 b (λ z. absurd (omega (arith, z)))
 
     figure-stay : Before stay → After stay
     figure-stay y =
@@ -407,7 +401,7 @@ module _ (spool : List ℕ) (form : LineForm) (n : Now) (tally symbols layers : 
     pub figures-moved : (tally₁ : List ℕ) → OnFigures spool form n′ tally symbols layers w tally₁ m₀ m₁ i₀ i₁ t t₁ r
         → Moved (λ u x. OnFigures spool form n tally symbols layers w tally₁ m₀ m₁ i₀ i₁ table u x) (length table) t₁ (putBack n f r)
     figures-moved tally₁ y =
-        let z = figure-by (hasRoom (n .free) table) refl lineAct (subst (λ (c : Bool). Before (taking c lineAct)) room-same (y .0)) in
+        let z = figure-by (hasRoom (n .free) table) refl lineAct (subst (λ (c : Bool). Before (taking c lineAct)) (room-same n f t table long room) (y .0)) in
         record { table = z .table; did = (z .did, y .1 ∙ sym (counted-same r)); own = z .own }
 
   -- ── a text ──
@@ -437,7 +431,7 @@ module _ (spool : List ℕ) (form : LineForm) (n : Now) (tally symbols layers : 
     text-own : (a : Act) (rec : List ℤ) → t₁ ≡ withPart (f - 32) rec t → (m : Now) → m .own ≡ n .own → m .free ≡ n .free → (m .block ≡ 9 → ⊥) → symbolOpen n ≡ true → OwnSeen m t₁ (text-table a)
     text-own a rec e m p q x o =
         own-kept n m t t₁ table (text-table a) (seen o) p (omega (arith, q)) (λ z. absurd (x z)) (λ _. omega (arith, seen o .fore-text b, q))
-        (ap (take 32) e ∙ text-fore 32 f rec t (least 10 b (λ z. absurd (omega (arith, z)))) within-scratch)
+        (ap (take 32) e ∙ text-fore 32 f rec t (least-at n (length table) f room 10 b (λ z. absurd (omega (arith, z)))) within-scratch)
         (text-fore (n .own + 32) (n .free) (text-rec a) table (omega (arith, seen o .fore-text b)) fit)
 
     text-as : (a : Act) (y : Lends (f - 32) t t₁ λ rec₀ rec₁. TextLine a n′ i₀ i₁ rec₀ rec₁ r) (x : Step) → putBack n f r ≡ x → x ≡ textStep n a → ((rec : List ℤ) → t₁ ≡ withPart (f - 32) rec t → OwnBy x (length table) t₁ (text-table a))

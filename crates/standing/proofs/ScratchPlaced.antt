@@ -1,25 +1,25 @@
 -- A line in a placed symbol on the scratch: the same line with the table's places.
-use Prim.Native.Nat.{ℕ, zero, suc, _+_, _*_, _-_, _≤_, _<_}
-use mathlib.Core.Bool.{Bool, true, false, cond, _&&_, _||_, not}
-use mathlib.Core.List.{List, [], _∷_, _++_}
+use Prim.Native.Nat.{ℕ, _+_, _-_, _≤_}
+use mathlib.Core.Bool.{Bool, true, false, cond, not}
+use mathlib.Core.List.{List}
 use mathlib.Core.Path.{_≡_, refl, sym, _∙_, ap, subst}
 use native.Mathlib.Omega.{arith}
 use borrow.Author.Tests.{eqb-true}
 use lib.Dec.{eqb}
-use lib.IntN.{ℤ, pos}
-use lib.ListN.{length, getD, set, length-set}
+use lib.IntN.{ℤ}
+use lib.ListN.{length, getD}
 use Rattle.rules.specs.declared.Digits.{Digits}
 use Rattle.rules.specs.declared.LineForm.{LineForm}
 use Rattle.rules.specs.Lines.{Rest, Form, ignored, wrong, close, eof, keyed, formIn, shapeOf, hasForm}
-use Rattle.rules.specs.RangeClass.{digits, digitsOf, reaches, exceeds, hides, skipOf}
+use Rattle.rules.specs.RangeClass.{digits, digitsOf, reaches, exceeds, skipOf}
 use Rattle.rules.specs.Values.{Known, Value}
 use Rattle.rules.specs.Rows.{Rule, Found, absent, found, find, Act, stay, entry, begin, shut, refuse, actRow, act}
-use Rattle.rules.specs.RecordTable.{ruleAt, unreadState, markUnread}
+use Rattle.rules.specs.RecordTable.{ruleAt, markUnread}
 use Rattle.rules.specs.Figures.{placedTable}
 use Rattle.rules.proofs.Chains.{clash}
 use Rattle.tables.specs.Tables.{tableOf}
 use Rattle.entries.specs.Names.{knownIn}
-use Rattle.entries.specs.Acts.{putLine, nextOf, Entered}
+use Rattle.entries.specs.Acts.{putLine}
 use Rattle.account.specs.declared.Now.{Now}
 use Rattle.account.specs.declared.Step.{Step}
 use Rattle.account.specs.declared.Step.the-variants as S
@@ -28,23 +28,14 @@ use Rattle.account.specs.declared.Skipped.the-variants as K
 use Rattle.account.specs.Records.{partAt, withPart}
 use Rattle.account.specs.Account.{atBlock, figureDone}
 use Rattle.account.specs.SkippedLines.{skippedAs}
-use Rattle.account.specs.PlacedLines.{Lent, lent, ownNumber, clashes, lentAfter, lentInside, serialCount, serialRow, inUse, placedStep, PlacedLent, PlacedDone, RowLine, skipStep, unknownStep, UnknownLine, FoundLine, KeyLine, isWhole, CloseLine, OwnLine, placedTextStep, PlacedTextLine, withInner, PlacedLine}
-use Rattle.standing.specs.LineDone.{namesOf, idsOf, Lends, OnPlaced}
+use Rattle.account.specs.PlacedLines.{Lent, lent, ownNumber, clashes, lentAfter, RowLine, skipStep, unknownStep, UnknownLine, FoundLine, KeyLine, isWhole, OwnLine, placedTextStep, PlacedTextLine, PlacedLine}
+use Rattle.standing.specs.LineDone.{namesOf, idsOf, OnPlaced}
 use Rattle.account.specs.TableApart.{symbolIn, symbolOpen, scratchPlace, movedTo, backNow, putBack}
 use Rattle.account.proofs.PlacedLaws.{own-apart}
-use Rattle.standing.proofs.SlotLengths.{length-line}
+use Rattle.standing.proofs.SlotLengths.{length-line, length-unread}
 use Rattle.standing.proofs.ForeParts.{long-part, part-long}
 use Rattle.standing.proofs.ScratchFigures.{enteredBy, entered-by, entered-long}
-use Rattle.standing.proofs.ScratchPlaces.{Room, OwnBy, back-still, Moved}
-
--- a record stays as long as it was
-state-long : (q : ℕ) (b : Bool) (t : List ℤ) → length (unreadState q b t) ≡ length t
-state-long zero b t = refl
-state-long (suc q) b t = length-set t (suc q) (cond b (pos 3) (getD t (suc q) (pos 0)))
-
-unread-long : (c d : Digits) (rs : List Rule) (t : List ℤ) → length (markUnread c d rs t) ≡ length t
-unread-long c d [] t = refl
-unread-long c d (r ∷ rs) t = state-long (r .state) (hides c d (r .least)) (markUnread c d rs t) ∙ unread-long c d rs t
+use Rattle.standing.proofs.ScratchPlaces.{Room, OwnBy, back-still, Moved, back-same}
 
 -- an own number counts in the row `serial` alone
 number-same : (x : Lent) (j n n′ : ℕ) → (j ≡ 5 → n′ ≡ n) → (clashes x j n′ ≡ clashes x j n) × (lentAfter x j n′ ≡ lentAfter x j n)
@@ -68,7 +59,7 @@ module _ (n : Now) (f : ℕ) (b : n .block ≡ 11) (layered : n .layered ≡ tru
   shut-here = ap (λ (m : ℕ). symbolIn m (n .layered)) b
 
   still : S.Go (backNow n f n′) ≡ S.Go n
-  still = ap (λ (m : Now). S.Go m) (back-still n f n′ refl)
+  still = ap (λ (m : Now). S.Go m) (back-same n f)
 
   -- the record that comes of it
   pub record Put (P : List ℤ → Step → Type 0) (r : Step) : Type 0 where
@@ -155,7 +146,7 @@ module _ (n : Now) (f : ℕ) (b : n .block ≡ 11) (layered : n .layered ≡ tru
         go true e =
             put-as (λ u z. OwnLine known class range n x₀ x₁ rec₀ u z close) (putBack n f r) (S.Go (figureDone n))
             (ap (putBack n f) (y .0 .answer ∙ ap (λ (c : Bool). cond c (S.Go (figureDone n′)) (S.Stop 8)) e) ∙ ap (λ (m : Now). S.Go m) (back-still n f (figureDone n′) refl))
-            (markUnread class range placedTable rec₀) (record { answer = sym (ap (λ (c : Bool). cond c (S.Go (figureDone n)) (S.Stop 8)) e); rec = λ _. refl }, y .1) (unread-long class range placedTable rec₀ ∙ long) (ap not layered)
+            (markUnread class range placedTable rec₀) (record { answer = sym (ap (λ (c : Bool). cond c (S.Go (figureDone n)) (S.Stop 8)) e); rec = λ _. refl }, y .1) (length-unread class range placedTable rec₀ ∙ long) (ap not layered)
         go false e =
             put-as (λ u z. OwnLine known class range n x₀ x₁ rec₀ u z close) (putBack n f r) (S.Stop 8) (ap (putBack n f) (y .0 .answer ∙ ap (λ (c : Bool). cond c (S.Go (figureDone n′)) (S.Stop 8)) e))
             rec₀ (record { answer = sym (ap (λ (c : Bool). cond c (S.Go (figureDone n)) (S.Stop 8)) e); rec = λ q. clash q e }, y .1) long tt

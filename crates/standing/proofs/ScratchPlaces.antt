@@ -1,5 +1,5 @@
 -- The places on the scratch, and an answer's places put back.
-use Prim.Native.Nat.{ℕ, zero, suc, _+_, _*_, _-_, _≤_, _<_}
+use Prim.Native.Nat.{ℕ, _+_, _-_, _≤_, _<_}
 use mathlib.Core.Bool.{Bool, true, false, cond, _&&_, _||_}
 use mathlib.Core.List.{List}
 use mathlib.Core.Path.{_≡_, refl, sym, _∙_, ap, subst}
@@ -12,9 +12,9 @@ use Rattle.rules.proofs.Chains.{clash, and-false}
 use Rattle.account.specs.declared.Now.{Now}
 use Rattle.account.specs.declared.Step.{Step}
 use Rattle.account.specs.declared.Step.the-variants as S
-use Rattle.account.specs.Records.{partAt}
+use Rattle.account.specs.Records.{partAt, hasRoom}
 use Rattle.account.specs.Points.{chainPlace}
-use Rattle.account.specs.TableApart.{symbolOpen, OwnSeen, Seen, apart, SeenBy, scratchPlace, scratchFree, movedTo, opensOwn, backNow, putBack}
+use Rattle.account.specs.TableApart.{symbolOpen, OwnSeen, apart, SeenBy, scratchPlace, scratchFree, movedTo, opensOwn, backNow, symbolIn}
 use Rattle.standing.proofs.ForeParts.{part-fore}
 
 -- ── the places ──
@@ -101,6 +101,22 @@ module _ (n : Now) (free : ℕ) (m : Now) where
       ap (λ (x : Bool). movedTo m (cond (x && ltb free (m .free)) (n .free) (n .own)) (n .free + (m .free - free))) b
       ∙ ap (λ (x : Bool). movedTo m (cond x (n .free) (n .own)) (n .free + (m .free - free))) (lt-ltb free (m .free) (omega (arith, h, e)))
       ∙ ap (movedTo m (n .free)) (omega (arith, e))
+
+-- nothing was taken, and nothing else is open
+pub back-same : (n : Now) (free : ℕ) → backNow n free (movedTo n 0 free) ≡ n
+back-same n free = back-still n free (movedTo n 0 free) refl
+
+-- ── what every line finds ──
+pub room-same : (n : Now) (f : ℕ) (t table : List ℤ) → length t ≡ 96 → Room n (length table) f → hasRoom f t ≡ hasRoom (n .free) table
+room-same n f t table long room = ap (leb (f + 32)) long ∙ room .one
+
+-- in a block of that number
+pub least-at : (n : Now) (limit f : ℕ) → Room n limit f → (b : ℕ) → n .block ≡ b → (b ≡ 0 → ⊥) → scratchPlace b ≤ f
+least-at n limit f room b e h = subst (λ (m : ℕ). scratchPlace m ≤ f) e (room .least (λ z. h (sym e ∙ z)))
+
+-- no symbol is open in a block of that number
+pub shut-at : (n : Now) (b : ℕ) → n .block ≡ b → symbolIn b (n .layered) ≡ false → symbolOpen n ≡ false
+shut-at n b e h = ap (λ (m : ℕ). symbolIn m (n .layered)) e ∙ h
 
 -- ── the symbol's own record ──
 -- of what is open behind a line, with a table of so many numbers

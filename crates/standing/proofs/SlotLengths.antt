@@ -1,16 +1,18 @@
 -- A record keeps its length, whatever is put into it.
 use Prim.Native.Nat.{ℕ, zero, suc}
-use mathlib.Core.Bool.{Bool}
 use mathlib.Core.List.{List, [], _∷_}
 use mathlib.Core.Option.{Option}
 use mathlib.Core.Path.{_≡_, refl, _∙_}
-use lib.IntN.{ℤ}
-use lib.ListN.{length, length-set}
+use mathlib.Core.Bool.{cond, Bool}
+use lib.IntN.{ℤ, pos}
+use lib.ListN.{length, length-set, getD}
 use lib.Seq.{sets, length-sets}
-use Rattle.entries.specs.Acts.{placeOf, putLine}
 use Rattle.rules.specs.Values.{Value}
 use Rattle.rules.specs.Rows.{Rule, Slots, Held, partOf}
-use Rattle.rules.specs.RecordTable.{numbers, given, numbersOf, stateOf, columns, padded, putNumbers, putState, putSlot, firstSlot, otherSlots, putSlots, putParts, putHeld}
+use Rattle.rules.specs.RecordTable.{numbers, given, numbersOf, stateOf, columns, padded, putNumbers, putState, putSlot, firstSlot, otherSlots, putSlots, putParts, putHeld, unreadState, markUnread}
+use Rattle.rules.specs.RangeClass.{hides}
+use Rattle.rules.specs.declared.Digits.{Digits}
+use Rattle.entries.specs.Acts.{placeOf, putLine}
 
 pub length-numbers : (p : ℕ) (zs t : List ℤ) → length (putNumbers p zs t) ≡ length t
 length-numbers zero zs t = refl
@@ -37,3 +39,12 @@ length-held ts h t = length-parts 0 ts h t
 
 pub length-line : (r : Rule) (dump : ℕ) (v : Value) (t : List ℤ) → length (putLine r dump v t) ≡ length t
 length-line r dump v t = length-state (r .state) (given v) (sets t (placeOf (r .place) dump) (numbers v)) ∙ length-sets t (placeOf (r .place) dump) (numbers v)
+
+-- states of unread attributes are put where there are places for them
+state-unread : (q : ℕ) (b : Bool) (t : List ℤ) → length (unreadState q b t) ≡ length t
+state-unread zero b t = refl
+state-unread (suc q) b t = length-set t (suc q) (cond b (pos 3) (getD t (suc q) (pos 0)))
+
+pub length-unread : (c d : Digits) (rs : List Rule) (t : List ℤ) → length (markUnread c d rs t) ≡ length t
+length-unread c d [] t = refl
+length-unread c d (r ∷ rs) t = state-unread (r .state) (hides c d (r .least)) (markUnread c d rs t) ∙ length-unread c d rs t

@@ -1,41 +1,53 @@
 -- From line to line: a line that changes nothing of what the set says keeps what the code remembers of it.
-use Prim.Native.Nat.{ℕ, zero, suc, _+_, _*_, _/_, _≤_, _<_}
+use Prim.Native.Nat.{ℕ, suc, _+_, _*_, _/_, _≤_, _<_}
 use mathlib.Core.Bool.{Bool, true, false, cond}
 use mathlib.Core.List.{List, [], _∷_, _++_, map}
-use mathlib.Core.Option.{Option, none, some}
-use mathlib.Core.Path.{_≡_, refl, sym, _∙_, ap, subst}
+use mathlib.Core.Option.{Option}
+use mathlib.Core.Path.{_≡_, refl, _∙_, ap, subst, sym}
 use native.Mathlib.Omega.{arith}
-use lib.Dec.{leb}
-use lib.IntN.{ℤ, pos}
-use lib.ListN.{length, getD, take, drop, set, replicate}
-use lib.Seq.{sets, length-sets}
-use borrow.Author.Tests.{le-leb, lt-leb, leb-true, leb-false}
+use lib.Dec.{leb, eqb}
+use lib.IntN.{ℤ}
+use lib.ListN.{length, getD, take, set}
+use borrow.Author.Tests.{leb-true, leb-false, ne-eqb}
 use Rattle.rules.specs.declared.Digits.{Digits}
-use Rattle.rules.specs.Base.{flat, total, hasNumber}
-use Rattle.rules.specs.Values.{Known, Value}
-use Rattle.rules.specs.Rows.{Rule, Slots, Held}
-use Rattle.rules.specs.Sets.{Layer, Set, symbolNameOf, elementsOf, usedIn, knownOf}
+use Rattle.rules.specs.Base.{flat, total, hasNumber, isNil}
+use Rattle.rules.specs.Values.{Known}
+use Rattle.rules.specs.Rows.{Held}
+use Rattle.rules.specs.Sets.{Layer, Set, symbolNameOf, elementsOf, usedIn, knownOf, Contents, isFirst}
 use Rattle.rules.specs.Machine.{Env, State, roomFor}
 use Rattle.entries.specs.Names.{namesIn, knownIn}
 use Rattle.account.specs.declared.Now.{Now}
 use Rattle.standing.specs.Laid.{Laid}
 use Rattle.account.specs.Records.{hasRoom}
-use Rattle.standing.specs.SoFar.{soFar}
+use Rattle.standing.specs.SoFar.{soFar, volumeOf}
 use Rattle.standing.specs.Standing.{Desk, Lengths, setOf, layersOf, serialsOf, usedOf, openFigures, inside, counts, elementsHere, thisOf, tallyOf, nameBytes, serialBytes, Inside, Stands, Under}
+
+-- ── counts ──
+-- the first volume, by its number and by what the set says
+pub first-volume : (k : ℕ) (s : Set) → k ≡ volumeOf s → eqb k 1 ≡ isFirst s
+first-volume k s e = ap (λ (i : ℕ). eqb i 1) e ∙ go (s .volumes)
+  where
+    go : (vs : List Contents) → eqb (suc (length vs)) 1 ≡ isNil vs
+    go [] = refl
+    go (v ∷ vs) = ne-eqb (suc (suc (length vs))) 1 (λ q. absurd (omega (arith, q)))
+
+pub nil-count : {A : Type 0} (s : List A) → eqb (length s) 0 ≡ isNil s
+nil-count [] = refl
+nil-count (a ∷ s) = ne-eqb (suc (length s)) 0 (λ e. absurd (omega (arith, e)))
 
 -- ── room ──
 -- "19: record doesn't fit the table": in records, and in numbers
-pub room-for : (n w len : ℕ) → 32 * n ≡ w → leb (n + 1) (len / 32) ≡ leb (w + 32) len
-room-for n w len h = go (leb (n + 1) (len / 32)) refl (leb (w + 32) len) refl
+pub room-for : (m n w len : ℕ) → 32 * n ≡ w → leb (n + m) (len / 32) ≡ leb (w + 32 * m) len
+room-for m n w len h = go (leb (n + m) (len / 32)) refl (leb (w + 32 * m) len) refl
   where
-    go : (a : Bool) → leb (n + 1) (len / 32) ≡ a → (b : Bool) → leb (w + 32) len ≡ b → a ≡ b
+    go : (a : Bool) → leb (n + m) (len / 32) ≡ a → (b : Bool) → leb (w + 32 * m) len ≡ b → a ≡ b
     go true p true q = refl
-    go true p false q = absurd (omega (arith, leb-true (n + 1) (len / 32) p, leb-false (w + 32) len q, h))
-    go false p true q = absurd (omega (arith, leb-false (n + 1) (len / 32) p, leb-true (w + 32) len q, h))
+    go true p false q = absurd (omega (arith, leb-true (n + m) (len / 32) p, leb-false (w + 32 * m) len q, h))
+    go false p true q = absurd (omega (arith, leb-false (n + m) (len / 32) p, leb-true (w + 32 * m) len q, h))
     go false p false q = refl
 
 pub has-room : (c : Digits) (d : Desk) (e : Env) (n : ℕ) → Under c d e → 32 * n ≡ d .now .free → roomFor (e .limit) (n + 1) ≡ hasRoom (d .now .free) (d .table)
-has-room c d e n u h = ap (λ (m : Option ℕ). roomFor m (n + 1)) (u .limit) ∙ room-for n (d .now .free) (length (d .table)) h
+has-room c d e n u h = ap (λ (m : Option ℕ). roomFor m (n + 1)) (u .limit) ∙ room-for 1 n (d .now .free) (length (d .table)) h
 
 -- ── what a line leaves alone ──
 -- what a state says of the set, the records and their count apart
@@ -59,11 +71,11 @@ sight st =
       counts = counts st;
     }
 
--- the same things lent, but for the marks of the open block and the table
-abbrev pub deskWith : Desk → Now → List Bool → List Bool → List ℤ → Desk
-deskWith d n marks inner t = record {
+-- the same names, serial numbers and layers in use
+abbrev pub deskKept : Desk → Now → List ℕ → List Bool → List Bool → List ℤ → List ℤ → Desk
+deskKept d n tally marks inner header t = record {
   now = n;
-  tally = d .tally;
+  tally = tally;
   symbols = d .symbols;
   layers = d .layers;
   serials = d .serials;
@@ -71,29 +83,37 @@ deskWith d n marks inner t = record {
   usedAll = d .usedAll;
   marks = marks;
   inner = inner;
-  header = d .header;
+  header = header;
   table = t;
 }
 
+pub lengths-kept : (d : Desk) (n : Now) (tally : List ℕ) (marks inner : List Bool) (header t : List ℤ) → Lengths d → length marks ≡ 28 → length inner ≡ 2 → length header ≡ 70
+    → Lengths (deskKept d n tally marks inner header t)
+lengths-kept d n tally marks inner header t l lm li lh = record {
+  symbols = l .symbols;
+  layers = l .layers;
+  serials = l .serials;
+  used = l .used;
+  usedAll = l .usedAll;
+  marks = lm;
+  inner = li;
+  header = lh;
+}
+
+-- the same things lent, but for the marks of the open block and the table
+abbrev pub deskWith : Desk → Now → List Bool → List Bool → List ℤ → Desk
+deskWith d n marks inner t = deskKept d n (d .tally) marks inner (d .header) t
+
 module _ (c : Digits) (spool : List ℕ) (k : ℕ) (FileHere : Desk → Set → ℕ → Held → ℕ → Type 0) (d : Desk) (at to : ℕ) (st st′ : State) (z : Stands c spool k d (FileHere d) at st) where
-  pub stands-on : (n : Now) (marks inner : List Bool) (t : List ℤ) → sight st ≡ sight st′ → length marks ≡ 28 → length inner ≡ 2
+  pub stands-with : (n : Now) (marks inner : List Bool) (header t : List ℤ) → sight st ≡ sight st′ → length marks ≡ 28 → length inner ≡ 2 → length header ≡ 70
       → Laid t (soFar c st′) (n .free) → 32 * setOf st′ .taken ≡ n .free
       → total elementsOf (setOf st .volumes) + elementsHere st + openFigures st′ ≤ to
       → 48 * length (setOf st .symbols) + nameBytes st′ ≤ to
       → 42 * length (serialsOf st) + serialBytes st′ ≤ to + 20
-      → Inside c spool k (deskWith d n marks inner t) (FileHere (deskWith d n marks inner t)) st′
-      → Stands c spool k (deskWith d n marks inner t) (FileHere (deskWith d n marks inner t)) to st′
-  stands-on n marks inner t v lm li laid taken counted named numbered block = record {
-    lengths = record {
-      symbols = z .lengths .symbols;
-      layers = z .lengths .layers;
-      serials = z .lengths .serials;
-      used = z .lengths .used;
-      usedAll = z .lengths .usedAll;
-      marks = lm;
-      inner = li;
-      header = z .lengths .header;
-    };
+      → Inside c spool k (deskKept d n (d .tally) marks inner header t) (FileHere (deskKept d n (d .tally) marks inner header t)) st′
+      → Stands c spool k (deskKept d n (d .tally) marks inner header t) (FileHere (deskKept d n (d .tally) marks inner header t)) to st′
+  stands-with n marks inner header t v lm li lh laid taken counted named numbered block = record {
+    lengths = lengths-kept d n (d .tally) marks inner header t (z .lengths) lm li lh;
     laid = laid;
     taken = taken;
     here = z .here;
@@ -111,6 +131,15 @@ module _ (c : Digits) (spool : List ℕ) (k : ℕ) (FileHere : Desk → Set → 
     block = block;
   }
 
+  pub stands-on : (n : Now) (marks inner : List Bool) (t : List ℤ) → sight st ≡ sight st′ → length marks ≡ 28 → length inner ≡ 2
+      → Laid t (soFar c st′) (n .free) → 32 * setOf st′ .taken ≡ n .free
+      → total elementsOf (setOf st .volumes) + elementsHere st + openFigures st′ ≤ to
+      → 48 * length (setOf st .symbols) + nameBytes st′ ≤ to
+      → 42 * length (serialsOf st) + serialBytes st′ ≤ to + 20
+      → Inside c spool k (deskWith d n marks inner t) (FileHere (deskWith d n marks inner t)) st′
+      → Stands c spool k (deskWith d n marks inner t) (FileHere (deskWith d n marks inner t)) to st′
+  stands-on n marks inner t v lm li = stands-with n marks inner (d .header) t v lm li (z .lengths .header)
+
   -- the names that the code knows are those that the set has
   pub known : layersOf st ≡ setOf st .drawing .layers
       → knownIn spool (take (getD (d .tally) 9 0) (d .symbols)) (take (getD (d .tally) 10 0) (d .layers)) ≡ knownOf (setOf st)
@@ -122,3 +151,21 @@ module _ (c : Digits) (spool : List ℕ) (k : ℕ) (FileHere : Desk → Set → 
       ∙ ap (λ (x : List (List ℕ)). f x (namesIn spool (take (getD (d .tally) 10 0) (d .layers)))) (z .symbols)
       ∙ ap (λ (m : ℕ). f (map symbolNameOf (setOf st .symbols)) (namesIn spool (take m (d .layers)))) b
       ∙ ap (f (map symbolNameOf (setOf st .symbols))) (z .layers ∙ ap (λ (ls : List Layer). map (λ (l : Layer). l .id) ls) e)
+
+-- a line that changes nothing but the place in the spool
+module _ (c : Digits) (spool : List ℕ) (k : ℕ) (FileHere : Desk → Set → ℕ → Held → ℕ → Type 0) (d : Desk) (at to : ℕ) (st : State) (z : Stands c spool k d (FileHere d) at st) where
+  stands-later : at ≤ to → Stands c spool k d (FileHere d) to st
+  stands-later later =
+      stands-with c spool k FileHere d at to st st z (d .now) (d .marks) (d .inner) (d .header) (d .table) refl (z .lengths .marks) (z .lengths .inner) (z .lengths .header) (z .laid) (z .taken)
+      (omega (arith, z .counted, later)) (omega (arith, z .named, later)) (omega (arith, z .numbered, later)) (z .block)
+
+  -- all that was lent comes back as it was
+  pub stands-still : at ≤ to → (tally : List ℕ) (marks inner : List Bool) (header t : List ℤ) → tally ≡ d .tally → marks ≡ d .marks → inner ≡ d .inner → header ≡ d .header → t ≡ d .table
+      → Stands c spool k (deskKept d (d .now) tally marks inner header t) (FileHere (deskKept d (d .now) tally marks inner header t)) to st
+  stands-still later tally marks inner header t et em ei eh eq =
+      let n : Now = d .now in
+      let same : deskKept d n tally marks inner header t ≡ d =
+      ap (λ (y : List ℕ). deskKept d n y marks inner header t) et ∙ ap (λ (y : List Bool). deskKept d n (d .tally) y inner header t) em
+      ∙ ap (λ (y : List Bool). deskKept d n (d .tally) (d .marks) y header t) ei ∙ ap (λ (y : List ℤ). deskKept d n (d .tally) (d .marks) (d .inner) y t) eh
+      ∙ ap (deskKept d n (d .tally) (d .marks) (d .inner) (d .header)) eq in
+      subst (λ (y : Desk). Stands c spool k y (FileHere y) to st) (sym same) (stands-later later)

@@ -1,9 +1,8 @@
 -- What the code does with a line is what it promises of it.
-use Prim.Native.Nat.{ℕ, zero, suc, _≤_, _<_, _+_, _-_}
+use Prim.Native.Nat.{ℕ, _≤_, _<_, _+_}
 use mathlib.Core.Bool.{Bool, true, false, cond}
 use mathlib.Core.List.{List}
 use mathlib.Core.Path.{_≡_, refl, sym, _∙_, ap, subst}
-use native.Mathlib.Omega.{arith}
 use lib.Dec.{eqb}
 use lib.IntN.{ℤ}
 use lib.ListN.{length, getD, set}
@@ -17,7 +16,7 @@ use Rattle.standing.specs.Standing.{Desk, desk}
 use Rattle.account.specs.SymbolLines.{nameOf, nameNumber}
 use Rattle.account.specs.PlacedLines.{lent}
 use Rattle.account.specs.TopLines.{topLent}
-use Rattle.standing.specs.Reading.{tallyAfter, tallyNamed, symbolsNamed}
+use Rattle.standing.specs.Reading.{tallyNamed, symbolsNamed}
 use Rattle.account.specs.Points.{chainPlace}
 use Rattle.standing.specs.LineDone.{OnChain, OnDrawing, OnText, OnSymbol, OnFigures, OnPlaced, Done, top, file, drawing, layer-names, defines, symbol, hide, elements, figures, chain, text, placed, other}
 use Rattle.standing.proofs.Standings.{deskWith}

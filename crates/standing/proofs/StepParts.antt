@@ -1,20 +1,18 @@
 -- What the code that cuts the lists and lends the records of a block asks for, and what comes back.
 use Prim.Native.Nat.{ℕ, zero, suc, _+_, _*_, _-_, _≤_, _<_}
 use mathlib.Core.Bool.{Bool, true, false, cond, _&&_, not}
-use mathlib.Core.List.{List, [], _∷_, _++_}
+use mathlib.Core.List.{List, _++_}
 use mathlib.Core.Path.{_≡_, refl, sym, _∙_, ap, subst}
 use native.Mathlib.Omega.{arith}
-use mir.Syntax.{w64}
-use mir.Val.{Fits}
 use lib.Dec.{eqb}
 use lib.IntN.{ℤ}
 use lib.ListN.{length, getD, take, drop, length-take, length-drop, length-append}
 use lib.Seq.{take-append-seam, drop-append-seam}
 use Rattle.rules.specs.Rows.{Act, stay, entry, begin, shut, refuse}
 use Rattle.rules.specs.RecordTable.{ruleAt}
+use Rattle.rules.specs.declared.LineForm.{LineForm}
 use Rattle.tables.specs.Tables.{tableOf}
 use Rattle.entries.specs.Acts.{Entered}
-use Rattle.rules.specs.declared.LineForm.{LineForm}
 use Rattle.account.specs.declared.Now.{Now}
 use Rattle.account.specs.declared.Where.{Where}
 use Rattle.account.specs.declared.Step.{Step}
@@ -27,6 +25,8 @@ use Rattle.account.specs.SymbolLines.{isNamed, nameOf, isNew, symbolPart, symbo
 use Rattle.account.specs.PlacedLines.{Lent, LentReady}
 use Rattle.standing.specs.LineDone.{namesOf, idsOf, Named, Lends, symbolAct, SymbolReady, OnSymbol}
 use Rattle.account.proofs.Lent.{lent-part}
+use mir.Syntax.{w64}
+use mir.Val.{Fits}
 
 -- ── the number of the open block ──
 pub one-left : (n : ℕ) → n < 2 → (n ≡ 0 → ⊥) → n ≡ 1

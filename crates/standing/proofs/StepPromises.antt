@@ -1,12 +1,12 @@
 -- What the code does with a line in each block, as what it promises of any line; and what it needs there.
-use Prim.Native.Nat.{ℕ, zero, suc, _+_, _*_, _-_, _≤_, _<_}
-use mathlib.Core.Bool.{Bool, true, false, cond}
-use mathlib.Core.List.{List, [], _∷_, _++_}
-use mathlib.Core.Path.{_≡_, refl, sym, _∙_, ap, subst}
+use Prim.Native.Nat.{ℕ, _-_, _≤_, _<_}
+use mathlib.Core.Bool.{Bool, false}
+use mathlib.Core.List.{List, [], _∷_}
+use mathlib.Core.Path.{_≡_, refl, subst}
 use native.Mathlib.Omega.{arith}
 use lib.Dec.{eqb}
 use lib.IntN.{ℤ}
-use lib.ListN.{length, getD, take, length-take}
+use lib.ListN.{length, getD, take}
 use Rattle.rules.specs.declared.Digits.{Digits}
 use Rattle.rules.specs.declared.LineForm.{LineForm}
 use Rattle.rules.specs.Lines.{formIn}
@@ -16,12 +16,11 @@ use Rattle.rules.specs.Sets.{Set}
 use Rattle.rules.specs.Machine.{Line, Env, State, top, file, drawing, layerNames, defines, symbol, hide, elements, figures, successive, texts, placing, skipping, ended}
 use Rattle.tables.specs.Tables.{tableOf}
 use Rattle.entries.specs.Names.{knownIn}
-use Rattle.account.specs.declared.Now.{Now}
 use Rattle.account.specs.declared.Where.{Where}
 use Rattle.account.specs.declared.Step.{Step}
 use Rattle.account.specs.declared.Step.the-variants as S
 use Rattle.account.specs.Records.{partAt, withPart}
-use Rattle.standing.specs.Standing.{Desk, setOf, layersOf, Inside, Stands, Under, LineHere, StepOut}
+use Rattle.standing.specs.Standing.{Desk, Under, LineHere, StepOut}
 use Rattle.standing.specs.FileStanding.{InFile}
 use Rattle.standing.specs.Reading.{Standing, PlacedForm, tallyAfter}
 use Rattle.account.specs.Points.{pointTableOf, pointAct, chainPlace, ChainLine, HideLine}
@@ -29,7 +28,7 @@ use Rattle.account.specs.TextLines.{textTableOf, TextLine}
 use Rattle.account.specs.FigureLines.{FigureLine}
 use Rattle.account.specs.ElementLines.{ElementLine}
 use Rattle.account.specs.SymbolLines.{nonIn, DefinesLine, SymbolLine}
-use Rattle.account.specs.PlacedLines.{Lent, PlacedLine, LentReady}
+use Rattle.account.specs.PlacedLines.{Lent, PlacedLine}
 use Rattle.account.specs.TopLines.{Answered, TopLent, topLent, topNow, topLentBy}
 use Rattle.account.specs.DrawingLines.{drawingAct, drawingNow, drawingMarks, drawingPut, NamesLine}
 use Rattle.account.specs.FileLines.{fileTableOf, partMarks, FileLine}
@@ -37,11 +36,10 @@ use Rattle.standing.proofs.FormPlaces.{file-placed}
 use Rattle.standing.proofs.FileClosing.{fileDesk}
 use Rattle.standing.proofs.FileFormatStanding.{file-line}
 use Rattle.standing.proofs.Standings.{deskWith}
-use Rattle.standing.proofs.LaidTables.{laid-room}
 use Rattle.standing.proofs.OpenBlocks
 use Rattle.standing.proofs.ChainStanding.{chain-line}
 use Rattle.standing.proofs.HideStanding.{hide-line}
-use Rattle.standing.proofs.TextStanding.{codeAct, text-line}
+use Rattle.standing.proofs.TextStanding.{text-line}
 use Rattle.standing.proofs.FiguresStanding.{figureAct, deskLent, figures-line}
 use Rattle.standing.proofs.ElementStanding.{elementAct, elementDesk, element-line}
 use Rattle.standing.proofs.DefinesStanding.{defines-line}
@@ -49,7 +47,7 @@ use Rattle.standing.proofs.SymbolStanding.{symbolDesk, symbol-line}
 use Rattle.standing.proofs.DrawingStanding.{drawing-line}
 use Rattle.standing.proofs.LayerNamesStanding.{deskNames, names-line}
 use Rattle.standing.proofs.TopStanding.{deskTop, top-line}
-use Rattle.standing.proofs.PlacedTables.{lentOf, lentDesk, placed-ready}
+use Rattle.standing.proofs.PlacedTables.{lentOf, lentDesk}
 use Rattle.standing.proofs.PlacedStanding.{placed-line}
 
 -- the answer is the step that the definitions make, at any state that the desk stands at

@@ -1,46 +1,30 @@
 -- What the code needs of what it remembers, in each block that can be open.
-use Prim.Native.Nat.{ℕ, zero, suc, _+_, _*_, _-_, _≤_, _<_, min}
-use mathlib.Core.Bool.{Bool, true, false, cond}
-use mathlib.Core.List.{List, [], _∷_, _++_}
-use mathlib.Core.Path.{_≡_, refl, sym, _∙_, ap, subst}
+use Prim.Native.Nat.{ℕ, _+_, _-_, _≤_, _<_}
+use mathlib.Core.Bool.{true}
+use mathlib.Core.List.{List}
+use mathlib.Core.Path.{_≡_, sym, ap, subst}
 use native.Mathlib.Omega.{arith}
-use borrow.Author.Tests.{ne-eqb}
 use lib.Dec.{eqb}
-use lib.IntN.{ℤ}
-use lib.ListN.{length, getD, take, length-take, length-append}
+use lib.ListN.{length, getD}
 use Rattle.rules.specs.declared.Digits.{Digits}
 use Rattle.rules.specs.declared.LineForm.{LineForm}
-use Rattle.rules.specs.Base.{flat, isNil}
 use Rattle.rules.specs.Lines.{brace, equals, Form, ignored, wrong, close, eof, keyed, formIn}
-use Rattle.rules.specs.Rows.{Held, Act, shut}
-use Rattle.rules.specs.Sets.{Contents, Set, isFirst}
-use Rattle.rules.specs.Machine.{Line, Env, State, elements, figures, successive, texts, placing, hide, top, drawing, layerNames, symbol, inLayer}
-use Rattle.rules.specs.Blocks.{drawingTable, symbolTable}
-use Rattle.rules.specs.Figures.{placedTables}
-use Rattle.rules.specs.RecordTable.{start, pointRecords, textRecord, putHeld, drawingRecord, layerRecords, fileRecords, innerRecords, putSlots}
-use Rattle.rules.proofs.Chains.{flat-append}
-use Rattle.account.specs.declared.Now.{Now}
+use Rattle.rules.specs.Rows.{shut}
+use Rattle.rules.specs.Machine.{Line, Env, State, elements, figures, hide, drawing, symbol}
 use Rattle.account.specs.declared.Where.{Where}
-use Rattle.account.specs.declared.Step.the-variants as S
-use Rattle.standing.specs.SoFar.{volumeOf, closedRecords, frontRecords, emptyRecords, homeMore, homeOwner, homeVolume, figuresSoFar, soFar}
-use Rattle.standing.specs.Laid.{Laid}
 use Rattle.account.specs.Records.{partAt}
 use Rattle.account.specs.PlacedLines.{LentReady}
-use Rattle.account.specs.SymbolLines.{ContentPlaced, isNamed, SymbolLine}
+use Rattle.account.specs.SymbolLines.{ContentPlaced, isNamed}
 use Rattle.account.specs.Points.{chainPlace}
 use Rattle.standing.specs.LineDone.{symbolAct, SymbolReady, LineFits}
-use Rattle.standing.specs.Standing.{Desk, setOf, layersOf, Stands, Under, LineHere}
+use Rattle.standing.specs.Standing.{Desk, setOf, layersOf, Under, LineHere}
 use Rattle.standing.specs.FileStanding.{InFile}
 use Rattle.standing.specs.Reading.{Standing, PlacedForm}
-use Rattle.account.specs.Account.{atBlock}
-use Rattle.account.specs.FileLines.{PartOpen, fileWidth, FileReady}
-use Rattle.standing.proofs.LaidTables.{laid-room, laid-within}
-use Rattle.standing.proofs.RecordStores.{points-size}
-use Rattle.standing.proofs.SlotLengths.{length-slots}
-use Rattle.standing.proofs.SymbolStanding.{symbol-keeps}
+use Rattle.account.specs.FileLines.{FileReady}
 use Rattle.standing.proofs.PlacedTables.{lentOf, placed-ready}
 use Rattle.standing.proofs.OpenBlocks
 use Rattle.standing.proofs.OpenPlaces as places
+use Rattle.standing.proofs.SymbolStanding.{name-at-close}
 
 -- some state that the desk stands at, before a line that ends within a spool's places
 pub record Ready (c : Digits) (spool : List ℕ) (k : ℕ) (form : LineForm) (w : Where) (d : Desk) : Type 0 where
@@ -135,14 +119,8 @@ module _ (c : Digits) (spool : List ℕ) (k : ℕ) (form : LineForm) (w : Where)
   symbol-named : d .now .block ≡ 5 → symbolAct spool form (d .now) (d .tally) (d .symbols) (d .layers) (d .marks) ≡ shut → isNamed (partAt (d .now .own) (d .table)) ≡ true
   symbol-named b q = go st (OpenBlocks.in-symbol c spool k d (InFile spool k d) st (z .block) b) z
     where
-      rec : List ℤ
-      rec = partAt (d .now .own) (d .table)
-
-      line : SymbolLine (symbolAct spool form (d .now) (d .tally) (d .symbols) (d .layers) (d .marks)) spool (take (getD (d .tally) 9 0) (d .symbols)) (d .now) (d .marks) (d .marks) rec rec (S.Go (atBlock (d .now) 4 0))
-      line = subst (λ (a : Act). SymbolLine a spool (take (getD (d .tally) 9 0) (d .symbols)) (d .now) (d .marks) (d .marks) rec rec (S.Go (atBlock (d .now) 4 0))) (sym q) (record { answer = refl; marks = refl; put = refl })
-
-      go : (st : State) → OpenBlocks.InASymbol st → Standing c spool k d at st → isNamed rec ≡ true
-      go _ (OpenBlocks.here s g) z = symbol-keeps c spool spool-short k (InFile spool k) d at (y .to) (y .env) (y .line) w form (y .under) (y .here) s g z (d .marks) rec (atBlock (d .now) 4 0) line refl .below
+      go : (st : State) → OpenBlocks.InASymbol st → Standing c spool k d at st → isNamed (partAt (d .now .own) (d .table)) ≡ true
+      go _ (OpenBlocks.here s g) z = name-at-close c spool spool-short k (InFile spool k) d at (y .to) (y .env) (y .line) w form (y .under) (y .here) s g z q
 
   -- the symbol that is open has taken bytes too
   symbol-room : d .now .block ≡ 5 → getD (d .tally) 9 0 < length (d .symbols)

@@ -1,31 +1,30 @@
 -- A line in a symbol of SYMBOL_DEFINE: from the code's answer to the step that the definitions make.
-use Prim.Native.Nat.{ℕ, zero, suc, _+_, _*_, _≤_, _<_}
+use Prim.Native.Nat.{ℕ, suc, _+_, _*_, _≤_, _<_}
 use mathlib.Core.Bool.{Bool, true, false, cond, _&&_, _||_, not}
 use mathlib.Core.List.{List, [], _∷_, _++_, map, append-nil}
 use mathlib.Core.Option.{Option, none, some}
 use mathlib.Core.Path.{_≡_, refl, sym, _∙_, ap, subst}
 use native.Mathlib.Omega.{arith}
-use lib.Dec.{eqb, ltb}
+use lib.Dec.{eqb}
 use lib.IntN.{ℤ, pos}
 use lib.ListN.{length, getD, set, take, drop, length-set, length-append, length-take, length-drop}
-use lib.Seq.{sets, take-set-lt, take-suc-set, getD-set-same, getD-set-other}
-use borrow.Author.Tests.{eqb-true, eqb-false, lt-ltb}
+use lib.Seq.{take-set-lt, take-suc-set, getD-set-same, getD-set-other}
+use borrow.Author.Tests.{eqb-true, eqb-false}
 use Rattle.rules.specs.declared.Digits.{Digits}
 use Rattle.rules.specs.declared.LineForm.{LineForm}
 use Rattle.rules.specs.declared.Span.{Span}
-use Rattle.rules.specs.Base.{all, flat, among, isNil, isNone, isSome}
+use Rattle.rules.specs.Base.{among, isNil, isNone, isSome}
 use Rattle.rules.specs.RefusalNumbers.{got, unless}
-use Rattle.rules.specs.RangeClass.{digits, digitsOf, reaches}
+use Rattle.rules.specs.RangeClass.{digitsOf}
 use Rattle.rules.specs.Lines.{close, span, bytesAt, formIn}
-use Rattle.rules.specs.Values.{Known, Value, empty, nums, chars, linked, word, lettersAndDigits, charsOf}
-use Rattle.rules.specs.Rows.{Rule, Held, Slots, marks, slotValue, innerOf, Act, stay, entry, begin, shut, refuse, complete, act}
+use Rattle.rules.specs.Values.{Known, Value, chars, lettersAndDigits, charsOf}
+use Rattle.rules.specs.Rows.{Rule, Held, Slots, marks, slotValue, Act, stay, entry, begin, shut, refuse, complete, act}
 use Rattle.rules.specs.Blocks.{symbolTable}
-use Rattle.rules.specs.Figures.{figureTable}
 use Rattle.rules.specs.Sets.{Symbol, Set, knownOf, defineRange, symbolNameOf, symbolOwn, symbolOrder, withSymbol}
 use Rattle.rules.specs.Machine.{Line, Env, inElement, State, defines, symbol, hide, figures, byAct, newName, openSymbol}
-use Rattle.rules.specs.RecordTable.{numbersOf, firstOr0, others, firstSlot, otherSlots, ruleAt, putSlots, start, pointRecords, figureRecords, innerRecords}
-use Rattle.rules.proofs.Chains.{clash, and-left, and-right}
-use Rattle.rules.proofs.Rows.{row-at, reaches-none}
+use Rattle.rules.specs.RecordTable.{ruleAt, start, innerRecords}
+use Rattle.rules.proofs.Chains.{clash, map-append}
+use Rattle.rules.proofs.Rows.{row-at}
 use Rattle.tables.specs.Tables.{tableOf}
 use Rattle.entries.specs.Names.{nameIn, namesIn, knownIn}
 use Rattle.entries.specs.Acts.{putLine, Entered}
@@ -33,148 +32,24 @@ use Rattle.account.specs.declared.Now.{Now}
 use Rattle.account.specs.declared.Where.{Where}
 use Rattle.account.specs.declared.Step.{Step}
 use Rattle.account.specs.declared.Step.the-variants as S
-use Rattle.account.specs.Placing.{clearTable}
 use Rattle.standing.specs.Laid.{Laid}
 use Rattle.account.specs.Records.{partAt, withPart}
 use Rattle.account.specs.Account.{atBlock}
 use Rattle.standing.specs.SoFar.{frontRecords, symbolSoFar, soFar}
 use Rattle.standing.specs.Standing.{Desk, InSymbol, CharsHere, isText, Stands, Under, LineHere, StepOut, rowBytes, symbolWith, symbolBytes, hideBytes, formSize, tallyOf, closedSerials}
-use Rattle.account.specs.SymbolLines.{asPlace, isPlace, nameOf, isNamed, isNew, symbolEntry, symbolPart, symbolPut, symbolStep, SymbolMarks, SymbolLine, nameNumber}
-use Rattle.standing.proofs.Openers.{plainKind}
-use Rattle.standing.proofs.OpenedRows.{begin-row}
-use Rattle.standing.proofs.RowOpeners.{isOpens, entry-opens}
+use Rattle.account.specs.SymbolLines.{nameOf, isNamed, isNew, symbolEntry, symbolPart, symbolPut, symbolStep, SymbolMarks, SymbolLine, nameNumber}
+use Rattle.standing.proofs.RowOpeners.{isOpens, entry-opens, begin-row}
 use Rattle.standing.proofs.LineOrigins.{From, entry-from, begin-from}
 use Rattle.standing.proofs.LineSizes.{line-size, begin-size, shut-close}
 use Rattle.standing.proofs.WordPlaces.{name-back, WordRead, word-read}
-use Rattle.standing.proofs.OwnLines.{housed, own-line, was-none}
+use Rattle.standing.proofs.OwnLines.{own-line, was-none}
 use Rattle.standing.proofs.Marks.{marks-set, mark-free}
 use Rattle.account.proofs.RowsTaken.{Taken, entry-taken, begin-taken}
-use Rattle.account.proofs.Lent.{with-same}
-use Rattle.standing.proofs.LaidTables.{laid-part, laid-within, laid-change, laid-same}
-use Rattle.standing.proofs.MoreRecords.{map-more, ownRecord, symbol-more}
+use Rattle.standing.proofs.LaidTables.{laid-part, laid-change, laid-same, with-back}
+use Rattle.standing.proofs.MoreRecords.{ownRecord, symbol-more}
 use Rattle.standing.proofs.SlotLengths.{length-slots}
-use Rattle.standing.proofs.Standings.{deskWith, stands-on, known}
-
--- ── what is computed of the table ──
-pub symbol-rows : tableOf 9 ≡ symbolTable
-unfolding tableOf
-symbol-rows = refl
-
-symbol-length : length symbolTable ≡ 4
-unfolding symbolTable
-symbol-length = refl
-
-symbol-clear : clearTable symbolTable ≡ true
-unfolding symbolTable
-symbol-clear = refl
-
-symbol-housed : all housed symbolTable ≡ true
-unfolding symbolTable
-symbol-housed = refl
-
-name-row : (ruleAt symbolTable 0 .holds ≡ word 32 lettersAndDigits) × (ruleAt symbolTable 0 .may ≡ false) × (length (ruleAt symbolTable 0 .key) ≡ 4)
-unfolding symbolTable
-name-row = (refl, refl, refl)
-
-element-key : length (ruleAt symbolTable 1 .key) ≡ 7
-unfolding symbolTable
-element-key = refl
-
-hide-key : length (ruleAt symbolTable 2 .key) ≡ 4
-unfolding symbolTable
-hide-key = refl
-
--- beside the name's row only the fourth, `wall`, opens nothing
-wall-row : (j : ℕ) → j < 4 → (0 ≡ j → ⊥) → isOpens (ruleAt symbolTable j .holds) ≡ false → j ≡ 3
-unfolding symbolTable
-wall-row zero h o e = absurd (o refl)
-wall-row (suc zero) h o e = clash refl e
-wall-row (suc (suc zero)) h o e = clash refl e
-wall-row (suc (suc (suc zero))) h o e = refl
-wall-row (suc (suc (suc (suc j)))) h o e = absurd (omega (arith, h))
-
--- `element` is the second row and opens block 1, `hide` the third and opens block 2
-data Opened (i j : ℕ) : Type 0 where
-  element : i ≡ 1 → j ≡ 1 → Opened i j
-  hidden : i ≡ 2 → j ≡ 2 → Opened i j
-
-opened-rows : (i j : ℕ) → j < 4 → plainKind (ruleAt symbolTable j .holds) ≡ false → i ≡ innerOf (ruleAt symbolTable j .holds) → Opened i j
-unfolding symbolTable
-opened-rows i zero h e q = clash refl e
-opened-rows i (suc zero) h e q = element q refl
-opened-rows i (suc (suc zero)) h e q = hidden q refl
-opened-rows i (suc (suc (suc zero))) h e q = clash refl e
-opened-rows i (suc (suc (suc (suc j)))) h e q = absurd (omega (arith, h))
-
--- the order of figures and hide points, where there are no hide points
-by-order : (b : Bool) (a h : List (List ℤ)) → h ≡ [] → cond b (h ++ a) (a ++ h) ≡ a
-by-order true a h e = ap (λ (r : List (List ℤ)). r ++ a) e
-by-order false a h e = ap (λ (r : List (List ℤ)). a ++ r) e ∙ append-nil a
-
-same-order : (m : ℕ) (y : Symbol) (b : Bool) → y .hidden ≡ [] → innerRecords m y ≡ innerRecords m (symbolOrder b y)
-same-order m y b e =
-    let h : pointRecords 43 m 1 (y .hidden) ≡ [] = ap (pointRecords 43 m 1) e in
-    let a : List (List ℤ) = flat (map (figureRecords (digits 0 0) (digits 0 0) figureTable 20 m 1) (y .figures)) in
-    by-order (y .hideFirst) a (pointRecords 43 m 1 (y .hidden)) h ∙ sym (by-order b a (pointRecords 43 m 1 (y .hidden)) h)
-
--- a symbol's name is what its first row holds
-name-slot : (y : Symbol) → symbolNameOf y ≡ charsOf (slotValue (getD (y .own) 0 none))
-unfolding symbolTable
-name-slot y = refl
-
--- ── its name in its record ──
-first-is : (o : Slots) → firstSlot o ≡ getD o 0 none
-first-is [] = refl
-first-is (a ∷ o) = refl
-
-module _ (t : List ℤ) (a b : ℤ) (h : length t ≡ 32) where
-  at-five : getD (sets t 5 (a ∷ b ∷ [])) 5 (pos 0) ≡ a
-  at-five =
-      getD-set-other (set t 5 a) 6 5 b (pos 0) (λ e. absurd (omega (arith, e))) ∙ getD-set-same t 5 a (pos 0) (omega (arith, h))
-
-  at-six : getD (sets t 5 (a ∷ b ∷ [])) 6 (pos 0) ≡ b
-  at-six = getD-set-same (set t 5 a) 6 b (pos 0) (omega (arith, h, length-set t 5 a))
-
--- its place and its length
-record-name : (o : Slots) (b : List ℤ) (at : ℕ) (c : List ℕ) → length b ≡ 32 → getD o 0 none ≡ some (chars at c)
-    → (getD (putSlots symbolTable o b) 5 (pos 0) ≡ pos at) × (getD (putSlots symbolTable o b) 6 (pos 0) ≡ pos (length c))
-unfolding symbolTable
-record-name o b at c h e =
-    let t : List ℤ = putSlots (drop 1 symbolTable) (otherSlots o) b in
-    let n : List ℤ = numbersOf (firstSlot o) in
-    let k : length t ≡ 32 = length-slots (drop 1 symbolTable) (otherSlots o) b ∙ h in
-    let q : firstSlot o ≡ some (chars at c) = first-is o ∙ e in
-    (at-five t (firstOr0 n) (firstOr0 (others n)) k ∙ ap (λ (v : Option Value). firstOr0 (numbersOf v)) q, at-six t (firstOr0 n) (firstOr0 (others n)) k ∙ ap (λ (v : Option Value). firstOr0 (others (numbersOf v))) q)
-
-name-of : (rec : List ℤ) (at len : ℕ) → (getD rec 5 (pos 0) ≡ pos at) × (getD rec 6 (pos 0) ≡ pos len) → nameOf rec ≡ span at len
-name-of rec at len h = ap (λ (a : ℤ). span (asPlace a) (asPlace (getD rec 6 (pos 0)))) (h .0) ∙ ap (λ (a : ℤ). span at (asPlace a)) (h .1)
-
-named-below : (rec : List ℤ) (at len : ℕ) → (getD rec 5 (pos 0) ≡ pos at) × (getD rec 6 (pos 0) ≡ pos len) → at < 65536 → len < 65536 → isNamed rec ≡ true
-named-below rec at len h a b =
-    ap (λ (y : ℤ). isPlace y && isPlace (getD rec 6 (pos 0))) (h .0) ∙ ap (λ (y : ℤ). ltb at 65536 && isPlace y) (h .1) ∙ ap (λ (y : Bool). y && ltb len 65536) (lt-ltb at 65536 a) ∙ lt-ltb len 65536 b
-
--- a row that is required at every range is there
-must-row : (g : Digits) (a : Option Value) → (not (reaches g (digits 0 0)) || isSome a) ≡ true → isSome a ≡ true
-must-row g a e = ap (λ (b : Bool). not b || isSome a) (sym (reaches-none g)) ∙ e
-
--- a symbol that closes has a name, `element` and `hide`
-must-hold : (g : Digits) (o : Slots) → length o ≡ 4 → complete g symbolTable (marks o) ≡ true
-    → (isSome (getD o 0 none) ≡ true) × (isSome (getD o 1 none) ≡ true) × (isSome (getD o 2 none) ≡ true)
-unfolding symbolTable
-must-hold g [] h e = absurd (omega (arith, h))
-must-hold g (a ∷ []) h e = absurd (omega (arith, h))
-must-hold g (a ∷ b ∷ []) h e = absurd (omega (arith, h))
-must-hold g (a ∷ b ∷ i ∷ o) h e =
-    let more = and-right (not (reaches g (digits 0 0)) || isSome a) _ e in
-    let last = and-right (not (reaches g (digits 0 0)) || isSome b) _ more in
-    (must-row g a (and-left _ _ e), must-row g b (and-left _ _ more), must-row g i (and-left _ _ last))
-
-text-is : (o : Option Value) → isSome o ≡ true → isText o ≡ true → (at : ℕ) × (c : List ℕ) × (o ≡ some (chars at c))
-text-is none h t = clash h refl
-text-is (some empty) h t = clash t refl
-text-is (some (nums v)) h t = clash t refl
-text-is (some (chars at c)) h t = (at, c, refl)
-text-is (some (linked n ps)) h t = clash t refl
+use Rattle.standing.proofs.Standings.{deskWith, stands-on, known, stands-still}
+use Rattle.standing.proofs.SymbolFacts.{symbol-rows, symbol-length, symbol-clear, symbol-housed, name-row, element-key, hide-key, wall-row, Opened, opened-rows, same-order, name-slot, record-name, name-of, named-below, must-hold, text-is, element, hidden}
 
 -- ── what is lent on return ──
 -- a symbol's record that was lent, on return
@@ -197,24 +72,11 @@ nameKept d m rec = record {
   table = recordBack d rec;
 }
 
--- the block that is open after a line
-abbrev blockAfter : Step → ℕ
-blockAfter (S.Go n) = n .block
-blockAfter (S.Skip n) = 0
-blockAfter (S.Stop n) = 0
-
 -- SYMBOL_DEFINE is open again: the symbol is closed
 abbrev pub symbolDesk : Desk → List Bool → List ℤ → Step → Desk
 symbolDesk d m rec (S.Go n) = cond (eqb (n .block) 4) (nameKept d m rec) (deskWith d (d .now) m (d .inner) (recordBack d rec))
 symbolDesk d m rec (S.Skip n) = deskWith d (d .now) m (d .inner) (recordBack d rec)
 symbolDesk d m rec (S.Stop n) = deskWith d (d .now) m (d .inner) (recordBack d rec)
-
--- what the keeping of a name asks for: room for it, and a record that has one
-pub record Keeps (d : Desk) (rec : List ℤ) : Type 0 where
-  pub room : getD (d .tally) 9 0 < length (d .symbols)
-  pub below : isNamed rec ≡ true
-  pub wide : length rec ≡ 32
-  pub back : partAt (d .now .own) (recordBack d rec) ≡ rec
 
 module _ (c : Digits) (spool : List ℕ) (short : length spool ≤ 61440) (k : ℕ) (FileHere : Desk → Set → ℕ → Held → ℕ → Type 0) (d : Desk) (at to : ℕ) (e : Env) (l : Line) (w : Where)
     (form : LineForm) (u : Under c d e) (x : LineHere spool k at to form w l) (s : Set) (y : Symbol) (z : Stands c spool k d (FileHere d) at (symbol s y)) where
@@ -262,10 +124,6 @@ module _ (c : Digits) (spool : List ℕ) (short : length spool ≤ 61440) (k : �
   names-are : namesIn spool symbolNames ≡ map symbolNameOf (s .symbols)
   names-are = ap (λ (t : List ℕ). namesIn spool (take (getD t 9 0) (d .symbols))) (z .tally) ∙ z .symbols
 
-  -- it lies within the table
-  pub symbol-lent : d .now .own + 32 ≤ length (d .table)
-  symbol-lent = laid-within (d .table) (frontRecords s) (ownRecord n y) (innerRecords n y) (d .now .free) (d .now .own) (z .laid) (sym (iny .own)) (length-slots symbolTable (y .own) base)
-
   later : at ≤ to
   later = omega (arith, x .bytes)
 
@@ -276,19 +134,9 @@ module _ (c : Digits) (spool : List ℕ) (short : length spool ≤ 61440) (k : �
     abbrev Out : Step → Type 0
     Out r = StepOut c spool k FileHere e l to st (deskWith d (d .now) m₁ (d .inner) t₁) r
 
-    same-table : rec₁ ≡ symbolRecord → t₁ ≡ d .table
-    same-table q = ap (λ (r : List ℤ). withPart (d .now .own) r (d .table)) q ∙ with-same (d .now .own) (d .table)
-
     -- nothing but the place in the spool
     on-stay : did ≡ stay → m₁ ≡ d .marks → rec₁ ≡ symbolRecord → Out (S.Go (d .now))
-    on-stay a p q = (
-      st,
-      ap (byAct _ _ _ _) a,
-      stands-on c spool k FileHere d at to st st z (d .now) m₁ (d .inner) t₁ refl (ap length p ∙ z .lengths .marks) (z .lengths .inner)
-          (subst (λ (t : List ℤ). Laid t (soFar c st) (d .now .free)) (sym (same-table q)) (z .laid)) (z .taken) (omega (arith, z .counted, later)) (omega (arith, z .named, later))
-          (omega (arith, z .numbered, later))
-          (z .block .0, subst (λ (m : List Bool). InSymbol spool k (d .now) m (d .inner) s y) (sym p) iny),
-    )
+    on-stay a p q = (st, ap (byAct _ _ _ _) a, stands-still c spool k FileHere d at to st z later (d .tally) m₁ (d .inner) (d .header) t₁ refl p refl refl (with-back (d .now .own) rec₁ (d .table) q))
 
     on-refuse : (m : ℕ) → did ≡ refuse m → Out (S.Stop m)
     on-refuse m a = ap (byAct _ _ _ _) a
@@ -525,7 +373,7 @@ module _ (c : Digits) (spool : List ℕ) (short : length spool ≤ 61440) (k : �
 
         on-begin : Out (S.Go (symbolPart (d .now) i))
         on-begin =
-            let r = begin-row (knownOf s) symbolTable (digitsOf (defineRange s)) full (l .form) i j v from-begin in
+            let r = begin-row (knownOf s) symbolTable (digitsOf (defineRange s)) full (l .form) j i v from-begin in
             go (opened-rows i j row (r .0) (r .1))
           where
             go : Opened i j → Out (S.Go (symbolPart (d .now) i))
@@ -577,9 +425,6 @@ module _ (c : Digits) (spool : List ℕ) (short : length spool ≤ 61440) (k : �
       room : n < length (d .symbols)
       room = omega (arith, z .lengths .symbols, through, x .most)
 
-      name-room : getD (d .tally) 9 0 < length (d .symbols)
-      name-room = omega (arith, count, room)
-
       abbrev s′ : Set
       s′ = withSymbol y s
 
@@ -595,10 +440,10 @@ module _ (c : Digits) (spool : List ℕ) (short : length spool ≤ 61440) (k : �
           ap (λ (m : ℕ). namesIn spool (take m (set (d .symbols) (getD (d .tally) 9 0) number))) up
           ∙ ap (λ (m : ℕ). namesIn spool (take (suc n) (set (d .symbols) m number))) count
           ∙ ap (namesIn spool) (take-suc-set (d .symbols) n number room)
-          ∙ map-more (nameIn spool) (take n (d .symbols)) number
+          ∙ map-append (nameIn spool) (take n (d .symbols)) (number ∷ [])
           ∙ ap (λ (ns : List (List ℕ)). ns ++ nameIn spool number ∷ []) (z .symbols)
           ∙ ap (λ (b : List ℕ). map symbolNameOf (s .symbols) ++ b ∷ []) kept-name
-          ∙ sym (map-more symbolNameOf (s .symbols) y)
+          ∙ sym (map-append symbolNameOf (s .symbols) (y ∷ []))
 
       on-shut : StepOut c spool k FileHere e l to st (nameKept d m₁ rec₁) (S.Go (atBlock (d .now) 4 0))
       on-shut = (
@@ -616,7 +461,7 @@ module _ (c : Digits) (spool : List ℕ) (short : length spool ≤ 61440) (k : �
             header = z .lengths .header;
           };
           laid =
-              subst (λ (t : List ℤ). Laid t (frontRecords s′) (d .now .free)) (sym (same-table q))
+              subst (λ (t : List ℤ). Laid t (frontRecords s′) (d .now .free)) (sym (with-back (d .now .own) rec₁ (d .table) q))
               (laid-same (d .table) (symbolSoFar s y) (frontRecords s′) (d .now .free) (sym (symbol-more s y)) (z .laid));
           taken = z .taken;
           here = z .here;
@@ -636,14 +481,6 @@ module _ (c : Digits) (spool : List ℕ) (short : length spool ≤ 61440) (k : �
           block = (refl, refl, record { volume = iny .phase .volume; first = iny .phase .first; blocks = iny .phase .blocks });
         },
       )
-
-      keeps : Keeps d rec₁
-      keeps = record {
-        room = name-room;
-        below = name-below;
-        wide = ap length (q ∙ own-part) ∙ length-slots symbolTable (y .own) base;
-        back = ap (partAt (d .now .own)) (same-table q) ∙ sym q;
-      }
 
     -- ── any line ──
     abbrev OutOf : Step → Type 0
@@ -683,23 +520,6 @@ module _ (c : Digits) (spool : List ℕ) (short : length spool ≤ 61440) (k : �
       subst (OutOf m₁ rec₁) (sym (h .answer ∙ ap (symbolStep spool symbolNames (d .now) symbolRecord) symbol-act))
       (by-act m₁ rec₁ did refl (subst (SymbolMarks (d .marks) m₁) symbol-act (h .marks)) (subst (λ (a : Act). Entered (ruleAt (tableOf 9)) 0 symbolRecord a rec₁) symbol-act (h .put)))
 
-  -- a line after which SYMBOL_DEFINE is open leaves a name to be kept
-  pub symbol-keeps : (m₁ : List Bool) (rec₁ : List ℤ) (n′ : Now) → SymbolLine symbolAct spool symbolNames (d .now) (d .marks) m₁ symbolRecord rec₁ (S.Go n′) → n′ .block ≡ 4 → Keeps d rec₁
-  symbol-keeps m₁ rec₁ n′ h b =
-      go did refl (subst (SymbolMarks (d .marks) m₁) symbol-act (h .marks)) (subst (λ (a : Act). Entered (ruleAt (tableOf 9)) 0 symbolRecord a rec₁) symbol-act (h .put))
-      (sym b ∙ ap blockAfter (h .answer ∙ ap (symbolStep spool symbolNames (d .now) symbolRecord) symbol-act))
-    where
-      entered : (t : Bool) → 4 ≡ blockAfter (cond t (S.Stop 15) (S.Go (d .now))) → Keeps d rec₁
-      entered true g = absurd (omega (arith, g))
-      entered false g = absurd (omega (arith, g, z .block .0))
-
-      begun : (t : Bool) → 4 ≡ blockAfter (S.Go (cond t (symbolPart (d .now) 1) (symbolPart (d .now) 2))) → Keeps d rec₁
-      begun true g = absurd (omega (arith, g))
-      begun false g = absurd (omega (arith, g))
-
-      go : (a : Act) → did ≡ a → SymbolMarks (d .marks) m₁ a → Entered (ruleAt (tableOf 9)) 0 symbolRecord a rec₁ → 4 ≡ blockAfter (symbolStep spool symbolNames (d .now) symbolRecord a) → Keeps d rec₁
-      go stay p m q g = absurd (omega (arith, g, z .block .0))
-      go (entry j v) p m q g = entered (eqb j 0 && not (isNew spool symbolNames (nameOf (symbolPut symbolRecord j v)))) g
-      go (begin i j v) p m q g = begun (eqb i 1) g
-      go shut p m q g = keeps m₁ rec₁ p m q
-      go (refuse n) p m q g = absurd (omega (arith, g))
+  -- where a line closes it, its record has a name
+  pub name-at-close : symbolAct ≡ shut → isNamed symbolRecord ≡ true
+  name-at-close q = name-below (d .marks) symbolRecord (sym symbol-act ∙ q) refl refl

@@ -1,15 +1,12 @@
 -- A line in a figure's text: from the code's answer to the step that the definitions make.
-use Prim.Native.Nat.{ℕ, zero, suc, _+_, _-_, _≤_}
-use mathlib.Core.Bool.{Bool, true, false, not}
+use Prim.Native.Nat.{ℕ, _+_, _-_, _≤_}
+use mathlib.Core.Bool.{Bool, true, false}
 use mathlib.Core.List.{List, [], _∷_, _++_}
 use mathlib.Core.Option.{some}
 use mathlib.Core.Path.{_≡_, refl, sym, _∙_, ap, subst}
 use native.Mathlib.Omega.{arith}
-use borrow.Author.Tests.{not-true}
-use lib.Dec.{eqb}
 use lib.IntN.{ℤ}
 use lib.ListN.{length, getD, set, take, length-set, length-append}
-use lib.Seq.{sets}
 use Rattle.rules.specs.declared.Digits.{Digits}
 use Rattle.rules.specs.declared.LineForm.{LineForm}
 use Rattle.rules.specs.Base.{all, flat}
@@ -20,15 +17,15 @@ use Rattle.rules.specs.Rows.{Rule, Slots, Held, marks, Act, stay, entry, begin,
 use Rattle.rules.specs.Figures.{textTable}
 use Rattle.rules.specs.Sets.{Figure, lettering, Set, knownOf}
 use Rattle.rules.specs.Machine.{Line, Env, Home, inElement, inLayer, isLayer, State, figures, texts, byAct}
-use Rattle.rules.specs.RecordTable.{numbers, given, ruleAt, start, putNumbers, putState, putSlots, textRecord}
+use Rattle.rules.specs.RecordTable.{ruleAt, start, putSlots, textRecord}
 use Rattle.rules.proofs.Chains.{clash}
 use Rattle.tables.specs.Tables.{tableOf}
 use Rattle.entries.specs.Names.{knownIn}
-use Rattle.entries.specs.Acts.{placeOf, putLine, Entered}
+use Rattle.entries.specs.Acts.{putLine, Entered}
 use Rattle.account.specs.declared.Where.{Where}
 use Rattle.account.specs.declared.Step.{Step}
 use Rattle.account.specs.declared.Step.the-variants as S
-use Rattle.account.specs.Placing.{putValue, clearTable}
+use Rattle.account.specs.Placing.{clearTable}
 use Rattle.standing.specs.Laid.{Laid}
 use Rattle.account.specs.Records.{partAt, withPart}
 use Rattle.account.specs.Account.{figureDone}
@@ -37,15 +34,14 @@ use Rattle.standing.specs.Standing.{Desk, usedOf, inside, InHome, Stands
 use Rattle.account.specs.TextLines.{textTableOf, textStep, textMarks, TextLine}
 use Rattle.standing.proofs.Openers.{isBegin, plainKind, no-begin}
 use Rattle.account.proofs.RowsTaken.{Taken, entry-taken}
-use Rattle.standing.proofs.Puts.{all-at, slots-set}
 use Rattle.standing.proofs.Marks.{marks-set, mark-free}
-use Rattle.account.proofs.Lent.{with-same}
-use Rattle.standing.proofs.LaidTables.{flat-more, laid-same, laid-part, laid-change}
+use Rattle.standing.proofs.LaidTables.{flat-more, laid-same, laid-part, laid-change, with-back}
 use Rattle.standing.proofs.MoreRecords.{more-figures}
 use Rattle.standing.proofs.SlotLengths.{length-slots}
-use Rattle.standing.proofs.Standings.{sight, deskWith, stands-on, known}
+use Rattle.standing.proofs.Standings.{sight, deskWith, stands-on, known, stands-still}
 use Rattle.standing.proofs.HomeFacts.{home-layered, home-stays}
 use Rattle.standing.proofs.FigureSights.{plain-serials}
+use Rattle.standing.proofs.OwnLines.{housed, own-line}
 
 -- ── what is computed of the table of a text ──
 abbrev pub textRows : Bool → List Rule
@@ -68,23 +64,14 @@ two-rows : (b : Bool) → length (textRows b) ≡ 2
 unfolding textTable
 two-rows b = refl
 
--- all rows have places of their own
-placed-rows : (b : Bool) → all (λ r. not (eqb (r .place) 0)) (textRows b) ≡ true
+housed-rows : (b : Bool) → all housed (textRows b) ≡ true
 unfolding textTable
-placed-rows b = refl
+housed-rows b = refl
 
 -- where the rows put their numbers goes by neither home
 same-rows : (b : Bool) (o : Slots) (t : List ℤ) → putSlots (textRows b) o t ≡ putSlots (textRows true) o t
 unfolding textTable
 same-rows b o t = refl
-
--- ── a row with a place of its own ──
-at-place : (p q : ℕ) (z : ℤ) (zs t : List ℤ) → eqb p 0 ≡ false → putState q z (sets t (placeOf p 0) zs) ≡ putState q z (putNumbers p zs t)
-at-place zero q z zs t e = clash refl e
-at-place (suc p) q z zs t e = refl
-
-pub line-value : (r : Rule) (v : Value) (t : List ℤ) → eqb (r .place) 0 ≡ false → putLine r 0 v t ≡ putValue r v t
-line-value r v t e = at-place (r .place) (r .state) (given v) (numbers v) t e
 
 -- ── a text's record ──
 text-length : (more owner volume line : ℕ) (o : Slots) → length (textRecord more owner volume line o) ≡ 32
@@ -95,9 +82,8 @@ text-entry : (b : Bool) (o : Slots) (j : ℕ) (v : Value) (more owner volume lin
     → putLine (ruleAt (textRows b) j) 0 v (textRecord more owner volume line o) ≡ textRecord more owner volume line (set o j (some v))
 text-entry b o j v more owner volume line e k =
     let f : List ℤ = start (15 + more) owner volume line in
-    line-value (ruleAt (textRows b) j) v (putSlots (textRows true) o f) (not-true _ (all-at (λ r. not (eqb (r .place) 0)) (textRows b) j (k .row) (placed-rows b)))
-    ∙ ap (putValue (ruleAt (textRows b) j) v) (sym (same-rows b o f))
-    ∙ sym (slots-set (textRows b) o j v f (e ∙ sym (two-rows b)) (k .row) (mark-free o j (k .free)) (k .fill) (clear-rows b))
+    ap (putLine (ruleAt (textRows b) j) 0 v) (sym (same-rows b o f))
+    ∙ own-line (textRows b) o j v f (e ∙ sym (two-rows b)) (k .row) (mark-free o j (k .free)) (k .fill) (clear-rows b) (housed-rows b)
     ∙ same-rows b (set o j (some v)) f
 
 text-figure : (c : Digits) (s : Set) (h : Home) (n : ℕ) (o : Slots) → homeFigure c s h (lettering n o) ≡ textRecord (homeMore h) (homeOwner s h) (homeVolume s h) n o ∷ []
@@ -176,19 +162,9 @@ module _ (c : Digits) (spool : List ℕ) (k : ℕ) (FileHere : Desk → Set → 
     abbrev Out : Step → Type 0
     Out r = StepOut c spool k FileHere e l to st (deskWith d (d .now) (d .marks) m₁ t₁) r
 
-    same-table : rec₁ ≡ partAt place (d .table) → t₁ ≡ d .table
-    same-table q = ap (λ (y : List ℤ). withPart place y (d .table)) q ∙ with-same place (d .table)
-
     -- nothing but the place in the spool
     on-stay : did ≡ stay → m₁ ≡ d .inner → rec₁ ≡ partAt place (d .table) → Out (S.Go (d .now))
-    on-stay a m q = (
-      st,
-      ap (byAct _ _ _ _) a,
-      stands-on c spool k FileHere d at to st st z (d .now) (d .marks) m₁ t₁ refl (z .lengths .marks) (ap length m ∙ z .lengths .inner)
-          (subst (λ (t : List ℤ). Laid t (soFar c st) (d .now .free)) (sym (same-table q)) (z .laid)) (z .taken)
-          (omega (arith, z .counted, later)) (omega (arith, z .named, later)) (omega (arith, z .numbered, later))
-          (z .block .0, home-stays spool k (d .now) (d .now) (d .marks) (d .inner) m₁ s h refl refl refl home, z .block .2, z .block .3, m ∙ z .block .4),
-    )
+    on-stay a m q = (st, ap (byAct _ _ _ _) a, stands-still c spool k FileHere d at to st z later (d .tally) (d .marks) m₁ (d .header) t₁ refl refl m refl (with-back place rec₁ (d .table) q))
 
     -- one of its lines
     on-entry : (j : ℕ) (v : Value) → did ≡ entry j v → m₁ ≡ set (d .inner) j true → rec₁ ≡ putLine (ruleAt codeRows j) 0 v (partAt place (d .table)) → Out (S.Go (d .now))
@@ -226,7 +202,7 @@ module _ (c : Digits) (spool : List ℕ) (k : ℕ) (FileHere : Desk → Set → 
           st′,
           ap (byAct _ _ _ _) a,
           stands-on c spool k FileHere d at to st st′ z (figureDone (d .now)) (d .marks) m₁ t₁ (closed-sight s h fs n o) (z .lengths .marks) (ap length m ∙ z .lengths .inner)
-              (laid-same t₁ (soFar c st) (soFar c st′) (d .now .free) grown (subst (λ (t : List ℤ). Laid t (soFar c st) (d .now .free)) (sym (same-table q)) (z .laid))) (z .taken)
+              (laid-same t₁ (soFar c st) (soFar c st′) (d .now .free) grown (subst (λ (t : List ℤ). Laid t (soFar c st) (d .now .free)) (sym (with-back place rec₁ (d .table) q)) (z .laid))) (z .taken)
               (omega (arith, z .counted, x .bytes, length-append fs (lettering n o ∷ []))) (omega (arith, z .named, later)) (omega (arith, z .numbered, later)) (
                 refl,
                 home-stays spool k (d .now) (figureDone (d .now)) (d .marks) (d .inner) m₁ s h refl refl refl home,

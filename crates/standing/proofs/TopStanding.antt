@@ -5,7 +5,7 @@ use mathlib.Core.List.{List, [], _∷_, _++_, map, append-nil}
 use mathlib.Core.Option.{Option}
 use mathlib.Core.Path.{_≡_, refl, sym, _∙_, ap, subst}
 use native.Mathlib.Omega.{arith}
-use borrow.Author.Tests.{leb-true, eqb-true, ne-eqb}
+use borrow.Author.Tests.{leb-true, eqb-true}
 use lib.Dec.{eqb, leb}
 use lib.IntN.{ℤ, pos}
 use lib.ListN.{length, getD, take, replicate, length-replicate, getD-replicate}
@@ -40,9 +40,9 @@ use Rattle.account.specs.TopLines.{Answered, allOf, totalOf, layersOf, eofNow, 
 use Rattle.account.proofs.RowsTaken.{begin-taken}
 use Rattle.standing.proofs.LaidTables.{laid-same, laid-more}
 use Rattle.standing.proofs.MoreRecords.{closed-taken}
-use Rattle.standing.proofs.Standings.{sight, room-for, has-room, deskWith, stands-on, known}
-use Rattle.standing.proofs.HeadPuts.{head-put}
-use Rattle.standing.proofs.FileBegins.{two-rooms, file-laid, begun-long, header-same, file-begins}
+use Rattle.standing.proofs.Standings.{sight, room-for, has-room, deskWith, stands-on, known, first-volume, stands-with, stands-still}
+use Rattle.standing.proofs.HeadRecords.{head-put}
+use Rattle.standing.proofs.FileOpening.{file-laid, begun-long, header-same, file-begins}
 
 -- ── what is computed of the tables ──
 top-table : tableOf 0 ≡ topTable
@@ -92,22 +92,14 @@ blockless-records : (c : Digits) (s : Set) → s .now .blocks ≡ [] → soFar c
 blockless-records c s e =
     sym (ap (λ (y : List LayerBlock). baseRecords c s (isFirst s) ++ flat (map (blockRecords c (rangeOf s) (layerTable (isSingle s)) (volumeOf s)) y)) e ∙ append-nil (baseRecords c s (isFirst s)))
 
--- as the code has it
-first-is : (k : ℕ) (s : Set) → k ≡ volumeOf s → eqb k 1 ≡ isFirst s
-first-is k s e = ap (λ (i : ℕ). eqb i 1) e ∙ go (s .volumes)
-  where
-    go : (vs : List Contents) → eqb (suc (length vs)) 1 ≡ isNil vs
-    go [] = refl
-    go (v ∷ vs) = ne-eqb (suc (suc (length vs))) 1 (λ q. absurd (omega (arith, q)))
-
 -- how many records FILE_FORMAT takes
 file-records : (f : Bool) → 32 * cond f 2 1 ≡ fileSize f
 file-records true = refl
 file-records false = refl
 
 file-rooms : (f : Bool) (n w len : ℕ) → 32 * n ≡ w → leb (n + cond f 2 1) (len / 32) ≡ leb (w + fileSize f) len
-file-rooms true n w len h = two-rooms n w len h
-file-rooms false n w len h = room-for n w len h
+file-rooms true n w len h = room-for 2 n w len h
+file-rooms false n w len h = room-for 1 n w len h
 
 -- ── a block opens ──
 -- the same things lent, but for those that the line of a block's opening may change
@@ -132,33 +124,9 @@ lentOf d = topLent (d .marks) (d .used) (d .header) (d .table)
 -- the header that was kept is of no use at the top level
 other-header : (c : Digits) (spool : List ℕ) (k : ℕ) (d : Desk) (at : ℕ) (s : Set) (m : ℕ) (h : List ℤ) → length h ≡ 70 → Stands c spool k d (InFile spool k d) at (top s m)
     → Stands c spool k (deskTop d (topLent (d .marks) (d .used) h (d .table))) (InFile spool k (deskTop d (topLent (d .marks) (d .used) h (d .table)))) at (top s m)
-other-header c spool k d at s m h e z = record {
-  lengths = record {
-    symbols = z .lengths .symbols;
-    layers = z .lengths .layers;
-    serials = z .lengths .serials;
-    used = z .lengths .used;
-    usedAll = z .lengths .usedAll;
-    marks = z .lengths .marks;
-    inner = z .lengths .inner;
-    header = e;
-  };
-  laid = z .laid;
-  taken = z .taken;
-  here = z .here;
-  this = z .this;
-  tally = z .tally;
-  symbols = z .symbols;
-  layers = z .layers;
-  few-layers = z .few-layers;
-  serials = z .serials;
-  used = z .used;
-  used-all = z .used-all;
-  counted = z .counted;
-  named = z .named;
-  numbered = z .numbered;
-  block = z .block;
-}
+other-header c spool k d at s m h e z =
+    stands-with c spool k (InFile spool k) d at at (top s m) (top s m) z (d .now) (d .marks) (d .inner) h (d .table) refl (z .lengths .marks) (z .lengths .inner) e
+    (z .laid) (z .taken) (z .counted) (z .named) (z .numbered) (z .block)
 
 module _ (c : Digits) (spool : List ℕ) (k : ℕ) (d : Desk) (at to : ℕ) (e : Env) (l : Line) (w : Where) (form : LineForm) (u : Under c d e) (x : LineHere spool k at to form w l)
     (s : Set) where
@@ -290,12 +258,9 @@ module _ (c : Digits) (spool : List ℕ) (k : ℕ) (d : Desk) (at to : ℕ) (e :
 
     -- nothing but the place in the spool
     on-stay : stepIn e l st ≡ got st → b ≡ lentOf d → Out (S.Go (d .now))
-    on-stay a q = subst (λ (y : TopLent). Of y (S.Go (d .now))) (sym q) (
-      st,
-      a,
-      stands-on c spool k (InFile spool k) d at to st st z (d .now) (d .marks) (d .inner) (d .table) refl (z .lengths .marks) (z .lengths .inner) (z .laid) (z .taken)
-          (omega (arith, z .counted, later)) (omega (arith, z .named, later)) (omega (arith, z .numbered, later)) (z .block),
-    )
+    on-stay a q =
+        subst (λ (y : TopLent). Of y (S.Go (d .now))) (sym q)
+        (st, a, stands-still c spool k (InFile spool k) d at to st z later (d .tally) (d .marks) (d .inner) (d .header) (d .table) refl refl refl refl refl)
 
     -- ── EOF ──
     used-layers : layersUsed s ≡ all (λ t. t) (take (layersOf (d .tally)) (d .usedAll))
@@ -348,7 +313,7 @@ module _ (c : Digits) (spool : List ℕ) (k : ℕ) (d : Desk) (at to : ℕ) (e :
         go (leb (d .now .free + fileSize (isFirst s)) (length (d .table))) refl
         (a ∙ ap (λ (o : Option ℕ). unless (roomFor o (s .taken + cond (isFirst s) 2 1)) 19 (got begunFile)) (u .limit)
         ∙ ap (λ (t : Bool). unless t 19 (got begunFile)) (file-rooms (isFirst s) (s .taken) (d .now .free) (length (d .table)) (z₀ .taken)))
-        (subst (λ (f : Bool). Answered (openedNow f (d .now) (d .table) 0) (b ≡ openedLent f (d .now) w 0 (lentOf d)) y) (first-is k s (z₀ .block .2 .0)) v)
+        (subst (λ (f : Bool). Answered (openedNow f (d .now) (d .table) 0) (b ≡ openedLent f (d .now) w 0 (lentOf d)) y) (first-volume k s (z₀ .block .2 .0)) v)
       where
         go : (room : Bool) → leb (d .now .free + fileSize (isFirst s)) (length (d .table)) ≡ room → stepIn e l st ≡ unless room 19 (got begunFile)
             → Answered (unless room 19 (got (recordTaken (d .now) 1 (fileSize (isFirst s))))) (b ≡ openedLent (isFirst s) (d .now) w 0 (lentOf d)) y → Out y

@@ -1,7 +1,7 @@
 -- The layers in use, by their numbers: a layer that a line of ELEMENT names is declared, and it is in use from that line on.
 use Prim.Native.Nat.{ℕ, suc, _<_}
 use mathlib.Core.Bool.{Bool, true, false, cond, _||_}
-use mathlib.Core.List.{List, [], _∷_, _++_, map, append-nil, append-assoc}
+use mathlib.Core.List.{List, [], _∷_, _++_}
 use mathlib.Core.Option.{some}
 use mathlib.Core.Path.{_≡_, refl, sym, _∙_, ap, subst}
 use native.Mathlib.Omega.{arith}
@@ -11,15 +11,15 @@ use lib.IntN.{pos}
 use lib.ListN.{length, getD, set}
 use lib.Seq.{getD-set-same, getD-set-other}
 use Rattle.rules.specs.declared.Digits.{Digits}
-use Rattle.rules.specs.Base.{all, flat, hasNumber, indexOf, mapO, same}
+use Rattle.rules.specs.Base.{all, hasNumber, indexOf, mapO, same}
 use Rattle.rules.specs.RefusalNumbers.{got, orBad}
 use Rattle.rules.specs.Lines.{Form, Shape, opener, noContent, content, opening, formless}
 use Rattle.rules.specs.Values.{Num, num, Value, nums, Known, Kind, layerId, headed, natural, isLayerId, readPart, readKind, amountAt}
 use Rattle.rules.specs.Rows.{Rule, fullAt, shapeFor, fits, begin, innerOf, readShape, act}
 use Rattle.rules.specs.Blocks.{elementTable}
-use Rattle.tables.specs.Tables.{tableOf}
 use Rattle.rules.proofs.Chains.{clash, or-true, map-got, map-some, none-some, or-got, unless-got}
 use Rattle.rules.proofs.Rows.{Row, row-at, row-below}
+use Rattle.tables.specs.Tables.{tableOf}
 use Rattle.standing.proofs.Openers.{openingKind}
 use Rattle.standing.proofs.LineOrigins.{begin-from}
 
@@ -101,8 +101,3 @@ used-more us ns m h j e = go (eqb j m) refl ∙ sym (has-more j ns m)
         let z : j ≡ m = eqb-true j m q in
         ap (λ (n : ℕ). getD (set us m true) n false) z ∙ getD-set-same us m true false h ∙ sym (or-true (hasNumber j ns))
     go false q = getD-set-other us m j true false (eqb-false j m q) ∙ e ∙ sym (or-false (hasNumber j ns))
-
--- ── one more volume ──
-pub flat-more : {A : Type 0} (f : A → List ℕ) (s : List A) (a : A) → flat (map f (s ++ a ∷ [])) ≡ flat (map f s) ++ f a
-flat-more f [] a = append-nil (f a)
-flat-more f (b ∷ s) a = ap (λ (u : List ℕ). f b ++ u) (flat-more f s a) ∙ sym (append-assoc (f b) (flat (map f s)) (f a))

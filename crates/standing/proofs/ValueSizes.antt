@@ -2,20 +2,19 @@
 use Prim.Native.Nat.{ℕ, suc, _+_, _≤_}
 use mathlib.Core.Bool.{Bool, true, false, cond}
 use mathlib.Core.List.{List, [], _∷_}
-use mathlib.Core.Option.{Option, none, some}
-use mathlib.Core.Path.{_≡_, refl, ap, subst}
+use mathlib.Core.Path.{_≡_, refl, ap, subst, sym, _∙_}
 use native.Mathlib.Omega.{arith}
 use lib.Dec.{eqb}
 use lib.ListN.{length}
 use Rattle.rules.specs.declared.Digits.{Digits}
 use Rattle.rules.specs.Base.{total, isNil, headOnto, split}
-use Rattle.rules.specs.RefusalNumbers.{got, mapG, keep}
-use Rattle.rules.specs.Lines.{Rest, brace, equals, Form, Shape, shapeOf, freeShapeOf, stem, byStem}
-use Rattle.rules.specs.Values.{Num, Value, nums, Known, Part, count, digit, kindOfLine, range, rangeOfSymbols, day, clock, decimal, symbolName, layerId, Across, Kind, values, isFree, readPart, readAll, agree, readKind}
-use Rattle.rules.specs.Rows.{Rule, fits, shapeFor, entry, readShape}
+use Rattle.rules.specs.RefusalNumbers.{got, keep}
+use Rattle.rules.specs.Lines.{Form}
+use Rattle.rules.specs.Values.{Num, Value, nums, Known, Part, count, digit, kindOfLine, range, rangeOfSymbols, day, clock, decimal, symbolName, layerId, Across, Kind, values, readPart, readAll, agree, readKind}
+use Rattle.rules.specs.Rows.{Rule, entry}
 use Rattle.rules.proofs.Chains.{clash, never, map-got, keep-got, cons-got}
 use Rattle.standing.specs.Standing.{restSize}
-use Rattle.standing.proofs.LineOrigins.{From}
+use Rattle.standing.proofs.LineOrigins.{From, ContentKind, values-content, content-read}
 
 -- ── the pieces between the commas ──
 split-some : (c : ℕ) (s : List ℕ) → isNil (split c s) ≡ false
@@ -74,38 +73,16 @@ all-size k (p ∷ ps) (s ∷ ss) v e =
     let more = all-size k ps ss w b in
     (ap suc (more .0), omega (arith, part-size k p s n a, more .1))
 
-module _ (k : Known) (p : Part) (ps : List Part) (a : Across) (j : ℕ) (v : Value) where
-  content-bytes : (at : ℕ) (c : List ℕ) → mapG (entry j) (readKind k (values p ps a) at c) ≡ got (entry j v) → length ps + total leastBytes (p ∷ ps) ≤ length c
-  content-bytes at c e =
-      let (w, q, _) = map-got (entry j) (readKind k (values p ps a) at c) (entry j v) e in
-      let (ns, r, _) = map-got nums (keep 11 (agree a) (readAll k (p ∷ ps) (split 44 c))) w q in
-      let (g, _) = keep-got 11 (agree a) (readAll k (p ∷ ps) (split 44 c)) ns r in
-      let (m, t) = all-size k (p ∷ ps) (split 44 c) ns g in
-      omega (arith, m, t, split-size 44 c)
-
-  -- by what follows the key
-  values-rest : (x : Rest) (r : Rule) → r .holds ≡ values p ps a → r .may ≡ false → fits (r .holds) (r .may) (shapeFor r x) ≡ true
-      → readShape k j r (shapeFor r x) ≡ got (entry j v) → suc (length ps + total leastBytes (p ∷ ps)) ≤ restSize x
-  values-rest x r h m f e = by-rest x (subst (λ (s : Shape). fits (values p ps a) false s ≡ true) shape fit) (subst (λ (s : Shape). readShape k j r s ≡ got (entry j v)) shape e)
-    where
-      shape : shapeFor r x ≡ shapeOf x
-      shape = ap (λ (y : Kind). cond (isFree y) (freeShapeOf x) (shapeOf x)) h
-
-      fit : fits (values p ps a) false (shapeFor r x) ≡ true
-      fit = subst (λ (y : Kind). fits y false (shapeFor r x) ≡ true) h (subst (λ (y : Bool). fits (r .holds) y (shapeFor r x) ≡ true) m f)
-
-      by-rest : (x : Rest) → fits (values p ps a) false (shapeOf x) ≡ true → readShape k j r (shapeOf x) ≡ got (entry j v) → suc (length ps + total leastBytes (p ∷ ps)) ≤ restSize x
-      by-rest brace f e = clash f refl
-      by-rest (equals at []) f e = clash f refl
-      by-rest (equals at (b ∷ c)) f e = by-stem (stem (b ∷ c)) f e
-        where
-          by-stem : (o : Option (List ℕ)) → fits (values p ps a) false (byStem at (b ∷ c) o) ≡ true → readShape k j r (byStem at (b ∷ c) o) ≡ got (entry j v)
-              → suc (length ps + total leastBytes (p ∷ ps)) ≤ restSize (equals at (b ∷ c))
-          by-stem none f e = omega (arith, content-bytes at (b ∷ c) (subst (λ (y : Kind). mapG (entry j) (readKind k y at (b ∷ c)) ≡ got (entry j v)) h e))
-          by-stem (some []) f e = clash f refl
-          by-stem (some (i ∷ t)) f e = clash f refl
+content-bytes : (k : Known) (p : Part) (ps : List Part) (a : Across) (at : ℕ) (c : List ℕ) (v : Value) → readKind k (values p ps a) at c ≡ got v → length ps + total leastBytes (p ∷ ps) ≤ length c
+content-bytes k p ps a at c v e =
+    let (ns, r, _) = map-got nums (keep 11 (agree a) (readAll k (p ∷ ps) (split 44 c))) v e in
+    let (g, _) = keep-got 11 (agree a) (readAll k (p ∷ ps) (split 44 c)) ns r in
+    let (m, t) = all-size k (p ∷ ps) (split 44 c) ns g in
+    omega (arith, m, t, split-size 44 c)
 
 -- a line of a row of values that may not be empty: `=`, the commas and the digits
 pub values-size : (k : Known) (t : List Rule) (d : Digits) (full : List Bool) (f : Form) (p : Part) (ps : List Part) (a : Across) (j : ℕ) (v : Value)
     (x : From k t d full f j (entry j v)) → x .rule .holds ≡ values p ps a → x .rule .may ≡ false → suc (length ps + total leastBytes (p ∷ ps)) ≤ restSize (x .rest)
-values-size k t d full f p ps a j v x h m = values-rest k p ps a j v (x .rest) (x .rule) h m (x .did .fit) (x .did .read)
+values-size k t d full f p ps a j v x h m =
+    let y = content-read k t d full f j v x (subst ContentKind (sym h) (values-content p ps a)) m in
+    omega (arith, ap restSize (y .behind), content-bytes k p ps a (y .at) (y .bytes) v (ap (λ (z : Kind). readKind k z (y .at) (y .bytes)) (sym h) ∙ y .read))

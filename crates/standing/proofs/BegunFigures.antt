@@ -1,0 +1,106 @@
+-- A figure on one line, and one that is a block and has just begun: what the set says of it, its records so far, and its marks.
+use Prim.Native.Nat.{ℕ, _+_}
+use mathlib.Core.Bool.{Bool, true, false}
+use mathlib.Core.List.{List, [], _∷_, _++_, append-nil}
+use mathlib.Core.Path.{_≡_, refl, sym, _∙_, ap}
+use native.Mathlib.Omega.{arith}
+use lib.IntN.{ℤ, pos}
+use lib.ListN.{length, set, take, replicate}
+use Rattle.rules.specs.declared.Digits.{Digits}
+use Rattle.rules.specs.Values.{Num, nums}
+use Rattle.rules.specs.Rows.{Rule, blank, partOf, marks}
+use Rattle.rules.specs.Blocks.{blankHeld}
+use Rattle.rules.specs.Figures.{textTable, placedTable, placedTables}
+use Rattle.rules.specs.Sets.{Figure, plain, placed, Set, withRecords, figureSerial}
+use Rattle.rules.specs.Machine.{Home, inElement, inLayer, isLayer, elements, figures, successive, texts, placing}
+use Rattle.rules.specs.RecordTable.{start, putState, putHeld, textRecord}
+use Rattle.entries.specs.Acts.{putLine}
+use Rattle.account.specs.Placing.{Shaped}
+use Rattle.standing.specs.SoFar.{homeOwner, homeVolume, homeMore, soFar}
+use Rattle.standing.specs.Standing.{homeUsed, serialsWith, serialBytes}
+use Rattle.account.specs.FigureLines.{blockKind}
+use Rattle.standing.proofs.FigureRows.{text-begun, placed-begun}
+use Rattle.standing.proofs.MoreRecords.{figures-taken}
+use Rattle.standing.proofs.FigureSights.{plain-serials}
+use Rattle.standing.proofs.RowRecords.{zeros}
+use Rattle.standing.proofs.Standings.{Sight, sight}
+
+-- ── what a begun or a plain figure leaves alone ──
+abbrev sighted : Set → List ℕ → List ℕ → Bool → Sight
+sighted s serials used inside =
+    record { set = sight (elements s) .set; layers = s .drawing .layers; serials = serials; used = used; inside = inside; counts = true }
+
+pub plain-sight : (s : Set) (h : Home) (fs : List Figure) (n j : ℕ) (v : List Num) → sight (figures s h fs) ≡ sight (figures (withRecords 1 s) h (fs ++ plain n j v ∷ []))
+plain-sight s (inElement y) fs n j v = refl
+plain-sight s (inLayer m) fs n j v = ap (λ (u : List ℕ). sighted s u (homeUsed s (inLayer m)) true) (plain-serials s (inLayer m) fs (plain n j v) refl)
+
+pub chain-sight : (s : Set) (h : Home) (fs : List Figure) (n : ℕ) → sight (figures s h fs) ≡ sight (successive (withRecords 1 s) h fs n [])
+chain-sight s (inElement y) fs n = refl
+chain-sight s (inLayer m) fs n = refl
+
+pub text-sight : (s : Set) (h : Home) (fs : List Figure) (n : ℕ) → sight (figures s h fs) ≡ sight (texts (withRecords 1 s) h fs n (blank (textTable (isLayer h) 4 12)))
+text-sight s (inElement y) fs n = refl
+text-sight s (inLayer m) fs n = refl
+
+no-serial : (n : ℕ) → figureSerial (placed n (blankHeld placedTables)) ≡ []
+unfolding placedTable
+no-serial n = refl
+
+pub placed-sight : (s : Set) (m : ℕ) (fs : List Figure) (n : ℕ) → sight (figures s (inLayer m) fs) ≡ sight (placing (withRecords 1 s) m fs n (blankHeld placedTables) 0)
+placed-sight s m fs n =
+    ap (λ (u : List ℕ). sighted s u (homeUsed s (inLayer m)) true)
+    (sym (ap (λ (u : List ℕ). serialsWith s fs ++ u) (no-serial n) ∙ append-nil (serialsWith s fs)))
+
+-- ── the kinds of the figures that are blocks ──
+pub chain-kind : (h : Home) → blockKind (isLayer h) 1 ≡ 14 + homeMore h
+chain-kind (inElement y) = refl
+chain-kind (inLayer m) = refl
+
+pub text-kind : (h : Home) → blockKind (isLayer h) 2 ≡ 15 + homeMore h
+text-kind (inElement y) = refl
+text-kind (inLayer m) = refl
+
+-- ── a figure that is a block, just begun ──
+pub chain-begun : (c : Digits) (s : Set) (h : Home) (fs : List Figure) (n : ℕ)
+    → soFar c (figures s h fs) ++ start (14 + homeMore h) (homeOwner s h) (homeVolume s h) n ∷ [] ≡ soFar c (successive (withRecords 1 s) h fs n [])
+chain-begun c s (inElement y) fs n = refl
+chain-begun c s (inLayer m) fs n = ap (λ (r : List (List ℤ)). r ++ start 14 m (homeVolume s (inLayer m)) n ∷ []) (sym (figures-taken c s 1 (inLayer m) fs))
+
+pub texts-begun : (c : Digits) (s : Set) (h : Home) (fs : List Figure) (n : ℕ)
+    → soFar c (figures s h fs) ++ start (15 + homeMore h) (homeOwner s h) (homeVolume s h) n ∷ [] ≡ soFar c (texts (withRecords 1 s) h fs n (blank (textTable (isLayer h) 4 12)))
+texts-begun c s (inElement y) fs n = ap (λ (r : List ℤ). soFar c (figures s (inElement y) fs) ++ r ∷ []) (sym (text-begun false 20 (homeOwner s (inElement y)) 1 n))
+texts-begun c s (inLayer m) fs n =
+    ap (λ (r : List ℤ). soFar c (figures s (inLayer m) fs) ++ r ∷ []) (sym (text-begun true 0 m (homeVolume s (inLayer m)) n))
+    ∙ ap (λ (r : List (List ℤ)). r ++ textRecord 0 m (homeVolume s (inLayer m)) n (blank (textTable true 4 12)) ∷ []) (sym (figures-taken c s 1 (inLayer m) fs))
+
+pub placed-so-far : (c : Digits) (s : Set) (m : ℕ) (fs : List Figure) (n : ℕ)
+    → soFar c (figures s (inLayer m) fs) ++ start 16 m (homeVolume s (inLayer m)) n ∷ [] ≡ soFar c (placing (withRecords 1 s) m fs n (blankHeld placedTables) 0)
+placed-so-far c s m fs n =
+    ap (λ (r : List ℤ). soFar c (figures s (inLayer m) fs) ++ r ∷ []) (sym (placed-begun m (homeVolume s (inLayer m)) n))
+    ∙ ap (λ (r : List (List ℤ)). r ++ putHeld placedTables (blankHeld placedTables) (start 16 m (homeVolume s (inLayer m)) n) ∷ []) (sym (figures-taken c s 1 (inLayer m) fs))
+
+-- a line that holds nothing leaves its record empty but for its head
+pub empty-line : (r : Rule) → r .state ≡ 0 → putLine r 0 (nums []) zeros ≡ zeros
+empty-line r q = ap (λ (m : ℕ). putState m (pos 2) zeros) q
+
+-- ── marks ──
+pub two-unmarked : (b : Bool) (i : List Bool) → length i ≡ 2 → replicate (length i) false ≡ marks (blank (textTable b 4 12))
+unfolding textTable
+two-unmarked b i q = ap (λ (m : ℕ). replicate m false) q
+
+pub two-slots : (b : Bool) → length (blank (textTable b 4 12)) ≡ 2
+unfolding textTable
+two-slots b = refl
+
+pub unmarked : (ms : List Bool) → length ms ≡ 28 → take 6 (replicate (length ms) false) ≡ marks (partOf (blankHeld placedTables) 0)
+unfolding placedTable
+unmarked ms q = ap (λ (m : ℕ). take 6 (replicate m false)) q
+
+pub blank-shaped : Shaped 0 placedTables (blankHeld placedTables)
+unfolding placedTable textTable
+blank-shaped = (omega arith, refl, (omega arith, refl, tt))
+
+-- `E_symbol:{` is read, the line of its serial number isn't
+pub placed-bytes : (s : Set) (m : ℕ) (fs : List Figure) (n : ℕ) → serialBytes (placing s m fs n (blankHeld placedTables) 0) ≡ 32
+unfolding placedTable
+placed-bytes s m fs n = refl
