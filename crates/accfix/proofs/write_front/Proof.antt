@@ -8,19 +8,15 @@ use Rattle.accfix.proofs.write_front.Reads as reads
 use Rattle.accfix.proofs.write_front.Lts as lts
 use Rattle.io.proofs.write_all.Reads as write-all-reads
 
--- src/main.rt:33:9
 returns : tie.Need-returns
 returns c = search needs
 
--- src/main.rt:35:22
 slice-aggregate-write-all : tie.Need-slice-aggregate-write-all
 slice-aggregate-write-all c = sym (length-take-le _ _ (omega arith))
 
--- src/main.rt:35:5
 write-all-requires : tie.Need-write-all-requires
 write-all-requires c κs = search needs
 
--- src/main.rt:31:1
 returns-2 : tie.Need-returns-2
 returns-2 c = search needs
 

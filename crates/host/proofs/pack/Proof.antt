@@ -6,48 +6,37 @@ use Rattle.host.proofs.pack.Tie as tie
 use Rattle.host.proofs.pack.Reads as reads
 use Rattle.host.proofs.pack.Lts as lts
 
--- src/lib.rt:13:32
 enum-told : tie.Need-enum-told
 enum-told c = search needs
 
--- src/lib.rt:14:25
 enum-known-a : tie.Need-enum-known-a
 enum-known-a c = search needs
 
--- src/lib.rt:14:31
 cast-result : tie.Need-cast-result
 cast-result c = search needs
 
--- src/lib.rt:14:55
 cast-result-2 : tie.Need-cast-result-2
 cast-result-2 c = search needs
 
--- src/lib.rt:14:49
 mul-result : tie.Need-mul-result
 mul-result c = search needs
 
--- src/lib.rt:14:31
 add-result : tie.Need-add-result
 add-result c = search needs
 
--- src/lib.rt:14:81
 cast-result-3 : tie.Need-cast-result-3
 cast-result-3 c = search needs
 
--- src/lib.rt:14:73
 mul-result-2 : tie.Need-mul-result-2
 mul-result-2 c = search needs
 
--- src/lib.rt:14:31
 add-result-2 : tie.Need-add-result-2
 add-result-2 c = search needs
 
--- src/lib.rt:9:1
 returns : tie.Need-returns
 unfolding packed
 returns c = ap packed (sym (c .enum-told .given .1))
 
--- src/lib.rt:9:1
 returns-2 : tie.Need-returns-2
 unfolding packed
 returns-2 c = ap packed (sym (c .before .before .before .before .a .given .1))

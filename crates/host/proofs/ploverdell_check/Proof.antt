@@ -8,19 +8,15 @@ use Rattle.host.proofs.ploverdell_check.Lts as lts
 use Rattle.host.proofs.pack.Reads as pack-reads
 use Rattle.sets.proofs.read.Reads as read-reads
 
--- src/lib.rt:33:27
 slice-aggregate-read : tie.Need-slice-aggregate-read
 slice-aggregate-read c = search needs
 
--- src/lib.rt:33:10
 read-requires : tie.Need-read-requires
 read-requires c κs = search needs
 
--- src/lib.rt:33:5
 pack-requires : tie.Need-pack-requires
 pack-requires c κs = search needs
 
--- src/lib.rt:28:1
 returns : tie.Need-returns
 unfolding checkAnswer
 returns c = c .pack .ensures ∙ ap packed (c .before .before .read .ensures .0)

@@ -9,23 +9,18 @@ use Rattle.host.proofs.count_of.Reads as count-of-reads
 use Rattle.host.proofs.pack.Reads as pack-reads
 use Rattle.sets.proofs.read.Reads as read-reads
 
--- src/lib.rt:41:9
 read-requires : tie.Need-read-requires
 read-requires c κs = search needs
 
--- src/lib.rt:42:14
 count-of-requires : tie.Need-count-of-requires
 count-of-requires c κs = search needs
 
--- src/lib.rt:43:5
 pack-requires : tie.Need-pack-requires
 pack-requires c κs = search needs
 
--- src/lib.rt:37:1
 same-length : tie.Need-same-length
 same-length c = search needs
 
--- src/lib.rt:37:1
 returns : tie.Need-returns
 returns c = (c .pack .ensures ∙ ap packed (c .before .before .before .read .ensures .0), c .before .before .before .read .ensures .1, c .before .count-of .ensures ∙ ap answerCount (c .before .before .before .read .ensures .0))
 

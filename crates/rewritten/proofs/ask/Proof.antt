@@ -8,23 +8,18 @@ use Rattle.rewritten.proofs.ask.Reads as reads
 use Rattle.rewritten.proofs.ask.Lts as lts
 use Rattle.rewritten.proofs.first.Reads as first-reads
 
--- src/main.rt:149:9
 slice-aggregate-out : tie.Need-slice-aggregate-out
 slice-aggregate-out c = search needs
 
--- src/main.rt:151:9
 returns : tie.Need-returns
 returns c = search needs
 
--- src/main.rt:153:18
 slice-aggregate-first : tie.Need-slice-aggregate-first
 slice-aggregate-first c = sym (length-take-le _ _ (omega arith))
 
--- src/main.rt:153:5
 first-requires : tie.Need-first-requires
 first-requires c κs = search needs
 
--- src/main.rt:147:1
 returns-2 : tie.Need-returns-2
 returns-2 c = search needs
 

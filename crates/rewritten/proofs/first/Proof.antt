@@ -9,43 +9,33 @@ use Rattle.rewritten.proofs.first.Lts as lts
 use Rattle.rewritten.proofs.rewrite_again.Reads as rewrite-again-reads
 use Rattle.rewritten.proofs.written_bytes.Reads as written-bytes-reads
 
--- src/main.rt:139:9
 written-bytes-requires : tie.Need-written-bytes-requires
 written-bytes-requires c κs = search needs
 
--- src/main.rt:141:9
 same-length : tie.Need-same-length
 same-length c = search needs
 
--- src/main.rt:141:9
 returns : tie.Need-returns
 returns c = search needs
 
--- src/main.rt:144:9
 same-length-2 : tie.Need-same-length-2
 same-length-2 c = search needs
 
--- src/main.rt:144:9
 returns-2 : tie.Need-returns-2
 returns-2 c = search needs
 
--- src/main.rt:146:19
 slice-reshare-prefix-rewrite-again : tie.Need-slice-reshare-prefix-rewrite-again
 slice-reshare-prefix-rewrite-again c = search needs
 
--- src/main.rt:146:19
 slice-aggregate-rewrite-again : tie.Need-slice-aggregate-rewrite-again
 slice-aggregate-rewrite-again c = sym (length-take-le _ _ (omega arith))
 
--- src/main.rt:146:5
 rewrite-again-requires : tie.Need-rewrite-again-requires
 rewrite-again-requires c κs = search needs
 
--- src/main.rt:138:1
 same-length-3 : tie.Need-same-length-3
 same-length-3 c = search needs
 
--- src/main.rt:138:1
 returns-3 : tie.Need-returns-3
 returns-3 c = search needs
 

@@ -8,35 +8,27 @@ use Rattle.rewritten.proofs.next_spool.Reads as reads
 use Rattle.rewritten.proofs.next_spool.Lts as lts
 use Rattle.io.proofs.read_full.Reads as read-full-reads
 
--- src/main.rt:159:9
 returns : tie.Need-returns
 returns c = search needs
 
--- src/main.rt:161:25
 slice-relend-prefix-read-full : tie.Need-slice-relend-prefix-read-full
 slice-relend-prefix-read-full c = search needs
 
--- src/main.rt:161:25
 slice-aggregate-read-full : tie.Need-slice-aggregate-read-full
 slice-aggregate-read-full c = sym (length-take-le _ _ (omega arith))
 
--- src/main.rt:161:8
 read-full-requires : tie.Need-read-full-requires
 read-full-requires c κs = search needs
 
--- src/main.rt:162:9
 same-length : tie.Need-same-length
 same-length c = search needs
 
--- src/main.rt:162:9
 returns-2 : tie.Need-returns-2
 returns-2 c = search needs
 
--- src/main.rt:157:1
 same-length-2 : tie.Need-same-length-2
 same-length-2 c = search needs
 
--- src/main.rt:157:1
 returns-3 : tie.Need-returns-3
 returns-3 c = search needs
 

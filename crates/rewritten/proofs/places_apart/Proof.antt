@@ -14,67 +14,51 @@ Inv-loop table₀ i₀ table i = (i ≤ 256) × (length table ≡ length table�
 abbrev μ-loop : tie.MeasureT-loop
 μ-loop table₀ i₀ table i = 256 - i
 
--- src/main.rt:59:5
 loop-holds : tie.Need-loop-holds Inv-loop μ-loop
 loop-holds c = search needs
 
--- src/main.rt:60:20
 mul-from : tie.Need-mul-from Inv-loop μ-loop
 mul-from c = search needs
 
--- src/main.rt:61:26
 add-if1 : tie.Need-add-if1 Inv-loop μ-loop
 add-if1 c = search needs
 
--- src/main.rt:62:13
 same-length : tie.Need-same-length Inv-loop μ-loop
 same-length c = search needs
 
--- src/main.rt:62:13
 returns : tie.Need-returns Inv-loop μ-loop
 returns c = search needs
 
--- src/main.rt:64:41
 add-without-places : tie.Need-add-without-places Inv-loop μ-loop
 add-without-places c = search needs
 
--- src/main.rt:64:24
 mul-without-places : tie.Need-mul-without-places Inv-loop μ-loop
 mul-without-places c = search needs
 
--- src/main.rt:64:24
 sub-without-places : tie.Need-sub-without-places Inv-loop μ-loop
 sub-without-places c = search needs
 
--- src/main.rt:64:24
 part-without-places-start : tie.Need-part-without-places-start Inv-loop μ-loop
 part-without-places-start c = search needs
 
--- src/main.rt:64:24
 part-without-places-end : tie.Need-part-without-places-end Inv-loop μ-loop
 part-without-places-end c = search needs
 
--- src/main.rt:64:9
 without-places-requires : tie.Need-without-places-requires Inv-loop μ-loop
 without-places-requires c κs = search needs
 
--- src/main.rt:65:9
 add-i : tie.Need-add-i Inv-loop μ-loop
 add-i c = search needs
 
--- src/main.rt:59:5
 loop-less : tie.Need-loop-less Inv-loop μ-loop
 loop-less c = search needs
 
--- src/main.rt:59:5
 loop-again : tie.Need-loop-again Inv-loop μ-loop
 loop-again c = search needs
 
--- src/main.rt:57:1
 same-length-2 : tie.Need-same-length-2 Inv-loop μ-loop
 same-length-2 c = search needs
 
--- src/main.rt:57:1
 returns-2 : tie.Need-returns-2 Inv-loop μ-loop
 returns-2 c = search needs
 

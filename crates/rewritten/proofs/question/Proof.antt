@@ -11,71 +11,54 @@ use Rattle.rewritten.proofs.ask.Reads as ask-reads
 use Rattle.rewritten.proofs.next_spool.Reads as next-spool-reads
 use Rattle.rewritten.proofs.pair.Reads as pair-reads
 
--- src/main.rt:175:25
 slice-aggregate-read-full : tie.Need-slice-aggregate-read-full
 slice-aggregate-read-full c = search needs
 
--- src/main.rt:175:8
 read-full-requires : tie.Need-read-full-requires
 read-full-requires c κs = search needs
 
--- src/main.rt:176:9
 returns : tie.Need-returns
 returns c = search needs
 
--- src/main.rt:178:31
 array-read-pair : tie.Need-array-read-pair
 array-read-pair c = search needs
 
--- src/main.rt:178:40
 array-read-pair-2 : tie.Need-array-read-pair-2
 array-read-pair-2 c = search needs
 
--- src/main.rt:178:26
 pair-requires : tie.Need-pair-requires
 pair-requires c κs = search needs
 
--- src/main.rt:178:9
 next-spool-requires : tie.Need-next-spool-requires
 next-spool-requires c κs = search needs
 
--- src/main.rt:180:9
 same-length : tie.Need-same-length
 same-length c = search needs
 
--- src/main.rt:180:9
 returns-2 : tie.Need-returns-2
 returns-2 c = search needs
 
--- src/main.rt:182:9
 slice-reshare-prefix-ask : tie.Need-slice-reshare-prefix-ask
 slice-reshare-prefix-ask c = search needs
 
--- src/main.rt:182:9
 slice-aggregate-ask : tie.Need-slice-aggregate-ask
 slice-aggregate-ask c = sym (length-take-le _ _ (omega arith))
 
--- src/main.rt:182:29
 array-read-pair-3 : tie.Need-array-read-pair-3
 array-read-pair-3 c = search needs
 
--- src/main.rt:182:38
 array-read-pair-4 : tie.Need-array-read-pair-4
 array-read-pair-4 c = search needs
 
--- src/main.rt:182:24
 pair-requires-2 : tie.Need-pair-requires-2
 pair-requires-2 c κs = search needs
 
--- src/main.rt:182:5
 ask-requires : tie.Need-ask-requires
 ask-requires c κs = search needs
 
--- src/main.rt:173:1
 same-length-2 : tie.Need-same-length-2
 same-length-2 c = search needs
 
--- src/main.rt:173:1
 returns-3 : tie.Need-returns-3
 returns-3 c = search needs
 

@@ -8,59 +8,45 @@ use Rattle.sets.proofs.read.Reads as read-reads
 use Rattle.shows.proofs.answer_line.Reads as answer-line-reads
 use Rattle.shows.proofs.records.Reads as records-reads
 
--- src/main.rt:91:36
 slice-aggregate-read : tie.Need-slice-aggregate-read
 slice-aggregate-read c = search needs
 
--- src/main.rt:91:9
 read-requires : tie.Need-read-requires
 read-requires c κs = search needs
 
--- src/main.rt:93:26
 enum-known-answer : tie.Need-enum-known-answer
 enum-known-answer c = search needs
 
--- src/main.rt:94:44
 cast-answer-line : tie.Need-cast-answer-line
 cast-answer-line c = search needs
 
--- src/main.rt:94:13
 answer-line-requires : tie.Need-answer-line-requires
 answer-line-requires c κs = search needs
 
--- src/main.rt:95:26
 slice-aggregate-places-apart : tie.Need-slice-aggregate-places-apart
 slice-aggregate-places-apart c = search needs
 
--- src/main.rt:95:13
 places-apart-requires : tie.Need-places-apart-requires
 places-apart-requires c κs = search needs
 
--- src/main.rt:96:28
 cast-records : tie.Need-cast-records
 cast-records c = search needs
 
--- src/main.rt:96:42
 slice-aggregate-records : tie.Need-slice-aggregate-records
 slice-aggregate-records c = search needs
 
--- src/main.rt:96:13
 records-requires : tie.Need-records-requires
 records-requires c κs = search needs
 
--- src/main.rt:98:25
 enum-known-answer-2 : tie.Need-enum-known-answer-2
 enum-known-answer-2 c = search needs
 
--- src/main.rt:98:31
 answer-line-requires-2 : tie.Need-answer-line-requires-2
 answer-line-requires-2 c κs = search needs
 
--- src/main.rt:89:1
 returns : tie.Need-returns
 returns c = search needs
 
--- src/main.rt:89:1
 returns-2 : tie.Need-returns-2
 returns-2 c = search needs
 

@@ -5,15 +5,12 @@ use Rattle.rewritten.proofs.rewrite_again.Reads as reads
 use Rattle.rewritten.proofs.rewrite_again.Lts as lts
 use Rattle.rewritten.proofs.again.Reads as again-reads
 
--- src/main.rt:135:20
 slice-aggregate-again : tie.Need-slice-aggregate-again
 slice-aggregate-again c = search needs
 
--- src/main.rt:135:5
 again-requires : tie.Need-again-requires
 again-requires c κs = search needs
 
--- src/main.rt:133:1
 returns : tie.Need-returns
 returns c = search needs
 

@@ -14,51 +14,39 @@ Inv-loop rec₀ i₀ rec i = (i ≤ length rec₀) × (length rec ≡ length rec
 abbrev μ-loop : tie.MeasureT-loop
 μ-loop rec₀ i₀ rec i = length rec₀ - i
 
--- src/main.rt:55:5
 loop-holds : tie.Need-loop-holds Inv-loop μ-loop
 loop-holds c = search needs
 
--- src/main.rt:56:24
 slice-copy-out-apart : tie.Need-slice-copy-out-apart Inv-loop μ-loop
 slice-copy-out-apart c = search needs
 
--- src/main.rt:56:35
 mul-apart : tie.Need-mul-apart Inv-loop μ-loop
 mul-apart c = search needs
 
--- src/main.rt:56:35
 slice-copy-out-apart-2 : tie.Need-slice-copy-out-apart-2 Inv-loop μ-loop
 slice-copy-out-apart-2 c = search needs
 
--- src/main.rt:56:18
 apart-requires : tie.Need-apart-requires Inv-loop μ-loop
 apart-requires c κs = search needs
 
--- src/main.rt:56:9
 mul-t10 : tie.Need-mul-t10 Inv-loop μ-loop
 mul-t10 c = search needs
 
--- src/main.rt:56:9
 slice-set-from-rec : tie.Need-slice-set-from-rec Inv-loop μ-loop
 slice-set-from-rec c = search needs
 
--- src/main.rt:57:9
 add-i : tie.Need-add-i Inv-loop μ-loop
 add-i c = search needs
 
--- src/main.rt:55:5
 loop-less : tie.Need-loop-less Inv-loop μ-loop
 loop-less c = search needs
 
--- src/main.rt:55:5
 loop-again : tie.Need-loop-again Inv-loop μ-loop
 loop-again c = search needs
 
--- src/main.rt:53:1
 same-length : tie.Need-same-length Inv-loop μ-loop
 same-length c = search needs
 
--- src/main.rt:53:1
 returns : tie.Need-returns Inv-loop μ-loop
 returns c = search needs
 

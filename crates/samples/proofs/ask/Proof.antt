@@ -8,31 +8,24 @@ use Rattle.samples.proofs.ask.Reads as reads
 use Rattle.samples.proofs.ask.Lts as lts
 use Rattle.samples.proofs.answer.Reads as answer-reads
 
--- src/main.rt:118:9
 returns : tie.Need-returns
 returns c = search needs
 
--- src/main.rt:121:9
 slice-aggregate-table : tie.Need-slice-aggregate-table
 slice-aggregate-table c = search needs
 
--- src/main.rt:122:19
 mul-numbers : tie.Need-mul-numbers
 mul-numbers c = search needs
 
--- src/main.rt:124:9
 returns-2 : tie.Need-returns-2
 returns-2 c = search needs
 
--- src/main.rt:126:31
 slice-aggregate-answer : tie.Need-slice-aggregate-answer
 slice-aggregate-answer c = sym (length-take-le _ _ (omega arith))
 
--- src/main.rt:126:5
 answer-requires : tie.Need-answer-requires
 answer-requires c κs = search needs
 
--- src/main.rt:116:1
 returns-3 : tie.Need-returns-3
 returns-3 c = search needs
 

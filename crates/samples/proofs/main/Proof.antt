@@ -14,35 +14,27 @@ Inv-loop spool₀ len₀ asked₀ spool len asked = (asked ≤ 65536) × (61441 
 abbrev μ-loop : tie.MeasureT-loop
 μ-loop spool₀ len₀ asked₀ spool len asked = 65536 - asked
 
--- src/main.rt:157:5
 loop-holds : tie.Need-loop-holds Inv-loop μ-loop
 loop-holds c = search needs
 
--- src/main.rt:158:29
 slice-aggregate-question : tie.Need-slice-aggregate-question Inv-loop μ-loop
 slice-aggregate-question c = search needs
 
--- src/main.rt:158:9
 question-requires : tie.Need-question-requires Inv-loop μ-loop
 question-requires c κs = search needs
 
--- src/main.rt:160:13
 returns : tie.Need-returns Inv-loop μ-loop
 returns c = search needs
 
--- src/main.rt:162:9
 add-asked : tie.Need-add-asked Inv-loop μ-loop
 add-asked c = search needs
 
--- src/main.rt:157:5
 loop-less : tie.Need-loop-less Inv-loop μ-loop
 loop-less c = search needs
 
--- src/main.rt:157:5
 loop-again : tie.Need-loop-again Inv-loop μ-loop
 loop-again c = search needs
 
--- src/main.rt:153:1
 returns-2 : tie.Need-returns-2 Inv-loop μ-loop
 returns-2 c = search needs
 

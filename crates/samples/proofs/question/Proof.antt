@@ -11,75 +11,57 @@ use Rattle.samples.proofs.ask.Reads as ask-reads
 use Rattle.samples.proofs.next_spool.Reads as next-spool-reads
 use Rattle.samples.proofs.pair.Reads as pair-reads
 
--- src/main.rt:146:25
 slice-aggregate-read-full : tie.Need-slice-aggregate-read-full
 slice-aggregate-read-full c = search needs
 
--- src/main.rt:146:8
 read-full-requires : tie.Need-read-full-requires
 read-full-requires c κs = search needs
 
--- src/main.rt:147:9
 returns : tie.Need-returns
 returns c = search needs
 
--- src/main.rt:149:31
 array-read-pair : tie.Need-array-read-pair
 array-read-pair c = search needs
 
--- src/main.rt:149:40
 array-read-pair-2 : tie.Need-array-read-pair-2
 array-read-pair-2 c = search needs
 
--- src/main.rt:149:26
 pair-requires : tie.Need-pair-requires
 pair-requires c κs = search needs
 
--- src/main.rt:149:9
 next-spool-requires : tie.Need-next-spool-requires
 next-spool-requires c κs = search needs
 
--- src/main.rt:151:9
 same-length : tie.Need-same-length
 same-length c = search needs
 
--- src/main.rt:151:9
 returns-2 : tie.Need-returns-2
 returns-2 c = search needs
 
--- src/main.rt:153:9
 slice-reshare-prefix-ask : tie.Need-slice-reshare-prefix-ask
 slice-reshare-prefix-ask c = search needs
 
--- src/main.rt:153:9
 slice-aggregate-ask : tie.Need-slice-aggregate-ask
 slice-aggregate-ask c = sym (length-take-le _ _ (omega arith))
 
--- src/main.rt:153:24
 array-read-ask : tie.Need-array-read-ask
 array-read-ask c = search needs
 
--- src/main.rt:153:38
 array-read-pair-3 : tie.Need-array-read-pair-3
 array-read-pair-3 c = search needs
 
--- src/main.rt:153:47
 array-read-pair-4 : tie.Need-array-read-pair-4
 array-read-pair-4 c = search needs
 
--- src/main.rt:153:33
 pair-requires-2 : tie.Need-pair-requires-2
 pair-requires-2 c κs = search needs
 
--- src/main.rt:153:5
 ask-requires : tie.Need-ask-requires
 ask-requires c κs = search needs
 
--- src/main.rt:144:1
 same-length-2 : tie.Need-same-length-2
 same-length-2 c = search needs
 
--- src/main.rt:144:1
 returns-3 : tie.Need-returns-3
 returns-3 c = search needs
 

@@ -11,47 +11,36 @@ use Rattle.shows.proofs.signed.Lts as lts
 use Rattle.shows.proofs.show.Reads as show-reads
 use Rattle.io.proofs.write_all.Reads as write-all-reads
 
--- src/main.rt:25:26
 slice-aggregate-write-all : tie.Need-slice-aggregate-write-all
 slice-aggregate-write-all c = search needs
 
--- src/main.rt:25:9
 write-all-requires : tie.Need-write-all-requires
 write-all-requires c κs = search needs
 
--- src/main.rt:26:20
 add-show : tie.Need-add-show
 add-show c = let z = c .before .before .before .args .z in let f : SFits w64 z = c .before .before .before .fits .z in more-fits z f (below z f (rw (toZ-ofZ f) at (c .before .before .if1 .taken)))
 
--- src/main.rt:26:15
 sub-show : tie.Need-sub-show
 sub-show c = let z = c .before .before .before .args .z in let f : SFits w64 z = c .before .before .before .fits .z in turned-fits z f (below z f (rw (toZ-ofZ f) at (c .before .before .if1 .taken)))
 
--- src/main.rt:26:14
 cast-show : tie.Need-cast-show
 cast-show c = let z = c .before .before .before .args .z in let f : SFits w64 z = c .before .before .before .fits .z in let b = below z f (rw (toZ-ofZ f) at (c .before .before .if1 .taken)) in rw (turned-back z f b) (tt, record { fits = omega (arith, b .small) })
 
--- src/main.rt:26:14
 add-show-2 : tie.Need-add-show-2
 add-show-2 c = let z = c .before .before .before .args .z in let f : SFits w64 z = c .before .before .before .fits .z in let b = below z f (rw (toZ-ofZ f) at (c .before .before .if1 .taken)) in rw (turned-back z f b) (record { fits = omega (arith, b .small) })
 
--- src/main.rt:26:9
 show-requires : tie.Need-show-requires
 show-requires c κs = search needs
 
--- src/main.rt:27:9
 returns : tie.Need-returns
 returns c = search needs
 
--- src/main.rt:29:10
 cast-show-2 : tie.Need-cast-show-2
 cast-show-2 c = let z = c .before .args .z in let f : SFits w64 z = c .before .fits .z in let b = not-below z f (rw (toZ-ofZ f) at (c .if1 .left)) in rw (not-below-back z f b) (tt, record { fits = omega (arith, b .small) })
 
--- src/main.rt:29:5
 show-requires-2 : tie.Need-show-requires-2
 show-requires-2 c κs = search needs
 
--- src/main.rt:23:1
 returns-2 : tie.Need-returns-2
 returns-2 c = search needs
 

@@ -12,64 +12,49 @@ use Rattle.lines.proofs.forms.look.Reads as look-reads
 use Rattle.worked.proofs.show_next.Reads as show-next-reads
 use Rattle.worked.proofs.show_text.Reads as show-text-reads
 
--- src/main.rt:400:30
 cast-look : tie.Need-cast-look
 cast-look c = search needs
 
--- src/main.rt:400:9
 look-requires : tie.Need-look-requires
 look-requires c κs = search needs
 
--- src/main.rt:401:20
 enum-known-seen : tie.Need-enum-known-seen
 enum-known-seen c = search needs
 
--- src/main.rt:402:9
 enum-told : tie.Need-enum-told
 enum-told c = search needs
 
--- src/main.rt:402:9
 returns : tie.Need-returns
 returns c = search needs
 
--- src/main.rt:404:5
 show-text-requires : tie.Need-show-text-requires
 show-text-requires c κs = search needs
 
--- src/main.rt:413:9
 array-share-prefix-symbols : tie.Need-array-share-prefix-symbols
 array-share-prefix-symbols c = search needs
 
--- src/main.rt:413:9
 slice-aggregate-act : tie.Need-slice-aggregate-act
 slice-aggregate-act c = search needs
 
--- src/main.rt:414:9
 array-share-prefix-layers : tie.Need-array-share-prefix-layers
 array-share-prefix-layers c = search needs
 
--- src/main.rt:414:9
 slice-aggregate-act-2 : tie.Need-slice-aggregate-act-2
 slice-aggregate-act-2 c = search needs
 
--- src/main.rt:416:9
 slice-aggregate-act-3 : tie.Need-slice-aggregate-act-3
 slice-aggregate-act-3 c = search needs
 
--- src/main.rt:419:9
 slice-aggregate-act-4 : tie.Need-slice-aggregate-act-4
 slice-aggregate-act-4 c = search needs
 
--- src/main.rt:410:9
 act-requires : tie.Need-act-requires
 unfolding tableOf textTable
 act-requires c κs = (c .before .before .before .before .before .before .before .before .before .before .before .pre, omega arith, omega arith, refl, refl)
 
--- src/main.rt:421:5
 show-next-requires : tie.Need-show-next-requires
 show-next-requires c κs = search needs
 
--- src/main.rt:397:1
 returns-2 : tie.Need-returns-2
 returns-2 c = search needs
 

@@ -15,59 +15,45 @@ use Rattle.entries.proofs.acts.act.Reads as act-reads
 use Rattle.drawing.proofs.blocks.has_room.Reads as has-room-reads
 use Rattle.drawing.proofs.blocks.no_room.Reads as no-room-reads
 
--- src/blocks.rt:78:9
 has-room-requires : tie.Need-has-room-requires
 has-room-requires c κs = search needs
 
--- src/blocks.rt:80:69
 slice-aggregate-act : tie.Need-slice-aggregate-act
 slice-aggregate-act c = search needs
 
--- src/blocks.rt:80:13
 act-requires : tie.Need-act-requires
 act-requires c κs = search needs
 
--- src/blocks.rt:81:9
 no-room-requires : tie.Need-no-room-requires
 no-room-requires c κs = search needs
 
--- src/blocks.rt:81:9
 same-length : tie.Need-same-length
 same-length c = search needs
 
--- src/blocks.rt:81:9
 returns : tie.Need-returns
 returns c = roomless-acts (ruleAt (tableOf (c .before .before .before .before .before .before .before .before .before .before .before .args .table))) (c .before .before .before .before .before .before .before .before .before .before .before .args .w) (c .before .before .before .before .before .before .before .before .before .before .before .args .t .now) _ _ _ _ _ (sym (c .before .before .before .before .before .has-room .ensures) ∙ not-true _ (c .before .before .before .before .if1 .taken)) (c .before .before .act .ensures) (c .no-room .ensures)
 
--- src/blocks.rt:83:14
 add-to : tie.Need-add-to
 add-to c = omega (arith, leb-true (c .before .before .before .before .before .before .before .args .w + 32) (length (c .before .before .before .before .before .before .before .args .t .now)) (sym (c .before .has-room .ensures) ∙ not-false _ (c .if1 .left)))
 
--- src/blocks.rt:84:54
 mul-act : tie.Need-mul-act
 mul-act c = omega (arith, leb-true (c .before .before .before .before .before .before .before .args .w + 32) (length (c .before .before .before .before .before .before .before .args .t .now)) (sym (c .before .has-room .ensures) ∙ not-false _ (c .if1 .left)))
 
--- src/blocks.rt:84:54
 sub-act : tie.Need-sub-act
 sub-act c = search needs
 
--- src/blocks.rt:84:54
 part-act-start : tie.Need-part-act-start
 part-act-start c = search needs
 
--- src/blocks.rt:84:54
 part-act-end : tie.Need-part-act-end
 part-act-end c = leb-true (c .before .before .before .before .before .before .before .args .w + 32) (length (c .before .before .before .before .before .before .before .args .t .now)) (sym (c .before .has-room .ensures) ∙ not-false _ (c .if1 .left))
 
--- src/blocks.rt:84:5
 act-requires-2 : tie.Need-act-requires-2
 act-requires-2 c κs = (c .before .before .before .before .before .before .before .before .pre .0, c .before .before .before .before .before .before .before .before .pre .1, c .before .before .before .before .before .before .before .before .pre .2, c .before .before .before .before .before .before .before .before .pre .3, lent-room (c .before .before .before .before .before .before .before .before .args .w) ((c .before .before .before .before .before .before .before .before .args .w + 32) - c .before .before .before .before .before .before .before .before .args .w) (c .before .before .before .before .before .before .before .before .args .t .now) (tableOf (c .before .before .before .before .before .before .before .before .args .table)) (omega arith) (leb-true (c .before .before .before .before .before .before .before .before .args .w + 32) (length (c .before .before .before .before .before .before .before .before .args .t .now)) (sym (c .before .before .has-room .ensures) ∙ not-false _ (c .before .if1 .left))) (c .before .before .before .before .before .before .before .before .pre .4))
 
--- src/blocks.rt:64:1
 same-length-2 : tie.Need-same-length-2
 same-length-2 c = search needs
 
--- src/blocks.rt:64:1
 returns-2 : tie.Need-returns-2
 returns-2 c = lent-acts (ruleAt (tableOf (c .before .before .before .before .before .before .before .before .before .before .args .table))) (c .before .before .before .before .before .before .before .before .before .before .args .w) ((c .before .before .before .before .before .before .before .before .before .before .args .w + 32) - c .before .before .before .before .before .before .before .before .before .before .args .w) (c .before .before .before .before .before .before .before .before .before .before .args .t .now) _ _ _ (sym (c .before .before .before .before .has-room .ensures) ∙ not-false _ (c .before .before .before .if1 .left)) (omega arith) (c .before .act2 .ensures)
 

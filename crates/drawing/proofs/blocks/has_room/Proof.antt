@@ -10,15 +10,12 @@ use Rattle.drawing.proofs.blocks.has_room.Tie as tie
 use Rattle.drawing.proofs.blocks.has_room.Reads as reads
 use Rattle.drawing.proofs.blocks.has_room.Lts as lts
 
--- src/blocks.rt:45:9
 returns : tie.Need-returns
 returns c = sym (lt-leb (c .before .args .w + 32) (length (c .before .args .t .now)) (omega (arith, c .if1 .taken)))
 
--- src/blocks.rt:47:11
 sub-result : tie.Need-sub-result
 sub-result c = search needs
 
--- src/blocks.rt:41:1
 returns-2 : tie.Need-returns-2
 returns-2 c = room-left (c .before .args .w) (length (c .before .args .t .now)) (c .if1 .left)
 

@@ -6,43 +6,33 @@ use Rattle.drawing.proofs.blocks.no_room.Tie as tie
 use Rattle.drawing.proofs.blocks.no_room.Reads as reads
 use Rattle.drawing.proofs.blocks.no_room.Lts as lts
 
--- src/blocks.rt:55:23
 enum-told : tie.Need-enum-told
 enum-told c = search needs
 
--- src/blocks.rt:56:27
 enum-told-2 : tie.Need-enum-told-2
 enum-told-2 c = search needs
 
--- src/blocks.rt:57:27
 enum-told-3 : tie.Need-enum-told-3
 enum-told-3 c = search needs
 
--- src/blocks.rt:58:23
 enum-told-4 : tie.Need-enum-told-4
 enum-told-4 c = search needs
 
--- src/blocks.rt:59:22
 enum-known-next : tie.Need-enum-known-next
 enum-known-next c = search needs
 
--- src/blocks.rt:51:1
 returns : tie.Need-returns
 returns c = search needs
 
--- src/blocks.rt:51:1
 returns-2 : tie.Need-returns-2
 returns-2 c = search needs
 
--- src/blocks.rt:51:1
 returns-3 : tie.Need-returns-3
 returns-3 c = search needs
 
--- src/blocks.rt:51:1
 returns-4 : tie.Need-returns-4
 returns-4 c = search needs
 
--- src/blocks.rt:51:1
 returns-5 : tie.Need-returns-5
 returns-5 c = sym (ap roomlessNext (c .before .next .given .1))
 

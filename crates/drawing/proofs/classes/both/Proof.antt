@@ -8,15 +8,12 @@ use Rattle.drawing.proofs.classes.both.Reads as reads
 use Rattle.drawing.proofs.classes.both.Lts as lts
 use Rattle.drawing.proofs.classes.less.Reads as less-reads
 
--- src/classes.rt:62:17
 less-requires : tie.Need-less-requires
 less-requires c κs = search needs
 
--- src/classes.rt:63:15
 less-requires-2 : tie.Need-less-requires-2
 less-requires-2 c κs = search needs
 
--- src/classes.rt:58:1
 returns : tie.Need-returns
 returns c = rw (c .before .less .ensures, c .less2 .ensures)
 

@@ -9,35 +9,27 @@ use Rattle.drawing.proofs.classes.class_of.Reads as reads
 use Rattle.drawing.proofs.classes.class_of.Lts as lts
 use Rattle.leaves.proofs.bytes.within.Reads as within-reads
 
--- src/classes.rt:13:8
 within-requires : tie.Need-within-requires
 within-requires c κs = search needs
 
--- src/classes.rt:16:19
 cast-t3 : tie.Need-cast-t3
 cast-t3 c = omega (arith, within-is 1 5 (c .before .before .args .n) (sym (c .before .within .ensures) ∙ c .if1 .taken) .1)
 
--- src/classes.rt:14:9
 returns : tie.Need-returns
 returns c = sym (class-low (c .before .before .args .n) (sym (c .before .within .ensures) ∙ c .if1 .taken))
 
--- src/classes.rt:19:8
 within-requires-2 : tie.Need-within-requires-2
 within-requires-2 c κs = search needs
 
--- src/classes.rt:22:20
 sub-t6 : tie.Need-sub-t6
 sub-t6 c = omega (arith, within-is 11 15 (c .before .before .before .before .args .n) (sym (c .before .within2 .ensures) ∙ c .if2 .taken) .0)
 
--- src/classes.rt:22:19
 cast-t7 : tie.Need-cast-t7
 cast-t7 c = omega (arith, within-is 11 15 (c .before .before .before .before .args .n) (sym (c .before .within2 .ensures) ∙ c .if2 .taken) .1)
 
--- src/classes.rt:20:9
 returns-2 : tie.Need-returns-2
 returns-2 c = sym (class-high (c .before .before .before .before .args .n) (sym (c .before .before .before .within .ensures) ∙ c .before .before .if1 .left) (sym (c .before .within2 .ensures) ∙ c .if2 .taken))
 
--- src/classes.rt:10:1
 returns-3 : tie.Need-returns-3
 returns-3 c = sym (class-none (c .before .before .before .before .args .n) (sym (c .before .before .before .within .ensures) ∙ c .before .before .if1 .left) (sym (c .before .within2 .ensures) ∙ c .if2 .left))
 

@@ -6,11 +6,9 @@ use Rattle.drawing.proofs.classes.exceeds.Tie as tie
 use Rattle.drawing.proofs.classes.exceeds.Reads as reads
 use Rattle.drawing.proofs.classes.exceeds.Lts as lts
 
--- src/classes.rt:43:9
 returns : tie.Need-returns
 returns c = sym (rw (lt-ltb _ _ (c .if1 .taken)))
 
--- src/classes.rt:39:1
 returns-2 : tie.Need-returns-2
 returns-2 c = sym (rw (le-ltb _ _ (c .before .before .if1 .left)))
 

@@ -8,19 +8,15 @@ use Rattle.drawing.proofs.classes.hides.Reads as reads
 use Rattle.drawing.proofs.classes.hides.Lts as lts
 use Rattle.drawing.proofs.classes.reaches.Reads as reaches-reads
 
--- src/classes.rt:71:9
 reaches-requires : tie.Need-reaches-requires
 reaches-requires c κs = search needs
 
--- src/classes.rt:72:9
 returns : tie.Need-returns
 returns c = sym (rw (sym (c .before .reaches .ensures) ∙ not-true _ (c .if1 .taken)))
 
--- src/classes.rt:74:6
 reaches-requires-2 : tie.Need-reaches-requires-2
 reaches-requires-2 c κs = search needs
 
--- src/classes.rt:68:1
 returns-2 : tie.Need-returns-2
 returns-2 c = sym (rw (sym (c .before .before .reaches .ensures) ∙ not-false _ (c .before .if1 .left), sym (c .reaches2 .ensures)))
 

@@ -6,11 +6,9 @@ use Rattle.drawing.proofs.classes.reaches.Tie as tie
 use Rattle.drawing.proofs.classes.reaches.Reads as reads
 use Rattle.drawing.proofs.classes.reaches.Lts as lts
 
--- src/classes.rt:33:9
 returns : tie.Need-returns
 returns c = sym (rw (lt-leb _ _ (c .if1 .taken)))
 
--- src/classes.rt:29:1
 returns-2 : tie.Need-returns-2
 returns-2 c = sym (rw (le-leb _ _ (c .before .before .if1 .left)))
 

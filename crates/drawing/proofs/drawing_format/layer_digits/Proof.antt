@@ -11,35 +11,27 @@ use Rattle.drawing.proofs.drawing_format.layer_digits.Reads as reads
 use Rattle.drawing.proofs.drawing_format.layer_digits.Lts as lts
 use Rattle.leaves.proofs.numbers.fixed.Reads as fixed-reads
 
--- src/drawing_format.rt:118:22
 sub-fixed : tie.Need-sub-fixed
 sub-fixed c = omega (arith, id-parts (c .before .args .id .now) (c .before .pre) .0)
 
--- src/drawing_format.rt:118:22
 part-fixed-start : tie.Need-part-fixed-start
 part-fixed-start c = omega (arith, id-parts (c .before .args .id .now) (c .before .pre) .0)
 
--- src/drawing_format.rt:118:22
 part-fixed-end : tie.Need-part-fixed-end
 part-fixed-end c = search needs
 
--- src/drawing_format.rt:118:9
 fixed-requires : tie.Need-fixed-requires
 fixed-requires c κs = search needs
 
--- src/drawing_format.rt:120:19
 enum-known-read : tie.Need-enum-known-read
 enum-known-read c = search needs
 
--- src/drawing_format.rt:121:23
 enum-told : tie.Need-enum-told
 enum-told c = search needs
 
--- src/drawing_format.rt:114:1
 returns : tie.Need-returns
 returns c = digits-are (c .before .before .before .before .before .before .args .id .now) _ (c .before .before .before .before .before .before .pre) (take-all (length (c .before .before .before .before .before .before .args .id .now) - 2) (drop 2 (c .before .before .before .before .before .before .args .id .now)) (le-of-eq (length-drop 2 (c .before .before .before .before .before .before .args .id .now)))) (c .before .before .before .fixed .result) (c .before .before .before .fixed .ensures) _ (c .before .read .given .1)
 
--- src/drawing_format.rt:114:1
 returns-2 : tie.Need-returns-2
 returns-2 c = digits-not (c .before .before .before .before .before .args .id .now) _ (c .before .before .before .before .before .pre) (take-all (length (c .before .before .before .before .before .args .id .now) - 2) (drop 2 (c .before .before .before .before .before .args .id .now)) (le-of-eq (length-drop 2 (c .before .before .before .before .before .args .id .now)))) (c .before .before .fixed .result) (c .before .before .fixed .ensures) (c .enum-told .given .1)
 

@@ -21,95 +21,72 @@ use Rattle.leaves.proofs.bytes.is_layer_id.Reads as is-layer-id-reads
 use Rattle.drawing.proofs.drawing_format.layer_name.Reads as layer-name-reads
 use Rattle.drawing.proofs.drawing_format.take_layer.Reads as take-layer-reads
 
--- src/drawing_format.rt:192:21
 part-requires : tie.Need-part-requires
 part-requires c κs = search needs
 
--- src/drawing_format.rt:192:9
 is-layer-id-requires : tie.Need-is-layer-id-requires
 is-layer-id-requires c κs = search needs
 
--- src/drawing_format.rt:193:9
 returns : tie.Need-returns
 returns c = layer-misspelt (c .before .before .before .before .before .before .args .s .now) (c .before .before .before .before .before .before .args .here) (c .before .before .before .before .before .before .args .at) (bytesAt (c .before .before .before .before .before .before .args .s .now) (c .before .before .before .before .before .before .args .key)) (restIn (c .before .before .before .before .before .before .args .s .now) (c .before .before .before .before .before .before .args .rest)) (c .before .before .before .before .before .before .args .tally .now) (c .before .before .before .before .before .before .args .layers .now) (c .before .before .before .before .before .before .args .t .now) _ _ _ (ap isLayerId (sym (c .before .before .part .ensures)) ∙ sym (c .before .is-layer-id .ensures) ∙ not-true _ (c .if1 .taken))
 
--- src/drawing_format.rt:195:9
 layer-name-requires : tie.Need-layer-name-requires
 layer-name-requires c κs = search needs
 
--- src/drawing_format.rt:197:24
 enum-known-read : tie.Need-enum-known-read
 enum-known-read c = search needs
 
--- src/drawing_format.rt:198:23
 enum-known-read-2 : tie.Need-enum-known-read-2
 enum-known-read-2 c = search needs
 
--- src/drawing_format.rt:199:25
 slice-read-count : tie.Need-slice-read-count
 slice-read-count c = search needs
 
--- src/drawing_format.rt:199:25
 cast-count : tie.Need-cast-count
 cast-count c = record { fits = omega (arith, c .before .before .before .before .before .before .before .before .before .before .before .pre .3) }
 
--- src/drawing_format.rt:201:17
 returns-2 : tie.Need-returns-2
 returns-2 c = layer-excess (c .before .before .before .before .before .before .before .before .before .before .before .before .args .s .now) (c .before .before .before .before .before .before .before .before .before .before .before .before .args .here) (c .before .before .before .before .before .before .before .before .before .before .before .before .args .at) (bytesAt (c .before .before .before .before .before .before .before .before .before .before .before .before .args .s .now) (c .before .before .before .before .before .before .before .before .before .before .before .before .args .key)) (restIn (c .before .before .before .before .before .before .before .before .before .before .before .before .args .s .now) (c .before .before .before .before .before .before .before .before .before .before .before .before .args .rest)) (c .before .before .before .before .before .before .before .before .before .before .before .before .args .tally .now) (c .before .before .before .before .before .before .before .before .before .before .before .before .args .layers .now) (c .before .before .before .before .before .before .before .before .before .before .before .before .args .t .now) (ap isLayerId (sym (c .before .before .before .before .before .before .before .before .part .ensures)) ∙ sym (c .before .before .before .before .before .before .before .is-layer-id .ensures) ∙ not-false _ (c .before .before .before .before .before .before .if1 .left)) _ (sym (c .before .before .before .read2 .given .1) ∙ c .before .before .before .before .before .layer-name .ensures) _ _ _ (c .if2 .taken)
 
--- src/drawing_format.rt:203:37
 slice-reshare-prefix-index-of : tie.Need-slice-reshare-prefix-index-of
 slice-reshare-prefix-index-of c = search needs
 
--- src/drawing_format.rt:203:37
 slice-aggregate-index-of : tie.Need-slice-aggregate-index-of
 slice-aggregate-index-of c = omega (arith, length-take (layersOf (c .before .before .before .before .before .before .before .before .before .before .before .before .before .args .tally .now)) (c .before .before .before .before .before .before .before .before .before .before .before .before .before .args .layers .now), c .before .before .before .before .before .before .before .before .before .before .before .before .before .pre .2, c .before .before .before .before .before .before .before .before .before .before .before .before .before .pre .3)
 
--- src/drawing_format.rt:203:55
 part-requires-2 : tie.Need-part-requires-2
 part-requires-2 c κs = search needs
 
--- src/drawing_format.rt:203:17
 index-of-requires : tie.Need-index-of-requires
 index-of-requires c κs = omega (arith, length-take (layersOf (c .before .before .before .before .before .before .before .before .before .before .before .before .before .before .args .tally .now)) (c .before .before .before .before .before .before .before .before .before .before .before .before .before .before .args .layers .now), c .before .before .before .before .before .before .before .before .before .before .before .before .before .before .pre .2, c .before .before .before .before .before .before .before .before .before .before .before .before .before .before .pre .3)
 
--- src/drawing_format.rt:205:33
 enum-told : tie.Need-enum-told
 enum-told c = search needs
 
--- src/drawing_format.rt:206:46
 enum-told-2 : tie.Need-enum-told-2
 enum-told-2 c = search needs
 
--- src/drawing_format.rt:206:32
 take-layer-requires : tie.Need-take-layer-requires
 take-layer-requires c κs = (c .before .before .before .before .before .before .before .before .before .before .before .before .before .before .before .before .before .before .before .before .pre .0, c .before .before .before .before .before .before .before .before .before .before .before .before .before .before .before .before .before .before .before .before .pre .1, c .before .before .before .before .before .before .before .before .before .before .before .before .before .before .before .before .before .before .before .before .pre .2, c .before .before .before .before .before .before .before .before .if2 .left, (ap isLayerId (sym (c .before .before .before .before .before .before .before .before .before .before .before .before .before .before .before .before .part .ensures)) ∙ sym (c .before .before .before .before .before .before .before .before .before .before .before .before .before .before .before .is-layer-id .ensures) ∙ not-false _ (c .before .before .before .before .before .before .before .before .before .before .before .before .before .before .if1 .left)))
 
--- src/drawing_format.rt:179:1
 returns-3 : tie.Need-returns-3
 returns-3 c = layer-unnamed (c .before .before .before .before .before .before .before .before .before .before .args .s .now) (c .before .before .before .before .before .before .before .before .before .before .args .here) (c .before .before .before .before .before .before .before .before .before .before .args .at) (bytesAt (c .before .before .before .before .before .before .before .before .before .before .args .s .now) (c .before .before .before .before .before .before .before .before .before .before .args .key)) (restIn (c .before .before .before .before .before .before .before .before .before .before .args .s .now) (c .before .before .before .before .before .before .before .before .before .before .args .rest)) (c .before .before .before .before .before .before .before .before .before .before .args .tally .now) (c .before .before .before .before .before .before .before .before .before .before .args .layers .now) (c .before .before .before .before .before .before .before .before .before .before .args .t .now) _ _ _ _ (ap isLayerId (sym (c .before .before .before .before .before .before .part .ensures)) ∙ sym (c .before .before .before .before .before .is-layer-id .ensures) ∙ not-false _ (c .before .before .before .before .if1 .left)) (sym (c .before .read .given .1) ∙ c .before .before .before .layer-name .ensures)
 
--- src/drawing_format.rt:179:1
 same-length : tie.Need-same-length
 same-length c = search needs
 
--- src/drawing_format.rt:179:1
 returns-4 : tie.Need-returns-4
 returns-4 c = layer-twice (c .before .before .before .before .before .before .before .before .before .before .before .before .before .before .before .before .before .args .s .now) (c .before .before .before .before .before .before .before .before .before .before .before .before .before .before .before .before .before .args .here) (c .before .before .before .before .before .before .before .before .before .before .before .before .before .before .before .before .before .args .at) (bytesAt (c .before .before .before .before .before .before .before .before .before .before .before .before .before .before .before .before .before .args .s .now) (c .before .before .before .before .before .before .before .before .before .before .before .before .before .before .before .before .before .args .key)) (restIn (c .before .before .before .before .before .before .before .before .before .before .before .before .before .before .before .before .before .args .s .now) (c .before .before .before .before .before .before .before .before .before .before .before .before .before .before .before .before .before .args .rest)) (c .before .before .before .before .before .before .before .before .before .before .before .before .before .before .before .before .before .args .tally .now) (c .before .before .before .before .before .before .before .before .before .before .before .before .before .before .before .before .before .args .layers .now) (c .before .before .before .before .before .before .before .before .before .before .before .before .before .before .before .before .before .args .t .now) (ap isLayerId (sym (c .before .before .before .before .before .before .before .before .before .before .before .before .before .part .ensures)) ∙ sym (c .before .before .before .before .before .before .before .before .before .before .before .before .is-layer-id .ensures) ∙ not-false _ (c .before .before .before .before .before .before .before .before .before .before .before .if1 .left)) _ (sym (c .before .before .before .before .before .before .before .before .read2 .given .1) ∙ c .before .before .before .before .before .before .before .before .before .before .layer-name .ensures) _ _ _ (c .before .before .before .before .before .if2 .left) (index-among (bytesAt (c .before .before .before .before .before .before .before .before .before .before .before .before .before .before .before .before .before .args .s .now) (c .before .before .before .before .before .before .before .before .before .before .before .before .before .before .before .before .before .args .key)) _ 0 _ (ap (λ (k : List ℕ). indexFrom 0 k (namesIn (c .before .before .before .before .before .before .before .before .before .before .before .before .before .before .before .before .before .args .s .now) (take (layersOf (c .before .before .before .before .before .before .before .before .before .before .before .before .before .before .before .before .before .args .tally .now)) (c .before .before .before .before .before .before .before .before .before .before .before .before .before .before .before .before .before .args .layers .now)))) (sym (c .before .before .before .part2 .ensures)) ∙ sym (c .before .before .index-of .ensures) ∙ c .enum-told .given .1))
 
--- src/drawing_format.rt:179:1
 same-length-2 : tie.Need-same-length-2
 same-length-2 c = search needs
 
--- src/drawing_format.rt:179:1
 same-length-3 : tie.Need-same-length-3
 same-length-3 c = search needs
 
--- src/drawing_format.rt:179:1
 same-length-4 : tie.Need-same-length-4
 same-length-4 c = search needs
 
--- src/drawing_format.rt:179:1
 returns-5 : tie.Need-returns-5
 returns-5 c = layer-takes (c .before .before .before .before .before .before .before .before .before .before .before .before .before .before .before .before .before .before .before .before .before .before .before .before .before .before .args .s .now) (c .before .before .before .before .before .before .before .before .before .before .before .before .before .before .before .before .before .before .before .before .before .before .before .before .before .before .args .here) (c .before .before .before .before .before .before .before .before .before .before .before .before .before .before .before .before .before .before .before .before .before .before .before .before .before .before .args .at) (bytesAt (c .before .before .before .before .before .before .before .before .before .before .before .before .before .before .before .before .before .before .before .before .before .before .before .before .before .before .args .s .now) (c .before .before .before .before .before .before .before .before .before .before .before .before .before .before .before .before .before .before .before .before .before .before .before .before .before .before .args .key)) (restIn (c .before .before .before .before .before .before .before .before .before .before .before .before .before .before .before .before .before .before .before .before .before .before .before .before .before .before .args .s .now) (c .before .before .before .before .before .before .before .before .before .before .before .before .before .before .before .before .before .before .before .before .before .before .before .before .before .before .args .rest)) (c .before .before .before .before .before .before .before .before .before .before .before .before .before .before .before .before .before .before .before .before .before .before .before .before .before .before .args .tally .now) (c .before .before .before .before .before .before .before .before .before .before .before .before .before .before .before .before .before .before .before .before .before .before .before .before .before .before .args .layers .now) (c .before .before .before .before .before .before .before .before .before .before .before .before .before .before .before .before .before .before .before .before .before .before .before .before .before .before .args .t .now) (ap isLayerId (sym (c .before .before .before .before .before .before .before .before .before .before .before .before .before .before .before .before .before .before .before .before .before .before .part .ensures)) ∙ sym (c .before .before .before .before .before .before .before .before .before .before .before .before .before .before .before .before .before .before .before .before .before .is-layer-id .ensures) ∙ not-false _ (c .before .before .before .before .before .before .before .before .before .before .before .before .before .before .before .before .before .before .before .before .if1 .left)) _ (sym (c .before .before .before .before .before .before .before .before .before .before .before .before .before .before .before .before .before .read2 .given .1) ∙ c .before .before .before .before .before .before .before .before .before .before .before .before .before .before .before .before .before .before .before .layer-name .ensures) _ _ _ _ (c .before .before .before .before .before .before .before .before .before .before .before .before .before .before .if2 .left) (index-none (bytesAt (c .before .before .before .before .before .before .before .before .before .before .before .before .before .before .before .before .before .before .before .before .before .before .before .before .before .before .args .s .now) (c .before .before .before .before .before .before .before .before .before .before .before .before .before .before .before .before .before .before .before .before .before .before .before .before .before .before .args .key)) _ 0 (ap (λ (k : List ℕ). indexFrom 0 k (namesIn (c .before .before .before .before .before .before .before .before .before .before .before .before .before .before .before .before .before .before .before .before .before .before .before .before .before .before .args .s .now) (take (layersOf (c .before .before .before .before .before .before .before .before .before .before .before .before .before .before .before .before .before .before .before .before .before .before .before .before .before .before .args .tally .now)) (c .before .before .before .before .before .before .before .before .before .before .before .before .before .before .before .before .before .before .before .before .before .before .before .before .before .before .args .layers .now)))) (sym (c .before .before .before .before .before .before .before .before .before .before .before .before .part2 .ensures)) ∙ sym (c .before .before .before .before .before .before .before .before .before .before .before .index-of .ensures) ∙ c .before .before .before .before .before .before .before .before .before .enum-told2 .given .1)) (c .before .before .before .before .before .take-layer .ensures)
 

@@ -14,63 +14,48 @@ use Rattle.entries.proofs.names.part.Reads as part-reads
 use Rattle.entries.proofs.shapes.shape_for.Reads as shape-for-reads
 use Rattle.leaves.proofs.texts.fits.Reads as fits-reads
 
--- src/drawing_format.rt:94:9
 shape-for-requires : tie.Need-shape-for-requires
 shape-for-requires c κs = search needs
 
--- src/drawing_format.rt:96:26
 enum-told : tie.Need-enum-told
 enum-told c = search needs
 
--- src/drawing_format.rt:97:43
 enum-told-2 : tie.Need-enum-told-2
 enum-told-2 c = search needs
 
--- src/drawing_format.rt:98:24
 enum-known-shape : tie.Need-enum-known-shape
 enum-known-shape c = search needs
 
--- src/drawing_format.rt:99:17
 part-requires : tie.Need-part-requires
 part-requires c κs = search needs
 
--- src/drawing_format.rt:100:17
 fits-requires : tie.Need-fits-requires
 fits-requires c κs = search needs
 
--- src/drawing_format.rt:101:17
 returns : tie.Need-returns
 returns c = name-long (c .before .before .before .before .before .before .before .before .args .s .now) (freeShapeOf (restIn (c .before .before .before .before .before .before .before .before .args .s .now) (c .before .before .before .before .before .before .before .before .args .rest))) _ (c .before .before .before .before .before .before .shape-for .ensures) _ _ (c .before .before .before .before .shape .given .1) (c .before .before .part .ensures) (sym (c .before .fits2 .ensures) ∙ not-true _ (c .if1 .taken))
 
--- src/drawing_format.rt:105:22
 cast-t11 : tie.Need-cast-t11
 cast-t11 c = let h = name-fits (c .before .before .part .result .now) (sym (c .before .fits2 .ensures) ∙ not-false _ (c .if1 .left)) in record { fits = omega (arith, h) }
 
--- src/drawing_format.rt:108:30
 enum-told-3 : tie.Need-enum-told-3
 enum-told-3 c = search needs
 
--- src/drawing_format.rt:109:28
 enum-told-4 : tie.Need-enum-told-4
 enum-told-4 c = search needs
 
--- src/drawing_format.rt:91:1
 returns-2 : tie.Need-returns-2
 returns-2 c = name-is (c .before .before .before .before .args .s .now) (freeShapeOf (restIn (c .before .before .before .before .args .s .now) (c .before .before .before .before .args .rest))) _ (c .before .before .shape-for .ensures) P.Opener _ (c .enum-told .given .1) refl
 
--- src/drawing_format.rt:91:1
 returns-3 : tie.Need-returns-3
 returns-3 c = name-is (c .before .before .before .before .args .s .now) (freeShapeOf (restIn (c .before .before .before .before .args .s .now) (c .before .before .before .before .args .rest))) _ (c .before .before .shape-for .ensures) P.NoContent _ (c .enum-told2 .given .1) refl
 
--- src/drawing_format.rt:91:1
 returns-4 : tie.Need-returns-4
 returns-4 c = name-short (c .before .before .before .before .before .before .before .before .args .s .now) (freeShapeOf (restIn (c .before .before .before .before .before .before .before .before .args .s .now) (c .before .before .before .before .before .before .before .before .args .rest))) _ (c .before .before .before .before .before .before .shape-for .ensures) _ _ (c .before .before .before .before .shape .given .1) (c .before .before .part .ensures) (sym (c .before .fits2 .ensures) ∙ not-false _ (c .if1 .left))
 
--- src/drawing_format.rt:91:1
 returns-5 : tie.Need-returns-5
 returns-5 c = name-is (c .before .before .before .before .args .s .now) (freeShapeOf (restIn (c .before .before .before .before .args .s .now) (c .before .before .before .before .args .rest))) _ (c .before .before .shape-for .ensures) (P.Opening _) _ (c .enum-told3 .given .1) refl
 
--- src/drawing_format.rt:91:1
 returns-6 : tie.Need-returns-6
 returns-6 c = name-is (c .before .before .before .before .args .s .now) (freeShapeOf (restIn (c .before .before .before .before .args .s .now) (c .before .before .before .before .args .rest))) _ (c .before .before .shape-for .ensures) P.Formless _ (c .enum-told4 .given .1) refl
 

@@ -12,87 +12,66 @@ use Rattle.drawing.proofs.drawing_format.put_layer.Lts as lts
 use Rattle.drawing.proofs.drawing_format.layer_digits.Reads as layer-digits-reads
 use Rattle.drawing.proofs.table.head.Reads as head-reads
 
--- src/drawing_format.rt:146:5
 head-requires : tie.Need-head-requires
 head-requires c κs = search needs
 
--- src/drawing_format.rt:147:16
 shared-slice-read-t : tie.Need-shared-slice-read-t
 shared-slice-read-t c = omega (arith, id-parts (c .before .before .before .before .before .args .id .now) (c .before .before .before .before .before .pre .0) .0)
 
--- src/drawing_format.rt:147:16
 cast-t : tie.Need-cast-t
 cast-t c = fits-pos _ (letter-fits (c .before .before .before .before .before .args .id .now) (c .before .before .before .before .before .pre .0))
 
--- src/drawing_format.rt:147:7
 add-t : tie.Need-add-t
 add-t c = search needs
 
--- src/drawing_format.rt:147:5
 mul-t : tie.Need-mul-t
 mul-t c = search needs
 
--- src/drawing_format.rt:147:5
 slice-set-from-t : tie.Need-slice-set-from-t
 slice-set-from-t c = search needs
 
--- src/drawing_format.rt:148:16
 layer-digits-requires : tie.Need-layer-digits-requires
 layer-digits-requires c κs = search needs
 
--- src/drawing_format.rt:148:16
 cast-t-2 : tie.Need-cast-t-2
 cast-t-2 c = fits-pos _ (digits-fit (c .before .before .before .before .before .before .args .id .now) _ (c .before .before .before .before .before .before .pre .0) (c .layer-digits .ensures))
 
--- src/drawing_format.rt:148:7
 add-t-2 : tie.Need-add-t-2
 add-t-2 c = search needs
 
--- src/drawing_format.rt:148:5
 mul-t-2 : tie.Need-mul-t-2
 mul-t-2 c = search needs
 
--- src/drawing_format.rt:148:5
 slice-set-from-t-2 : tie.Need-slice-set-from-t-2
 slice-set-from-t-2 c = store-2 (c .before .before .before .head .last .0) (c .before .before .before .before .before .before .args .w) (let h : c .before .before .before .before .before .before .args .w + 32 ≤ length (c .before .before .before .head .last .0) = omega (arith, c .before .before .before .head .kept .0, c .before .before .before .before .before .before .pre .1) in h) _ (pos 0) (pos 0)
 
--- src/drawing_format.rt:149:16
 cast-t-3 : tie.Need-cast-t-3
 cast-t-3 c = search needs
 
--- src/drawing_format.rt:149:7
 add-t-3 : tie.Need-add-t-3
 add-t-3 c = search needs
 
--- src/drawing_format.rt:149:5
 mul-t-3 : tie.Need-mul-t-3
 mul-t-3 c = search needs
 
--- src/drawing_format.rt:149:5
 slice-set-from-t-3 : tie.Need-slice-set-from-t-3
 slice-set-from-t-3 c = store-3 (c .before .before .before .before .head .last .0) (c .before .before .before .before .before .before .before .args .w) (let h : c .before .before .before .before .before .before .before .args .w + 32 ≤ length (c .before .before .before .before .head .last .0) = omega (arith, c .before .before .before .before .head .kept .0, c .before .before .before .before .before .before .before .pre .1) in h) _ _ (pos 0)
 
--- src/drawing_format.rt:150:16
 cast-t-4 : tie.Need-cast-t-4
 cast-t-4 c = search needs
 
--- src/drawing_format.rt:150:7
 add-t14 : tie.Need-add-t14
 add-t14 c = search needs
 
--- src/drawing_format.rt:150:5
 mul-t13 : tie.Need-mul-t13
 mul-t13 c = search needs
 
--- src/drawing_format.rt:150:5
 slice-set-from-t-4 : tie.Need-slice-set-from-t-4
 slice-set-from-t-4 c = store-4 (c .before .before .before .before .before .head .last .0) (c .before .before .before .before .before .before .before .before .args .w) (let h : c .before .before .before .before .before .before .before .before .args .w + 32 ≤ length (c .before .before .before .before .before .head .last .0) = omega (arith, c .before .before .before .before .before .head .kept .0, c .before .before .before .before .before .before .before .before .pre .1) in h) _ _ _
 
--- src/drawing_format.rt:142:1
 same-length : tie.Need-same-length
 same-length c = search needs
 
--- src/drawing_format.rt:142:1
 returns : tie.Need-returns
 returns c = layer-stores (c .before .before .before .before .before .before .before .before .args .t .now) (c .before .before .before .before .before .head .last .0) (c .before .before .before .before .before .before .before .before .args .w) (c .before .before .before .before .before .before .before .before .args .number) (c .before .before .before .before .before .before .before .before .args .at) (c .before .before .before .before .before .before .before .before .args .id .now) _ _ _ (c .before .before .before .before .before .before .before .before .pre .0) (c .before .before .layer-digits .ensures) (omega arith) (omega arith) (c .before .before .before .before .before .head .ensures)
 

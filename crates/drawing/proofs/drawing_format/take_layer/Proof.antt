@@ -15,71 +15,54 @@ use Rattle.drawing.proofs.blocks.has_room.Reads as has-room-reads
 use Rattle.drawing.proofs.drawing_format.layer_taken.Reads as layer-taken-reads
 use Rattle.drawing.proofs.drawing_format.put_layer.Reads as put-layer-reads
 
--- src/drawing_format.rt:167:9
 has-room-requires : tie.Need-has-room-requires
 has-room-requires c κs = search needs
 
--- src/drawing_format.rt:168:9
 same-length : tie.Need-same-length
 same-length c = search needs
 
--- src/drawing_format.rt:168:9
 returns : tie.Need-returns
 returns c = refused-line _ 19 _ (no-record _ _ (sym (c .before .has-room .ensures) ∙ not-true _ (c .if1 .taken)))
 
--- src/drawing_format.rt:170:17
 slice-read-count : tie.Need-slice-read-count
 slice-read-count c = search needs
 
--- src/drawing_format.rt:171:22
 part-requires : tie.Need-part-requires
 part-requires c κs = search needs
 
--- src/drawing_format.rt:171:5
 put-layer-requires : tie.Need-put-layer-requires
 put-layer-requires c κs = (rw (c .before .part .ensures) (c .before .before .before .before .before .before .before .before .before .pre .4), leb-true ((c .before .before .before .before .before .before .before .before .before .args .here .free) + 32) (length (c .before .before .before .before .before .before .before .before .before .args .t .now)) (sym (c .before .before .before .before .has-room .ensures) ∙ not-false _ (c .before .before .before .if1 .left)))
 
--- src/drawing_format.rt:173:30
 add-layers : tie.Need-add-layers
 add-layers c = let h = id-place (c .before .before .before .before .before .before .before .before .before .before .before .before .args .s .now) (c .before .before .before .before .before .before .before .before .before .before .before .before .args .key) (c .before .before .before .before .before .before .before .before .before .before .before .before .pre .4) in record { fits = omega (arith, h, c .before .before .before .before .before .before .before .before .before .before .before .before .pre .0) }
 
--- src/drawing_format.rt:173:12
 cast-layers : tie.Need-cast-layers
 cast-layers c = search needs
 
--- src/drawing_format.rt:173:5
 mul-layers : tie.Need-mul-layers
 mul-layers c = search needs
 
--- src/drawing_format.rt:173:5
 slice-write-layers : tie.Need-slice-write-layers
 slice-write-layers c = search needs
 
--- src/drawing_format.rt:174:21
 add-tally : tie.Need-add-tally
 add-tally c = search needs
 
--- src/drawing_format.rt:174:5
 slice-write-tally : tie.Need-slice-write-tally
 slice-write-tally c = search needs
 
--- src/drawing_format.rt:175:14
 layer-taken-requires : tie.Need-layer-taken-requires
 layer-taken-requires c κs = let h = leb-true ((c .before .before .before .before .before .before .before .before .before .before .before .before .args .here .free) + 32) (length (c .before .before .before .before .before .before .before .before .before .before .before .before .args .t .now)) (sym (c .before .before .before .before .before .before .before .has-room .ensures) ∙ not-false _ (c .before .before .before .before .before .before .if1 .left)) in omega (arith, h)
 
--- src/drawing_format.rt:153:1
 same-length-2 : tie.Need-same-length-2
 same-length-2 c = search needs
 
--- src/drawing_format.rt:153:1
 same-length-3 : tie.Need-same-length-3
 same-length-3 c = search needs
 
--- src/drawing_format.rt:153:1
 same-length-4 : tie.Need-same-length-4
 same-length-4 c = search needs
 
--- src/drawing_format.rt:153:1
 returns-2 : tie.Need-returns-2
 returns-2 c = going-line _ _ _ _ (a-record _ _ (sym (c .before .before .before .before .before .before .before .before .has-room .ensures) ∙ not-false _ (c .before .before .before .before .before .before .before .if1 .left))) (c .layer-taken .ensures) (layer-in (c .before .before .before .before .before .before .before .before .before .before .before .before .before .args .s .now) (c .before .before .before .before .before .before .before .before .before .before .before .before .before .args .here .free) (c .before .before .before .before .before .before .before .before .before .before .before .before .before .args .at) (c .before .before .before .before .before .before .before .before .before .before .before .before .before .args .key) _ (c .before .before .before .before .before .before .before .before .before .before .before .before .before .args .tally .now) (c .before .before .before .before .before .before .before .before .before .before .before .before .before .args .layers .now) (c .before .before .before .before .before .before .before .before .before .before .before .before .before .args .t .now) _ _ (c .before .before .before .before .before .before .before .before .before .before .before .before .before .pre .0) (c .before .before .before .before .before .before .before .before .before .before .before .before .before .pre .2) (c .before .before .before .before .before .before .before .before .before .before .before .before .before .pre .3) (c .before .before .before .before .before .before .before .before .before .before .before .before .before .pre .4) (c .before .before .before .before .before .part .ensures) (c .before .before .before .put-layer .ensures))
 

@@ -9,43 +9,33 @@ use Rattle.drawing.proofs.element.close_element.Reads as reads
 use Rattle.drawing.proofs.element.close_element.Lts as lts
 use Rattle.drawing.proofs.blocks.at_block.Reads as at-block-reads
 
--- src/element.rt:54:8
 slice-read-if1 : tie.Need-slice-read-if1
 slice-read-if1 c = search needs
 
--- src/element.rt:54:23
 slice-read-if1-2 : tie.Need-slice-read-if1-2
 slice-read-if1-2 c = search needs
 
--- src/element.rt:55:9
 returns : tie.Need-returns
 returns c = record { answer = sym (rw (ne-eqb _ _ (c .if1 .taken))); tally = λ e. clash e (ne-eqb _ _ (c .if1 .taken)) }
 
--- src/element.rt:57:20
 slice-read-tally : tie.Need-slice-read-tally
 slice-read-tally c = search needs
 
--- src/element.rt:57:35
 slice-read-tally-2 : tie.Need-slice-read-tally-2
 slice-read-tally-2 c = search needs
 
--- src/element.rt:57:20
 add-tally : tie.Need-add-tally
 add-tally c = search needs
 
--- src/element.rt:57:5
 slice-write-tally : tie.Need-slice-write-tally
 slice-write-tally c = search needs
 
--- src/element.rt:58:14
 at-block-requires : tie.Need-at-block-requires
 at-block-requires c κs = search needs
 
--- src/element.rt:50:1
 same-length : tie.Need-same-length
 same-length c = search needs
 
--- src/element.rt:50:1
 returns-2 : tie.Need-returns-2
 returns-2 c = record { answer = ap S.Go (c .at-block .ensures) ∙ sym (rw (eq-eqb _ _ (c .before .before .before .if1 .left))); tally = λ e. refl }
 

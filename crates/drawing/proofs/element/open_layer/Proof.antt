@@ -6,31 +6,24 @@ use Rattle.drawing.proofs.element.open_layer.Tie as tie
 use Rattle.drawing.proofs.element.open_layer.Reads as reads
 use Rattle.drawing.proofs.element.open_layer.Lts as lts
 
--- src/element.rt:32:8
 slice-read-if1 : tie.Need-slice-read-if1
 slice-read-if1 c = search needs
 
--- src/element.rt:33:9
 returns : tie.Need-returns
 returns c = record { answer = sym (rw (c .if1 .taken)); used = λ e. clash (c .if1 .taken) e; all = λ e. clash (c .if1 .taken) e }
 
--- src/element.rt:35:5
 slice-write-used : tie.Need-slice-write-used
 slice-write-used c = search needs
 
--- src/element.rt:36:5
 slice-write-used-all : tie.Need-slice-write-used-all
 slice-write-used-all c = search needs
 
--- src/element.rt:27:1
 same-length : tie.Need-same-length
 same-length c = search needs
 
--- src/element.rt:27:1
 same-length-2 : tie.Need-same-length-2
 same-length-2 c = search needs
 
--- src/element.rt:27:1
 returns-2 : tie.Need-returns-2
 returns-2 c = record { answer = sym (rw (c .if1 .left)); used = λ e. refl; all = λ e. refl }
 

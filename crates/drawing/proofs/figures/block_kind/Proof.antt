@@ -5,19 +5,15 @@ use Rattle.drawing.proofs.figures.block_kind.Tie as tie
 use Rattle.drawing.proofs.figures.block_kind.Reads as reads
 use Rattle.drawing.proofs.figures.block_kind.Lts as lts
 
--- src/figures.rt:67:16
 add-result : tie.Need-add-result
 add-result c = search needs
 
--- src/figures.rt:67:9
 returns : tie.Need-returns
 returns c = sym (rw (c .if1 .taken))
 
--- src/figures.rt:69:5
 add-result-2 : tie.Need-add-result-2
 add-result-2 c = search needs
 
--- src/figures.rt:62:1
 returns-2 : tie.Need-returns-2
 returns-2 c = sym (rw (c .if1 .left))
 

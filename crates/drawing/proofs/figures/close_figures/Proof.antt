@@ -8,23 +8,18 @@ use Rattle.drawing.proofs.figures.close_figures.Reads as reads
 use Rattle.drawing.proofs.figures.close_figures.Lts as lts
 use Rattle.drawing.proofs.blocks.at_block.Reads as at-block-reads
 
--- src/figures.rt:110:25
 at-block-requires : tie.Need-at-block-requires
 at-block-requires c κs = search needs
 
--- src/figures.rt:110:9
 returns : tie.Need-returns
 returns c = ap S.Go (c .at-block .ensures) ∙ sym (rw (c .before .if1 .taken))
 
--- src/figures.rt:113:9
 returns-2 : tie.Need-returns-2
 returns-2 c = sym (rw (c .before .before .if1 .left, eq-eqb _ 0 (c .if2 .taken)))
 
--- src/figures.rt:115:14
 at-block-requires-2 : tie.Need-at-block-requires-2
 at-block-requires-2 c κs = search needs
 
--- src/figures.rt:106:1
 returns-3 : tie.Need-returns-3
 returns-3 c = ap S.Go (c .at-block2 .ensures) ∙ sym (rw (c .before .before .before .if1 .left, ne-eqb _ 0 (c .before .if2 .left)))
 

@@ -5,15 +5,12 @@ use Rattle.drawing.proofs.figures.home_table.Tie as tie
 use Rattle.drawing.proofs.figures.home_table.Reads as reads
 use Rattle.drawing.proofs.figures.home_table.Lts as lts
 
--- src/figures.rt:33:9
 returns : tie.Need-returns
 returns c = sym (rw (not-true (c .before .args .layered) (c .if1 .taken)))
 
--- src/figures.rt:36:9
 returns-2 : tie.Need-returns-2
 returns-2 c = sym (rw (not-false (c .before .before .args .layered) (c .before .if1 .left), eq-eqb _ 1 (c .if2 .taken)))
 
--- src/figures.rt:29:1
 returns-3 : tie.Need-returns-3
 returns-3 c = sym (rw (not-false (c .before .before .args .layered) (c .before .if1 .left), ne-eqb _ 1 (c .if2 .left)))
 

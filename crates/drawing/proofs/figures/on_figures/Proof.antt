@@ -28,139 +28,107 @@ use Rattle.drawing.proofs.figures.more_figures.Reads as more-figures-re
 use Rattle.drawing.proofs.figures.unmark_if.Reads as unmark-if-reads
 use Rattle.drawing.proofs.table.head.Reads as head-reads
 
--- src/figures.rt:144:9
 home-rows-requires : tie.Need-home-rows-requires
 home-rows-requires c κs = search needs
 
--- src/figures.rt:147:9
 home-table-requires : tie.Need-home-table-requires
 home-table-requires c κs = search needs
 
--- src/figures.rt:151:9
 digits-of-requires : tie.Need-digits-of-requires
 digits-of-requires c κs = search needs
 
--- src/figures.rt:152:9
 array-share-prefix-full : tie.Need-array-share-prefix-full
 array-share-prefix-full c = home-rows-most (c .before .before .before .before .before .before .before .before .args .was .layered) _ (c .before .before .home-rows .ensures)
 
--- src/figures.rt:152:9
 slice-aggregate-act-at : tie.Need-slice-aggregate-act-at
 slice-aggregate-act-at c = home-lent (c .before .before .before .before .before .before .before .before .before .args .was .layered) _ (c .before .before .before .home-rows .ensures)
 
--- src/figures.rt:146:9
 act-at-requires : tie.Need-act-at-requires
 act-at-requires c κs = (c .before .before .before .before .before .before .before .before .before .before .pre .0, c .before .before .before .before .before .before .before .before .before .before .pre .1, c .before .before .before .before .before .before .before .before .before .before .pre .2, home-lent-long (c .before .before .before .before .before .before .before .before .before .before .args .was .layered) (c .before .before .before .before .before .before .before .before .before .before .args .range) _ _ (c .before .before .before .home-table .ensures) (c .before .before .before .before .home-rows .ensures), rw (c .before .before .before .home-table .ensures) (home-room (c .before .before .before .before .before .before .before .before .before .before .args .was .layered) (c .before .before .before .before .before .before .before .before .before .before .args .range)))
 
--- src/figures.rt:158:23
 enum-told : tie.Need-enum-told
 enum-told c = search needs
 
--- src/figures.rt:159:21
 enum-known-next : tie.Need-enum-known-next
 enum-known-next c = search needs
 
--- src/figures.rt:163:17
 line-kind-requires : tie.Need-line-kind-requires
 line-kind-requires c κs = entry-row (knownIn (c .before .before .before .before .before .before .before .before .before .before .before .before .before .before .before .before .args .s .now) (c .before .before .before .before .before .before .before .before .before .before .before .before .before .before .before .before .args .symbols .now) (c .before .before .before .before .before .before .before .before .before .before .before .before .before .before .before .before .args .layers .now)) (c .before .before .before .before .before .before .before .before .before .before .before .before .before .before .before .before .args .was .layered) (c .before .before .before .before .before .before .before .before .before .before .before .before .before .before .before .before .args .range) (digitsOf (c .before .before .before .before .before .before .before .before .before .before .before .before .before .before .before .before .args .range)) (replicate (homeRows (c .before .before .before .before .before .before .before .before .before .before .before .before .before .before .before .before .args .was .layered)) false) (formIn (c .before .before .before .before .before .before .before .before .before .before .before .before .before .before .before .before .args .s .now) (c .before .before .before .before .before .before .before .before .before .before .before .before .before .before .before .before .args .form)) (hasRoom (c .before .before .before .before .before .before .before .before .before .before .before .before .before .before .before .before .args .was .free) (c .before .before .before .before .before .before .before .before .before .before .before .before .before .before .before .before .args .t .now)) _ (sym (c .before .before .next .given .1) ∙ (home-acts (c .before .before .before .before .before .before .before .before .before .before .before .before .before .before .before .before .args .was .layered) (c .before .before .before .before .before .before .before .before .before .before .before .before .before .before .before .before .args .range) _ _ _ (knownIn (c .before .before .before .before .before .before .before .before .before .before .before .before .before .before .before .before .args .s .now) (c .before .before .before .before .before .before .before .before .before .before .before .before .before .before .before .before .args .symbols .now) (c .before .before .before .before .before .before .before .before .before .before .before .before .before .before .before .before .args .layers .now)) (formIn (c .before .before .before .before .before .before .before .before .before .before .before .before .before .before .before .before .args .s .now) (c .before .before .before .before .before .before .before .before .before .before .before .before .before .before .before .before .args .form)) (c .before .before .before .before .before .before .before .before .before .before .before .before .before .before .before .before .args .was .free) (c .before .before .before .before .before .before .before .before .before .before .before .before .before .before .before .before .args .t .now) _ _ (c .before .before .before .before .before .before .before .before .before .home-table .ensures) (c .before .before .before .before .before .before .before .before .before .before .home-rows .ensures) (c .before .before .before .before .before .before .before .before .digits-of .ensures) (c .before .before .before .before .before .act-at .ensures)) .eq)
 
--- src/figures.rt:160:13
 head-requires : tie.Need-head-requires
 head-requires c κs = omega (arith, entry-room (c .before .before .before .before .before .before .before .before .before .before .before .before .before .before .before .before .before .args .was .free) (c .before .before .before .before .before .before .before .before .before .before .before .before .before .before .before .before .before .args .t .now) (act (knownIn (c .before .before .before .before .before .before .before .before .before .before .before .before .before .before .before .before .before .args .s .now) (c .before .before .before .before .before .before .before .before .before .before .before .before .before .before .before .before .before .args .symbols .now) (c .before .before .before .before .before .before .before .before .before .before .before .before .before .before .before .before .before .args .layers .now)) (tableOf (homeTable (c .before .before .before .before .before .before .before .before .before .before .before .before .before .before .before .before .before .args .was .layered) (c .before .before .before .before .before .before .before .before .before .before .before .before .before .before .before .before .before .args .range))) (digitsOf (c .before .before .before .before .before .before .before .before .before .before .before .before .before .before .before .before .before .args .range)) (replicate (homeRows (c .before .before .before .before .before .before .before .before .before .before .before .before .before .before .before .before .before .args .was .layered)) false) (formIn (c .before .before .before .before .before .before .before .before .before .before .before .before .before .before .before .before .before .args .s .now) (c .before .before .before .before .before .before .before .before .before .before .before .before .before .before .before .before .before .args .form))) _ (sym (c .before .before .before .next .given .1) ∙ (home-acts (c .before .before .before .before .before .before .before .before .before .before .before .before .before .before .before .before .before .args .was .layered) (c .before .before .before .before .before .before .before .before .before .before .before .before .before .before .before .before .before .args .range) _ _ _ (knownIn (c .before .before .before .before .before .before .before .before .before .before .before .before .before .before .before .before .before .args .s .now) (c .before .before .before .before .before .before .before .before .before .before .before .before .before .before .before .before .before .args .symbols .now) (c .before .before .before .before .before .before .before .before .before .before .before .before .before .before .before .before .before .args .layers .now)) (formIn (c .before .before .before .before .before .before .before .before .before .before .before .before .before .before .before .before .before .args .s .now) (c .before .before .before .before .before .before .before .before .before .before .before .before .before .before .before .before .before .args .form)) (c .before .before .before .before .before .before .before .before .before .before .before .before .before .before .before .before .before .args .was .free) (c .before .before .before .before .before .before .before .before .before .before .before .before .before .before .before .before .before .args .t .now) _ _ (c .before .before .before .before .before .before .before .before .before .before .home-table .ensures) (c .before .before .before .before .before .before .before .before .before .before .before .home-rows .ensures) (c .before .before .before .before .before .before .before .before .before .digits-of .ensures) (c .before .before .before .before .before .before .act-at .ensures)) .eq), c .before .before .before .before .before .before .act-at .kept .1 .1 .1 .1 .1 .1 .1 .1 .0)
 
--- src/figures.rt:168:22
 more-figures-requires : tie.Need-more-figures-requires
 more-figures-requires c κs = (omega (arith, entry-room (c .before .before .before .before .before .before .before .before .before .before .before .before .before .before .before .before .before .before .before .args .was .free) (c .before .before .before .before .before .before .before .before .before .before .before .before .before .before .before .before .before .before .before .args .t .now) (act (knownIn (c .before .before .before .before .before .before .before .before .before .before .before .before .before .before .before .before .before .before .before .args .s .now) (c .before .before .before .before .before .before .before .before .before .before .before .before .before .before .before .before .before .before .before .args .symbols .now) (c .before .before .before .before .before .before .before .before .before .before .before .before .before .before .before .before .before .before .before .args .layers .now)) (tableOf (homeTable (c .before .before .before .before .before .before .before .before .before .before .before .before .before .before .before .before .before .before .before .args .was .layered) (c .before .before .before .before .before .before .before .before .before .before .before .before .before .before .before .before .before .before .before .args .range))) (digitsOf (c .before .before .before .before .before .before .before .before .before .before .before .before .before .before .before .before .before .before .before .args .range)) (replicate (homeRows (c .before .before .before .before .before .before .before .before .before .before .before .before .before .before .before .before .before .before .before .args .was .layered)) false) (formIn (c .before .before .before .before .before .before .before .before .before .before .before .before .before .before .before .before .before .before .before .args .s .now) (c .before .before .before .before .before .before .before .before .before .before .before .before .before .before .before .before .before .before .before .args .form))) _ (sym (c .before .before .before .before .before .next .given .1) ∙ (home-acts (c .before .before .before .before .before .before .before .before .before .before .before .before .before .before .before .before .before .before .before .args .was .layered) (c .before .before .before .before .before .before .before .before .before .before .before .before .before .before .before .before .before .before .before .args .range) _ _ _ (knownIn (c .before .before .before .before .before .before .before .before .before .before .before .before .before .before .before .before .before .before .before .args .s .now) (c .before .before .before .before .before .before .before .before .before .before .before .before .before .before .before .before .before .before .before .args .symbols .now) (c .before .before .before .before .before .before .before .before .before .before .before .before .before .before .before .before .before .before .before .args .layers .now)) (formIn (c .before .before .before .before .before .before .before .before .before .before .before .before .before .before .before .before .before .before .before .args .s .now) (c .before .before .before .before .before .before .before .before .before .before .before .before .before .before .before .before .before .before .before .args .form)) (c .before .before .before .before .before .before .before .before .before .before .before .before .before .before .before .before .before .before .before .args .was .free) (c .before .before .before .before .before .before .before .before .before .before .before .before .before .before .before .before .before .before .before .args .t .now) _ _ (c .before .before .before .before .before .before .before .before .before .before .before .before .home-table .ensures) (c .before .before .before .before .before .before .before .before .before .before .before .before .before .home-rows .ensures) (c .before .before .before .before .before .before .before .before .before .before .before .digits-of .ensures) (c .before .before .before .before .before .before .before .before .act-at .ensures)) .eq), c .before .before .before .before .before .before .before .before .before .before .before .before .before .before .before .before .before .before .before .good .1 .1 .1 .1 .1 .1 .1 .1 .1 .0), c .before .before .before .before .before .before .before .before .before .before .before .before .before .before .before .before .before .before .before .pre .3)
 
--- src/figures.rt:170:21
 enum-known-next-2 : tie.Need-enum-known-next-2
 enum-known-next-2 c = search needs
 
--- src/figures.rt:174:17
 block-kind-requires : tie.Need-block-kind-requires
 block-kind-requires c κs = begin-block (knownIn (c .before .before .before .before .before .before .before .before .before .before .before .before .before .before .before .before .args .s .now) (c .before .before .before .before .before .before .before .before .before .before .before .before .before .before .before .before .args .symbols .now) (c .before .before .before .before .before .before .before .before .before .before .before .before .before .before .before .before .args .layers .now)) (c .before .before .before .before .before .before .before .before .before .before .before .before .before .before .before .before .args .was .layered) (c .before .before .before .before .before .before .before .before .before .before .before .before .before .before .before .before .args .range) (digitsOf (c .before .before .before .before .before .before .before .before .before .before .before .before .before .before .before .before .args .range)) (replicate (homeRows (c .before .before .before .before .before .before .before .before .before .before .before .before .before .before .before .before .args .was .layered)) false) (formIn (c .before .before .before .before .before .before .before .before .before .before .before .before .before .before .before .before .args .s .now) (c .before .before .before .before .before .before .before .before .before .before .before .before .before .before .before .before .args .form)) (hasRoom (c .before .before .before .before .before .before .before .before .before .before .before .before .before .before .before .before .args .was .free) (c .before .before .before .before .before .before .before .before .before .before .before .before .before .before .before .before .args .t .now)) _ (sym (c .before .before .next2 .given .1) ∙ (home-acts (c .before .before .before .before .before .before .before .before .before .before .before .before .before .before .before .before .args .was .layered) (c .before .before .before .before .before .before .before .before .before .before .before .before .before .before .before .before .args .range) _ _ _ (knownIn (c .before .before .before .before .before .before .before .before .before .before .before .before .before .before .before .before .args .s .now) (c .before .before .before .before .before .before .before .before .before .before .before .before .before .before .before .before .args .symbols .now) (c .before .before .before .before .before .before .before .before .before .before .before .before .before .before .before .before .args .layers .now)) (formIn (c .before .before .before .before .before .before .before .before .before .before .before .before .before .before .before .before .args .s .now) (c .before .before .before .before .before .before .before .before .before .before .before .before .before .before .before .before .args .form)) (c .before .before .before .before .before .before .before .before .before .before .before .before .before .before .before .before .args .was .free) (c .before .before .before .before .before .before .before .before .before .before .before .before .before .before .before .before .args .t .now) _ _ (c .before .before .before .before .before .before .before .before .before .home-table .ensures) (c .before .before .before .before .before .before .before .before .before .before .home-rows .ensures) (c .before .before .before .before .before .before .before .before .digits-of .ensures) (c .before .before .before .before .before .act-at .ensures)) .eq)
 
--- src/figures.rt:171:13
 head-requires-2 : tie.Need-head-requires-2
 head-requires-2 c κs = omega (arith, begin-room (c .before .before .before .before .before .before .before .before .before .before .before .before .before .before .before .before .before .args .was .free) (c .before .before .before .before .before .before .before .before .before .before .before .before .before .before .before .before .before .args .t .now) (act (knownIn (c .before .before .before .before .before .before .before .before .before .before .before .before .before .before .before .before .before .args .s .now) (c .before .before .before .before .before .before .before .before .before .before .before .before .before .before .before .before .before .args .symbols .now) (c .before .before .before .before .before .before .before .before .before .before .before .before .before .before .before .before .before .args .layers .now)) (tableOf (homeTable (c .before .before .before .before .before .before .before .before .before .before .before .before .before .before .before .before .before .args .was .layered) (c .before .before .before .before .before .before .before .before .before .before .before .before .before .before .before .before .before .args .range))) (digitsOf (c .before .before .before .before .before .before .before .before .before .before .before .before .before .before .before .before .before .args .range)) (replicate (homeRows (c .before .before .before .before .before .before .before .before .before .before .before .before .before .before .before .before .before .args .was .layered)) false) (formIn (c .before .before .before .before .before .before .before .before .before .before .before .before .before .before .before .before .before .args .s .now) (c .before .before .before .before .before .before .before .before .before .before .before .before .before .before .before .before .before .args .form))) _ (sym (c .before .before .before .next2 .given .1) ∙ (home-acts (c .before .before .before .before .before .before .before .before .before .before .before .before .before .before .before .before .before .args .was .layered) (c .before .before .before .before .before .before .before .before .before .before .before .before .before .before .before .before .before .args .range) _ _ _ (knownIn (c .before .before .before .before .before .before .before .before .before .before .before .before .before .before .before .before .before .args .s .now) (c .before .before .before .before .before .before .before .before .before .before .before .before .before .before .before .before .before .args .symbols .now) (c .before .before .before .before .before .before .before .before .before .before .before .before .before .before .before .before .before .args .layers .now)) (formIn (c .before .before .before .before .before .before .before .before .before .before .before .before .before .before .before .before .before .args .s .now) (c .before .before .before .before .before .before .before .before .before .before .before .before .before .before .before .before .before .args .form)) (c .before .before .before .before .before .before .before .before .before .before .before .before .before .before .before .before .before .args .was .free) (c .before .before .before .before .before .before .before .before .before .before .before .before .before .before .before .before .before .args .t .now) _ _ (c .before .before .before .before .before .before .before .before .before .before .home-table .ensures) (c .before .before .before .before .before .before .before .before .before .before .before .home-rows .ensures) (c .before .before .before .before .before .before .before .before .before .digits-of .ensures) (c .before .before .before .before .before .before .act-at .ensures)) .eq), c .before .before .before .before .before .before .act-at .kept .1 .1 .1 .1 .1 .1 .1 .1 .0)
 
--- src/figures.rt:179:13
 unmark-if-requires : tie.Need-unmark-if-requires
 unmark-if-requires c κs = search needs
 
--- src/figures.rt:180:13
 unmark-if-requires-2 : tie.Need-unmark-if-requires-2
 unmark-if-requires-2 c κs = search needs
 
--- src/figures.rt:181:22
 figure-opened-requires : tie.Need-figure-opened-requires
 figure-opened-requires c κs = (begin-block (knownIn (c .before .before .before .before .before .before .before .before .before .before .before .before .before .before .before .before .before .before .before .before .before .before .before .before .before .before .before .before .before .args .s .now) (c .before .before .before .before .before .before .before .before .before .before .before .before .before .before .before .before .before .before .before .before .before .before .before .before .before .before .before .before .before .args .symbols .now) (c .before .before .before .before .before .before .before .before .before .before .before .before .before .before .before .before .before .before .before .before .before .before .before .before .before .before .before .before .before .args .layers .now)) (c .before .before .before .before .before .before .before .before .before .before .before .before .before .before .before .before .before .before .before .before .before .before .before .before .before .before .before .before .before .args .was .layered) (c .before .before .before .before .before .before .before .before .before .before .before .before .before .before .before .before .before .before .before .before .before .before .before .before .before .before .before .before .before .args .range) (digitsOf (c .before .before .before .before .before .before .before .before .before .before .before .before .before .before .before .before .before .before .before .before .before .before .before .before .before .before .before .before .before .args .range)) (replicate (homeRows (c .before .before .before .before .before .before .before .before .before .before .before .before .before .before .before .before .before .before .before .before .before .before .before .before .before .before .before .before .before .args .was .layered)) false) (formIn (c .before .before .before .before .before .before .before .before .before .before .before .before .before .before .before .before .before .before .before .before .before .before .before .before .before .before .before .before .before .args .s .now) (c .before .before .before .before .before .before .before .before .before .before .before .before .before .before .before .before .before .before .before .before .before .before .before .before .before .before .before .before .before .args .form)) (hasRoom (c .before .before .before .before .before .before .before .before .before .before .before .before .before .before .before .before .before .before .before .before .before .before .before .before .before .before .before .before .before .args .was .free) (c .before .before .before .before .before .before .before .before .before .before .before .before .before .before .before .before .before .before .before .before .before .before .before .before .before .before .before .before .before .args .t .now)) _ (sym (c .before .before .before .before .before .before .before .before .before .before .before .before .before .before .before .next2 .given .1) ∙ (home-acts (c .before .before .before .before .before .before .before .before .before .before .before .before .before .before .before .before .before .before .before .before .before .before .before .before .before .before .before .before .before .args .was .layered) (c .before .before .before .before .before .before .before .before .before .before .before .before .before .before .before .before .before .before .before .before .before .before .before .before .before .before .before .before .before .args .range) _ _ _ (knownIn (c .before .before .before .before .before .before .before .before .before .before .before .before .before .before .before .before .before .before .before .before .before .before .before .before .before .before .before .before .before .args .s .now) (c .before .before .before .before .before .before .before .before .before .before .before .before .before .before .before .before .before .before .before .before .before .before .before .before .before .before .before .before .before .args .symbols .now) (c .before .before .before .before .before .before .before .before .before .before .before .before .before .before .before .before .before .before .before .before .before .before .before .before .before .before .before .before .before .args .layers .now)) (formIn (c .before .before .before .before .before .before .before .before .before .before .before .before .before .before .before .before .before .before .before .before .before .before .before .before .before .before .before .before .before .args .s .now) (c .before .before .before .before .before .before .before .before .before .before .before .before .before .before .before .before .before .before .before .before .before .before .before .before .before .before .before .before .before .args .form)) (c .before .before .before .before .before .before .before .before .before .before .before .before .before .before .before .before .before .before .before .before .before .before .before .before .before .before .before .before .before .args .was .free) (c .before .before .before .before .before .before .before .before .before .before .before .before .before .before .before .before .before .before .before .before .before .before .before .before .before .before .before .before .before .args .t .now) _ _ (c .before .before .before .before .before .before .before .before .before .before .before .before .before .before .before .before .before .before .before .before .before .before .home-table .ensures) (c .before .before .before .before .before .before .before .before .before .before .before .before .before .before .before .before .before .before .before .before .before .before .before .home-rows .ensures) (c .before .before .before .before .before .before .before .before .before .before .before .before .before .before .before .before .before .before .before .before .before .digits-of .ensures) (c .before .before .before .before .before .before .before .before .before .before .before .before .before .before .before .before .before .before .act-at .ensures)) .eq), omega (arith, begin-room (c .before .before .before .before .before .before .before .before .before .before .before .before .before .before .before .before .before .before .before .before .before .before .before .before .before .before .before .before .before .args .was .free) (c .before .before .before .before .before .before .before .before .before .before .before .before .before .before .before .before .before .before .before .before .before .before .before .before .before .before .before .before .before .args .t .now) (act (knownIn (c .before .before .before .before .before .before .before .before .before .before .before .before .before .before .before .before .before .before .before .before .before .before .before .before .before .before .before .before .before .args .s .now) (c .before .before .before .before .before .before .before .before .before .before .before .before .before .before .before .before .before .before .before .before .before .before .before .before .before .before .before .before .before .args .symbols .now) (c .before .before .before .before .before .before .before .before .before .before .before .before .before .before .before .before .before .before .before .before .before .before .before .before .before .before .before .before .before .args .layers .now)) (tableOf (homeTable (c .before .before .before .before .before .before .before .before .before .before .before .before .before .before .before .before .before .before .before .before .before .before .before .before .before .before .before .before .before .args .was .layered) (c .before .before .before .before .before .before .before .before .before .before .before .before .before .before .before .before .before .before .before .before .before .before .before .before .before .before .before .before .before .args .range))) (digitsOf (c .before .before .before .before .before .before .before .before .before .before .before .before .before .before .before .before .before .before .before .before .before .before .before .before .before .before .before .before .before .args .range)) (replicate (homeRows (c .before .before .before .before .before .before .before .before .before .before .before .before .before .before .before .before .before .before .before .before .before .before .before .before .before .before .before .before .before .args .was .layered)) false) (formIn (c .before .before .before .before .before .before .before .before .before .before .before .before .before .before .before .before .before .before .before .before .before .before .before .before .before .before .before .before .before .args .s .now) (c .before .before .before .before .before .before .before .before .before .before .before .before .before .before .before .before .before .before .before .before .before .before .before .before .before .before .before .before .before .args .form))) _ (sym (c .before .before .before .before .before .before .before .before .before .before .before .before .before .before .before .next2 .given .1) ∙ (home-acts (c .before .before .before .before .before .before .before .before .before .before .before .before .before .before .before .before .before .before .before .before .before .before .before .before .before .before .before .before .before .args .was .layered) (c .before .before .before .before .before .before .before .before .before .before .before .before .before .before .before .before .before .before .before .before .before .before .before .before .before .before .before .before .before .args .range) _ _ _ (knownIn (c .before .before .before .before .before .before .before .before .before .before .before .before .before .before .before .before .before .before .before .before .before .before .before .before .before .before .before .before .before .args .s .now) (c .before .before .before .before .before .before .before .before .before .before .before .before .before .before .before .before .before .before .before .before .before .before .before .before .before .before .before .before .before .args .symbols .now) (c .before .before .before .before .before .before .before .before .before .before .before .before .before .before .before .before .before .before .before .before .before .before .before .before .before .before .before .before .before .args .layers .now)) (formIn (c .before .before .before .before .before .before .before .before .before .before .before .before .before .before .before .before .before .before .before .before .before .before .before .before .before .before .before .before .before .args .s .now) (c .before .before .before .before .before .before .before .before .before .before .before .before .before .before .before .before .before .before .before .before .before .before .before .before .before .before .before .before .before .args .form)) (c .before .before .before .before .before .before .before .before .before .before .before .before .before .before .before .before .before .before .before .before .before .before .before .before .before .before .before .before .before .args .was .free) (c .before .before .before .before .before .before .before .before .before .before .before .before .before .before .before .before .before .before .before .before .before .before .before .before .before .before .before .before .before .args .t .now) _ _ (c .before .before .before .before .before .before .before .before .before .before .before .before .before .before .before .before .before .before .before .before .before .before .home-table .ensures) (c .before .before .before .before .before .before .before .before .before .before .before .before .before .before .before .before .before .before .before .before .before .before .before .home-rows .ensures) (c .before .before .before .before .before .before .before .before .before .before .before .before .before .before .before .before .before .before .before .before .before .digits-of .ensures) (c .before .before .before .before .before .before .before .before .before .before .before .before .before .before .before .before .before .before .act-at .ensures)) .eq), c .before .before .before .before .before .before .before .before .before .before .before .before .before .before .before .before .before .before .before .before .before .before .before .before .before .before .before .before .before .good .1 .1 .1 .1 .1 .1 .1 .1 .1 .0))
 
--- src/figures.rt:183:23
 enum-told-2 : tie.Need-enum-told-2
 enum-told-2 c = search needs
 
--- src/figures.rt:183:23
 close-figures-requires : tie.Need-close-figures-requires
 close-figures-requires c κs = search needs
 
--- src/figures.rt:184:22
 enum-known-next-3 : tie.Need-enum-known-next-3
 enum-known-next-3 c = search needs
 
--- src/figures.rt:128:1
 same-length : tie.Need-same-length
 same-length c = search needs
 
--- src/figures.rt:128:1
 returns : tie.Need-returns
 returns c =
     let h = home-acts (c .before .before .before .before .before .before .before .before .before .before .before .before .before .before .args .was .layered) (c .before .before .before .before .before .before .before .before .before .before .before .before .before .before .args .range) _ _ _ (knownIn (c .before .before .before .before .before .before .before .before .before .before .before .before .before .before .args .s .now) (c .before .before .before .before .before .before .before .before .before .before .before .before .before .before .args .symbols .now) (c .before .before .before .before .before .before .before .before .before .before .before .before .before .before .args .layers .now)) (formIn (c .before .before .before .before .before .before .before .before .before .before .before .before .before .before .args .s .now) (c .before .before .before .before .before .before .before .before .before .before .before .before .before .before .args .form)) (c .before .before .before .before .before .before .before .before .before .before .before .before .before .before .args .was .free) (c .before .before .before .before .before .before .before .before .before .before .before .before .before .before .args .t .now) _ _ (c .before .before .before .before .before .before .before .home-table .ensures) (c .before .before .before .before .before .before .before .before .home-rows .ensures) (c .before .before .before .before .before .before .digits-of .ensures) (c .before .before .before .act-at .ensures) in
     figures-stay (c .before .before .before .before .before .before .before .before .before .before .before .before .before .before .args .was) (c .before .before .before .before .before .before .before .before .before .before .before .before .before .before .args .range) (c .before .before .before .before .before .before .before .before .before .before .before .before .before .before .args .at) (c .before .before .before .before .before .before .before .before .before .before .before .before .before .before .args .t .now) (c .before .before .before .act-at .last .1 .1 .1 .1 .1 .1 .1 .1 .0) (c .before .before .before .before .before .before .before .before .before .before .before .before .before .before .args .marks .now) (c .before .before .before .before .before .before .before .before .before .before .before .before .before .before .args .inner-marks .now) (taking (hasRoom (c .before .before .before .before .before .before .before .before .before .before .before .before .before .before .args .was .free) (c .before .before .before .before .before .before .before .before .before .before .before .before .before .before .args .t .now)) (act (knownIn (c .before .before .before .before .before .before .before .before .before .before .before .before .before .before .args .s .now) (c .before .before .before .before .before .before .before .before .before .before .before .before .before .before .args .symbols .now) (c .before .before .before .before .before .before .before .before .before .before .before .before .before .before .args .layers .now)) (tableOf (homeTable (c .before .before .before .before .before .before .before .before .before .before .before .before .before .before .args .was .layered) (c .before .before .before .before .before .before .before .before .before .before .before .before .before .before .args .range))) (digitsOf (c .before .before .before .before .before .before .before .before .before .before .before .before .before .before .args .range)) (replicate (homeRows (c .before .before .before .before .before .before .before .before .before .before .before .before .before .before .args .was .layered)) false) (formIn (c .before .before .before .before .before .before .before .before .before .before .before .before .before .before .args .s .now) (c .before .before .before .before .before .before .before .before .before .before .before .before .before .before .args .form)))) (sym (c .enum-told .given .1) ∙ h .eq) (h .table)
 
--- src/figures.rt:128:1
 same-length-2 : tie.Need-same-length-2
 same-length-2 c = search needs
 
--- src/figures.rt:128:1
 returns-2 : tie.Need-returns-2
 returns-2 c =
     let h = home-acts (c .before .before .before .before .before .before .before .before .before .before .before .before .before .before .before .before .before .before .before .before .args .was .layered) (c .before .before .before .before .before .before .before .before .before .before .before .before .before .before .before .before .before .before .before .before .args .range) _ _ _ (knownIn (c .before .before .before .before .before .before .before .before .before .before .before .before .before .before .before .before .before .before .before .before .args .s .now) (c .before .before .before .before .before .before .before .before .before .before .before .before .before .before .before .before .before .before .before .before .args .symbols .now) (c .before .before .before .before .before .before .before .before .before .before .before .before .before .before .before .before .before .before .before .before .args .layers .now)) (formIn (c .before .before .before .before .before .before .before .before .before .before .before .before .before .before .before .before .before .before .before .before .args .s .now) (c .before .before .before .before .before .before .before .before .before .before .before .before .before .before .before .before .before .before .before .before .args .form)) (c .before .before .before .before .before .before .before .before .before .before .before .before .before .before .before .before .before .before .before .before .args .was .free) (c .before .before .before .before .before .before .before .before .before .before .before .before .before .before .before .before .before .before .before .before .args .t .now) _ _ (c .before .before .before .before .before .before .before .before .before .before .before .before .before .home-table .ensures) (c .before .before .before .before .before .before .before .before .before .before .before .before .before .before .home-rows .ensures) (c .before .before .before .before .before .before .before .before .before .before .before .before .digits-of .ensures) (c .before .before .before .before .before .before .before .before .before .act-at .ensures) in
     figures-entry (c .before .before .before .before .before .before .before .before .before .before .before .before .before .before .before .before .before .before .before .before .args .was) (c .before .before .before .before .before .before .before .before .before .before .before .before .before .before .before .before .before .before .before .before .args .range) (c .before .before .before .before .before .before .before .before .before .before .before .before .before .before .before .before .before .before .before .before .args .at) (c .before .before .before .before .before .before .before .before .before .before .before .before .before .before .before .before .before .before .before .before .args .t .now) (c .before .before .before .before .before .before .before .before .before .act-at .last .1 .1 .1 .1 .1 .1 .1 .1 .0) (c .before .before .before .before .before .before .before .before .before .before .before .before .before .before .before .before .before .before .before .before .args .marks .now) (c .before .before .before .before .before .before .before .before .before .before .before .before .before .before .before .before .before .before .before .before .args .inner-marks .now) (taking (hasRoom (c .before .before .before .before .before .before .before .before .before .before .before .before .before .before .before .before .before .before .before .before .args .was .free) (c .before .before .before .before .before .before .before .before .before .before .before .before .before .before .before .before .before .before .before .before .args .t .now)) (act (knownIn (c .before .before .before .before .before .before .before .before .before .before .before .before .before .before .before .before .before .before .before .before .args .s .now) (c .before .before .before .before .before .before .before .before .before .before .before .before .before .before .before .before .before .before .before .before .args .symbols .now) (c .before .before .before .before .before .before .before .before .before .before .before .before .before .before .before .before .before .before .before .before .args .layers .now)) (tableOf (homeTable (c .before .before .before .before .before .before .before .before .before .before .before .before .before .before .before .before .before .before .before .before .args .was .layered) (c .before .before .before .before .before .before .before .before .before .before .before .before .before .before .before .before .before .before .before .before .args .range))) (digitsOf (c .before .before .before .before .before .before .before .before .before .before .before .before .before .before .before .before .before .before .before .before .args .range)) (replicate (homeRows (c .before .before .before .before .before .before .before .before .before .before .before .before .before .before .before .before .before .before .before .before .args .was .layered)) false) (formIn (c .before .before .before .before .before .before .before .before .before .before .before .before .before .before .before .before .before .before .before .before .args .s .now) (c .before .before .before .before .before .before .before .before .before .before .before .before .before .before .before .before .before .before .before .before .args .form)))) _ _ _ (sym (c .before .before .before .before .before .before .next .given .1) ∙ h .eq) (h .table) (rw (c .before .before .before .line-kind .ensures) at (c .before .before .head .ensures)) (c .more-figures .ensures)
 
--- src/figures.rt:128:1
 same-length-3 : tie.Need-same-length-3
 same-length-3 c = search needs
 
--- src/figures.rt:128:1
 same-length-4 : tie.Need-same-length-4
 same-length-4 c = search needs
 
--- src/figures.rt:128:1
 same-length-5 : tie.Need-same-length-5
 same-length-5 c = search needs
 
--- src/figures.rt:128:1
 returns-3 : tie.Need-returns-3
 returns-3 c =
     let h = home-acts (c .before .before .before .before .before .before .before .before .before .before .before .before .before .before .before .before .before .before .before .before .before .before .before .before .before .before .before .before .before .before .args .was .layered) (c .before .before .before .before .before .before .before .before .before .before .before .before .before .before .before .before .before .before .before .before .before .before .before .before .before .before .before .before .before .before .args .range) _ _ _ (knownIn (c .before .before .before .before .before .before .before .before .before .before .before .before .before .before .before .before .before .before .before .before .before .before .before .before .before .before .before .before .before .before .args .s .now) (c .before .before .before .before .before .before .before .before .before .before .before .before .before .before .before .before .before .before .before .before .before .before .before .before .before .before .before .before .before .before .args .symbols .now) (c .before .before .before .before .before .before .before .before .before .before .before .before .before .before .before .before .before .before .before .before .before .before .before .before .before .before .before .before .before .before .args .layers .now)) (formIn (c .before .before .before .before .before .before .before .before .before .before .before .before .before .before .before .before .before .before .before .before .before .before .before .before .before .before .before .before .before .before .args .s .now) (c .before .before .before .before .before .before .before .before .before .before .before .before .before .before .before .before .before .before .before .before .before .before .before .before .before .before .before .before .before .before .args .form)) (c .before .before .before .before .before .before .before .before .before .before .before .before .before .before .before .before .before .before .before .before .before .before .before .before .before .before .before .before .before .before .args .was .free) (c .before .before .before .before .before .before .before .before .before .before .before .before .before .before .before .before .before .before .before .before .before .before .before .before .before .before .before .before .before .before .args .t .now) _ _ (c .before .before .before .before .before .before .before .before .before .before .before .before .before .before .before .before .before .before .before .before .before .before .before .home-table .ensures) (c .before .before .before .before .before .before .before .before .before .before .before .before .before .before .before .before .before .before .before .before .before .before .before .before .home-rows .ensures) (c .before .before .before .before .before .before .before .before .before .before .before .before .before .before .before .before .before .before .before .before .before .before .digits-of .ensures) (c .before .before .before .before .before .before .before .before .before .before .before .before .before .before .before .before .before .before .before .act-at .ensures) in
     figures-begin (c .before .before .before .before .before .before .before .before .before .before .before .before .before .before .before .before .before .before .before .before .before .before .before .before .before .before .before .before .before .before .args .was) (c .before .before .before .before .before .before .before .before .before .before .before .before .before .before .before .before .before .before .before .before .before .before .before .before .before .before .before .before .before .before .args .range) (c .before .before .before .before .before .before .before .before .before .before .before .before .before .before .before .before .before .before .before .before .before .before .before .before .before .before .before .before .before .before .args .at) (c .before .before .before .before .before .before .before .before .before .before .before .before .before .before .before .before .before .before .before .before .before .before .before .before .before .before .before .before .before .before .args .t .now) (c .before .before .before .before .before .before .before .before .before .before .before .before .before .before .before .before .before .before .before .act-at .last .1 .1 .1 .1 .1 .1 .1 .1 .0) (c .before .before .before .before .before .before .before .before .before .before .before .before .before .before .before .before .before .before .before .before .before .before .before .before .before .before .before .before .before .before .args .marks .now) (c .before .before .before .before .before .before .before .before .before .before .before .before .before .before .before .before .before .before .before .before .before .before .before .before .before .before .before .before .before .before .args .inner-marks .now) (taking (hasRoom (c .before .before .before .before .before .before .before .before .before .before .before .before .before .before .before .before .before .before .before .before .before .before .before .before .before .before .before .before .before .before .args .was .free) (c .before .before .before .before .before .before .before .before .before .before .before .before .before .before .before .before .before .before .before .before .before .before .before .before .before .before .before .before .before .before .args .t .now)) (act (knownIn (c .before .before .before .before .before .before .before .before .before .before .before .before .before .before .before .before .before .before .before .before .before .before .before .before .before .before .before .before .before .before .args .s .now) (c .before .before .before .before .before .before .before .before .before .before .before .before .before .before .before .before .before .before .before .before .before .before .before .before .before .before .before .before .before .before .args .symbols .now) (c .before .before .before .before .before .before .before .before .before .before .before .before .before .before .before .before .before .before .before .before .before .before .before .before .before .before .before .before .before .before .args .layers .now)) (tableOf (homeTable (c .before .before .before .before .before .before .before .before .before .before .before .before .before .before .before .before .before .before .before .before .before .before .before .before .before .before .before .before .before .before .args .was .layered) (c .before .before .before .before .before .before .before .before .before .before .before .before .before .before .before .before .before .before .before .before .before .before .before .before .before .before .before .before .before .before .args .range))) (digitsOf (c .before .before .before .before .before .before .before .before .before .before .before .before .before .before .before .before .before .before .before .before .before .before .before .before .before .before .before .before .before .before .args .range)) (replicate (homeRows (c .before .before .before .before .before .before .before .before .before .before .before .before .before .before .before .before .before .before .before .before .before .before .before .before .before .before .before .before .before .before .args .was .layered)) false) (formIn (c .before .before .before .before .before .before .before .before .before .before .before .before .before .before .before .before .before .before .before .before .before .before .before .before .before .before .before .before .before .before .args .s .now) (c .before .before .before .before .before .before .before .before .before .before .before .before .before .before .before .before .before .before .before .before .before .before .before .before .before .before .before .before .before .before .args .form)))) _ _ _ _ _ (sym (c .before .before .before .before .before .before .before .before .before .before .before .before .before .before .before .before .next2 .given .1) ∙ h .eq) (h .table) (rw (c .before .before .before .before .before .before .before .before .before .before .before .before .before .block-kind .ensures) at (c .before .before .before .before .before .before .before .before .before .before .before .before .head2 .ensures)) (c .before .before .before .before .before .before .before .before .unmark-if .ensures) (c .before .before .before .unmark-if2 .ensures) (c .figure-opened .ensures)
 
--- src/figures.rt:128:1
 same-length-6 : tie.Need-same-length-6
 same-length-6 c = search needs
 
--- src/figures.rt:128:1
 returns-4 : tie.Need-returns-4
 returns-4 c =
     let h = home-acts (c .before .before .before .before .before .before .before .before .before .before .before .before .before .before .before .args .was .layered) (c .before .before .before .before .before .before .before .before .before .before .before .before .before .before .before .args .range) _ _ _ (knownIn (c .before .before .before .before .before .before .before .before .before .before .before .before .before .before .before .args .s .now) (c .before .before .before .before .before .before .before .before .before .before .before .before .before .before .before .args .symbols .now) (c .before .before .before .before .before .before .before .before .before .before .before .before .before .before .before .args .layers .now)) (formIn (c .before .before .before .before .before .before .before .before .before .before .before .before .before .before .before .args .s .now) (c .before .before .before .before .before .before .before .before .before .before .before .before .before .before .before .args .form)) (c .before .before .before .before .before .before .before .before .before .before .before .before .before .before .before .args .was .free) (c .before .before .before .before .before .before .before .before .before .before .before .before .before .before .before .args .t .now) _ _ (c .before .before .before .before .before .before .before .before .home-table .ensures) (c .before .before .before .before .before .before .before .before .before .home-rows .ensures) (c .before .before .before .before .before .before .before .digits-of .ensures) (c .before .before .before .before .act-at .ensures) in
     figures-shut (c .before .before .before .before .before .before .before .before .before .before .before .before .before .before .before .args .was) (c .before .before .before .before .before .before .before .before .before .before .before .before .before .before .before .args .range) (c .before .before .before .before .before .before .before .before .before .before .before .before .before .before .before .args .at) (c .before .before .before .before .before .before .before .before .before .before .before .before .before .before .before .args .t .now) (c .before .before .before .before .act-at .last .1 .1 .1 .1 .1 .1 .1 .1 .0) (c .before .before .before .before .before .before .before .before .before .before .before .before .before .before .before .args .marks .now) (c .before .before .before .before .before .before .before .before .before .before .before .before .before .before .before .args .inner-marks .now) (taking (hasRoom (c .before .before .before .before .before .before .before .before .before .before .before .before .before .before .before .args .was .free) (c .before .before .before .before .before .before .before .before .before .before .before .before .before .before .before .args .t .now)) (act (knownIn (c .before .before .before .before .before .before .before .before .before .before .before .before .before .before .before .args .s .now) (c .before .before .before .before .before .before .before .before .before .before .before .before .before .before .before .args .symbols .now) (c .before .before .before .before .before .before .before .before .before .before .before .before .before .before .before .args .layers .now)) (tableOf (homeTable (c .before .before .before .before .before .before .before .before .before .before .before .before .before .before .before .args .was .layered) (c .before .before .before .before .before .before .before .before .before .before .before .before .before .before .before .args .range))) (digitsOf (c .before .before .before .before .before .before .before .before .before .before .before .before .before .before .before .args .range)) (replicate (homeRows (c .before .before .before .before .before .before .before .before .before .before .before .before .before .before .before .args .was .layered)) false) (formIn (c .before .before .before .before .before .before .before .before .before .before .before .before .before .before .before .args .s .now) (c .before .before .before .before .before .before .before .before .before .before .before .before .before .before .before .args .form)))) _ (sym (c .before .enum-told2 .given .1) ∙ h .eq) (h .table) (c .close-figures .ensures)
 
--- src/figures.rt:128:1
 same-length-7 : tie.Need-same-length-7
 same-length-7 c = search needs
 
--- src/figures.rt:128:1
 returns-5 : tie.Need-returns-5
 returns-5 c =
     let h = home-acts (c .before .before .before .before .before .before .before .before .before .before .before .before .before .before .before .args .was .layered) (c .before .before .before .before .before .before .before .before .before .before .before .before .before .before .before .args .range) _ _ _ (knownIn (c .before .before .before .before .before .before .before .before .before .before .before .before .before .before .before .args .s .now) (c .before .before .before .before .before .before .before .before .before .before .before .before .before .before .before .args .symbols .now) (c .before .before .before .before .before .before .before .before .before .before .before .before .before .before .before .args .layers .now)) (formIn (c .before .before .before .before .before .before .before .before .before .before .before .before .before .before .before .args .s .now) (c .before .before .before .before .before .before .before .before .before .before .before .before .before .before .before .args .form)) (c .before .before .before .before .before .before .before .before .before .before .before .before .before .before .before .args .was .free) (c .before .before .before .before .before .before .before .before .before .before .before .before .before .before .before .args .t .now) _ _ (c .before .before .before .before .before .before .before .before .home-table .ensures) (c .before .before .before .before .before .before .before .before .before .home-rows .ensures) (c .before .before .before .before .before .before .before .digits-of .ensures) (c .before .before .before .before .act-at .ensures) in

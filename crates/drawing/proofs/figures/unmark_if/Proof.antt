@@ -6,19 +6,15 @@ use Rattle.drawing.proofs.figures.unmark_if.Reads as reads
 use Rattle.drawing.proofs.figures.unmark_if.Lts as lts
 use Rattle.drawing.proofs.blocks.unmark.Reads as unmark-reads
 
--- src/figures.rt:123:9
 unmark-requires : tie.Need-unmark-requires
 unmark-requires c κs = search needs
 
--- src/figures.rt:119:1
 same-length : tie.Need-same-length
 same-length c = search needs
 
--- src/figures.rt:119:1
 returns : tie.Need-returns
 returns c = c .before .before .unmark .ensures ∙ sym (rw (c .before .before .before .before .if1 .taken))
 
--- src/figures.rt:119:1
 returns-2 : tie.Need-returns-2
 returns-2 c = search needs
 

@@ -5,11 +5,9 @@ use Rattle.drawing.proofs.file_format.around.Tie as tie
 use Rattle.drawing.proofs.file_format.around.Reads as reads
 use Rattle.drawing.proofs.file_format.around.Lts as lts
 
--- src/file_format.rt:98:9
 returns : tie.Need-returns
 returns c = search needs
 
--- src/file_format.rt:93:1
 returns-2 : tie.Need-returns-2
 returns-2 c = around-inner _ (c .before .pre) (c .if1 .left)
 

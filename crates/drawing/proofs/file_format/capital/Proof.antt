@@ -6,19 +6,15 @@ use Rattle.drawing.proofs.file_format.capital.Tie as tie
 use Rattle.drawing.proofs.file_format.capital.Reads as reads
 use Rattle.drawing.proofs.file_format.capital.Lts as lts
 
--- src/file_format.rt:157:9
 returns : tie.Need-returns
 returns c = capital-low _ (c .if1 .taken)
 
--- src/file_format.rt:160:9
 returns-2 : tie.Need-returns-2
 returns-2 c = capital-high _ (c .if2 .taken)
 
--- src/file_format.rt:162:5
 sub-result : tie.Need-sub-result
 sub-result c = search needs
 
--- src/file_format.rt:153:1
 returns-3 : tie.Need-returns-3
 returns-3 c = capital-small _ (omega (arith, c .before .if1 .left)) (omega (arith, c .if2 .left))
 

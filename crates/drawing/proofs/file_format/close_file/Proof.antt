@@ -16,99 +16,75 @@ use Rattle.drawing.proofs.file_format.first_tally.Reads as first-tally-
 use Rattle.drawing.proofs.file_format.later_tally.Reads as later-tally-reads
 use Rattle.drawing.proofs.file_format.names.Reads as names-reads
 
--- src/file_format.rt:241:13
 shared-slice-copy-out-t10 : tie.Need-shared-slice-copy-out-t10
 shared-slice-copy-out-t10 c = search needs
 
--- src/file_format.rt:241:13
 cast-t11 : tie.Need-cast-t11
 cast-t11 c = header-cast (c .before .before .before .before .args .header .now) (c .before .before .before .before .pre .0) 66
 
--- src/file_format.rt:242:14
 shared-slice-copy-out-t13 : tie.Need-shared-slice-copy-out-t13
 shared-slice-copy-out-t13 c = search needs
 
--- src/file_format.rt:242:14
 cast-t14 : tie.Need-cast-t14
 cast-t14 c = header-cast (c .before .before .before .before .before .args .header .now) (c .before .before .before .before .before .pre .0) 67
 
--- src/file_format.rt:244:15
 part-requires : tie.Need-part-requires
 part-requires c κs = search needs
 
--- src/file_format.rt:244:9
 names-requires : tie.Need-names-requires
 names-requires c κs = search needs
 
--- src/file_format.rt:245:9
 returns : tie.Need-returns
 returns c = unchained (c .before .before .before .before .before .before .before .before .args .s .now) (c .before .before .before .before .before .before .before .before .args .following .now) (c .before .before .before .before .before .before .before .before .args .here) (c .before .before .before .before .before .before .before .before .args .header .now) (c .before .before .before .before .before .before .before .before .args .tally .now) _ (c .before .before .before .before .before .before .before .before .args .t .now) _ (c .before .before .before .before .before .before .before .before .args .first) (sym (not-true (c .before .names .result) (c .if1 .taken)) ∙ chained-is (c .before .before .before .before .before .before .before .before .args .s .now) (c .before .before .before .before .before .before .before .before .args .following .now) (c .before .before .before .before .before .before .before .before .args .header .now) (c .before .before .before .before .before .before .before .before .pre .0) _ _ (c .before .names .ensures) (c .before .before .part .ensures))
 
--- src/file_format.rt:248:33
 sub-copy-record : tie.Need-sub-copy-record
 sub-copy-record c = omega (arith, wide-first (c .before .before .before .before .before .before .before .before .before .before .args .first) (c .before .before .before .before .before .before .before .before .before .before .args .here .free) (c .before .if2 .taken) (c .before .before .before .before .before .before .before .before .before .before .pre .2))
 
--- src/file_format.rt:248:9
 copy-record-requires : tie.Need-copy-record-requires
 copy-record-requires c κs = (omega (arith, c .before .before .before .before .before .before .before .before .before .before .before .pre .0 .long), omega (arith, wide-first (c .before .before .before .before .before .before .before .before .before .before .before .args .first) (c .before .before .before .before .before .before .before .before .before .before .before .args .here .free) (c .before .before .if2 .taken) (c .before .before .before .before .before .before .before .before .before .before .before .pre .2), c .before .before .before .before .before .before .before .before .before .before .before .pre .3))
 
--- src/file_format.rt:249:9
 first-tally-requires : tie.Need-first-tally-requires
 first-tally-requires c κs = search needs
 
--- src/file_format.rt:250:25
 at-block-requires : tie.Need-at-block-requires
 at-block-requires c κs = search needs
 
--- src/file_format.rt:250:9
 same-length : tie.Need-same-length
 same-length c = search needs
 
--- src/file_format.rt:250:9
 same-length-2 : tie.Need-same-length-2
 same-length-2 c = search needs
 
--- src/file_format.rt:250:9
 returns-2 : tie.Need-returns-2
 returns-2 c = closed-first (c .before .before .before .before .before .before .before .before .before .before .before .before .before .before .before .before .before .before .args .s .now) (c .before .before .before .before .before .before .before .before .before .before .before .before .before .before .before .before .before .before .args .following .now) (c .before .before .before .before .before .before .before .before .before .before .before .before .before .before .before .before .before .before .args .here) (c .before .before .before .before .before .before .before .before .before .before .before .before .before .before .before .before .before .before .args .header .now) (c .before .before .before .before .before .before .before .before .before .before .before .before .before .before .before .before .before .before .args .tally .now) _ (c .before .before .before .before .before .before .before .before .before .before .before .before .before .before .before .before .before .before .args .t .now) _ (c .before .before .before .before .before .before .before .before .before .before .before .before .before .before .before .before .before .before .args .first) _ (sym (not-false (c .before .before .before .before .before .before .before .before .before .before .before .names .result) (c .before .before .before .before .before .before .before .before .before .before .if1 .left)) ∙ chained-is (c .before .before .before .before .before .before .before .before .before .before .before .before .before .before .before .before .before .before .args .s .now) (c .before .before .before .before .before .before .before .before .before .before .before .before .before .before .before .before .before .before .args .following .now) (c .before .before .before .before .before .before .before .before .before .before .before .before .before .before .before .before .before .before .args .header .now) (c .before .before .before .before .before .before .before .before .before .before .before .before .before .before .before .before .before .before .pre .0) _ _ (c .before .before .before .before .before .before .before .before .before .before .before .names .ensures) (c .before .before .before .before .before .before .before .before .before .before .before .before .part .ensures)) (c .before .before .before .before .before .before .before .before .before .if2 .taken) (c .at-block .ensures) (c .before .before .before .first-tally .ensures) (c .before .before .before .before .before .before .copy-record .ensures)
 
--- src/file_format.rt:252:9
 dated-requires : tie.Need-dated-requires
 dated-requires c κs = search needs
 
--- src/file_format.rt:253:9
 same-length-3 : tie.Need-same-length-3
 same-length-3 c = search needs
 
--- src/file_format.rt:253:9
 returns-3 : tie.Need-returns-3
 returns-3 c = undated (c .before .before .before .before .before .before .before .before .before .before .before .before .args .s .now) (c .before .before .before .before .before .before .before .before .before .before .before .before .args .following .now) (c .before .before .before .before .before .before .before .before .before .before .before .before .args .here) (c .before .before .before .before .before .before .before .before .before .before .before .before .args .header .now) (c .before .before .before .before .before .before .before .before .before .before .before .before .args .tally .now) _ (c .before .before .before .before .before .before .before .before .before .before .before .before .args .t .now) _ (c .before .before .before .before .before .before .before .before .before .before .before .before .args .first) (sym (not-false (c .before .before .before .before .before .names .result) (c .before .before .before .before .if1 .left)) ∙ chained-is (c .before .before .before .before .before .before .before .before .before .before .before .before .args .s .now) (c .before .before .before .before .before .before .before .before .before .before .before .before .args .following .now) (c .before .before .before .before .before .before .before .before .before .before .before .before .args .header .now) (c .before .before .before .before .before .before .before .before .before .before .before .before .pre .0) _ _ (c .before .before .before .before .before .names .ensures) (c .before .before .before .before .before .before .part .ensures)) (c .before .before .before .if2 .left) (sym (not-true (c .before .dated .result) (c .if3 .taken)) ∙ c .before .dated .ensures)
 
--- src/file_format.rt:255:29
 sub-copy-record-2 : tie.Need-sub-copy-record-2
 sub-copy-record-2 c = omega (arith, wide-later (c .before .before .before .before .before .before .before .before .before .before .before .before .before .args .first) (c .before .before .before .before .before .before .before .before .before .before .before .before .before .args .here .free) (c .before .before .before .before .if2 .left) (c .before .before .before .before .before .before .before .before .before .before .before .before .before .pre .2))
 
--- src/file_format.rt:255:5
 copy-record-requires-2 : tie.Need-copy-record-requires-2
 copy-record-requires-2 c κs = (omega (arith, c .before .before .before .before .before .before .before .before .before .before .before .before .before .before .pre .0 .long), omega (arith, wide-later (c .before .before .before .before .before .before .before .before .before .before .before .before .before .before .args .first) (c .before .before .before .before .before .before .before .before .before .before .before .before .before .before .args .here .free) (c .before .before .before .before .before .if2 .left) (c .before .before .before .before .before .before .before .before .before .before .before .before .before .before .pre .2), c .before .before .before .before .before .before .before .before .before .before .before .before .before .before .pre .3))
 
--- src/file_format.rt:256:5
 later-tally-requires : tie.Need-later-tally-requires
 later-tally-requires c κs = search needs
 
--- src/file_format.rt:257:14
 at-block-requires-2 : tie.Need-at-block-requires-2
 at-block-requires-2 c κs = search needs
 
--- src/file_format.rt:228:1
 same-length-4 : tie.Need-same-length-4
 same-length-4 c = search needs
 
--- src/file_format.rt:228:1
 same-length-5 : tie.Need-same-length-5
 same-length-5 c = search needs
 
--- src/file_format.rt:228:1
 returns-4 : tie.Need-returns-4
 returns-4 c = closed-later (c .before .before .before .before .before .before .before .before .before .before .before .before .before .before .before .before .before .before .before .before .before .args .s .now) (c .before .before .before .before .before .before .before .before .before .before .before .before .before .before .before .before .before .before .before .before .before .args .following .now) (c .before .before .before .before .before .before .before .before .before .before .before .before .before .before .before .before .before .before .before .before .before .args .here) (c .before .before .before .before .before .before .before .before .before .before .before .before .before .before .before .before .before .before .before .before .before .args .header .now) (c .before .before .before .before .before .before .before .before .before .before .before .before .before .before .before .before .before .before .before .before .before .args .tally .now) _ (c .before .before .before .before .before .before .before .before .before .before .before .before .before .before .before .before .before .before .before .before .before .args .t .now) _ (c .before .before .before .before .before .before .before .before .before .before .before .before .before .before .before .before .before .before .before .before .before .args .first) _ (sym (not-false (c .before .before .before .before .before .before .before .before .before .before .before .before .before .before .names .result) (c .before .before .before .before .before .before .before .before .before .before .before .before .before .if1 .left)) ∙ chained-is (c .before .before .before .before .before .before .before .before .before .before .before .before .before .before .before .before .before .before .before .before .before .args .s .now) (c .before .before .before .before .before .before .before .before .before .before .before .before .before .before .before .before .before .before .before .before .before .args .following .now) (c .before .before .before .before .before .before .before .before .before .before .before .before .before .before .before .before .before .before .before .before .before .args .header .now) (c .before .before .before .before .before .before .before .before .before .before .before .before .before .before .before .before .before .before .before .before .before .pre .0) _ _ (c .before .before .before .before .before .before .before .before .before .before .before .before .before .before .names .ensures) (c .before .before .before .before .before .before .before .before .before .before .before .before .before .before .before .part .ensures)) (c .before .before .before .before .before .before .before .before .before .before .before .before .if2 .left) (sym (not-false (c .before .before .before .before .before .before .before .before .before .before .dated .result) (c .before .before .before .before .before .before .before .before .before .if3 .left)) ∙ c .before .before .before .before .before .before .before .before .before .before .dated .ensures) (c .at-block2 .ensures) (c .before .before .before .later-tally .ensures) (c .before .before .before .before .before .before .copy-record2 .ensures)
 

@@ -5,35 +5,27 @@ use Rattle.drawing.proofs.file_format.dated.Tie as tie
 use Rattle.drawing.proofs.file_format.dated.Reads as reads
 use Rattle.drawing.proofs.file_format.dated.Lts as lts
 
--- src/file_format.rt:221:8
 shared-slice-copy-out-if1 : tie.Need-shared-slice-copy-out-if1
 shared-slice-copy-out-if1 c = search needs
 
--- src/file_format.rt:221:8
 cast-if1 : tie.Need-cast-if1
 cast-if1 c = header-cast (c .before .args .header .now) (c .before .pre .0) 68
 
--- src/file_format.rt:221:29
 shared-slice-read-if1 : tie.Need-shared-slice-read-if1
 shared-slice-read-if1 c = search needs
 
--- src/file_format.rt:222:9
 returns : tie.Need-returns
 returns c = dated-not (c .before .before .before .args .header .now) (c .before .before .before .pre .0) (c .before .before .before .args .tally .now) (c .if1 .taken)
 
--- src/file_format.rt:224:5
 shared-slice-copy-out-result : tie.Need-shared-slice-copy-out-result
 shared-slice-copy-out-result c = search needs
 
--- src/file_format.rt:224:5
 cast-result : tie.Need-cast-result
 cast-result c = header-cast (c .before .before .before .before .args .header .now) (c .before .before .before .before .pre .0) 69
 
--- src/file_format.rt:224:26
 shared-slice-read-result : tie.Need-shared-slice-read-result
 shared-slice-read-result c = search needs
 
--- src/file_format.rt:217:1
 returns-2 : tie.Need-returns-2
 returns-2 c = dated-so (c .before .before .before .before .before .args .header .now) (c .before .before .before .before .before .pre .0) (c .before .before .before .before .before .args .tally .now) (c .before .before .if1 .left)
 

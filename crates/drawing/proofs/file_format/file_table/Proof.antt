@@ -4,15 +4,12 @@ use Rattle.drawing.proofs.file_format.file_table.Tie as tie
 use Rattle.drawing.proofs.file_format.file_table.Reads as reads
 use Rattle.drawing.proofs.file_format.file_table.Lts as lts
 
--- src/file_format.rt:87:16
 add-result : tie.Need-add-result
 add-result c = search needs
 
--- src/file_format.rt:87:9
 returns : tie.Need-returns
 returns c = rw (c .if1 .taken)
 
--- src/file_format.rt:82:1
 returns-2 : tie.Need-returns-2
 returns-2 c = search needs
 

@@ -12,31 +12,24 @@ use Rattle.drawing.proofs.file_format.here_tally.Reads as here-tally-re
 use Rattle.drawing.proofs.file_format.ranges_tally.Reads as ranges-tally-reads
 use Rattle.drawing.proofs.file_format.set_tally.Reads as set-tally-reads
 
--- src/file_format.rt:225:5
 ranges-tally-requires : tie.Need-ranges-tally-requires
 ranges-tally-requires c κs = search needs
 
--- src/file_format.rt:226:5
 set-tally-requires : tie.Need-set-tally-requires
 set-tally-requires c κs = search needs
 
--- src/file_format.rt:227:16
 shared-slice-copy-out-here-tally : tie.Need-shared-slice-copy-out-here-tally
 shared-slice-copy-out-here-tally c = search needs
 
--- src/file_format.rt:227:16
 cast-here-tally : tie.Need-cast-here-tally
 cast-here-tally c = header-cast (c .before .before .before .before .before .before .before .before .before .before .args .header .now) (c .before .before .before .before .before .before .before .before .before .before .pre .0) 38
 
--- src/file_format.rt:227:5
 here-tally-requires : tie.Need-here-tally-requires
 here-tally-requires c κs = search needs
 
--- src/file_format.rt:221:1
 same-length : tie.Need-same-length
 same-length c = search needs
 
--- src/file_format.rt:221:1
 returns : tie.Need-returns
 returns c = c .before .before .here-tally .ensures ∙ ap₂ (λ (n : ℕ) (t : List ℕ). hereTally n t) (header-back (c .before .before .before .before .before .before .before .before .before .before .before .before .before .before .args .header .now) (c .before .before .before .before .before .before .before .before .before .before .before .before .before .before .pre .0) 38) (c .before .before .before .before .before .before .before .set-tally .ensures ∙ ap (setTally (c .before .before .before .before .before .before .before .before .before .before .before .before .before .before .args .header .now)) (c .before .before .before .before .before .before .before .before .before .before .before .ranges-tally .ensures))
 

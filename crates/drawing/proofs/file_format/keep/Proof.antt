@@ -6,27 +6,21 @@ use Rattle.drawing.proofs.file_format.keep.Lts as lts
 use Rattle.drawing.proofs.file_format.keep_first.Reads as keep-first-reads
 use Rattle.drawing.proofs.file_format.keep_later.Reads as keep-later-reads
 
--- src/file_format.rt:147:9
 keep-first-requires : tie.Need-keep-first-requires
 keep-first-requires c κs = search needs
 
--- src/file_format.rt:148:9
 same-length : tie.Need-same-length
 same-length c = search needs
 
--- src/file_format.rt:148:9
 returns : tie.Need-returns
 returns c = rw (c .before .before .before .if1 .taken) (c .before .keep-first .ensures)
 
--- src/file_format.rt:150:5
 keep-later-requires : tie.Need-keep-later-requires
 keep-later-requires c κs = search needs
 
--- src/file_format.rt:142:1
 same-length-2 : tie.Need-same-length-2
 same-length-2 c = search needs
 
--- src/file_format.rt:142:1
 returns-2 : tie.Need-returns-2
 returns-2 c = rw (c .before .before .before .if1 .left) (c .before .keep-later .ensures)
 

@@ -7,19 +7,15 @@ use Rattle.drawing.proofs.file_format.keep_first.Reads as reads
 use Rattle.drawing.proofs.file_format.keep_first.Lts as lts
 use Rattle.drawing.proofs.file_format.keep_name.Reads as keep-name-reads
 
--- src/file_format.rt:119:9
 returns : tie.Need-returns
 returns c = first-other _ _ (c .if1 .taken)
 
--- src/file_format.rt:121:5
 keep-name-requires : tie.Need-keep-name-requires
 keep-name-requires c κs = search needs
 
--- src/file_format.rt:114:1
 same-length : tie.Need-same-length
 same-length c = search needs
 
--- src/file_format.rt:114:1
 returns-2 : tie.Need-returns-2
 returns-2 c = c .before .keep-name .ensures ∙ first-name (c .before .before .before .before .args .row) (c .before .before .before .before .args .header .now) (c .before .before .before .if1 .left)
 

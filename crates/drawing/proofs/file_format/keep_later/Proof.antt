@@ -11,51 +11,39 @@ use Rattle.drawing.proofs.file_format.keep_later.Reads as reads
 use Rattle.drawing.proofs.file_format.keep_later.Lts as lts
 use Rattle.drawing.proofs.file_format.keep_name.Reads as keep-name-reads
 
--- src/file_format.rt:129:9
 keep-name-requires : tie.Need-keep-name-requires
 keep-name-requires c κs = search needs
 
--- src/file_format.rt:130:9
 same-length : tie.Need-same-length
 same-length c = search needs
 
--- src/file_format.rt:130:9
 returns : tie.Need-returns
 returns c = c .before .keep-name .ensures ∙ later-name (c .before .before .before .before .args .row) (c .before .before .before .before .args .header .now) (c .before .before .before .if1 .taken)
 
--- src/file_format.rt:133:22
 slice-copy-out-header : tie.Need-slice-copy-out-header
 slice-copy-out-header c = search needs
 
--- src/file_format.rt:133:9
 slice-set-from-header : tie.Need-slice-set-from-header
 slice-set-from-header c = search needs
 
--- src/file_format.rt:134:9
 same-length-2 : tie.Need-same-length-2
 same-length-2 c = search needs
 
--- src/file_format.rt:134:9
 returns-2 : tie.Need-returns-2
 returns-2 c = let f : SFits w64 (getD (c .before .before .before .args .header .now) 64 (pos 0)) = record { sfits = c .header2 .given } in later-date (c .before .before .before .args .row) (c .before .before .before .args .header .now) f (c .before .before .if1 .left) (c .before .if2 .taken)
 
--- src/file_format.rt:137:9
 returns-3 : tie.Need-returns-3
 returns-3 c = later-other _ _ (c .before .before .if1 .left) (c .before .if2 .left) (c .if3 .taken)
 
--- src/file_format.rt:139:18
 slice-copy-out-header-2 : tie.Need-slice-copy-out-header-2
 slice-copy-out-header-2 c = search needs
 
--- src/file_format.rt:139:5
 slice-set-from-header-2 : tie.Need-slice-set-from-header-2
 slice-set-from-header-2 c = search needs
 
--- src/file_format.rt:124:1
 same-length-3 : tie.Need-same-length-3
 same-length-3 c = search needs
 
--- src/file_format.rt:124:1
 returns-4 : tie.Need-returns-4
 returns-4 c = let f : SFits w64 (getD (c .before .before .before .before .args .header .now) 64 (pos 0)) = record { sfits = c .header3 .given } in later-time (c .before .before .before .before .args .row) (c .before .before .before .before .args .header .now) f (c .before .before .before .if1 .left) (c .before .before .if2 .left) (c .before .if3 .left)
 

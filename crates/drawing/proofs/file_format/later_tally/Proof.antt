@@ -9,23 +9,18 @@ use Rattle.drawing.proofs.file_format.later_tally.Reads as reads
 use Rattle.drawing.proofs.file_format.later_tally.Lts as lts
 use Rattle.drawing.proofs.file_format.here_tally.Reads as here-tally-reads
 
--- src/file_format.rt:234:16
 shared-slice-copy-out-here-tally : tie.Need-shared-slice-copy-out-here-tally
 shared-slice-copy-out-here-tally c = search needs
 
--- src/file_format.rt:234:16
 cast-here-tally : tie.Need-cast-here-tally
 cast-here-tally c = header-cast (c .before .before .args .header .now) (c .before .before .pre .0) 6
 
--- src/file_format.rt:234:5
 here-tally-requires : tie.Need-here-tally-requires
 here-tally-requires c κs = search needs
 
--- src/file_format.rt:230:1
 same-length : tie.Need-same-length
 same-length c = search needs
 
--- src/file_format.rt:230:1
 returns : tie.Need-returns
 returns c = c .before .before .here-tally .ensures ∙ ap (λ (n : ℕ). hereTally n (c .before .before .before .before .before .before .args .tally .now)) (header-back (c .before .before .before .before .before .before .args .header .now) (c .before .before .before .before .before .before .pre .0) 6)
 

@@ -5,23 +5,18 @@ use Rattle.drawing.proofs.file_format.marks_from.Tie as tie
 use Rattle.drawing.proofs.file_format.marks_from.Reads as reads
 use Rattle.drawing.proofs.file_format.marks_from.Lts as lts
 
--- src/file_format.rt:41:9
 returns : tie.Need-returns
 returns c = search needs
 
--- src/file_format.rt:44:9
 returns-2 : tie.Need-returns-2
 returns-2 c = search needs
 
--- src/file_format.rt:47:9
 returns-3 : tie.Need-returns-3
 returns-3 c = search needs
 
--- src/file_format.rt:50:9
 returns-4 : tie.Need-returns-4
 returns-4 c = search needs
 
--- src/file_format.rt:37:1
 returns-5 : tie.Need-returns-5
 returns-5 c = from-last _ (c .before .before .before .if1 .left) (c .before .before .if2 .left) (c .before .if3 .left) (c .if4 .left)
 

@@ -6,27 +6,21 @@ use Rattle.drawing.proofs.file_format.marks_to.Reads as reads
 use Rattle.drawing.proofs.file_format.marks_to.Lts as lts
 use Rattle.drawing.proofs.file_format.own_marks.Reads as own-marks-reads
 
--- src/file_format.rt:68:9
 own-marks-requires : tie.Need-own-marks-requires
 own-marks-requires c κs = search needs
 
--- src/file_format.rt:68:9
 returns : tie.Need-returns
 returns c = search needs
 
--- src/file_format.rt:71:9
 returns-2 : tie.Need-returns-2
 returns-2 c = search needs
 
--- src/file_format.rt:74:9
 returns-3 : tie.Need-returns-3
 returns-3 c = search needs
 
--- src/file_format.rt:77:9
 returns-4 : tie.Need-returns-4
 returns-4 c = search needs
 
--- src/file_format.rt:64:1
 returns-5 : tie.Need-returns-5
 returns-5 c = to-last _ _ (c .before .before .before .if1 .left) (c .before .before .if2 .left) (c .before .if3 .left) (c .if4 .left)
 

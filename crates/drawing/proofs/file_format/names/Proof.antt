@@ -19,43 +19,33 @@ Inv-loop c name i₀ i = (i ≤ length c) × (length c ≡ length name) × (same
 abbrev μ-loop : tie.MeasureT-loop
 μ-loop c name i₀ i = length c - i
 
--- src/file_format.rt:170:9
 returns : tie.Need-returns Inv-loop μ-loop
 returns c = sym (name-long (c .before .before .before .args .c .now) (c .before .before .before .args .name .now) (c .if1 .taken))
 
--- src/file_format.rt:173:5
 loop-holds : tie.Need-loop-holds Inv-loop μ-loop
 loop-holds c = (omega arith, c .if1 .left, refl)
 
--- src/file_format.rt:174:20
 shared-slice-read-capital : tie.Need-shared-slice-read-capital Inv-loop μ-loop
 shared-slice-read-capital c = omega arith
 
--- src/file_format.rt:174:12
 capital-requires : tie.Need-capital-requires Inv-loop μ-loop
 capital-requires c κs = search needs
 
--- src/file_format.rt:174:29
 shared-slice-read-if2 : tie.Need-shared-slice-read-if2 Inv-loop μ-loop
 shared-slice-read-if2 c = omega arith
 
--- src/file_format.rt:175:13
 returns-2 : tie.Need-returns-2 Inv-loop μ-loop
 returns-2 c = sym (c .before .before .before .before .before .loop .inv .2 ∙ name-not _ _ _ _ (c .before .before .capital .ensures) (c .before .before .before .before .loop-test .taken) (omega arith) (c .if2 .taken))
 
--- src/file_format.rt:177:9
 add-i : tie.Need-add-i Inv-loop μ-loop
 add-i c = omega arith
 
--- src/file_format.rt:173:5
 loop-less : tie.Need-loop-less Inv-loop μ-loop
 loop-less c = omega arith
 
--- src/file_format.rt:173:5
 loop-again : tie.Need-loop-again Inv-loop μ-loop
 loop-again c = (omega arith, c .before .before .before .before .before .loop .inv .1, c .before .before .before .before .before .loop .inv .2 ∙ name-step _ _ _ _ (c .before .before .capital .ensures) (c .before .before .before .before .loop-test .taken) (omega arith) (c .if2 .left))
 
--- src/file_format.rt:166:1
 returns-3 : tie.Need-returns-3 Inv-loop μ-loop
 returns-3 c = sym (c .before .loop .inv .2 ∙ name-end _ _ _ (c .loop-test .left) (omega arith))
 

@@ -5,47 +5,36 @@ use Rattle.drawing.proofs.file_format.ranges_tally.Tie as tie
 use Rattle.drawing.proofs.file_format.ranges_tally.Reads as reads
 use Rattle.drawing.proofs.file_format.ranges_tally.Lts as lts
 
--- src/file_format.rt:199:18
 shared-slice-copy-out-tally : tie.Need-shared-slice-copy-out-tally
 shared-slice-copy-out-tally c = search needs
 
--- src/file_format.rt:199:18
 cast-tally : tie.Need-cast-tally
 cast-tally c = header-cast (c .before .args .header .now) (c .before .pre .0) 6
 
--- src/file_format.rt:199:5
 slice-write-tally : tie.Need-slice-write-tally
 slice-write-tally c = search needs
 
--- src/file_format.rt:200:27
 shared-slice-copy-out-tally-2 : tie.Need-shared-slice-copy-out-tally-2
 shared-slice-copy-out-tally-2 c = search needs
 
--- src/file_format.rt:200:27
 cast-tally-2 : tie.Need-cast-tally-2
 cast-tally-2 c = header-cast (c .before .before .args .header .now) (c .before .before .pre .0) 8
 
--- src/file_format.rt:200:5
 slice-write-tally-2 : tie.Need-slice-write-tally-2
 slice-write-tally-2 c = search needs
 
--- src/file_format.rt:201:27
 shared-slice-copy-out-tally-3 : tie.Need-shared-slice-copy-out-tally-3
 shared-slice-copy-out-tally-3 c = search needs
 
--- src/file_format.rt:201:27
 cast-tally-3 : tie.Need-cast-tally-3
 cast-tally-3 c = header-cast (c .before .before .before .args .header .now) (c .before .before .before .pre .0) 11
 
--- src/file_format.rt:201:5
 slice-write-tally-3 : tie.Need-slice-write-tally-3
 slice-write-tally-3 c = search needs
 
--- src/file_format.rt:195:1
 same-length : tie.Need-same-length
 same-length c = search needs
 
--- src/file_format.rt:195:1
 returns : tie.Need-returns
 returns c = search needs
 

@@ -12,35 +12,27 @@ use Rattle.drawing.proofs.blocks.figure_done.Reads as figure-done-reads
 use Rattle.drawing.proofs.classes.both.Reads as both-reads
 use Rattle.drawing.proofs.placed.mark_unread.Reads as mark-unread-reads
 
--- src/placed.rt:226:22
 both-requires : tie.Need-both-requires
 both-requires c κs = search needs
 
--- src/placed.rt:226:42
 slice-aggregate-complete : tie.Need-slice-aggregate-complete
 slice-aggregate-complete c = omega (arith, length-take 6 (c .before .before .before .args .marks .now), c .before .before .before .pre .0)
 
--- src/placed.rt:226:9
 complete-requires : tie.Need-complete-requires
 complete-requires c κs = omega (arith, length-take 6 (c .before .before .before .args .marks .now), c .before .before .before .pre .0, placed-six)
 
--- src/placed.rt:227:9
 returns : tie.Need-returns
 returns c = close-short (c .before .before .before .before .before .args .class) (c .before .before .before .before .before .args .range) (c .before .before .before .before .before .args .here) (c .before .before .before .before .before .args .marks .now) _ _ (c .before .before .before .both .ensures) (c .before .complete .ensures) (c .before .before .before .before .before .args .rec .now) _ (not-true _ (c .if1 .taken))
 
--- src/placed.rt:229:5
 mark-unread-requires : tie.Need-mark-unread-requires
 mark-unread-requires c κs = search needs
 
--- src/placed.rt:230:14
 figure-done-requires : tie.Need-figure-done-requires
 figure-done-requires c κs = search needs
 
--- src/placed.rt:222:1
 same-length : tie.Need-same-length
 same-length c = search needs
 
--- src/placed.rt:222:1
 returns-2 : tie.Need-returns-2
 returns-2 c = close-whole (c .before .before .before .before .before .before .before .before .before .args .class) (c .before .before .before .before .before .before .before .before .before .args .range) (c .before .before .before .before .before .before .before .before .before .args .here) (c .before .before .before .before .before .before .before .before .before .args .marks .now) _ _ (c .before .before .before .before .before .before .before .both .ensures) (c .before .before .before .before .before .complete .ensures) (c .before .before .before .before .before .before .before .before .before .args .rec .now) _ _ (not-false _ (c .before .before .before .before .if1 .left)) (c .before .before .mark-unread .ensures) (c .figure-done .ensures)
 

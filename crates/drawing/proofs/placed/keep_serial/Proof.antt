@@ -12,75 +12,58 @@ use Rattle.drawing.proofs.placed.keep_serial.Reads as reads
 use Rattle.drawing.proofs.placed.keep_serial.Lts as lts
 use Rattle.drawing.proofs.serials.has.Reads as has-reads
 
--- src/placed.rt:76:15
 shared-slice-copy-out-own : tie.Need-shared-slice-copy-out-own
 shared-slice-copy-out-own c = search needs
 
--- src/placed.rt:76:15
 cast-own : tie.Need-cast-own
 cast-own c =
     let f : SFits w64 (getD (c .before .before .before .args .rec .now) 14 (pos 0)) = search needs in
     own-cast (getD (c .before .before .before .args .rec .now) 14 (pos 0)) f (c .before .before .before .pre .4)
 
--- src/placed.rt:77:17
 slice-read-count : tie.Need-slice-read-count
 slice-read-count c = search needs
 
--- src/placed.rt:77:17
 cast-count : tie.Need-cast-count
 cast-count c = search needs
 
--- src/placed.rt:78:12
 slice-reshare-prefix-has : tie.Need-slice-reshare-prefix-has
 slice-reshare-prefix-has c = search needs
 
--- src/placed.rt:78:12
 slice-aggregate-has : tie.Need-slice-aggregate-has
 slice-aggregate-has c = omega (arith, length-take (serialCount (c .before .before .before .before .before .args .tally .now)) (c .before .before .before .before .before .args .serials .now), c .before .before .before .before .before .pre .1)
 
--- src/placed.rt:78:8
 has-requires : tie.Need-has-requires
 has-requires c κs = search needs
 
--- src/placed.rt:79:9
 same-length : tie.Need-same-length
 same-length c = search needs
 
--- src/placed.rt:79:9
 returns : tie.Need-returns
 returns c =
     let f : SFits w64 (getD (c .before .before .before .before .before .before .before .args .rec .now) 14 (pos 0)) = search needs in
     serial-used (c .before .before .before .before .before .before .before .args .here) (ownNumber (c .before .before .before .before .before .before .before .args .rec .now)) (natAbs (toZ w64 (ofZ w64 (getD (c .before .before .before .before .before .before .before .args .rec .now) 14 (pos 0))))) (c .before .before .before .before .before .before .before .args .tally .now) (c .before .before .before .before .before .before .before .args .serials .now) (c .before .has .result) (own-back (getD (c .before .before .before .before .before .before .before .args .rec .now) 14 (pos 0)) f) (c .before .has .ensures) _ _ (c .if1 .taken)
 
--- src/placed.rt:81:5
 mul-serials : tie.Need-mul-serials
 mul-serials c = search needs
 
--- src/placed.rt:81:5
 slice-write-serials : tie.Need-slice-write-serials
 slice-write-serials c = search needs
 
--- src/placed.rt:82:22
 slice-read-tally : tie.Need-slice-read-tally
 slice-read-tally c = search needs
 
--- src/placed.rt:82:22
 add-tally : tie.Need-add-tally
 add-tally c = search needs
 
--- src/placed.rt:82:5
 slice-write-tally : tie.Need-slice-write-tally
 slice-write-tally c = search needs
 
--- src/placed.rt:72:1
 same-length-2 : tie.Need-same-length-2
 same-length-2 c = search needs
 
--- src/placed.rt:72:1
 same-length-3 : tie.Need-same-length-3
 same-length-3 c = search needs
 
--- src/placed.rt:72:1
 returns-2 : tie.Need-returns-2
 returns-2 c =
     let f : SFits w64 (getD (c .before .before .before .before .before .before .before .before .args .rec .now) 14 (pos 0)) = search needs in

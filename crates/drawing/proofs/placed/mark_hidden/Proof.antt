@@ -8,27 +8,21 @@ use Rattle.drawing.proofs.placed.mark_hidden.Reads as reads
 use Rattle.drawing.proofs.placed.mark_hidden.Lts as lts
 use Rattle.drawing.proofs.classes.hides.Reads as hides-reads
 
--- src/placed.rt:109:8
 hides-requires : tie.Need-hides-requires
 hides-requires c κs = search needs
 
--- src/placed.rt:110:9
 mul-rec : tie.Need-mul-rec
 mul-rec c = search needs
 
--- src/placed.rt:110:9
 slice-set-of-rec : tie.Need-slice-set-of-rec
 slice-set-of-rec c = search needs
 
--- src/placed.rt:105:1
 same-length : tie.Need-same-length
 same-length c = search needs
 
--- src/placed.rt:105:1
 returns : tie.Need-returns
 returns c = ap (λ (h : Bool). hiddenAt (c .before .before .args .state) h (c .before .before .args .rec .now)) (sym (c .if1 .taken) ∙ c .before .hides .ensures)
 
--- src/placed.rt:105:1
 returns-2 : tie.Need-returns-2
 returns-2 c = ap (λ (h : Bool). hiddenAt (c .before .before .args .state) h (c .before .before .args .rec .now)) (sym (c .if1 .left) ∙ c .before .hides .ensures)
 

@@ -6,31 +6,24 @@ use Rattle.drawing.proofs.placed.mark_unread.Reads as reads
 use Rattle.drawing.proofs.placed.mark_unread.Lts as lts
 use Rattle.drawing.proofs.placed.mark_hidden.Reads as mark-hidden-reads
 
--- src/placed.rt:118:5
 mark-hidden-requires : tie.Need-mark-hidden-requires
 mark-hidden-requires c κs = search needs
 
--- src/placed.rt:119:5
 mark-hidden-requires-2 : tie.Need-mark-hidden-requires-2
 mark-hidden-requires-2 c κs = search needs
 
--- src/placed.rt:120:5
 mark-hidden-requires-3 : tie.Need-mark-hidden-requires-3
 mark-hidden-requires-3 c κs = search needs
 
--- src/placed.rt:121:5
 mark-hidden-requires-4 : tie.Need-mark-hidden-requires-4
 mark-hidden-requires-4 c κs = search needs
 
--- src/placed.rt:122:5
 mark-hidden-requires-5 : tie.Need-mark-hidden-requires-5
 mark-hidden-requires-5 c κs = search needs
 
--- src/placed.rt:114:1
 same-length : tie.Need-same-length
 same-length c = search needs
 
--- src/placed.rt:114:1
 returns : tie.Need-returns
 returns c = hidden-all (c .before .before .before .before .before .before .before .before .before .before .before .before .before .before .before .args .class) (c .before .before .before .before .before .before .before .before .before .before .before .before .before .before .before .args .d) (c .before .before .before .before .before .before .before .before .before .before .before .before .before .before .before .args .rec .now) _ _ _ _ _ (c .before .before .before .before .before .before .before .before .before .before .before .before .before .mark-hidden .ensures) (c .before .before .before .before .before .before .before .before .before .before .mark-hidden2 .ensures) (c .before .before .before .before .before .before .before .mark-hidden3 .ensures) (c .before .before .before .before .mark-hidden4 .ensures) (c .before .mark-hidden5 .ensures)
 

@@ -23,35 +23,27 @@ use Rattle.drawing.proofs.placed.on_unknown.Reads as on-unknown-reads
 use Rattle.drawing.proofs.placed.placed_done.Reads as placed-done-reads
 use Rattle.tables.proofs.lookup.row_of.Reads as row-of-reads
 
--- src/placed.rt:171:22
 part-requires : tie.Need-part-requires
 part-requires c κs = search needs
 
--- src/placed.rt:171:11
 row-of-requires : tie.Need-row-of-requires
 row-of-requires c κs = search needs
 
--- src/placed.rt:172:26
 enum-told : tie.Need-enum-told
 enum-told c = search needs
 
--- src/placed.rt:172:26
 on-unknown-requires : tie.Need-on-unknown-requires
 on-unknown-requires c κs = search needs
 
--- src/placed.rt:173:20
 enum-known-row : tie.Need-enum-known-row
 enum-known-row c = search needs
 
--- src/placed.rt:175:17
 reaches-requires : tie.Need-reaches-requires
 reaches-requires c κs = search needs
 
--- src/placed.rt:176:17
 on-unknown-requires-2 : tie.Need-on-unknown-requires-2
 on-unknown-requires-2 c κs = search needs
 
--- src/placed.rt:176:17
 returns : tie.Need-returns
 returns c =
     let a = c .before .before .before .before .before .before .before .before .before .before .before .before .before .before .before .before .args in
@@ -59,18 +51,15 @@ returns c =
     let x = lent (a .tally .now) (a .serials .now) (a .marks .now) (a .inner .now) in
     key-hidden (bytesAt (a .s .now) (a .key)) (c .before .before .before .before .before .row .given .0 .0) e (knownIn (a .s .now) (a .symbols .now) (a .layers .now)) (a .class) (a .range) (a .here) x x (a .rec .now) (a .rec .now) (c .on-unknown2 .result) (skippedBy (formIn (a .s .now) (a .form))) (restIn (a .s .now) (a .rest)) (sym (c .before .before .reaches .ensures) ∙ not-true _ (c .before .if1 .taken)) (record { answer = c .on-unknown2 .ensures; lent = refl; rec = refl })
 
--- src/placed.rt:178:29
 cast-had : tie.Need-cast-had
 cast-had c = search needs
 
--- src/placed.rt:178:23
 slice-read-had : tie.Need-slice-read-had
 slice-read-had c =
     let a = c .before .before .before .before .before .before .before .before .before .before .before .before .before .before .before .before .before .args in
     let e = rw (c .before .before .before .before .before .before .row .given .1, c .before .before .before .before .before .before .before .before .before .part .ensures) at (c .before .before .before .before .before .before .before .before .row-of .ensures) in
     omega (arith, row-number (bytesAt (a .s .now) (a .key)) (c .before .before .before .before .before .before .row .given .0 .0) e, c .before .before .before .before .before .before .before .before .before .before .before .before .before .before .before .before .before .pre .3 .marks)
 
--- src/placed.rt:179:17
 act-row-requires : tie.Need-act-row-requires
 act-row-requires c κs =
     let a = c .before .before .before .before .before .before .before .before .before .before .before .before .before .before .before .before .before .before .args in
@@ -78,7 +67,6 @@ act-row-requires c κs =
     let e = rw (c .before .before .before .before .before .before .before .row .given .1, c .before .before .before .before .before .before .before .before .before .before .part .ensures) at (c .before .before .before .before .before .before .before .before .before .row-of .ensures) in
     (h .0, h .1, h .2, row-room (tableOf 18) (bytesAt (a .s .now) (a .key)) (c .before .before .before .before .before .before .before .row .given .0 .0) e 0 (length (a .rec .now)) (placed-room (length (a .rec .now)) (h .3 .rec)))
 
--- src/placed.rt:180:13
 placed-done-requires : tie.Need-placed-done-requires
 placed-done-requires c κs =
     let a = c .before .before .before .before .before .before .before .before .before .before .before .before .before .before .before .before .before .before .before .before .before .before .before .before .before .args in
@@ -88,34 +76,27 @@ placed-done-requires c κs =
     let w = row-acts (tableOf 18) (bytesAt (a .s .now) (a .key)) (c .before .before .before .before .before .before .before .before .before .before .before .before .before .before .row .given .0 .0) e k (a .range) (a .marks .now) (restIn (a .s .now) (a .rest)) 0 (a .rec .now) _ _ _ refl (c .before .before .before .before .before .before .act-row .ensures) in
     (record { tally = h .tally; serials = h .serials; count = h .count; marks = h .marks; inner = h .inner; rec = c .before .before .before .before .before .before .act-row .kept .1 .1 .1 .1 .1 .1 .1 .1 .0 ∙ h .rec }, found-ready k (a .range) (a .marks .now) (bytesAt (a .s .now) (a .key)) (restIn (a .s .now) (a .rest)) (a .rec .now) _ (h .rec) _ w)
 
--- src/placed.rt:152:1
 returns-2 : tie.Need-returns-2
 returns-2 c =
     let a = c .before .before .before .before .before .before .before .before .before .before .before .before .args in
     let e = rw (c .before .enum-told .given .1, c .before .before .before .before .part .ensures) at (c .before .before .before .row-of .ensures) in
     rw (no-row (find (bytesAt (a .s .now) (a .key)) (tableOf 18)) e) (record { answer = c .on-unknown .ensures; lent = refl {a = lent (a .tally .now) (a .serials .now) (a .marks .now) (a .inner .now)}; rec = refl {a = a .rec .now} })
 
--- src/placed.rt:152:1
 same-length : tie.Need-same-length
 same-length c = search needs
 
--- src/placed.rt:152:1
 same-length-2 : tie.Need-same-length-2
 same-length-2 c = search needs
 
--- src/placed.rt:152:1
 same-length-3 : tie.Need-same-length-3
 same-length-3 c = search needs
 
--- src/placed.rt:152:1
 same-length-4 : tie.Need-same-length-4
 same-length-4 c = search needs
 
--- src/placed.rt:152:1
 same-length-5 : tie.Need-same-length-5
 same-length-5 c = search needs
 
--- src/placed.rt:152:1
 returns-3 : tie.Need-returns-3
 returns-3 c =
     let a = c .before .before .before .before .before .before .before .before .before .before .before .before .before .before .before .before .before .before .before .before .before .before .before .before .before .before .before .before .before .before .before .before .before .before .args in

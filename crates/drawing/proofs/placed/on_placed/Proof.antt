@@ -14,51 +14,39 @@ use Rattle.drawing.proofs.blocks.digits_of.Reads as digits-of-reads
 use Rattle.drawing.proofs.placed.on_placed_own.Reads as on-placed-own-reads
 use Rattle.drawing.proofs.placed.on_placed_text.Reads as on-placed-text-reads
 
--- src/placed.rt:317:9
 on-placed-text-requires : tie.Need-on-placed-text-requires
 on-placed-text-requires c κs = search needs
 
--- src/placed.rt:317:9
 same-length : tie.Need-same-length
 same-length c = search needs
 
--- src/placed.rt:317:9
 same-length-2 : tie.Need-same-length-2
 same-length-2 c = search needs
 
--- src/placed.rt:317:9
 returns : tie.Need-returns
 returns c = rw (eq-eqb (c .before .before .before .before .before .before .before .before .before .before .before .before .before .before .before .args .here .part) 1 (c .before .before .before .before .before .before .if1 .taken)) (c .before .before .before .on-placed-text .ensures, refl)
 
--- src/placed.rt:324:9
 digits-of-requires : tie.Need-digits-of-requires
 digits-of-requires c κs = search needs
 
--- src/placed.rt:319:5
 on-placed-own-requires : tie.Need-on-placed-own-requires
 on-placed-own-requires c κs = search needs
 
--- src/placed.rt:299:1
 same-length-3 : tie.Need-same-length-3
 same-length-3 c = search needs
 
--- src/placed.rt:299:1
 same-length-4 : tie.Need-same-length-4
 same-length-4 c = search needs
 
--- src/placed.rt:299:1
 same-length-5 : tie.Need-same-length-5
 same-length-5 c = search needs
 
--- src/placed.rt:299:1
 same-length-6 : tie.Need-same-length-6
 same-length-6 c = search needs
 
--- src/placed.rt:299:1
 same-length-7 : tie.Need-same-length-7
 same-length-7 c = search needs
 
--- src/placed.rt:299:1
 returns-2 : tie.Need-returns-2
 returns-2 c =
     let a = c .before .before .before .before .before .before .before .before .before .before .before .before .before .before .before .before .before .before .before .before .before .before .before .before .before .args in

@@ -18,70 +18,56 @@ use Rattle.entries.proofs.shapes.sort_of.Reads as sort-of-reads
 use Rattle.drawing.proofs.classes.exceeds.Reads as exceeds-reads
 use Rattle.drawing.proofs.skip.skip_line.Reads as skip-line-reads
 
--- src/placed.rt:57:8
 exceeds-requires : tie.Need-exceeds-requires
 exceeds-requires c κs = search needs
 
--- src/placed.rt:58:22
 skip-line-requires : tie.Need-skip-line-requires
 skip-line-requires c κs = search needs
 
--- src/placed.rt:59:32
 enum-told : tie.Need-enum-told
 enum-told c = search needs
 
--- src/placed.rt:60:32
 enum-told-2 : tie.Need-enum-told-2
 enum-told-2 c = search needs
 
--- src/placed.rt:61:30
 enum-told-3 : tie.Need-enum-told-3
 enum-told-3 c = search needs
 
--- src/placed.rt:62:29
 enum-known-n : tie.Need-enum-known-n
 enum-known-n c = search needs
 
--- src/placed.rt:58:9
 returns : tie.Need-returns
 returns c =
     let a = c .before .before .before .before .before .before .args in
     unknown-skipped (a .class) (a .range) (a .here) (skippedBy (formIn (a .s .now) (a .form))) (restIn (a .s .now) (a .rest)) _ (c .before .before .before .before .exceeds .ensures) _ _ (c .before .before .before .if1 .taken) (c .before .before .skip-line .ensures) (c .enum-told .given .1)
 
--- src/placed.rt:58:9
 returns-2 : tie.Need-returns-2
 returns-2 c =
     let a = c .before .before .before .before .before .before .args in
     unknown-skipped (a .class) (a .range) (a .here) (skippedBy (formIn (a .s .now) (a .form))) (restIn (a .s .now) (a .rest)) _ (c .before .before .before .before .exceeds .ensures) _ _ (c .before .before .before .if1 .taken) (c .before .before .skip-line .ensures) (c .enum-told2 .given .1)
 
--- src/placed.rt:58:9
 returns-3 : tie.Need-returns-3
 returns-3 c =
     let a = c .before .before .before .before .before .before .args in
     unknown-skipped (a .class) (a .range) (a .here) (skippedBy (formIn (a .s .now) (a .form))) (restIn (a .s .now) (a .rest)) _ (c .before .before .before .before .exceeds .ensures) _ _ (c .before .before .before .if1 .taken) (c .before .before .skip-line .ensures) (c .enum-told3 .given .1)
 
--- src/placed.rt:58:9
 returns-4 : tie.Need-returns-4
 returns-4 c =
     let a = c .before .before .before .before .before .before .before .args in
     unknown-skipped (a .class) (a .range) (a .here) (skippedBy (formIn (a .s .now) (a .form))) (restIn (a .s .now) (a .rest)) _ (c .before .before .before .before .before .exceeds .ensures) _ _ (c .before .before .before .before .if1 .taken) (c .before .before .before .skip-line .ensures) (c .before .n .given .1)
 
--- src/placed.rt:65:16
 shape-for-requires : tie.Need-shape-for-requires
 shape-for-requires c κs = search needs
 
--- src/placed.rt:65:8
 sort-of-requires : tie.Need-sort-of-requires
 sort-of-requires c κs = search needs
 
--- src/placed.rt:66:9
 returns-5 : tie.Need-returns-5
 returns-5 c =
     let a = c .before .before .before .before .before .before .args in
     let f = ap hasForm (sym (c .before .before .shape-for .ensures)) ∙ form-by (a .s .now) (c .before .before .shape-for .result) ∙ ap (λ (n : ℕ). not (eqb n 4)) (sym (c .before .sort-of .ensures)) in
     unknown-refused (a .class) (a .range) (a .here) (skippedBy (formIn (a .s .now) (a .form))) (restIn (a .s .now) (a .rest)) _ (c .before .before .before .before .exceeds .ensures) _ (c .before .before .before .if1 .left) (f ∙ ap not (eq-eqb (c .before .sort-of .result) 4 (c .if2 .taken)))
 
--- src/placed.rt:47:1
 returns-6 : tie.Need-returns-6
 returns-6 c =
     let a = c .before .before .before .before .before .before .args in

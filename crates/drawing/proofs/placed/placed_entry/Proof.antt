@@ -8,35 +8,27 @@ use Rattle.drawing.proofs.placed.placed_entry.Reads as reads
 use Rattle.drawing.proofs.placed.placed_entry.Lts as lts
 use Rattle.drawing.proofs.placed.keep_serial.Reads as keep-serial-reads
 
--- src/placed.rt:97:5
 slice-write-marks : tie.Need-slice-write-marks
 slice-write-marks c = search needs
 
--- src/placed.rt:99:9
 keep-serial-requires : tie.Need-keep-serial-requires
 keep-serial-requires c κs = let h = c .before .before .before .before .before .before .pre in (h .0, h .1, h .2, h .3, h .5 (c .before .before .if1 .taken))
 
--- src/placed.rt:99:9
 same-length : tie.Need-same-length
 same-length c = search needs
 
--- src/placed.rt:99:9
 same-length-2 : tie.Need-same-length-2
 same-length-2 c = search needs
 
--- src/placed.rt:99:9
 same-length-3 : tie.Need-same-length-3
 same-length-3 c = search needs
 
--- src/placed.rt:99:9
 returns : tie.Need-returns
 returns c = entry-serial (c .before .before .before .before .before .before .before .before .before .before .before .args .here) (c .before .before .before .before .before .before .before .before .before .before .before .args .row) (ownNumber (c .before .before .before .before .before .before .before .before .before .before .before .args .rec .now)) (c .before .before .before .before .before .before .before .before .before .before .before .args .tally .now) _ (c .before .before .before .before .before .before .before .before .before .before .before .args .serials .now) _ (c .before .before .before .before .before .before .before .before .before .before .before .args .marks .now) [] _ (c .before .before .before .before .before .before .before .if1 .taken) (c .before .before .before .before .keep-serial .ensures)
 
--- src/placed.rt:86:1
 same-length-4 : tie.Need-same-length-4
 same-length-4 c = search needs
 
--- src/placed.rt:86:1
 returns-2 : tie.Need-returns-2
 returns-2 c = entry-other (c .before .before .before .before .args .here) (c .before .before .before .before .args .row) (ownNumber (c .before .before .before .before .args .rec .now)) (c .before .before .before .before .args .tally .now) (c .before .before .before .before .args .serials .now) (c .before .before .before .before .args .marks .now) [] (c .if1 .left)
 

@@ -16,95 +16,72 @@ use Rattle.drawing.proofs.points.more_points.Reads as more-points-reads
 use Rattle.drawing.proofs.points.point_table.Reads as point-table-reads
 use Rattle.drawing.proofs.table.head.Reads as head-reads
 
--- src/points.rt:88:9
 point-table-requires : tie.Need-point-table-requires
 point-table-requires c κs = search needs
 
--- src/points.rt:92:9
 no-digits-requires : tie.Need-no-digits-requires
 no-digits-requires c κs = search needs
 
--- src/points.rt:93:9
 slice-aggregate-act-at : tie.Need-slice-aggregate-act-at
 slice-aggregate-act-at c = search needs
 
--- src/points.rt:87:9
 act-at-requires : tie.Need-act-at-requires
 act-at-requires c κs = (c .before .before .before .before .before .before .before .before .pre .0, c .before .before .before .before .before .before .before .before .pre .1, c .before .before .before .before .before .before .before .before .pre .2, rw (c .before .before .before .point-table .ensures) (points-one (c .before .before .before .before .before .before .before .before .args .here .layered)), rw (c .before .before .before .point-table .ensures) (points-room (c .before .before .before .before .before .before .before .before .args .here .layered)))
 
--- src/points.rt:99:23
 enum-told : tie.Need-enum-told
 enum-told c = search needs
 
--- src/points.rt:102:17
 enum-told-2 : tie.Need-enum-told-2
 enum-told-2 c = search needs
 
--- src/points.rt:104:17
 chain-point-kind-requires : tie.Need-chain-point-kind-requires
 chain-point-kind-requires c κs = search needs
 
--- src/points.rt:101:13
 head-requires : tie.Need-head-requires
 head-requires c κs = omega (arith, (entry-room _ _ _ _ _ _ (c .before .before .before .before .before .act-at .ensures) _ (c .before .before .enum-told2 .given .1)), c .before .before .before .before .before .act-at .kept .1 .1 .1 .1 .1 .1 .1 .1 .0)
 
--- src/points.rt:109:22
 more-points-requires : tie.Need-more-points-requires
 more-points-requires c κs = (omega (arith, (entry-room _ _ _ _ _ _ (c .before .before .before .before .before .before .before .act-at .ensures) _ (c .before .before .before .before .enum-told2 .given .1)), c .before .before .before .before .before .before .before .before .before .before .before .before .before .before .before .before .good), c .before .before .before .before .before .before .before .before .before .before .before .before .before .before .before .before .pre .4)
 
--- src/points.rt:111:27
 enum-told-3 : tie.Need-enum-told-3
 enum-told-3 c = search needs
 
--- src/points.rt:112:41
 enum-told-4 : tie.Need-enum-told-4
 enum-told-4 c = search needs
 
--- src/points.rt:112:23
 close-chain-requires : tie.Need-close-chain-requires
 close-chain-requires c κs = (c .before .before .before .before .before .before .before .before .before .before .before .before .before .pre .3, c .before .before .before .before .before .before .before .before .before .before .before .before .before .pre .4, λ e. omega (arith, c .before .before .before .before .before .before .before .before .before .before .before .before .before .pre .5 e, c .before .before .before .before .act-at .kept .1 .1 .1 .1 .1 .1 .1 .1 .0))
 
--- src/points.rt:113:22
 enum-known-next : tie.Need-enum-known-next
 enum-known-next c = search needs
 
--- src/points.rt:73:1
 same-length : tie.Need-same-length
 same-length c = search needs
 
--- src/points.rt:73:1
 returns : tie.Need-returns
 returns c = chain-stay (c .before .before .before .before .before .before .before .before .before .before .before .before .args .here) (c .before .before .before .before .before .before .before .before .before .before .before .before .args .at) (c .before .before .before .before .before .before .before .before .before .before .before .before .args .t .now) _ _ _ (c .before .before .before .before .before .before .before .before .before .before .before .before .args .own) (point-acts (c .before .before .before .before .before .before .before .before .before .before .before .before .args .here .layered) (c .before .before .before .before .before .before .before .point-table .result) (c .before .before .before .before .before .before .no-digits .result) (knownIn (c .before .before .before .before .before .before .before .before .before .before .before .before .args .s .now) (c .before .before .before .before .before .before .before .before .before .before .before .before .args .symbols .now) (c .before .before .before .before .before .before .before .before .before .before .before .before .args .layers .now)) (formIn (c .before .before .before .before .before .before .before .before .before .before .before .before .args .s .now) (c .before .before .before .before .before .before .before .before .before .before .before .before .args .form)) (c .before .before .before .before .before .before .before .before .before .before .before .before .args .here .points) (c .before .before .before .before .before .before .before .before .before .before .before .before .args .here .free) (c .before .before .before .before .before .before .before .before .before .before .before .before .args .t .now) _ _ (c .before .before .before .before .before .before .before .point-table .ensures) (c .before .before .before .before .before .before .no-digits .ensures) (c .before .before .before .act-at .ensures)) (c .enum-told .given .1)
 
--- src/points.rt:73:1
 same-length-2 : tie.Need-same-length-2
 same-length-2 c = search needs
 
--- src/points.rt:73:1
 returns-2 : tie.Need-returns-2
 returns-2 c = chain-entry (c .before .before .before .before .before .before .before .before .before .before .before .before .before .before .before .before .before .args .here) (c .before .before .before .before .before .before .before .before .before .before .before .before .before .before .before .before .before .args .at) (c .before .before .before .before .before .before .before .before .before .before .before .before .before .before .before .before .before .args .t .now) _ _ _ (c .before .before .before .before .before .before .before .before .before .before .before .before .before .before .before .before .before .args .own) (point-acts (c .before .before .before .before .before .before .before .before .before .before .before .before .before .before .before .before .before .args .here .layered) (c .before .before .before .before .before .before .before .before .before .before .before .before .point-table .result) (c .before .before .before .before .before .before .before .before .before .before .before .no-digits .result) (knownIn (c .before .before .before .before .before .before .before .before .before .before .before .before .before .before .before .before .before .args .s .now) (c .before .before .before .before .before .before .before .before .before .before .before .before .before .before .before .before .before .args .symbols .now) (c .before .before .before .before .before .before .before .before .before .before .before .before .before .before .before .before .before .args .layers .now)) (formIn (c .before .before .before .before .before .before .before .before .before .before .before .before .before .before .before .before .before .args .s .now) (c .before .before .before .before .before .before .before .before .before .before .before .before .before .before .before .before .before .args .form)) (c .before .before .before .before .before .before .before .before .before .before .before .before .before .before .before .before .before .args .here .points) (c .before .before .before .before .before .before .before .before .before .before .before .before .before .before .before .before .before .args .here .free) (c .before .before .before .before .before .before .before .before .before .before .before .before .before .before .before .before .before .args .t .now) _ _ (c .before .before .before .before .before .before .before .before .before .before .before .before .point-table .ensures) (c .before .before .before .before .before .before .before .before .before .before .before .no-digits .ensures) (c .before .before .before .before .before .before .before .before .act-at .ensures)) (c .before .before .before .chain-point-kind .result) _ _ _ (c .before .before .before .chain-point-kind .ensures) (c .before .before .head .ensures) (c .more-points .ensures) (c .before .before .before .before .before .enum-told2 .given .1)
 
--- src/points.rt:73:1
 same-length-3 : tie.Need-same-length-3
 same-length-3 c = search needs
 
--- src/points.rt:73:1
 returns-3 : tie.Need-returns-3
 returns-3 c = chain-begin (c .before .before .before .before .before .before .before .before .before .before .before .before .args .here) (c .before .before .before .before .before .before .before .before .before .before .before .before .args .at) (c .before .before .before .before .before .before .before .before .before .before .before .before .args .t .now) _ _ _ (c .before .before .before .before .before .before .before .before .before .before .before .before .args .own) (point-acts (c .before .before .before .before .before .before .before .before .before .before .before .before .args .here .layered) (c .before .before .before .before .before .before .before .point-table .result) (c .before .before .before .before .before .before .no-digits .result) (knownIn (c .before .before .before .before .before .before .before .before .before .before .before .before .args .s .now) (c .before .before .before .before .before .before .before .before .before .before .before .before .args .symbols .now) (c .before .before .before .before .before .before .before .before .before .before .before .before .args .layers .now)) (formIn (c .before .before .before .before .before .before .before .before .before .before .before .before .args .s .now) (c .before .before .before .before .before .before .before .before .before .before .before .before .args .form)) (c .before .before .before .before .before .before .before .before .before .before .before .before .args .here .points) (c .before .before .before .before .before .before .before .before .before .before .before .before .args .here .free) (c .before .before .before .before .before .before .before .before .before .before .before .before .args .t .now) _ _ (c .before .before .before .before .before .before .before .point-table .ensures) (c .before .before .before .before .before .before .no-digits .ensures) (c .before .before .before .act-at .ensures)) _ _ (c .enum-told3 .given .1)
 
--- src/points.rt:73:1
 same-length-4 : tie.Need-same-length-4
 same-length-4 c = search needs
 
--- src/points.rt:73:1
 returns-4 : tie.Need-returns-4
 returns-4 c = chain-shut (c .before .before .before .before .before .before .before .before .before .before .before .before .before .before .before .args .here) (c .before .before .before .before .before .before .before .before .before .before .before .before .before .before .before .args .at) (c .before .before .before .before .before .before .before .before .before .before .before .before .before .before .before .args .t .now) _ _ _ (c .before .before .before .before .before .before .before .before .before .before .before .before .before .before .before .args .own) (point-acts (c .before .before .before .before .before .before .before .before .before .before .before .before .before .before .before .args .here .layered) (c .before .before .before .before .before .before .before .before .before .before .point-table .result) (c .before .before .before .before .before .before .before .before .before .no-digits .result) (knownIn (c .before .before .before .before .before .before .before .before .before .before .before .before .before .before .before .args .s .now) (c .before .before .before .before .before .before .before .before .before .before .before .before .before .before .before .args .symbols .now) (c .before .before .before .before .before .before .before .before .before .before .before .before .before .before .before .args .layers .now)) (formIn (c .before .before .before .before .before .before .before .before .before .before .before .before .before .before .before .args .s .now) (c .before .before .before .before .before .before .before .before .before .before .before .before .before .before .before .args .form)) (c .before .before .before .before .before .before .before .before .before .before .before .before .before .before .before .args .here .points) (c .before .before .before .before .before .before .before .before .before .before .before .before .before .before .before .args .here .free) (c .before .before .before .before .before .before .before .before .before .before .before .before .before .before .before .args .t .now) _ _ (c .before .before .before .before .before .before .before .before .before .before .point-table .ensures) (c .before .before .before .before .before .before .before .before .before .no-digits .ensures) (c .before .before .before .before .before .before .act-at .ensures)) _ _ (c .before .close-chain .ensures .0) (c .before .close-chain .ensures .1) (c .before .before .before .enum-told4 .given .1)
 
--- src/points.rt:73:1
 same-length-5 : tie.Need-same-length-5
 same-length-5 c = search needs
 
--- src/points.rt:73:1
 returns-5 : tie.Need-returns-5
 returns-5 c = chain-refuse (c .before .before .before .before .before .before .before .before .before .before .before .before .before .args .here) (c .before .before .before .before .before .before .before .before .before .before .before .before .before .args .at) (c .before .before .before .before .before .before .before .before .before .before .before .before .before .args .t .now) _ _ _ (c .before .before .before .before .before .before .before .before .before .before .before .before .before .args .own) (point-acts (c .before .before .before .before .before .before .before .before .before .before .before .before .before .args .here .layered) (c .before .before .before .before .before .before .before .before .point-table .result) (c .before .before .before .before .before .before .before .no-digits .result) (knownIn (c .before .before .before .before .before .before .before .before .before .before .before .before .before .args .s .now) (c .before .before .before .before .before .before .before .before .before .before .before .before .before .args .symbols .now) (c .before .before .before .before .before .before .before .before .before .before .before .before .before .args .layers .now)) (formIn (c .before .before .before .before .before .before .before .before .before .before .before .before .before .args .s .now) (c .before .before .before .before .before .before .before .before .before .before .before .before .before .args .form)) (c .before .before .before .before .before .before .before .before .before .before .before .before .before .args .here .points) (c .before .before .before .before .before .before .before .before .before .before .before .before .before .args .here .free) (c .before .before .before .before .before .before .before .before .before .before .before .before .before .args .t .now) _ _ (c .before .before .before .before .before .before .before .before .point-table .ensures) (c .before .before .before .before .before .before .before .no-digits .ensures) (c .before .before .before .before .act-at .ensures)) _ _ (c .before .next .given .1)
 

@@ -16,87 +16,66 @@ use Rattle.drawing.proofs.blocks.no_digits.Reads as no-digits-reads
 use Rattle.drawing.proofs.points.more_points.Reads as more-points-reads
 use Rattle.drawing.proofs.table.head.Reads as head-reads
 
--- src/points.rt:132:47
 no-digits-requires : tie.Need-no-digits-requires
 no-digits-requires c κs = search needs
 
--- src/points.rt:132:60
 slice-aggregate-act-at : tie.Need-slice-aggregate-act-at
 slice-aggregate-act-at c = search needs
 
--- src/points.rt:132:9
 act-at-requires : tie.Need-act-at-requires
 act-at-requires c κs = (c .before .before .before .before .before .before .before .pre .0, c .before .before .before .before .before .before .before .pre .1, c .before .before .before .before .before .before .before .pre .2, points-one false, points-room false)
 
--- src/points.rt:134:23
 enum-told : tie.Need-enum-told
 enum-told c = search needs
 
--- src/points.rt:136:18
 enum-told-2 : tie.Need-enum-told-2
 enum-told-2 c = search needs
 
--- src/points.rt:136:13
 head-requires : tie.Need-head-requires
 head-requires c κs = omega (arith, (entry-room _ _ _ _ _ _ (c .before .before .before .before .act-at .ensures) _ (c .before .enum-told2 .given .1)), c .before .before .before .before .act-at .kept .1 .1 .1 .1 .1 .1 .1 .1 .0)
 
--- src/points.rt:137:22
 more-points-requires : tie.Need-more-points-requires
 more-points-requires c κs = (omega (arith, (entry-room _ _ _ _ _ _ (c .before .before .before .before .before .before .act-at .ensures) _ (c .before .before .before .enum-told2 .given .1)), c .before .before .before .before .before .before .before .before .before .before .before .before .before .before .good), c .before .before .before .before .before .before .before .before .before .before .before .before .before .before .pre .3)
 
--- src/points.rt:139:27
 enum-told-3 : tie.Need-enum-told-3
 enum-told-3 c = search needs
 
--- src/points.rt:140:32
 enum-told-4 : tie.Need-enum-told-4
 enum-told-4 c = search needs
 
--- src/points.rt:140:32
 at-block-requires : tie.Need-at-block-requires
 at-block-requires c κs = search needs
 
--- src/points.rt:141:22
 enum-known-next : tie.Need-enum-known-next
 enum-known-next c = search needs
 
--- src/points.rt:118:1
 same-length : tie.Need-same-length
 same-length c = search needs
 
--- src/points.rt:118:1
 returns : tie.Need-returns
 returns c = hide-stay (c .before .before .before .before .before .before .before .before .before .before .before .args .here) (c .before .before .before .before .before .before .before .before .before .before .before .args .at) (c .before .before .before .before .before .before .before .before .before .before .before .args .t .now) _ _ _ (point-acts false 15 (c .before .before .before .before .before .before .no-digits .result) (knownIn (c .before .before .before .before .before .before .before .before .before .before .before .args .s .now) (c .before .before .before .before .before .before .before .before .before .before .before .args .symbols .now) (c .before .before .before .before .before .before .before .before .before .before .before .args .layers .now)) (formIn (c .before .before .before .before .before .before .before .before .before .before .before .args .s .now) (c .before .before .before .before .before .before .before .before .before .before .before .args .form)) (c .before .before .before .before .before .before .before .before .before .before .before .args .here .points) (c .before .before .before .before .before .before .before .before .before .before .before .args .here .free) (c .before .before .before .before .before .before .before .before .before .before .before .args .t .now) _ _ refl (c .before .before .before .before .before .before .no-digits .ensures) (c .before .before .before .act-at .ensures)) (c .enum-told .given .1)
 
--- src/points.rt:118:1
 same-length-2 : tie.Need-same-length-2
 same-length-2 c = search needs
 
--- src/points.rt:118:1
 returns-2 : tie.Need-returns-2
 returns-2 c = hide-entry (c .before .before .before .before .before .before .before .before .before .before .before .before .before .before .before .args .here) (c .before .before .before .before .before .before .before .before .before .before .before .before .before .before .before .args .at) (c .before .before .before .before .before .before .before .before .before .before .before .before .before .before .before .args .t .now) _ _ _ (point-acts false 15 (c .before .before .before .before .before .before .before .before .before .before .no-digits .result) (knownIn (c .before .before .before .before .before .before .before .before .before .before .before .before .before .before .before .args .s .now) (c .before .before .before .before .before .before .before .before .before .before .before .before .before .before .before .args .symbols .now) (c .before .before .before .before .before .before .before .before .before .before .before .before .before .before .before .args .layers .now)) (formIn (c .before .before .before .before .before .before .before .before .before .before .before .before .before .before .before .args .s .now) (c .before .before .before .before .before .before .before .before .before .before .before .before .before .before .before .args .form)) (c .before .before .before .before .before .before .before .before .before .before .before .before .before .before .before .args .here .points) (c .before .before .before .before .before .before .before .before .before .before .before .before .before .before .before .args .here .free) (c .before .before .before .before .before .before .before .before .before .before .before .before .before .before .before .args .t .now) _ _ refl (c .before .before .before .before .before .before .before .before .before .before .no-digits .ensures) (c .before .before .before .before .before .before .before .act-at .ensures)) _ _ _ (c .before .before .head .ensures) (c .more-points .ensures) (c .before .before .before .before .enum-told2 .given .1)
 
--- src/points.rt:118:1
 same-length-3 : tie.Need-same-length-3
 same-length-3 c = search needs
 
--- src/points.rt:118:1
 returns-3 : tie.Need-returns-3
 returns-3 c = hide-begin (c .before .before .before .before .before .before .before .before .before .before .before .args .here) (c .before .before .before .before .before .before .before .before .before .before .before .args .at) (c .before .before .before .before .before .before .before .before .before .before .before .args .t .now) _ _ _ (point-acts false 15 (c .before .before .before .before .before .before .no-digits .result) (knownIn (c .before .before .before .before .before .before .before .before .before .before .before .args .s .now) (c .before .before .before .before .before .before .before .before .before .before .before .args .symbols .now) (c .before .before .before .before .before .before .before .before .before .before .before .args .layers .now)) (formIn (c .before .before .before .before .before .before .before .before .before .before .before .args .s .now) (c .before .before .before .before .before .before .before .before .before .before .before .args .form)) (c .before .before .before .before .before .before .before .before .before .before .before .args .here .points) (c .before .before .before .before .before .before .before .before .before .before .before .args .here .free) (c .before .before .before .before .before .before .before .before .before .before .before .args .t .now) _ _ refl (c .before .before .before .before .before .before .no-digits .ensures) (c .before .before .before .act-at .ensures)) _ _ (c .enum-told3 .given .1)
 
--- src/points.rt:118:1
 same-length-4 : tie.Need-same-length-4
 same-length-4 c = search needs
 
--- src/points.rt:118:1
 returns-4 : tie.Need-returns-4
 returns-4 c = hide-shut (c .before .before .before .before .before .before .before .before .before .before .before .before .args .here) (c .before .before .before .before .before .before .before .before .before .before .before .before .args .at) (c .before .before .before .before .before .before .before .before .before .before .before .before .args .t .now) _ _ _ (point-acts false 15 (c .before .before .before .before .before .before .before .no-digits .result) (knownIn (c .before .before .before .before .before .before .before .before .before .before .before .before .args .s .now) (c .before .before .before .before .before .before .before .before .before .before .before .before .args .symbols .now) (c .before .before .before .before .before .before .before .before .before .before .before .before .args .layers .now)) (formIn (c .before .before .before .before .before .before .before .before .before .before .before .before .args .s .now) (c .before .before .before .before .before .before .before .before .before .before .before .before .args .form)) (c .before .before .before .before .before .before .before .before .before .before .before .before .args .here .points) (c .before .before .before .before .before .before .before .before .before .before .before .before .args .here .free) (c .before .before .before .before .before .before .before .before .before .before .before .before .args .t .now) _ _ refl (c .before .before .before .before .before .before .before .no-digits .ensures) (c .before .before .before .before .act-at .ensures)) _ (c .at-block .ensures) (c .before .enum-told4 .given .1)
 
--- src/points.rt:118:1
 same-length-5 : tie.Need-same-length-5
 same-length-5 c = search needs
 
--- src/points.rt:118:1
 returns-5 : tie.Need-returns-5
 returns-5 c = hide-refuse (c .before .before .before .before .before .before .before .before .before .before .before .before .args .here) (c .before .before .before .before .before .before .before .before .before .before .before .before .args .at) (c .before .before .before .before .before .before .before .before .before .before .before .before .args .t .now) _ _ _ (point-acts false 15 (c .before .before .before .before .before .before .before .no-digits .result) (knownIn (c .before .before .before .before .before .before .before .before .before .before .before .before .args .s .now) (c .before .before .before .before .before .before .before .before .before .before .before .before .args .symbols .now) (c .before .before .before .before .before .before .before .before .before .before .before .before .args .layers .now)) (formIn (c .before .before .before .before .before .before .before .before .before .before .before .before .args .s .now) (c .before .before .before .before .before .before .before .before .before .before .before .before .args .form)) (c .before .before .before .before .before .before .before .before .before .before .before .before .args .here .points) (c .before .before .before .before .before .before .before .before .before .before .before .before .args .here .free) (c .before .before .before .before .before .before .before .before .before .before .before .before .args .t .now) _ _ refl (c .before .before .before .before .before .before .before .no-digits .ensures) (c .before .before .before .before .act-at .ensures)) _ _ (c .before .next .given .1)
 

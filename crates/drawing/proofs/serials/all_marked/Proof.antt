@@ -16,31 +16,24 @@ Inv-loop marks i₀ i = (i ≤ length marks) × (all (λ b. b) marks ≡ all (λ
 abbrev μ-loop : tie.MeasureT-loop
 μ-loop marks i₀ i = length marks - i
 
--- src/serials.rt:24:5
 loop-holds : tie.Need-loop-holds Inv-loop μ-loop
 loop-holds c = (omega arith, refl)
 
--- src/serials.rt:25:13
 shared-slice-read-if1 : tie.Need-shared-slice-read-if1 Inv-loop μ-loop
 shared-slice-read-if1 c = omega arith
 
--- src/serials.rt:26:13
 returns : tie.Need-returns Inv-loop μ-loop
 returns c = sym (c .before .before .before .loop .inv .1 ∙ mark-miss (c .before .before .before .before .args .marks .now) (c .before .before .before .loop .i) (c .before .before .loop-test .taken) (not-true _ (c .if1 .taken)))
 
--- src/serials.rt:28:9
 add-i : tie.Need-add-i Inv-loop μ-loop
 add-i c = omega arith
 
--- src/serials.rt:24:5
 loop-less : tie.Need-loop-less Inv-loop μ-loop
 loop-less c = omega arith
 
--- src/serials.rt:24:5
 loop-again : tie.Need-loop-again Inv-loop μ-loop
 loop-again c = (omega arith, c .before .before .before .loop .inv .1 ∙ mark-hit (c .before .before .before .before .args .marks .now) (c .before .before .before .loop .i) (c .before .before .loop-test .taken) (not-false _ (c .if1 .left)))
 
--- src/serials.rt:20:1
 returns-2 : tie.Need-returns-2 Inv-loop μ-loop
 returns-2 c = sym (c .before .loop .inv .1 ∙ mark-end (c .before .before .args .marks .now) (c .before .loop .i) (c .loop-test .left))
 

@@ -17,35 +17,27 @@ Inv-loop serials n i₀ i = (i ≤ length serials) × (hasNumber n serials ≡ h
 abbrev μ-loop : tie.MeasureT-loop
 μ-loop serials n i₀ i = length serials - i
 
--- src/serials.rt:10:5
 loop-holds : tie.Need-loop-holds Inv-loop μ-loop
 loop-holds c = (omega arith, refl)
 
--- src/serials.rt:11:12
 mul-if1 : tie.Need-mul-if1 Inv-loop μ-loop
 mul-if1 c = search needs
 
--- src/serials.rt:11:12
 shared-slice-read-if1 : tie.Need-shared-slice-read-if1 Inv-loop μ-loop
 shared-slice-read-if1 c = omega arith
 
--- src/serials.rt:12:13
 returns : tie.Need-returns Inv-loop μ-loop
 returns c = sym (c .before .before .before .loop .inv .1 ∙ number-hit (c .before .before .before .before .args .n) (c .before .before .before .before .args .serials .now) (c .before .before .before .loop .i) (c .before .before .loop-test .taken) (c .if1 .taken))
 
--- src/serials.rt:14:9
 add-i : tie.Need-add-i Inv-loop μ-loop
 add-i c = omega arith
 
--- src/serials.rt:10:5
 loop-less : tie.Need-loop-less Inv-loop μ-loop
 loop-less c = omega arith
 
--- src/serials.rt:10:5
 loop-again : tie.Need-loop-again Inv-loop μ-loop
 loop-again c = (omega arith, c .before .before .before .loop .inv .1 ∙ number-miss (c .before .before .before .before .args .n) (c .before .before .before .before .args .serials .now) (c .before .before .before .loop .i) (c .before .before .loop-test .taken) (c .if1 .left))
 
--- src/serials.rt:6:1
 returns-2 : tie.Need-returns-2 Inv-loop μ-loop
 returns-2 c = sym (c .before .loop .inv .1 ∙ number-end (c .before .before .args .n) (c .before .before .args .serials .now) (c .before .loop .i) (c .loop-test .left))
 

@@ -33,7 +33,6 @@ skip-block-Inv-loop s v left at₀ line₀ at line = Going s v left (record { at
 abbrev skip-block-μ-loop : skip-block-lts.MeasureT-loop
 skip-block-μ-loop s v left at₀ line₀ at line = v .end + 1 - at
 
--- src/skip.rt:87:5
 skip-block-loop-holds : (t : ℕ) → skip-block-lts.Need-loop-holds (
   next-line-reads.Asked,
   next-line-reads.Learnt,
@@ -46,7 +45,6 @@ skip-block-loop-holds : (t : ℕ) → skip-block-lts.Need-loop-holds (
 ) (skip-block-at t) skip-block.Post skip-block-Inv-loop skip-block-μ-loop
 skip-block-loop-holds t c = start _ _ _ _ (c .before .pre .1)
 
--- src/skip.rt:88:13
 skip-block-next-line-requires : (t : ℕ) → skip-block-lts.Need-next-line-requires (
   next-line-reads.Asked,
   next-line-reads.Learnt,
@@ -59,7 +57,6 @@ skip-block-next-line-requires : (t : ℕ) → skip-block-lts.Need-next-line-requ
 ) (skip-block-at t) skip-block.Post skip-block-Inv-loop skip-block-μ-loop
 skip-block-next-line-requires t c κs = let a = c .loop .inv .low .line in let b = c .loop .inv .low .at in omega arith
 
--- src/skip.rt:97:13
 skip-block-skip-line-requires : (t : ℕ) → skip-block-lts.Need-skip-line-requires (
   next-line-reads.Asked,
   next-line-reads.Learnt,
@@ -72,7 +69,6 @@ skip-block-skip-line-requires : (t : ℕ) → skip-block-lts.Need-skip-line-requ
 ) (skip-block-at t) skip-block.Post skip-block-Inv-loop skip-block-μ-loop
 skip-block-skip-line-requires t c κs = search needs
 
--- src/skip.rt:99:9
 skip-block-add-line : (t : ℕ) → skip-block-lts.Need-add-line (
   next-line-reads.Asked,
   next-line-reads.Learnt,
@@ -85,7 +81,6 @@ skip-block-add-line : (t : ℕ) → skip-block-lts.Need-add-line (
 ) (skip-block-at t) skip-block.Post skip-block-Inv-loop skip-block-μ-loop
 skip-block-add-line t c = let a = c .before .before .loop .inv .low .line in let b = c .before .before .loop .inv .low .at in omega arith
 
--- src/skip.rt:102:25
 skip-block-early-skip-requires : (t : ℕ) → skip-block-lts.Need-early-skip-requires (
   next-line-reads.Asked,
   next-line-reads.Learnt,
@@ -98,7 +93,6 @@ skip-block-early-skip-requires : (t : ℕ) → skip-block-lts.Need-early-skip-re
 ) (skip-block-at t) skip-block.Post skip-block-Inv-loop skip-block-μ-loop
 skip-block-early-skip-requires t c κs = search needs
 
--- src/skip.rt:101:13
 skip-block-returns : (t : ℕ) → skip-block-lts.Need-returns (
   next-line-reads.Asked,
   next-line-reads.Learnt,
@@ -123,7 +117,6 @@ skip-block-enum-told : (t : ℕ) → skip-block-lts.Need-enum-told (
 ) (skip-block-at t) skip-block.Post skip-block-Inv-loop skip-block-μ-loop
 skip-block-enum-told t c = search needs
 
--- src/skip.rt:87:5
 skip-block-loop-less : (t : ℕ) → skip-block-lts.Need-loop-less (
   next-line-reads.Asked,
   next-line-reads.Learnt,
@@ -136,7 +129,6 @@ skip-block-loop-less : (t : ℕ) → skip-block-lts.Need-loop-less (
 ) (skip-block-at t) skip-block.Post skip-block-Inv-loop skip-block-μ-loop
 skip-block-loop-less t c = let m = seen-forward _ _ _ _ (c .before .before .before .before .next-line .ensures) (c .before .before .if1 .left) in omega (arith, m .0, m .1)
 
--- src/skip.rt:87:5
 skip-block-loop-again : (t : ℕ) → skip-block-lts.Need-loop-again (
   next-line-reads.Asked,
   next-line-reads.Learnt,
@@ -149,7 +141,6 @@ skip-block-loop-again : (t : ℕ) → skip-block-lts.Need-loop-again (
 ) (skip-block-at t) skip-block.Post skip-block-Inv-loop skip-block-μ-loop
 skip-block-loop-again t c = stays _ _ _ _ _ (c .before .before .before .before .before .loop .inv) _ (c .before .before .before .before .next-line .ensures) _ (c .before .before .before .skip-line .ensures) (c .before .before .if1 .left) (sym (c .enum-told .given .1))
 
--- src/skip.rt:110:33
 skip-block-enum-told-2 : (t : ℕ) → skip-block-lts.Need-enum-told-2 (
   next-line-reads.Asked,
   next-line-reads.Learnt,
@@ -162,7 +153,6 @@ skip-block-enum-told-2 : (t : ℕ) → skip-block-lts.Need-enum-told-2 (
 ) (skip-block-at t) skip-block.Post skip-block-Inv-loop skip-block-μ-loop
 skip-block-enum-told-2 t c = search needs
 
--- src/skip.rt:110:17
 skip-block-returns-2 : (t : ℕ) → skip-block-lts.Need-returns-2 (
   next-line-reads.Asked,
   next-line-reads.Learnt,
@@ -175,7 +165,6 @@ skip-block-returns-2 : (t : ℕ) → skip-block-lts.Need-returns-2 (
 ) (skip-block-at t) skip-block.Post skip-block-Inv-loop skip-block-μ-loop
 skip-block-returns-2 t c = shut _ _ _ _ _ (c .before .before .before .before .before .loop .inv) _ (c .before .before .before .before .next-line .ensures) _ (c .before .before .before .skip-line .ensures) (c .before .before .if1 .left) (sym (c .enum-told2 .given .1))
 
--- src/skip.rt:115:29
 skip-block-enum-known-did : (t : ℕ) → skip-block-lts.Need-enum-known-did (
   next-line-reads.Asked,
   next-line-reads.Learnt,
@@ -188,7 +177,6 @@ skip-block-enum-known-did : (t : ℕ) → skip-block-lts.Need-enum-known-did (
 ) (skip-block-at t) skip-block.Post skip-block-Inv-loop skip-block-μ-loop
 skip-block-enum-known-did t c = search needs
 
--- src/skip.rt:116:17
 skip-block-returns-3 : (t : ℕ) → skip-block-lts.Need-returns-3 (
   next-line-reads.Asked,
   next-line-reads.Learnt,
@@ -201,7 +189,6 @@ skip-block-returns-3 : (t : ℕ) → skip-block-lts.Need-returns-3 (
 ) (skip-block-at t) skip-block.Post skip-block-Inv-loop skip-block-μ-loop
 skip-block-returns-3 t c = refuses _ _ _ _ _ (c .before .before .before .before .before .before .loop .inv) _ (c .before .before .before .before .before .next-line .ensures) _ (c .before .before .before .before .skip-line .ensures) (c .before .before .before .if1 .left) _ (sym (c .before .did .given .1))
 
--- src/skip.rt:123:20
 skip-block-enum-told-3 : (t : ℕ) → skip-block-lts.Need-enum-told-3 (
   next-line-reads.Asked,
   next-line-reads.Learnt,
@@ -214,7 +201,6 @@ skip-block-enum-told-3 : (t : ℕ) → skip-block-lts.Need-enum-told-3 (
 ) (skip-block-at t) skip-block.Post skip-block-Inv-loop skip-block-μ-loop
 skip-block-enum-told-3 t c = search needs
 
--- src/skip.rt:124:21
 skip-block-returns-4 : (t : ℕ) → skip-block-lts.Need-returns-4 (
   next-line-reads.Asked,
   next-line-reads.Learnt,
@@ -227,7 +213,6 @@ skip-block-returns-4 : (t : ℕ) → skip-block-lts.Need-returns-4 (
 ) (skip-block-at t) skip-block.Post skip-block-Inv-loop skip-block-μ-loop
 skip-block-returns-4 t c = too-deep _ _ _ _ _ (c .before .before .before .before .before .before .loop .inv) _ (c .before .before .before .before .before .next-line .ensures) _ (c .before .before .before .before .skip-line .ensures) (c .before .before .before .if1 .left) (sym (c .before .enum-told3 .given .1)) (c .if2 .taken)
 
--- src/skip.rt:137:21
 skip-block-sub-skip-block : (t : ℕ) → skip-block-lts.Need-sub-skip-block (
   next-line-reads.Asked,
   next-line-reads.Learnt,
@@ -240,7 +225,6 @@ skip-block-sub-skip-block : (t : ℕ) → skip-block-lts.Need-sub-skip-block (
 ) (skip-block-at t) skip-block.Post skip-block-Inv-loop skip-block-μ-loop
 skip-block-sub-skip-block t c = let a = c .before .before .before .before .before .before .loop .inv .one in omega arith
 
--- src/skip.rt:130:21
 skip-block-skip-block-requires : (t : ℕ) → skip-block-lts.Need-skip-block-requires (
   next-line-reads.Asked,
   next-line-reads.Learnt,
@@ -253,7 +237,6 @@ skip-block-skip-block-requires : (t : ℕ) → skip-block-lts.Need-skip-block-re
 ) (skip-block-at t) skip-block.Post skip-block-Inv-loop skip-block-μ-loop
 skip-block-skip-block-requires t c κs = (let a = c .before .before .before .before .before .before .loop .inv .one in omega (arith, c .before .before .before .before .before .before .before .before .pre .0), inner-ready _ _ _ _ _ (c .before .before .before .before .before .before .loop .inv) _ (c .before .before .before .before .before .next-line .ensures) _ (c .before .before .before .before .skip-line .ensures) (c .before .before .before .if1 .left) (sym (c .before .enum-told3 .given .1)) (c .if2 .left))
 
--- src/skip.rt:139:30
 skip-block-enum-known-r : (t : ℕ) → skip-block-lts.Need-enum-known-r (
   next-line-reads.Asked,
   next-line-reads.Learnt,
@@ -266,7 +249,6 @@ skip-block-enum-known-r : (t : ℕ) → skip-block-lts.Need-enum-known-r (
 ) (skip-block-at t) skip-block.Post skip-block-Inv-loop skip-block-μ-loop
 skip-block-enum-known-r t c = search needs
 
--- src/skip.rt:140:21
 skip-block-enum-told-4 : (t : ℕ) → skip-block-lts.Need-enum-told-4 (
   next-line-reads.Asked,
   next-line-reads.Learnt,
@@ -279,7 +261,6 @@ skip-block-enum-told-4 : (t : ℕ) → skip-block-lts.Need-enum-told-4 (
 ) (skip-block-at t) skip-block.Post skip-block-Inv-loop skip-block-μ-loop
 skip-block-enum-told-4 t c = search needs
 
--- src/skip.rt:140:21
 skip-block-returns-5 : (t : ℕ) → skip-block-lts.Need-returns-5 (
   next-line-reads.Asked,
   next-line-reads.Learnt,
@@ -292,7 +273,6 @@ skip-block-returns-5 : (t : ℕ) → skip-block-lts.Need-returns-5 (
 ) (skip-block-at t) skip-block.Post skip-block-Inv-loop skip-block-μ-loop
 skip-block-returns-5 t c = rw (c .enum-told4 .given .1) (inner-stops _ _ _ _ _ (c .before .before .before .before .before .before .before .before .before .loop .inv) _ (c .before .before .before .before .before .before .before .before .next-line .ensures) _ (c .before .before .before .before .before .before .before .skip-line .ensures) (c .before .before .before .before .before .before .if1 .left) (sym (c .before .before .before .before .enum-told3 .given .1)) (c .before .before .before .if2 .left) _ (rw (c .enum-told4 .given .1) at (c .before .before .skip-block .ensures)))
 
--- src/skip.rt:87:5
 skip-block-loop-less-2 : (t : ℕ) → skip-block-lts.Need-loop-less-2 (
   next-line-reads.Asked,
   next-line-reads.Learnt,
@@ -308,7 +288,6 @@ skip-block-loop-less-2 t c =
     let k = rw (c .before .r .given .1) at (c .before .before .before .skip-block .ensures) in
     omega (arith, m .0, m .1, k .further .1)
 
--- src/skip.rt:87:5
 skip-block-loop-again-2 : (t : ℕ) → skip-block-lts.Need-loop-again-2 (
   next-line-reads.Asked,
   next-line-reads.Learnt,

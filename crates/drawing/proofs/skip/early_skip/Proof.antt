@@ -4,39 +4,30 @@ use borrow.Author.Needs.{needs}
 use Rattle.drawing.proofs.skip.early_skip.Statement.{statement}
 use Rattle.drawing.proofs.skip.early_skip.Tie as tie
 
--- src/skip.rt:72:28
 enum-told : tie.Need-enum-told
 enum-told c = search needs
 
--- src/skip.rt:73:28
 enum-told-2 : tie.Need-enum-told-2
 enum-told-2 c = search needs
 
--- src/skip.rt:74:26
 enum-told-3 : tie.Need-enum-told-3
 enum-told-3 c = search needs
 
--- src/skip.rt:75:25
 enum-known-did : tie.Need-enum-known-did
 enum-known-did c = search needs
 
--- src/skip.rt:75:31
 less-requires : tie.Need-less-requires
 less-requires c κs = search needs
 
--- src/skip.rt:68:1
 returns : tie.Need-returns
 returns c = sym (ap earlySkip (c .enum-told .given .1))
 
--- src/skip.rt:68:1
 returns-2 : tie.Need-returns-2
 returns-2 c = sym (ap earlySkip (c .enum-told2 .given .1))
 
--- src/skip.rt:68:1
 returns-3 : tie.Need-returns-3
 returns-3 c = sym (ap earlySkip (c .enum-told3 .given .1))
 
--- src/skip.rt:68:1
 returns-4 : tie.Need-returns-4
 returns-4 c = c .less .ensures ∙ sym (ap earlySkip (c .before .before .did .given .1))
 

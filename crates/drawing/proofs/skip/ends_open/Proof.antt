@@ -5,31 +5,24 @@ use borrow.Author.Needs.{needs}
 use Rattle.drawing.proofs.skip.ends_open.Statement.{statement}
 use Rattle.drawing.proofs.skip.ends_open.Tie as tie
 
--- src/skip.rt:25:9
 returns : tie.Need-returns
 returns c = sym (too-short (c .before .before .args .c .now) (c .if1 .taken))
 
--- src/skip.rt:27:10
 sub-same : tie.Need-sub-same
 sub-same c = search needs
 
--- src/skip.rt:27:10
 part-same-start : tie.Need-part-same-start
 part-same-start c = search needs
 
--- src/skip.rt:27:10
 part-same-end : tie.Need-part-same-end
 part-same-end c = search needs
 
--- src/skip.rt:27:23
 slice-aggregate-same : tie.Need-slice-aggregate-same
 slice-aggregate-same c = search needs
 
--- src/skip.rt:27:5
 same-requires : tie.Need-same-requires
 same-requires c κs = search needs
 
--- src/skip.rt:20:1
 returns-2 : tie.Need-returns-2
 returns-2 c = c .same .ensures ∙ sym (last-two (c .before .before .before .before .before .args .c .now) (omega (arith, c .before .before .before .if1 .left)))
 

@@ -5,19 +5,15 @@ use borrow.Author.Needs.{needs}
 use Rattle.drawing.proofs.skip.skip_content.Statement.{statement}
 use Rattle.drawing.proofs.skip.skip_content.Tie as tie
 
--- src/skip.rt:34:9
 ends-open-requires : tie.Need-ends-open-requires
 ends-open-requires c κs = search needs
 
--- src/skip.rt:35:9
 returns : tie.Need-returns
 returns c = sym (content-passes (c .before .before .before .args .c .now) (sym (c .before .ends-open .ensures) ∙ not-true _ (c .if1 .taken)))
 
--- src/skip.rt:38:9
 returns-2 : tie.Need-returns-2
 returns-2 c = sym (content-formless (c .before .before .before .before .args .c .now) (sym (c .before .before .ends-open .ensures) ∙ not-false _ (c .before .if1 .left)) (c .if2 .taken))
 
--- src/skip.rt:31:1
 returns-3 : tie.Need-returns-3
 returns-3 c = sym (content-opens (c .before .before .before .before .args .c .now) (sym (c .before .before .ends-open .ensures) ∙ not-false _ (c .before .if1 .left)) (c .if2 .left))
 

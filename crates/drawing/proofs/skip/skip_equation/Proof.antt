@@ -8,31 +8,24 @@ use borrow.Author.Needs.{needs}
 use Rattle.drawing.proofs.skip.skip_equation.Statement.{statement}
 use Rattle.drawing.proofs.skip.skip_equation.Tie as tie
 
--- src/skip.rt:47:13
 part-requires : tie.Need-part-requires
 part-requires c κs = search needs
 
--- src/skip.rt:47:29
 slice-aggregate-same : tie.Need-slice-aggregate-same
 slice-aggregate-same c = search needs
 
--- src/skip.rt:47:8
 same-requires : tie.Need-same-requires
 same-requires c κs = search needs
 
--- src/skip.rt:48:9
 returns : tie.Need-returns
 returns c = sym (free (c .before .before .before .before .before .args .s .now) (c .before .before .before .before .before .args .q) (ap (λ (k : List ℕ). same k (bytes "character")) (sym (c .before .before .before .part .ensures)) ∙ sym (c .before .same .ensures) ∙ c .if1 .taken))
 
--- src/skip.rt:50:18
 part-requires-2 : tie.Need-part-requires-2
 part-requires-2 c κs = search needs
 
--- src/skip.rt:50:5
 skip-content-requires : tie.Need-skip-content-requires
 skip-content-requires c κs = search needs
 
--- src/skip.rt:44:1
 returns-2 : tie.Need-returns-2
 returns-2 c = c .skip-content .ensures ∙ ap skipContent (c .before .part2 .ensures) ∙ sym (not-free (c .before .before .before .before .before .before .before .args .s .now) (c .before .before .before .before .before .before .before .args .q) (ap (λ (k : List ℕ). same k (bytes "character")) (sym (c .before .before .before .before .before .part .ensures)) ∙ sym (c .before .before .before .same .ensures) ∙ c .before .before .if1 .left))
 

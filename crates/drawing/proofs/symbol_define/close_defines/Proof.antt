@@ -7,19 +7,15 @@ use Rattle.drawing.proofs.symbol_define.close_defines.Lts as lts
 use Rattle.drawing.proofs.blocks.at_block.Reads as at-block-reads
 use Rattle.drawing.proofs.symbol_define.defined.Reads as defined-reads
 
--- src/symbol_define.rt:93:9
 defined-requires : tie.Need-defined-requires
 defined-requires c κs = search needs
 
--- src/symbol_define.rt:94:9
 returns : tie.Need-returns
 returns c = close-none (c .before .before .args .here) (c .before .before .args .count) (c .before .defined .result) (c .before .defined .ensures) (c .if1 .taken)
 
--- src/symbol_define.rt:96:14
 at-block-requires : tie.Need-at-block-requires
 at-block-requires c κs = search needs
 
--- src/symbol_define.rt:90:1
 returns-2 : tie.Need-returns-2
 returns-2 c = close-some (c .before .before .before .args .here) (c .before .before .before .args .count) (c .before .before .defined .result) (c .at-block .result) (c .before .before .defined .ensures) (c .before .if1 .left) (c .at-block .ensures)
 

@@ -4,11 +4,9 @@ use Rattle.drawing.proofs.symbol_define.defined.Tie as tie
 use Rattle.drawing.proofs.symbol_define.defined.Reads as reads
 use Rattle.drawing.proofs.symbol_define.defined.Lts as lts
 
--- src/symbol_define.rt:84:9
 returns : tie.Need-returns
 returns c = rw (ne-eqb (c .before .before .args .here .part) 0 (c .if1 .taken))
 
--- src/symbol_define.rt:80:1
 returns-2 : tie.Need-returns-2
 returns-2 c = rw (c .if1 .left)
 

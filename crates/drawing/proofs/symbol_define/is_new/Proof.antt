@@ -12,27 +12,21 @@ use Rattle.drawing.proofs.symbol_define.is_new.Lts as lts
 use Rattle.entries.proofs.names.index_of.Reads as index-of-reads
 use Rattle.entries.proofs.names.part.Reads as part-reads
 
--- src/symbol_define.rt:145:32
 part-requires : tie.Need-part-requires
 part-requires c κs = search needs
 
--- src/symbol_define.rt:145:11
 index-of-requires : tie.Need-index-of-requires
 index-of-requires c κs = search needs
 
--- src/symbol_define.rt:146:25
 enum-told : tie.Need-enum-told
 enum-told c = search needs
 
--- src/symbol_define.rt:147:24
 enum-told-2 : tie.Need-enum-told-2
 enum-told-2 c = search needs
 
--- src/symbol_define.rt:141:1
 returns : tie.Need-returns
 returns c = index-old (bytesAt (c .before .before .before .before .before .before .args .s .now) (c .before .before .before .before .before .before .args .name)) (namesIn (c .before .before .before .before .before .before .args .s .now) (c .before .before .before .before .before .before .args .symbols .now)) _ (ap (λ (k : List ℕ). indexFrom 0 k (namesIn (c .before .before .before .before .before .before .args .s .now) (c .before .before .before .before .before .before .args .symbols .now))) (sym (c .before .before .before .part .ensures)) ∙ sym (c .before .before .index-of .ensures) ∙ c .enum-told .given .1)
 
--- src/symbol_define.rt:141:1
 returns-2 : tie.Need-returns-2
 returns-2 c = index-new (bytesAt (c .before .before .before .before .before .before .args .s .now) (c .before .before .before .before .before .before .args .name)) (namesIn (c .before .before .before .before .before .before .args .s .now) (c .before .before .before .before .before .before .args .symbols .now)) (ap (λ (k : List ℕ). indexFrom 0 k (namesIn (c .before .before .before .before .before .before .args .s .now) (c .before .before .before .before .before .before .args .symbols .now))) (sym (c .before .before .before .part .ensures)) ∙ sym (c .before .before .index-of .ensures) ∙ c .enum-told2 .given .1)
 

@@ -12,55 +12,42 @@ use Rattle.drawing.proofs.symbol_define.keep_name.Reads as reads
 use Rattle.drawing.proofs.symbol_define.keep_name.Lts as lts
 use Rattle.drawing.proofs.symbol_define.name_in.Reads as name-in-reads
 
--- src/symbol_define.rt:241:9
 name-in-requires : tie.Need-name-in-requires
 name-in-requires c κs = (omega (arith, c .before .before .pre .3), c .before .before .pre .4)
 
--- src/symbol_define.rt:242:13
 slice-read-i : tie.Need-slice-read-i
 slice-read-i c = search needs
 
--- src/symbol_define.rt:242:13
 cast-i : tie.Need-cast-i
 cast-i c = search needs
 
--- src/symbol_define.rt:243:28
 mul-symbols : tie.Need-mul-symbols
 mul-symbols c = rw (c .before .before .name-in .ensures) (record { fits = omega (arith, place-small (getD (c .before .before .before .before .before .args .rec .now) 6 (pos 0)) (named-len (c .before .before .before .before .before .args .rec .now) (c .before .before .before .before .before .pre .4))) })
 
--- src/symbol_define.rt:243:18
 add-symbols : tie.Need-add-symbols
 add-symbols c = rw (c .before .before .before .name-in .ensures) (record { fits = omega (arith, place-small (getD (c .before .before .before .before .before .before .args .rec .now) 5 (pos 0)) (named-at (c .before .before .before .before .before .before .args .rec .now) (c .before .before .before .before .before .before .pre .4)), place-small (getD (c .before .before .before .before .before .before .args .rec .now) 6 (pos 0)) (named-len (c .before .before .before .before .before .before .args .rec .now) (c .before .before .before .before .before .before .pre .4))) })
 
--- src/symbol_define.rt:243:5
 mul-symbols-2 : tie.Need-mul-symbols-2
 mul-symbols-2 c = search needs
 
--- src/symbol_define.rt:243:5
 slice-write-symbols : tie.Need-slice-write-symbols
 slice-write-symbols c = search needs
 
--- src/symbol_define.rt:244:22
 slice-read-tally : tie.Need-slice-read-tally
 slice-read-tally c = search needs
 
--- src/symbol_define.rt:244:22
 add-tally : tie.Need-add-tally
 add-tally c = search needs
 
--- src/symbol_define.rt:244:5
 slice-write-tally : tie.Need-slice-write-tally
 slice-write-tally c = search needs
 
--- src/symbol_define.rt:237:1
 same-length : tie.Need-same-length
 same-length c = search needs
 
--- src/symbol_define.rt:237:1
 same-length-2 : tie.Need-same-length-2
 same-length-2 c = search needs
 
--- src/symbol_define.rt:237:1
 returns : tie.Need-returns
 returns c = (ap (λ (p : Span). set (c .before .before .before .before .before .before .before .args .symbols .now) (getD (c .before .before .before .before .before .before .before .args .tally .now) 9 0) (nameNumber p)) (c .before .before .before .before .name-in .ensures), refl)
 

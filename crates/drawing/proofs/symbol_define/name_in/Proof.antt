@@ -7,23 +7,18 @@ use Rattle.drawing.proofs.symbol_define.name_in.Tie as tie
 use Rattle.drawing.proofs.symbol_define.name_in.Reads as reads
 use Rattle.drawing.proofs.symbol_define.name_in.Lts as lts
 
--- src/symbol_define.rt:135:13
 shared-slice-copy-out-t3 : tie.Need-shared-slice-copy-out-t3
 shared-slice-copy-out-t3 c = search needs
 
--- src/symbol_define.rt:135:13
 cast-t4 : tie.Need-cast-t4
 cast-t4 c = place-cast (getD (c .before .args .rec .now) 5 (pos 0)) (record { sfits = c .t3 .given }) (named-at (c .before .args .rec .now) (c .before .pre .1))
 
--- src/symbol_define.rt:136:14
 shared-slice-copy-out-t6 : tie.Need-shared-slice-copy-out-t6
 shared-slice-copy-out-t6 c = search needs
 
--- src/symbol_define.rt:136:14
 cast-t7 : tie.Need-cast-t7
 cast-t7 c = place-cast (getD (c .before .before .args .rec .now) 6 (pos 0)) (record { sfits = c .t6 .given }) (named-len (c .before .before .args .rec .now) (c .before .before .pre .1))
 
--- src/symbol_define.rt:130:1
 returns : tie.Need-returns
 returns c = name-back (c .before .before .args .rec .now) (record { sfits = c .before .t3 .given }) (record { sfits = c .t6 .given })
 

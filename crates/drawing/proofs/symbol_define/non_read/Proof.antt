@@ -6,15 +6,12 @@ use Rattle.drawing.proofs.symbol_define.non_read.Reads as reads
 use Rattle.drawing.proofs.symbol_define.non_read.Lts as lts
 use Rattle.drawing.proofs.blocks.at_block.Reads as at-block-reads
 
--- src/symbol_define.rt:41:9
 returns : tie.Need-returns
 returns c = rw (ne-eqb (c .before .args .count) 0 (c .if1 .taken))
 
--- src/symbol_define.rt:43:14
 at-block-requires : tie.Need-at-block-requires
 at-block-requires c κs = search needs
 
--- src/symbol_define.rt:37:1
 returns-2 : tie.Need-returns-2
 returns-2 c = rw (c .before .if1 .left, c .at-block .ensures)
 

@@ -12,79 +12,60 @@ use Rattle.drawing.proofs.symbol_define.close_defines.Reads as close-de
 use Rattle.drawing.proofs.symbol_define.non_read.Reads as non-read-reads
 use Rattle.drawing.proofs.symbol_define.open_symbol.Reads as open-symbol-reads
 
--- src/symbol_define.rt:114:9
 digits-of-requires : tie.Need-digits-of-requires
 digits-of-requires c κs = search needs
 
--- src/symbol_define.rt:115:9
 slice-aggregate-act : tie.Need-slice-aggregate-act
 slice-aggregate-act c = search needs
 
--- src/symbol_define.rt:118:9
 slice-aggregate-act-2 : tie.Need-slice-aggregate-act-2
 slice-aggregate-act-2 c = search needs
 
--- src/symbol_define.rt:109:9
 act-requires : tie.Need-act-requires
 act-requires c κs = (c .before .before .before .before .before .before .before .before .pre .0, c .before .before .before .before .before .before .before .before .pre .1, c .before .before .before .before .before .before .before .before .pre .2, defines-two, defines-room)
 
--- src/symbol_define.rt:121:23
 enum-told : tie.Need-enum-told
 enum-told c = search needs
 
--- src/symbol_define.rt:122:27
 enum-told-2 : tie.Need-enum-told-2
 enum-told-2 c = search needs
 
--- src/symbol_define.rt:122:27
 non-read-requires : tie.Need-non-read-requires
 non-read-requires c κs = search needs
 
--- src/symbol_define.rt:123:56
 enum-told-3 : tie.Need-enum-told-3
 enum-told-3 c = search needs
 
--- src/symbol_define.rt:123:27
 open-symbol-requires : tie.Need-open-symbol-requires
 open-symbol-requires c κs = search needs
 
--- src/symbol_define.rt:124:23
 enum-told-4 : tie.Need-enum-told-4
 enum-told-4 c = search needs
 
--- src/symbol_define.rt:124:23
 close-defines-requires : tie.Need-close-defines-requires
 close-defines-requires c κs = search needs
 
--- src/symbol_define.rt:125:22
 enum-known-next : tie.Need-enum-known-next
 enum-known-next c = search needs
 
--- src/symbol_define.rt:92:1
 returns : tie.Need-returns
 returns c = defines-stay (c .before .before .before .before .before .before .before .before .before .before .before .before .args .here) (length (c .before .before .before .before .before .before .before .before .before .before .before .before .args .symbols .now)) (c .before .before .before .before .before .before .before .before .before .before .before .before .args .at) (c .before .before .before .before .before .before .before .before .before .before .before .before .args .marks .now) _ (c .before .before .before .before .before .before .before .before .before .before .before .before .args .t .now) _ _ (c .before .before .before .act .result) ((rw (c .before .before .before .before .before .before .digits-of .ensures) at (c .before .before .before .act .ensures)) .eq) (c .enum-told .given .1) (record { marks = refl; table = refl })
 
--- src/symbol_define.rt:92:1
 returns-2 : tie.Need-returns-2
 returns-2 c = defines-entry (c .before .before .before .before .before .before .before .before .before .before .before .before .before .args .here) (length (c .before .before .before .before .before .before .before .before .before .before .before .before .before .args .symbols .now)) (c .before .before .before .before .before .before .before .before .before .before .before .before .before .args .at) (c .before .before .before .before .before .before .before .before .before .before .before .before .before .args .marks .now) _ (c .before .before .before .before .before .before .before .before .before .before .before .before .before .args .t .now) _ _ (c .before .before .before .before .act .result) ((rw (c .before .before .before .before .before .before .before .digits-of .ensures) at (c .before .before .before .before .act .ensures)) .eq) _ (c .non-read .result) (c .before .enum-told2 .given .1) (c .non-read .ensures) (record { marks = refl; table = refl })
 
--- src/symbol_define.rt:92:1
 same-length : tie.Need-same-length
 same-length c = search needs
 
--- src/symbol_define.rt:92:1
 same-length-2 : tie.Need-same-length-2
 same-length-2 c = search needs
 
--- src/symbol_define.rt:92:1
 returns-3 : tie.Need-returns-3
 returns-3 c = defines-begin (c .before .before .before .before .before .before .before .before .before .before .before .before .before .before .before .before .before .before .args .here) (length (c .before .before .before .before .before .before .before .before .before .before .before .before .before .before .before .before .before .before .args .symbols .now)) (c .before .before .before .before .before .before .before .before .before .before .before .before .before .before .before .before .before .before .args .at) (c .before .before .before .before .before .before .before .before .before .before .before .before .before .before .before .before .before .before .args .marks .now) _ (c .before .before .before .before .before .before .before .before .before .before .before .before .before .before .before .before .before .before .args .t .now) _ _ (c .before .before .before .before .before .before .before .before .before .act .result) ((rw (c .before .before .before .before .before .before .before .before .before .before .before .before .digits-of .ensures) at (c .before .before .before .before .before .before .before .before .before .act .ensures)) .eq) _ (c .before .before .before .open-symbol .result) (c .before .before .before .before .before .before .enum-told3 .given .1) (c .before .before .before .open-symbol .ensures .0) (c .before .before .before .open-symbol .ensures .1)
 
--- src/symbol_define.rt:92:1
 returns-4 : tie.Need-returns-4
 returns-4 c = defines-shut (c .before .before .before .before .before .before .before .before .before .before .before .before .before .args .here) (length (c .before .before .before .before .before .before .before .before .before .before .before .before .before .args .symbols .now)) (c .before .before .before .before .before .before .before .before .before .before .before .before .before .args .at) (c .before .before .before .before .before .before .before .before .before .before .before .before .before .args .marks .now) _ (c .before .before .before .before .before .before .before .before .before .before .before .before .before .args .t .now) _ _ (c .before .before .before .before .act .result) ((rw (c .before .before .before .before .before .before .before .digits-of .ensures) at (c .before .before .before .before .act .ensures)) .eq) (c .close-defines .result) (c .before .enum-told4 .given .1) (c .close-defines .ensures) (record { marks = refl; table = refl })
 
--- src/symbol_define.rt:92:1
 returns-5 : tie.Need-returns-5
 returns-5 c = defines-refuse (c .before .before .before .before .before .before .before .before .before .before .before .before .before .args .here) (length (c .before .before .before .before .before .before .before .before .before .before .before .before .before .args .symbols .now)) (c .before .before .before .before .before .before .before .before .before .before .before .before .before .args .at) (c .before .before .before .before .before .before .before .before .before .before .before .before .before .args .marks .now) _ (c .before .before .before .before .before .before .before .before .before .before .before .before .before .args .t .now) _ _ (c .before .before .before .before .act .result) ((rw (c .before .before .before .before .before .before .before .digits-of .ensures) at (c .before .before .before .before .act .ensures)) .eq) (c .before .next .given .0 .0) (c .before .next .given .1)
 

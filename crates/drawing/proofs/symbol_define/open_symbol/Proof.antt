@@ -12,51 +12,39 @@ use Rattle.drawing.proofs.blocks.unmark.Reads as unmark-reads
 use Rattle.drawing.proofs.symbol_define.symbol_opened.Reads as symbol-opened-reads
 use Rattle.drawing.proofs.table.head.Reads as head-reads
 
--- src/symbol_define.rt:68:9
 returns : tie.Need-returns
 returns c = open-non (c .before .before .before .args .here) (c .before .before .before .args .count) _ _ (c .if1 .taken)
 
--- src/symbol_define.rt:71:9
 has-room-requires : tie.Need-has-room-requires
 has-room-requires c κs = search needs
 
--- src/symbol_define.rt:72:9
 same-length : tie.Need-same-length
 same-length c = search needs
 
--- src/symbol_define.rt:72:9
 returns-2 : tie.Need-returns-2
 returns-2 c = open-full (c .before .before .before .before .before .before .args .here) (c .before .before .before .before .before .before .args .count) _ _ (c .before .before .before .if1 .left) (sym (c .before .has-room .ensures) ∙ not-true (c .before .has-room .result) (c .if2 .taken))
 
--- src/symbol_define.rt:74:19
 cast-head : tie.Need-cast-head
 cast-head c = search needs
 
--- src/symbol_define.rt:74:5
 head-requires : tie.Need-head-requires
 head-requires c κs = omega (arith, room-then (c .before .before .before .before .before .before .before .args .here .free) (c .before .before .before .before .before .before .before .args .t .now) (c .before .before .has-room .result) (c .before .before .has-room .ensures) (c .before .if2 .left))
 
--- src/symbol_define.rt:75:5
 unmark-requires : tie.Need-unmark-requires
 unmark-requires c κs = search needs
 
--- src/symbol_define.rt:76:34
 cast-symbol-opened : tie.Need-cast-symbol-opened
 cast-symbol-opened c = search needs
 
--- src/symbol_define.rt:76:14
 symbol-opened-requires : tie.Need-symbol-opened-requires
 symbol-opened-requires c κs = omega (arith, room-then (c .before .before .before .before .before .before .before .before .before .before .before .before .before .args .here .free) (c .before .before .before .before .before .before .before .before .before .before .before .before .before .args .t .now) (c .before .before .before .before .before .before .before .before .has-room .result) (c .before .before .before .before .before .before .before .before .has-room .ensures) (c .before .before .before .before .before .before .before .if2 .left), c .before .before .before .before .before .before .before .before .before .before .before .before .before .good .1 .1 .1 .1 .0 .1)
 
--- src/symbol_define.rt:63:1
 same-length-2 : tie.Need-same-length-2
 same-length-2 c = search needs
 
--- src/symbol_define.rt:63:1
 same-length-3 : tie.Need-same-length-3
 same-length-3 c = search needs
 
--- src/symbol_define.rt:63:1
 returns-3 : tie.Need-returns-3
 returns-3 c = open-go (c .before .before .before .before .before .before .before .before .before .before .before .before .before .before .args .here) (c .before .before .before .before .before .before .before .before .before .before .before .before .before .before .args .count) _ _ (c .symbol-opened .result) (c .before .before .before .before .before .before .before .before .before .before .before .if1 .left) (sym (c .before .before .before .before .before .before .before .before .before .has-room .ensures) ∙ not-false (c .before .before .before .before .before .before .before .before .before .has-room .result) (c .before .before .before .before .before .before .before .before .if2 .left)) (c .symbol-opened .ensures) (record { marks = c .before .before .before .unmark .ensures; table = c .before .before .before .before .before .before .head .ensures })
 

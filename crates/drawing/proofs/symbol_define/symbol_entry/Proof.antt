@@ -9,39 +9,30 @@ use Rattle.drawing.proofs.symbol_define.symbol_entry.Lts as lts
 use Rattle.drawing.proofs.symbol_define.is_new.Reads as is-new-reads
 use Rattle.drawing.proofs.symbol_define.name_in.Reads as name-in-reads
 
--- src/symbol_define.rt:162:5
 slice-write-marks : tie.Need-slice-write-marks
 slice-write-marks c = search needs
 
--- src/symbol_define.rt:164:32
 name-in-requires : tie.Need-name-in-requires
 name-in-requires c κs = (c .before .before .before .before .pre .2, c .before .before .before .before .pre .3 (c .if1 .taken))
 
--- src/symbol_define.rt:164:13
 is-new-requires : tie.Need-is-new-requires
 is-new-requires c κs = search needs
 
--- src/symbol_define.rt:165:13
 same-length : tie.Need-same-length
 same-length c = search needs
 
--- src/symbol_define.rt:165:13
 returns : tie.Need-returns
 returns c = (entry-old (c .before .before .before .before .before .before .before .args .s .now) (c .before .before .before .before .before .before .before .args .symbols .now) (c .before .before .before .before .before .before .before .args .here) (c .before .before .before .before .before .before .before .args .row) (c .before .before .before .before .before .before .before .args .rec .now) (c .before .before .name-in .result) (c .before .before .name-in .ensures) (c .before .is-new .result) (c .before .is-new .ensures) (c .before .before .before .if1 .taken) (c .if2 .taken), refl)
 
--- src/symbol_define.rt:151:1
 same-length-2 : tie.Need-same-length-2
 same-length-2 c = search needs
 
--- src/symbol_define.rt:151:1
 returns-2 : tie.Need-returns-2
 returns-2 c = (entry-new (c .before .before .before .before .before .before .before .args .s .now) (c .before .before .before .before .before .before .before .args .symbols .now) (c .before .before .before .before .before .before .before .args .here) (c .before .before .before .before .before .before .before .args .row) (c .before .before .before .before .before .before .before .args .rec .now) (c .before .before .name-in .result) (c .before .before .name-in .ensures) (c .before .is-new .result) (c .before .is-new .ensures) (c .before .before .before .if1 .taken) (c .if2 .left), refl)
 
--- src/symbol_define.rt:151:1
 same-length-3 : tie.Need-same-length-3
 same-length-3 c = search needs
 
--- src/symbol_define.rt:151:1
 returns-3 : tie.Need-returns-3
 returns-3 c = (rw (ne-eqb (c .before .before .before .before .args .row) 0 (c .if1 .left)), refl)
 

@@ -4,11 +4,9 @@ use Rattle.drawing.proofs.symbol_define.symbol_part.Tie as tie
 use Rattle.drawing.proofs.symbol_define.symbol_part.Reads as reads
 use Rattle.drawing.proofs.symbol_define.symbol_part.Lts as lts
 
--- src/symbol_define.rt:176:9
 returns : tie.Need-returns
 returns c = rw (c .if1 .taken)
 
--- src/symbol_define.rt:172:1
 returns-2 : tie.Need-returns-2
 returns-2 c = rw (ne-eqb (c .before .args .block) 1 (c .if1 .left))
 

@@ -7,71 +7,54 @@ use Rattle.drawing.proofs.table.head.Tie as tie
 use Rattle.drawing.proofs.table.head.Reads as reads
 use Rattle.drawing.proofs.table.head.Lts as lts
 
--- src/table.rt:25:12
 cast-t : tie.Need-cast-t
 cast-t c = search needs
 
--- src/table.rt:25:5
 mul-t : tie.Need-mul-t
 mul-t c = search needs
 
--- src/table.rt:25:5
 slice-set-from-t : tie.Need-slice-set-from-t
 slice-set-from-t c = search needs
 
--- src/table.rt:26:16
 cast-t-2 : tie.Need-cast-t-2
 cast-t-2 c = search needs
 
--- src/table.rt:26:7
 add-t : tie.Need-add-t
 add-t c = search needs
 
--- src/table.rt:26:5
 mul-t-2 : tie.Need-mul-t-2
 mul-t-2 c = search needs
 
--- src/table.rt:26:5
 slice-set-from-t-2 : tie.Need-slice-set-from-t-2
 slice-set-from-t-2 c = room-2 (c .args .t .now) (c .args .w) (c .pre) _ (pos 0) (pos 0)
 
--- src/table.rt:27:16
 cast-t-3 : tie.Need-cast-t-3
 cast-t-3 c = search needs
 
--- src/table.rt:27:7
 add-t-2 : tie.Need-add-t-2
 add-t-2 c = search needs
 
--- src/table.rt:27:5
 mul-t-3 : tie.Need-mul-t-3
 mul-t-3 c = search needs
 
--- src/table.rt:27:5
 slice-set-from-t-3 : tie.Need-slice-set-from-t-3
 slice-set-from-t-3 c = room-3 (c .args .t .now) (c .args .w) (c .pre) _ _ (pos 0)
 
--- src/table.rt:28:16
 cast-t-4 : tie.Need-cast-t-4
 cast-t-4 c = search needs
 
--- src/table.rt:28:7
 add-t8 : tie.Need-add-t8
 add-t8 c = search needs
 
--- src/table.rt:28:5
 mul-t10 : tie.Need-mul-t10
 mul-t10 c = search needs
 
--- src/table.rt:28:5
 slice-set-from-t-4 : tie.Need-slice-set-from-t-4
 slice-set-from-t-4 c = room-4 (c .args .t .now) (c .args .w) (c .pre) _ _ _
 
--- src/table.rt:21:1
 same-length : tie.Need-same-length
 same-length c = search needs
 
--- src/table.rt:21:1
 returns : tie.Need-returns
 returns c = four-stores (c .args .t .now) (c .args .w) (c .args .kind) (c .args .owner) (c .args .volume) (c .args .line) (omega arith) (omega arith) (omega arith) (omega arith)
 

@@ -13,107 +13,81 @@ use Rattle.drawing.proofs.blocks.figure_done.Reads as figure-done-reads
 use Rattle.drawing.proofs.blocks.no_digits.Reads as no-digits-reads
 use Rattle.drawing.proofs.texts.text_table.Reads as text-table-reads
 
--- src/texts.rt:43:9
 text-table-requires : tie.Need-text-table-requires
 text-table-requires c κs = search needs
 
--- src/texts.rt:47:9
 no-digits-requires : tie.Need-no-digits-requires
 no-digits-requires c κs = search needs
 
--- src/texts.rt:42:9
 act-requires : tie.Need-act-requires
 act-requires c κs = (c .before .before .before .before .before .before .before .before .pre .0, c .before .before .before .before .before .before .before .before .pre .1, c .before .before .before .before .before .before .before .before .pre .2, rw (c .before .before .before .text-table .ensures) (c .before .before .before .before .before .before .before .before .pre .4 ∙ sym (text-two (c .before .before .before .before .before .before .before .before .args .here .layered))), rw (c .before .before .before .text-table .ensures) (text-room (c .before .before .before .before .before .before .before .before .args .here .layered) _ (c .before .before .before .before .before .before .before .before .pre .5)))
 
--- src/texts.rt:54:23
 enum-told : tie.Need-enum-told
 enum-told c = search needs
 
--- src/texts.rt:55:21
 enum-known-next : tie.Need-enum-known-next
 enum-known-next c = search needs
 
--- src/texts.rt:56:19
 cast-marks : tie.Need-cast-marks
 cast-marks c = search needs
 
--- src/texts.rt:56:13
 slice-write-marks : tie.Need-slice-write-marks
 slice-write-marks c = omega (arith, text-row (c .before .before .before .before .before .before .before .before .before .before .before .before .before .args .here) (knownIn (c .before .before .before .before .before .before .before .before .before .before .before .before .before .args .s .now) (c .before .before .before .before .before .before .before .before .before .before .before .before .before .args .symbols .now) (c .before .before .before .before .before .before .before .before .before .before .before .before .before .args .layers .now)) (c .before .before .before .before .before .before .before .before .before .before .before .before .before .args .marks .now) (formIn (c .before .before .before .before .before .before .before .before .before .before .before .before .before .args .s .now) (c .before .before .before .before .before .before .before .before .before .before .before .before .before .args .form)) (c .before .before .before .before .before .before .before .before .before .before .before .before .before .args .rec .now) _ _ (text-acts (c .before .before .before .before .before .before .before .before .before .before .before .before .before .args .here .layered) (c .before .before .before .before .before .before .before .before .text-table .result) (c .before .before .before .before .before .before .before .no-digits .result) (knownIn (c .before .before .before .before .before .before .before .before .before .before .before .before .before .args .s .now) (c .before .before .before .before .before .before .before .before .before .before .before .before .before .args .symbols .now) (c .before .before .before .before .before .before .before .before .before .before .before .before .before .args .layers .now)) (c .before .before .before .before .before .before .before .before .before .before .before .before .before .args .marks .now) (formIn (c .before .before .before .before .before .before .before .before .before .before .before .before .before .args .s .now) (c .before .before .before .before .before .before .before .before .before .before .before .before .before .args .form)) (c .before .before .before .before .before .before .before .before .before .before .before .before .before .args .rec .now) _ _ (c .before .before .before .before .before .before .before .before .text-table .ensures) (c .before .before .before .before .before .before .before .no-digits .ensures) (c .before .before .before .before .act .ensures)) _ (c .before .next .given .1), c .before .before .before .before .before .before .before .before .before .before .before .before .before .pre .4)
 
--- src/texts.rt:59:27
 enum-told-2 : tie.Need-enum-told-2
 enum-told-2 c = search needs
 
--- src/texts.rt:60:32
 enum-told-3 : tie.Need-enum-told-3
 enum-told-3 c = search needs
 
--- src/texts.rt:60:32
 figure-done-requires : tie.Need-figure-done-requires
 figure-done-requires c κs = search needs
 
--- src/texts.rt:61:22
 enum-known-next-2 : tie.Need-enum-known-next-2
 enum-known-next-2 c = search needs
 
--- src/texts.rt:30:1
 same-length : tie.Need-same-length
 same-length c = search needs
 
--- src/texts.rt:30:1
 same-length-2 : tie.Need-same-length-2
 same-length-2 c = search needs
 
--- src/texts.rt:30:1
 returns : tie.Need-returns
 returns c = text-stay (c .before .before .before .before .before .before .before .before .before .before .before .before .args .here) (knownIn (c .before .before .before .before .before .before .before .before .before .before .before .before .args .s .now) (c .before .before .before .before .before .before .before .before .before .before .before .before .args .symbols .now) (c .before .before .before .before .before .before .before .before .before .before .before .before .args .layers .now)) (c .before .before .before .before .before .before .before .before .before .before .before .before .args .marks .now) (formIn (c .before .before .before .before .before .before .before .before .before .before .before .before .args .s .now) (c .before .before .before .before .before .before .before .before .before .before .before .before .args .form)) (c .before .before .before .before .before .before .before .before .before .before .before .before .args .rec .now) _ _ (text-acts (c .before .before .before .before .before .before .before .before .before .before .before .before .args .here .layered) (c .before .before .before .before .before .before .before .text-table .result) (c .before .before .before .before .before .before .no-digits .result) (knownIn (c .before .before .before .before .before .before .before .before .before .before .before .before .args .s .now) (c .before .before .before .before .before .before .before .before .before .before .before .before .args .symbols .now) (c .before .before .before .before .before .before .before .before .before .before .before .before .args .layers .now)) (c .before .before .before .before .before .before .before .before .before .before .before .before .args .marks .now) (formIn (c .before .before .before .before .before .before .before .before .before .before .before .before .args .s .now) (c .before .before .before .before .before .before .before .before .before .before .before .before .args .form)) (c .before .before .before .before .before .before .before .before .before .before .before .before .args .rec .now) _ _ (c .before .before .before .before .before .before .before .text-table .ensures) (c .before .before .before .before .before .before .no-digits .ensures) (c .before .before .before .act .ensures)) (c .enum-told .given .1)
 
--- src/texts.rt:30:1
 same-length-3 : tie.Need-same-length-3
 same-length-3 c = search needs
 
--- src/texts.rt:30:1
 same-length-4 : tie.Need-same-length-4
 same-length-4 c = search needs
 
--- src/texts.rt:30:1
 returns-2 : tie.Need-returns-2
 returns-2 c = text-entry (c .before .before .before .before .before .before .before .before .before .before .before .before .before .args .here) (knownIn (c .before .before .before .before .before .before .before .before .before .before .before .before .before .args .s .now) (c .before .before .before .before .before .before .before .before .before .before .before .before .before .args .symbols .now) (c .before .before .before .before .before .before .before .before .before .before .before .before .before .args .layers .now)) (c .before .before .before .before .before .before .before .before .before .before .before .before .before .args .marks .now) (formIn (c .before .before .before .before .before .before .before .before .before .before .before .before .before .args .s .now) (c .before .before .before .before .before .before .before .before .before .before .before .before .before .args .form)) (c .before .before .before .before .before .before .before .before .before .before .before .before .before .args .rec .now) _ _ (text-acts (c .before .before .before .before .before .before .before .before .before .before .before .before .before .args .here .layered) (c .before .before .before .before .before .before .before .before .text-table .result) (c .before .before .before .before .before .before .before .no-digits .result) (knownIn (c .before .before .before .before .before .before .before .before .before .before .before .before .before .args .s .now) (c .before .before .before .before .before .before .before .before .before .before .before .before .before .args .symbols .now) (c .before .before .before .before .before .before .before .before .before .before .before .before .before .args .layers .now)) (c .before .before .before .before .before .before .before .before .before .before .before .before .before .args .marks .now) (formIn (c .before .before .before .before .before .before .before .before .before .before .before .before .before .args .s .now) (c .before .before .before .before .before .before .before .before .before .before .before .before .before .args .form)) (c .before .before .before .before .before .before .before .before .before .before .before .before .before .args .rec .now) _ _ (c .before .before .before .before .before .before .before .before .text-table .ensures) (c .before .before .before .before .before .before .before .no-digits .ensures) (c .before .before .before .before .act .ensures)) _ (c .before .next .given .1)
 
--- src/texts.rt:30:1
 same-length-5 : tie.Need-same-length-5
 same-length-5 c = search needs
 
--- src/texts.rt:30:1
 same-length-6 : tie.Need-same-length-6
 same-length-6 c = search needs
 
--- src/texts.rt:30:1
 returns-3 : tie.Need-returns-3
 returns-3 c = text-begin (c .before .before .before .before .before .before .before .before .before .before .before .before .args .here) (knownIn (c .before .before .before .before .before .before .before .before .before .before .before .before .args .s .now) (c .before .before .before .before .before .before .before .before .before .before .before .before .args .symbols .now) (c .before .before .before .before .before .before .before .before .before .before .before .before .args .layers .now)) (c .before .before .before .before .before .before .before .before .before .before .before .before .args .marks .now) (formIn (c .before .before .before .before .before .before .before .before .before .before .before .before .args .s .now) (c .before .before .before .before .before .before .before .before .before .before .before .before .args .form)) (c .before .before .before .before .before .before .before .before .before .before .before .before .args .rec .now) _ _ (text-acts (c .before .before .before .before .before .before .before .before .before .before .before .before .args .here .layered) (c .before .before .before .before .before .before .before .text-table .result) (c .before .before .before .before .before .before .no-digits .result) (knownIn (c .before .before .before .before .before .before .before .before .before .before .before .before .args .s .now) (c .before .before .before .before .before .before .before .before .before .before .before .before .args .symbols .now) (c .before .before .before .before .before .before .before .before .before .before .before .before .args .layers .now)) (c .before .before .before .before .before .before .before .before .before .before .before .before .args .marks .now) (formIn (c .before .before .before .before .before .before .before .before .before .before .before .before .args .s .now) (c .before .before .before .before .before .before .before .before .before .before .before .before .args .form)) (c .before .before .before .before .before .before .before .before .before .before .before .before .args .rec .now) _ _ (c .before .before .before .before .before .before .before .text-table .ensures) (c .before .before .before .before .before .before .no-digits .ensures) (c .before .before .before .act .ensures)) _ (c .enum-told2 .given .1)
 
--- src/texts.rt:30:1
 same-length-7 : tie.Need-same-length-7
 same-length-7 c = search needs
 
--- src/texts.rt:30:1
 same-length-8 : tie.Need-same-length-8
 same-length-8 c = search needs
 
--- src/texts.rt:30:1
 returns-4 : tie.Need-returns-4
 returns-4 c = text-shut (c .before .before .before .before .before .before .before .before .before .before .before .before .before .args .here) (knownIn (c .before .before .before .before .before .before .before .before .before .before .before .before .before .args .s .now) (c .before .before .before .before .before .before .before .before .before .before .before .before .before .args .symbols .now) (c .before .before .before .before .before .before .before .before .before .before .before .before .before .args .layers .now)) (c .before .before .before .before .before .before .before .before .before .before .before .before .before .args .marks .now) (formIn (c .before .before .before .before .before .before .before .before .before .before .before .before .before .args .s .now) (c .before .before .before .before .before .before .before .before .before .before .before .before .before .args .form)) (c .before .before .before .before .before .before .before .before .before .before .before .before .before .args .rec .now) _ _ (text-acts (c .before .before .before .before .before .before .before .before .before .before .before .before .before .args .here .layered) (c .before .before .before .before .before .before .before .before .text-table .result) (c .before .before .before .before .before .before .before .no-digits .result) (knownIn (c .before .before .before .before .before .before .before .before .before .before .before .before .before .args .s .now) (c .before .before .before .before .before .before .before .before .before .before .before .before .before .args .symbols .now) (c .before .before .before .before .before .before .before .before .before .before .before .before .before .args .layers .now)) (c .before .before .before .before .before .before .before .before .before .before .before .before .before .args .marks .now) (formIn (c .before .before .before .before .before .before .before .before .before .before .before .before .before .args .s .now) (c .before .before .before .before .before .before .before .before .before .before .before .before .before .args .form)) (c .before .before .before .before .before .before .before .before .before .before .before .before .before .args .rec .now) _ _ (c .before .before .before .before .before .before .before .before .text-table .ensures) (c .before .before .before .before .before .before .before .no-digits .ensures) (c .before .before .before .before .act .ensures)) _ (c .figure-done .ensures) (c .before .enum-told3 .given .1)
 
--- src/texts.rt:30:1
 same-length-9 : tie.Need-same-length-9
 same-length-9 c = search needs
 
--- src/texts.rt:30:1
 same-length-10 : tie.Need-same-length-10
 same-length-10 c = search needs
 
--- src/texts.rt:30:1
 returns-5 : tie.Need-returns-5
 returns-5 c = text-refuse (c .before .before .before .before .before .before .before .before .before .before .before .before .before .args .here) (knownIn (c .before .before .before .before .before .before .before .before .before .before .before .before .before .args .s .now) (c .before .before .before .before .before .before .before .before .before .before .before .before .before .args .symbols .now) (c .before .before .before .before .before .before .before .before .before .before .before .before .before .args .layers .now)) (c .before .before .before .before .before .before .before .before .before .before .before .before .before .args .marks .now) (formIn (c .before .before .before .before .before .before .before .before .before .before .before .before .before .args .s .now) (c .before .before .before .before .before .before .before .before .before .before .before .before .before .args .form)) (c .before .before .before .before .before .before .before .before .before .before .before .before .before .args .rec .now) _ _ (text-acts (c .before .before .before .before .before .before .before .before .before .before .before .before .before .args .here .layered) (c .before .before .before .before .before .before .before .before .text-table .result) (c .before .before .before .before .before .before .before .no-digits .result) (knownIn (c .before .before .before .before .before .before .before .before .before .before .before .before .before .args .s .now) (c .before .before .before .before .before .before .before .before .before .before .before .before .before .args .symbols .now) (c .before .before .before .before .before .before .before .before .before .before .before .before .before .args .layers .now)) (c .before .before .before .before .before .before .before .before .before .before .before .before .before .args .marks .now) (formIn (c .before .before .before .before .before .before .before .before .before .before .before .before .before .args .s .now) (c .before .before .before .before .before .before .before .before .before .before .before .before .before .args .form)) (c .before .before .before .before .before .before .before .before .before .before .before .before .before .args .rec .now) _ _ (c .before .before .before .before .before .before .before .before .text-table .ensures) (c .before .before .before .before .before .before .before .no-digits .ensures) (c .before .before .before .before .act .ensures)) _ (c .before .next2 .given .1)
 

@@ -12,51 +12,39 @@ use Rattle.drawing.proofs.top.at_eof.Lts as lts
 use Rattle.drawing.proofs.blocks.at_block.Reads as at-block-reads
 use Rattle.drawing.proofs.serials.all_marked.Reads as all-marked-reads
 
--- src/top.rt:37:9
 returns : tie.Need-returns
 returns c = eof-part (c .before .before .before .before .args .here) (c .before .before .before .before .args .at) (c .before .before .before .before .args .tally .now) (c .before .before .before .before .args .used-all .now) (c .if1 .taken)
 
--- src/top.rt:40:9
 returns-2 : tie.Need-returns-2
 returns-2 c = eof-early (c .before .before .before .before .before .before .args .here) (c .before .before .before .before .before .before .args .at) (c .before .before .before .before .before .before .args .tally .now) (c .before .before .before .before .before .before .args .used-all .now) (c .before .before .if1 .left) (not-true _ (c .if2 .taken))
 
--- src/top.rt:42:17
 shared-slice-read-count : tie.Need-shared-slice-read-count
 shared-slice-read-count c = search needs
 
--- src/top.rt:42:17
 cast-count : tie.Need-cast-count
 cast-count c = search needs
 
--- src/top.rt:43:20
 slice-aggregate-all-marked : tie.Need-slice-aggregate-all-marked
 slice-aggregate-all-marked c = omega (arith, length-take (layersOf (c .before .before .before .before .before .before .before .before .args .tally .now)) (c .before .before .before .before .before .before .before .before .args .used-all .now), c .before .before .before .before .before .before .before .before .pre .1)
 
--- src/top.rt:43:9
 all-marked-requires : tie.Need-all-marked-requires
 all-marked-requires c κs = search needs
 
--- src/top.rt:44:9
 returns-3 : tie.Need-returns-3
 returns-3 c = eof-unused (c .before .before .before .before .before .before .before .before .before .before .args .here) (c .before .before .before .before .before .before .before .before .before .before .args .at) (c .before .before .before .before .before .before .before .before .before .before .args .tally .now) (c .before .before .before .before .before .before .before .before .before .before .args .used-all .now) (c .before .before .before .before .before .before .if1 .left) (not-false _ (c .before .before .before .before .if2 .left)) (sym (c .before .all-marked .ensures) ∙ not-true _ (c .if3 .taken))
 
--- src/top.rt:46:8
 shared-slice-read-if4 : tie.Need-shared-slice-read-if4
 shared-slice-read-if4 c = search needs
 
--- src/top.rt:46:22
 shared-slice-read-if4-2 : tie.Need-shared-slice-read-if4-2
 shared-slice-read-if4-2 c = search needs
 
--- src/top.rt:47:9
 returns-4 : tie.Need-returns-4
 returns-4 c = eof-uncounted (c .before .before .before .before .before .before .before .before .before .before .before .before .before .args .here) (c .before .before .before .before .before .before .before .before .before .before .before .before .before .args .at) (c .before .before .before .before .before .before .before .before .before .before .before .before .before .args .tally .now) (c .before .before .before .before .before .before .before .before .before .before .before .before .before .args .used-all .now) (c .before .before .before .before .before .before .before .before .before .if1 .left) (not-false _ (c .before .before .before .before .before .before .before .if2 .left)) (sym (c .before .before .before .before .all-marked .ensures) ∙ not-false _ (c .before .before .before .if3 .left)) (c .if4 .taken)
 
--- src/top.rt:49:14
 at-block-requires : tie.Need-at-block-requires
 at-block-requires c κs = search needs
 
--- src/top.rt:32:1
 returns-5 : tie.Need-returns-5
 returns-5 c = eof-ends (c .before .before .before .before .before .before .before .before .before .before .before .before .before .before .args .here) (c .before .before .before .before .before .before .before .before .before .before .before .before .before .before .args .at) (c .before .before .before .before .before .before .before .before .before .before .before .before .before .before .args .tally .now) (c .before .before .before .before .before .before .before .before .before .before .before .before .before .before .args .used-all .now) (c .before .before .before .before .before .before .before .before .before .before .if1 .left) (not-false _ (c .before .before .before .before .before .before .before .before .if2 .left)) _ (sym (c .before .before .before .before .before .all-marked .ensures) ∙ not-false _ (c .before .before .before .before .if3 .left)) (c .before .if4 .left) (c .at-block .ensures)
 

@@ -10,35 +10,27 @@ use Rattle.drawing.proofs.top.begin_header.Lts as lts
 use Rattle.drawing.proofs.table.clear.Reads as clear-reads
 use Rattle.drawing.proofs.table.head.Reads as head-reads
 
--- src/top.rt:73:5
 clear-requires : tie.Need-clear-requires
 clear-requires c κs = search needs
 
--- src/top.rt:75:9
 head-requires : tie.Need-head-requires
 head-requires c κs = search needs
 
--- src/top.rt:76:9
 head-requires-2 : tie.Need-head-requires-2
 head-requires-2 c κs = search needs
 
--- src/top.rt:77:9
 same-length : tie.Need-same-length
 same-length c = search needs
 
--- src/top.rt:77:9
 returns : tie.Need-returns
 returns c = rw (c .before .before .before .before .before .before .if1 .taken) (c .before .head2 .ensures ∙ ap (λ (u : List ℤ). headAt 32 2 0 (c .before .before .before .before .before .before .before .before .before .before .args .at) u) (c .before .before .before .before .head .ensures ∙ ap (λ (u : List ℤ). headAt 0 1 0 (c .before .before .before .before .before .before .before .before .before .before .args .at) u) (c .before .before .before .before .before .before .before .before .clear .ensures)))
 
--- src/top.rt:79:5
 head-requires-3 : tie.Need-head-requires-3
 head-requires-3 c κs = search needs
 
--- src/top.rt:69:1
 same-length-2 : tie.Need-same-length-2
 same-length-2 c = search needs
 
--- src/top.rt:69:1
 returns-2 : tie.Need-returns-2
 returns-2 c = rw (c .before .before .before .if1 .left) (c .before .head3 .ensures ∙ ap (λ (u : List ℤ). headAt 0 2 0 (c .before .before .before .before .before .before .before .args .at) u) (c .before .before .before .before .before .clear .ensures))
 

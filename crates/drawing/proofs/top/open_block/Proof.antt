@@ -9,67 +9,51 @@ use Rattle.drawing.proofs.blocks.unmark.Reads as unmark-reads
 use Rattle.drawing.proofs.top.open_drawing.Reads as open-drawing-reads
 use Rattle.drawing.proofs.top.open_file.Reads as open-file-reads
 
--- src/top.rt:136:9
 returns : tie.Need-returns
 returns c = refused-line _ 9 _ (block-other (c .before .before .before .before .args .first) (c .before .before .before .before .args .here) (c .before .before .before .before .args .t .now) (c .before .before .before .before .args .block) (c .if1 .taken))
 
--- src/top.rt:139:9
 open-file-requires : tie.Need-open-file-requires
 open-file-requires c κs = search needs
 
--- src/top.rt:139:9
 same-length : tie.Need-same-length
 same-length c = search needs
 
--- src/top.rt:139:9
 same-length-2 : tie.Need-same-length-2
 same-length-2 c = search needs
 
--- src/top.rt:139:9
 same-length-3 : tie.Need-same-length-3
 same-length-3 c = search needs
 
--- src/top.rt:139:9
 returns-2 : tie.Need-returns-2
 returns-2 c = block-file (c .before .before .before .before .before .before .before .before .before .before .before .before .args .first) (c .before .before .before .before .before .before .before .before .before .before .before .before .args .here) (c .before .before .before .before .before .before .before .before .before .before .before .before .args .at) (c .before .before .before .before .before .before .before .before .before .before .before .before .args .block) (c .before .before .before .before .before .before .before .before .if1 .left) (c .before .before .before .before .before .before .before .before .before .before .before .before .args .marks .now) (c .before .before .before .before .before .before .before .before .before .before .before .before .args .used .now) (c .before .before .before .before .before .before .before .before .before .before .before .before .args .header .now) (c .before .before .before .before .before .before .before .before .before .before .before .before .args .t .now) _ _ _ (c .before .before .before .before .before .before .before .if2 .taken) (c .before .before .before .open-file .ensures)
 
--- src/top.rt:142:9
 open-drawing-requires : tie.Need-open-drawing-requires
 open-drawing-requires c κs = search needs
 
--- src/top.rt:142:9
 same-length-4 : tie.Need-same-length-4
 same-length-4 c = search needs
 
--- src/top.rt:142:9
 same-length-5 : tie.Need-same-length-5
 same-length-5 c = search needs
 
--- src/top.rt:142:9
 returns-3 : tie.Need-returns-3
 returns-3 c = block-drawing (c .before .before .before .before .before .before .before .before .before .before .before .before .args .first) (c .before .before .before .before .before .before .before .before .before .before .before .before .args .here) (c .before .before .before .before .before .before .before .before .before .before .before .before .args .at) (c .before .before .before .before .before .before .before .before .before .before .before .before .args .block) (c .before .before .before .before .before .before .before .before .if1 .left) (c .before .before .before .before .before .before .before .before .before .before .before .before .args .marks .now) (c .before .before .before .before .before .before .before .before .before .before .before .before .args .used .now) (c .before .before .before .before .before .before .before .before .before .before .before .before .args .header .now) (c .before .before .before .before .before .before .before .before .before .before .before .before .args .t .now) _ _ _ (c .before .before .before .before .before .before .if3 .taken) (c .before .before .before .open-drawing .ensures)
 
--- src/top.rt:145:25
 at-block-requires : tie.Need-at-block-requires
 at-block-requires c κs = search needs
 
--- src/top.rt:145:9
 returns-4 : tie.Need-returns-4
 returns-4 c = block-defines (c .before .before .before .before .before .before .before .before .args .first) (c .before .before .before .before .before .before .before .before .args .here) (c .before .before .before .before .before .before .before .before .args .at) (c .before .before .before .before .before .before .before .before .args .block) (c .before .before .before .before .if1 .left) (c .before .before .before .before .before .before .before .before .args .marks .now) (c .before .before .before .before .before .before .before .before .args .used .now) (c .before .before .before .before .before .before .before .before .args .header .now) (c .before .before .before .before .before .before .before .before .args .t .now) _ (c .before .if4 .taken) (c .at-block .ensures)
 
--- src/top.rt:147:5
 unmark-requires : tie.Need-unmark-requires
 unmark-requires c κs = search needs
 
--- src/top.rt:148:14
 at-block-requires-2 : tie.Need-at-block-requires-2
 at-block-requires-2 c κs = search needs
 
--- src/top.rt:122:1
 same-length-6 : tie.Need-same-length-6
 same-length-6 c = search needs
 
--- src/top.rt:122:1
 returns-5 : tie.Need-returns-5
 returns-5 c = block-elements (c .before .before .before .before .before .before .before .before .before .before .before .before .args .first) (c .before .before .before .before .before .before .before .before .before .before .before .before .args .here) (c .before .before .before .before .before .before .before .before .before .before .before .before .args .at) (c .before .before .before .before .before .before .before .before .before .before .before .before .args .block) (c .before .before .before .before .before .before .before .before .if1 .left) (c .before .before .before .before .before .before .before .before .before .before .before .before .args .marks .now) (c .before .before .before .before .before .before .before .before .before .before .before .before .args .used .now) _ (c .before .before .before .before .before .before .before .before .before .before .before .before .args .header .now) (c .before .before .before .before .before .before .before .before .before .before .before .before .args .t .now) _ (c .before .before .before .before .before .before .before .if2 .left) (c .before .before .before .before .before .before .if3 .left) (c .before .before .before .before .before .if4 .left) (c .at-block2 .ensures) (c .before .before .before .unmark .ensures)
 

@@ -14,39 +14,30 @@ use Rattle.drawing.proofs.blocks.unmark.Reads as unmark-reads
 use Rattle.drawing.proofs.table.head.Reads as head-reads
 use Rattle.drawing.proofs.top.record_taken.Reads as record-taken-reads
 
--- src/top.rt:113:9
 has-room-requires : tie.Need-has-room-requires
 has-room-requires c κs = search needs
 
--- src/top.rt:114:9
 same-length : tie.Need-same-length
 same-length c = search needs
 
--- src/top.rt:114:9
 returns : tie.Need-returns
 returns c = refused-line _ 19 _ (none-taken (c .before .before .before .before .args .here) 2 32 (c .before .before .before .before .args .t .now) (sym (c .before .has-room .ensures) ∙ not-true _ (c .if1 .taken)))
 
--- src/top.rt:116:5
 head-requires : tie.Need-head-requires
 head-requires c κs = let h = leb-true (c .before .before .before .before .before .args .here .free + 32) (length (c .before .before .before .before .before .args .t .now)) (sym (c .before .before .has-room .ensures) ∙ not-false _ (c .before .if1 .left)) in omega (arith, h)
 
--- src/top.rt:117:5
 unmark-requires : tie.Need-unmark-requires
 unmark-requires c κs = search needs
 
--- src/top.rt:118:14
 record-taken-requires : tie.Need-record-taken-requires
 record-taken-requires c κs = let h = leb-true (c .before .before .before .before .before .before .before .before .before .before .before .args .here .free + 32) (length (c .before .before .before .before .before .before .before .before .before .before .before .args .t .now)) (sym (c .before .before .before .before .before .before .before .before .has-room .ensures) ∙ not-false _ (c .before .before .before .before .before .before .before .if1 .left)) in omega (arith, h)
 
--- src/top.rt:109:1
 same-length-2 : tie.Need-same-length-2
 same-length-2 c = search needs
 
--- src/top.rt:109:1
 same-length-3 : tie.Need-same-length-3
 same-length-3 c = search needs
 
--- src/top.rt:109:1
 returns-2 : tie.Need-returns-2
 returns-2 c = going-line _ _ _ _ (one-taken (c .before .before .before .before .before .before .before .before .before .before .before .before .args .here) 2 32 (c .before .before .before .before .before .before .before .before .before .before .before .before .args .t .now) (sym (c .before .before .before .before .before .before .before .before .before .has-room .ensures) ∙ not-false _ (c .before .before .before .before .before .before .before .before .if1 .left))) (c .record-taken .ensures) (c .before .before .before .unmark .ensures, c .before .before .before .before .before .before .head .ensures)
 

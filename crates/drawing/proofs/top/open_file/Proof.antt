@@ -14,71 +14,54 @@ use Rattle.drawing.proofs.blocks.unmark.Reads as unmark-reads
 use Rattle.drawing.proofs.top.begin_header.Reads as begin-header-reads
 use Rattle.drawing.proofs.top.record_taken.Reads as record-taken-reads
 
--- src/top.rt:95:9
 has-room-requires : tie.Need-has-room-requires
 has-room-requires c κs = search needs
 
--- src/top.rt:96:9
 returns : tie.Need-returns
 returns c = refused-line _ 19 _ (file-none (c .before .before .before .args .first) (c .before .before .before .args .here) (c .before .before .before .args .t .now) (sym (c .before .has-room .ensures) ∙ not-true _ (c .if1 .taken)))
 
--- src/top.rt:98:5
 unmark-requires : tie.Need-unmark-requires
 unmark-requires c κs = search needs
 
--- src/top.rt:99:5
 begin-header-requires : tie.Need-begin-header-requires
 begin-header-requires c κs = search needs
 
--- src/top.rt:101:25
 record-taken-requires : tie.Need-record-taken-requires
 record-taken-requires c κs = let h = leb-true (c .before .before .before .before .before .before .before .before .before .before .before .args .here .free + 32) (length (c .before .before .before .before .before .before .before .before .before .before .before .args .t .now)) (sym (c .before .before .before .before .before .before .before .before .before .has-room .ensures) ∙ not-false _ (c .before .before .before .before .before .before .before .before .if1 .left)) in omega (arith, h)
 
--- src/top.rt:101:9
 same-length : tie.Need-same-length
 same-length c = search needs
 
--- src/top.rt:101:9
 same-length-2 : tie.Need-same-length-2
 same-length-2 c = search needs
 
--- src/top.rt:101:9
 returns-2 : tie.Need-returns-2
 returns-2 c = going-line _ _ _ _ (file-one (c .before .before .before .before .before .before .before .before .before .before .before .before .args .first) (c .before .before .before .before .before .before .before .before .before .before .before .before .args .here) (c .before .before .before .before .before .before .before .before .before .before .before .before .args .t .now) (not-true _ (c .before .if2 .taken)) (sym (c .before .before .before .before .before .before .before .before .before .before .has-room .ensures) ∙ not-false _ (c .before .before .before .before .before .before .before .before .before .if1 .left))) (c .record-taken .ensures) (c .before .before .before .before .before .before .before .unmark .ensures, c .before .before .before .begin-header .ensures)
 
--- src/top.rt:103:21
 add-has-room : tie.Need-add-has-room
 add-has-room c = let h = leb-true (c .before .before .before .before .before .before .before .before .before .before .before .args .here .free + 32) (length (c .before .before .before .before .before .before .before .before .before .before .before .args .t .now)) (sym (c .before .before .before .before .before .before .before .before .before .has-room .ensures) ∙ not-false _ (c .before .before .before .before .before .before .before .before .if1 .left)) in omega (arith, h)
 
--- src/top.rt:103:9
 has-room-requires-2 : tie.Need-has-room-requires-2
 has-room-requires-2 c κs = search needs
 
--- src/top.rt:104:9
 same-length-3 : tie.Need-same-length-3
 same-length-3 c = search needs
 
--- src/top.rt:104:9
 same-length-4 : tie.Need-same-length-4
 same-length-4 c = search needs
 
--- src/top.rt:104:9
 returns-3 : tie.Need-returns-3
 returns-3 c = refused-line _ 19 _ (file-short (c .before .before .before .before .before .before .before .before .before .before .before .before .before .args .first) (c .before .before .before .before .before .before .before .before .before .before .before .before .before .args .here) (c .before .before .before .before .before .before .before .before .before .before .before .before .before .args .t .now) (not-false _ (c .before .before .if2 .left)) (sym (c .before .has-room2 .ensures) ∙ not-true _ (c .if3 .taken)))
 
--- src/top.rt:106:14
 record-taken-requires-2 : tie.Need-record-taken-requires-2
 record-taken-requires-2 c κs = let h = leb-true (c .before .before .before .before .before .before .before .before .before .before .before .before .before .args .here .free + 32 + 32) (length (c .before .before .before .before .before .before .before .before .before .before .before .before .before .args .t .now)) (sym (c .before .has-room2 .ensures) ∙ not-false _ (c .if3 .left)) in omega (arith, h)
 
--- src/top.rt:83:1
 same-length-5 : tie.Need-same-length-5
 same-length-5 c = search needs
 
--- src/top.rt:83:1
 same-length-6 : tie.Need-same-length-6
 same-length-6 c = search needs
 
--- src/top.rt:83:1
 returns-4 : tie.Need-returns-4
 returns-4 c = going-line _ _ _ _ (file-two (c .before .before .before .before .before .before .before .before .before .before .before .before .before .before .args .first) (c .before .before .before .before .before .before .before .before .before .before .before .before .before .before .args .here) (c .before .before .before .before .before .before .before .before .before .before .before .before .before .before .args .t .now) (not-false _ (c .before .before .before .if2 .left)) (sym (c .before .before .has-room2 .ensures) ∙ not-false _ (c .before .if3 .left))) (c .record-taken2 .ensures) (c .before .before .before .before .before .before .before .before .before .unmark .ensures, c .before .before .before .before .before .begin-header .ensures)
 

@@ -15,79 +15,60 @@ use Rattle.entries.proofs.acts.act.Reads as act-reads
 use Rattle.drawing.proofs.blocks.no_digits.Reads as no-digits-reads
 use Rattle.drawing.proofs.top.open_block.Reads as open-block-reads
 
--- src/top.rt:227:9
 no-digits-requires : tie.Need-no-digits-requires
 no-digits-requires c κs = search needs
 
--- src/top.rt:228:9
 slice-aggregate-act : tie.Need-slice-aggregate-act
 slice-aggregate-act c = search needs
 
--- src/top.rt:231:9
 slice-aggregate-act-2 : tie.Need-slice-aggregate-act-2
 slice-aggregate-act-2 c = search needs
 
--- src/top.rt:222:9
 act-requires : tie.Need-act-requires
 act-requires c κs = (c .before .before .before .before .before .before .before .before .pre .0, c .before .before .before .before .before .before .before .before .pre .1, c .before .before .before .before .before .before .before .before .pre .2, top-rows, top-room)
 
--- src/top.rt:234:23
 enum-told : tie.Need-enum-told
 enum-told c = search needs
 
--- src/top.rt:235:27
 enum-told-2 : tie.Need-enum-told-2
 enum-told-2 c = search needs
 
--- src/top.rt:236:21
 enum-known-next : tie.Need-enum-known-next
 enum-known-next c = search needs
 
--- src/top.rt:236:31
 open-block-requires : tie.Need-open-block-requires
 open-block-requires c κs = search needs
 
--- src/top.rt:237:23
 enum-told-3 : tie.Need-enum-told-3
 enum-told-3 c = search needs
 
--- src/top.rt:238:22
 enum-known-next-2 : tie.Need-enum-known-next-2
 enum-known-next-2 c = search needs
 
--- src/top.rt:204:1
 returns : tie.Need-returns
 returns c = key-stay (c .before .before .before .before .before .before .before .before .before .before .before .before .args .first) (c .before .before .before .before .before .before .before .before .before .before .before .before .args .here) (c .before .before .before .before .before .before .before .before .before .before .before .before .args .at) (topAct (knownIn (c .before .before .before .before .before .before .before .before .before .before .before .before .args .s .now) (c .before .before .before .before .before .before .before .before .before .before .before .before .args .symbols .now) (c .before .before .before .before .before .before .before .before .before .before .before .before .args .layers .now)) (formIn (c .before .before .before .before .before .before .before .before .before .before .before .before .args .s .now) (c .before .before .before .before .before .before .before .before .before .before .before .before .args .form))) (topLent (c .before .before .before .before .before .before .before .before .before .before .before .before .args .marks .now) (c .before .before .before .before .before .before .before .before .before .before .before .before .args .used .now) (c .before .before .before .before .before .before .before .before .before .before .before .before .args .header .now) (c .before .before .before .before .before .before .before .before .before .before .before .before .args .t .now)) (digitless (knownIn (c .before .before .before .before .before .before .before .before .before .before .before .before .args .s .now) (c .before .before .before .before .before .before .before .before .before .before .before .before .args .symbols .now) (c .before .before .before .before .before .before .before .before .before .before .before .before .args .layers .now)) (formIn (c .before .before .before .before .before .before .before .before .before .before .before .before .args .s .now) (c .before .before .before .before .before .before .before .before .before .before .before .before .args .form)) _ _ (c .before .before .before .before .before .before .no-digits .ensures) ((rw (c .enum-told .given .1) at (took _ _ _ _ _ _ (c .before .before .before .act .ensures))) .0))
 
--- src/top.rt:204:1
 returns-2 : tie.Need-returns-2
 returns-2 c = let h = (rw (c .enum-told2 .given .1) at (took _ _ _ _ _ _ (c .before .before .before .act .ensures))) in key-refused (c .before .before .before .before .before .before .before .before .before .before .before .before .args .first) (c .before .before .before .before .before .before .before .before .before .before .before .before .args .here) (c .before .before .before .before .before .before .before .before .before .before .before .before .args .at) (topAct (knownIn (c .before .before .before .before .before .before .before .before .before .before .before .before .args .s .now) (c .before .before .before .before .before .before .before .before .before .before .before .before .args .symbols .now) (c .before .before .before .before .before .before .before .before .before .before .before .before .args .layers .now)) (formIn (c .before .before .before .before .before .before .before .before .before .before .before .before .args .s .now) (c .before .before .before .before .before .before .before .before .before .before .before .before .args .form))) (c .before .before .before .before .before .before .before .before .before .before .before .before .args .t .now) _ 5 (entry _ (h .0)) (digitless (knownIn (c .before .before .before .before .before .before .before .before .before .before .before .before .args .s .now) (c .before .before .before .before .before .before .before .before .before .before .before .before .args .symbols .now) (c .before .before .before .before .before .before .before .before .before .before .before .before .args .layers .now)) (formIn (c .before .before .before .before .before .before .before .before .before .before .before .before .args .s .now) (c .before .before .before .before .before .before .before .before .before .before .before .before .args .form)) _ _ (c .before .before .before .before .before .before .no-digits .ensures) (h .1)) refl
 
--- src/top.rt:204:1
 same-length : tie.Need-same-length
 same-length c = search needs
 
--- src/top.rt:204:1
 same-length-2 : tie.Need-same-length-2
 same-length-2 c = search needs
 
--- src/top.rt:204:1
 same-length-3 : tie.Need-same-length-3
 same-length-3 c = search needs
 
--- src/top.rt:204:1
 same-length-4 : tie.Need-same-length-4
 same-length-4 c = search needs
 
--- src/top.rt:204:1
 returns-3 : tie.Need-returns-3
 returns-3 c = let h = (rw (c .before .before .before .before .before .before .before .before .before .before .before .before .next .given .1) at (took _ _ _ _ _ _ (c .before .before .before .before .before .before .before .before .before .before .before .before .before .before .before .act .ensures))) in key-begin (c .before .before .before .before .before .before .before .before .before .before .before .before .before .before .before .before .before .before .before .before .before .before .before .before .args .first) (c .before .before .before .before .before .before .before .before .before .before .before .before .before .before .before .before .before .before .before .before .before .before .before .before .args .here) (c .before .before .before .before .before .before .before .before .before .before .before .before .before .before .before .before .before .before .before .before .before .before .before .before .args .at) (topAct (knownIn (c .before .before .before .before .before .before .before .before .before .before .before .before .before .before .before .before .before .before .before .before .before .before .before .before .args .s .now) (c .before .before .before .before .before .before .before .before .before .before .before .before .before .before .before .before .before .before .before .before .before .before .before .before .args .symbols .now) (c .before .before .before .before .before .before .before .before .before .before .before .before .before .before .before .before .before .before .before .before .before .before .before .before .args .layers .now)) (formIn (c .before .before .before .before .before .before .before .before .before .before .before .before .before .before .before .before .before .before .before .before .before .before .before .before .args .s .now) (c .before .before .before .before .before .before .before .before .before .before .before .before .before .before .before .before .before .before .before .before .before .before .before .before .args .form))) (c .before .before .before .before .before .before .before .before .before .before .before .before .next .given .0 .0 .block) (c .before .before .before .before .before .before .before .before .before .before .before .before .next .given .0 .0 .row) (h .0) (topLent (c .before .before .before .before .before .before .before .before .before .before .before .before .before .before .before .before .before .before .before .before .before .before .before .before .args .marks .now) (c .before .before .before .before .before .before .before .before .before .before .before .before .before .before .before .before .before .before .before .before .before .before .before .before .args .used .now) (c .before .before .before .before .before .before .before .before .before .before .before .before .before .before .before .before .before .before .before .before .before .before .before .before .args .header .now) (c .before .before .before .before .before .before .before .before .before .before .before .before .before .before .before .before .before .before .before .before .before .before .before .before .args .t .now)) _ _ (digitless (knownIn (c .before .before .before .before .before .before .before .before .before .before .before .before .before .before .before .before .before .before .before .before .before .before .before .before .args .s .now) (c .before .before .before .before .before .before .before .before .before .before .before .before .before .before .before .before .before .before .before .before .before .before .before .before .args .symbols .now) (c .before .before .before .before .before .before .before .before .before .before .before .before .before .before .before .before .before .before .before .before .before .before .before .before .args .layers .now)) (formIn (c .before .before .before .before .before .before .before .before .before .before .before .before .before .before .before .before .before .before .before .before .before .before .before .before .args .s .now) (c .before .before .before .before .before .before .before .before .before .before .before .before .before .before .before .before .before .before .before .before .before .before .before .before .args .form)) _ _ (c .before .before .before .before .before .before .before .before .before .before .before .before .before .before .before .before .before .before .no-digits .ensures) (h .1)) (c .before .before .before .before .before .before .open-block .ensures)
 
--- src/top.rt:204:1
 returns-4 : tie.Need-returns-4
 returns-4 c = key-refused (c .before .before .before .before .before .before .before .before .before .before .before .before .args .first) (c .before .before .before .before .before .before .before .before .before .before .before .before .args .here) (c .before .before .before .before .before .before .before .before .before .before .before .before .args .at) (topAct (knownIn (c .before .before .before .before .before .before .before .before .before .before .before .before .args .s .now) (c .before .before .before .before .before .before .before .before .before .before .before .before .args .symbols .now) (c .before .before .before .before .before .before .before .before .before .before .before .before .args .layers .now)) (formIn (c .before .before .before .before .before .before .before .before .before .before .before .before .args .s .now) (c .before .before .before .before .before .before .before .before .before .before .before .before .args .form))) (c .before .before .before .before .before .before .before .before .before .before .before .before .args .t .now) _ 9 shut (digitless (knownIn (c .before .before .before .before .before .before .before .before .before .before .before .before .args .s .now) (c .before .before .before .before .before .before .before .before .before .before .before .before .args .symbols .now) (c .before .before .before .before .before .before .before .before .before .before .before .before .args .layers .now)) (formIn (c .before .before .before .before .before .before .before .before .before .before .before .before .args .s .now) (c .before .before .before .before .before .before .before .before .before .before .before .before .args .form)) _ _ (c .before .before .before .before .before .before .no-digits .ensures) ((rw (c .enum-told3 .given .1) at (took _ _ _ _ _ _ (c .before .before .before .act .ensures))) .0)) refl
 
--- src/top.rt:204:1
 returns-5 : tie.Need-returns-5
 returns-5 c = key-refused (c .before .before .before .before .before .before .before .before .before .before .before .before .before .args .first) (c .before .before .before .before .before .before .before .before .before .before .before .before .before .args .here) (c .before .before .before .before .before .before .before .before .before .before .before .before .before .args .at) (topAct (knownIn (c .before .before .before .before .before .before .before .before .before .before .before .before .before .args .s .now) (c .before .before .before .before .before .before .before .before .before .before .before .before .before .args .symbols .now) (c .before .before .before .before .before .before .before .before .before .before .before .before .before .args .layers .now)) (formIn (c .before .before .before .before .before .before .before .before .before .before .before .before .before .args .s .now) (c .before .before .before .before .before .before .before .before .before .before .before .before .before .args .form))) (c .before .before .before .before .before .before .before .before .before .before .before .before .before .args .t .now) _ _ (refuse _) (digitless (knownIn (c .before .before .before .before .before .before .before .before .before .before .before .before .before .args .s .now) (c .before .before .before .before .before .before .before .before .before .before .before .before .before .args .symbols .now) (c .before .before .before .before .before .before .before .before .before .before .before .before .before .args .layers .now)) (formIn (c .before .before .before .before .before .before .before .before .before .before .before .before .before .args .s .now) (c .before .before .before .before .before .before .before .before .before .before .before .before .before .args .form)) _ _ (c .before .before .before .before .before .before .before .no-digits .ensures) (rw (c .before .next2 .given .1) at (took _ _ _ _ _ _ (c .before .before .before .before .act .ensures)))) refl
 

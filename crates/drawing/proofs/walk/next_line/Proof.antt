@@ -7,27 +7,21 @@ use Rattle.drawing.proofs.walk.next_line.Reads as reads
 use Rattle.drawing.proofs.walk.next_line.Lts as lts
 use Rattle.lines.proofs.forms.look.Reads as look-reads
 
--- src/walk.rt:17:47
 add-look : tie.Need-add-look
 add-look c = search needs
 
--- src/walk.rt:17:9
 look-requires : tie.Need-look-requires
 look-requires c κs = search needs
 
--- src/walk.rt:18:20
 enum-known-seen : tie.Need-enum-known-seen
 enum-known-seen c = search needs
 
--- src/walk.rt:20:19
 enum-told : tie.Need-enum-told
 enum-told c = search needs
 
--- src/walk.rt:19:9
 returns : tie.Need-returns
 returns c = seen-end (c .before .before .before .before .before .args .s .now) (c .before .before .before .before .before .args .v) (c .before .before .before .before .before .args .p) (sym (c .before .before .look .ensures) ∙ c .enum-told .given .1)
 
--- src/walk.rt:13:1
 returns-2 : tie.Need-returns-2
 returns-2 c = seen-line (c .before .before .before .before .before .before .args .s .now) (c .before .before .before .before .before .before .args .v) (c .before .before .before .before .before .before .args .p) _ (sym (c .before .before .before .look .ensures) ∙ c .before .seen .given .1)
 

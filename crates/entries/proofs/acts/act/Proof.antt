@@ -11,73 +11,56 @@ use Rattle.entries.proofs.acts.act.Lts as lts
 use Rattle.entries.proofs.acts.act_key.Reads as act-key-reads
 use Rattle.entries.proofs.acts.close.Reads as close-reads
 
--- src/acts.rt:185:30
 enum-told : tie.Need-enum-told
 enum-told c = search needs
 
--- src/acts.rt:186:28
 enum-told-2 : tie.Need-enum-told-2
 enum-told-2 c = search needs
 
--- src/acts.rt:186:28
 close-requires : tie.Need-close-requires
 close-requires c κs = c .before .before .before .before .before .before .pre .3
 
--- src/acts.rt:187:26
 enum-told-3 : tie.Need-enum-told-3
 enum-told-3 c = search needs
 
--- src/acts.rt:188:25
 enum-known-form : tie.Need-enum-known-form
 enum-known-form c = search needs
 
--- src/acts.rt:190:13
 act-key-requires : tie.Need-act-key-requires
 act-key-requires c κs = let h = c .before .before .before .before .before .before .before .before .before .pre in (h .0, h .1, h .2, h .4)
 
--- src/acts.rt:192:26
 enum-known-form-2 : tie.Need-enum-known-form-2
 enum-known-form-2 c = search needs
 
--- src/acts.rt:195:13
 act-key-requires-2 : tie.Need-act-key-requires-2
 act-key-requires-2 c κs = let h = c .before .before .before .before .before .before .before .before .before .before .pre in (h .0, h .1, h .2, h .4)
 
--- src/acts.rt:197:27
 enum-known-form-3 : tie.Need-enum-known-form-3
 enum-known-form-3 c = search needs
 
--- src/acts.rt:180:1
 returns : tie.Need-returns
 returns c = rw (c .enum-told .given .1) (record { eq = refl; entered = refl })
 
--- src/acts.rt:180:1
 returns-2 : tie.Need-returns-2
 returns-2 c =
     let a = c .before .before .before .before .before .before .before .args in
     rw (c .before .enum-told2 .given .1) (closed-acts (ruleAt (tableOf (a .table))) (a .dump) (a .rec .now) (complete (a .d) (tableOf (a .table)) (a .full .now)) _ (c .close .ensures))
 
--- src/acts.rt:180:1
 returns-3 : tie.Need-returns-3
 returns-3 c = rw (c .enum-told3 .given .1) (record { eq = refl; entered = tt })
 
--- src/acts.rt:180:1
 same-length : tie.Need-same-length
 same-length c = search needs
 
--- src/acts.rt:180:1
 returns-4 : tie.Need-returns-4
 returns-4 c = rw (c .before .before .before .before .before .form .given .1) (c .before .act-key .ensures)
 
--- src/acts.rt:180:1
 same-length-2 : tie.Need-same-length-2
 same-length-2 c = search needs
 
--- src/acts.rt:180:1
 returns-5 : tie.Need-returns-5
 returns-5 c = rw (c .before .before .before .before .before .before .form2 .given .1) (c .before .act-key2 .ensures)
 
--- src/acts.rt:180:1
 returns-6 : tie.Need-returns-6
 returns-6 c = rw (c .before .form3 .given .1) (record { eq = refl; entered = tt })
 

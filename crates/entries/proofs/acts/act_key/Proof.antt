@@ -17,31 +17,24 @@ use Rattle.entries.proofs.row_lines.act_row.Reads as act-row-reads
 use Rattle.entries.proofs.names.part.Reads as part-reads
 use Rattle.tables.proofs.lookup.row_of.Reads as row-of-reads
 
--- src/acts.rt:170:25
 part-requires : tie.Need-part-requires
 part-requires c κs = search needs
 
--- src/acts.rt:170:11
 row-of-requires : tie.Need-row-of-requires
 row-of-requires c κs = search needs
 
--- src/acts.rt:171:26
 enum-told : tie.Need-enum-told
 enum-told c = search needs
 
--- src/acts.rt:171:26
 unknown-requires : tie.Need-unknown-requires
 unknown-requires c κs = search needs
 
--- src/acts.rt:172:20
 enum-known-row : tie.Need-enum-known-row
 enum-known-row c = search needs
 
--- src/acts.rt:173:17
 mark-requires : tie.Need-mark-requires
 mark-requires c κs = search needs
 
--- src/acts.rt:174:13
 act-row-requires : tie.Need-act-row-requires
 act-row-requires c κs =
     let a = c .before .before .before .before .before .before .before .before .before .before .before .args in
@@ -49,18 +42,15 @@ act-row-requires c κs =
     let e = rw (c .before .before .before .row .given .1, c .before .before .before .before .before .before .part .ensures) at (c .before .before .before .before .before .row-of .ensures) in
     (h .0, h .1, h .2, row-room (tableOf (a .table)) (bytesAt (a .s .now) (a .key)) (c .before .before .before .row .given .0 .0) e (a .dump) (length (a .rec .now)) (h .3))
 
--- src/acts.rt:166:1
 returns : tie.Need-returns
 returns c =
     let a = c .before .before .before .before .before .before .before .before .before .args in
     let e = rw (c .before .enum-told .given .1, c .before .before .before .before .part .ensures) at (c .before .before .before .row-of .ensures) in
     rw (no-row (find (bytesAt (a .s .now) (a .key)) (tableOf (a .table))) e) (unknown-acts (ruleAt (tableOf (a .table))) (a .dump) (a .rec .now) _ (restIn (a .s .now) (a .rest)) _ (c .unknown .ensures))
 
--- src/acts.rt:166:1
 same-length : tie.Need-same-length
 same-length c = search needs
 
--- src/acts.rt:166:1
 returns-2 : tie.Need-returns-2
 returns-2 c =
     let a = c .before .before .before .before .before .before .before .before .before .before .before .before .before .args in

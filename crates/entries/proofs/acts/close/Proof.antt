@@ -6,15 +6,12 @@ use Rattle.entries.proofs.acts.close.Reads as reads
 use Rattle.entries.proofs.acts.close.Lts as lts
 use Rattle.entries.proofs.acts.complete.Reads as complete-reads
 
--- src/acts.rt:140:8
 complete-requires : tie.Need-complete-requires
 complete-requires c κs = search needs
 
--- src/acts.rt:141:9
 returns : tie.Need-returns
 returns c = rw (sym (c .before .complete .ensures) ∙ c .if1 .taken)
 
--- src/acts.rt:136:1
 returns-2 : tie.Need-returns-2
 returns-2 c = rw (sym (c .before .complete .ensures) ∙ c .if1 .left)
 

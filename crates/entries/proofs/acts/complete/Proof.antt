@@ -19,39 +19,31 @@ Inv-loop table d full i₀ i = (i ≤ length full) × (completeOf d (tableOf tab
 abbrev μ-loop : tie.MeasureT-loop
 μ-loop table d full i₀ i = length full - i
 
--- src/acts.rt:127:5
 loop-holds : tie.Need-loop-holds Inv-loop μ-loop
 loop-holds c = (omega arith, refl)
 
--- src/acts.rt:128:32
 shared-slice-read-there : tie.Need-shared-slice-read-there Inv-loop μ-loop
 shared-slice-read-there c = omega arith
 
--- src/acts.rt:128:13
 there-requires : tie.Need-there-requires Inv-loop μ-loop
 there-requires c κs = omega (arith, c .before .loop-test .taken, c .before .before .before .before .pre)
 
--- src/acts.rt:129:13
 returns : tie.Need-returns Inv-loop μ-loop
 returns c =
     let a = c .before .before .before .before .before .before .args in
     sym (c .before .before .before .before .loop .inv .1 ∙ complete-not (a .d) (tableOf (a .table)) (a .full .now) (c .before .before .before .before .loop .i) (omega (arith, c .before .before .before .loop-test .taken, c .before .before .before .before .before .before .pre)) (c .before .before .before .loop-test .taken) (sym (c .before .there .ensures) ∙ not-true (c .before .there .result) (c .if1 .taken)))
 
--- src/acts.rt:131:9
 add-i : tie.Need-add-i Inv-loop μ-loop
 add-i c = search needs
 
--- src/acts.rt:127:5
 loop-less : tie.Need-loop-less Inv-loop μ-loop
 loop-less c = omega arith
 
--- src/acts.rt:127:5
 loop-again : tie.Need-loop-again Inv-loop μ-loop
 loop-again c =
     let a = c .before .before .before .before .before .before .args in
     (omega arith, c .before .before .before .before .loop .inv .1 ∙ complete-step (a .d) (tableOf (a .table)) (a .full .now) (c .before .before .before .before .loop .i) (omega (arith, c .before .before .before .loop-test .taken, c .before .before .before .before .before .before .pre)) (c .before .before .before .loop-test .taken) (sym (c .before .there .ensures) ∙ not-false (c .before .there .result) (c .if1 .left)))
 
--- src/acts.rt:122:1
 returns-2 : tie.Need-returns-2 Inv-loop μ-loop
 returns-2 c =
     let a = c .before .before .before .args in

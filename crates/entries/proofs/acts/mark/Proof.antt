@@ -5,15 +5,12 @@ use Rattle.entries.proofs.acts.mark.Tie as tie
 use Rattle.entries.proofs.acts.mark.Reads as reads
 use Rattle.entries.proofs.acts.mark.Lts as lts
 
--- src/acts.rt:151:16
 shared-slice-read-result : tie.Need-shared-slice-read-result
 shared-slice-read-result c = search needs
 
--- src/acts.rt:151:9
 returns : tie.Need-returns
 returns c = search needs
 
--- src/acts.rt:146:1
 returns-2 : tie.Need-returns-2
 returns-2 c = no-mark (c .before .args .full .now) (c .before .args .row) (c .if1 .left)
 

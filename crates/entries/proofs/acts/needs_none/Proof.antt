@@ -5,19 +5,15 @@ use Rattle.entries.proofs.acts.needs_none.Tie as tie
 use Rattle.entries.proofs.acts.needs_none.Reads as reads
 use Rattle.entries.proofs.acts.needs_none.Lts as lts
 
--- src/acts.rt:77:9
 returns : tie.Need-returns
 returns c = rw (c .if1 .taken)
 
--- src/acts.rt:80:9
 returns-2 : tie.Need-returns-2
 returns-2 c = rw (c .if2 .taken)
 
--- src/acts.rt:83:9
 returns-3 : tie.Need-returns-3
 returns-3 c = let n = c .before .before .before .args .table in sym (rw (ne-eqb n 0 (c .before .before .if1 .left), ne-eqb n 8 (c .before .if2 .left), le-leb 10 n (c .if3 .taken)))
 
--- src/acts.rt:73:1
 returns-4 : tie.Need-returns-4
 returns-4 c = let n = c .before .before .before .args .table in sym (rw (ne-eqb n 0 (c .before .before .if1 .left), ne-eqb n 8 (c .before .if2 .left), lt-leb 10 n (c .if3 .left)))
 

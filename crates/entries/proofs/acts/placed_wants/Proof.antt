@@ -8,47 +8,37 @@ use Rattle.entries.proofs.acts.placed_wants.Reads as reads
 use Rattle.entries.proofs.acts.placed_wants.Lts as lts
 use Rattle.entries.proofs.row_lines.reaches.Reads as reaches-reads
 
--- src/acts.rt:55:9
 returns : tie.Need-returns
 returns c = placed-first (c .before .args .d) (c .before .args .row) (c .if1 .taken)
 
--- src/acts.rt:58:9
 reaches-requires : tie.Need-reaches-requires
 reaches-requires c κs = search needs
 
--- src/acts.rt:58:9
 returns-2 : tie.Need-returns-2
 unfolding tableOf placedTable
 returns-2 c = rw (c .before .if2 .taken) (c .reaches .ensures)
 
--- src/acts.rt:61:9
 reaches-requires-2 : tie.Need-reaches-requires-2
 reaches-requires-2 c κs = search needs
 
--- src/acts.rt:61:9
 returns-3 : tie.Need-returns-3
 unfolding tableOf placedTable
 returns-3 c = rw (c .before .if3 .taken) (c .reaches2 .ensures)
 
--- src/acts.rt:64:9
 reaches-requires-3 : tie.Need-reaches-requires-3
 reaches-requires-3 c κs = search needs
 
--- src/acts.rt:64:9
 returns-4 : tie.Need-returns-4
 unfolding tableOf placedTable
 returns-4 c = rw (c .before .if4 .taken) (c .reaches3 .ensures)
 
--- src/acts.rt:67:9
 reaches-requires-4 : tie.Need-reaches-requires-4
 reaches-requires-4 c κs = search needs
 
--- src/acts.rt:67:9
 returns-5 : tie.Need-returns-5
 unfolding tableOf placedTable
 returns-5 c = rw (c .before .if5 .taken) (c .reaches4 .ensures)
 
--- src/acts.rt:50:1
 returns-6 : tie.Need-returns-6
 returns-6 c = placed-other (c .before .before .before .before .before .args .d) (c .before .before .before .before .before .args .row) (c .before .before .before .before .before .pre) (c .before .before .before .before .if1 .left) (c .before .before .before .if2 .left) (c .before .before .if3 .left) (c .before .if4 .left) (c .if5 .left)
 

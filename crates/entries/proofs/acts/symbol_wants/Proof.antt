@@ -8,16 +8,13 @@ use Rattle.entries.proofs.acts.symbol_wants.Reads as reads
 use Rattle.entries.proofs.acts.symbol_wants.Lts as lts
 use Rattle.entries.proofs.row_lines.reaches.Reads as reaches-reads
 
--- src/acts.rt:44:9
 reaches-requires : tie.Need-reaches-requires
 reaches-requires c κs = search needs
 
--- src/acts.rt:44:9
 returns : tie.Need-returns
 unfolding tableOf symbolTable
 returns c = rw (c .before .if1 .taken) (c .reaches .ensures)
 
--- src/acts.rt:39:1
 returns-2 : tie.Need-returns-2
 returns-2 c = symbol-wanted (c .before .args .d) (c .before .args .row) (c .before .pre) (c .if1 .left)
 

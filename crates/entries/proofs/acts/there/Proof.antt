@@ -10,15 +10,12 @@ use Rattle.entries.proofs.acts.there.Reads as reads
 use Rattle.entries.proofs.acts.there.Lts as lts
 use Rattle.entries.proofs.acts.wants.Reads as wants-reads
 
--- src/acts.rt:116:9
 returns : tie.Need-returns
 returns c = there-full (c .before .args .d) (ruleAt (tableOf (c .before .args .table)) (c .before .args .row)) (c .before .args .full) (c .if1 .taken)
 
--- src/acts.rt:118:6
 wants-requires : tie.Need-wants-requires
 wants-requires c κs = search needs
 
--- src/acts.rt:111:1
 returns-2 : tie.Need-returns-2
 returns-2 c = ap not (c .wants .ensures) ∙ there-not (c .before .before .args .d) (ruleAt (tableOf (c .before .before .args .table)) (c .before .before .args .row)) (c .before .before .args .full) (c .before .if1 .left)
 

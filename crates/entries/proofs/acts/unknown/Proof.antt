@@ -13,21 +13,17 @@ use Rattle.entries.proofs.acts.unknown.Lts as lts
 use Rattle.entries.proofs.shapes.shape_for.Reads as shape-for-reads
 use Rattle.entries.proofs.shapes.sort_of.Reads as sort-of-reads
 
--- src/acts.rt:160:16
 shape-for-requires : tie.Need-shape-for-requires
 shape-for-requires c κs = search needs
 
--- src/acts.rt:160:8
 sort-of-requires : tie.Need-sort-of-requires
 sort-of-requires c κs = search needs
 
--- src/acts.rt:161:9
 returns : tie.Need-returns
 returns c =
     let f = ap hasForm (sym (c .before .before .shape-for .ensures)) ∙ form-by (c .before .before .before .before .args .s .now) (c .before .before .shape-for .result) ∙ ap (λ (n : ℕ). not (eqb n 4)) (sym (c .before .sort-of .ensures)) in
     rw (f ∙ ap not (eq-eqb (c .before .sort-of .result) 4 (c .if1 .taken)))
 
--- src/acts.rt:157:1
 returns-2 : tie.Need-returns-2
 returns-2 c =
     let f = ap hasForm (sym (c .before .before .shape-for .ensures)) ∙ form-by (c .before .before .before .before .args .s .now) (c .before .before .shape-for .result) ∙ ap (λ (n : ℕ). not (eqb n 4)) (sym (c .before .sort-of .ensures)) in

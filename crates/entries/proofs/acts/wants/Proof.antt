@@ -13,46 +13,36 @@ use Rattle.entries.proofs.acts.needs_none.Reads as needs-none-reads
 use Rattle.entries.proofs.acts.placed_wants.Reads as placed-wants-reads
 use Rattle.entries.proofs.acts.symbol_wants.Reads as symbol-wants-reads
 
--- src/acts.rt:93:8
 needs-none-requires : tie.Need-needs-none-requires
 needs-none-requires c κs = search needs
 
--- src/acts.rt:94:9
 returns : tie.Need-returns
 returns c = none-wanted (c .before .before .args .d) (c .before .before .args .row) (c .before .before .args .table) (sym (c .before .needs-none .ensures) ∙ c .if1 .taken) (c .before .before .pre)
 
--- src/acts.rt:97:9
 returns-2 : tie.Need-returns-2
 returns-2 c = rw (c .if2 .taken) (range-wanted (c .before .before .before .args .d) (c .before .before .before .args .row) (rw (c .if2 .taken) at (c .before .before .before .pre)))
 
--- src/acts.rt:100:9
 placed-wants-requires : tie.Need-placed-wants-requires
 unfolding tableOf placedTable
 placed-wants-requires c κs = rw (c .if3 .taken) at (c .before .before .before .before .pre)
 
--- src/acts.rt:100:9
 returns-3 : tie.Need-returns-3
 returns-3 c = rw (c .before .if3 .taken) (c .placed-wants .ensures)
 
--- src/acts.rt:103:9
 drawing-wants-requires : tie.Need-drawing-wants-requires
 unfolding tableOf drawingTable
 drawing-wants-requires c κs = rw (c .if4 .taken) at (c .before .before .before .before .before .pre)
 
--- src/acts.rt:103:9
 returns-4 : tie.Need-returns-4
 returns-4 c = rw (c .before .if4 .taken) (c .drawing-wants .ensures)
 
--- src/acts.rt:106:9
 symbol-wants-requires : tie.Need-symbol-wants-requires
 unfolding tableOf symbolTable
 symbol-wants-requires c κs = rw (c .if5 .taken) at (c .before .before .before .before .before .before .pre)
 
--- src/acts.rt:106:9
 returns-5 : tie.Need-returns-5
 returns-5 c = rw (c .before .if5 .taken) (c .symbol-wants .ensures)
 
--- src/acts.rt:89:1
 returns-6 : tie.Need-returns-6
 returns-6 c = plain-wanted (c .before .before .before .before .before .before .args .d) (c .before .before .before .before .before .before .args .row) (c .before .before .before .before .before .before .args .table) (sym (c .before .before .before .before .before .needs-none .ensures) ∙ c .before .before .before .before .if1 .left) (c .before .before .before .if2 .left) (c .before .before .if3 .left) (c .before .if4 .left) (c .if5 .left) (c .before .before .before .before .before .before .pre)
 

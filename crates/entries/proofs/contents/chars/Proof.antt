@@ -15,25 +15,20 @@ use Rattle.entries.proofs.contents.chars.Lts as lts
 use Rattle.entries.proofs.contents.put_two.Reads as put-two-reads
 use Rattle.leaves.proofs.texts.fits.Reads as fits-reads
 
--- src/contents.rt:44:9
 fits-requires : tie.Need-fits-requires
 fits-requires c κs = search needs
 
--- src/contents.rt:45:9
 returns : tie.Need-returns
 returns c =
     let a = c .before .before .before .args in
     unless-bad (all (byteIn (bytesOf (a .set))) (a .c .now) && leb (length (a .c .now)) (a .most)) 11 (chars (a .at) (a .c .now)) (a .rec .now) _ (a .p) (sym (c .before .fits2 .ensures) ∙ not-true (c .before .fits2 .result) (c .if1 .taken))
 
--- src/contents.rt:47:5
 put-two-requires : tie.Need-put-two-requires
 put-two-requires c κs = search needs
 
--- src/contents.rt:40:1
 same-length : tie.Need-same-length
 same-length c = search needs
 
--- src/contents.rt:40:1
 returns-2 : tie.Need-returns-2
 returns-2 c =
     let a = c .before .before .before .before .before .before .args in

@@ -8,41 +8,32 @@ use Rattle.entries.proofs.contents.put_ratio.Lts as lts
 use Rattle.entries.proofs.contents.put_two.Reads as put-two-reads
 use Rattle.leaves.proofs.sheets.ratio.Reads as ratio-reads
 
--- src/contents.rt:78:11
 ratio-requires : tie.Need-ratio-requires
 ratio-requires c κs = search needs
 
--- src/contents.rt:79:19
 enum-known-z : tie.Need-enum-known-z
 enum-known-z c = search needs
 
--- src/contents.rt:80:21
 cast-put-two : tie.Need-cast-put-two
 cast-put-two c = search needs
 
--- src/contents.rt:80:33
 cast-put-two-2 : tie.Need-cast-put-two-2
 cast-put-two-2 c = search needs
 
--- src/contents.rt:80:13
 put-two-requires : tie.Need-put-two-requires
 put-two-requires c κs = search needs
 
--- src/contents.rt:83:24
 enum-known-n : tie.Need-enum-known-n
 enum-known-n c = search needs
 
--- src/contents.rt:74:1
 same-length : tie.Need-same-length
 same-length c = search needs
 
--- src/contents.rt:74:1
 returns : tie.Need-returns
 returns c =
     let a = c .before .before .before .before .before .before .before .before .before .before .args in
     ratio-done (a .c .now) (a .rec .now) _ (a .p) (c .before .before .before .before .before .before .z .given .0 .0) (sym (c .before .before .before .before .before .before .z .given .1) ∙ c .before .before .before .before .before .before .before .before .ratio .ensures) (c .before .put-two .ensures)
 
--- src/contents.rt:74:1
 returns-2 : tie.Need-returns-2
 returns-2 c =
     let a = c .before .before .before .before .before .args in

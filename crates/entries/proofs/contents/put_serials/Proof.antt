@@ -15,71 +15,56 @@ use Rattle.entries.proofs.contents.serial_count.Reads as serial-count-r
 use Rattle.leaves.proofs.bytes.find.Reads as find-reads
 use Rattle.leaves.proofs.numbers.serial.Reads as serial-reads
 
--- src/contents.rt:114:24
 serial-count-requires : tie.Need-serial-count-requires
 serial-count-requires c κs = search needs
 
--- src/contents.rt:114:19
 enum-known-n : tie.Need-enum-known-n
 enum-known-n c = search needs
 
--- src/contents.rt:115:9
 enum-told : tie.Need-enum-told
 enum-told c = search needs
 
--- src/contents.rt:115:9
 returns : tie.Need-returns
 returns c =
     let a = c .before .before .before .before .args in
     linked-ten (a .c .now) (a .rec .now) _ (a .p) (sym (c .enum-told .given .1) ∙ c .before .before .serial-count .ensures)
 
--- src/contents.rt:118:9
 returns-2 : tie.Need-returns-2
 returns-2 c =
     let a = c .before .before .before .before .before .before .args in
     linked-eleven (a .c .now) (a .rec .now) _ (a .p) (c .before .before .n .given .0 .0) (sym (c .before .before .n .given .1) ∙ c .before .before .before .before .serial-count .ensures) (c .if1 .taken)
 
--- src/contents.rt:120:9
 find-requires : tie.Need-find-requires
 find-requires c κs = search needs
 
--- src/contents.rt:121:31
 slice-aggregate-serial : tie.Need-slice-aggregate-serial
 slice-aggregate-serial c = sym (length-take-le _ _ (omega (arith, upTo-le 44 (c .before .before .before .before .before .before .before .before .args .c .now), c .before .find .ensures)))
 
--- src/contents.rt:121:24
 serial-requires : tie.Need-serial-requires
 serial-requires c κs = search needs
 
--- src/contents.rt:121:19
 enum-known-v : tie.Need-enum-known-v
 enum-known-v c = search needs
 
--- src/contents.rt:122:9
 enum-told-2 : tie.Need-enum-told-2
 enum-told-2 c = search needs
 
--- src/contents.rt:122:9
 returns-3 : tie.Need-returns-3
 returns-3 c =
     let a = c .before .before .before .before .before .before .before .before .before .before .before .args in
     linked-own (a .c .now) (a .rec .now) _ (a .p) (c .before .before .before .before .find .result) (c .before .before .before .before .find .ensures) (sym (c .enum-told2 .given .1) ∙ c .before .before .serial .ensures)
 
--- src/contents.rt:124:16
 sub-put-two : tie.Need-sub-put-two
 sub-put-two c = some-serials (c .before .before .before .before .before .before .before .before .before .before .before .before .args .c .now) (c .before .before .before .before .before .before .before .before .before .before .before .before .args .rec .now) (c .before .before .before .before .before .before .before .before .before .before .before .before .args .rec .now) 0 (c .before .before .before .before .before .before .before .before .n .given .0 .0) (sym (c .before .before .before .before .before .before .before .before .n .given .1) ∙ c .before .before .before .before .before .before .before .before .before .before .serial-count .ensures)
 
--- src/contents.rt:124:5
 put-two-requires : tie.Need-put-two-requires
 put-two-requires c κs =
     let h = count-below 10 (take (c .before .before .before .before .before .before .find .result) (c .before .before .before .before .before .before .before .before .before .before .before .before .before .args .c .now)) (c .before .before .v .given .0 .0) (sym (c .before .before .before .before .serial .ensures) ∙ c .before .before .v .given .1) in
     (omega (arith, h), omega (arith, c .before .before .before .before .before .before .before .if1 .left), c .before .before .before .before .before .before .before .before .before .before .before .before .before .pre .1)
 
--- src/contents.rt:110:1
 same-length : tie.Need-same-length
 same-length c = search needs
 
--- src/contents.rt:110:1
 returns-4 : tie.Need-returns-4
 returns-4 c =
     let a = c .before .before .before .before .before .before .before .before .before .before .before .before .before .before .before .args in

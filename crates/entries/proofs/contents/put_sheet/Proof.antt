@@ -9,41 +9,32 @@ use Rattle.entries.proofs.contents.put_sheet.Lts as lts
 use Rattle.entries.proofs.contents.put_two.Reads as put-two-reads
 use Rattle.leaves.proofs.sheets.sheet.Reads as sheet-reads
 
--- src/contents.rt:67:24
 sheet-requires : tie.Need-sheet-requires
 sheet-requires c κs = search needs
 
--- src/contents.rt:67:19
 enum-known-z : tie.Need-enum-known-z
 enum-known-z c = search needs
 
--- src/contents.rt:68:9
 enum-told : tie.Need-enum-told
 enum-told c = search needs
 
--- src/contents.rt:68:9
 returns : tie.Need-returns
 returns c =
     let a = c .before .before .before .before .args in
     sheet-bad (a .c .now) sheets (a .rec .now) _ (a .p) (sym (c .enum-told .given .1) ∙ c .before .before .sheet .ensures)
 
--- src/contents.rt:70:13
 cast-put-two : tie.Need-cast-put-two
 cast-put-two c = search needs
 
--- src/contents.rt:70:34
 cast-put-two-2 : tie.Need-cast-put-two-2
 cast-put-two-2 c = search needs
 
--- src/contents.rt:70:5
 put-two-requires : tie.Need-put-two-requires
 put-two-requires c κs = search needs
 
--- src/contents.rt:63:1
 same-length : tie.Need-same-length
 same-length c = search needs
 
--- src/contents.rt:63:1
 returns-2 : tie.Need-returns-2
 returns-2 c =
     let a = c .before .before .before .before .before .before .before .before .before .before .args in

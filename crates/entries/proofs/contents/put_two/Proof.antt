@@ -9,39 +9,30 @@ use Rattle.entries.proofs.contents.put_two.Tie as tie
 use Rattle.entries.proofs.contents.put_two.Reads as reads
 use Rattle.entries.proofs.contents.put_two.Lts as lts
 
--- src/contents.rt:35:14
 cast-rec : tie.Need-cast-rec
 cast-rec c = search needs
 
--- src/contents.rt:35:5
 mul-rec : tie.Need-mul-rec
 mul-rec c = search needs
 
--- src/contents.rt:35:5
 slice-set-from-rec : tie.Need-slice-set-from-rec
 slice-set-from-rec c = search needs
 
--- src/contents.rt:36:18
 cast-rec-2 : tie.Need-cast-rec-2
 cast-rec-2 c = search needs
 
--- src/contents.rt:36:9
 add-t6 : tie.Need-add-t6
 add-t6 c = search needs
 
--- src/contents.rt:36:5
 mul-t8 : tie.Need-mul-t8
 mul-t8 c = search needs
 
--- src/contents.rt:36:5
 slice-set-from-rec-2 : tie.Need-slice-set-from-rec-2
 slice-set-from-rec-2 c = omega (arith, length-set (c .args .rec .now) (c .args .p) (toZ w64 (c .args .a)), c .pre .2)
 
--- src/contents.rt:31:1
 same-length : tie.Need-same-length
 same-length c = search needs
 
--- src/contents.rt:31:1
 returns : tie.Need-returns
 returns c = two-put (c .args .rec .now) (c .args .p) (c .args .a) (c .args .b) (c .pre .0) (c .pre .1)
 

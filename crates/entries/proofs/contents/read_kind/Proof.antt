@@ -18,133 +18,102 @@ use Rattle.entries.proofs.parts.single.Reads as single-reads
 use Rattle.entries.proofs.values.put_value.Reads as put-value-reads
 use Rattle.entries.proofs.values.values.Reads as values-reads
 
--- src/contents.rt:134:9
 chars-requires : tie.Need-chars-requires
 chars-requires c κs = (c .before .before .before .before .before .before .before .pre .2, rw (c .before .if1 .taken) at (c .before .before .before .before .before .before .before .pre .3))
 
--- src/contents.rt:134:9
 same-length : tie.Need-same-length
 same-length c = search needs
 
--- src/contents.rt:134:9
 returns : tie.Need-returns
 returns c = rw (c .before .before .before .if1 .taken) (c .before .chars .ensures)
 
--- src/contents.rt:137:9
 chars-requires-2 : tie.Need-chars-requires-2
 chars-requires-2 c κs = (c .before .before .before .before .before .before .before .before .before .pre .2, rw (c .before .if2 .taken) at (c .before .before .before .before .before .before .before .before .before .pre .3))
 
--- src/contents.rt:137:9
 same-length-2 : tie.Need-same-length-2
 same-length-2 c = search needs
 
--- src/contents.rt:137:9
 returns-2 : tie.Need-returns-2
 returns-2 c = rw (c .before .before .before .if2 .taken) (c .before .chars2 .ensures)
 
--- src/contents.rt:140:9
 volume-name-requires : tie.Need-volume-name-requires
 volume-name-requires c κs = (c .before .before .before .before .before .before .before .before .before .before .before .pre .2, rw (c .before .if3 .taken) at (c .before .before .before .before .before .before .before .before .before .before .before .pre .3))
 
--- src/contents.rt:140:9
 same-length-3 : tie.Need-same-length-3
 same-length-3 c = search needs
 
--- src/contents.rt:140:9
 returns-3 : tie.Need-returns-3
 returns-3 c = rw (c .before .before .before .if3 .taken) (c .before .volume-name .ensures)
 
--- src/contents.rt:143:9
 put-sheet-requires : tie.Need-put-sheet-requires
 put-sheet-requires c κs = rw (c .before .if4 .taken) at (c .before .before .before .before .before .before .before .before .before .before .before .before .before .pre .3)
 
--- src/contents.rt:143:9
 same-length-4 : tie.Need-same-length-4
 same-length-4 c = search needs
 
--- src/contents.rt:143:9
 returns-4 : tie.Need-returns-4
 returns-4 c = rw (c .before .before .before .if4 .taken) (c .before .put-sheet .ensures)
 
--- src/contents.rt:146:9
 put-ratio-requires : tie.Need-put-ratio-requires
 put-ratio-requires c κs = rw (c .before .if5 .taken) at (c .before .before .before .before .before .before .before .before .before .before .before .before .before .before .before .pre .3)
 
--- src/contents.rt:146:9
 same-length-5 : tie.Need-same-length-5
 same-length-5 c = search needs
 
--- src/contents.rt:146:9
 returns-5 : tie.Need-returns-5
 returns-5 c = rw (c .before .before .before .if5 .taken) (c .before .put-ratio .ensures)
 
--- src/contents.rt:149:9
 put-serials-requires : tie.Need-put-serials-requires
 put-serials-requires c κs = (c .before .before .before .before .before .before .before .before .before .before .before .before .before .before .before .before .before .pre .2, rw (c .before .if6 .taken) at (c .before .before .before .before .before .before .before .before .before .before .before .before .before .before .before .before .before .pre .3))
 
--- src/contents.rt:149:9
 same-length-6 : tie.Need-same-length-6
 same-length-6 c = search needs
 
--- src/contents.rt:149:9
 returns-6 : tie.Need-returns-6
 returns-6 c = rw (c .before .before .before .if6 .taken) (c .before .put-serials .ensures)
 
--- src/contents.rt:152:9
 returns-7 : tie.Need-returns-7
 returns-7 c = rw (c .if7 .taken) (record { eq = refl; filled = tt })
 
--- src/contents.rt:155:9
 returns-8 : tie.Need-returns-8
 returns-8 c = rw (c .if8 .taken) (record { eq = refl; filled = tt })
 
--- src/contents.rt:158:26
 single-requires : tie.Need-single-requires
 single-requires c κs = (c .before .before .before .before .before .before .before .before .before .before .before .before .before .before .before .before .before .before .before .before .before .before .pre .0, c .before .before .before .before .before .before .before .before .before .before .before .before .before .before .before .before .before .before .before .before .before .before .pre .1)
 
--- src/contents.rt:158:9
 put-value-requires : tie.Need-put-value-requires
 put-value-requires c κs = let h = rw (c .before .before .if9 .taken) at (c .before .before .before .before .before .before .before .before .before .before .before .before .before .before .before .before .before .before .before .before .before .before .before .before .pre .3) in omega (arith, h)
 
--- src/contents.rt:158:9
 same-length-7 : tie.Need-same-length-7
 same-length-7 c = search needs
 
--- src/contents.rt:158:9
 returns-9 : tie.Need-returns-9
 returns-9 c =
     let a = c .before .before .before .before .before .before .before .before .before .before .before .before .before .before .before .before .before .before .before .before .before .before .before .before .before .before .args in
     rw (c .before .before .before .before .if9 .taken) (one-put (readPart (knownIn (a .s .now) (a .symbols .now) (a .layers .now)) (partOf (a .row .parts)) (a .c .now)) _ (a .rec .now) _ (a .p) _ (c .before .before .before .single .ensures) (c .before .put-value .ensures .0) (c .before .put-value .ensures .1))
 
--- src/contents.rt:161:26
 single-requires-2 : tie.Need-single-requires-2
 single-requires-2 c κs = (c .before .before .before .before .before .before .before .before .before .before .before .before .before .before .before .before .before .before .before .before .before .before .before .before .pre .0, c .before .before .before .before .before .before .before .before .before .before .before .before .before .before .before .before .before .before .before .before .before .before .before .before .pre .1)
 
--- src/contents.rt:161:9
 put-value-requires-2 : tie.Need-put-value-requires-2
 put-value-requires-2 c κs = let h = rw (c .before .before .if10 .taken) at (c .before .before .before .before .before .before .before .before .before .before .before .before .before .before .before .before .before .before .before .before .before .before .before .before .before .before .pre .3) in omega (arith, h)
 
--- src/contents.rt:161:9
 same-length-8 : tie.Need-same-length-8
 same-length-8 c = search needs
 
--- src/contents.rt:161:9
 returns-10 : tie.Need-returns-10
 returns-10 c =
     let a = c .before .before .before .before .before .before .before .before .before .before .before .before .before .before .before .before .before .before .before .before .before .before .before .before .before .before .before .before .args in
     rw (c .before .before .before .before .if10 .taken) (one-put (readPart (knownIn (a .s .now) (a .symbols .now) (a .layers .now)) (partOf 11) (a .c .now)) _ (a .rec .now) _ (a .p) _ (c .before .before .before .single2 .ensures) (c .before .put-value2 .ensures .0) (c .before .put-value2 .ensures .1))
 
--- src/contents.rt:163:5
 values-requires : tie.Need-values-requires
 values-requires c κs =
     let r = c .before .before .before .before .before .before .before .before .before .before .before .before .before .before .before .before .before .before .before .before .before .before .before .before .before .args .row in
     (c .before .before .before .before .before .before .before .before .before .before .before .before .before .before .before .before .before .before .before .before .before .before .before .before .before .pre .0, c .before .before .before .before .before .before .before .before .before .before .before .before .before .before .before .before .before .before .before .before .before .before .before .before .before .pre .1, room-values r (c .before .before .before .before .before .before .before .before .before .before .before .before .before .before .before .before .before .before .before .if1 .left) (c .before .before .before .before .before .before .before .before .before .before .before .before .before .before .before .before .before .if2 .left) (c .before .before .before .before .before .before .before .before .before .before .before .before .before .before .before .if3 .left) (c .before .before .before .before .before .before .before .before .before .before .before .before .before .if4 .left) (c .before .before .before .before .before .before .before .before .before .before .before .if5 .left) (c .before .before .before .before .before .before .before .before .before .if6 .left) (c .before .before .before .before .before .before .before .if7 .left) (c .before .before .before .before .before .if8 .left) (c .before .before .before .if9 .left) (c .before .if10 .left) (c .before .before .before .before .before .before .before .before .before .before .before .before .before .before .before .before .before .before .before .before .before .before .before .before .before .args .p) _ (c .before .before .before .before .before .before .before .before .before .before .before .before .before .before .before .before .before .before .before .before .before .before .before .before .before .pre .3), settled-values r (c .before .before .before .before .before .before .before .before .before .before .before .before .before .before .before .before .before .before .before .if1 .left) (c .before .before .before .before .before .before .before .before .before .before .before .before .before .before .before .before .before .if2 .left) (c .before .before .before .before .before .before .before .before .before .before .before .before .before .before .before .if3 .left) (c .before .before .before .before .before .before .before .before .before .before .before .before .before .if4 .left) (c .before .before .before .before .before .before .before .before .before .before .before .if5 .left) (c .before .before .before .before .before .before .before .before .before .if6 .left) (c .before .before .before .before .before .before .before .if7 .left) (c .before .before .before .before .before .if8 .left) (c .before .before .before .if9 .left) (c .before .if10 .left) (c .before .before .before .before .before .before .before .before .before .before .before .before .before .before .before .before .before .before .before .before .before .before .before .before .before .pre .4))
 
--- src/contents.rt:129:1
 same-length-9 : tie.Need-same-length-9
 same-length-9 c = search needs
 
--- src/contents.rt:129:1
 returns-11 : tie.Need-returns-11
 returns-11 c =
     let a = c .before .before .before .before .before .before .before .before .before .before .before .before .before .before .before .before .before .before .before .before .before .before .before .before .before .before .before .args in

@@ -23,68 +23,53 @@ Inv-loop c i₀ n₀ e₀ i n e = (i ≤ length c) × (n ≤ i) × (e ≡ i + le
 abbrev μ-loop : tie.MeasureT-loop
 μ-loop c i₀ n₀ e₀ i n e = length c - i
 
--- src/contents.rt:94:9
 find-requires : tie.Need-find-requires Inv-loop μ-loop
 find-requires c κs = search needs
 
--- src/contents.rt:95:5
 loop-holds : tie.Need-loop-holds Inv-loop μ-loop
 loop-holds c = (omega arith, omega arith, omega (arith, c .find .ensures), add-none (serialsIn (c .before .before .args .c .now)))
 
--- src/contents.rt:96:35
 sub-serial : tie.Need-sub-serial Inv-loop μ-loop
 sub-serial c = omega (arith, c .before .loop .inv .2)
 
--- src/contents.rt:96:35
 part-serial-start : tie.Need-part-serial-start Inv-loop μ-loop
 part-serial-start c = search needs
 
--- src/contents.rt:96:35
 part-serial-end : tie.Need-part-serial-end Inv-loop μ-loop
 part-serial-end c = search needs
 
--- src/contents.rt:96:28
 serial-requires : tie.Need-serial-requires Inv-loop μ-loop
 serial-requires c κs = search needs
 
 enum-told : tie.Need-enum-told Inv-loop μ-loop
 enum-told c = search needs
 
--- src/contents.rt:97:13
 enum-told-2 : tie.Need-enum-told-2 Inv-loop μ-loop
 enum-told-2 c = search needs
 
--- src/contents.rt:97:13
 returns : tie.Need-returns Inv-loop μ-loop
 returns c =
     let v = c .before .before .before .before .before .loop .inv in
     count-not (c .before .before .before .before .before .before .before .before .args .c .now) (c .before .before .before .before .before .loop .i) (c .before .before .before .before .before .loop .n) (c .before .before .before .before .before .loop .e) (v .0) (v .2) (v .3) (sym (c .enum-told2 .given .1) ∙ c .before .before .serial .ensures)
 
--- src/contents.rt:99:9
 add-n : tie.Need-add-n Inv-loop μ-loop
 add-n c = search needs
 
--- src/contents.rt:100:13
 add-i : tie.Need-add-i Inv-loop μ-loop
 add-i c = search needs
 
--- src/contents.rt:101:22
 sub-find : tie.Need-sub-find Inv-loop μ-loop
 sub-find c = search needs
 
--- src/contents.rt:101:22
 part-find-start : tie.Need-part-find-start Inv-loop μ-loop
 part-find-start c = search needs
 
--- src/contents.rt:101:22
 part-find-end : tie.Need-part-find-end Inv-loop μ-loop
 part-find-end c = search needs
 
--- src/contents.rt:101:17
 find-requires-2 : tie.Need-find-requires-2 Inv-loop μ-loop
 find-requires-2 c κs = search needs
 
--- src/contents.rt:101:13
 add-e : tie.Need-add-e Inv-loop μ-loop
 add-e c =
     let l = c .before .before .before .before .before .before .before .before .before .before .args .c .now in
@@ -92,11 +77,9 @@ add-e c =
     let q = c .find2 .ensures ∙ ap (λ (u : List ℕ). length (upTo 44 u)) (rest-all j l) in
     record { fits = omega (arith, q, upTo-le 44 (drop j l), length-drop j l, c .before .before .before .before .before .before .before .before .before .before .pre, c .before .before .before .before .before .before .loop-test .taken) }
 
--- src/contents.rt:95:5
 loop-less : tie.Need-loop-less Inv-loop μ-loop
 loop-less c = omega (arith, c .before .before .before .before .before .before .before .loop .inv .2, c .before .before .before .before .before .before .loop-test .taken)
 
--- src/contents.rt:95:5
 loop-again : tie.Need-loop-again Inv-loop μ-loop
 loop-again c =
     let l = c .before .before .before .before .before .before .before .before .before .before .args .c .now in
@@ -105,40 +88,32 @@ loop-again c =
     let q = c .find2 .ensures ∙ ap (λ (u : List ℕ). length (upTo 44 u)) (rest-all j l) in
     (omega (arith, c .before .before .before .before .before .before .loop-test .taken), omega (arith, v .1, v .2), ap (λ (n : ℕ). j + n) q, count-more l (c .before .before .before .before .before .before .before .loop .i) (c .before .before .before .before .before .before .before .loop .n) (c .before .before .before .before .before .before .before .loop .e) (v .0) (v .2) (v .3) _ (c .before .before .before .before .before .before .loop-test .taken) (sym (c .before .before .enum-told .given .1) ∙ c .before .before .before .before .serial .ensures))
 
--- src/contents.rt:103:31
 sub-serial-2 : tie.Need-sub-serial-2 Inv-loop μ-loop
 sub-serial-2 c = search needs
 
--- src/contents.rt:103:31
 part-serial-start-2 : tie.Need-part-serial-start-2 Inv-loop μ-loop
 part-serial-start-2 c = search needs
 
--- src/contents.rt:103:31
 part-serial-end-2 : tie.Need-part-serial-end-2 Inv-loop μ-loop
 part-serial-end-2 c = search needs
 
--- src/contents.rt:103:24
 serial-requires-2 : tie.Need-serial-requires-2 Inv-loop μ-loop
 serial-requires-2 c κs = search needs
 
 enum-told-3 : tie.Need-enum-told-3 Inv-loop μ-loop
 enum-told-3 c = search needs
 
--- src/contents.rt:104:9
 enum-told-4 : tie.Need-enum-told-4 Inv-loop μ-loop
 enum-told-4 c = search needs
 
--- src/contents.rt:104:9
 returns-2 : tie.Need-returns-2 Inv-loop μ-loop
 returns-2 c =
     let v = c .before .before .before .before .before .loop .inv in
     count-last (c .before .before .before .before .before .before .before .before .args .c .now) (c .before .before .before .before .before .loop .i) (c .before .before .before .before .before .loop .n) (c .before .before .before .before .before .loop .e) (v .0) (v .2) (v .3) (c .before .before .before .before .loop-test .left) (sym (c .enum-told4 .given .1) ∙ c .before .before .serial2 .ensures)
 
--- src/contents.rt:106:15
 add-t20 : tie.Need-add-t20 Inv-loop μ-loop
 add-t20 c = search needs
 
--- src/contents.rt:88:1
 returns-3 : tie.Need-returns-3 Inv-loop μ-loop
 returns-3 c =
     let v = c .before .before .before .before .before .loop .inv in

@@ -12,25 +12,20 @@ use Rattle.entries.proofs.contents.volume_name.Lts as lts
 use Rattle.entries.proofs.contents.put_two.Reads as put-two-reads
 use Rattle.leaves.proofs.bytes.all_in.Reads as all-in-reads
 
--- src/contents.rt:56:9
 all-in-requires : tie.Need-all-in-requires
 all-in-requires c κs = search needs
 
--- src/contents.rt:57:9
 returns : tie.Need-returns
 returns c =
     let a = c .before .before .before .args in
     unless-bad (all (byteIn lettersAndDigits) (a .c .now)) 11 (chars (a .at) (map capital (a .c .now))) (a .rec .now) _ (a .p) (sym (c .before .all-in .ensures) ∙ not-true (c .before .all-in .result) (c .if1 .taken))
 
--- src/contents.rt:59:5
 put-two-requires : tie.Need-put-two-requires
 put-two-requires c κs = search needs
 
--- src/contents.rt:52:1
 same-length : tie.Need-same-length
 same-length c = search needs
 
--- src/contents.rt:52:1
 returns-2 : tie.Need-returns-2
 returns-2 c =
     let a = c .before .before .before .before .before .before .args in

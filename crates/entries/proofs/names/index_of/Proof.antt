@@ -22,51 +22,40 @@ Inv-loop s names key i₀ i = (i ≤ length names) × (indexFrom 0 key (namesIn 
 abbrev μ-loop : tie.MeasureT-loop
 μ-loop s names key i₀ i = length names - i
 
--- src/names.rt:44:5
 loop-holds : tie.Need-loop-holds Inv-loop μ-loop
 loop-holds c = (omega arith, refl)
 
--- src/names.rt:45:33
 mul-name-at : tie.Need-mul-name-at Inv-loop μ-loop
 mul-name-at c = search needs
 
--- src/names.rt:45:33
 shared-slice-read-name-at : tie.Need-shared-slice-read-name-at Inv-loop μ-loop
 shared-slice-read-name-at c = omega arith
 
--- src/names.rt:45:22
 name-at-requires : tie.Need-name-at-requires Inv-loop μ-loop
 name-at-requires c κs = search needs
 
--- src/names.rt:45:12
 same-requires : tie.Need-same-requires Inv-loop μ-loop
 same-requires c κs = search needs
 
--- src/names.rt:46:30
 cast-t11 : tie.Need-cast-t11 Inv-loop μ-loop
 cast-t11 c = omega (arith, c .before .before .before .before .before .before .before .before .before .pre)
 
--- src/names.rt:46:13
 returns : tie.Need-returns Inv-loop μ-loop
 returns c =
     let a = c .before .before .before .before .before .before .before .before .before .args in
     sym (c .before .before .before .before .before .loop .inv .1 ∙ name-hit (a .s .now) (a .key .now) (a .names .now) (c .before .before .before .before .before .loop .i) (c .before .before .before .before .loop-test .taken) (sym (ap (λ (l : List ℕ). same (a .key .now) l) (c .before .before .name-at .ensures)) ∙ sym (c .before .same .ensures) ∙ c .if1 .taken))
 
--- src/names.rt:48:9
 add-i : tie.Need-add-i Inv-loop μ-loop
 add-i c = omega arith
 
--- src/names.rt:44:5
 loop-less : tie.Need-loop-less Inv-loop μ-loop
 loop-less c = omega arith
 
--- src/names.rt:44:5
 loop-again : tie.Need-loop-again Inv-loop μ-loop
 loop-again c =
     let a = c .before .before .before .before .before .before .before .before .before .args in
     (omega arith, c .before .before .before .before .before .loop .inv .1 ∙ name-miss (a .s .now) (a .key .now) (a .names .now) (c .before .before .before .before .before .loop .i) (c .before .before .before .before .loop-test .taken) (sym (ap (λ (l : List ℕ). same (a .key .now) l) (c .before .before .name-at .ensures)) ∙ sym (c .before .same .ensures) ∙ c .if1 .left))
 
--- src/names.rt:40:1
 returns-2 : tie.Need-returns-2 Inv-loop μ-loop
 returns-2 c = sym (c .before .loop .inv .1 ∙ name-end (c .before .before .before .before .before .args .s .now) (c .before .before .before .before .before .args .key .now) (c .before .before .before .before .before .args .names .now) (c .before .loop .i) (c .loop-test .left))
 

@@ -8,67 +8,51 @@ use Rattle.entries.proofs.names.part.Tie as tie
 use Rattle.entries.proofs.names.part.Reads as reads
 use Rattle.entries.proofs.names.part.Lts as lts
 
--- src/names.rt:13:16
 cast-from : tie.Need-cast-from
 cast-from c = search needs
 
--- src/names.rt:14:15
 cast-len : tie.Need-cast-len
 cast-len c = search needs
 
--- src/names.rt:17:16
 sub-result : tie.Need-sub-result
 sub-result c = search needs
 
--- src/names.rt:17:16
 part-result-start : tie.Need-part-result-start
 part-result-start c = search needs
 
--- src/names.rt:17:16
 part-result-end : tie.Need-part-result-end
 part-result-end c = search needs
 
--- src/names.rt:17:9
 returns : tie.Need-returns
 returns c = let s = c .before .before .before .before .args .s .now in part-none s (length s - length s) (c .before .before .before .before .args .p .at) (c .before .before .before .before .args .p .len) (c .before .if1 .taken)
 
--- src/names.rt:19:8
 sub-if2 : tie.Need-sub-if2
 sub-if2 c = search needs
 
--- src/names.rt:20:16
 sub-result-2 : tie.Need-sub-result-2
 sub-result-2 c = search needs
 
--- src/names.rt:20:16
 part-result-start-2 : tie.Need-part-result-start-2
 part-result-start-2 c = search needs
 
--- src/names.rt:20:16
 part-result-end-2 : tie.Need-part-result-end-2
 part-result-end-2 c = search needs
 
--- src/names.rt:20:9
 returns-2 : tie.Need-returns-2
 returns-2 c = part-short (c .before .before .before .before .before .args .s .now) (c .before .before .before .before .before .args .p .at) (c .before .before .before .before .before .args .p .len) (omega (arith, c .before .before .if1 .left)) (c .before .if2 .taken)
 
--- src/names.rt:22:14
 add-to : tie.Need-add-to
 add-to c = search needs
 
--- src/names.rt:23:5
 sub-result-3 : tie.Need-sub-result-3
 sub-result-3 c = search needs
 
--- src/names.rt:23:5
 part-result-start-3 : tie.Need-part-result-start-3
 part-result-start-3 c = search needs
 
--- src/names.rt:23:5
 part-result-end-3 : tie.Need-part-result-end-3
 part-result-end-3 c = search needs
 
--- src/names.rt:10:1
 returns-3 : tie.Need-returns-3
 returns-3 c = part-whole (c .before .before .before .before .before .args .s .now) (c .before .before .before .before .before .args .p .at) (c .before .before .before .before .before .args .p .len)
 

@@ -12,30 +12,24 @@ use Rattle.entries.proofs.parts.bounded.Reads as reads
 use Rattle.entries.proofs.parts.bounded.Lts as lts
 use Rattle.entries.proofs.parts.in_bound.Reads as in-bound-reads
 
--- src/parts.rt:77:21
 enum-known-r : tie.Need-enum-known-r
 enum-known-r c = search needs
 
--- src/parts.rt:78:9
 enum-told : tie.Need-enum-told
 enum-told c = search needs
 
--- src/parts.rt:78:9
 returns : tie.Need-returns
 returns c = search needs
 
--- src/parts.rt:81:8
 in-bound-requires : tie.Need-in-bound-requires
 in-bound-requires c κs = search needs
 
--- src/parts.rt:82:9
 returns-2 : tie.Need-returns-2
 returns-2 c =
     let z = c .before .before .before .before .r .given .0 .0 .value in
     let f : SFits w64 z = search needs in
     rw (toZ-ofZ f) (reading-is (inBound (boundOf (c .before .before .before .before .before .before .args .bound))) z (c .before .before .before .before .before .before .args .r) (c .before .before .before .before .r .given .1) (sym (rw (toZ-ofZ f) at (c .before .in-bound .ensures)) ∙ c .if1 .taken))
 
--- src/parts.rt:74:1
 returns-3 : tie.Need-returns-3
 returns-3 c =
     let z = c .before .before .before .before .r .given .0 .0 .value in

@@ -8,30 +8,25 @@ use Rattle.entries.proofs.parts.in_bound.Tie as tie
 use Rattle.entries.proofs.parts.in_bound.Reads as reads
 use Rattle.entries.proofs.parts.in_bound.Lts as lts
 
--- src/parts.rt:61:9
 returns : tie.Need-returns
 returns c = rw (c .if1 .taken)
 
--- src/parts.rt:64:9
 returns-2 : tie.Need-returns-2
 returns-2 c =
     let f : SFits w64 (c .before .before .args .z) = search needs in
     rw (toZ-ofZ f, c .if2 .taken)
 
--- src/parts.rt:67:9
 returns-3 : tie.Need-returns-3
 returns-3 c =
     let f : SFits w64 (c .before .before .before .args .z) = search needs in
     rw (toZ-ofZ f, c .if3 .taken)
 
--- src/parts.rt:70:9
 returns-4 : tie.Need-returns-4
 returns-4 c =
     let f : SFits w64 (c .before .before .before .before .args .z) = search needs in
     let b = c .before .before .before .before .args .bound in
     rw (toZ-ofZ f, ne-eqb b 20 (c .before .before .before .if1 .left), ne-eqb b 21 (c .before .before .if2 .left), ne-eqb b 22 (c .before .if3 .left), rw (toZ-ofZ f) at (c .if4 .taken))
 
--- src/parts.rt:57:1
 returns-5 : tie.Need-returns-5
 returns-5 c =
     let f : SFits w64 (c .before .before .before .before .args .z) = search needs in

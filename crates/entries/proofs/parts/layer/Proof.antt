@@ -12,23 +12,18 @@ use Rattle.entries.proofs.names.index_of.Reads as index-of-reads
 use Rattle.entries.proofs.parts.numbered.Reads as numbered-reads
 use Rattle.leaves.proofs.bytes.is_layer_id.Reads as is-layer-id-reads
 
--- src/parts.rt:101:9
 is-layer-id-requires : tie.Need-is-layer-id-requires
 is-layer-id-requires c κs = search needs
 
--- src/parts.rt:102:9
 returns : tie.Need-returns
 returns c = rw (sym (c .before .is-layer-id .ensures) ∙ not-true (c .before .is-layer-id .result) (c .if1 .taken))
 
--- src/parts.rt:104:14
 index-of-requires : tie.Need-index-of-requires
 index-of-requires c κs = search needs
 
--- src/parts.rt:104:5
 numbered-requires : tie.Need-numbered-requires
 numbered-requires c κs = search needs
 
--- src/parts.rt:97:1
 returns-2 : tie.Need-returns-2
 returns-2 c =
     let a = c .before .before .before .before .before .before .before .args in

@@ -9,30 +9,24 @@ use Rattle.entries.proofs.parts.limited.Reads as reads
 use Rattle.entries.proofs.parts.limited.Lts as lts
 use Rattle.leaves.proofs.bytes.within.Reads as within-reads
 
--- src/parts.rt:30:19
 enum-known-n : tie.Need-enum-known-n
 enum-known-n c = search needs
 
--- src/parts.rt:31:9
 enum-told : tie.Need-enum-told
 enum-told c = search needs
 
--- src/parts.rt:31:9
 returns : tie.Need-returns
 returns c = search needs
 
--- src/parts.rt:33:8
 within-requires : tie.Need-within-requires
 within-requires c κs = search needs
 
--- src/parts.rt:34:24
 cast-t7 : tie.Need-cast-t7
 cast-t7 c =
     let a = c .before .before .before .before .before .args in
     let h = within-below (a .lo) (a .hi) (c .before .before .before .n .given .0 .0) (sym (c .before .within .ensures) ∙ c .if1 .taken) in
     omega (arith, h, c .before .before .before .before .before .pre)
 
--- src/parts.rt:34:9
 returns-2 : tie.Need-returns-2
 returns-2 c =
     let a = c .before .before .before .before .before .args in
@@ -40,7 +34,6 @@ returns-2 c =
     let h = within-below (a .lo) (a .hi) (c .before .before .before .n .given .0 .0) t in
     count-is (inRange (a .lo) (a .hi)) (a .otherwise) (c .before .before .before .n .given .0 .0) (a .n) (c .before .before .before .n .given .1) (omega (arith, h, c .before .before .before .before .before .pre)) t
 
--- src/parts.rt:26:1
 returns-3 : tie.Need-returns-3
 returns-3 c =
     let a = c .before .before .before .before .before .args in

@@ -6,25 +6,20 @@ use Rattle.entries.proofs.parts.numbered.Tie as tie
 use Rattle.entries.proofs.parts.numbered.Reads as reads
 use Rattle.entries.proofs.parts.numbered.Lts as lts
 
--- src/parts.rt:91:19
 enum-known-i : tie.Need-enum-known-i
 enum-known-i c = search needs
 
--- src/parts.rt:91:33
 cast-t5 : tie.Need-cast-t5
 cast-t5 c = search needs
 
--- src/parts.rt:92:24
 enum-told : tie.Need-enum-told
 enum-told c = search needs
 
--- src/parts.rt:87:1
 returns : tie.Need-returns
 returns c =
     let h : c .before .i .given .0 .0 < 4294967296 = search needs in
     numbered-is (c .before .before .before .args .otherwise) (c .before .i .given .0 .0) (c .before .before .before .args .i) (c .before .i .given .1) h
 
--- src/parts.rt:87:1
 returns-2 : tie.Need-returns-2
 returns-2 c = rw (c .enum-told .given .1)
 

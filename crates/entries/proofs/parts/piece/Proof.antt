@@ -14,33 +14,26 @@ use Rattle.entries.proofs.parts.whole.Reads as whole-reads
 use Rattle.leaves.proofs.bytes.find.Reads as find-reads
 use Rattle.leaves.proofs.pieces.decimal_piece.Reads as decimal-piece-reads
 
--- src/parts.rt:157:13
 decimal-piece-requires : tie.Need-decimal-piece-requires
 decimal-piece-requires c κs = search needs
 
--- src/parts.rt:160:18
 bounded-requires : tie.Need-bounded-requires
 bounded-requires c κs = search needs
 
--- src/parts.rt:159:9
 returns : tie.Need-returns
 returns c =
     let a = c .before .before .before .before .before .before .before .args in
     decimal-told (knownIn (a .s .now) (a .symbols .now) (a .layers .now)) (a .code) (a .c .now) _ (c .before .decimal-piece .result) (c .before .before .if1 .taken) (c .before .decimal-piece .ensures) (c .bounded .ensures)
 
--- src/parts.rt:164:9
 find-requires : tie.Need-find-requires
 find-requires c κs = search needs
 
--- src/parts.rt:166:46
 slice-aggregate-whole : tie.Need-slice-aggregate-whole
 slice-aggregate-whole c = sym (length-take-le _ _ (omega (arith, upTo-le 44 (c .before .before .before .before .before .before .before .args .c .now), c .before .find .ensures)))
 
--- src/parts.rt:166:14
 whole-requires : tie.Need-whole-requires
 whole-requires c κs = c .before .before .before .before .before .before .before .pre
 
--- src/parts.rt:152:1
 returns-2 : tie.Need-returns-2
 returns-2 c =
     let a = c .before .before .before .before .before .before .before .before .args in

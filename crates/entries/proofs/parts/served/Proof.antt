@@ -10,29 +10,23 @@ use Rattle.entries.proofs.parts.served.Reads as reads
 use Rattle.entries.proofs.parts.served.Lts as lts
 use Rattle.leaves.proofs.bytes.within.Reads as within-reads
 
--- src/parts.rt:43:19
 enum-known-n : tie.Need-enum-known-n
 enum-known-n c = search needs
 
--- src/parts.rt:44:9
 enum-told : tie.Need-enum-told
 enum-told c = search needs
 
--- src/parts.rt:44:9
 returns : tie.Need-returns
 returns c = search needs
 
--- src/parts.rt:46:8
 within-requires : tie.Need-within-requires
 within-requires c κs = search needs
 
--- src/parts.rt:47:24
 cast-t4 : tie.Need-cast-t4
 cast-t4 c =
     let h = within-below 0 5 (c .before .before .before .n .given .0 .0) (sym (c .before .within .ensures) ∙ c .if1 .taken) in
     omega (arith, h)
 
--- src/parts.rt:47:9
 returns-2 : tie.Need-returns-2
 returns-2 c =
     let v = c .before .before .before .n .given .0 .0 in
@@ -40,17 +34,14 @@ returns-2 c =
     let h = within-below 0 5 v t in
     count-is servedSymbols 12 v (c .before .before .before .before .before .args .n) (c .before .before .before .n .given .1) (omega (arith, h)) (either-left (inRange 0 5 v) (inRange 11 15 v) t)
 
--- src/parts.rt:49:8
 within-requires-2 : tie.Need-within-requires-2
 within-requires-2 c κs = search needs
 
--- src/parts.rt:50:24
 cast-t6 : tie.Need-cast-t6
 cast-t6 c =
     let h = within-below 11 15 (c .before .before .before .before .before .n .given .0 .0) (sym (c .before .within2 .ensures) ∙ c .if2 .taken) in
     omega (arith, h)
 
--- src/parts.rt:50:9
 returns-3 : tie.Need-returns-3
 returns-3 c =
     let v = c .before .before .before .before .before .n .given .0 .0 in
@@ -58,7 +49,6 @@ returns-3 c =
     let h = within-below 11 15 v t in
     count-is servedSymbols 12 v (c .before .before .before .before .before .before .before .args .n) (c .before .before .before .before .before .n .given .1) (omega (arith, h)) (either-right (inRange 0 5 v) (inRange 11 15 v) (sym (c .before .before .before .within .ensures) ∙ c .before .before .if1 .left) t)
 
--- src/parts.rt:40:1
 returns-4 : tie.Need-returns-4
 returns-4 c =
     let v = c .before .before .before .before .before .n .given .0 .0 in

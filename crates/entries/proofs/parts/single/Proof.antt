@@ -14,26 +14,21 @@ use Rattle.entries.proofs.parts.bounded.Reads as bounded-reads
 use Rattle.entries.proofs.parts.whole.Reads as whole-reads
 use Rattle.leaves.proofs.numbers.decimal.Reads as decimal-reads
 
--- src/parts.rt:158:30
 decimal-requires : tie.Need-decimal-requires
 decimal-requires c κs = search needs
 
--- src/parts.rt:158:9
 bounded-requires : tie.Need-bounded-requires
 bounded-requires c κs = search needs
 
--- src/parts.rt:158:9
 returns : tie.Need-returns
 returns c =
     let a = c .before .before .before .before .before .before .before .args in
     let b = inBound (boundOf (a .code)) in
     rw (le-ltb (a .code) 20 (c .before .before .if1 .taken)) (c .bounded .ensures ∙ ap (readingVal b) (c .before .decimal .ensures) ∙ reading-val b (readDecimal (a .c .now)))
 
--- src/parts.rt:160:5
 whole-requires : tie.Need-whole-requires
 whole-requires c κs = search needs
 
--- src/parts.rt:153:1
 returns-2 : tie.Need-returns-2
 returns-2 c = rw (lt-ltb (c .before .before .before .before .before .before .args .code) 20 (c .before .if1 .left)) (c .whole .ensures)
 

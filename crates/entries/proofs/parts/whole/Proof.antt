@@ -22,155 +22,117 @@ use Rattle.leaves.proofs.numbers.count.Reads as count-reads
 use Rattle.leaves.proofs.numbers.day.Reads as day-reads
 use Rattle.leaves.proofs.numbers.fixed.Reads as fixed-reads
 
--- src/parts.rt:113:24
 fixed-requires : tie.Need-fixed-requires
 fixed-requires c κs = search needs
 
--- src/parts.rt:113:9
 limited-requires : tie.Need-limited-requires
 limited-requires c κs = omega arith
 
--- src/parts.rt:113:9
 returns : tie.Need-returns
 returns c = rw (c .before .before .if1 .taken) (c .limited .ensures ∙ ap (countVal (inRange 0 1) 11) (c .before .fixed .ensures) ∙ kept-val (inRange 0 1) 11 (readFixed 1 (c .before .before .before .before .before .before .before .args .c .now)))
 
--- src/parts.rt:116:24
 fixed-requires-2 : tie.Need-fixed-requires-2
 fixed-requires-2 c κs = search needs
 
--- src/parts.rt:116:9
 limited-requires-2 : tie.Need-limited-requires-2
 limited-requires-2 c κs = omega arith
 
--- src/parts.rt:116:9
 returns-2 : tie.Need-returns-2
 returns-2 c = rw (c .before .before .if2 .taken) (c .limited2 .ensures ∙ ap (countVal (inRange 1 5) 11) (c .before .fixed2 .ensures) ∙ kept-val (inRange 1 5) 11 (readFixed 1 (c .before .before .before .before .before .before .before .before .args .c .now)))
 
--- src/parts.rt:119:24
 count-requires : tie.Need-count-requires
 count-requires c κs = search needs
 
--- src/parts.rt:119:9
 limited-requires-3 : tie.Need-limited-requires-3
 limited-requires-3 c κs = omega arith
 
--- src/parts.rt:119:9
 returns-3 : tie.Need-returns-3
 returns-3 c = rw (c .before .before .if3 .taken) (c .limited3 .ensures ∙ ap (countVal (inRange 0 999999999) 10) (c .before .count .ensures) ∙ count-val (c .before .before .before .before .before .before .before .before .before .args .c .now))
 
--- src/parts.rt:122:24
 day-requires : tie.Need-day-requires
 day-requires c κs = search needs
 
--- src/parts.rt:122:9
 limited-requires-4 : tie.Need-limited-requires-4
 limited-requires-4 c κs = omega arith
 
--- src/parts.rt:122:9
 returns-4 : tie.Need-returns-4
 returns-4 c = rw (c .before .before .if4 .taken) (c .limited4 .ensures ∙ ap (countVal (inRange 0 99999999) 10) (c .before .day .ensures) ∙ day-val (c .before .before .before .before .before .before .before .before .before .before .args .c .now))
 
--- src/parts.rt:125:24
 clock-requires : tie.Need-clock-requires
 clock-requires c κs = search needs
 
--- src/parts.rt:125:9
 limited-requires-5 : tie.Need-limited-requires-5
 limited-requires-5 c κs = omega arith
 
--- src/parts.rt:125:9
 returns-5 : tie.Need-returns-5
 returns-5 c = rw (c .before .before .if5 .taken) (c .limited5 .ensures ∙ ap (countVal (inRange 0 999999) 10) (c .before .clock .ensures) ∙ clock-val (c .before .before .before .before .before .before .before .before .before .before .before .args .c .now))
 
--- src/parts.rt:128:24
 fixed-requires-3 : tie.Need-fixed-requires-3
 fixed-requires-3 c κs = search needs
 
--- src/parts.rt:128:9
 limited-requires-6 : tie.Need-limited-requires-6
 limited-requires-6 c κs = omega arith
 
--- src/parts.rt:128:9
 returns-6 : tie.Need-returns-6
 returns-6 c = rw (c .before .before .if6 .taken) (c .limited6 .ensures ∙ ap (countVal (inRange 0 0) 12) (c .before .fixed3 .ensures) ∙ kept-val (inRange 0 0) 12 (readFixed 3 (c .before .before .before .before .before .before .before .before .before .before .before .before .args .c .now)))
 
--- src/parts.rt:131:24
 fixed-requires-4 : tie.Need-fixed-requires-4
 fixed-requires-4 c κs = search needs
 
--- src/parts.rt:131:9
 limited-requires-7 : tie.Need-limited-requires-7
 limited-requires-7 c κs = omega arith
 
--- src/parts.rt:131:9
 returns-7 : tie.Need-returns-7
 returns-7 c = rw (c .before .before .if7 .taken) (c .limited7 .ensures ∙ ap (countVal (inRange 0 1) 12) (c .before .fixed4 .ensures) ∙ kept-val (inRange 0 1) 12 (readFixed 3 (c .before .before .before .before .before .before .before .before .before .before .before .before .before .args .c .now)))
 
--- src/parts.rt:134:24
 fixed-requires-5 : tie.Need-fixed-requires-5
 fixed-requires-5 c κs = search needs
 
--- src/parts.rt:134:9
 limited-requires-8 : tie.Need-limited-requires-8
 limited-requires-8 c κs = omega arith
 
--- src/parts.rt:134:9
 returns-8 : tie.Need-returns-8
 returns-8 c = rw (c .before .before .if8 .taken) (c .limited8 .ensures ∙ ap (countVal (inRange 0 2) 12) (c .before .fixed5 .ensures) ∙ kept-val (inRange 0 2) 12 (readFixed 3 (c .before .before .before .before .before .before .before .before .before .before .before .before .before .before .args .c .now)))
 
--- src/parts.rt:137:24
 fixed-requires-6 : tie.Need-fixed-requires-6
 fixed-requires-6 c κs = search needs
 
--- src/parts.rt:137:9
 limited-requires-9 : tie.Need-limited-requires-9
 limited-requires-9 c κs = omega arith
 
--- src/parts.rt:137:9
 returns-9 : tie.Need-returns-9
 returns-9 c = rw (c .before .before .if9 .taken) (c .limited9 .ensures ∙ ap (countVal (inRange 1 1) 12) (c .before .fixed6 .ensures) ∙ kept-val (inRange 1 1) 12 (readFixed 3 (c .before .before .before .before .before .before .before .before .before .before .before .before .before .before .before .args .c .now)))
 
--- src/parts.rt:140:23
 fixed-requires-7 : tie.Need-fixed-requires-7
 fixed-requires-7 c κs = search needs
 
--- src/parts.rt:140:9
 served-requires : tie.Need-served-requires
 served-requires c κs = search needs
 
--- src/parts.rt:140:9
 returns-10 : tie.Need-returns-10
 returns-10 c = rw (c .before .before .if10 .taken) (c .served .ensures ∙ ap (countVal servedSymbols 12) (c .before .fixed7 .ensures) ∙ kept-val servedSymbols 12 (readFixed 3 (c .before .before .before .before .before .before .before .before .before .before .before .before .before .before .before .before .args .c .now)))
 
--- src/parts.rt:143:25
 index-of-requires : tie.Need-index-of-requires
 index-of-requires c κs = c .before .before .before .before .before .before .before .before .before .before .before .before .before .before .before .pre .0
 
--- src/parts.rt:143:9
 numbered-requires : tie.Need-numbered-requires
 numbered-requires c κs = search needs
 
--- src/parts.rt:143:9
 returns-11 : tie.Need-returns-11
 returns-11 c = rw (c .before .before .if11 .taken) (c .numbered .ensures ∙ ap (indexVal 13) (c .before .index-of .ensures) ∙ index-val 13 (c .before .before .before .before .before .before .before .before .before .before .before .before .before .before .before .before .before .args .c .now) (namesIn (c .before .before .before .before .before .before .before .before .before .before .before .before .before .before .before .before .before .args .s .now) (c .before .before .before .before .before .before .before .before .before .before .before .before .before .before .before .before .before .args .symbols .now)))
 
--- src/parts.rt:146:9
 layer-requires : tie.Need-layer-requires
 layer-requires c κs = c .before .before .before .before .before .before .before .before .before .before .before .before .before .before .before .before .pre .1
 
--- src/parts.rt:146:9
 returns-12 : tie.Need-returns-12
 returns-12 c = rw (c .before .if12 .taken) (c .layer .ensures)
 
--- src/parts.rt:148:13
 fixed-requires-8 : tie.Need-fixed-requires-8
 fixed-requires-8 c κs = search needs
 
--- src/parts.rt:148:5
 limited-requires-10 : tie.Need-limited-requires-10
 limited-requires-10 c κs = omega arith
 
--- src/parts.rt:108:1
 returns-13 : tie.Need-returns-13
 returns-13 c =
     let d = c .before .before .before .before .before .before .before .before .before .before .before .before .before .before .before .before .before .before .args .code in

@@ -7,23 +7,18 @@ use Rattle.entries.proofs.row_lines.act_shape.Reads as act-shape-reads
 use Rattle.entries.proofs.shapes.is_free.Reads as is-free-reads
 use Rattle.entries.proofs.shapes.shape_for.Reads as shape-for-reads
 
--- src/row_lines.rt:165:22
 is-free-requires : tie.Need-is-free-requires
 is-free-requires c κs = search needs
 
--- src/row_lines.rt:165:9
 shape-for-requires : tie.Need-shape-for-requires
 shape-for-requires c κs = search needs
 
--- src/row_lines.rt:158:5
 act-shape-requires : tie.Need-act-shape-requires
 act-shape-requires c κs = search needs
 
--- src/row_lines.rt:154:1
 same-length : tie.Need-same-length
 same-length c = search needs
 
--- src/row_lines.rt:154:1
 returns : tie.Need-returns
 returns c = rw (c .before .before .before .shape-for .ensures, c .before .before .before .before .is-free .ensures) at (c .before .act-shape .ensures)
 

@@ -23,67 +23,53 @@ use Rattle.entries.proofs.row_lines.twice.Reads as twice-reads
 use Rattle.entries.proofs.shapes.fits.Reads as fits-reads
 use Rattle.entries.proofs.shapes.sort_of.Reads as sort-of-reads
 
--- src/row_lines.rt:162:9
 sort-of-requires : tie.Need-sort-of-requires
 sort-of-requires c κs = search needs
 
--- src/row_lines.rt:164:9
 returns : tie.Need-returns
 returns c =
     let f = form-by (c .before .before .before .before .before .args .s .now) (c .before .before .before .before .before .args .shape) ∙ ap (λ (n : ℕ). not (eqb n 4)) (sym (c .before .sort-of .ensures)) in
     rw (f ∙ ap not (eq-eqb (c .before .sort-of .result) 4 (c .if1 .taken))) (record { eq = refl; entered = tt })
 
--- src/row_lines.rt:166:9
 reaches-requires : tie.Need-reaches-requires
 reaches-requires c κs = search needs
 
--- src/row_lines.rt:167:9
 returns-2 : tie.Need-returns-2
 returns-2 c =
     let f = form-by (c .before .before .before .before .before .before .before .args .s .now) (c .before .before .before .before .before .before .before .args .shape) ∙ ap (λ (n : ℕ). not (eqb n 4)) (sym (c .before .before .before .sort-of .ensures)) in
     rw (f ∙ ap not (ne-eqb (c .before .before .before .sort-of .result) 4 (c .before .before .if1 .left)), sym (c .before .reaches .ensures) ∙ not-true (c .before .reaches .result) (c .if2 .taken)) (record { eq = refl; entered = tt })
 
--- src/row_lines.rt:169:9
 fits-requires : tie.Need-fits-requires
 fits-requires c κs = search needs
 
--- src/row_lines.rt:170:9
 returns-3 : tie.Need-returns-3
 returns-3 c =
     let f = form-by (c .before .before .before .before .before .before .before .before .before .args .s .now) (c .before .before .before .before .before .before .before .before .before .args .shape) ∙ ap (λ (n : ℕ). not (eqb n 4)) (sym (c .before .before .before .before .before .sort-of .ensures)) in
     rw (f ∙ ap not (ne-eqb (c .before .before .before .before .before .sort-of .result) 4 (c .before .before .before .before .if1 .left)), sym (c .before .before .before .reaches .ensures) ∙ not-false (c .before .before .before .reaches .result) (c .before .before .if2 .left), sym (c .before .fits2 .ensures) ∙ not-true (c .before .fits2 .result) (c .if3 .taken)) (record { eq = refl; entered = tt })
 
--- src/row_lines.rt:172:8
 twice-requires : tie.Need-twice-requires
 twice-requires c κs = search needs
 
--- src/row_lines.rt:173:9
 returns-4 : tie.Need-returns-4
 returns-4 c =
     let f = form-by (c .before .before .before .before .before .before .before .before .before .before .before .args .s .now) (c .before .before .before .before .before .before .before .before .before .before .before .args .shape) ∙ ap (λ (n : ℕ). not (eqb n 4)) (sym (c .before .before .before .before .before .before .before .sort-of .ensures)) in
     rw (f ∙ ap not (ne-eqb (c .before .before .before .before .before .before .before .sort-of .result) 4 (c .before .before .before .before .before .before .if1 .left)), sym (c .before .before .before .before .before .reaches .ensures) ∙ not-false (c .before .before .before .before .before .reaches .result) (c .before .before .before .before .if2 .left), sym (c .before .before .before .fits2 .ensures) ∙ not-false (c .before .before .before .fits2 .result) (c .before .before .if3 .left), c .before .twice .ensures ∙ ap not (c .if4 .taken)) (record { eq = refl; entered = tt })
 
--- src/row_lines.rt:175:11
 put-shape-requires : tie.Need-put-shape-requires
 put-shape-requires c κs = search needs
 
--- src/row_lines.rt:176:22
 enum-known-n : tie.Need-enum-known-n
 enum-known-n c = search needs
 
--- src/row_lines.rt:177:22
 enum-told : tie.Need-enum-told
 enum-told c = search needs
 
--- src/row_lines.rt:177:22
 entered-requires : tie.Need-entered-requires
 entered-requires c κs = search needs
 
--- src/row_lines.rt:148:1
 same-length : tie.Need-same-length
 same-length c = search needs
 
--- src/row_lines.rt:148:1
 returns-5 : tie.Need-returns-5
 returns-5 c =
     let a = c .before .before .before .before .before .before .before .before .before .before .before .before .before .before .before .before .before .args in
@@ -91,11 +77,9 @@ returns-5 c =
     rw (f ∙ ap not (ne-eqb (c .before .before .before .before .before .before .before .before .before .before .before .before .before .sort-of .result) 4 (c .before .before .before .before .before .before .before .before .before .before .before .before .if1 .left)), sym (c .before .before .before .before .before .before .before .before .before .before .before .reaches .ensures) ∙ not-false (c .before .before .before .before .before .before .before .before .before .before .before .reaches .result) (c .before .before .before .before .before .before .before .before .before .before .if2 .left), sym (c .before .before .before .before .before .before .before .before .before .fits2 .ensures) ∙ not-false (c .before .before .before .before .before .before .before .before .before .fits2 .result) (c .before .before .before .before .before .before .before .before .if3 .left), c .before .before .before .before .before .before .before .twice .ensures ∙ ap not (c .before .before .before .before .before .before .if4 .left))
     (line-refused (a .row .number) (ruleOf (a .row)) (a .dump) (a .rec .now) _ _ (readShape (knownIn (c .before .before .before .before .before .before .before .before .before .before .before .before .before .before .before .before .before .args .s .now) (c .before .before .before .before .before .before .before .before .before .before .before .before .before .before .before .before .before .args .symbols .now) (c .before .before .before .before .before .before .before .before .before .before .before .before .before .before .before .before .before .args .layers .now)) (a .row .number) (ruleOf (a .row)) (shapeIn (a .s .now) (a .shape))) (λ (b : Act). unless (not (a .full)) 11 (got b)) _ (c .before .n .given .0 .0) (c .before .before .before .before .put-shape .ensures) (c .before .n .given .1))
 
--- src/row_lines.rt:148:1
 same-length-2 : tie.Need-same-length-2
 same-length-2 c = search needs
 
--- src/row_lines.rt:148:1
 returns-6 : tie.Need-returns-6
 returns-6 c =
     let a = c .before .before .before .before .before .before .before .before .before .before .before .before .before .before .before .before .before .args in

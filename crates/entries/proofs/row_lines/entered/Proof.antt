@@ -6,23 +6,18 @@ use Rattle.entries.proofs.row_lines.entered.Reads as reads
 use Rattle.entries.proofs.row_lines.entered.Lts as lts
 use Rattle.entries.proofs.shapes.inner_of.Reads as inner-of-reads
 
--- src/row_lines.rt:133:9
 returns : tie.Need-returns
 returns c = search needs
 
--- src/row_lines.rt:136:16
 inner-of-requires : tie.Need-inner-of-requires
 inner-of-requires c κs = search needs
 
--- src/row_lines.rt:140:9
 returns-2 : tie.Need-returns-2
 returns-2 c = rw (c .before .before .if1 .left, c .if2 .taken, c .before .inner-of .ensures)
 
--- src/row_lines.rt:143:9
 returns-3 : tie.Need-returns-3
 returns-3 c = rw (c .before .before .before .if1 .left, c .if3 .taken, c .before .before .inner-of .ensures)
 
--- src/row_lines.rt:129:1
 returns-4 : tie.Need-returns-4
 returns-4 c = rw (c .before .before .before .if1 .left, ne-eqb (c .before .before .before .before .args .sort) 0 (c .before .if2 .left), ne-eqb (c .before .before .before .before .args .sort) 3 (c .if3 .left))
 

@@ -5,11 +5,9 @@ use Rattle.entries.proofs.row_lines.place_of.Tie as tie
 use Rattle.entries.proofs.row_lines.place_of.Reads as reads
 use Rattle.entries.proofs.row_lines.place_of.Lts as lts
 
--- src/row_lines.rt:38:9
 returns : tie.Need-returns
 returns c = search needs
 
--- src/row_lines.rt:34:1
 returns-2 : tie.Need-returns-2
 returns-2 c = place-some (c .before .args .place) (c .before .args .dump) (c .if1 .left)
 

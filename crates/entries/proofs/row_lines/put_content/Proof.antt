@@ -15,15 +15,12 @@ use Rattle.entries.proofs.row_lines.place_of.Reads as place-of-reads
 use Rattle.entries.proofs.row_lines.put_state.Reads as put-state-reads
 use Rattle.entries.proofs.names.part.Reads as part-reads
 
--- src/row_lines.rt:64:9
 part-requires : tie.Need-part-requires
 part-requires c κs = search needs
 
--- src/row_lines.rt:65:9
 place-of-requires : tie.Need-place-of-requires
 place-of-requires c κs = search needs
 
--- src/row_lines.rt:58:9
 read-kind-requires : tie.Need-read-kind-requires
 read-kind-requires c κs =
     let a = c .before .before .before .before .before .before .args in
@@ -34,32 +31,26 @@ read-kind-requires c κs =
 enum-told : tie.Need-enum-told
 enum-told c = search needs
 
--- src/row_lines.rt:69:9
 enum-told-2 : tie.Need-enum-told-2
 enum-told-2 c = search needs
 
--- src/row_lines.rt:69:9
 same-length : tie.Need-same-length
 same-length c = search needs
 
--- src/row_lines.rt:69:9
 returns : tie.Need-returns
 returns c =
     let a = c .before .before .before .before .before .before .before .before .before .before .args in
     line-bad (readKind (knownIn (c .before .before .before .before .before .before .before .before .before .before .args .s .now) (c .before .before .before .before .before .before .before .before .before .before .args .symbols .now) (c .before .before .before .before .before .before .before .before .before .before .args .layers .now)) (kindOf (a .row)) (a .p .at) (bytesAt (a .s .now) (a .p))) (ruleOf (a .row)) (a .dump) (a .rec .now) _ _ (rw (c .before .before .before .before .before .before .part .ensures, c .before .before .before .before .before .place-of .ensures) at (c .before .before .before .read-kind .ensures)) _ (c .enum-told2 .given .1)
 
--- src/row_lines.rt:71:5
 put-state-requires : tie.Need-put-state-requires
 put-state-requires c κs =
     let a = c .before .before .before .before .before .before .before .before .before .before .before .args in
     let r = room-state (a .dump) (length (a .rec .now)) (ruleOf (a .row)) (c .before .before .before .before .before .before .before .before .before .before .before .pre .3) in
     omega (arith, r, c .before .before .before .before .read-kind .kept .1 .1 .1 .1 .1 .1 .1 .0)
 
--- src/row_lines.rt:54:1
 same-length-2 : tie.Need-same-length-2
 same-length-2 c = search needs
 
--- src/row_lines.rt:54:1
 returns-2 : tie.Need-returns-2
 returns-2 c =
     let a = c .before .before .before .before .before .before .before .before .before .before .before .before .before .args in

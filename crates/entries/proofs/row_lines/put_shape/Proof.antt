@@ -14,81 +14,63 @@ use Rattle.entries.proofs.row_lines.put_shape.Lts as lts
 use Rattle.entries.proofs.row_lines.put_content.Reads as put-content-reads
 use Rattle.entries.proofs.row_lines.put_state.Reads as put-state-reads
 
--- src/row_lines.rt:82:37
 enum-told : tie.Need-enum-told
 enum-told c = search needs
 
--- src/row_lines.rt:82:13
 put-state-requires : tie.Need-put-state-requires
 put-state-requires c κs = room-state (c .before .before .before .before .before .before .args .dump) (length (c .before .before .before .before .before .before .args .rec .now)) (ruleOf (c .before .before .before .before .before .before .args .row)) (c .before .before .before .before .before .before .pre .3)
 
--- src/row_lines.rt:86:37
 enum-told-2 : tie.Need-enum-told-2
 enum-told-2 c = search needs
 
--- src/row_lines.rt:86:13
 put-state-requires-2 : tie.Need-put-state-requires-2
 put-state-requires-2 c κs = room-state (c .before .before .before .before .before .before .args .dump) (length (c .before .before .before .before .before .before .args .rec .now)) (ruleOf (c .before .before .before .before .before .before .args .row)) (c .before .before .before .before .before .before .pre .3)
 
--- src/row_lines.rt:89:24
 enum-known-shape : tie.Need-enum-known-shape
 enum-known-shape c = search needs
 
--- src/row_lines.rt:89:30
 put-content-requires : tie.Need-put-content-requires
 put-content-requires c κs = search needs
 
--- src/row_lines.rt:90:24
 enum-known-shape-2 : tie.Need-enum-known-shape-2
 enum-known-shape-2 c = search needs
 
--- src/row_lines.rt:90:30
 put-content-requires-2 : tie.Need-put-content-requires-2
 put-content-requires-2 c κs = search needs
 
--- src/row_lines.rt:91:28
 enum-told-3 : tie.Need-enum-told-3
 enum-told-3 c = search needs
 
--- src/row_lines.rt:76:1
 same-length : tie.Need-same-length
 same-length c = search needs
 
--- src/row_lines.rt:76:1
 returns : tie.Need-returns
 returns c = rw (c .before .before .before .enum-told .given .1) (record { eq = refl; filled = c .before .put-state .ensures })
 
--- src/row_lines.rt:76:1
 same-length-2 : tie.Need-same-length-2
 same-length-2 c = search needs
 
--- src/row_lines.rt:76:1
 returns-2 : tie.Need-returns-2
 returns-2 c = rw (c .before .before .before .enum-told2 .given .1) (record { eq = refl; filled = c .before .put-state2 .ensures })
 
--- src/row_lines.rt:76:1
 same-length-3 : tie.Need-same-length-3
 same-length-3 c = search needs
 
--- src/row_lines.rt:76:1
 returns-3 : tie.Need-returns-3
 returns-3 c =
     let a = c .before .before .before .before .before .before .before .before .before .args in
     let p = c .before .before .before .before .shape .given .0 .0 in
     rw (c .before .before .before .before .shape .given .1) (shape-put (entry (a .row .number)) (λ (v : Value). refl) (readKind (knownIn (c .before .before .before .before .before .before .before .before .before .args .s .now) (c .before .before .before .before .before .before .before .before .before .args .symbols .now) (c .before .before .before .before .before .before .before .before .before .args .layers .now)) (kindOf (a .row)) (p .at) (bytesAt (a .s .now) p)) (ruleOf (a .row)) (a .dump) (a .rec .now) _ _ (c .before .put-content .ensures))
 
--- src/row_lines.rt:76:1
 same-length-4 : tie.Need-same-length-4
 same-length-4 c = search needs
 
--- src/row_lines.rt:76:1
 returns-4 : tie.Need-returns-4
 returns-4 c =
     let a = c .before .before .before .before .before .before .before .before .before .args in
     let p = c .before .before .before .before .shape2 .given .0 .0 in
     rw (c .before .before .before .before .shape2 .given .1) (shape-put (begin (innerOf (kindOf (a .row))) (a .row .number)) (λ (v : Value). refl) (readKind (knownIn (c .before .before .before .before .before .before .before .before .before .args .s .now) (c .before .before .before .before .before .before .before .before .before .args .symbols .now) (c .before .before .before .before .before .before .before .before .before .args .layers .now)) (kindOf (a .row)) (p .at) (bytesAt (a .s .now) p)) (ruleOf (a .row)) (a .dump) (a .rec .now) _ _ (c .before .put-content2 .ensures))
 
--- src/row_lines.rt:76:1
 returns-5 : tie.Need-returns-5
 returns-5 c = rw (c .enum-told3 .given .1) (record { eq = refl; filled = tt })
 

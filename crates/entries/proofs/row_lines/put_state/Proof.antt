@@ -8,23 +8,18 @@ use Rattle.entries.proofs.row_lines.put_state.Tie as tie
 use Rattle.entries.proofs.row_lines.put_state.Reads as reads
 use Rattle.entries.proofs.row_lines.put_state.Lts as lts
 
--- src/row_lines.rt:48:9
 returns : tie.Need-returns
 returns c = search needs
 
--- src/row_lines.rt:50:5
 mul-z : tie.Need-mul-z
 mul-z c = search needs
 
--- src/row_lines.rt:50:5
 slice-set-from-z : tie.Need-slice-set-from-z
 slice-set-from-z c = search needs
 
--- src/row_lines.rt:43:1
 same-length : tie.Need-same-length
 same-length c = search needs
 
--- src/row_lines.rt:43:1
 returns-2 : tie.Need-returns-2
 returns-2 c =
     let a = c .before .args in

@@ -5,11 +5,9 @@ use Rattle.entries.proofs.row_lines.reaches.Tie as tie
 use Rattle.entries.proofs.row_lines.reaches.Reads as reads
 use Rattle.entries.proofs.row_lines.reaches.Lts as lts
 
--- src/row_lines.rt:100:9
 returns : tie.Need-returns
 returns c = sym (rw (le-leb (c .before .before .before .before .before .args .least .middle) (c .before .before .before .before .before .args .d .middle) (c .before .before .if1 .taken)))
 
--- src/row_lines.rt:96:1
 returns-2 : tie.Need-returns-2
 returns-2 c = sym (rw (lt-leb (c .before .before .before .args .least .middle) (c .before .before .before .args .d .middle) (c .if1 .left)))
 

@@ -5,11 +5,9 @@ use Rattle.entries.proofs.row_lines.twice.Tie as tie
 use Rattle.entries.proofs.row_lines.twice.Reads as reads
 use Rattle.entries.proofs.row_lines.twice.Lts as lts
 
--- src/row_lines.rt:109:9
 returns : tie.Need-returns
 returns c = search needs
 
--- src/row_lines.rt:105:1
 returns-2 : tie.Need-returns-2
 returns-2 c = not-once (c .before .args .times) (c .before .args .full) (c .if1 .left)
 

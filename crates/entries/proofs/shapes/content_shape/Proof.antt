@@ -14,50 +14,41 @@ use Rattle.entries.proofs.shapes.content_shape.Lts as lts
 use Rattle.entries.proofs.names.part.Reads as part-reads
 use Rattle.entries.proofs.shapes.ends_open.Reads as ends-open-reads
 
--- src/shapes.rt:33:9
 part-requires : tie.Need-part-requires
 part-requires c κs = search needs
 
--- src/shapes.rt:36:9
 returns : tie.Need-returns
 returns c =
     let a = c .before .before .before .args in
     shape-none (a .rest .at) (a .free) (bytesAt (a .s .now) (a .rest)) (rw (c .before .part .ensures) at (c .if1 .taken))
 
--- src/shapes.rt:39:9
 returns-2 : tie.Need-returns-2
 returns-2 c =
     let a = c .before .before .before .before .args in
     shape-free (a .rest .at) (a .free) (bytesAt (a .s .now) (a .rest)) (rw (c .before .before .part .ensures) at (c .before .if1 .left)) (c .if2 .taken)
 
--- src/shapes.rt:41:9
 ends-open-requires : tie.Need-ends-open-requires
 ends-open-requires c κs = search needs
 
--- src/shapes.rt:42:9
 returns-3 : tie.Need-returns-3
 returns-3 c =
     let a = c .before .before .before .before .before .before .args in
     shape-plain (a .rest .at) (a .free) (bytesAt (a .s .now) (a .rest)) (rw (c .before .before .before .before .part .ensures) at (c .before .before .before .if1 .left)) (c .before .before .if2 .left) (ap endsOpen (sym (c .before .before .before .before .part .ensures)) ∙ sym (c .before .ends-open .ensures) ∙ not-true (c .before .ends-open .result) (c .if3 .taken))
 
--- src/shapes.rt:45:9
 returns-4 : tie.Need-returns-4
 returns-4 c =
     let a = c .before .before .before .before .before .before .before .args in
     shape-formless (a .rest .at) (a .free) (bytesAt (a .s .now) (a .rest)) (rw (c .before .before .before .before .before .part .ensures) at (c .if4 .taken)) (c .before .before .before .if2 .left) (ap endsOpen (sym (c .before .before .before .before .before .part .ensures)) ∙ sym (c .before .before .ends-open .ensures) ∙ not-false (c .before .before .ends-open .result) (c .before .if3 .left))
 
--- src/shapes.rt:49:15
 sub-t8 : tie.Need-sub-t8
 sub-t8 c = ends-two (c .before .before .before .before .before .part .result .now) (sym (c .before .before .ends-open .ensures) ∙ not-false (c .before .before .ends-open .result) (c .before .if3 .left))
 
--- src/shapes.rt:49:14
 cast-t9 : tie.Need-cast-t9
 cast-t9 c =
     let l = part-long (c .before .before .before .before .before .before .before .args .s .now) (c .before .before .before .before .before .before .before .args .rest) in
     let h : c .before .before .before .before .before .before .before .args .rest .len < 4294967296 = search needs in
     record { fits = omega (arith, l, h, ap length (c .before .before .before .before .before .part .ensures)) }
 
--- src/shapes.rt:30:1
 returns-5 : tie.Need-returns-5
 returns-5 c =
     let a = c .before .before .before .before .before .before .before .args in

@@ -5,27 +5,21 @@ use Rattle.entries.proofs.shapes.ends_open.Tie as tie
 use Rattle.entries.proofs.shapes.ends_open.Reads as reads
 use Rattle.entries.proofs.shapes.ends_open.Lts as lts
 
--- src/shapes.rt:21:9
 returns : tie.Need-returns
 returns c = ends-short (c .before .args .c .now) (c .if1 .taken)
 
--- src/shapes.rt:23:8
 shared-slice-read-if2 : tie.Need-shared-slice-read-if2
 shared-slice-read-if2 c = search needs
 
--- src/shapes.rt:24:18
 sub-result : tie.Need-sub-result
 sub-result c = search needs
 
--- src/shapes.rt:24:16
 shared-slice-read-result : tie.Need-shared-slice-read-result
 shared-slice-read-result c = search needs
 
--- src/shapes.rt:24:9
 returns-2 : tie.Need-returns-2
 returns-2 c = ends-colon (c .before .before .before .before .args .c .now) (c .before .before .before .if1 .left) (c .before .if2 .taken)
 
--- src/shapes.rt:16:1
 returns-3 : tie.Need-returns-3
 returns-3 c = ends-other (c .before .before .before .args .c .now) (c .before .before .if1 .left) (c .if2 .left)
 

@@ -12,38 +12,30 @@ use Rattle.entries.proofs.shapes.fits.Lts as lts
 use Rattle.entries.proofs.shapes.is_either.Reads as is-either-reads
 use Rattle.entries.proofs.shapes.sort_of.Reads as sort-of-reads
 
--- src/shapes.rt:91:9
 sort-of-requires : tie.Need-sort-of-requires
 sort-of-requires c κs = search needs
 
--- src/shapes.rt:93:9
 returns : tie.Need-returns
 returns c = rw (c .if1 .taken) (ap (λ (n : ℕ). eqb n 1) (c .before .before .sort-of .ensures) ∙ sym (empty-by (c .before .before .before .before .args .s .now) (c .before .before .before .before .args .shape)))
 
--- src/shapes.rt:96:9
 returns-2 : tie.Need-returns-2
 returns-2 c = rw (c .if2 .taken) (ap (λ (n : ℕ). eqb n 0) (c .before .before .before .before .sort-of .ensures) ∙ sym (opener-by (c .before .before .before .before .before .before .args .s .now) (c .before .before .before .before .before .before .args .shape)))
 
--- src/shapes.rt:99:9
 returns-3 : tie.Need-returns-3
 returns-3 c = rw (c .if3 .taken) (ap (λ (n : ℕ). eqb n 3) (c .before .before .before .before .before .before .sort-of .ensures) ∙ sym (opening-by (c .before .before .before .before .before .before .before .before .args .s .now) (c .before .before .before .before .before .before .before .before .args .shape)))
 
--- src/shapes.rt:102:9
 is-either-requires : tie.Need-is-either-requires
 is-either-requires c κs = search needs
 
--- src/shapes.rt:102:9
 returns-4 : tie.Need-returns-4
 returns-4 c = rw (c .before .if4 .taken) (c .is-either .ensures)
 
--- src/shapes.rt:105:9
 returns-5 : tie.Need-returns-5
 returns-5 c =
     let a = c .before .before .before .before .before .before .before .before .before .before .before .args in
     let e = content-by (a .s .now) (a .shape) ∙ eq-eqb (sortOf (a .shape)) 2 (sym (c .before .before .before .before .before .before .before .before .before .sort-of .ensures) ∙ c .if5 .taken) in
     sym (fits-plain (a .row) (shapeIn (a .s .now) (a .shape)) (c .before .before .before .before .before .before .before .if1 .left) (c .before .before .before .before .before .if2 .left) (c .before .before .before .if3 .left) (c .before .if4 .left) ∙ rw e)
 
--- src/shapes.rt:108:9
 returns-6 : tie.Need-returns-6
 returns-6 c =
     let a = c .before .before .before .before .before .before .before .before .before .before .before .before .args in
@@ -51,7 +43,6 @@ returns-6 c =
     let n = empty-by (a .s .now) (a .shape) ∙ ap (λ (n : ℕ). eqb n 1) (sym (c .before .before .before .before .before .before .before .before .before .before .sort-of .ensures)) in
     sym (fits-plain (a .row) (shapeIn (a .s .now) (a .shape)) (c .before .before .before .before .before .before .before .before .if1 .left) (c .before .before .before .before .before .before .if2 .left) (c .before .before .before .before .if3 .left) (c .before .before .if4 .left) ∙ rw (e, c .if6 .taken, n))
 
--- src/shapes.rt:88:1
 returns-7 : tie.Need-returns-7
 returns-7 c =
     let a = c .before .before .before .before .before .before .before .before .before .before .before .before .args in

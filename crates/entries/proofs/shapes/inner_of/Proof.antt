@@ -4,19 +4,15 @@ use Rattle.entries.proofs.shapes.inner_of.Tie as tie
 use Rattle.entries.proofs.shapes.inner_of.Reads as reads
 use Rattle.entries.proofs.shapes.inner_of.Lts as lts
 
--- src/shapes.rt:171:9
 returns : tie.Need-returns
 returns c = rw (c .if1 .taken)
 
--- src/shapes.rt:174:9
 returns-2 : tie.Need-returns-2
 returns-2 c = rw (c .if2 .taken)
 
--- src/shapes.rt:177:9
 returns-3 : tie.Need-returns-3
 returns-3 c = rw (c .if3 .taken)
 
--- src/shapes.rt:167:1
 returns-4 : tie.Need-returns-4
 returns-4 c = inner-none (c .before .before .before .before .before .before .args .row) (c .before .before .before .before .if1 .left) (c .before .before .if2 .left) (c .if3 .left)
 

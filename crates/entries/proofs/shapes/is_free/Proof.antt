@@ -4,7 +4,6 @@ use Rattle.entries.proofs.shapes.is_free.Tie as tie
 use Rattle.entries.proofs.shapes.is_free.Reads as reads
 use Rattle.entries.proofs.shapes.is_free.Lts as lts
 
--- src/shapes.rt:160:1
 returns : tie.Need-returns
 returns c = free-is (c .before .args .row)
 

@@ -8,23 +8,18 @@ use Rattle.entries.proofs.shapes.shape_for.Reads as reads
 use Rattle.entries.proofs.shapes.shape_for.Lts as lts
 use Rattle.entries.proofs.shapes.content_shape.Reads as content-shape-reads
 
--- src/shapes.rt:57:24
 enum-told : tie.Need-enum-told
 enum-told c = search needs
 
--- src/shapes.rt:58:22
 enum-known-rest : tie.Need-enum-known-rest
 enum-known-rest c = search needs
 
--- src/shapes.rt:58:28
 content-shape-requires : tie.Need-content-shape-requires
 content-shape-requires c κs = search needs
 
--- src/shapes.rt:53:1
 returns : tie.Need-returns
 returns c = rw (c .enum-told .given .1) (sym (cond-same (c .before .before .before .args .free) opener))
 
--- src/shapes.rt:53:1
 returns-2 : tie.Need-returns-2
 returns-2 c = rw (c .before .before .rest .given .1) (c .content-shape .ensures)
 

@@ -24,7 +24,6 @@ each-at t = and 5 each-kinds.ps (is 5 each-kinds.ps μ-each t) each.Pre
 abbrev each-below : ℕ → In 5 each-kinds.ps
 each-below t = and 5 each-kinds.ps (falls 5 each-kinds.ps _<_ μ-each t) each.Pre
 
--- src/values.rt:54:9
 each-piece-requires : (t : ℕ) → each-lts.Need-piece-requires (
   piece-reads.Asked,
   piece-reads.Learnt,
@@ -37,7 +36,6 @@ each-piece-requires : (t : ℕ) → each-lts.Need-piece-requires (
 ) (each-at t) each.Post
 each-piece-requires t c κs = (c .before .before .before .before .pre .1 .0, c .before .before .before .before .pre .1 .1)
 
--- src/values.rt:59:13
 each-returns : (t : ℕ) → each-lts.Need-returns (
   piece-reads.Asked,
   piece-reads.Learnt,
@@ -52,7 +50,6 @@ each-returns t c =
     let a = c .before .before .before .before .before .before .before .args in
     too-many (knownIn (a .s .now) (a .symbols .now) (a .layers .now)) (a .parts) (a .more) (a .c .now) _ _ (omega (arith, c .before .if1 .taken, c .before .before .piece .ensures .end)) (c .if2 .taken)
 
--- src/values.rt:61:13
 each-put-value-requires : (t : ℕ) → each-lts.Need-put-value-requires (
   piece-reads.Asked,
   piece-reads.Learnt,
@@ -65,7 +62,6 @@ each-put-value-requires : (t : ℕ) → each-lts.Need-put-value-requires (
 ) (each-at t) each.Post
 each-put-value-requires t c κs = omega (arith, c .before .before .before .before .before .before .before .before .pre .1 .2)
 
--- src/values.rt:62:38
 each-sub-each : (t : ℕ) → each-lts.Need-sub-each (
   piece-reads.Asked,
   piece-reads.Learnt,
@@ -78,7 +74,6 @@ each-sub-each : (t : ℕ) → each-lts.Need-sub-each (
 ) (each-at t) each.Post
 each-sub-each t c = omega (arith, c .before .before .before .if2 .left)
 
--- src/values.rt:62:71
 each-add-each : (t : ℕ) → each-lts.Need-add-each (
   piece-reads.Asked,
   piece-reads.Learnt,
@@ -91,7 +86,6 @@ each-add-each : (t : ℕ) → each-lts.Need-add-each (
 ) (each-at t) each.Post
 each-add-each t c = search needs
 
--- src/values.rt:62:68
 each-sub-each-2 : (t : ℕ) → each-lts.Need-sub-each-2 (
   piece-reads.Asked,
   piece-reads.Learnt,
@@ -104,7 +98,6 @@ each-sub-each-2 : (t : ℕ) → each-lts.Need-sub-each-2 (
 ) (each-at t) each.Post
 each-sub-each-2 t c = search needs
 
--- src/values.rt:62:68
 each-part-each-start : (t : ℕ) → each-lts.Need-part-each-start (
   piece-reads.Asked,
   piece-reads.Learnt,
@@ -117,7 +110,6 @@ each-part-each-start : (t : ℕ) → each-lts.Need-part-each-start (
 ) (each-at t) each.Post
 each-part-each-start t c = search needs
 
--- src/values.rt:62:68
 each-part-each-end : (t : ℕ) → each-lts.Need-part-each-end (
   piece-reads.Asked,
   piece-reads.Learnt,
@@ -130,7 +122,6 @@ each-part-each-end : (t : ℕ) → each-lts.Need-part-each-end (
 ) (each-at t) each.Post
 each-part-each-end t c = search needs
 
--- src/values.rt:62:81
 each-add-each-2 : (t : ℕ) → each-lts.Need-add-each-2 (
   piece-reads.Asked,
   piece-reads.Learnt,
@@ -143,7 +134,6 @@ each-add-each-2 : (t : ℕ) → each-lts.Need-add-each-2 (
 ) (each-at t) each.Post
 each-add-each-2 t c = search needs
 
--- src/values.rt:62:13
 each-each-requires : (t : ℕ) → each-lts.Need-each-requires (
   piece-reads.Asked,
   piece-reads.Learnt,
@@ -158,7 +148,6 @@ each-each-requires t c κs =
     let h = c .before .before .before .before .before .before .before .before .before .before .before .before .pre .1 in
     (omega (arith, c .before .before .before .before .before .if2 .left, c .before .before .before .before .before .before .before .before .before .before .before .before .pre .0), (h .0, h .1, omega (arith, c .before .before .before .before .before .if2 .left, h .2, c .before .before .before .put-value .kept .1 .1 .0)))
 
--- src/values.rt:63:9
 each-least-requires : (t : ℕ) → each-lts.Need-least-requires (
   piece-reads.Asked,
   piece-reads.Learnt,
@@ -171,7 +160,6 @@ each-least-requires : (t : ℕ) → each-lts.Need-least-requires (
 ) (each-at t) each.Post
 each-least-requires t c κs = tt
 
--- src/values.rt:63:9
 each-same-length : (t : ℕ) → each-lts.Need-same-length (
   piece-reads.Asked,
   piece-reads.Learnt,
@@ -184,7 +172,6 @@ each-same-length : (t : ℕ) → each-lts.Need-same-length (
 ) (each-at t) each.Post
 each-same-length t c = c .before .before .each .kept .1 .1 .1 .1 .1 .1 .1 .0 ∙ c .before .before .before .before .before .before .put-value .kept .1 .1 .0
 
--- src/values.rt:63:9
 each-returns-2 : (t : ℕ) → each-lts.Need-returns-2 (
   piece-reads.Asked,
   piece-reads.Learnt,
@@ -199,7 +186,6 @@ each-returns-2 t c =
     let a = c .before .before .before .before .before .before .before .before .before .before .before .before .before .before .before .args in
     and-more (knownIn (a .s .now) (a .symbols .now) (a .layers .now)) (a .parts) (a .more) (a .c .now) _ (a .p) (a .rec .now) (c .before .before .before .before .before .before .before .before .before .before .piece .ensures .val) (c .before .before .before .before .before .before .before .before .before .before .piece .result .end) _ _ _ _ _ (c .before .before .before .before .before .before .before .before .before .before .piece .ensures .end) (c .before .before .before .before .before .before .before .before .before .if1 .taken) (c .before .before .before .before .before .before .before .before .if2 .left) (c .before .before .before .before .before .before .put-value .ensures .0) (c .before .before .before .before .before .before .put-value .ensures .1) (c .least .ensures) (c .before .before .each .ensures)
 
--- src/values.rt:66:9
 each-returns-3 : (t : ℕ) → each-lts.Need-returns-3 (
   piece-reads.Asked,
   piece-reads.Learnt,
@@ -214,7 +200,6 @@ each-returns-3 t c =
     let a = c .before .before .before .before .before .before .before .args in
     too-few (knownIn (a .s .now) (a .symbols .now) (a .layers .now)) (a .parts) (a .more) (a .c .now) _ _ (omega (arith, c .before .if1 .left, c .before .before .piece .ensures .end)) (c .if3 .taken)
 
--- src/values.rt:68:5
 each-put-value-requires-2 : (t : ℕ) → each-lts.Need-put-value-requires-2 (
   piece-reads.Asked,
   piece-reads.Learnt,
@@ -227,7 +212,6 @@ each-put-value-requires-2 : (t : ℕ) → each-lts.Need-put-value-requires-2 (
 ) (each-at t) each.Post
 each-put-value-requires-2 t c κs = omega (arith, c .before .before .before .before .before .before .before .before .pre .1 .2)
 
--- src/values.rt:50:1
 each-same-length-2 : (t : ℕ) → each-lts.Need-same-length-2 (
   piece-reads.Asked,
   piece-reads.Learnt,
@@ -240,7 +224,6 @@ each-same-length-2 : (t : ℕ) → each-lts.Need-same-length-2 (
 ) (each-at t) each.Post
 each-same-length-2 t c = c .before .put-value2 .kept .1 .1 .0
 
--- src/values.rt:50:1
 each-returns-4 : (t : ℕ) → each-lts.Need-returns-4 (
   piece-reads.Asked,
   piece-reads.Learnt,

@@ -9,87 +9,66 @@ use Rattle.entries.proofs.values.agree.Lts as lts
 use Rattle.entries.proofs.values.equal_at.Reads as equal-at-reads
 use Rattle.entries.proofs.values.less_at.Reads as less-at-reads
 
--- src/values.rt:98:26
 add-equal-at : tie.Need-add-equal-at
 add-equal-at c = search needs
 
--- src/values.rt:98:33
 add-equal-at-2 : tie.Need-add-equal-at-2
 add-equal-at-2 c = search needs
 
--- src/values.rt:98:12
 equal-at-requires : tie.Need-equal-at-requires
 equal-at-requires c κs = let h = rw (c .if1 .taken) at (c .before .pre) in (omega (arith, h), omega (arith, h))
 
--- src/values.rt:99:35
 add-equal-at-3 : tie.Need-add-equal-at-3
 add-equal-at-3 c = search needs
 
--- src/values.rt:99:42
 add-equal-at-4 : tie.Need-add-equal-at-4
 add-equal-at-4 c = search needs
 
--- src/values.rt:99:21
 equal-at-requires-2 : tie.Need-equal-at-requires-2
 equal-at-requires-2 c κs = let h = rw (c .before .before .if1 .taken) at (c .before .before .before .pre) in (omega (arith, h), omega (arith, h))
 
--- src/values.rt:99:13
 returns : tie.Need-returns
 returns c = rw (c .before .before .before .if1 .taken, sym (c .before .before .equal-at .ensures) ∙ c .before .if2 .taken, sym (c .equal-at2 .ensures))
 
--- src/values.rt:101:9
 returns-2 : tie.Need-returns-2
 returns-2 c = rw (c .before .before .if1 .taken, sym (c .before .equal-at .ensures) ∙ c .if2 .left)
 
--- src/values.rt:104:31
 add-equal-at-5 : tie.Need-add-equal-at-5
 add-equal-at-5 c = search needs
 
--- src/values.rt:104:38
 add-equal-at-6 : tie.Need-add-equal-at-6
 add-equal-at-6 c = search needs
 
--- src/values.rt:104:17
 equal-at-requires-3 : tie.Need-equal-at-requires-3
 equal-at-requires-3 c κs = let h = rw (c .if3 .taken) at (c .before .before .pre) in (omega (arith, h), omega (arith, h))
 
--- src/values.rt:104:9
 returns-3 : tie.Need-returns-3
 returns-3 c = rw (c .before .if3 .taken, sym (c .equal-at3 .ensures))
 
--- src/values.rt:107:25
 add-less-at : tie.Need-add-less-at
 add-less-at c = search needs
 
--- src/values.rt:107:32
 add-less-at-2 : tie.Need-add-less-at-2
 add-less-at-2 c = search needs
 
--- src/values.rt:107:12
 less-at-requires : tie.Need-less-at-requires
 less-at-requires c κs = let h = rw (c .if4 .taken) at (c .before .before .before .pre) in (omega (arith, h), omega (arith, h))
 
--- src/values.rt:108:35
 add-equal-at-7 : tie.Need-add-equal-at-7
 add-equal-at-7 c = search needs
 
--- src/values.rt:108:42
 add-equal-at-8 : tie.Need-add-equal-at-8
 add-equal-at-8 c = search needs
 
--- src/values.rt:108:21
 equal-at-requires-4 : tie.Need-equal-at-requires-4
 equal-at-requires-4 c κs = let h = rw (c .before .before .if4 .taken) at (c .before .before .before .before .before .pre) in (omega (arith, h), omega (arith, h))
 
--- src/values.rt:108:13
 returns-4 : tie.Need-returns-4
 returns-4 c = rw (c .before .before .before .if4 .taken, sym (c .before .before .less-at .ensures) ∙ c .before .if5 .taken, sym (c .equal-at4 .ensures))
 
--- src/values.rt:110:9
 returns-5 : tie.Need-returns-5
 returns-5 c = rw (c .before .before .if4 .taken, sym (c .before .less-at .ensures) ∙ c .if5 .left)
 
--- src/values.rt:93:1
 returns-6 : tie.Need-returns-6
 returns-6 c = let n = c .before .before .before .args .across in rw (ne-eqb n 1 (c .before .before .if1 .left), ne-eqb n 2 (c .before .if3 .left), ne-eqb n 3 (c .if4 .left))
 

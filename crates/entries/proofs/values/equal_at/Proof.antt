@@ -9,23 +9,18 @@ use Rattle.entries.proofs.values.equal_at.Tie as tie
 use Rattle.entries.proofs.values.equal_at.Reads as reads
 use Rattle.entries.proofs.values.equal_at.Lts as lts
 
--- src/values.rt:77:13
 mul-a : tie.Need-mul-a
 mul-a c = search needs
 
--- src/values.rt:77:13
 shared-slice-copy-out-a : tie.Need-shared-slice-copy-out-a
 shared-slice-copy-out-a c = search needs
 
--- src/values.rt:78:13
 mul-b : tie.Need-mul-b
 mul-b c = search needs
 
--- src/values.rt:78:13
 shared-slice-copy-out-b : tie.Need-shared-slice-copy-out-b
 shared-slice-copy-out-b c = search needs
 
--- src/values.rt:80:9
 returns : tie.Need-returns
 returns c =
     let r = c .before .before .before .args .rec .now in
@@ -33,7 +28,6 @@ returns c =
     let g : SFits w64 (getD r (c .before .before .before .args .j) (pos 0)) = search needs in
     rw (toZ-ofZ f, toZ-ofZ g, rw (toZ-ofZ f, toZ-ofZ g) at (c .if1 .taken))
 
--- src/values.rt:73:1
 returns-2 : tie.Need-returns-2
 returns-2 c =
     let r = c .before .before .before .args .rec .now in

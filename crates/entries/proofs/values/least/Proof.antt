@@ -7,37 +7,29 @@ use Rattle.entries.proofs.values.least.Tie as tie
 use Rattle.entries.proofs.values.least.Reads as reads
 use Rattle.entries.proofs.values.least.Lts as lts
 
--- src/values.rt:36:22
 enum-known-a : tie.Need-enum-known-a
 enum-known-a c = search needs
 
--- src/values.rt:37:9
 enum-told : tie.Need-enum-told
 enum-told c = search needs
 
--- src/values.rt:37:9
 returns : tie.Need-returns
 returns c = search needs
 
--- src/values.rt:39:22
 enum-known-b : tie.Need-enum-known-b
 enum-known-b c = search needs
 
--- src/values.rt:40:9
 enum-told-2 : tie.Need-enum-told-2
 enum-told-2 c = search needs
 
--- src/values.rt:40:9
 returns-2 : tie.Need-returns-2
 returns-2 c = rw (c .before .before .before .a .given .1, c .enum-told2 .given .1)
 
--- src/values.rt:43:9
 returns-3 : tie.Need-returns-3
 returns-3 c =
     let e : min (c .before .before .before .before .before .a .given .0 .0) (c .before .before .b .given .0 .0) ≡ c .before .before .b .given .0 .0 = omega (arith, c .if1 .taken) in
     rw (c .before .before .before .before .before .a .given .1, c .before .before .b .given .1, e)
 
--- src/values.rt:33:1
 returns-4 : tie.Need-returns-4
 returns-4 c =
     let e : min (c .before .before .before .before .before .a .given .0 .0) (c .before .before .b .given .0 .0) ≡ c .before .before .before .before .before .a .given .0 .0 = omega (arith, c .if1 .left) in

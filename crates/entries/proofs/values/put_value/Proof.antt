@@ -8,33 +8,26 @@ use Rattle.entries.proofs.values.put_value.Tie as tie
 use Rattle.entries.proofs.values.put_value.Reads as reads
 use Rattle.entries.proofs.values.put_value.Lts as lts
 
--- src/values.rt:24:17
 enum-known-v : tie.Need-enum-known-v
 enum-known-v c = search needs
 
--- src/values.rt:25:13
 mul-z : tie.Need-mul-z
 mul-z c = search needs
 
--- src/values.rt:25:13
 slice-set-from-z : tie.Need-slice-set-from-z
 slice-set-from-z c = search needs
 
--- src/values.rt:28:18
 enum-known-v-2 : tie.Need-enum-known-v-2
 enum-known-v-2 c = search needs
 
--- src/values.rt:19:1
 same-length : tie.Need-same-length
 same-length c = search needs
 
--- src/values.rt:19:1
 returns : tie.Need-returns
 returns c =
     let f : SFits w64 (c .before .v .given .0 .0) = search needs in
     rw (c .before .v .given .1, toZ-ofZ f) (refl, refl)
 
--- src/values.rt:19:1
 returns-2 : tie.Need-returns-2
 returns-2 c = rw (c .before .v2 .given .1) (refl, refl)
 

@@ -13,46 +13,37 @@ use Rattle.entries.proofs.values.values.Lts as lts
 use Rattle.entries.proofs.values.agree.Reads as agree-reads
 use Rattle.entries.proofs.values.each.Reads as each-reads
 
--- src/values.rt:108:9
 each-requires : tie.Need-each-requires
 each-requires c κs = search needs
 
 enum-told : tie.Need-enum-told
 enum-told c = search needs
 
--- src/values.rt:110:9
 enum-told-2 : tie.Need-enum-told-2
 enum-told-2 c = search needs
 
--- src/values.rt:110:9
 same-length : tie.Need-same-length
 same-length c = search needs
 
--- src/values.rt:110:9
 returns : tie.Need-returns
 returns c =
     let a = c .before .before .before .before .before .before .before .before .before .args in
     across-refused (knownIn (a .s .now) (a .symbols .now) (a .layers .now)) (partOf (a .row .parts % 100)) (a .row .count) (a .row .parts / 100) (split 44 (a .c .now)) (acrossOf (a .row .across)) (a .rec .now) _ (a .p) _ (c .before .before .before .each .ensures) _ (c .enum-told2 .given .1)
 
--- src/values.rt:112:8
 agree-requires : tie.Need-agree-requires
 agree-requires c κs = search needs
 
--- src/values.rt:113:9
 same-length-2 : tie.Need-same-length-2
 same-length-2 c = search needs
 
--- src/values.rt:113:9
 returns-2 : tie.Need-returns-2
 returns-2 c =
     let a = c .before .before .before .before .before .before .before .before .before .before .before .before .args in
     across-told (knownIn (a .s .now) (a .symbols .now) (a .layers .now)) (partOf (a .row .parts % 100)) (a .row .count) (a .row .parts / 100) (split 44 (a .c .now)) (acrossOf (a .row .across)) (a .rec .now) _ (a .p) _ (c .before .before .before .before .before .before .each .ensures) true (c .before .before .before .enum-told .given .1) (c .before .before .before .before .before .before .before .before .before .before .before .before .pre .3) (c .before .before .before .before .before .before .before .before .before .before .before .before .pre .2) (sym (c .before .agree .ensures) ∙ c .if1 .taken)
 
--- src/values.rt:104:1
 same-length-3 : tie.Need-same-length-3
 same-length-3 c = search needs
 
--- src/values.rt:104:1
 returns-3 : tie.Need-returns-3
 returns-3 c =
     let a = c .before .before .before .before .before .before .before .before .before .before .before .before .args in

@@ -5,11 +5,9 @@ use Rattle.leaves.proofs.write.at_most_eight.Tie as tie
 use Rattle.leaves.proofs.write.at_most_eight.Reads as reads
 use Rattle.leaves.proofs.write.at_most_eight.Lts as lts
 
--- src/write.rt:73:9
 returns : tie.Need-returns
 returns c = sym (rw (lt-leb _ _ (c .if1 .taken)))
 
--- src/write.rt:69:1
 returns-2 : tie.Need-returns-2
 returns-2 c = sym (rw (le-leb _ _ (c .if1 .left)))
 

@@ -16,41 +16,32 @@ Inv-loop n out₀ left₀ i₀ out left i = (i ≤ length out₀) × (length out
 abbrev μ-loop : tie.MeasureT-loop
 μ-loop n out₀ left₀ i₀ out left i = i
 
--- src/write.rt:30:5
 loop-holds : tie.Need-loop-holds Inv-loop μ-loop
 loop-holds c = (omega arith, refl, sym (rw (drop-length (c .args .out .now))))
 
--- src/write.rt:31:9
 sub-i : tie.Need-sub-i Inv-loop μ-loop
 sub-i c = omega arith
 
--- src/write.rt:32:23
 cast-out : tie.Need-cast-out Inv-loop μ-loop
 cast-out c = omega arith
 
--- src/write.rt:32:18
 add-out : tie.Need-add-out Inv-loop μ-loop
 add-out c = omega arith
 
--- src/write.rt:32:9
 slice-write-out : tie.Need-slice-write-out Inv-loop μ-loop
 slice-write-out c = omega arith
 
--- src/write.rt:30:5
 loop-less : tie.Need-loop-less Inv-loop μ-loop
 loop-less c = omega arith
 
--- src/write.rt:30:5
 loop-again : tie.Need-loop-again Inv-loop μ-loop
 loop-again c =
     let v = c .before .loop in
     (omega arith, simp length-set (v .inv .1), v .inv .2 ∙ digit-more (v .out) (v .i) (v .left) (c .loop-test .taken) (omega arith))
 
--- src/write.rt:25:1
 same-length : tie.Need-same-length Inv-loop μ-loop
 same-length c = omega arith
 
--- src/write.rt:25:1
 returns : tie.Need-returns Inv-loop μ-loop
 returns c =
     let v = c .before .loop in

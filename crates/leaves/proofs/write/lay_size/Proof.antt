@@ -6,43 +6,33 @@ use Rattle.leaves.proofs.write.lay_size.Reads as reads
 use Rattle.leaves.proofs.write.lay_size.Lts as lts
 use Rattle.leaves.proofs.write.fill_digits.Reads as fill-digits-reads
 
--- src/write.rt:109:5
 array-write-text : tie.Need-array-write-text
 array-write-text c = search needs
 
--- src/write.rt:110:28
 sub-fill-digits : tie.Need-sub-fill-digits
 sub-fill-digits c = search needs
 
--- src/write.rt:110:28
 part-text-start : tie.Need-part-text-start
 part-text-start c = search needs
 
--- src/write.rt:110:28
 part-text-end : tie.Need-part-text-end
 part-text-end c = search needs
 
--- src/write.rt:110:5
 fill-digits-requires : tie.Need-fill-digits-requires
 fill-digits-requires c κs = search needs
 
--- src/write.rt:111:28
 sub-fill-digits-2 : tie.Need-sub-fill-digits-2
 sub-fill-digits-2 c = search needs
 
--- src/write.rt:111:28
 part-text-start-2 : tie.Need-part-text-start-2
 part-text-start-2 c = search needs
 
--- src/write.rt:111:28
 part-text-end-2 : tie.Need-part-text-end-2
 part-text-end-2 c = half-long _ _ (c .before .fill-digits .ensures)
 
--- src/write.rt:111:5
 fill-digits-requires-2 : tie.Need-fill-digits-requires-2
 fill-digits-requires-2 c κs = search needs
 
--- src/write.rt:105:1
 returns : tie.Need-returns
 returns c = lay-done (c .before .before .before .before .before .before .args .m) _ _ (c .before .before .before .before .fill-digits .ensures) (c .before .fill-digits2 .ensures)
 

@@ -16,19 +16,15 @@ Inv-loop s i₀ i = (i ≤ length s) × (trimEnd (take i s) ≡ trimEnd s)
 abbrev μ-loop : tie.MeasureT-loop
 μ-loop s i₀ i = i
 
--- src/write.rt:95:5
 loop-holds : tie.Need-loop-holds Inv-loop μ-loop
 loop-holds c = (omega arith, ap trimEnd (take-length (c .args .s .now)))
 
--- src/write.rt:96:14
 sub-if1 : tie.Need-sub-if1 Inv-loop μ-loop
 sub-if1 c = omega arith
 
--- src/write.rt:96:12
 shared-slice-read-if1 : tie.Need-shared-slice-read-if1 Inv-loop μ-loop
 shared-slice-read-if1 c = omega arith
 
--- src/write.rt:97:13
 returns : tie.Need-returns Inv-loop μ-loop
 returns c =
     let s = c .before .before .before .before .args .s .now in
@@ -36,15 +32,12 @@ returns c =
     let e : suc (v .i - 1) ≡ v .i = omega arith in
     (v .inv .0, sym (rw e at (needed-stop s (v .i - 1) (omega arith) (c .if1 .taken))) ∙ v .inv .1)
 
--- src/write.rt:99:9
 sub-i : tie.Need-sub-i Inv-loop μ-loop
 sub-i c = omega arith
 
--- src/write.rt:95:5
 loop-less : tie.Need-loop-less Inv-loop μ-loop
 loop-less c = omega arith
 
--- src/write.rt:95:5
 loop-again : tie.Need-loop-again Inv-loop μ-loop
 loop-again c =
     let s = c .before .before .before .before .args .s .now in
@@ -52,7 +45,6 @@ loop-again c =
     let e : suc (v .i - 1) ≡ v .i = omega arith in
     (omega arith, sym (rw e at (needed-zero s (v .i - 1) (omega arith) (c .if1 .left))) ∙ v .inv .1)
 
--- src/write.rt:91:1
 returns-2 : tie.Need-returns-2 Inv-loop μ-loop
 returns-2 c =
     let s = c .before .before .args .s .now in

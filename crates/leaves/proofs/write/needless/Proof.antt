@@ -15,41 +15,33 @@ Inv-loop s i₀ i = (i ≤ length s) × (trim (drop i s) ≡ trim s)
 abbrev μ-loop : tie.MeasureT-loop
 μ-loop s i₀ i = length s - i
 
--- src/write.rt:42:5
 loop-holds : tie.Need-loop-holds Inv-loop μ-loop
 loop-holds c = (omega arith, refl)
 
--- src/write.rt:42:11
 add-loop : tie.Need-add-loop Inv-loop μ-loop
 add-loop c = omega arith
 
--- src/write.rt:43:12
 shared-slice-read-if1 : tie.Need-shared-slice-read-if1 Inv-loop μ-loop
 shared-slice-read-if1 c = omega arith
 
--- src/write.rt:44:13
 returns : tie.Need-returns Inv-loop μ-loop
 returns c =
     let s = c .before .before .before .before .args .s .now in
     let v = c .before .before .before .loop in
     (v .inv .0, sym (trim-stop s (v .i) (c .before .before .loop-test .taken) (c .if1 .taken)) ∙ v .inv .1)
 
--- src/write.rt:46:9
 add-i : tie.Need-add-i Inv-loop μ-loop
 add-i c = omega arith
 
--- src/write.rt:42:5
 loop-less : tie.Need-loop-less Inv-loop μ-loop
 loop-less c = omega arith
 
--- src/write.rt:42:5
 loop-again : tie.Need-loop-again Inv-loop μ-loop
 loop-again c =
     let s = c .before .before .before .before .args .s .now in
     let v = c .before .before .before .loop in
     (omega arith, sym (trim-zero s (v .i) (c .before .before .loop-test .taken) (c .if1 .left)) ∙ v .inv .1)
 
--- src/write.rt:38:1
 returns-2 : tie.Need-returns-2 Inv-loop μ-loop
 returns-2 c =
     let v = c .before .loop in

@@ -15,42 +15,33 @@ Inv-loop text out₀ i₀ out i = (i ≤ length text) × (length text ≤ length
 abbrev μ-loop : tie.MeasureT-loop
 μ-loop text out₀ i₀ out i = length text - i
 
--- src/write.rt:14:9
 returns : tie.Need-returns Inv-loop μ-loop
 returns c = full _ _ _ refl (c .if1 .taken)
 
--- src/write.rt:17:5
 loop-holds : tie.Need-loop-holds Inv-loop μ-loop
 loop-holds c = (omega arith, omega arith, refl, refl)
 
--- src/write.rt:18:18
 shared-slice-read-out : tie.Need-shared-slice-read-out Inv-loop μ-loop
 shared-slice-read-out c = omega arith
 
--- src/write.rt:18:9
 slice-write-out : tie.Need-slice-write-out Inv-loop μ-loop
 slice-write-out c = omega arith
 
--- src/write.rt:19:9
 add-i : tie.Need-add-i Inv-loop μ-loop
 add-i c = omega arith
 
--- src/write.rt:17:5
 loop-less : tie.Need-loop-less Inv-loop μ-loop
 loop-less c = omega arith
 
--- src/write.rt:17:5
 loop-again : tie.Need-loop-again Inv-loop μ-loop
 loop-again c =
     let a = c .before .before .before .before .args in
     let v = c .before .before .loop in
     (omega arith, v .inv .1, simp length-set (v .inv .2), rw (v .inv .3) (copy-more (a .out .now) (a .text .now) (v .i) (omega arith) (omega arith)))
 
--- src/write.rt:10:1
 same-length : tie.Need-same-length Inv-loop μ-loop
 same-length c = omega arith
 
--- src/write.rt:10:1
 returns-2 : tie.Need-returns-2 Inv-loop μ-loop
 returns-2 c =
     let a = c .before .before .before .args in

@@ -6,27 +6,21 @@ use Rattle.leaves.proofs.write.put_count.Lts as lts
 use Rattle.leaves.proofs.write.fill_digits.Reads as fill-digits-reads
 use Rattle.leaves.proofs.write.put_trimmed.Reads as put-trimmed-reads
 
--- src/write.rt:64:20
 slice-aggregate-fill-digits : tie.Need-slice-aggregate-fill-digits
 slice-aggregate-fill-digits c = search needs
 
--- src/write.rt:64:5
 fill-digits-requires : tie.Need-fill-digits-requires
 fill-digits-requires c κs = search needs
 
--- src/write.rt:65:17
 slice-aggregate-put-trimmed : tie.Need-slice-aggregate-put-trimmed
 slice-aggregate-put-trimmed c = search needs
 
--- src/write.rt:65:5
 put-trimmed-requires : tie.Need-put-trimmed-requires
 put-trimmed-requires c κs = search needs
 
--- src/write.rt:60:1
 same-length : tie.Need-same-length
 same-length c = search needs
 
--- src/write.rt:60:1
 returns : tie.Need-returns
 returns c = rw (c .before .before .before .before .before .before .fill-digits .ensures) at (c .before .before .put-trimmed .ensures)
 

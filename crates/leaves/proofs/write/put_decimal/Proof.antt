@@ -17,21 +17,18 @@ use Rattle.leaves.proofs.write.put_decimal.Lts as lts
 use Rattle.leaves.proofs.write.put_minus.Reads as put-minus-reads
 use Rattle.leaves.proofs.write.put_size.Reads as put-size-reads
 
--- src/write.rt:148:28
 add-put-minus : tie.Need-add-put-minus
 add-put-minus c =
     let z = c .before .before .args .z in
     let f : SFits w64 z = c .before .before .fits .z in
     more-fits z f (below z f (rw (toZ-ofZ f) at (c .if1 .taken)))
 
--- src/write.rt:148:26
 sub-put-minus : tie.Need-sub-put-minus
 sub-put-minus c =
     let z = c .before .before .args .z in
     let f : SFits w64 z = c .before .before .fits .z in
     turned-fits z f (below z f (rw (toZ-ofZ f) at (c .if1 .taken)))
 
--- src/write.rt:148:26
 cast-put-minus : tie.Need-cast-put-minus
 cast-put-minus c =
     let z = c .before .before .args .z in
@@ -39,7 +36,6 @@ cast-put-minus c =
     let b = below z f (rw (toZ-ofZ f) at (c .if1 .taken)) in
     rw (turned-back z f b) (tt, record { fits = omega (arith, b .small) })
 
--- src/write.rt:148:26
 add-put-minus-2 : tie.Need-add-put-minus-2
 add-put-minus-2 c =
     let z = c .before .before .args .z in
@@ -47,15 +43,12 @@ add-put-minus-2 c =
     let b = below z f (rw (toZ-ofZ f) at (c .if1 .taken)) in
     rw (turned-back z f b) (record { fits = omega (arith, b .small) })
 
--- src/write.rt:148:9
 put-minus-requires : tie.Need-put-minus-requires
 put-minus-requires c κs = search needs
 
--- src/write.rt:148:9
 same-length : tie.Need-same-length
 same-length c = search needs
 
--- src/write.rt:148:9
 returns : tie.Need-returns
 returns c =
     let z = c .before .before .before .before .before .before .args .z in
@@ -63,7 +56,6 @@ returns c =
     let b = below z f (rw (toZ-ofZ f) at (c .before .before .before .before .if1 .taken)) in
     rw (b .shown) (rw (turned-back z f b, add-one) at (c .before .before .put-minus .ensures))
 
--- src/write.rt:150:14
 cast-put-size : tie.Need-cast-put-size
 cast-put-size c =
     let z = c .before .before .args .z in
@@ -71,15 +63,12 @@ cast-put-size c =
     let b = not-below z f (rw (toZ-ofZ f) at (c .if1 .left)) in
     rw (not-below-back z f b) (tt, record { fits = omega (arith, b .small) })
 
--- src/write.rt:150:5
 put-size-requires : tie.Need-put-size-requires
 put-size-requires c κs = search needs
 
--- src/write.rt:144:1
 same-length-2 : tie.Need-same-length-2
 same-length-2 c = search needs
 
--- src/write.rt:144:1
 returns-2 : tie.Need-returns-2
 returns-2 c =
     let z = c .before .before .before .before .before .before .args .z in

@@ -14,31 +14,24 @@ use Rattle.leaves.proofs.write.put_fixed.Lts as lts
 use Rattle.leaves.proofs.write.at_most_eight.Reads as at-most-eight-reads
 use Rattle.leaves.proofs.write.fill_digits.Reads as fill-digits-reads
 
--- src/write.rt:82:9
 at-most-eight-requires : tie.Need-at-most-eight-requires
 at-most-eight-requires c κs = search needs
 
--- src/write.rt:84:9
 returns : tie.Need-returns
 returns c = full (fixed (width (c .before .before .before .args .w)) (c .before .before .before .args .n)) (c .before .before .before .args .out .now) (c .before .at-most-eight .result) (fixed-length (width (c .before .before .before .args .w)) (c .before .before .before .args .n) ∙ sym (c .before .at-most-eight .ensures)) (c .if1 .taken)
 
--- src/write.rt:86:20
 slice-relend-prefix-fill-digits : tie.Need-slice-relend-prefix-fill-digits
 slice-relend-prefix-fill-digits c = search needs
 
--- src/write.rt:86:20
 slice-aggregate-fill-digits : tie.Need-slice-aggregate-fill-digits
 slice-aggregate-fill-digits c = sym (length-take-le _ _ (c .before .if1 .left))
 
--- src/write.rt:86:5
 fill-digits-requires : tie.Need-fill-digits-requires
 fill-digits-requires c κs = search needs
 
--- src/write.rt:79:1
 same-length : tie.Need-same-length
 same-length c = search needs
 
--- src/write.rt:79:1
 returns-2 : tie.Need-returns-2
 returns-2 c =
     let w = width (c .before .before .before .before .before .before .before .args .w) in

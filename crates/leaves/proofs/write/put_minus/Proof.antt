@@ -12,55 +12,42 @@ use Rattle.leaves.proofs.write.put_minus.Reads as reads
 use Rattle.leaves.proofs.write.put_minus.Lts as lts
 use Rattle.leaves.proofs.write.put_size.Reads as put-size-reads
 
--- src/write.rt:133:9
 returns : tie.Need-returns
 returns c = full (45 ∷ showSize (c .before .before .args .m)) (c .before .before .args .out .now) (suc (length (showSize (c .before .before .args .m)))) refl (omega (arith, c .if1 .taken))
 
--- src/write.rt:135:28
 sub-put-size : tie.Need-sub-put-size
 sub-put-size c = search needs
 
--- src/write.rt:135:28
 part-put-size-start : tie.Need-part-put-size-start
 part-put-size-start c = search needs
 
--- src/write.rt:135:28
 part-put-size-end : tie.Need-part-put-size-end
 part-put-size-end c = search needs
 
--- src/write.rt:135:9
 put-size-requires : tie.Need-put-size-requires
 put-size-requires c κs = search needs
 
--- src/write.rt:136:22
 enum-known-size : tie.Need-enum-known-size
 enum-known-size c = search needs
 
--- src/write.rt:137:9
 enum-told : tie.Need-enum-told
 enum-told c = search needs
 
--- src/write.rt:137:9
 same-length : tie.Need-same-length
 same-length c = search needs
 
--- src/write.rt:137:9
 returns-2 : tie.Need-returns-2
 returns-2 c = behind-full 45 _ _ _ (c .before .before .before .before .before .before .before .before .args .out .now) (c .before .before .before .before .before .before .if1 .left) (c .before .before .before .before .put-size .ensures) (c .enum-told .given .1)
 
--- src/write.rt:139:5
 slice-write-out : tie.Need-slice-write-out
 slice-write-out c = search needs
 
--- src/write.rt:140:18
 add-t5 : tie.Need-add-t5
 add-t5 c = omega (arith, behind-room 45 _ _ _ (c .before .before .before .before .before .before .before .before .before .args .out .now) (c .before .before .before .before .before .before .before .if1 .left) (c .before .size .given .0 .0) (c .before .before .before .before .before .put-size .ensures) (c .before .size .given .1))
 
--- src/write.rt:129:1
 same-length-2 : tie.Need-same-length-2
 same-length-2 c = search needs
 
--- src/write.rt:129:1
 returns-3 : tie.Need-returns-3
 returns-3 c = behind-bytes 45 _ _ _ (c .before .before .before .before .before .before .before .before .before .args .out .now) (c .before .before .before .before .before .before .before .if1 .left) (c .before .size .given .0 .0) (c .before .before .before .before .before .put-size .ensures) (c .before .size .given .1)
 

@@ -11,51 +11,39 @@ use Rattle.leaves.proofs.write.needed.Reads as needed-reads
 use Rattle.leaves.proofs.write.needless.Reads as needless-reads
 use Rattle.leaves.proofs.write.put.Reads as put-reads
 
--- src/write.rt:119:16
 lay-size-requires : tie.Need-lay-size-requires
 lay-size-requires c κs = search needs
 
--- src/write.rt:120:30
 sub-needless : tie.Need-sub-needless
 sub-needless c = search needs
 
--- src/write.rt:120:30
 part-needless-start : tie.Need-part-needless-start
 part-needless-start c = search needs
 
--- src/write.rt:120:30
 part-needless-end : tie.Need-part-needless-end
 part-needless-end c = search needs
 
--- src/write.rt:120:21
 needless-requires : tie.Need-needless-requires
 needless-requires c κs = search needs
 
--- src/write.rt:120:17
 add-start : tie.Need-add-start
 add-start c = search needs
 
--- src/write.rt:122:20
 sub-put : tie.Need-sub-put
 sub-put c = search needs
 
--- src/write.rt:122:20
 part-put-start : tie.Need-part-put-start
 part-put-start c = search needs
 
--- src/write.rt:122:20
 part-put-end : tie.Need-part-put-end
 part-put-end c = search needs
 
--- src/write.rt:122:9
 put-requires : tie.Need-put-requires
 put-requires c κs = search needs
 
--- src/write.rt:122:9
 same-length : tie.Need-same-length
 same-length c = search needs
 
--- src/write.rt:122:9
 returns : tie.Need-returns
 returns c =
     let m = c .before .before .before .before .before .before .before .before .before .before .before .before .args .m in
@@ -63,47 +51,36 @@ returns c =
     let g = rw (laid, whole-part m) at (c .before .before .before .before .before .before .before .needless .ensures) in
     rw (laid, size-whole m (c .before .before .before .before .before .before .before .needless .result) (omega (arith, g .0, fixed-length 7 (m / 10000))) (g .1) (c .before .before .before .before .before .before .if1 .taken)) at (c .before .before .put .ensures)
 
--- src/write.rt:124:26
 sub-needed : tie.Need-sub-needed
 sub-needed c = search needs
 
--- src/write.rt:124:26
 part-needed-start : tie.Need-part-needed-start
 part-needed-start c = search needs
 
--- src/write.rt:124:26
 part-needed-end : tie.Need-part-needed-end
 part-needed-end c = search needs
 
--- src/write.rt:124:19
 needed-requires : tie.Need-needed-requires
 needed-requires c κs = search needs
 
--- src/write.rt:124:15
 add-end : tie.Need-add-end
 add-end c = search needs
 
--- src/write.rt:125:9
 sub-put-2 : tie.Need-sub-put-2
 sub-put-2 c = search needs
 
--- src/write.rt:125:9
 part-put-start-2 : tie.Need-part-put-start-2
 part-put-start-2 c = search needs
 
--- src/write.rt:125:9
 part-put-end-2 : tie.Need-part-put-end-2
 part-put-end-2 c = search needs
 
--- src/write.rt:125:5
 put-requires-2 : tie.Need-put-requires-2
 put-requires-2 c κs = search needs
 
--- src/write.rt:116:1
 same-length-2 : tie.Need-same-length-2
 same-length-2 c = search needs
 
--- src/write.rt:116:1
 returns-2 : tie.Need-returns-2
 returns-2 c =
     let m = c .before .before .before .before .before .before .before .before .before .before .before .before .before .before .before .args .m in

@@ -7,31 +7,24 @@ use Rattle.leaves.proofs.write.put_trimmed.Lts as lts
 use Rattle.leaves.proofs.write.needless.Reads as needless-reads
 use Rattle.leaves.proofs.write.put.Reads as put-reads
 
--- src/write.rt:55:9
 needless-requires : tie.Need-needless-requires
 needless-requires c κs = search needs
 
--- src/write.rt:56:9
 sub-put : tie.Need-sub-put
 sub-put c = search needs
 
--- src/write.rt:56:9
 part-put-start : tie.Need-part-put-start
 part-put-start c = search needs
 
--- src/write.rt:56:9
 part-put-end : tie.Need-part-put-end
 part-put-end c = search needs
 
--- src/write.rt:56:5
 put-requires : tie.Need-put-requires
 put-requires c κs = search needs
 
--- src/write.rt:52:1
 same-length : tie.Need-same-length
 same-length c = search needs
 
--- src/write.rt:52:1
 returns : tie.Need-returns
 returns c = rw (rest-all (c .before .before .before .before .before .needless .result) (c .before .before .before .before .before .before .before .before .args .s .now), c .before .before .before .before .before .needless .ensures .1) at (c .before .before .put .ensures)
 

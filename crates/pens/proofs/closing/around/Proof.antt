@@ -5,11 +5,9 @@ use Rattle.pens.proofs.closing.around.Tie as tie
 use Rattle.pens.proofs.closing.around.Reads as reads
 use Rattle.pens.proofs.closing.around.Lts as lts
 
--- src/closing.rt:61:9
 returns : tie.Need-returns
 returns c = search needs
 
--- src/closing.rt:56:1
 returns-2 : tie.Need-returns-2
 returns-2 c = around-other _ (c .before .pre) (c .if1 .left)
 

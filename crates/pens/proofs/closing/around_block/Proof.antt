@@ -6,27 +6,21 @@ use Rattle.pens.proofs.closing.around_block.Reads as reads
 use Rattle.pens.proofs.closing.around_block.Lts as lts
 use Rattle.pens.proofs.closing.around_figures.Reads as around-figures-reads
 
--- src/closing.rt:136:9
 around-figures-requires : tie.Need-around-figures-requires
 around-figures-requires c κs = search needs
 
--- src/closing.rt:136:9
 returns : tie.Need-returns
 returns c = rw (c .before .if1 .taken) (c .around-figures .ensures)
 
--- src/closing.rt:139:9
 returns-2 : tie.Need-returns-2
 returns-2 c = rw (c .if2 .taken)
 
--- src/closing.rt:142:9
 returns-3 : tie.Need-returns-3
 returns-3 c = rw (c .if3 .taken)
 
--- src/closing.rt:145:9
 returns-4 : tie.Need-returns-4
 returns-4 c = rw (c .if4 .taken)
 
--- src/closing.rt:132:1
 returns-5 : tie.Need-returns-5
 returns-5 c = rw (ne-eqb _ _ (c .before .before .before .before .before .before .if1 .left), ne-eqb _ _ (c .before .before .before .before .if2 .left), ne-eqb _ _ (c .before .before .if3 .left), ne-eqb _ _ (c .if4 .left))
 

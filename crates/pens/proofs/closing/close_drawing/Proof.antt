@@ -16,46 +16,36 @@ use Rattle.pens.proofs.noted.put_rows.Reads as put-rows-reads
 use Rattle.pens.proofs.places.at_block.Reads as at-block-reads
 use Rattle.pens.proofs.swap.exchange.Reads as exchange-reads
 
--- src/closing.rt:73:42
 sub-put-rows : tie.Need-sub-put-rows
 sub-put-rows c = search needs
 
--- src/closing.rt:73:42
 part-put-rows-start : tie.Need-part-put-rows-start
 part-put-rows-start c = search needs
 
--- src/closing.rt:73:42
 part-put-rows-end : tie.Need-part-put-rows-end
 part-put-rows-end c = search needs
 
--- src/closing.rt:73:11
 put-rows-requires : tie.Need-put-rows-requires
 put-rows-requires c κs = search needs
 
--- src/closing.rt:74:24
 enum-told : tie.Need-enum-told
 enum-told c = search needs
 
--- src/closing.rt:75:22
 enum-known-n : tie.Need-enum-known-n
 enum-known-n c = search needs
 
--- src/closing.rt:76:22
 add-to : tie.Need-add-to
 add-to c =
     let args = c .before .before .before .before .before .before .before .before .before .before .args in
     let pre = c .before .before .before .before .before .before .before .before .before .before .pre in
     record { fits = omega (arith, room-left (args .out .now) (args .pen .at) (pre .within) _ _ (c .before .before .before .before .before .put-rows .ensures .0) (c .before .n .given .0 .0) (c .before .n .given .1)) }
 
--- src/closing.rt:77:22
 sub-exchange : tie.Need-sub-exchange
 sub-exchange c = search needs
 
--- src/closing.rt:77:22
 part-exchange-start : tie.Need-part-exchange-start
 part-exchange-start c = search needs
 
--- src/closing.rt:77:22
 part-exchange-end : tie.Need-part-exchange-end
 part-exchange-end c =
     let args = c .before .before .before .before .before .before .before .before .before .before .args in
@@ -63,15 +53,12 @@ part-exchange-end c =
     let the-put-rows = c .before .before .before .before .before .put-rows in
     omega (arith, room-left (args .out .now) (args .pen .at) (pre .within) _ _ (the-put-rows .ensures .0) (c .before .n .given .0 .0) (c .before .n .given .1), kept-long (args .out .now) (args .pen .at) (pre .within) _ _ (the-put-rows .ensures .0))
 
--- src/closing.rt:77:42
 sub-exchange-2 : tie.Need-sub-exchange-2
 sub-exchange-2 c = search needs
 
--- src/closing.rt:77:13
 exchange-requires : tie.Need-exchange-requires
 exchange-requires c κs = search needs
 
--- src/closing.rt:78:18
 at-block-requires : tie.Need-at-block-requires
 at-block-requires c κs =
     let args = c .before .before .before .before .before .before .before .before .before .before .before .before .before .before .args in
@@ -80,7 +67,6 @@ at-block-requires c κs =
     let the-n = c .before .before .before .before .before .n in
     omega (arith, room-left (args .out .now) (args .pen .at) (pre .within) _ _ (the-put-rows .ensures .0) (the-n .given .0 .0) (the-n .given .1))
 
--- src/closing.rt:78:13
 shut-requires : tie.Need-shut-requires
 shut-requires c κs =
     let args = c .before .before .before .before .before .before .before .before .before .before .before .before .before .before .before .before .args in
@@ -89,11 +75,9 @@ shut-requires c κs =
     let the-n = c .before .before .before .before .before .before .before .n in
     safe-there (args .pen) _ (the-n .given .0 .0) 2 (c .before .at-block .ensures) _ (pre .begun) (turned-room (args .out .now) (args .pen .at) (pre .within) _ _ (the-put-rows .ensures .0) (the-n .given .0 .0) (the-n .given .1) (args .pen .start) _ (c .before .before .before .before .exchange .ensures))
 
--- src/closing.rt:67:1
 same-length : tie.Need-same-length
 same-length c = search needs
 
--- src/closing.rt:67:1
 returns : tie.Need-returns
 returns c =
     let args = c .before .before .before .before .before .before .before .before .before .args in
@@ -101,11 +85,9 @@ returns c =
     let the-put-rows = c .before .before .before .before .put-rows in
     (kept-full (args .out .now) (args .pen .at) (pre .within) _ _ (the-put-rows .ensures .0), λ k s z. inserted-none (drawingRows k s) shutBytes (args .pen .start) (args .pen .at) _ (args .out .now) _ (no-room (args .out .now) (args .pen .at) (pre .within) _ _ _ (the-put-rows .ensures .1 refl k (s ∷ []) 0 (drawing-part _ k _ s z) (tables-some 7) refl) (c .enum-told .given .1)))
 
--- src/closing.rt:67:1
 same-length-2 : tie.Need-same-length-2
 same-length-2 c = search needs
 
--- src/closing.rt:67:1
 returns-2 : tie.Need-returns-2
 returns-2 c =
     let args = c .before .before .before .before .before .before .before .before .before .before .before .before .before .before .before .before .before .before .before .args in

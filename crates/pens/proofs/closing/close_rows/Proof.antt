@@ -17,34 +17,27 @@ use Rattle.pens.proofs.closing.shut.Reads as shut-reads
 use Rattle.pens.proofs.noted.put_rows.Reads as put-rows-reads
 use Rattle.pens.proofs.places.at_block.Reads as at-block-reads
 
--- src/closing.rt:49:48
 sub-put-rows : tie.Need-sub-put-rows
 sub-put-rows c = search needs
 
--- src/closing.rt:49:48
 part-put-rows-start : tie.Need-part-put-rows-start
 part-put-rows-start c = search needs
 
--- src/closing.rt:49:48
 part-put-rows-end : tie.Need-part-put-rows-end
 part-put-rows-end c = search needs
 
--- src/closing.rt:49:11
 put-rows-requires : tie.Need-put-rows-requires
 put-rows-requires c κs = search needs
 
--- src/closing.rt:50:22
 enum-known-n : tie.Need-enum-known-n
 enum-known-n c = search needs
 
--- src/closing.rt:50:33
 at-block-requires : tie.Need-at-block-requires
 at-block-requires c κs =
     let args = c .before .before .before .before .before .before .before .before .before .before .args in
     let pre = c .before .before .before .before .before .before .before .before .before .before .pre in
     omega (arith, room-left (args .out .now) (args .pen .at) (pre .0 .within) _ _ (c .before .before .before .before .before .put-rows .ensures .0) (c .before .n .given .0 .0) (c .before .n .given .1))
 
--- src/closing.rt:50:28
 shut-requires : tie.Need-shut-requires
 shut-requires c κs =
     let args = c .before .before .before .before .before .before .before .before .before .before .before .before .args in
@@ -53,15 +46,12 @@ shut-requires c κs =
     let the-n = c .before .before .before .n in
     safe-there (args .pen) _ (the-n .given .0 .0) (args .block) (c .before .at-block .ensures) _ (pre .0 .begun) (omega (arith, room-left (args .out .now) (args .pen .at) (pre .0 .within) _ _ (the-put-rows .ensures .0) (the-n .given .0 .0) (the-n .given .1), kept-long (args .out .now) (args .pen .at) (pre .0 .within) _ _ (the-put-rows .ensures .0)))
 
--- src/closing.rt:51:24
 enum-told : tie.Need-enum-told
 enum-told c = search needs
 
--- src/closing.rt:44:1
 same-length : tie.Need-same-length
 same-length c = search needs
 
--- src/closing.rt:44:1
 returns : tie.Need-returns
 returns c =
     let args = c .before .before .before .before .before .before .before .before .before .before .before .before .before .before .before .args in
@@ -70,11 +60,9 @@ returns c =
     let the-n = c .before .before .before .before .before .before .n in
     (kept-then _ _ _ _ (kept-long (args .out .now) (args .pen .at) (pre .0 .within) _ _ (the-put-rows .ensures .0)) (c .before .before .shut .ensures .0), λ k h z. let l = lays (args .out .now) (args .pen .at) (pre .0 .within) _ _ (lineBytes (showDepth k (tablesOf (args .base)) h 3 0 [])) (the-put-rows .ensures .1 (pre .1) k h 0 z (tables-some (args .base)) refl) (the-n .given .0 .0) (the-n .given .1) in drawn-then (lineBytes (showDepth k (tablesOf (args .base)) h 3 0 [])) (the-n .given .0 .0) (args .pen .at) (args .out .now) _ l shutBytes _ _ _ (shut-at (args .pen) _ (the-n .given .0 .0) (args .block) (c .before .before .before .before .at-block .ensures) (length ((lineBytes (showDepth k (tablesOf (args .base)) h 3 0 [])) ++ shutBytes)) (args .block) _ _ _ _ (length-append (lineBytes (showDepth k (tablesOf (args .base)) h 3 0 [])) shutBytes ∙ omega (arith, l .size)) refl (c .before .before .shut .ensures .1)))
 
--- src/closing.rt:44:1
 same-length-2 : tie.Need-same-length-2
 same-length-2 c = search needs
 
--- src/closing.rt:44:1
 returns-2 : tie.Need-returns-2
 returns-2 c =
     let args = c .before .before .before .before .before .before .before .before .before .args in

@@ -17,39 +17,30 @@ use Rattle.pens.proofs.noted.put_noted.Reads as put-noted-reads
 use Rattle.pens.proofs.places.at_block.Reads as at-block-reads
 use Rattle.pens.proofs.swap.exchange.Reads as exchange-reads
 
--- src/closing.rt:90:36
 shared-slice-read-put-noted : tie.Need-shared-slice-read-put-noted
 shared-slice-read-put-noted c = search needs
 
--- src/closing.rt:90:46
 sub-put-noted : tie.Need-sub-put-noted
 sub-put-noted c = search needs
 
--- src/closing.rt:90:46
 part-put-noted-start : tie.Need-part-put-noted-start
 part-put-noted-start c = search needs
 
--- src/closing.rt:90:46
 part-put-noted-end : tie.Need-part-put-noted-end
 part-put-noted-end c = search needs
 
--- src/closing.rt:90:9
 put-noted-requires : tie.Need-put-noted-requires
 put-noted-requires c κs = search needs
 
--- src/closing.rt:91:22
 enum-known-named : tie.Need-enum-known-named
 enum-known-named c = search needs
 
--- src/closing.rt:92:9
 enum-told : tie.Need-enum-told
 enum-told c = search needs
 
--- src/closing.rt:92:9
 same-length : tie.Need-same-length
 same-length c = search needs
 
--- src/closing.rt:92:9
 returns : tie.Need-returns
 returns c =
     let args = c .before .before .before .before .before .before .before .before .before .before .args in
@@ -57,22 +48,18 @@ returns c =
     let the-put-noted = c .before .before .before .before .put-noted in
     (kept-full (args .out .now) (args .pen .at) (pre .0 .within) _ _ (the-put-noted .ensures .0), λ k a b x y. inserted-none (rowBytes k (ruleAt symbolTable 0) a) ((rowBytes k (ruleAt symbolTable 3) b) ++ shutBytes) (args .pen .start) (args .pen .at) _ (args .out .now) _ (no-room (args .out .now) (args .pen .at) (pre .0 .within) _ _ (rowBytes k (ruleAt symbolTable 0) a) (the-put-noted .ensures .1 k (ruleAt symbolTable 0) a name-row x) (c .enum-told .given .1)))
 
--- src/closing.rt:94:14
 add-to : tie.Need-add-to
 add-to c =
     let args = c .before .before .before .before .before .before .before .before .before .before .before .args in
     let pre = c .before .before .before .before .before .before .before .before .before .before .before .pre in
     record { fits = omega (arith, room-left (args .out .now) (args .pen .at) (pre .0 .within) _ _ (c .before .before .before .before .before .put-noted .ensures .0) (c .before .named .given .0 .0) (c .before .named .given .1)) }
 
--- src/closing.rt:95:14
 sub-exchange : tie.Need-sub-exchange
 sub-exchange c = search needs
 
--- src/closing.rt:95:14
 part-exchange-start : tie.Need-part-exchange-start
 part-exchange-start c = search needs
 
--- src/closing.rt:95:14
 part-exchange-end : tie.Need-part-exchange-end
 part-exchange-end c =
     let args = c .before .before .before .before .before .before .before .before .before .before .before .args in
@@ -80,19 +67,15 @@ part-exchange-end c =
     let the-put-noted = c .before .before .before .before .before .put-noted in
     omega (arith, room-left (args .out .now) (args .pen .at) (pre .0 .within) _ _ (the-put-noted .ensures .0) (c .before .named .given .0 .0) (c .before .named .given .1), kept-long (args .out .now) (args .pen .at) (pre .0 .within) _ _ (the-put-noted .ensures .0))
 
--- src/closing.rt:95:34
 sub-exchange-2 : tie.Need-sub-exchange-2
 sub-exchange-2 c = search needs
 
--- src/closing.rt:95:5
 exchange-requires : tie.Need-exchange-requires
 exchange-requires c κs = search needs
 
--- src/closing.rt:96:37
 shared-slice-read-put-noted-2 : tie.Need-shared-slice-read-put-noted-2
 shared-slice-read-put-noted-2 c = search needs
 
--- src/closing.rt:96:47
 sub-put-noted-2 : tie.Need-sub-put-noted-2
 sub-put-noted-2 c =
     let args = c .before .before .before .before .before .before .before .before .before .before .before .before .before .before .before .before .args in
@@ -101,7 +84,6 @@ sub-put-noted-2 c =
     let the-named = c .before .before .before .before .before .before .named in
     turned-room (args .out .now) (args .pen .at) (pre .0 .within) _ _ (the-put-noted .ensures .0) (the-named .given .0 .0) (the-named .given .1) (args .pen .start) _ (c .before .before .before .exchange .ensures)
 
--- src/closing.rt:96:47
 part-put-noted-start-2 : tie.Need-part-put-noted-start-2
 part-put-noted-start-2 c =
     let args = c .before .before .before .before .before .before .before .before .before .before .before .before .before .before .before .before .args in
@@ -110,27 +92,21 @@ part-put-noted-start-2 c =
     let the-named = c .before .before .before .before .before .before .named in
     turned-room (args .out .now) (args .pen .at) (pre .0 .within) _ _ (the-put-noted .ensures .0) (the-named .given .0 .0) (the-named .given .1) (args .pen .start) _ (c .before .before .before .exchange .ensures)
 
--- src/closing.rt:96:47
 part-put-noted-end-2 : tie.Need-part-put-noted-end-2
 part-put-noted-end-2 c = search needs
 
--- src/closing.rt:96:9
 put-noted-requires-2 : tie.Need-put-noted-requires-2
 put-noted-requires-2 c κs = search needs
 
--- src/closing.rt:97:22
 enum-known-walled : tie.Need-enum-known-walled
 enum-known-walled c = search needs
 
--- src/closing.rt:98:9
 enum-told-2 : tie.Need-enum-told-2
 enum-told-2 c = search needs
 
--- src/closing.rt:98:9
 same-length-2 : tie.Need-same-length-2
 same-length-2 c = search needs
 
--- src/closing.rt:98:9
 returns-2 : tie.Need-returns-2
 returns-2 c =
     let args = c .before .before .before .before .before .before .before .before .before .before .before .before .before .before .before .before .before .before .before .before .before .before .args in
@@ -141,15 +117,12 @@ returns-2 c =
     let the-put-noted2 = c .before .before .before .before .put-noted2 in
     (last-full (args .out .now) (args .pen .at) (pre .0 .within) _ _ (the-put-noted .ensures .0) (the-named .given .0 .0) (the-named .given .1) (args .pen .start) _ (the-exchange .ensures) _ _ (the-put-noted2 .ensures .0), λ k a b x y. let l = lays (args .out .now) (args .pen .at) (pre .0 .within) _ _ (rowBytes k (ruleAt symbolTable 0) a) (the-put-noted .ensures .1 k (ruleAt symbolTable 0) a name-row x) (the-named .given .0 .0) (the-named .given .1) in inserted (rowBytes k (ruleAt symbolTable 0) a) (the-named .given .0 .0) (args .pen .at) (args .out .now) _ l (args .pen .start) (pre .0 .begun) _ (the-exchange .ensures) ((rowBytes k (ruleAt symbolTable 3) b) ++ shutBytes) _ _ _ (shut-none (rowBytes k (ruleAt symbolTable 3) b) (args .pen .at + the-named .given .0 .0) _ _ _ (last-none (args .out .now) (args .pen .at) (pre .0 .within) _ _ (the-put-noted .ensures .0) (the-named .given .0 .0) (the-named .given .1) (args .pen .start) _ (the-exchange .ensures) _ _ (rowBytes k (ruleAt symbolTable 3) b) (the-put-noted2 .ensures .1 k (ruleAt symbolTable 3) b wall-row y) (c .enum-told2 .given .1))))
 
--- src/closing.rt:100:24
 add-at-block : tie.Need-add-at-block
 add-at-block c = record { fits = omega (arith, last-room (c .before .before .before .before .before .before .before .before .before .before .before .before .before .before .before .before .before .before .before .before .before .before .before .args .out .now) (c .before .before .before .before .before .before .before .before .before .before .before .before .before .before .before .before .before .before .before .before .before .before .before .args .pen .at) (c .before .before .before .before .before .before .before .before .before .before .before .before .before .before .before .before .before .before .before .before .before .before .before .pre .0 .within) _ _ (c .before .before .before .before .before .before .before .before .before .before .before .before .before .before .before .before .before .put-noted .ensures .0) (c .before .before .before .before .before .before .before .before .before .before .before .before .before .named .given .0 .0) (c .before .before .before .before .before .before .before .before .before .before .before .before .before .named .given .1) (c .before .before .before .before .before .before .before .before .before .before .before .before .before .before .before .before .before .before .before .before .before .before .before .args .pen .start) _ (c .before .before .before .before .before .before .before .before .before .before .exchange .ensures) _ _ (c .before .before .before .before .before .put-noted2 .ensures .0) (c .before .walled .given .0 .0) (c .before .walled .given .1)) }
 
--- src/closing.rt:100:10
 at-block-requires : tie.Need-at-block-requires
 at-block-requires c κs = omega (arith, last-room (c .before .before .before .before .before .before .before .before .before .before .before .before .before .before .before .before .before .before .before .before .before .before .before .args .out .now) (c .before .before .before .before .before .before .before .before .before .before .before .before .before .before .before .before .before .before .before .before .before .before .before .args .pen .at) (c .before .before .before .before .before .before .before .before .before .before .before .before .before .before .before .before .before .before .before .before .before .before .before .pre .0 .within) _ _ (c .before .before .before .before .before .before .before .before .before .before .before .before .before .before .before .before .before .put-noted .ensures .0) (c .before .before .before .before .before .before .before .before .before .before .before .before .before .named .given .0 .0) (c .before .before .before .before .before .before .before .before .before .before .before .before .before .named .given .1) (c .before .before .before .before .before .before .before .before .before .before .before .before .before .before .before .before .before .before .before .before .before .before .before .args .pen .start) _ (c .before .before .before .before .before .before .before .before .before .before .exchange .ensures) _ _ (c .before .before .before .before .before .put-noted2 .ensures .0) (c .before .walled .given .0 .0) (c .before .walled .given .1))
 
--- src/closing.rt:100:5
 shut-requires : tie.Need-shut-requires
 shut-requires c κs =
     let args = c .before .before .before .before .before .before .before .before .before .before .before .before .before .before .before .before .before .before .before .before .before .before .before .before .before .args in
@@ -161,11 +134,9 @@ shut-requires c κs =
     let the-walled = c .before .before .before .walled in
     safe-there (args .pen) _ (the-named .given .0 .0 + the-walled .given .0 .0) 5 (c .before .at-block .ensures) _ (pre .0 .begun) (omega (arith, last-room (args .out .now) (args .pen .at) (pre .0 .within) _ _ (the-put-noted .ensures .0) (the-named .given .0 .0) (the-named .given .1) (args .pen .start) _ (the-exchange .ensures) _ _ (the-put-noted2 .ensures .0) (the-walled .given .0 .0) (the-walled .given .1), last-same (args .out .now) (args .pen .at) (pre .0 .within) _ _ (the-put-noted .ensures .0) (the-named .given .0 .0) (the-named .given .1) (args .pen .start) _ (the-exchange .ensures) _ _ (the-put-noted2 .ensures .0)))
 
--- src/closing.rt:84:1
 same-length-3 : tie.Need-same-length-3
 same-length-3 c = search needs
 
--- src/closing.rt:84:1
 returns-3 : tie.Need-returns-3
 returns-3 c =
     let args = c .before .before .before .before .before .before .before .before .before .before .before .before .before .before .before .before .before .before .before .before .before .before .before .before .before .before .before .before .args in

@@ -4,15 +4,12 @@ use Rattle.pens.proofs.closing.in_part.Tie as tie
 use Rattle.pens.proofs.closing.in_part.Reads as reads
 use Rattle.pens.proofs.closing.in_part.Lts as lts
 
--- src/closing.rt:155:9
 returns : tie.Need-returns
 returns c = rw (c .if1 .taken)
 
--- src/closing.rt:158:9
 returns-2 : tie.Need-returns-2
 returns-2 c = rw (ne-eqb _ _ (c .before .before .if1 .left), c .if2 .taken)
 
--- src/closing.rt:151:1
 returns-3 : tie.Need-returns-3
 returns-3 c = rw (ne-eqb _ _ (c .before .before .before .if1 .left), ne-eqb _ _ (c .before .if2 .left))
 

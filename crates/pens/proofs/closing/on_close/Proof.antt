@@ -15,43 +15,33 @@ use Rattle.pens.proofs.closing.part_closed.Reads as part-closed-reads
 use Rattle.pens.proofs.closing.shut.Reads as shut-reads
 use Rattle.pens.proofs.closing.text_table.Reads as text-table-reads
 
--- src/closing.rt:177:8
 in-part-requires : tie.Need-in-part-requires
 in-part-requires c κs = search needs
 
--- src/closing.rt:178:26
 part-closed-requires : tie.Need-part-closed-requires
 part-closed-requires c κs = sym (c .before .in-part .ensures) ∙ c .if1 .taken
 
--- src/closing.rt:178:9
 returns : tie.Need-returns
 returns c = (part-kept _ _ _ (c .before .before .before .before .before .before .pre .0) (c .part-closed .ensures), done-part _ _ (c .before .before .before .before .before .before .args .pen) _ _ _ (sym (c .before .before .in-part .ensures) ∙ c .before .if1 .taken) (c .part-closed .ensures))
 
--- src/closing.rt:181:27
 text-table-requires : tie.Need-text-table-requires
 text-table-requires c κs = search needs
 
--- src/closing.rt:181:9
 close-rows-requires : tie.Need-close-rows-requires
 close-rows-requires c κs = (c .before .before .before .before .before .before .before .before .before .pre .0, text-base _ (c .before .before .before .before .before .before .before .before .before .args .pen .layered) (c .before .text-table .ensures))
 
--- src/closing.rt:181:9
 same-length : tie.Need-same-length
 same-length c = search needs
 
--- src/closing.rt:181:9
 returns-2 : tie.Need-returns-2
 returns-2 c = (c .before .before .close-rows .ensures .0, done-text _ _ _ _ _ _ _ _ (c .before .before .before .before .text-table .ensures) (c .before .before .before .before .before .if2 .taken) (c .before .before .close-rows .ensures .1))
 
--- src/closing.rt:184:9
 close-rows-requires-2 : tie.Need-close-rows-requires-2
 close-rows-requires-2 c κs = search needs
 
--- src/closing.rt:184:9
 same-length-2 : tie.Need-same-length-2
 same-length-2 c = search needs
 
--- src/closing.rt:184:9
 returns-3 : tie.Need-returns-3
 returns-3 c =
     let the-in-part = c .before .before .before .before .before .before .before .before .before .in-part in
@@ -59,22 +49,18 @@ returns-3 c =
     let the-close-rows2 = c .before .before .close-rows2 in
     (the-close-rows2 .ensures .0, done-placed _ _ _ _ _ _ _ (c .before .before .before .before .if3 .taken) (sym (the-in-part .ensures) ∙ the-if1 .left) (the-close-rows2 .ensures .1))
 
--- src/closing.rt:187:27
 file-table-requires : tie.Need-file-table-requires
 file-table-requires c κs = search needs
 
--- src/closing.rt:187:9
 close-rows-requires-3 : tie.Need-close-rows-requires-3
 close-rows-requires-3 c κs =
     let args = c .before .before .before .before .before .before .before .before .before .before .before .before .before .args in
     let pre = c .before .before .before .before .before .before .before .before .before .before .before .before .before .pre in
     (pre .0, file-base _ (args .first) (c .before .file-table .ensures))
 
--- src/closing.rt:187:9
 same-length-3 : tie.Need-same-length-3
 same-length-3 c = search needs
 
--- src/closing.rt:187:9
 returns-4 : tie.Need-returns-4
 returns-4 c =
     let the-in-part = c .before .before .before .before .before .before .before .before .before .before .before .before .in-part in
@@ -82,43 +68,33 @@ returns-4 c =
     let the-close-rows3 = c .before .before .close-rows3 in
     (the-close-rows3 .ensures .0, done-file _ _ _ _ _ _ _ _ (c .before .before .before .before .file-table .ensures) (c .before .before .before .before .before .if4 .taken) (sym (the-in-part .ensures) ∙ the-if1 .left) (the-close-rows3 .ensures .1))
 
--- src/closing.rt:190:9
 close-drawing-requires : tie.Need-close-drawing-requires
 close-drawing-requires c κs = search needs
 
--- src/closing.rt:190:9
 same-length-4 : tie.Need-same-length-4
 same-length-4 c = search needs
 
--- src/closing.rt:190:9
 returns-5 : tie.Need-returns-5
 returns-5 c = (c .before .before .close-drawing .ensures .0, done-drawing _ _ _ _ _ _ _ (c .before .before .before .before .if5 .taken) (c .before .before .close-drawing .ensures .1))
 
--- src/closing.rt:193:9
 close-symbol-requires : tie.Need-close-symbol-requires
 close-symbol-requires c κs = search needs
 
--- src/closing.rt:193:9
 same-length-5 : tie.Need-same-length-5
 same-length-5 c = search needs
 
--- src/closing.rt:193:9
 returns-6 : tie.Need-returns-6
 returns-6 c = (c .before .before .close-symbol .ensures .0, done-symbol _ _ _ _ _ _ _ (c .before .before .before .before .if6 .taken) (c .before .before .close-symbol .ensures .1))
 
--- src/closing.rt:195:15
 around-block-requires : tie.Need-around-block-requires
 around-block-requires c κs = search needs
 
--- src/closing.rt:195:5
 shut-requires : tie.Need-shut-requires
 shut-requires c κs = search needs
 
--- src/closing.rt:173:1
 same-length-6 : tie.Need-same-length-6
 same-length-6 c = search needs
 
--- src/closing.rt:173:1
 returns-7 : tie.Need-returns-7
 returns-7 c =
     let the-if2 = c .before .before .before .before .before .before .before .before .before .before .before .before .before .if2 in

@@ -9,23 +9,18 @@ use Rattle.pens.proofs.closing.part_closed.Lts as lts
 use Rattle.pens.proofs.closing.around.Reads as around-reads
 use Rattle.pens.proofs.places.at_block.Reads as at-block-reads
 
--- src/closing.rt:168:39
 around-requires : tie.Need-around-requires
 around-requires c κs = part-open (c .before .before .args .pen) (c .before .before .pre)
 
--- src/closing.rt:168:9
 at-block-requires : tie.Need-at-block-requires
 at-block-requires c κs = search needs
 
--- src/closing.rt:168:9
 returns : tie.Need-returns
 returns c = c .at-block .ensures ∙ rw (c .before .around .ensures, c .before .before .if1 .taken)
 
--- src/closing.rt:170:5
 at-block-requires-2 : tie.Need-at-block-requires-2
 at-block-requires-2 c κs = search needs
 
--- src/closing.rt:163:1
 returns-2 : tie.Need-returns-2
 returns-2 c = c .at-block2 .ensures ∙ sym (rw (ne-eqb _ _ (c .before .if1 .left)))
 

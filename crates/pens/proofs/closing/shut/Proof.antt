@@ -11,46 +11,36 @@ use Rattle.pens.proofs.closing.shut.Lts as lts
 use Rattle.pens.proofs.places.at_block.Reads as at-block-reads
 use Rattle.pens.proofs.put.put_plain.Reads as put-plain-reads
 
--- src/closing.rt:37:21
 slice-aggregate-put-plain : tie.Need-slice-aggregate-put-plain
 slice-aggregate-put-plain c = search needs
 
--- src/closing.rt:37:27
 sub-put-plain : tie.Need-sub-put-plain
 sub-put-plain c = search needs
 
--- src/closing.rt:37:27
 part-put-plain-start : tie.Need-part-put-plain-start
 part-put-plain-start c = search needs
 
--- src/closing.rt:37:27
 part-put-plain-end : tie.Need-part-put-plain-end
 part-put-plain-end c = search needs
 
--- src/closing.rt:37:11
 put-plain-requires : tie.Need-put-plain-requires
 put-plain-requires c κs = search needs
 
--- src/closing.rt:38:22
 enum-known-n : tie.Need-enum-known-n
 enum-known-n c = search needs
 
--- src/closing.rt:38:38
 at-block-requires : tie.Need-at-block-requires
 at-block-requires c κs =
     let args = c .before .before .before .before .before .before .before .before .before .args in
     let pre = c .before .before .before .before .before .before .before .before .before .pre in
     omega (arith, room-left (args .out .now) (args .pen .at) (pre .within) _ _ (c .before .before .before .before .before .put-plain .ensures .0) (c .before .n .given .0 .0) (c .before .n .given .1))
 
--- src/closing.rt:39:24
 enum-told : tie.Need-enum-told
 enum-told c = search needs
 
--- src/closing.rt:32:1
 same-length : tie.Need-same-length
 same-length c = search needs
 
--- src/closing.rt:32:1
 returns : tie.Need-returns
 returns c =
     let args = c .before .before .before .before .before .before .before .before .before .before .args in
@@ -59,11 +49,9 @@ returns c =
     let the-n = c .before .before .n in
     (kept-go (args .out .now) (args .pen .at) (pre .within) _ _ (the-put-plain .ensures .0) (the-n .given .0 .0) (moved (args .pen) (the-n .given .0 .0) (args .block) 0) _ (the-n .given .1) (c .at-block .ensures) (omega (arith, pre .begun)) refl, drawn-go _ _ _ _ _ (lays (args .out .now) (args .pen .at) (pre .within) _ _ _ (the-put-plain .ensures .1) (the-n .given .0 .0) (the-n .given .1)) (λ (m : ℕ). moved (args .pen) (m) (args .block) 0) _ (c .at-block .ensures))
 
--- src/closing.rt:32:1
 same-length-2 : tie.Need-same-length-2
 same-length-2 c = search needs
 
--- src/closing.rt:32:1
 returns-2 : tie.Need-returns-2
 returns-2 c =
     let args = c .before .before .before .before .before .before .before .before .args in

@@ -5,19 +5,15 @@ use Rattle.pens.proofs.keys.figure_block.Tie as tie
 use Rattle.pens.proofs.keys.figure_block.Reads as reads
 use Rattle.pens.proofs.keys.figure_block.Lts as lts
 
--- src/keys.rt:270:9
 returns : tie.Need-returns
 returns c = line-block (c .before .before .args .row) (c .if1 .taken)
 
--- src/keys.rt:273:9
 returns-2 : tie.Need-returns-2
 returns-2 c = rw (c .before .before .if1 .left, c .if2 .taken)
 
--- src/keys.rt:276:9
 returns-3 : tie.Need-returns-3
 returns-3 c = rw (c .before .before .before .before .if1 .left, c .if3 .taken)
 
--- src/keys.rt:266:1
 returns-4 : tie.Need-returns-4
 returns-4 c = rw (c .before .before .before .before .if1 .left, ne-eqb _ _ (c .before .before .if2 .left), ne-eqb _ _ (c .if3 .left))
 

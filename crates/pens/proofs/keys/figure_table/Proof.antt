@@ -7,19 +7,15 @@ use Rattle.pens.proofs.keys.figure_table.Reads as reads
 use Rattle.pens.proofs.keys.figure_table.Lts as lts
 use Rattle.pens.proofs.keys.is_brace.Reads as is-brace-reads
 
--- src/keys.rt:59:9
 returns : tie.Need-returns
 returns c = rw (not-true (c .before .args .layered) (c .if1 .taken))
 
--- src/keys.rt:61:8
 is-brace-requires : tie.Need-is-brace-requires
 is-brace-requires c κs = search needs
 
--- src/keys.rt:62:9
 returns-2 : tie.Need-returns-2
 returns-2 c = rw (not-false (c .before .before .before .args .layered) (c .before .before .if1 .left), sym (c .before .is-brace .ensures) ∙ c .if2 .taken)
 
--- src/keys.rt:55:1
 returns-3 : tie.Need-returns-3
 returns-3 c = rw (not-false (c .before .before .before .args .layered) (c .before .before .if1 .left), sym (c .before .is-brace .ensures) ∙ c .if2 .left)
 

@@ -4,27 +4,21 @@ use Rattle.pens.proofs.keys.file_table.Tie as tie
 use Rattle.pens.proofs.keys.file_table.Reads as reads
 use Rattle.pens.proofs.keys.file_table.Lts as lts
 
--- src/keys.rt:71:9
 returns : tie.Need-returns
 returns c = rw (not-true (c .before .args .first) (c .if1 .taken))
 
--- src/keys.rt:74:9
 returns-2 : tie.Need-returns-2
 returns-2 c = rw (not-false (c .before .before .args .first) (c .before .if1 .left), c .if2 .taken)
 
--- src/keys.rt:77:9
 returns-3 : tie.Need-returns-3
 returns-3 c = rw (not-false (c .before .before .before .args .first) (c .before .before .if1 .left), c .if3 .taken)
 
--- src/keys.rt:80:9
 returns-4 : tie.Need-returns-4
 returns-4 c = rw (not-false (c .before .before .before .before .args .first) (c .before .before .before .if1 .left), c .if4 .taken)
 
--- src/keys.rt:83:9
 returns-5 : tie.Need-returns-5
 returns-5 c = rw (not-false (c .before .before .before .before .before .args .first) (c .before .before .before .before .if1 .left), c .if5 .taken)
 
--- src/keys.rt:67:1
 returns-6 : tie.Need-returns-6
 returns-6 c = rw (not-false (c .before .before .before .before .before .args .first) (c .before .before .before .before .if1 .left), ne-eqb _ _ (c .before .before .before .if2 .left), ne-eqb _ _ (c .before .before .if3 .left), ne-eqb _ _ (c .before .if4 .left), ne-eqb _ _ (c .if5 .left))
 

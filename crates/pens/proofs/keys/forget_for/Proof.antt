@@ -7,35 +7,27 @@ use Rattle.pens.proofs.keys.forget_for.Reads as reads
 use Rattle.pens.proofs.keys.forget_for.Lts as lts
 use Rattle.pens.proofs.places.forget.Reads as forget-reads
 
--- src/keys.rt:287:9
 forget-requires : tie.Need-forget-requires
 forget-requires c κs = search needs
 
--- src/keys.rt:288:9
 same-length : tie.Need-same-length
 same-length c = search needs
 
--- src/keys.rt:288:9
 returns : tie.Need-returns
 returns c = rw (c .before .before .before .before .if1 .taken) (c .before .before .forget .ensures)
 
--- src/keys.rt:291:9
 returns-2 : tie.Need-returns-2
 returns-2 c = sym (rw (ne-eqb _ _ (c .if2 .taken), ne-eqb _ _ (c .before .if1 .left)))
 
--- src/keys.rt:293:5
 slice-write-notes : tie.Need-slice-write-notes
 slice-write-notes c = search needs
 
--- src/keys.rt:294:5
 slice-write-notes-2 : tie.Need-slice-write-notes-2
 slice-write-notes-2 c = search needs
 
--- src/keys.rt:282:1
 same-length-2 : tie.Need-same-length-2
 same-length-2 c = search needs
 
--- src/keys.rt:282:1
 returns-3 : tie.Need-returns-3
 returns-3 c = sym (rw (c .if2 .left))
 

@@ -14,15 +14,12 @@ use Rattle.pens.proofs.keys.put_at_once.Reads as put-at-once-reads
 use Rattle.pens.proofs.keys.put_begun.Reads as put-begun-reads
 use Rattle.pens.proofs.places.forget.Reads as forget-reads
 
--- src/keys.rt:245:9
 put-at-once-requires : tie.Need-put-at-once-requires
 put-at-once-requires c κs = search needs
 
--- src/keys.rt:245:9
 same-length : tie.Need-same-length
 same-length c = search needs
 
--- src/keys.rt:245:9
 returns : tie.Need-returns
 returns c =
     let args = c .before .before .before .before .before .before .before .before .before .args in
@@ -31,23 +28,18 @@ returns c =
     let the-put-at-once = c .before .before .put-at-once in
     (the-put-at-once .ensures .0, refl, λ k q v i g. written _ (args .pen) (args .rest) k (args .row .number) q v _ _ (λ (n : ℕ). moved (args .pen) n 4 0) _ _ _ (rw (pre .1)) (rw (pre .1, the-if1 .taken)) (sym (rw (pre .1, the-if1 .taken))) (the-put-at-once .ensures .1 k q v i g))
 
--- src/keys.rt:247:5
 forget-requires : tie.Need-forget-requires
 forget-requires c κs = search needs
 
--- src/keys.rt:248:5
 put-begun-requires : tie.Need-put-begun-requires
 put-begun-requires c κs = search needs
 
--- src/keys.rt:240:1
 same-length-2 : tie.Need-same-length-2
 same-length-2 c = search needs
 
--- src/keys.rt:240:1
 same-length-3 : tie.Need-same-length-3
 same-length-3 c = search needs
 
--- src/keys.rt:240:1
 returns-2 : tie.Need-returns-2
 returns-2 c =
     let args = c .before .before .before .before .before .before .before .before .before .before .before .before .before .args in

@@ -13,15 +13,12 @@ use Rattle.pens.proofs.keys.key_drawing.Lts as lts
 use Rattle.pens.proofs.keys.note.Reads as note-reads
 use Rattle.pens.proofs.keys.put_at_once.Reads as put-at-once-reads
 
--- src/keys.rt:223:9
 put-at-once-requires : tie.Need-put-at-once-requires
 put-at-once-requires c κs = search needs
 
--- src/keys.rt:223:9
 same-length : tie.Need-same-length
 same-length c = search needs
 
--- src/keys.rt:223:9
 returns : tie.Need-returns
 returns c =
     let args = c .before .before .before .before .before .before .before .before .before .args in
@@ -30,15 +27,12 @@ returns c =
     let the-put-at-once = c .before .before .put-at-once in
     (the-put-at-once .ensures .0, refl, λ k q v i g. written _ (args .pen) (args .rest) k (args .row .number) q v _ _ (λ (n : ℕ). moved (args .pen) n 3 0) _ _ _ (rw (pre .1, the-if1 .taken)) (rw (pre .1, the-if1 .taken)) (sym (rw (pre .1, the-if1 .taken))) (the-put-at-once .ensures .1 k q v i g))
 
--- src/keys.rt:225:5
 note-requires : tie.Need-note-requires
 note-requires c κs = search needs
 
--- src/keys.rt:218:1
 same-length-2 : tie.Need-same-length-2
 same-length-2 c = search needs
 
--- src/keys.rt:218:1
 returns-2 : tie.Need-returns-2
 returns-2 c =
     let args = c .before .before .before .before .before .before .before .before .before .args in

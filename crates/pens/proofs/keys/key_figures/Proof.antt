@@ -17,27 +17,21 @@ use Rattle.pens.proofs.keys.figure_block.Reads as figure-block-reads
 use Rattle.pens.proofs.keys.forget_for.Reads as forget-for-reads
 use Rattle.pens.proofs.keys.put_at_once.Reads as put-at-once-reads
 
--- src/keys.rt:303:9
 figure-block-requires : tie.Need-figure-block-requires
 figure-block-requires c κs = search needs
 
--- src/keys.rt:304:5
 forget-for-requires : tie.Need-forget-for-requires
 forget-for-requires c κs = search needs
 
--- src/keys.rt:305:5
 put-at-once-requires : tie.Need-put-at-once-requires
 put-at-once-requires c κs = search needs
 
--- src/keys.rt:299:1
 same-length : tie.Need-same-length
 same-length c = search needs
 
--- src/keys.rt:299:1
 same-length-2 : tie.Need-same-length-2
 same-length-2 c = search needs
 
--- src/keys.rt:299:1
 returns : tie.Need-returns
 returns c =
     let args = c .before .before .before .before .before .before .before .before .before .before .before .before .args in

@@ -16,23 +16,18 @@ use Rattle.pens.proofs.keys.note.Reads as note-reads
 use Rattle.pens.proofs.noted.opens.Reads as opens-reads
 use Rattle.pens.proofs.places.at_block.Reads as at-block-reads
 
--- src/keys.rt:211:5
 note-requires : tie.Need-note-requires
 note-requires c κs = search needs
 
--- src/keys.rt:212:8
 opens-requires : tie.Need-opens-requires
 opens-requires c κs = search needs
 
--- src/keys.rt:213:26
 at-block-requires : tie.Need-at-block-requires
 at-block-requires c κs = search needs
 
--- src/keys.rt:213:9
 same-length : tie.Need-same-length
 same-length c = search needs
 
--- src/keys.rt:213:9
 returns : tie.Need-returns
 returns c =
     let args = c .before .before .before .before .before .before .before .before .before .before .args in
@@ -40,11 +35,9 @@ returns c =
     let the-note = c .before .before .before .before .before .note in
     (kept-moved _ (args .pen) _ _ _ (pre .0) (c .at-block .ensures), noted-long (args .notes .now) _ (notesFrom (args .table) + args .row .number) (noteOf (args .rest)) (the-note .ensures), λ k q v i g. held-back _ (args .pen) (args .rest) k (args .row .number) q v _ _ (c .at-block .result) _ (pre .0 .within) (rw (pre .1)) (file-pen (args .pen) (args .row .number) (q .holds) (opensBlock (q .holds) v) (innerOf (q .holds)) 0 (pre .1) ∙ ap (λ (b : Bool). filePen (args .pen) b (innerOf (q .holds))) (sym (c .before .before .opens .ensures k q v (i .rule) g) ∙ c .before .if1 .taken) ∙ ap (moved (args .pen) 0 1) (opened-inner (args .row) q v (i .rule) (sym (c .before .before .opens .ensures k q v (i .rule) g) ∙ c .before .if1 .taken)) ∙ sym (c .at-block .ensures)) (the-note .ensures ∙ sym (rw (pre .1))))
 
--- src/keys.rt:207:1
 same-length-2 : tie.Need-same-length-2
 same-length-2 c = search needs
 
--- src/keys.rt:207:1
 returns-2 : tie.Need-returns-2
 returns-2 c =
     let args = c .before .before .before .before .before .before .before .before .before .args in

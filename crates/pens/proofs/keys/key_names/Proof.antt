@@ -11,42 +11,33 @@ use Rattle.pens.proofs.keys.key_names.Lts as lts
 use Rattle.pens.proofs.places.at_block.Reads as at-block-reads
 use Rattle.pens.proofs.put.put_named.Reads as put-named-reads
 
--- src/keys.rt:234:35
 sub-put-named : tie.Need-sub-put-named
 sub-put-named c = search needs
 
--- src/keys.rt:234:35
 part-put-named-start : tie.Need-part-put-named-start
 part-put-named-start c = search needs
 
--- src/keys.rt:234:35
 part-put-named-end : tie.Need-part-put-named-end
 part-put-named-end c = search needs
 
--- src/keys.rt:234:11
 put-named-requires : tie.Need-put-named-requires
 put-named-requires c κs = search needs
 
--- src/keys.rt:235:22
 enum-known-n : tie.Need-enum-known-n
 enum-known-n c = search needs
 
--- src/keys.rt:235:38
 at-block-requires : tie.Need-at-block-requires
 at-block-requires c κs =
     let args = c .before .before .before .before .before .before .before .before .before .args in
     let pre = c .before .before .before .before .before .before .before .before .before .pre in
     omega (arith, room-left (args .out .now) (args .pen .at) (pre .within) _ _ (c .before .before .before .before .before .put-named .ensures .0) (c .before .n .given .0 .0) (c .before .n .given .1))
 
--- src/keys.rt:236:24
 enum-told : tie.Need-enum-told
 enum-told c = search needs
 
--- src/keys.rt:229:1
 same-length : tie.Need-same-length
 same-length c = search needs
 
--- src/keys.rt:229:1
 returns : tie.Need-returns
 returns c =
     let args = c .before .before .before .before .before .before .before .before .before .before .args in
@@ -55,11 +46,9 @@ returns c =
     let the-n = c .before .before .n in
     (kept-go (args .out .now) (args .pen .at) (pre .within) _ _ (the-put-named .ensures .0) (the-n .given .0 .0) (moved (args .pen) (the-n .given .0 .0) 3 0) _ (the-n .given .1) (c .at-block .ensures) (omega (arith, pre .begun)) refl, λ v g. drawn-go _ _ _ _ _ (lays (args .out .now) (args .pen .at) (pre .within) _ _ _ (the-put-named .ensures .1 v g) (the-n .given .0 .0) (the-n .given .1)) (λ (m : ℕ). moved (args .pen) (m) 3 0) _ (c .at-block .ensures))
 
--- src/keys.rt:229:1
 same-length-2 : tie.Need-same-length-2
 same-length-2 c = search needs
 
--- src/keys.rt:229:1
 returns-2 : tie.Need-returns-2
 returns-2 c =
     let args = c .before .before .before .before .before .before .before .before .args in

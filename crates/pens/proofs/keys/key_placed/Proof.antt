@@ -16,19 +16,15 @@ use Rattle.pens.proofs.keys.key_placed.Lts as lts
 use Rattle.pens.proofs.keys.note.Reads as note-reads
 use Rattle.pens.proofs.places.at_block.Reads as at-block-reads
 
--- src/keys.rt:312:5
 note-requires : tie.Need-note-requires
 note-requires c κs = search needs
 
--- src/keys.rt:314:26
 at-block-requires : tie.Need-at-block-requires
 at-block-requires c κs = search needs
 
--- src/keys.rt:314:9
 same-length : tie.Need-same-length
 same-length c = search needs
 
--- src/keys.rt:314:9
 returns : tie.Need-returns
 returns c =
     let args = c .before .before .before .before .before .before .before .before .before .before .args in
@@ -36,11 +32,9 @@ returns c =
     let the-note = c .before .before .before .before .before .note in
     (kept-moved _ (args .pen) _ _ _ (pre .0) (c .at-block .ensures), noted-long (args .notes .now) _ (notesFrom (args .table) + args .row .number) (noteOf (args .rest)) (the-note .ensures), λ k q v i g. held-back _ (args .pen) (args .rest) k (args .row .number) q v _ _ (c .at-block .result) _ (pre .0 .within) (rw (pre .1)) (placed-pen (args .pen) (args .row .number) (q .holds) (opensBlock (q .holds) v) (innerOf (q .holds)) 0 (pre .1) ∙ ap (λ (d : Kind). placedPen (args .pen) d) (sym (holds-is _ _ q _ i)) ∙ rw (c .before .if1 .taken) (sym (c .at-block .ensures))) (the-note .ensures ∙ sym (rw (pre .1))))
 
--- src/keys.rt:308:1
 same-length-2 : tie.Need-same-length-2
 same-length-2 c = search needs
 
--- src/keys.rt:308:1
 returns-2 : tie.Need-returns-2
 returns-2 c =
     let args = c .before .before .before .before .before .before .before .before .before .args in

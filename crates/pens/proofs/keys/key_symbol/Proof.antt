@@ -15,15 +15,12 @@ use Rattle.pens.proofs.keys.note.Reads as note-reads
 use Rattle.pens.proofs.keys.put_at_once.Reads as put-at-once-reads
 use Rattle.pens.proofs.keys.put_figures.Reads as put-figures-reads
 
--- src/keys.rt:256:9
 put-figures-requires : tie.Need-put-figures-requires
 put-figures-requires c κs = search needs
 
--- src/keys.rt:256:9
 same-length : tie.Need-same-length
 same-length c = search needs
 
--- src/keys.rt:256:9
 returns : tie.Need-returns
 returns c =
     let args = c .before .before .before .before .before .before .before .before .before .args in
@@ -32,15 +29,12 @@ returns c =
     let the-put-figures = c .before .before .put-figures in
     (the-put-figures .ensures .0, refl, λ k q v i g. written _ (args .pen) (args .rest) k (args .row .number) q v _ _ (λ (n : ℕ). amongFigures (args .pen) n false) _ _ _ (rw (pre .1, the-if1 .taken)) (rw (pre .1, the-if1 .taken)) (sym (rw (pre .1, the-if1 .taken))) (the-put-figures .ensures .1 k q v i g))
 
--- src/keys.rt:259:9
 put-at-once-requires : tie.Need-put-at-once-requires
 put-at-once-requires c κs = search needs
 
--- src/keys.rt:259:9
 same-length-2 : tie.Need-same-length-2
 same-length-2 c = search needs
 
--- src/keys.rt:259:9
 returns-2 : tie.Need-returns-2
 returns-2 c =
     let args = c .before .before .before .before .before .before .before .before .before .before .before .args in
@@ -49,15 +43,12 @@ returns-2 c =
     let the-put-at-once = c .before .before .put-at-once in
     (the-put-at-once .ensures .0, refl, λ k q v i g. written _ (args .pen) (args .rest) k (args .row .number) q v _ _ (λ (n : ℕ). moved (args .pen) n 6 0) _ _ _ (rw (pre .1, the-if2 .taken)) (rw (pre .1, the-if2 .taken)) (sym (rw (pre .1, the-if2 .taken))) (the-put-at-once .ensures .1 k q v i g))
 
--- src/keys.rt:261:5
 note-requires : tie.Need-note-requires
 note-requires c κs = search needs
 
--- src/keys.rt:251:1
 same-length-3 : tie.Need-same-length-3
 same-length-3 c = search needs
 
--- src/keys.rt:251:1
 returns-3 : tie.Need-returns-3
 returns-3 c =
     let args = c .before .before .before .before .before .before .before .before .before .before .before .args in

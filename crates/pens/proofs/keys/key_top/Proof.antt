@@ -14,23 +14,18 @@ use Rattle.pens.proofs.keys.put_at_once.Reads as put-at-once-reads
 use Rattle.pens.proofs.keys.put_begun.Reads as put-begun-reads
 use Rattle.pens.proofs.places.forget.Reads as forget-reads
 
--- src/keys.rt:194:5
 forget-requires : tie.Need-forget-requires
 forget-requires c κs = search needs
 
--- src/keys.rt:196:9
 put-at-once-requires : tie.Need-put-at-once-requires
 put-at-once-requires c κs = search needs
 
--- src/keys.rt:196:9
 same-length : tie.Need-same-length
 same-length c = search needs
 
--- src/keys.rt:196:9
 same-length-2 : tie.Need-same-length-2
 same-length-2 c = search needs
 
--- src/keys.rt:196:9
 returns : tie.Need-returns
 returns c =
     let args = c .before .before .before .before .before .before .before .before .before .before .before .before .before .args in
@@ -39,19 +34,15 @@ returns c =
     let the-put-at-once = c .before .before .put-at-once in
     (the-put-at-once .ensures .0, ap (λ (l : List ℕ). length l) (the-forget .ensures) ∙ forgotten-long (args .notes .now), λ k q v i g. written _ (args .pen) (args .rest) k (args .row .number) q v _ _ (λ (n : ℕ). moved (args .pen) n 1 0) _ _ _ (rw (pre .1)) (rw (pre .1, c .before .before .before .before .if1 .taken)) (the-forget .ensures ∙ sym (rw (pre .1))) (the-put-at-once .ensures .1 k q v i g))
 
--- src/keys.rt:199:9
 put-begun-requires : tie.Need-put-begun-requires
 put-begun-requires c κs = search needs
 
--- src/keys.rt:199:9
 same-length-3 : tie.Need-same-length-3
 same-length-3 c = search needs
 
--- src/keys.rt:199:9
 same-length-4 : tie.Need-same-length-4
 same-length-4 c = search needs
 
--- src/keys.rt:199:9
 returns-2 : tie.Need-returns-2
 returns-2 c =
     let args = c .before .before .before .before .before .before .before .before .before .before .before .before .before .before .before .args in
@@ -59,19 +50,15 @@ returns-2 c =
     let the-forget = c .before .before .before .before .before .before .before .before .before .before .forget in
     (c .before .before .put-begun .ensures .0, ap (λ (l : List ℕ). length l) (the-forget .ensures) ∙ forgotten-long (args .notes .now), λ k q v i g. written _ (args .pen) (args .rest) k (args .row .number) q v _ _ (λ (n : ℕ). begun (args .pen) n 2) _ _ _ (rw (pre .1)) (rw (pre .1, c .before .before .before .before .if2 .taken)) (the-forget .ensures ∙ sym (rw (pre .1))) (c .before .before .put-begun .ensures .1 k q v i g))
 
--- src/keys.rt:202:9
 put-at-once-requires-2 : tie.Need-put-at-once-requires-2
 put-at-once-requires-2 c κs = search needs
 
--- src/keys.rt:202:9
 same-length-5 : tie.Need-same-length-5
 same-length-5 c = search needs
 
--- src/keys.rt:202:9
 same-length-6 : tie.Need-same-length-6
 same-length-6 c = search needs
 
--- src/keys.rt:202:9
 returns-3 : tie.Need-returns-3
 returns-3 c =
     let args = c .before .before .before .before .before .before .before .before .before .before .before .before .before .before .before .before .before .args in
@@ -80,19 +67,15 @@ returns-3 c =
     let the-put-at-once2 = c .before .before .put-at-once2 in
     (the-put-at-once2 .ensures .0, ap (λ (l : List ℕ). length l) (the-forget .ensures) ∙ forgotten-long (args .notes .now), λ k q v i g. written _ (args .pen) (args .rest) k (args .row .number) q v _ _ (λ (n : ℕ). moved (args .pen) n 4 0) _ _ _ (rw (pre .1)) (rw (pre .1, c .before .before .before .before .if3 .taken)) (the-forget .ensures ∙ sym (rw (pre .1))) (the-put-at-once2 .ensures .1 k q v i g))
 
--- src/keys.rt:204:5
 put-at-once-requires-3 : tie.Need-put-at-once-requires-3
 put-at-once-requires-3 c κs = search needs
 
--- src/keys.rt:190:1
 same-length-7 : tie.Need-same-length-7
 same-length-7 c = search needs
 
--- src/keys.rt:190:1
 same-length-8 : tie.Need-same-length-8
 same-length-8 c = search needs
 
--- src/keys.rt:190:1
 returns-4 : tie.Need-returns-4
 returns-4 c =
     let args = c .before .before .before .before .before .before .before .before .before .before .before .before .before .before .before .before .before .args in

@@ -9,39 +9,30 @@ use Rattle.pens.proofs.keys.note.Lts as lts
 use Rattle.pens.proofs.noted.note_of.Reads as note-of-reads
 use Rattle.pens.proofs.noted.notes_from.Reads as notes-from-reads
 
--- src/keys.rt:184:13
 notes-from-requires : tie.Need-notes-from-requires
 notes-from-requires c κs = search needs
 
--- src/keys.rt:184:33
 cast-i : tie.Need-cast-i
 cast-i c = search needs
 
--- src/keys.rt:184:13
 add-i : tie.Need-add-i
 add-i c = record { fits = omega (arith, notes-few (c .before .before .before .args .table), c .before .notes-from .ensures) }
 
--- src/keys.rt:186:20
 note-of-requires : tie.Need-note-of-requires
 note-of-requires c κs = search needs
 
--- src/keys.rt:186:9
 mul-notes : tie.Need-mul-notes
 mul-notes c = search needs
 
--- src/keys.rt:186:9
 slice-write-notes : tie.Need-slice-write-notes
 slice-write-notes c = search needs
 
--- src/keys.rt:181:1
 same-length : tie.Need-same-length
 same-length c = search needs
 
--- src/keys.rt:181:1
 returns : tie.Need-returns
 returns c = rw (c .note-of .ensures, c .before .before .before .notes-from .ensures)
 
--- src/keys.rt:181:1
 returns-2 : tie.Need-returns-2
 returns-2 c = sym (set-beyond _ _ _ (rw (c .before .before .notes-from .ensures) at (c .if1 .left)))
 

@@ -13,39 +13,30 @@ use Rattle.pens.proofs.keys.row_line.Reads as row-line-reads
 use Rattle.pens.proofs.keys.table_of.Reads as table-of-reads
 use Rattle.tables.proofs.lookup.row_of.Reads as row-of-reads
 
--- src/keys.rt:371:9
 key-names-requires : tie.Need-key-names-requires
 key-names-requires c κs = search needs
 
--- src/keys.rt:371:9
 same-length : tie.Need-same-length
 same-length c = search needs
 
--- src/keys.rt:371:9
 returns : tie.Need-returns
 returns c = (c .before .before .key-names .ensures .0, c .before .before .before .before .before .before .before .before .before .pre .1, record { name = λ _. (c .before .before .key-names .ensures .1, refl); row = λ h. absurd (h (c .before .before .before .before .if1 .taken)) })
 
--- src/keys.rt:373:9
 table-of-requires : tie.Need-table-of-requires
 table-of-requires c κs = search needs
 
--- src/keys.rt:374:25
 part-requires : tie.Need-part-requires
 part-requires c κs = search needs
 
--- src/keys.rt:374:11
 row-of-requires : tie.Need-row-of-requires
 row-of-requires c κs = search needs
 
--- src/keys.rt:375:26
 enum-told : tie.Need-enum-told
 enum-told c = search needs
 
--- src/keys.rt:376:20
 enum-known-row : tie.Need-enum-known-row
 enum-known-row c = search needs
 
--- src/keys.rt:376:28
 row-line-requires : tie.Need-row-line-requires
 row-line-requires c κs =
     let args = c .before .before .before .before .before .before .before .before .before .before .before .before .before .args in
@@ -53,21 +44,17 @@ row-line-requires c κs =
     let the-table-of = c .before .before .before .before .before .before .before .table-of in
     (pre .0, pre .1, plain-table (args .first) (args .pen) (isBrace (args .rest)) _ (the-table-of .ensures))
 
--- src/keys.rt:358:1
 returns-2 : tie.Need-returns-2
 returns-2 c =
     let pre = c .before .before .before .before .before .before .before .before .before .before .pre in
     (kept-still _ _ (pre .0), pre .1, record { name = λ h. absurd (c .before .before .before .before .before .if1 .left h); row = λ _ k j q v f g. no-row _ _ _ _ j q _ (c .before .before .before .part .ensures) (c .before .before .before .before .table-of .ensures) (c .enum-told .given .1) (c .before .before .row-of .ensures) f })
 
--- src/keys.rt:358:1
 same-length-2 : tie.Need-same-length-2
 same-length-2 c = search needs
 
--- src/keys.rt:358:1
 same-length-3 : tie.Need-same-length-3
 same-length-3 c = search needs
 
--- src/keys.rt:358:1
 returns-3 : tie.Need-returns-3
 returns-3 c =
     let pre = c .before .before .before .before .before .before .before .before .before .before .before .before .before .before .before .before .before .before .pre in

@@ -4,11 +4,9 @@ use Rattle.pens.proofs.keys.placed_table.Tie as tie
 use Rattle.pens.proofs.keys.placed_table.Reads as reads
 use Rattle.pens.proofs.keys.placed_table.Lts as lts
 
--- src/keys.rt:102:9
 returns : tie.Need-returns
 returns c = rw (c .if1 .taken)
 
--- src/keys.rt:98:1
 returns-2 : tie.Need-returns-2
 returns-2 c = rw (ne-eqb _ _ (c .if1 .left))
 

@@ -11,42 +11,33 @@ use Rattle.pens.proofs.keys.put_begun.Lts as lts
 use Rattle.pens.proofs.places.begun.Reads as begun-reads
 use Rattle.pens.proofs.put.put_row.Reads as put-row-reads
 
--- src/keys.rt:162:40
 sub-put-row : tie.Need-sub-put-row
 sub-put-row c = search needs
 
--- src/keys.rt:162:40
 part-put-row-start : tie.Need-part-put-row-start
 part-put-row-start c = search needs
 
--- src/keys.rt:162:40
 part-put-row-end : tie.Need-part-put-row-end
 part-put-row-end c = search needs
 
--- src/keys.rt:162:11
 put-row-requires : tie.Need-put-row-requires
 put-row-requires c κs = search needs
 
--- src/keys.rt:163:22
 enum-known-n : tie.Need-enum-known-n
 enum-known-n c = search needs
 
--- src/keys.rt:163:38
 begun-requires : tie.Need-begun-requires
 begun-requires c κs =
     let args = c .before .before .before .before .before .before .before .before .before .args in
     let pre = c .before .before .before .before .before .before .before .before .before .pre in
     omega (arith, room-left (args .out .now) (args .pen .at) (pre .within) _ _ (c .before .before .before .before .before .put-row .ensures .0) (c .before .n .given .0 .0) (c .before .n .given .1))
 
--- src/keys.rt:164:24
 enum-told : tie.Need-enum-told
 enum-told c = search needs
 
--- src/keys.rt:157:1
 same-length : tie.Need-same-length
 same-length c = search needs
 
--- src/keys.rt:157:1
 returns : tie.Need-returns
 returns c =
     let args = c .before .before .before .before .before .before .before .before .before .before .args in
@@ -55,11 +46,9 @@ returns c =
     let the-n = c .before .before .n in
     (kept-go (args .out .now) (args .pen .at) (pre .within) _ _ (the-put-row .ensures .0) (the-n .given .0 .0) (begun (args .pen) (the-n .given .0 .0) (args .block)) _ (the-n .given .1) (c .begun .ensures) (omega (arith, pre .begun)) refl, λ k q v i g. drawn-go _ _ _ _ _ (lays (args .out .now) (args .pen .at) (pre .within) _ _ _ (the-put-row .ensures .1 k q v (i .rule) (i .key) g) (the-n .given .0 .0) (the-n .given .1)) (λ (m : ℕ). begun (args .pen) (m) (args .block)) _ (c .begun .ensures))
 
--- src/keys.rt:157:1
 same-length-2 : tie.Need-same-length-2
 same-length-2 c = search needs
 
--- src/keys.rt:157:1
 returns-2 : tie.Need-returns-2
 returns-2 c =
     let args = c .before .before .before .before .before .before .before .before .args in

@@ -22,31 +22,24 @@ use Rattle.pens.proofs.keys.note.Reads as note-reads
 use Rattle.pens.proofs.keys.put_at_once.Reads as put-at-once-reads
 use Rattle.pens.proofs.keys.put_figures.Reads as put-figures-reads
 
--- src/keys.rt:325:9
 key-figures-requires : tie.Need-key-figures-requires
 key-figures-requires c κs = search needs
 
--- src/keys.rt:325:9
 same-length : tie.Need-same-length
 same-length c = search needs
 
--- src/keys.rt:325:9
 same-length-2 : tie.Need-same-length-2
 same-length-2 c = search needs
 
--- src/keys.rt:325:9
 returns : tie.Need-returns
 returns c = search needs
 
--- src/keys.rt:328:9
 put-at-once-requires : tie.Need-put-at-once-requires
 put-at-once-requires c κs = search needs
 
--- src/keys.rt:328:9
 same-length-3 : tie.Need-same-length-3
 same-length-3 c = search needs
 
--- src/keys.rt:328:9
 returns-2 : tie.Need-returns-2
 returns-2 c =
     let args = c .before .before .before .before .before .before .before .before .before .before .before .args in
@@ -54,15 +47,12 @@ returns-2 c =
     let the-put-at-once = c .before .before .put-at-once in
     (the-put-at-once .ensures .0, refl, λ k q v i g. written _ (args .pen) (args .rest) k (args .row .number) q v _ _ (λ (n : ℕ). moved (args .pen) n 9 0) _ _ _ (rw (the-if2 .taken)) (rw (the-if2 .taken)) (sym (rw (the-if2 .taken))) (the-put-at-once .ensures .1 k q v i g))
 
--- src/keys.rt:331:9
 note-requires : tie.Need-note-requires
 note-requires c κs = search needs
 
--- src/keys.rt:332:9
 same-length-4 : tie.Need-same-length-4
 same-length-4 c = search needs
 
--- src/keys.rt:332:9
 returns-3 : tie.Need-returns-3
 returns-3 c =
     let args = c .before .before .before .before .before .before .before .before .before .before .before .before .before .args in
@@ -70,35 +60,27 @@ returns-3 c =
     let the-if3 = c .before .before .before .before .if3 in
     (kept-still _ _ (pre .0), noted-long (args .notes .now) _ (notesFrom (args .table) + args .row .number) (noteOf (args .rest)) (c .before .before .note .ensures), λ k q v i g. held-back _ (args .pen) (args .rest) k (args .row .number) q v _ _ (args .pen) _ (pre .0 .within) (rw (the-if3 .taken)) (rw (the-if3 .taken)) (c .before .before .note .ensures ∙ sym (rw (the-if3 .taken))))
 
--- src/keys.rt:335:9
 key-placed-requires : tie.Need-key-placed-requires
 key-placed-requires c κs = search needs
 
--- src/keys.rt:335:9
 same-length-5 : tie.Need-same-length-5
 same-length-5 c = search needs
 
--- src/keys.rt:335:9
 same-length-6 : tie.Need-same-length-6
 same-length-6 c = search needs
 
--- src/keys.rt:335:9
 returns-4 : tie.Need-returns-4
 returns-4 c = search needs
 
--- src/keys.rt:338:9
 key-top-requires : tie.Need-key-top-requires
 key-top-requires c κs = search needs
 
--- src/keys.rt:338:9
 same-length-7 : tie.Need-same-length-7
 same-length-7 c = search needs
 
--- src/keys.rt:338:9
 same-length-8 : tie.Need-same-length-8
 same-length-8 c = search needs
 
--- src/keys.rt:338:9
 returns-5 : tie.Need-returns-5
 returns-5 c =
     let args = c .before .before .before .before .before .before .before .before .before .before .before .before .before .before .before .before .before .before .before .before .args in
@@ -107,35 +89,27 @@ returns-5 c =
     let the-key-top = c .before .before .before .before .key-top in
     let e : args .table ≡ 0 = pre .2 ∙ rw (the-if5 .taken) in (the-key-top .ensures .0, the-key-top .ensures .1, λ k q v i g. of-table _ _ k q v _ _ _ _ _ (args .row) _ _ e (λ j. the-key-top .ensures .2 k q v j g) i)
 
--- src/keys.rt:341:9
 key-file-requires : tie.Need-key-file-requires
 key-file-requires c κs = search needs
 
--- src/keys.rt:341:9
 same-length-9 : tie.Need-same-length-9
 same-length-9 c = search needs
 
--- src/keys.rt:341:9
 same-length-10 : tie.Need-same-length-10
 same-length-10 c = search needs
 
--- src/keys.rt:341:9
 returns-6 : tie.Need-returns-6
 returns-6 c = search needs
 
--- src/keys.rt:344:9
 key-drawing-requires : tie.Need-key-drawing-requires
 key-drawing-requires c κs = search needs
 
--- src/keys.rt:344:9
 same-length-11 : tie.Need-same-length-11
 same-length-11 c = search needs
 
--- src/keys.rt:344:9
 same-length-12 : tie.Need-same-length-12
 same-length-12 c = search needs
 
--- src/keys.rt:344:9
 returns-7 : tie.Need-returns-7
 returns-7 c =
     let args = c .before .before .before .before .before .before .before .before .before .before .before .before .before .before .before .before .before .before .before .before .before .before .before .before .args in
@@ -144,19 +118,15 @@ returns-7 c =
     let the-key-drawing = c .before .before .before .before .key-drawing in
     let e : args .table ≡ 7 = pre .2 ∙ rw (the-if7 .taken) in (the-key-drawing .ensures .0, the-key-drawing .ensures .1, λ k q v i g. of-table _ _ k q v _ _ _ _ _ (args .row) _ _ e (λ j. the-key-drawing .ensures .2 k q v j g) i)
 
--- src/keys.rt:347:9
 key-defines-requires : tie.Need-key-defines-requires
 key-defines-requires c κs = search needs
 
--- src/keys.rt:347:9
 same-length-13 : tie.Need-same-length-13
 same-length-13 c = search needs
 
--- src/keys.rt:347:9
 same-length-14 : tie.Need-same-length-14
 same-length-14 c = search needs
 
--- src/keys.rt:347:9
 returns-8 : tie.Need-returns-8
 returns-8 c =
     let args = c .before .before .before .before .before .before .before .before .before .before .before .before .before .before .before .before .before .before .before .before .before .before .before .before .before .before .args in
@@ -165,19 +135,15 @@ returns-8 c =
     let the-key-defines = c .before .before .before .before .key-defines in
     let e : args .table ≡ 8 = pre .2 ∙ rw (the-if8 .taken) in (the-key-defines .ensures .0, the-key-defines .ensures .1, λ k q v i g. of-table _ _ k q v _ _ _ _ _ (args .row) _ _ e (λ j. the-key-defines .ensures .2 k q v j g) i)
 
--- src/keys.rt:350:9
 key-symbol-requires : tie.Need-key-symbol-requires
 key-symbol-requires c κs = (c .before .before .before .before .before .before .before .before .before .before .before .before .before .before .before .before .before .before .before .before .before .before .before .pre .0, c .before .before .if9 .taken)
 
--- src/keys.rt:350:9
 same-length-15 : tie.Need-same-length-15
 same-length-15 c = search needs
 
--- src/keys.rt:350:9
 same-length-16 : tie.Need-same-length-16
 same-length-16 c = search needs
 
--- src/keys.rt:350:9
 returns-9 : tie.Need-returns-9
 returns-9 c =
     let args = c .before .before .before .before .before .before .before .before .before .before .before .before .before .before .before .before .before .before .before .before .before .before .before .before .before .before .before .before .args in
@@ -186,15 +152,12 @@ returns-9 c =
     let the-key-symbol = c .before .before .before .before .key-symbol in
     let e : args .table ≡ 9 = pre .2 ∙ rw (the-if9 .taken) in (the-key-symbol .ensures .0, the-key-symbol .ensures .1, λ k q v i g. of-table _ _ k q v _ _ _ _ _ (args .row) _ _ e (λ j. the-key-symbol .ensures .2 k q v j g) i)
 
--- src/keys.rt:353:9
 put-at-once-requires-2 : tie.Need-put-at-once-requires-2
 put-at-once-requires-2 c κs = c .before .before .before .before .before .before .before .before .before .before .before .before .before .before .before .before .before .before .before .before .before .before .before .before .pre .0
 
--- src/keys.rt:353:9
 same-length-17 : tie.Need-same-length-17
 same-length-17 c = search needs
 
--- src/keys.rt:353:9
 returns-10 : tie.Need-returns-10
 returns-10 c =
     let args = c .before .before .before .before .before .before .before .before .before .before .before .before .before .before .before .before .before .before .before .before .before .before .before .before .before .before .before .args in
@@ -202,15 +165,12 @@ returns-10 c =
     let the-put-at-once2 = c .before .before .put-at-once2 in
     (the-put-at-once2 .ensures .0, refl, λ k q v i g. written _ (args .pen) (args .rest) k (args .row .number) q v _ _ (λ (n : ℕ). moved (args .pen) n 6 0) _ _ _ (rw (the-if10 .taken)) (rw (the-if10 .taken)) (sym (rw (the-if10 .taken))) (the-put-at-once2 .ensures .1 k q v i g))
 
--- src/keys.rt:355:5
 put-figures-requires : tie.Need-put-figures-requires
 put-figures-requires c κs = c .before .before .before .before .before .before .before .before .before .before .before .before .before .before .before .before .before .before .before .before .before .before .before .before .pre .0
 
--- src/keys.rt:320:1
 same-length-18 : tie.Need-same-length-18
 same-length-18 c = search needs
 
--- src/keys.rt:320:1
 returns-11 : tie.Need-returns-11
 returns-11 c =
     let args = c .before .before .before .before .before .before .before .before .before .before .before .before .before .before .before .before .before .before .before .before .before .before .before .before .before .before .before .args in

@@ -9,67 +9,51 @@ use Rattle.pens.proofs.keys.figure_table.Reads as figure-table-reads
 use Rattle.pens.proofs.keys.file_table.Reads as file-table-reads
 use Rattle.pens.proofs.keys.placed_table.Reads as placed-table-reads
 
--- src/keys.rt:112:9
 figure-table-requires : tie.Need-figure-table-requires
 figure-table-requires c κs = search needs
 
--- src/keys.rt:112:9
 returns : tie.Need-returns
 returns c = rw (c .before .if1 .taken) (c .figure-table .ensures)
 
--- src/keys.rt:115:9
 by-home-requires : tie.Need-by-home-requires
 by-home-requires c κs = search needs
 
--- src/keys.rt:115:9
 returns-2 : tie.Need-returns-2
 returns-2 c = rw (c .before .if2 .taken) (c .by-home .ensures)
 
--- src/keys.rt:118:9
 by-home-requires-2 : tie.Need-by-home-requires-2
 by-home-requires-2 c κs = search needs
 
--- src/keys.rt:118:9
 returns-3 : tie.Need-returns-3
 returns-3 c = rw (c .before .if3 .taken) (c .by-home2 .ensures)
 
--- src/keys.rt:121:9
 placed-table-requires : tie.Need-placed-table-requires
 placed-table-requires c κs = search needs
 
--- src/keys.rt:121:9
 returns-4 : tie.Need-returns-4
 returns-4 c = rw (c .before .if4 .taken) (c .placed-table .ensures)
 
--- src/keys.rt:124:9
 returns-5 : tie.Need-returns-5
 returns-5 c = rw (c .if5 .taken)
 
--- src/keys.rt:127:9
 file-table-requires : tie.Need-file-table-requires
 file-table-requires c κs = search needs
 
--- src/keys.rt:127:9
 returns-6 : tie.Need-returns-6
 returns-6 c = rw (c .before .if6 .taken) (c .file-table .ensures)
 
--- src/keys.rt:130:9
 returns-7 : tie.Need-returns-7
 returns-7 c = rw (c .if7 .taken)
 
--- src/keys.rt:133:9
 returns-8 : tie.Need-returns-8
 returns-8 c = rw (c .if8 .taken)
 
--- src/keys.rt:136:9
 returns-9 : tie.Need-returns-9
 returns-9 c = rw (c .if9 .taken)
 
--- src/keys.rt:139:9
 returns-10 : tie.Need-returns-10
 returns-10 c = rw (c .if10 .taken)
 
--- src/keys.rt:108:1
 returns-11 : tie.Need-returns-11
 returns-11 c =
     let the-if1 = c .before .before .before .before .before .before .before .before .before .before .before .before .before .before .before .before .before .before .if1 in

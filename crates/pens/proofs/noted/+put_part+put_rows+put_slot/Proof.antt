@@ -55,7 +55,6 @@ abbrev put-slot-below : ℕ → In 3 put-slot-kinds.ps
 put-slot-below t =
     and 3 put-slot-kinds.ps (falls 3 put-slot-kinds.ps _<_ μ-put-slot t) put-slot.Pre
 
--- src/noted.rt:202:9
 put-part-returns : (t : ℕ) → put-part-lts.Need-returns (
   put-rows-below t,
   put-rows.Post,
@@ -64,7 +63,6 @@ put-part-returns : (t : ℕ) → put-part-lts.Need-returns (
 ) (put-part-at t) put-part.Post
 put-part-returns t c = (within-none _, part-none (c .before .before .before .before .args .s .now) (c .before .before .before .before .args .base) (c .before .before .before .before .args .notes .now) (c .before .before .before .before .args .depth) (c .before .before .before .before .args .inner) _ (c .if1 .taken))
 
--- src/noted.rt:204:9
 put-part-put-rows-requires : (t : ℕ) → put-part-lts.Need-put-rows-requires (
   put-rows-below t,
   put-rows.Post,
@@ -73,7 +71,6 @@ put-part-put-rows-requires : (t : ℕ) → put-part-lts.Need-put-rows-requires (
 ) (put-part-at t) put-part.Post
 put-part-put-rows-requires t c κs = (omega (arith, c .before .before .before .before .before .pre .0), (c .before .before .before .before .before .pre .1, omega arith))
 
--- src/noted.rt:205:22
 put-part-enum-known-rows : (t : ℕ) → put-part-lts.Need-enum-known-rows (
   put-rows-below t,
   put-rows.Post,
@@ -82,7 +79,6 @@ put-part-enum-known-rows : (t : ℕ) → put-part-lts.Need-enum-known-rows (
 ) (put-part-at t) put-part.Post
 put-part-enum-known-rows t c = search needs
 
--- src/noted.rt:206:9
 put-part-enum-told : (t : ℕ) → put-part-lts.Need-enum-told (
   put-rows-below t,
   put-rows.Post,
@@ -91,7 +87,6 @@ put-part-enum-told : (t : ℕ) → put-part-lts.Need-enum-told (
 ) (put-part-at t) put-part.Post
 put-part-enum-told t c = search needs
 
--- src/noted.rt:206:9
 put-part-same-length : (t : ℕ) → put-part-lts.Need-same-length (
   put-rows-below t,
   put-rows.Post,
@@ -100,7 +95,6 @@ put-part-same-length : (t : ℕ) → put-part-lts.Need-same-length (
 ) (put-part-at t) put-part.Post
 put-part-same-length t c = search needs
 
--- src/noted.rt:206:9
 put-part-returns-2 : (t : ℕ) → put-part-lts.Need-returns-2 (
   put-rows-below t,
   put-rows.Post,
@@ -109,7 +103,6 @@ put-part-returns-2 : (t : ℕ) → put-part-lts.Need-returns-2 (
 ) (put-part-at t) put-part.Post
 put-part-returns-2 t c = let a = rw (c .enum-told .given .1) at (c .before .before .before .before .put-rows .ensures) in (a .0, part-full (c .before .before .before .before .before .before .before .before .before .before .args .s .now) (c .before .before .before .before .before .before .before .before .before .before .args .base) (c .before .before .before .before .before .before .before .before .before .before .args .notes .now) (c .before .before .before .before .before .before .before .before .before .before .args .depth) (c .before .before .before .before .before .before .before .before .before .before .args .inner) (c .before .before .before .before .before .before .if1 .left) _ _ (a .1))
 
--- src/noted.rt:208:25
 put-part-slice-aggregate-put-plain : (t : ℕ) → put-part-lts.Need-slice-aggregate-put-plain (
   put-rows-below t,
   put-rows.Post,
@@ -118,7 +111,6 @@ put-part-slice-aggregate-put-plain : (t : ℕ) → put-part-lts.Need-slice-aggre
 ) (put-part-at t) put-part.Post
 put-part-slice-aggregate-put-plain t c = search needs
 
--- src/noted.rt:208:31
 put-part-sub-put-plain : (t : ℕ) → put-part-lts.Need-sub-put-plain (
   put-rows-below t,
   put-rows.Post,
@@ -127,7 +119,6 @@ put-part-sub-put-plain : (t : ℕ) → put-part-lts.Need-sub-put-plain (
 ) (put-part-at t) put-part.Post
 put-part-sub-put-plain t c = let a = rw (c .before .before .rows .given .1) at (c .before .before .before .before .before .before .put-rows .ensures) in within-here _ _ _ (a .0)
 
--- src/noted.rt:208:31
 put-part-part-put-plain-start : (t : ℕ) → put-part-lts.Need-part-put-plain-start (
   put-rows-below t,
   put-rows.Post,
@@ -136,7 +127,6 @@ put-part-part-put-plain-start : (t : ℕ) → put-part-lts.Need-part-put-plain-s
 ) (put-part-at t) put-part.Post
 put-part-part-put-plain-start t c = let a = rw (c .before .before .rows .given .1) at (c .before .before .before .before .before .before .put-rows .ensures) in within-here _ _ _ (a .0)
 
--- src/noted.rt:208:31
 put-part-part-put-plain-end : (t : ℕ) → put-part-lts.Need-part-put-plain-end (
   put-rows-below t,
   put-rows.Post,
@@ -145,7 +135,6 @@ put-part-part-put-plain-end : (t : ℕ) → put-part-lts.Need-part-put-plain-end
 ) (put-part-at t) put-part.Post
 put-part-part-put-plain-end t c = search needs
 
--- src/noted.rt:208:9
 put-part-put-plain-requires : (t : ℕ) → put-part-lts.Need-put-plain-requires (
   put-rows-below t,
   put-rows.Post,
@@ -154,7 +143,6 @@ put-part-put-plain-requires : (t : ℕ) → put-part-lts.Need-put-plain-requires
 ) (put-part-at t) put-part.Post
 put-part-put-plain-requires t c κs = search needs
 
--- src/noted.rt:209:22
 put-part-enum-known-end : (t : ℕ) → put-part-lts.Need-enum-known-end (
   put-rows-below t,
   put-rows.Post,
@@ -163,7 +151,6 @@ put-part-enum-known-end : (t : ℕ) → put-part-lts.Need-enum-known-end (
 ) (put-part-at t) put-part.Post
 put-part-enum-known-end t c = search needs
 
--- src/noted.rt:210:9
 put-part-enum-told-2 : (t : ℕ) → put-part-lts.Need-enum-told-2 (
   put-rows-below t,
   put-rows.Post,
@@ -172,7 +159,6 @@ put-part-enum-told-2 : (t : ℕ) → put-part-lts.Need-enum-told-2 (
 ) (put-part-at t) put-part.Post
 put-part-enum-told-2 t c = search needs
 
--- src/noted.rt:210:9
 put-part-same-length-2 : (t : ℕ) → put-part-lts.Need-same-length-2 (
   put-rows-below t,
   put-rows.Post,
@@ -181,7 +167,6 @@ put-part-same-length-2 : (t : ℕ) → put-part-lts.Need-same-length-2 (
 ) (put-part-at t) put-part.Post
 put-part-same-length-2 t c = search needs
 
--- src/noted.rt:210:9
 put-part-returns-3 : (t : ℕ) → put-part-lts.Need-returns-3 (
   put-rows-below t,
   put-rows.Post,
@@ -190,7 +175,6 @@ put-part-returns-3 : (t : ℕ) → put-part-lts.Need-returns-3 (
 ) (put-part-at t) put-part.Post
 put-part-returns-3 t c = let a = rw (c .before .before .before .before .before .before .before .before .rows .given .1) at (c .before .before .before .before .before .before .before .before .before .before .before .before .put-rows .ensures) in let q = rw (c .enum-told2 .given .1) at (c .before .before .before .before .put-plain .ensures) in (within-full _ _ (behind-long _ _ _ _ (a .0) _ (q .0)), part-end-full (c .before .before .before .before .before .before .before .before .before .before .before .before .before .before .before .before .before .before .args .s .now) (c .before .before .before .before .before .before .before .before .before .before .before .before .before .before .before .before .before .before .args .base) (c .before .before .before .before .before .before .before .before .before .before .before .before .before .before .before .before .before .before .args .notes .now) (c .before .before .before .before .before .before .before .before .before .before .before .before .before .before .before .before .before .before .args .depth) (c .before .before .before .before .before .before .before .before .before .before .before .before .before .before .before .before .before .before .args .inner) (c .before .before .before .before .before .before .before .before .before .before .before .before .before .before .if1 .left) _ _ _ (a .1) _ (q .1))
 
--- src/noted.rt:212:18
 put-part-add-t18 : (t : ℕ) → put-part-lts.Need-add-t18 (
   put-rows-below t,
   put-rows.Post,
@@ -199,7 +183,6 @@ put-part-add-t18 : (t : ℕ) → put-part-lts.Need-add-t18 (
 ) (put-part-at t) put-part.Post
 put-part-add-t18 t c = record { fits = omega (arith, behind-room (c .before .before .before .before .before .before .before .before .before .before .before .before .before .before .before .before .before .before .before .args .out .now) _ _ (c .before .before .before .before .before .before .before .before .before .rows .given .0 .0) (rw (c .before .before .before .before .before .before .before .before .before .rows .given .1) at (c .before .before .before .before .before .before .before .before .before .before .before .before .before .put-rows .ensures .0)) (c .before .end .given .0 .0) (rw (c .before .end .given .1) at (c .before .before .before .before .before .put-plain .ensures .0))) }
 
--- src/noted.rt:197:1
 put-part-same-length-3 : (t : ℕ) → put-part-lts.Need-same-length-3 (
   put-rows-below t,
   put-rows.Post,
@@ -208,7 +191,6 @@ put-part-same-length-3 : (t : ℕ) → put-part-lts.Need-same-length-3 (
 ) (put-part-at t) put-part.Post
 put-part-same-length-3 t c = search needs
 
--- src/noted.rt:197:1
 put-part-returns-4 : (t : ℕ) → put-part-lts.Need-returns-4 (
   put-rows-below t,
   put-rows.Post,
@@ -217,7 +199,6 @@ put-part-returns-4 : (t : ℕ) → put-part-lts.Need-returns-4 (
 ) (put-part-at t) put-part.Post
 put-part-returns-4 t c = let a = rw (c .before .before .before .before .before .before .before .before .before .rows .given .1) at (c .before .before .before .before .before .before .before .before .before .before .before .before .before .put-rows .ensures) in let q = rw (c .before .end .given .1) at (c .before .before .before .before .before .put-plain .ensures) in (behind-within _ _ _ _ (a .0) _ (q .0), part-printed (c .before .before .before .before .before .before .before .before .before .before .before .before .before .before .before .before .before .before .before .args .s .now) (c .before .before .before .before .before .before .before .before .before .before .before .before .before .before .before .before .before .before .before .args .base) (c .before .before .before .before .before .before .before .before .before .before .before .before .before .before .before .before .before .before .before .args .notes .now) (c .before .before .before .before .before .before .before .before .before .before .before .before .before .before .before .before .before .before .before .args .depth) (c .before .before .before .before .before .before .before .before .before .before .before .before .before .before .before .before .before .before .before .args .inner) (c .before .before .before .before .before .before .before .before .before .before .before .before .before .before .before .if1 .left) _ _ _ (a .1) _ _ (q .1))
 
--- src/noted.rt:255:9
 put-rows-returns : (t : ℕ) → put-rows-lts.Need-returns (
   rows-in-reads.Asked,
   rows-in-reads.Learnt,
@@ -228,7 +209,6 @@ put-rows-returns : (t : ℕ) → put-rows-lts.Need-returns (
 ) (put-rows-at t) put-rows.Post
 put-rows-returns t c = (within-none _, rows-none (c .before .before .before .before .args .s .now) (c .before .before .before .before .args .base) (c .before .before .before .before .args .notes .now) (c .before .before .before .before .args .depth) (c .before .before .before .before .args .table) (c .before .before .before .before .args .j) _ (c .if1 .taken))
 
--- src/noted.rt:257:8
 put-rows-rows-in-requires : (t : ℕ) → put-rows-lts.Need-rows-in-requires (
   rows-in-reads.Asked,
   rows-in-reads.Learnt,
@@ -239,7 +219,6 @@ put-rows-rows-in-requires : (t : ℕ) → put-rows-lts.Need-rows-in-requires (
 ) (put-rows-at t) put-rows.Post
 put-rows-rows-in-requires t c κs = search needs
 
--- src/noted.rt:258:9
 put-rows-returns-2 : (t : ℕ) → put-rows-lts.Need-returns-2 (
   rows-in-reads.Asked,
   rows-in-reads.Learnt,
@@ -250,7 +229,6 @@ put-rows-returns-2 : (t : ℕ) → put-rows-lts.Need-returns-2 (
 ) (put-rows-at t) put-rows.Post
 put-rows-returns-2 t c = (within-none _, rows-last (c .before .before .before .before .before .before .args .s .now) (c .before .before .before .before .before .before .args .base) (c .before .before .before .before .before .before .args .notes .now) (c .before .before .before .before .before .before .args .depth) (c .before .before .before .before .before .before .args .table) (c .before .before .before .before .before .before .args .j) _ (omega (arith, c .before .rows-in .ensures, c .if2 .taken)))
 
--- src/noted.rt:260:25
 put-rows-sub-put-slot : (t : ℕ) → put-rows-lts.Need-sub-put-slot (
   rows-in-reads.Asked,
   rows-in-reads.Learnt,
@@ -261,7 +239,6 @@ put-rows-sub-put-slot : (t : ℕ) → put-rows-lts.Need-sub-put-slot (
 ) (put-rows-at t) put-rows.Post
 put-rows-sub-put-slot t c = search needs
 
--- src/noted.rt:260:9
 put-rows-put-slot-requires : (t : ℕ) → put-rows-lts.Need-put-slot-requires (
   rows-in-reads.Asked,
   rows-in-reads.Learnt,
@@ -272,7 +249,6 @@ put-rows-put-slot-requires : (t : ℕ) → put-rows-lts.Need-put-slot-requires (
 ) (put-rows-at t) put-rows.Post
 put-rows-put-slot-requires t c κs = (omega (arith, c .before .before .before .before .before .before .before .pre .0, c .before .before .before .before .before .before .before .pre .1 .1, c .before .before .before .if1 .left), omega (arith, c .before .before .before .before .before .before .before .pre .1 .0))
 
--- src/noted.rt:261:22
 put-rows-enum-known-slot : (t : ℕ) → put-rows-lts.Need-enum-known-slot (
   rows-in-reads.Asked,
   rows-in-reads.Learnt,
@@ -283,7 +259,6 @@ put-rows-enum-known-slot : (t : ℕ) → put-rows-lts.Need-enum-known-slot (
 ) (put-rows-at t) put-rows.Post
 put-rows-enum-known-slot t c = search needs
 
--- src/noted.rt:262:9
 put-rows-enum-told : (t : ℕ) → put-rows-lts.Need-enum-told (
   rows-in-reads.Asked,
   rows-in-reads.Learnt,
@@ -294,7 +269,6 @@ put-rows-enum-told : (t : ℕ) → put-rows-lts.Need-enum-told (
 ) (put-rows-at t) put-rows.Post
 put-rows-enum-told t c = search needs
 
--- src/noted.rt:262:9
 put-rows-same-length : (t : ℕ) → put-rows-lts.Need-same-length (
   rows-in-reads.Asked,
   rows-in-reads.Learnt,
@@ -305,7 +279,6 @@ put-rows-same-length : (t : ℕ) → put-rows-lts.Need-same-length (
 ) (put-rows-at t) put-rows.Post
 put-rows-same-length t c = search needs
 
--- src/noted.rt:262:9
 put-rows-returns-3 : (t : ℕ) → put-rows-lts.Need-returns-3 (
   rows-in-reads.Asked,
   rows-in-reads.Learnt,
@@ -316,7 +289,6 @@ put-rows-returns-3 : (t : ℕ) → put-rows-lts.Need-returns-3 (
 ) (put-rows-at t) put-rows.Post
 put-rows-returns-3 t c = let a = rw (c .enum-told .given .1) at (c .before .before .before .before .put-slot .ensures) in (a .0, rows-full (c .before .before .before .before .before .before .before .before .before .before .before .before .args .s .now) (c .before .before .before .before .before .before .before .before .before .before .before .before .args .base) (c .before .before .before .before .before .before .before .before .before .before .before .before .args .notes .now) (c .before .before .before .before .before .before .before .before .before .before .before .before .args .depth) (c .before .before .before .before .before .before .before .before .before .before .before .before .args .depth - 1) (c .before .before .before .before .before .before .before .before .before .before .before .before .args .table) (c .before .before .before .before .before .before .before .before .before .before .before .before .args .j) (omega (arith, c .before .before .before .before .before .before .before .before .if1 .left)) (omega (arith, c .before .before .before .before .before .before .before .rows-in .ensures, c .before .before .before .before .before .before .if2 .left)) _ _ (a .1))
 
--- src/noted.rt:264:47
 put-rows-add-put-rows : (t : ℕ) → put-rows-lts.Need-add-put-rows (
   rows-in-reads.Asked,
   rows-in-reads.Learnt,
@@ -327,7 +299,6 @@ put-rows-add-put-rows : (t : ℕ) → put-rows-lts.Need-add-put-rows (
 ) (put-rows-at t) put-rows.Post
 put-rows-add-put-rows t c = omega (arith, c .before .before .before .before .before .before .before .before .before .before .before .before .before .pre .1 .1)
 
--- src/noted.rt:264:64
 put-rows-sub-put-rows : (t : ℕ) → put-rows-lts.Need-sub-put-rows (
   rows-in-reads.Asked,
   rows-in-reads.Learnt,
@@ -338,7 +309,6 @@ put-rows-sub-put-rows : (t : ℕ) → put-rows-lts.Need-sub-put-rows (
 ) (put-rows-at t) put-rows.Post
 put-rows-sub-put-rows t c = let a = rw (c .before .slot .given .1) at (c .before .before .before .before .before .put-slot .ensures) in within-here _ _ _ (a .0)
 
--- src/noted.rt:264:64
 put-rows-part-put-rows-start : (t : ℕ) → put-rows-lts.Need-part-put-rows-start (
   rows-in-reads.Asked,
   rows-in-reads.Learnt,
@@ -349,7 +319,6 @@ put-rows-part-put-rows-start : (t : ℕ) → put-rows-lts.Need-part-put-rows-sta
 ) (put-rows-at t) put-rows.Post
 put-rows-part-put-rows-start t c = let a = rw (c .before .slot .given .1) at (c .before .before .before .before .before .put-slot .ensures) in within-here _ _ _ (a .0)
 
--- src/noted.rt:264:64
 put-rows-part-put-rows-end : (t : ℕ) → put-rows-lts.Need-part-put-rows-end (
   rows-in-reads.Asked,
   rows-in-reads.Learnt,
@@ -360,7 +329,6 @@ put-rows-part-put-rows-end : (t : ℕ) → put-rows-lts.Need-part-put-rows-end (
 ) (put-rows-at t) put-rows.Post
 put-rows-part-put-rows-end t c = search needs
 
--- src/noted.rt:264:9
 put-rows-put-rows-requires : (t : ℕ) → put-rows-lts.Need-put-rows-requires (
   rows-in-reads.Asked,
   rows-in-reads.Learnt,
@@ -371,7 +339,6 @@ put-rows-put-rows-requires : (t : ℕ) → put-rows-lts.Need-put-rows-requires (
 ) (put-rows-at t) put-rows.Post
 put-rows-put-rows-requires t c κs = (omega (arith, c .before .before .before .before .before .before .before .before .before .before .before .before .before .before .pre .0, c .before .before .before .before .before .before .before .before .before .before .before .before .before .before .pre .1 .1), (c .before .before .before .before .before .before .before .before .before .before .before .before .before .before .pre .1 .0, omega (arith, c .before .before .before .before .before .before .before .before .before .rows-in .ensures, c .before .before .before .before .before .before .before .before .if2 .left, rows-few (c .before .before .before .before .before .before .before .before .before .before .before .before .before .before .args .table))))
 
--- src/noted.rt:265:22
 put-rows-enum-known-others : (t : ℕ) → put-rows-lts.Need-enum-known-others (
   rows-in-reads.Asked,
   rows-in-reads.Learnt,
@@ -382,7 +349,6 @@ put-rows-enum-known-others : (t : ℕ) → put-rows-lts.Need-enum-known-others (
 ) (put-rows-at t) put-rows.Post
 put-rows-enum-known-others t c = search needs
 
--- src/noted.rt:266:9
 put-rows-enum-told-2 : (t : ℕ) → put-rows-lts.Need-enum-told-2 (
   rows-in-reads.Asked,
   rows-in-reads.Learnt,
@@ -393,7 +359,6 @@ put-rows-enum-told-2 : (t : ℕ) → put-rows-lts.Need-enum-told-2 (
 ) (put-rows-at t) put-rows.Post
 put-rows-enum-told-2 t c = search needs
 
--- src/noted.rt:266:9
 put-rows-same-length-2 : (t : ℕ) → put-rows-lts.Need-same-length-2 (
   rows-in-reads.Asked,
   rows-in-reads.Learnt,
@@ -404,7 +369,6 @@ put-rows-same-length-2 : (t : ℕ) → put-rows-lts.Need-same-length-2 (
 ) (put-rows-at t) put-rows.Post
 put-rows-same-length-2 t c = search needs
 
--- src/noted.rt:266:9
 put-rows-returns-4 : (t : ℕ) → put-rows-lts.Need-returns-4 (
   rows-in-reads.Asked,
   rows-in-reads.Learnt,
@@ -415,7 +379,6 @@ put-rows-returns-4 : (t : ℕ) → put-rows-lts.Need-returns-4 (
 ) (put-rows-at t) put-rows.Post
 put-rows-returns-4 t c = let a = rw (c .before .before .before .before .before .before .before .slot .given .1) at (c .before .before .before .before .before .before .before .before .before .before .before .put-slot .ensures) in let q = rw (c .enum-told2 .given .1) at (c .before .before .before .before .put-rows .ensures) in (within-full _ _ (behind-long _ _ _ _ (a .0) _ (q .0)), rows-others-full (c .before .before .before .before .before .before .before .before .before .before .before .before .before .before .before .before .before .before .before .args .s .now) (c .before .before .before .before .before .before .before .before .before .before .before .before .before .before .before .before .before .before .before .args .base) (c .before .before .before .before .before .before .before .before .before .before .before .before .before .before .before .before .before .before .before .args .notes .now) (c .before .before .before .before .before .before .before .before .before .before .before .before .before .before .before .before .before .before .before .args .depth) (c .before .before .before .before .before .before .before .before .before .before .before .before .before .before .before .before .before .before .before .args .depth - 1) (c .before .before .before .before .before .before .before .before .before .before .before .before .before .before .before .before .before .before .before .args .table) (c .before .before .before .before .before .before .before .before .before .before .before .before .before .before .before .before .before .before .before .args .j) (omega (arith, c .before .before .before .before .before .before .before .before .before .before .before .before .before .before .before .if1 .left)) (omega (arith, c .before .before .before .before .before .before .before .before .before .before .before .before .before .before .rows-in .ensures, c .before .before .before .before .before .before .before .before .before .before .before .before .before .if2 .left)) _ _ _ (a .1) _ (q .1))
 
--- src/noted.rt:268:18
 put-rows-add-t17 : (t : ℕ) → put-rows-lts.Need-add-t17 (
   rows-in-reads.Asked,
   rows-in-reads.Learnt,
@@ -426,7 +389,6 @@ put-rows-add-t17 : (t : ℕ) → put-rows-lts.Need-add-t17 (
 ) (put-rows-at t) put-rows.Post
 put-rows-add-t17 t c = record { fits = omega (arith, behind-room (c .before .before .before .before .before .before .before .before .before .before .before .before .before .before .before .before .before .before .before .before .args .out .now) _ _ (c .before .before .before .before .before .before .before .before .slot .given .0 .0) (rw (c .before .before .before .before .before .before .before .before .slot .given .1) at (c .before .before .before .before .before .before .before .before .before .before .before .before .put-slot .ensures .0)) (c .before .others .given .0 .0) (rw (c .before .others .given .1) at (c .before .before .before .before .before .put-rows .ensures .0))) }
 
--- src/noted.rt:242:1
 put-rows-same-length-3 : (t : ℕ) → put-rows-lts.Need-same-length-3 (
   rows-in-reads.Asked,
   rows-in-reads.Learnt,
@@ -437,7 +399,6 @@ put-rows-same-length-3 : (t : ℕ) → put-rows-lts.Need-same-length-3 (
 ) (put-rows-at t) put-rows.Post
 put-rows-same-length-3 t c = search needs
 
--- src/noted.rt:242:1
 put-rows-returns-5 : (t : ℕ) → put-rows-lts.Need-returns-5 (
   rows-in-reads.Asked,
   rows-in-reads.Learnt,
@@ -448,7 +409,6 @@ put-rows-returns-5 : (t : ℕ) → put-rows-lts.Need-returns-5 (
 ) (put-rows-at t) put-rows.Post
 put-rows-returns-5 t c = let a = rw (c .before .before .before .before .before .before .before .before .slot .given .1) at (c .before .before .before .before .before .before .before .before .before .before .before .before .put-slot .ensures) in let q = rw (c .before .others .given .1) at (c .before .before .before .before .before .put-rows .ensures) in (behind-within _ _ _ _ (a .0) _ (q .0), rows-printed (c .before .before .before .before .before .before .before .before .before .before .before .before .before .before .before .before .before .before .before .before .args .s .now) (c .before .before .before .before .before .before .before .before .before .before .before .before .before .before .before .before .before .before .before .before .args .base) (c .before .before .before .before .before .before .before .before .before .before .before .before .before .before .before .before .before .before .before .before .args .notes .now) (c .before .before .before .before .before .before .before .before .before .before .before .before .before .before .before .before .before .before .before .before .args .depth) (c .before .before .before .before .before .before .before .before .before .before .before .before .before .before .before .before .before .before .before .before .args .depth - 1) (c .before .before .before .before .before .before .before .before .before .before .before .before .before .before .before .before .before .before .before .before .args .table) (c .before .before .before .before .before .before .before .before .before .before .before .before .before .before .before .before .before .before .before .before .args .j) (omega (arith, c .before .before .before .before .before .before .before .before .before .before .before .before .before .before .before .before .if1 .left)) (omega (arith, c .before .before .before .before .before .before .before .before .before .before .before .before .before .before .before .rows-in .ensures, c .before .before .before .before .before .before .before .before .before .before .before .before .before .before .if2 .left)) _ _ _ (a .1) _ _ (q .1))
 
--- src/noted.rt:228:31
 put-slot-notes-from-requires : (t : ℕ) → put-slot-lts.Need-notes-from-requires (
   notes-from-reads.Asked,
   notes-from-reads.Learnt,
@@ -463,7 +423,6 @@ put-slot-notes-from-requires : (t : ℕ) → put-slot-lts.Need-notes-from-requir
 ) (put-slot-at t) put-slot.Post
 put-slot-notes-from-requires t c κs = search needs
 
--- src/noted.rt:228:31
 put-slot-add-note-at : (t : ℕ) → put-slot-lts.Need-add-note-at (
   notes-from-reads.Asked,
   notes-from-reads.Learnt,
@@ -478,7 +437,6 @@ put-slot-add-note-at : (t : ℕ) → put-slot-lts.Need-add-note-at (
 ) (put-slot-at t) put-slot.Post
 put-slot-add-note-at t c = omega (arith, c .notes-from .ensures, notes-few (c .before .before .before .before .args .table))
 
--- src/noted.rt:228:9
 put-slot-note-at-requires : (t : ℕ) → put-slot-lts.Need-note-at-requires (
   notes-from-reads.Asked,
   notes-from-reads.Learnt,
@@ -493,7 +451,6 @@ put-slot-note-at-requires : (t : ℕ) → put-slot-lts.Need-note-at-requires (
 ) (put-slot-at t) put-slot.Post
 put-slot-note-at-requires t c κs = search needs
 
--- src/noted.rt:229:9
 put-slot-inner-table-requires : (t : ℕ) → put-slot-lts.Need-inner-table-requires (
   notes-from-reads.Asked,
   notes-from-reads.Learnt,
@@ -508,7 +465,6 @@ put-slot-inner-table-requires : (t : ℕ) → put-slot-lts.Need-inner-table-requ
 ) (put-slot-at t) put-slot.Post
 put-slot-inner-table-requires t c κs = search needs
 
--- src/noted.rt:230:9
 put-slot-put-noted-requires : (t : ℕ) → put-slot-lts.Need-put-noted-requires (
   notes-from-reads.Asked,
   notes-from-reads.Learnt,
@@ -523,7 +479,6 @@ put-slot-put-noted-requires : (t : ℕ) → put-slot-lts.Need-put-noted-requires
 ) (put-slot-at t) put-slot.Post
 put-slot-put-noted-requires t c κs = search needs
 
--- src/noted.rt:231:22
 put-slot-enum-known-line : (t : ℕ) → put-slot-lts.Need-enum-known-line (
   notes-from-reads.Asked,
   notes-from-reads.Learnt,
@@ -538,7 +493,6 @@ put-slot-enum-known-line : (t : ℕ) → put-slot-lts.Need-enum-known-line (
 ) (put-slot-at t) put-slot.Post
 put-slot-enum-known-line t c = search needs
 
--- src/noted.rt:232:9
 put-slot-enum-told : (t : ℕ) → put-slot-lts.Need-enum-told (
   notes-from-reads.Asked,
   notes-from-reads.Learnt,
@@ -553,7 +507,6 @@ put-slot-enum-told : (t : ℕ) → put-slot-lts.Need-enum-told (
 ) (put-slot-at t) put-slot.Post
 put-slot-enum-told t c = search needs
 
--- src/noted.rt:232:9
 put-slot-same-length : (t : ℕ) → put-slot-lts.Need-same-length (
   notes-from-reads.Asked,
   notes-from-reads.Learnt,
@@ -568,7 +521,6 @@ put-slot-same-length : (t : ℕ) → put-slot-lts.Need-same-length (
 ) (put-slot-at t) put-slot.Post
 put-slot-same-length t c = search needs
 
--- src/noted.rt:232:9
 put-slot-returns : (t : ℕ) → put-slot-lts.Need-returns (
   notes-from-reads.Asked,
   notes-from-reads.Learnt,
@@ -583,7 +535,6 @@ put-slot-returns : (t : ℕ) → put-slot-lts.Need-returns (
 ) (put-slot-at t) put-slot.Post
 put-slot-returns t c = (within-full _ _ (c .before .before .before .before .put-noted .ensures .0 .long ∙ c .before .before .before .before .before .before .before .before .inner-table .kept .1 .1 .1 .1 .1 .0), slot-full (c .before .before .before .before .before .before .before .before .before .before .before .before .before .before .before .args .s .now) (c .before .before .before .before .before .before .before .before .before .before .before .before .before .before .before .args .base) (c .before .before .before .before .before .before .before .before .before .before .before .before .before .before .before .args .notes .now) (c .before .before .before .before .before .before .before .before .before .before .before .before .before .before .before .args .depth) (c .before .before .before .before .before .before .before .before .before .before .before .before .before .before .before .args .table) (c .before .before .before .before .before .before .before .before .before .before .before .before .before .before .before .args .j) (c .before .before .before .before .before .before .before .before .before .before .note-at .result) (c .before .before .before .before .before .before .before .before .inner-table .result) _ _ _ _ (c .before .before .before .before .before .before .before .before .before .before .note-at .ensures ∙ ap (λ (i : ℕ). getD (c .before .before .before .before .before .before .before .before .before .before .before .before .before .before .before .args .notes .now) (i + c .before .before .before .before .before .before .before .before .before .before .before .before .before .before .before .args .j) 0) (c .before .before .before .before .before .before .before .before .before .before .before .notes-from .ensures)) (c .before .before .before .before .before .before .before .before .inner-table .ensures) (c .before .before .before .before .put-noted .ensures .1) (c .enum-told .given .1))
 
--- src/noted.rt:234:55
 put-slot-sub-put-part : (t : ℕ) → put-slot-lts.Need-sub-put-part (
   notes-from-reads.Asked,
   notes-from-reads.Learnt,
@@ -598,7 +549,6 @@ put-slot-sub-put-part : (t : ℕ) → put-slot-lts.Need-sub-put-part (
 ) (put-slot-at t) put-slot.Post
 put-slot-sub-put-part t c = within-here _ _ _ (rw (c .before .line .given .1) at (c .before .before .before .before .before .put-noted .ensures .0))
 
--- src/noted.rt:234:55
 put-slot-part-put-part-start : (t : ℕ) → put-slot-lts.Need-part-put-part-start (
   notes-from-reads.Asked,
   notes-from-reads.Learnt,
@@ -613,7 +563,6 @@ put-slot-part-put-part-start : (t : ℕ) → put-slot-lts.Need-part-put-part-sta
 ) (put-slot-at t) put-slot.Post
 put-slot-part-put-part-start t c = within-here _ _ _ (rw (c .before .line .given .1) at (c .before .before .before .before .before .put-noted .ensures .0))
 
--- src/noted.rt:234:55
 put-slot-part-put-part-end : (t : ℕ) → put-slot-lts.Need-part-put-part-end (
   notes-from-reads.Asked,
   notes-from-reads.Learnt,
@@ -628,7 +577,6 @@ put-slot-part-put-part-end : (t : ℕ) → put-slot-lts.Need-part-put-part-end (
 ) (put-slot-at t) put-slot.Post
 put-slot-part-put-part-end t c = search needs
 
--- src/noted.rt:234:9
 put-slot-put-part-requires : (t : ℕ) → put-slot-lts.Need-put-part-requires (
   notes-from-reads.Asked,
   notes-from-reads.Learnt,
@@ -643,7 +591,6 @@ put-slot-put-part-requires : (t : ℕ) → put-slot-lts.Need-put-part-requires (
 ) (put-slot-at t) put-slot.Post
 put-slot-put-part-requires t c κs = (omega (arith, c .before .before .before .before .before .before .before .before .before .before .before .before .before .before .before .before .before .pre .0), c .before .before .before .before .before .before .before .before .before .before .before .before .before .before .before .before .before .pre .1)
 
--- src/noted.rt:235:22
 put-slot-enum-known-part : (t : ℕ) → put-slot-lts.Need-enum-known-part (
   notes-from-reads.Asked,
   notes-from-reads.Learnt,
@@ -658,7 +605,6 @@ put-slot-enum-known-part : (t : ℕ) → put-slot-lts.Need-enum-known-part (
 ) (put-slot-at t) put-slot.Post
 put-slot-enum-known-part t c = search needs
 
--- src/noted.rt:236:9
 put-slot-enum-told-2 : (t : ℕ) → put-slot-lts.Need-enum-told-2 (
   notes-from-reads.Asked,
   notes-from-reads.Learnt,
@@ -673,7 +619,6 @@ put-slot-enum-told-2 : (t : ℕ) → put-slot-lts.Need-enum-told-2 (
 ) (put-slot-at t) put-slot.Post
 put-slot-enum-told-2 t c = search needs
 
--- src/noted.rt:236:9
 put-slot-same-length-2 : (t : ℕ) → put-slot-lts.Need-same-length-2 (
   notes-from-reads.Asked,
   notes-from-reads.Learnt,
@@ -688,7 +633,6 @@ put-slot-same-length-2 : (t : ℕ) → put-slot-lts.Need-same-length-2 (
 ) (put-slot-at t) put-slot.Post
 put-slot-same-length-2 t c = search needs
 
--- src/noted.rt:236:9
 put-slot-returns-2 : (t : ℕ) → put-slot-lts.Need-returns-2 (
   notes-from-reads.Asked,
   notes-from-reads.Learnt,
@@ -703,7 +647,6 @@ put-slot-returns-2 : (t : ℕ) → put-slot-lts.Need-returns-2 (
 ) (put-slot-at t) put-slot.Post
 put-slot-returns-2 t c = let w = within-mid (c .before .before .before .before .before .before .before .before .before .before .before .before .before .before .before .before .before .before .before .before .before .before .args .out .now) _ _ _ (c .before .before .before .before .before .before .before .before .before .before .before .before .before .before .before .inner-table .kept .1 .1 .1 .1 .1 .0) (rw (c .before .before .before .before .before .before .before .line .given .1) at (c .before .before .before .before .before .before .before .before .before .before .before .put-noted .ensures .0)) in let q = rw (c .enum-told2 .given .1) at (c .before .before .before .before .put-part .ensures) in (within-full _ _ (behind-long _ _ _ _ w _ (q .0)), slot-part-full (c .before .before .before .before .before .before .before .before .before .before .before .before .before .before .before .before .before .before .before .before .before .before .args .s .now) (c .before .before .before .before .before .before .before .before .before .before .before .before .before .before .before .before .before .before .before .before .before .before .args .base) (c .before .before .before .before .before .before .before .before .before .before .before .before .before .before .before .before .before .before .before .before .before .before .args .notes .now) (c .before .before .before .before .before .before .before .before .before .before .before .before .before .before .before .before .before .before .before .before .before .before .args .depth) (c .before .before .before .before .before .before .before .before .before .before .before .before .before .before .before .before .before .before .before .before .before .before .args .table) (c .before .before .before .before .before .before .before .before .before .before .before .before .before .before .before .before .before .before .before .before .before .before .args .j) (c .before .before .before .before .before .before .before .before .before .before .before .before .before .before .before .before .before .note-at .result) (c .before .before .before .before .before .before .before .before .before .before .before .before .before .before .before .inner-table .result) (c .before .before .before .before .before .before .before .before .before .before .before .before .before .before .before .before .before .before .before .before .before .before .args .out .now) _ _ _ (c .before .before .before .before .before .before .before .before .before .before .before .before .before .before .before .before .before .note-at .ensures ∙ ap (λ (i : ℕ). getD (c .before .before .before .before .before .before .before .before .before .before .before .before .before .before .before .before .before .before .before .before .before .before .args .notes .now) (i + c .before .before .before .before .before .before .before .before .before .before .before .before .before .before .before .before .before .before .before .before .before .before .args .j) 0) (c .before .before .before .before .before .before .before .before .before .before .before .before .before .before .before .before .before .before .notes-from .ensures)) (c .before .before .before .before .before .before .before .before .before .before .before .before .before .before .before .inner-table .ensures) (c .before .before .before .before .before .before .before .before .before .before .before .put-noted .ensures .1) _ (c .before .before .before .before .before .before .before .line .given .1) _ (q .1))
 
--- src/noted.rt:238:18
 put-slot-add-t16 : (t : ℕ) → put-slot-lts.Need-add-t16 (
   notes-from-reads.Asked,
   notes-from-reads.Learnt,
@@ -718,7 +661,6 @@ put-slot-add-t16 : (t : ℕ) → put-slot-lts.Need-add-t16 (
 ) (put-slot-at t) put-slot.Post
 put-slot-add-t16 t c = record { fits = omega (arith, c .before .before .before .before .before .before .before .before .before .before .before .before .before .before .before .before .before .before .before .before .before .before .before .good .1 .1 .1 .1 .1 .1 .0, behind-room (c .before .before .before .before .before .before .before .before .before .before .before .before .before .before .before .before .before .before .before .before .before .before .before .args .out .now) _ _ (c .before .before .before .before .before .before .before .before .line .given .0 .0) (within-mid (c .before .before .before .before .before .before .before .before .before .before .before .before .before .before .before .before .before .before .before .before .before .before .before .args .out .now) _ _ _ (c .before .before .before .before .before .before .before .before .before .before .before .before .before .before .before .before .inner-table .kept .1 .1 .1 .1 .1 .0) (rw (c .before .before .before .before .before .before .before .before .line .given .1) at (c .before .before .before .before .before .before .before .before .before .before .before .before .put-noted .ensures .0))) (c .before .part .given .0 .0) (rw (c .before .part .given .1) at (c .before .before .before .before .before .put-part .ensures .0))) }
 
--- src/noted.rt:216:1
 put-slot-same-length-3 : (t : ℕ) → put-slot-lts.Need-same-length-3 (
   notes-from-reads.Asked,
   notes-from-reads.Learnt,
@@ -733,7 +675,6 @@ put-slot-same-length-3 : (t : ℕ) → put-slot-lts.Need-same-length-3 (
 ) (put-slot-at t) put-slot.Post
 put-slot-same-length-3 t c = search needs
 
--- src/noted.rt:216:1
 put-slot-returns-3 : (t : ℕ) → put-slot-lts.Need-returns-3 (
   notes-from-reads.Asked,
   notes-from-reads.Learnt,

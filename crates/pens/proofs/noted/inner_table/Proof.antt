@@ -9,55 +9,42 @@ use Rattle.pens.proofs.noted.part_table.Reads as part-table-reads
 use Rattle.pens.proofs.noted.rest_of.Reads as rest-of-reads
 use Rattle.pens.proofs.noted.row_at.Reads as row-at-reads
 
--- src/noted.rt:184:9
 returns : tie.Need-returns
 returns c = inner-none _ _ _ _ _ _ (c .if1 .taken)
 
--- src/noted.rt:186:9
 row-at-requires : tie.Need-row-at-requires
 row-at-requires c κs = search needs
 
--- src/noted.rt:187:20
 enum-known-found : tie.Need-enum-known-found
 enum-known-found c = search needs
 
--- src/noted.rt:188:9
 enum-told : tie.Need-enum-told
 enum-told c = search needs
 
--- src/noted.rt:188:9
 same-length : tie.Need-same-length
 same-length c = search needs
 
--- src/noted.rt:188:9
 returns-2 : tie.Need-returns-2
 returns-2 c = inner-absent _ _ _ _ _ _ _ (c .before .before .before .before .before .before .if1 .left) (c .before .before .before .before .row-at .ensures) (c .enum-told .given .1) _
 
--- src/noted.rt:190:22
 rest-of-requires : tie.Need-rest-of-requires
 rest-of-requires c κs = search needs
 
--- src/noted.rt:190:8
 opens-requires : tie.Need-opens-requires
 opens-requires c κs = search needs
 
--- src/noted.rt:191:9
 part-table-requires : tie.Need-part-table-requires
 part-table-requires c κs = search needs
 
--- src/noted.rt:191:9
 same-length-2 : tie.Need-same-length-2
 same-length-2 c = search needs
 
--- src/noted.rt:191:9
 returns-3 : tie.Need-returns-3
 returns-3 c = inner-open (c .before .before .before .before .before .before .before .before .before .before .before .before .before .before .args .s .now) (c .before .before .before .before .before .before .before .before .before .before .before .before .before .before .args .table) (c .before .before .before .before .before .before .before .before .before .before .before .before .before .before .args .number) (c .before .before .before .before .before .before .before .before .before .before .before .before .before .before .args .note) _ _ _ (c .before .before .before .before .before .before .before .before .before .before .before .if1 .left) (c .before .before .before .before .before .before .before .before .before .row-at .ensures) (c .before .before .before .before .before .found .given .0 .0) (c .before .before .before .before .before .found .given .1) (c .before .before .before .rest-of .result) (c .before .before .before .rest-of .ensures) _ _ (c .before .before .opens .ensures) (c .before .if2 .taken) _ (c .part-table .ensures)
 
--- src/noted.rt:180:1
 same-length-3 : tie.Need-same-length-3
 same-length-3 c = search needs
 
--- src/noted.rt:180:1
 returns-4 : tie.Need-returns-4
 returns-4 c = inner-shut (c .before .before .before .before .before .before .before .before .before .before .before .before .before .args .s .now) (c .before .before .before .before .before .before .before .before .before .before .before .before .before .args .table) (c .before .before .before .before .before .before .before .before .before .before .before .before .before .args .number) (c .before .before .before .before .before .before .before .before .before .before .before .before .before .args .note) _ _ _ (c .before .before .before .before .before .before .before .before .before .before .if1 .left) (c .before .before .before .before .before .before .before .before .row-at .ensures) (c .before .before .before .before .found .given .0 .0) (c .before .before .before .before .found .given .1) (c .before .before .rest-of .result) (c .before .before .rest-of .ensures) _ _ (c .before .opens .ensures) (c .if2 .left)
 

@@ -6,19 +6,15 @@ use Rattle.pens.proofs.noted.note_at.Tie as tie
 use Rattle.pens.proofs.noted.note_at.Reads as reads
 use Rattle.pens.proofs.noted.note_at.Lts as lts
 
--- src/noted.rt:151:9
 returns : tie.Need-returns
 returns c = sym (List·getD-eq-default (c .before .args .notes .now) 0 (c .if1 .taken))
 
--- src/noted.rt:153:5
 mul-result : tie.Need-mul-result
 mul-result c = search needs
 
--- src/noted.rt:153:5
 shared-slice-read-result : tie.Need-shared-slice-read-result
 shared-slice-read-result c = search needs
 
--- src/noted.rt:147:1
 returns-2 : tie.Need-returns-2
 returns-2 c = search needs
 

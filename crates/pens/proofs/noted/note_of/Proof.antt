@@ -5,35 +5,27 @@ use Rattle.pens.proofs.noted.note_of.Tie as tie
 use Rattle.pens.proofs.noted.note_of.Reads as reads
 use Rattle.pens.proofs.noted.note_of.Lts as lts
 
--- src/noted.rt:28:24
 enum-told : tie.Need-enum-told
 enum-told c = search needs
 
--- src/noted.rt:29:22
 enum-known-rest : tie.Need-enum-known-rest
 enum-known-rest c = search needs
 
--- src/noted.rt:31:17
 returns : tie.Need-returns
 returns c = note-far _ _ (c .before .before .before .rest .given .1) (c .if1 .taken)
 
--- src/noted.rt:34:17
 returns-2 : tie.Need-returns-2
 returns-2 c = note-long _ _ (c .before .before .before .before .before .rest .given .1) (c .if2 .taken)
 
--- src/noted.rt:36:20
 mul-result : tie.Need-mul-result
 mul-result c = search needs
 
--- src/noted.rt:36:13
 add-result : tie.Need-add-result
 add-result c = search needs
 
--- src/noted.rt:24:1
 returns-3 : tie.Need-returns-3
 returns-3 c = search needs
 
--- src/noted.rt:24:1
 returns-4 : tie.Need-returns-4
 returns-4 c = note-both _ _ (c .before .before .before .before .before .before .before .rest .given .1) (c .before .before .before .before .if1 .left) (c .before .before .if2 .left)
 

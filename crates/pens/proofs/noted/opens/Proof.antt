@@ -9,19 +9,15 @@ use Rattle.pens.proofs.noted.opens.Lts as lts
 use Rattle.entries.proofs.shapes.shape_for.Reads as shape-for-reads
 use Rattle.entries.proofs.shapes.sort_of.Reads as sort-of-reads
 
--- src/noted.rt:57:24
 shape-for-requires : tie.Need-shape-for-requires
 shape-for-requires c κs = search needs
 
--- src/noted.rt:57:9
 sort-of-requires : tie.Need-sort-of-requires
 sort-of-requires c κs = search needs
 
--- src/noted.rt:59:9
 returns : tie.Need-returns
 returns c = opens-so (c .before .before .before .before .before .args .s .now) (c .before .before .before .before .before .args .row) _ (c .before .before .shape-for .result) _ (c .before .before .shape-for .ensures) (c .before .sort-of .ensures) _ (sym (rw (c .if1 .taken)))
 
--- src/noted.rt:54:1
 returns-2 : tie.Need-returns-2
 returns-2 c = opens-so (c .before .before .before .before .before .args .s .now) (c .before .before .before .before .before .args .row) _ (c .before .before .shape-for .result) _ (c .before .before .shape-for .ensures) (c .before .sort-of .ensures) _ (sym (rw (ne-eqb _ _ (c .if1 .left))))
 

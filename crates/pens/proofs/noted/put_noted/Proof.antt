@@ -9,43 +9,33 @@ use Rattle.pens.proofs.noted.rest_of.Reads as rest-of-reads
 use Rattle.pens.proofs.noted.row_at.Reads as row-at-reads
 use Rattle.pens.proofs.put.put_row.Reads as put-row-reads
 
--- src/noted.rt:170:9
 returns : tie.Need-returns
 returns c = (within-none _, noted-none _ _ _ _ _ (c .if1 .taken))
 
--- src/noted.rt:172:9
 row-at-requires : tie.Need-row-at-requires
 row-at-requires c κs = search needs
 
--- src/noted.rt:173:20
 enum-known-found : tie.Need-enum-known-found
 enum-known-found c = search needs
 
--- src/noted.rt:174:9
 enum-told : tie.Need-enum-told
 enum-told c = search needs
 
--- src/noted.rt:174:9
 same-length : tie.Need-same-length
 same-length c = search needs
 
--- src/noted.rt:174:9
 returns-2 : tie.Need-returns-2
 returns-2 c = noted-absent _ _ _ _ _ _ _ (c .before .before .before .before .before .before .if1 .left) (c .before .before .before .before .row-at .ensures) (c .enum-told .given .1)
 
--- src/noted.rt:176:28
 rest-of-requires : tie.Need-rest-of-requires
 rest-of-requires c κs = search needs
 
--- src/noted.rt:176:5
 put-row-requires : tie.Need-put-row-requires
 put-row-requires c κs = search needs
 
--- src/noted.rt:166:1
 same-length-2 : tie.Need-same-length-2
 same-length-2 c = search needs
 
--- src/noted.rt:166:1
 returns-3 : tie.Need-returns-3
 returns-3 c = noted-line (c .before .before .before .before .before .before .before .before .before .before .before .before .before .before .before .args .s .now) (c .before .before .before .before .before .before .before .before .before .before .before .before .before .before .before .args .table) (c .before .before .before .before .before .before .before .before .before .before .before .before .before .before .before .args .number) (c .before .before .before .before .before .before .before .before .before .before .before .before .before .before .before .args .note) _ _ _ (c .before .before .before .before .before .before .before .before .before .before .before .before .if1 .left) (c .before .before .before .before .before .before .before .before .before .before .row-at .ensures) (c .before .before .before .before .before .before .found .given .0 .0) (c .before .before .before .before .before .before .found .given .1) (c .before .before .before .before .rest-of .result) (c .before .before .before .before .rest-of .ensures) _ _ (c .before .before .put-row .ensures .0) (c .before .before .put-row .ensures .1)
 

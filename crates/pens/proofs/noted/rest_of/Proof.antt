@@ -5,11 +5,9 @@ use Rattle.pens.proofs.noted.rest_of.Tie as tie
 use Rattle.pens.proofs.noted.rest_of.Reads as reads
 use Rattle.pens.proofs.noted.rest_of.Lts as lts
 
--- src/noted.rt:43:9
 returns : tie.Need-returns
 returns c = λ s. sym (rw (c .if1 .taken))
 
--- src/noted.rt:39:1
 returns-2 : tie.Need-returns-2
 returns-2 c = λ s. sym (rw (kind-closed (c .before .before .args .row) (c .if1 .left)))
 

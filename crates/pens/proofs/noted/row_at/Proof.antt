@@ -9,43 +9,33 @@ use Rattle.pens.proofs.noted.row_at.Lts as lts
 use Rattle.keywords.proofs.put_key.Reads as put-key-reads
 use Rattle.tables.proofs.lookup.row_of.Reads as row-of-reads
 
--- src/noted.rt:160:9
 put-key-requires : tie.Need-put-key-requires
 put-key-requires c κs = search needs
 
--- src/noted.rt:161:22
 enum-known-wrote : tie.Need-enum-known-wrote
 enum-known-wrote c = search needs
 
--- src/noted.rt:162:9
 enum-told : tie.Need-enum-told
 enum-told c = search needs
 
--- src/noted.rt:162:9
 same-length : tie.Need-same-length
 same-length c = search needs
 
--- src/noted.rt:162:9
 returns : tie.Need-returns
 returns c = row-full _ _ _ _ (rw (c .enum-told .given .1) at (c .before .before .before .before .put-key .ensures))
 
--- src/noted.rt:164:19
 slice-reshare-prefix-row-of : tie.Need-slice-reshare-prefix-row-of
 slice-reshare-prefix-row-of c = key-room _ _ _ _ _ (rw (c .before .wrote .given .1) at (c .before .before .before .before .before .put-key .ensures))
 
--- src/noted.rt:164:19
 slice-aggregate-row-of : tie.Need-slice-aggregate-row-of
 slice-aggregate-row-of c = sym (length-take-le _ _ (key-room _ _ _ _ _ (rw (c .before .before .wrote .given .1) at (c .before .before .before .before .before .before .put-key .ensures))))
 
--- src/noted.rt:164:5
 row-of-requires : tie.Need-row-of-requires
 row-of-requires c κs = search needs
 
--- src/noted.rt:157:1
 same-length-2 : tie.Need-same-length-2
 same-length-2 c = search needs
 
--- src/noted.rt:157:1
 returns-2 : tie.Need-returns-2
 returns-2 c = row-there _ _ _ _ _ (rw (c .before .before .before .wrote .given .1) at (c .before .before .before .before .before .before .before .put-key .ensures)) _ (c .row-of .ensures)
 

@@ -5,39 +5,30 @@ use Rattle.pens.proofs.noted.rows_in.Tie as tie
 use Rattle.pens.proofs.noted.rows_in.Reads as reads
 use Rattle.pens.proofs.noted.rows_in.Lts as lts
 
--- src/noted.rt:98:9
 returns : tie.Need-returns
 returns c = sym (rw (c .if1 .taken))
 
--- src/noted.rt:101:9
 returns-2 : tie.Need-returns-2
 returns-2 c = sym (rw (c .if2 .taken))
 
--- src/noted.rt:104:9
 returns-3 : tie.Need-returns-3
 returns-3 c = sym (rw (c .if3 .taken))
 
--- src/noted.rt:107:9
 returns-4 : tie.Need-returns-4
 returns-4 c = sym (rw (c .if4 .taken))
 
--- src/noted.rt:110:9
 returns-5 : tie.Need-returns-5
 returns-5 c = sym (rw (c .if5 .taken))
 
--- src/noted.rt:113:9
 returns-6 : tie.Need-returns-6
 returns-6 c = sym (rw (c .if6 .taken))
 
--- src/noted.rt:116:9
 returns-7 : tie.Need-returns-7
 returns-7 c = sym (rw (c .if7 .taken))
 
--- src/noted.rt:119:9
 returns-8 : tie.Need-returns-8
 returns-8 c = sym (rw (c .if8 .taken))
 
--- src/noted.rt:94:1
 returns-9 : tie.Need-returns-9
 returns-9 c = sym (rw (ne-eqb _ _ (c .before .before .before .before .before .before .before .if1 .left), ne-eqb _ _ (c .before .before .before .before .before .before .if2 .left), ne-eqb _ _ (c .before .before .before .before .before .if3 .left), ne-eqb _ _ (c .before .before .before .before .if4 .left), ne-eqb _ _ (c .before .before .before .if5 .left), ne-eqb _ _ (c .before .before .if6 .left), ne-eqb _ _ (c .before .if7 .left), ne-eqb _ _ (c .if8 .left)))
 

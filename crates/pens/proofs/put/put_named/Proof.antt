@@ -6,15 +6,12 @@ use Rattle.pens.proofs.put.put_named.Reads as reads
 use Rattle.pens.proofs.put.put_named.Lts as lts
 use Rattle.prints.proofs.rows.put_named.Reads as put-named-reads
 
--- src/put.rt:22:5
 put-named-requires : tie.Need-put-named-requires
 put-named-requires c κs = search needs
 
--- src/put.rt:19:1
 same-length : tie.Need-same-length
 same-length c = search needs
 
--- src/put.rt:19:1
 returns : tie.Need-returns
 returns c = name-put _ _ _ _ _ (c .before .before .put-named .ensures)
 

@@ -6,15 +6,12 @@ use Rattle.pens.proofs.put.put_plain.Reads as reads
 use Rattle.pens.proofs.put.put_plain.Lts as lts
 use Rattle.prints.proofs.rows.put_plain.Reads as put-plain-reads
 
--- src/put.rt:29:5
 put-plain-requires : tie.Need-put-plain-requires
 put-plain-requires c κs = search needs
 
--- src/put.rt:26:1
 same-length : tie.Need-same-length
 same-length c = search needs
 
--- src/put.rt:26:1
 returns : tie.Need-returns
 returns c = plain-put _ _ _ _ (c .before .before .put-plain .ensures)
 

@@ -6,15 +6,12 @@ use Rattle.pens.proofs.put.put_row.Reads as reads
 use Rattle.pens.proofs.put.put_row.Lts as lts
 use Rattle.prints.proofs.rows.put_row.Reads as put-row-reads
 
--- src/put.rt:15:5
 put-row-requires : tie.Need-put-row-requires
 put-row-requires c κs = search needs
 
--- src/put.rt:12:1
 same-length : tie.Need-same-length
 same-length c = search needs
 
--- src/put.rt:12:1
 returns : tie.Need-returns
 returns c = row-put _ _ _ _ _ _ (c .before .before .put-row .ensures)
 

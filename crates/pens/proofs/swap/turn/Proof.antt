@@ -14,51 +14,39 @@ Inv-loop t₀ i₀ j₀ t i j = Turning t₀ i j t × (i + j ≡ length t₀) ×
 abbrev μ-loop : tie.MeasureT-loop
 μ-loop t₀ i₀ j₀ t i j = j
 
--- src/swap.rt:13:5
 loop-holds : tie.Need-loop-holds Inv-loop μ-loop
 loop-holds c = (begun (c .args .t .now), omega arith, omega arith)
 
--- src/swap.rt:13:11
 add-loop : tie.Need-add-loop Inv-loop μ-loop
 add-loop c = omega arith
 
--- src/swap.rt:14:9
 sub-j : tie.Need-sub-j Inv-loop μ-loop
 sub-j c = omega arith
 
--- src/swap.rt:15:17
 slice-read-b : tie.Need-slice-read-b Inv-loop μ-loop
 slice-read-b c = let v = c .before .before .loop in omega (arith, same-size _ (v .i) (v .j) (v .t) (v .inv .0))
 
--- src/swap.rt:16:16
 slice-read-t : tie.Need-slice-read-t Inv-loop μ-loop
 slice-read-t c = let v = c .before .before .before .loop in omega (arith, same-size _ (v .i) (v .j) (v .t) (v .inv .0))
 
--- src/swap.rt:16:9
 slice-write-t : tie.Need-slice-write-t Inv-loop μ-loop
 slice-write-t c = let v = c .before .before .before .loop in omega (arith, same-size _ (v .i) (v .j) (v .t) (v .inv .0))
 
--- src/swap.rt:17:9
 slice-write-t-2 : tie.Need-slice-write-t-2 Inv-loop μ-loop
 slice-write-t-2 c = let v = c .before .before .before .loop in omega (arith, same-size _ (v .i) (v .j) (v .t) (v .inv .0), length-set (v .t) (v .i) (getD (v .t) (v .j - 1) 0))
 
--- src/swap.rt:18:9
 add-i : tie.Need-add-i Inv-loop μ-loop
 add-i c = omega arith
 
--- src/swap.rt:13:5
 loop-less : tie.Need-loop-less Inv-loop μ-loop
 loop-less c = omega arith
 
--- src/swap.rt:13:5
 loop-again : tie.Need-loop-again Inv-loop μ-loop
 loop-again c = let v = c .before .before .before .loop in (turned _ (v .i) (v .j) (v .t) (v .inv .0) (omega arith) _ _ refl refl, omega arith, omega arith)
 
--- src/swap.rt:8:1
 same-length : tie.Need-same-length Inv-loop μ-loop
 same-length c = let v = c .before .loop in same-size _ (v .i) (v .j) (v .t) (v .inv .0) ∙ v .inv .1
 
--- src/swap.rt:8:1
 returns : tie.Need-returns Inv-loop μ-loop
 returns c = let v = c .before .loop in done _ (v .i) (v .j) (v .t) (v .inv .0) (omega arith)
 

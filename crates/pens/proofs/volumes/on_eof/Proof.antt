@@ -10,51 +10,39 @@ use Rattle.pens.proofs.volumes.on_eof.Lts as lts
 use Rattle.pens.proofs.places.at_block.Reads as at-block-reads
 use Rattle.pens.proofs.put.put_plain.Reads as put-plain-reads
 
--- src/volumes.rt:25:21
 slice-aggregate-put-plain : tie.Need-slice-aggregate-put-plain
 slice-aggregate-put-plain c = search needs
 
--- src/volumes.rt:25:29
 sub-put-plain : tie.Need-sub-put-plain
 sub-put-plain c = search needs
 
--- src/volumes.rt:25:29
 part-put-plain-start : tie.Need-part-put-plain-start
 part-put-plain-start c = search needs
 
--- src/volumes.rt:25:29
 part-put-plain-end : tie.Need-part-put-plain-end
 part-put-plain-end c = search needs
 
--- src/volumes.rt:25:11
 put-plain-requires : tie.Need-put-plain-requires
 put-plain-requires c κs = search needs
 
--- src/volumes.rt:26:22
 enum-known-n : tie.Need-enum-known-n
 enum-known-n c = search needs
 
--- src/volumes.rt:26:38
 at-block-requires : tie.Need-at-block-requires
 at-block-requires c κs = omega (arith, lent-room (c .before .before .before .before .before .before .before .before .before .args .pen .at) (c .before .before .before .before .before .before .before .before .before .args .out .now) (c .before .before .before .before .before .before .before .before .before .pre .within) _ _ _ (c .before .before .before .before .before .put-plain .ensures .0) (c .before .n .given .1))
 
--- src/volumes.rt:27:24
 enum-told : tie.Need-enum-told
 enum-told c = search needs
 
--- src/volumes.rt:20:1
 same-length : tie.Need-same-length
 same-length c = search needs
 
--- src/volumes.rt:20:1
 returns : tie.Need-returns
 returns c = line-wrote (c .before .before .before .before .before .before .before .before .before .before .args .pen) (c .before .before .before .before .before .before .before .before .before .before .args .out .now) (ended (bytes "EOF")) _ 0 (c .before .before .before .before .before .before .before .before .before .before .pre) _ (c .before .before .before .before .before .before .put-plain .ensures .0) (c .before .before .before .before .before .before .put-plain .ensures .1) _ _ (c .before .before .n .given .1) (c .at-block .ensures)
 
--- src/volumes.rt:20:1
 same-length-2 : tie.Need-same-length-2
 same-length-2 c = search needs
 
--- src/volumes.rt:20:1
 returns-2 : tie.Need-returns-2
 returns-2 c = line-full (c .before .before .before .before .before .before .before .before .args .pen) (c .before .before .before .before .before .before .before .before .args .out .now) (ended (bytes "EOF")) _ 0 (c .before .before .before .before .before .before .before .before .pre) _ (c .before .before .before .before .put-plain .ensures .0) (c .before .before .before .before .put-plain .ensures .1) (c .enum-told .given .1)
 

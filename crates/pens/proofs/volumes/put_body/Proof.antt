@@ -20,51 +20,39 @@ Inv-loop s start end first notes₀ out₀ pen₀ at₀ going₀ t15 notes out p
 abbrev μ-loop : tie.MeasureT-loop
 μ-loop s start end first notes₀ out₀ pen₀ at₀ going₀ t15 notes out pen at going = cond going (suc (end + 3 - at)) 0
 
--- src/volumes.rt:79:5
 loop-holds : tie.Need-loop-holds Inv-loop μ-loop
 loop-holds c = walk-begins _ _ _ _ _ _ (c .before .before .before .pre)
 
--- src/volumes.rt:80:15
 look-requires : tie.Need-look-requires Inv-loop μ-loop
 look-requires c κs = search needs
 
--- src/volumes.rt:82:17
 enum-told : tie.Need-enum-told Inv-loop μ-loop
 enum-told c = search needs
 
--- src/volumes.rt:79:5
 loop-less : tie.Need-loop-less Inv-loop μ-loop
 loop-less c = fewer-none (c .before .before .before .before .before .before .before .before .args .end) (c .before .before .before .before .loop .at) (c .before .before .before .before .loop .going) (c .before .before .before .loop-test .taken)
 
--- src/volumes.rt:79:5
 loop-again : tie.Need-loop-again Inv-loop μ-loop
 loop-again c = walk-ends _ _ _ _ _ _ _ _ _ _ (c .before .before .before .before .loop .inv) (sym (c .before .before .look .ensures) ∙ c .enum-told .given .1)
 
--- src/volumes.rt:84:24
 enum-known-seen : tie.Need-enum-known-seen Inv-loop μ-loop
 enum-known-seen c = search needs
 
--- src/volumes.rt:86:23
 on-line-requires : tie.Need-on-line-requires Inv-loop μ-loop
 on-line-requires c κs = (c .before .before .before .before .before .before .before .loop .inv .safe, c .before .before .before .before .before .before .before .loop .inv .many)
 
--- src/volumes.rt:87:31
 enum-known-p : tie.Need-enum-known-p Inv-loop μ-loop
 enum-known-p c = search needs
 
--- src/volumes.rt:91:25
 enum-told-2 : tie.Need-enum-told-2 Inv-loop μ-loop
 enum-told-2 c = search needs
 
--- src/volumes.rt:91:25
 same-length : tie.Need-same-length Inv-loop μ-loop
 same-length c = c .before .before .before .before .before .before .on-line .ensures .1 ∙ sym (c .before .before .before .before .before .before .before .before .before .before .before .before .before .before .before .before .before .before .pre)
 
--- src/volumes.rt:91:25
 same-length-2 : tie.Need-same-length-2 Inv-loop μ-loop
 same-length-2 c = c .before .before .before .before .before .before .on-line .ensures .0 .long ∙ c .before .before .before .before .before .before .before .before .before .before .before .before .before .before .loop .inv .long
 
--- src/volumes.rt:91:25
 returns : tie.Need-returns Inv-loop μ-loop
 returns c = (
   full-within _ _ (c .before .before .before .before .before .before .on-line .ensures .0 .long ∙ c .before .before .before .before .before .before .before .before .before .before .before .before .before .before .loop .inv .long),
@@ -73,51 +61,39 @@ returns c = (
       (walk-short _ _ _ _ _ _ _ _ _ _ (c .before .before .before .before .before .before .before .before .before .before .before .before .before .before .loop .inv) (c .before .before .before .before .before .before .before .before .before .before .seen .given .0 .0) (sym (c .before .before .before .before .before .before .before .before .before .before .before .before .look .ensures) ∙ c .before .before .before .before .before .before .before .before .before .before .seen .given .1) _ _ _ (c .before .before .before .before .before .before .on-line .ensures .2) x (c .enum-told2 .given .1) (c .before .before .before .before .before .before .on-line .ensures .0 .long))),
 )
 
--- src/volumes.rt:79:5
 loop-less-2 : tie.Need-loop-less-2 Inv-loop μ-loop
 loop-less-2 c = fewer (c .before .before .before .before .before .before .before .before .before .before .before .before .before .before .before .before .before .before .before .before .args .s .now) (c .before .before .before .before .before .before .before .before .before .before .before .before .before .before .before .before .before .before .before .before .args .end) (c .before .before .before .before .before .before .before .before .before .before .before .before .before .before .before .before .loop .at) (c .before .before .before .before .before .before .before .before .before .before .before .before .before .before .before .before .loop .going) (c .before .before .before .before .before .before .before .before .before .before .before .before .seen .given .0 .0) (c .before .before .before .before .before .before .before .before .before .before .before .before .before .before .before .loop-test .taken) (sym (c .before .before .before .before .before .before .before .before .before .before .before .before .before .before .look .ensures) ∙ c .before .before .before .before .before .before .before .before .before .before .before .before .seen .given .1)
 
--- src/volumes.rt:79:5
 loop-again-2 : tie.Need-loop-again-2 Inv-loop μ-loop
 loop-again-2 c = walk-on _ _ _ _ _ _ _ _ _ _ (c .before .before .before .before .before .before .before .before .before .before .before .before .before .before .before .before .loop .inv) (c .before .before .before .before .before .before .before .before .before .before .before .before .seen .given .0 .0) (sym (c .before .before .before .before .before .before .before .before .before .before .before .before .before .before .look .ensures) ∙ c .before .before .before .before .before .before .before .before .before .before .before .before .seen .given .1) _ _ _ (c .before .before .before .before .before .before .before .before .on-line .ensures .2) _ (c .before .before .p .given .1) (c .before .before .before .before .before .before .before .before .on-line .ensures .0 .long) (c .before .before .before .before .before .before .before .before .on-line .ensures .1) (c .before .before .before .before .before .before .before .before .on-line .ensures .0 .safe)
 
--- src/volumes.rt:100:31
 slice-aggregate-put : tie.Need-slice-aggregate-put Inv-loop μ-loop
 slice-aggregate-put c = search needs
 
--- src/volumes.rt:100:40
 sub-put : tie.Need-sub-put Inv-loop μ-loop
 sub-put c = omega (arith, c .before .before .loop .inv .safe .within)
 
--- src/volumes.rt:100:40
 part-put-start : tie.Need-part-put-start Inv-loop μ-loop
 part-put-start c = omega (arith, c .before .before .loop .inv .safe .within)
 
--- src/volumes.rt:100:40
 part-put-end : tie.Need-part-put-end Inv-loop μ-loop
 part-put-end c = omega (arith, c .before .before .loop .inv .safe .within)
 
--- src/volumes.rt:100:27
 put-requires : tie.Need-put-requires Inv-loop μ-loop
 put-requires c κs = search needs
 
--- src/volumes.rt:100:22
 enum-known-n : tie.Need-enum-known-n Inv-loop μ-loop
 enum-known-n c = search needs
 
--- src/volumes.rt:101:9
 enum-told-3 : tie.Need-enum-told-3 Inv-loop μ-loop
 enum-told-3 c = search needs
 
--- src/volumes.rt:101:9
 same-length-3 : tie.Need-same-length-3 Inv-loop μ-loop
 same-length-3 c = c .before .before .before .before .before .before .before .before .loop .inv .many ∙ sym (c .before .before .before .before .before .before .before .before .before .before .before .before .pre)
 
--- src/volumes.rt:101:9
 same-length-4 : tie.Need-same-length-4 Inv-loop μ-loop
 same-length-4 c = put-long (c .before .before .before .before .before .before .before .before .loop .pen .at) (c .before .before .before .before .before .before .before .before .loop .out) (c .before .before .before .before .before .before .before .before .loop .inv .safe .within) _ _ _ (c .before .before .before .before .put .ensures) ∙ c .before .before .before .before .before .before .before .before .loop .inv .long
 
--- src/volumes.rt:101:9
 returns-2 : tie.Need-returns-2 Inv-loop μ-loop
 returns-2 c = (
   full-within _ _ (put-long (c .before .before .before .before .before .before .before .before .loop .pen .at) (c .before .before .before .before .before .before .before .before .loop .out) (c .before .before .before .before .before .before .before .before .loop .inv .safe .within) _ _ _ (c .before .before .before .before .put .ensures) ∙ c .before .before .before .before .before .before .before .before .loop .inv .long),
@@ -125,19 +101,15 @@ returns-2 c = (
   body-promise _ _ _ _ _ _ _ (λ x. body-unwrote _ _ _ _ _ _ _ _ _ _ (c .before .before .before .before .before .before .before .before .loop .inv) (c .before .before .before .before .before .before .before .loop-test .left) _ x (rw (c .enum-told3 .given .1) at (c .before .before .before .before .put .ensures))),
 )
 
--- src/volumes.rt:103:18
 add-t27 : tie.Need-add-t27 Inv-loop μ-loop
 add-t27 c = omega (arith, put-room (c .before .before .before .before .before .before .before .before .before .loop .pen .at) (c .before .before .before .before .before .before .before .before .before .loop .out) (c .before .before .before .before .before .before .before .before .before .loop .inv .safe .within) _ _ _ _ (c .before .before .before .before .before .put .ensures) (c .before .n .given .1), c .before .before .before .before .before .before .before .before .before .loop .inv .long)
 
--- src/volumes.rt:66:1
 same-length-5 : tie.Need-same-length-5 Inv-loop μ-loop
 same-length-5 c = c .before .before .before .before .before .before .before .before .before .loop .inv .many ∙ sym (c .before .before .before .before .before .before .before .before .before .before .before .before .before .pre)
 
--- src/volumes.rt:66:1
 same-length-6 : tie.Need-same-length-6 Inv-loop μ-loop
 same-length-6 c = put-long (c .before .before .before .before .before .before .before .before .before .loop .pen .at) (c .before .before .before .before .before .before .before .before .before .loop .out) (c .before .before .before .before .before .before .before .before .before .loop .inv .safe .within) _ _ _ (c .before .before .before .before .before .put .ensures) ∙ c .before .before .before .before .before .before .before .before .before .loop .inv .long
 
--- src/volumes.rt:66:1
 returns-3 : tie.Need-returns-3 Inv-loop μ-loop
 returns-3 c = (
   bytes-within _ _ _ (put-long (c .before .before .before .before .before .before .before .before .before .loop .pen .at) (c .before .before .before .before .before .before .before .before .before .loop .out) (c .before .before .before .before .before .before .before .before .before .loop .inv .safe .within) _ _ _ (c .before .before .before .before .before .put .ensures) ∙ c .before .before .before .before .before .before .before .before .before .loop .inv .long)

@@ -6,63 +6,48 @@ use Rattle.pens.proofs.volumes.put_head.Reads as reads
 use Rattle.pens.proofs.volumes.put_head.Lts as lts
 use Rattle.leaves.proofs.write.put.Reads as put-reads
 
--- src/volumes.rt:114:9
 slice-aggregate-put : tie.Need-slice-aggregate-put
 slice-aggregate-put c = search needs
 
--- src/volumes.rt:114:5
 put-requires : tie.Need-put-requires
 put-requires c κs = search needs
 
--- src/volumes.rt:115:15
 sub-put : tie.Need-sub-put
 sub-put c = search needs
 
--- src/volumes.rt:115:15
 part-put-start : tie.Need-part-put-start
 part-put-start c = search needs
 
--- src/volumes.rt:115:15
 part-put-end : tie.Need-part-put-end
 part-put-end c = search needs
 
--- src/volumes.rt:115:5
 put-requires-2 : tie.Need-put-requires-2
 put-requires-2 c κs = search needs
 
--- src/volumes.rt:116:16
 cast-high : tie.Need-cast-high
 cast-high c = search needs
 
--- src/volumes.rt:117:15
 cast-low : tie.Need-cast-low
 cast-low c = search needs
 
--- src/volumes.rt:118:9
 slice-aggregate-put-2 : tie.Need-slice-aggregate-put-2
 slice-aggregate-put-2 c = search needs
 
--- src/volumes.rt:118:23
 sub-put-2 : tie.Need-sub-put-2
 sub-put-2 c = search needs
 
--- src/volumes.rt:118:23
 part-put-start-2 : tie.Need-part-put-start-2
 part-put-start-2 c = search needs
 
--- src/volumes.rt:118:23
 part-put-end-2 : tie.Need-part-put-end-2
 part-put-end-2 c = search needs
 
--- src/volumes.rt:118:5
 put-requires-3 : tie.Need-put-requires-3
 put-requires-3 c κs = search needs
 
--- src/volumes.rt:110:1
 same-length : tie.Need-same-length
 same-length c = search needs
 
--- src/volumes.rt:110:1
 returns : tie.Need-returns
 returns c = head-put (c .before .before .before .before .before .before .before .before .before .before .before .before .before .before .before .before .args .name .now) (c .before .before .before .before .before .before .before .before .before .before .before .before .before .before .before .before .args .size) (c .before .before .before .before .before .before .before .before .before .before .before .before .before .before .before .before .args .out .now) _ _ _ _ _ _ (c .before .before .before .before .before .before .before .before .before .before .before .before .before .before .before .before .pre .0) (c .before .before .before .before .before .before .before .before .before .before .before .before .before .before .before .before .pre .1) (c .before .before .before .before .before .before .before .before .before .before .before .put .ensures) (c .before .before .before .before .before .before .before .put2 .ensures) (c .before .before .put3 .ensures)
 

@@ -17,95 +17,72 @@ Inv-loop s out₀ count places lengths notes₀ at₀ i₀ out notes at i = Goin
 abbrev μ-loop : tie.MeasureT-loop
 μ-loop s out₀ count places lengths notes₀ at₀ i₀ out notes at i = count - i
 
--- src/volumes.rt:148:9
 volumes-requires : tie.Need-volumes-requires Inv-loop μ-loop
 volumes-requires c κs = tt
 
--- src/volumes.rt:149:17
 cast-count : tie.Need-cast-count Inv-loop μ-loop
 cast-count c = omega arith
 
--- src/volumes.rt:155:5
 loop-holds : tie.Need-loop-holds Inv-loop μ-loop
 loop-holds c = begins _ _ _ refl
 
--- src/volumes.rt:156:21
 mul-start : tie.Need-mul-start Inv-loop μ-loop
 mul-start c = omega (arith, c .before .loop .inv .fits, placed _ _ _ (c .before .before .before .before .before .volumes .ensures) (c .loop-test .taken) .few)
 
--- src/volumes.rt:156:21
 array-read-start : tie.Need-array-read-start Inv-loop μ-loop
 array-read-start c = placed _ _ _ (c .before .before .before .before .before .volumes .ensures) (c .loop-test .taken) .few
 
--- src/volumes.rt:157:19
 mul-end : tie.Need-mul-end Inv-loop μ-loop
 mul-end c = omega (arith, placed _ _ _ (c .before .before .before .before .before .volumes .ensures) (c .loop-test .taken) .few)
 
--- src/volumes.rt:157:19
 array-read-end : tie.Need-array-read-end Inv-loop μ-loop
 array-read-end c = placed _ _ _ (c .before .before .before .before .before .volumes .ensures) (c .loop-test .taken) .few
 
--- src/volumes.rt:157:19
 add-end : tie.Need-add-end Inv-loop μ-loop
 add-end c = omega (arith, placed _ _ _ (c .before .before .before .before .before .volumes .ensures) (c .loop-test .taken) .high)
 
--- src/volumes.rt:158:55
 slice-aggregate-put-volume : tie.Need-slice-aggregate-put-volume Inv-loop μ-loop
 slice-aggregate-put-volume c = search needs
 
--- src/volumes.rt:158:67
 sub-put-volume : tie.Need-sub-put-volume Inv-loop μ-loop
 sub-put-volume c = c .before .before .loop .inv .fits
 
--- src/volumes.rt:158:67
 part-put-volume-start : tie.Need-part-put-volume-start Inv-loop μ-loop
 part-put-volume-start c = search needs
 
--- src/volumes.rt:158:67
 part-put-volume-end : tie.Need-part-put-volume-end Inv-loop μ-loop
 part-put-volume-end c = search needs
 
--- src/volumes.rt:158:13
 put-volume-requires : tie.Need-put-volume-requires Inv-loop μ-loop
 put-volume-requires c κs = c .before .before .before .loop .inv .many
 
--- src/volumes.rt:159:26
 enum-known-wrote : tie.Need-enum-known-wrote Inv-loop μ-loop
 enum-known-wrote c = search needs
 
--- src/volumes.rt:160:13
 enum-told : tie.Need-enum-told Inv-loop μ-loop
 enum-told c = search needs
 
--- src/volumes.rt:160:13
 same-length : tie.Need-same-length Inv-loop μ-loop
 same-length c = within-long _ _ (c .before .before .before .before .before .before .before .before .before .loop .inv .fits) _ _ (c .before .before .before .before .before .put-volume .ensures .0) ∙ c .before .before .before .before .before .before .before .before .before .loop .inv .long
 
--- src/volumes.rt:160:13
 returns : tie.Need-returns Inv-loop μ-loop
 returns c = no-room _ _ _ _ _ _ (c .before .before .before .before .before .before .before .before .before .loop .inv) _ (c .before .before .before .before .before .before .before .before .before .before .before .before .before .volumes .ensures) (c .before .before .before .before .before .before .before .before .loop-test .taken) (c .before .before .before .before .before .before .before .before .before .loop .inv .fits) _ _ (c .before .before .before .before .before .put-volume .ensures .0) (c .before .before .before .before .before .put-volume .ensures .2) (c .enum-told .given .1)
 
--- src/volumes.rt:162:9
 add-at : tie.Need-add-at Inv-loop μ-loop
 add-at c = omega (arith, lent-room (c .before .before .before .before .before .before .before .before .before .before .loop .at) (c .before .before .before .before .before .before .before .before .before .before .loop .out) (c .before .before .before .before .before .before .before .before .before .before .loop .inv .fits) _ _ _ (c .before .before .before .before .before .before .put-volume .ensures .0) (c .before .wrote .given .1))
 
--- src/volumes.rt:163:9
 add-i : tie.Need-add-i Inv-loop μ-loop
 add-i c = omega (arith, placed _ _ _ (c .before .before .before .before .before .before .before .before .before .before .before .before .before .before .volumes .ensures) (c .before .before .before .before .before .before .before .before .before .loop-test .taken) .few)
 
--- src/volumes.rt:155:5
 loop-less : tie.Need-loop-less Inv-loop μ-loop
 loop-less c = omega (arith, c .before .before .before .before .before .before .before .before .before .loop-test .taken)
 
--- src/volumes.rt:155:5
 loop-again : tie.Need-loop-again Inv-loop μ-loop
 loop-again c = goes-on _ _ _ _ _ _ (c .before .before .before .before .before .before .before .before .before .before .loop .inv) _ (c .before .before .before .before .before .before .before .before .before .before .before .before .before .before .volumes .ensures) (c .before .before .before .before .before .before .before .before .before .loop-test .taken) (c .before .before .before .before .before .before .before .before .before .before .loop .inv .fits) _ _ (c .before .before .before .before .before .before .put-volume .ensures .0) (c .before .before .before .before .before .before .put-volume .ensures .2) _ (c .before .before .before .before .before .before .put-volume .ensures .1) _ (c .before .wrote .given .1)
 
--- src/volumes.rt:145:1
 same-length-2 : tie.Need-same-length-2 Inv-loop μ-loop
 same-length-2 c = c .before .loop .inv .long
 
--- src/volumes.rt:145:1
 returns-2 : tie.Need-returns-2 Inv-loop μ-loop
 returns-2 c = ends _ _ _ _ _ _ (c .before .loop .inv) _ (c .before .before .before .before .before .volumes .ensures) (omega (arith, c .loop-test .left))
 

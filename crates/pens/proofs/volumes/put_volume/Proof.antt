@@ -12,43 +12,33 @@ use Rattle.lines.proofs.spool.volume_name.Reads as volume-name-reads
 use Rattle.pens.proofs.volumes.put_body.Reads as put-body-reads
 use Rattle.pens.proofs.volumes.put_head.Reads as put-head-reads
 
--- src/volumes.rt:127:9
 returns : tie.Need-returns
 returns c = (full-within _ _ refl, c .before .before .before .before .pre, λ K e v next ls s st k no-limit a b g. volume-narrow K _ _ (name-short (c .before .before .before .before .args .s .now) (c .before .before .before .before .args .start)) st _ _ (c .if1 .taken))
 
--- src/volumes.rt:129:65
 sub-put-body : tie.Need-sub-put-body
 sub-put-body c = search needs
 
--- src/volumes.rt:129:65
 part-put-body-start : tie.Need-part-put-body-start
 part-put-body-start c = search needs
 
--- src/volumes.rt:129:65
 part-put-body-end : tie.Need-part-put-body-end
 part-put-body-end c = search needs
 
--- src/volumes.rt:129:27
 put-body-requires : tie.Need-put-body-requires
 put-body-requires c κs = search needs
 
--- src/volumes.rt:129:22
 enum-known-n : tie.Need-enum-known-n
 enum-known-n c = search needs
 
--- src/volumes.rt:130:9
 enum-told : tie.Need-enum-told
 enum-told c = search needs
 
--- src/volumes.rt:130:9
 same-length : tie.Need-same-length
 same-length c = search needs
 
--- src/volumes.rt:130:9
 same-length-2 : tie.Need-same-length-2
 same-length-2 c = search needs
 
--- src/volumes.rt:130:9
 returns-2 : tie.Need-returns-2
 returns-2 c = (
   full-within _ _ (within-long 12 (c .before .before .before .before .before .before .before .before .before .before .before .before .before .args .out .now) (c .before .before .before .before .before .before .before .before .before .if1 .left) _ _ (c .before .before .before .before .before .before .put-body .ensures .0)),
@@ -56,27 +46,21 @@ returns-2 c = (
   volume-promise _ _ _ _ _ _ _ _ _ _ (c .before .before .before .before .before .before .put-body .ensures .2) (λ K st w. volume-full K _ _ (name-short (c .before .before .before .before .before .before .before .before .before .before .before .before .before .args .s .now) (c .before .before .before .before .before .before .before .before .before .before .before .before .before .args .start)) st _ _ (c .before .before .before .before .before .before .before .before .before .if1 .left) _ (rw (c .enum-told .given .1) at w)),
 )
 
--- src/volumes.rt:132:14
 volume-name-requires : tie.Need-volume-name-requires
 volume-name-requires c κs = search needs
 
--- src/volumes.rt:132:5
 put-head-requires : tie.Need-put-head-requires
 put-head-requires c κs = (rw (c .before .volume-name .ensures) (name-short (c .before .before .before .before .before .before .before .before .before .before .before .before .before .before .before .before .args .s .now) (c .before .before .before .before .before .before .before .before .before .before .before .before .before .before .before .before .args .start)), omega (arith, within-long 12 (c .before .before .before .before .before .before .before .before .before .before .before .before .before .before .before .before .args .out .now) (c .before .before .before .before .before .before .before .before .before .before .before .before .if1 .left) _ _ (c .before .before .before .before .before .before .before .before .before .put-body .ensures .0), c .before .before .before .before .before .before .before .before .before .before .before .before .if1 .left))
 
--- src/volumes.rt:133:18
 add-t8 : tie.Need-add-t8
 add-t8 c = omega (arith, lent-room 12 (c .before .before .before .before .before .before .before .before .before .before .before .before .before .before .before .before .before .before .before .args .out .now) (c .before .before .before .before .before .before .before .before .before .before .before .before .before .before .before .if1 .left) _ _ _ (c .before .before .before .before .before .before .before .before .before .before .before .before .put-body .ensures .0) (c .before .before .before .before .before .before .n .given .1))
 
--- src/volumes.rt:122:1
 same-length-3 : tie.Need-same-length-3
 same-length-3 c = search needs
 
--- src/volumes.rt:122:1
 same-length-4 : tie.Need-same-length-4
 same-length-4 c = search needs
 
--- src/volumes.rt:122:1
 returns-3 : tie.Need-returns-3
 returns-3 c =
     let h = rw (c .before .before .before .before .volume-name .ensures) at (c .before .before .put-head .ensures) in

@@ -26,7 +26,6 @@ abbrev capitals-below : ℕ → In 2 capitals-kinds.ps
 capitals-below t =
     and 2 capitals-kinds.ps (falls 2 capitals-kinds.ps _<_ μ-capitals t) capitals.Pre
 
--- src/contents.rt:36:9
 capitals-text-requires : (t : ℕ) → capitals-lts.Need-text-requires (
   text-reads.Asked,
   text-reads.Learnt,
@@ -37,7 +36,6 @@ capitals-text-requires : (t : ℕ) → capitals-lts.Need-text-requires (
 ) (capitals-at t) capitals.Post
 capitals-text-requires t c κs = tt
 
--- src/contents.rt:36:9
 capitals-same-length : (t : ℕ) → capitals-lts.Need-same-length (
   text-reads.Asked,
   text-reads.Learnt,
@@ -48,7 +46,6 @@ capitals-same-length : (t : ℕ) → capitals-lts.Need-same-length (
 ) (capitals-at t) capitals.Post
 capitals-same-length t c = search needs
 
--- src/contents.rt:36:9
 capitals-returns : (t : ℕ) → capitals-lts.Need-returns (
   text-reads.Asked,
   text-reads.Learnt,
@@ -59,7 +56,6 @@ capitals-returns : (t : ℕ) → capitals-lts.Need-returns (
 ) (capitals-at t) capitals.Post
 capitals-returns t c = no-capitals (c .before .before .before .before .before .before .before .args .at) (c .before .before .before .before .before .before .before .args .out .now) (c .before .before .before .before .before .before .before .args .c .now) _ _ (c .before .before .before .before .if1 .taken) (c .before .before .text .ensures)
 
--- src/contents.rt:38:26
 capitals-shared-slice-read-capital : (t : ℕ) → capitals-lts.Need-shared-slice-read-capital (
   text-reads.Asked,
   text-reads.Learnt,
@@ -70,7 +66,6 @@ capitals-shared-slice-read-capital : (t : ℕ) → capitals-lts.Need-shared-slic
 ) (capitals-at t) capitals.Post
 capitals-shared-slice-read-capital t c = search needs
 
--- src/contents.rt:38:18
 capitals-capital-requires : (t : ℕ) → capitals-lts.Need-capital-requires (
   text-reads.Asked,
   text-reads.Learnt,
@@ -81,7 +76,6 @@ capitals-capital-requires : (t : ℕ) → capitals-lts.Need-capital-requires (
 ) (capitals-at t) capitals.Post
 capitals-capital-requires t c κs = tt
 
--- src/contents.rt:39:18
 capitals-slice-aggregate-text : (t : ℕ) → capitals-lts.Need-slice-aggregate-text (
   text-reads.Asked,
   text-reads.Learnt,
@@ -92,7 +86,6 @@ capitals-slice-aggregate-text : (t : ℕ) → capitals-lts.Need-slice-aggregate-
 ) (capitals-at t) capitals.Post
 capitals-slice-aggregate-text t c = search needs
 
--- src/contents.rt:39:9
 capitals-text-requires-2 : (t : ℕ) → capitals-lts.Need-text-requires-2 (
   text-reads.Asked,
   text-reads.Learnt,
@@ -103,7 +96,6 @@ capitals-text-requires-2 : (t : ℕ) → capitals-lts.Need-text-requires-2 (
 ) (capitals-at t) capitals.Post
 capitals-text-requires-2 t c κs = tt
 
--- src/contents.rt:41:9
 capitals-same-length-2 : (t : ℕ) → capitals-lts.Need-same-length-2 (
   text-reads.Asked,
   text-reads.Learnt,
@@ -114,7 +106,6 @@ capitals-same-length-2 : (t : ℕ) → capitals-lts.Need-same-length-2 (
 ) (capitals-at t) capitals.Post
 capitals-same-length-2 t c = search needs
 
--- src/contents.rt:41:9
 capitals-returns-2 : (t : ℕ) → capitals-lts.Need-returns-2 (
   text-reads.Asked,
   text-reads.Learnt,
@@ -125,7 +116,6 @@ capitals-returns-2 : (t : ℕ) → capitals-lts.Need-returns-2 (
 ) (capitals-at t) capitals.Post
 capitals-returns-2 t c = one-capital (c .before .before .before .before .before .before .before .before .before .before .before .args .at) (c .before .before .before .before .before .before .before .before .before .before .before .args .out .now) (c .before .before .before .before .before .before .before .before .before .before .before .args .c .now) _ _ (c .if2 .taken) _ (c .before .before .before .before .before .before .capital .ensures) (c .before .before .before .text2 .ensures)
 
--- src/contents.rt:43:14
 capitals-sub-capitals : (t : ℕ) → capitals-lts.Need-sub-capitals (
   text-reads.Asked,
   text-reads.Learnt,
@@ -136,7 +126,6 @@ capitals-sub-capitals : (t : ℕ) → capitals-lts.Need-sub-capitals (
 ) (capitals-at t) capitals.Post
 capitals-sub-capitals t c = search needs
 
--- src/contents.rt:43:14
 capitals-part-capitals-start : (t : ℕ) → capitals-lts.Need-part-capitals-start (
   text-reads.Asked,
   text-reads.Learnt,
@@ -147,7 +136,6 @@ capitals-part-capitals-start : (t : ℕ) → capitals-lts.Need-part-capitals-sta
 ) (capitals-at t) capitals.Post
 capitals-part-capitals-start t c = search needs
 
--- src/contents.rt:43:14
 capitals-part-capitals-end : (t : ℕ) → capitals-lts.Need-part-capitals-end (
   text-reads.Asked,
   text-reads.Learnt,
@@ -158,7 +146,6 @@ capitals-part-capitals-end : (t : ℕ) → capitals-lts.Need-part-capitals-end (
 ) (capitals-at t) capitals.Post
 capitals-part-capitals-end t c = search needs
 
--- src/contents.rt:43:5
 capitals-capitals-requires : (t : ℕ) → capitals-lts.Need-capitals-requires (
   text-reads.Asked,
   text-reads.Learnt,
@@ -169,7 +156,6 @@ capitals-capitals-requires : (t : ℕ) → capitals-lts.Need-capitals-requires (
 ) (capitals-at t) capitals.Post
 capitals-capitals-requires t c κs = (omega (arith, ap (λ (l : List ℕ). length l) (rest-all 1 (c .before .before .before .before .before .before .before .before .before .before .before .before .before .args .c .now)), length-drop 1 (c .before .before .before .before .before .before .before .before .before .before .before .before .before .args .c .now), c .before .before .before .before .before .before .before .before .before .before .if1 .left, c .before .before .before .before .before .before .before .before .before .before .before .before .before .pre .0), tt)
 
--- src/contents.rt:32:1
 capitals-same-length-3 : (t : ℕ) → capitals-lts.Need-same-length-3 (
   text-reads.Asked,
   text-reads.Learnt,
@@ -180,7 +166,6 @@ capitals-same-length-3 : (t : ℕ) → capitals-lts.Need-same-length-3 (
 ) (capitals-at t) capitals.Post
 capitals-same-length-3 t c = search needs
 
--- src/contents.rt:32:1
 capitals-returns-3 : (t : ℕ) → capitals-lts.Need-returns-3 (
   text-reads.Asked,
   text-reads.Learnt,

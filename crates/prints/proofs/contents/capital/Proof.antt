@@ -8,19 +8,15 @@ use Rattle.prints.proofs.contents.capital.Reads as reads
 use Rattle.prints.proofs.contents.capital.Lts as lts
 use Rattle.leaves.proofs.bytes.within.Reads as within-reads
 
--- src/contents.rt:25:8
 within-requires : tie.Need-within-requires
 within-requires c κs = tt
 
--- src/contents.rt:26:16
 sub-result : tie.Need-sub-result
 sub-result c = omega (arith, within-both 97 122 (c .before .before .args .b) (sym (c .before .within .ensures) ∙ c .if1 .taken) .0)
 
--- src/contents.rt:26:9
 returns : tie.Need-returns
 returns c = sym (rw (sym (c .before .within .ensures) ∙ c .if1 .taken))
 
--- src/contents.rt:22:1
 returns-2 : tie.Need-returns-2
 returns-2 c = sym (rw (sym (c .before .within .ensures) ∙ c .if1 .left))
 

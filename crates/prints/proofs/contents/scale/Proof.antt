@@ -10,47 +10,36 @@ use Rattle.leaves.proofs.sheets.ratio.Reads as ratio-reads
 use Rattle.prints.proofs.texts.scale.Reads as scale-reads
 use Rattle.prints.proofs.texts.text.Reads as text-reads
 
--- src/contents.rt:58:24
 ratio-requires : tie.Need-ratio-requires
 ratio-requires c κs = search needs
 
--- src/contents.rt:58:19
 enum-known-z : tie.Need-enum-known-z
 enum-known-z c = search needs
 
--- src/contents.rt:59:28
 enum-told : tie.Need-enum-told
 enum-told c = search needs
 
--- src/contents.rt:59:9
 text-requires : tie.Need-text-requires
 text-requires c κs = search needs
 
--- src/contents.rt:59:9
 same-length : tie.Need-same-length
 same-length c = search needs
 
--- src/contents.rt:59:9
 returns : tie.Need-returns
 returns c = ratio-stands (c .before .before .before .before .before .before .before .before .before .args .c .now) (c .before .before .before .before .before .before .before .before .before .args .out .now) _ (c .before .before .before .before .before .before .before .before .before .args .at) _ (readRatio (c .before .before .before .before .before .before .before .before .before .args .c .now)) _ (sym (c .before .before .before .before .enum-told .given .1) ∙ c .before .before .before .before .before .before .ratio .ensures) (c .before .before .text .ensures)
 
--- src/contents.rt:61:15
 cast-scale : tie.Need-cast-scale
 cast-scale c = search needs
 
--- src/contents.rt:61:27
 cast-scale-2 : tie.Need-cast-scale-2
 cast-scale-2 c = search needs
 
--- src/contents.rt:61:5
 scale-requires : tie.Need-scale-requires
 scale-requires c κs = search needs
 
--- src/contents.rt:55:1
 same-length-2 : tie.Need-same-length-2
 same-length-2 c = search needs
 
--- src/contents.rt:55:1
 returns-2 : tie.Need-returns-2
 returns-2 c = ratio-anew (c .before .before .before .before .before .before .before .before .before .before .before .before .args .c .now) (c .before .before .before .before .before .before .before .before .before .before .before .before .args .out .now) _ (c .before .before .before .before .before .before .before .before .before .before .before .before .args .at) _ (readRatio (c .before .before .before .before .before .before .before .before .before .before .before .before .args .c .now)) (c .before .before .before .before .before .before .before .z .given .0 .0) (sym (c .before .before .before .before .before .before .before .z .given .1) ∙ c .before .before .before .before .before .before .before .before .before .ratio .ensures) (c .before .before .scale .ensures)
 

@@ -10,47 +10,36 @@ use Rattle.leaves.proofs.sheets.sheet.Reads as sheets-sheet-reads
 use Rattle.prints.proofs.texts.sheet.Reads as texts-sheet-reads
 use Rattle.prints.proofs.texts.text.Reads as text-reads
 
--- src/contents.rt:49:24
 sheet-requires : tie.Need-sheet-requires
 sheet-requires c κs = search needs
 
--- src/contents.rt:49:19
 enum-known-z : tie.Need-enum-known-z
 enum-known-z c = search needs
 
--- src/contents.rt:50:28
 enum-told : tie.Need-enum-told
 enum-told c = search needs
 
--- src/contents.rt:50:9
 text-requires : tie.Need-text-requires
 text-requires c κs = search needs
 
--- src/contents.rt:50:9
 same-length : tie.Need-same-length
 same-length c = search needs
 
--- src/contents.rt:50:9
 returns : tie.Need-returns
 returns c = sheet-stands (c .before .before .before .before .before .before .before .before .before .args .c .now) (c .before .before .before .before .before .before .before .before .before .args .out .now) _ (c .before .before .before .before .before .before .before .before .before .args .at) _ (findSheet (c .before .before .before .before .before .before .before .before .before .args .c .now) sheets) (sym (c .before .before .before .before .enum-told .given .1) ∙ c .before .before .before .before .before .before .sheet .ensures) (c .before .before .text .ensures)
 
--- src/contents.rt:52:15
 cast-sheet : tie.Need-cast-sheet
 cast-sheet c = search needs
 
--- src/contents.rt:52:36
 cast-sheet-2 : tie.Need-cast-sheet-2
 cast-sheet-2 c = search needs
 
--- src/contents.rt:52:5
 sheet-requires-2 : tie.Need-sheet-requires-2
 sheet-requires-2 c κs = search needs
 
--- src/contents.rt:46:1
 same-length-2 : tie.Need-same-length-2
 same-length-2 c = search needs
 
--- src/contents.rt:46:1
 returns-2 : tie.Need-returns-2
 returns-2 c = sheet-anew (c .before .before .before .before .before .before .before .before .before .before .before .before .args .c .now) (c .before .before .before .before .before .before .before .before .before .before .before .before .args .out .now) _ (c .before .before .before .before .before .before .before .before .before .before .before .before .args .at) _ (findSheet (c .before .before .before .before .before .before .before .before .before .before .before .before .args .c .now) sheets) (c .before .before .before .before .before .before .before .z .given .0 .0) (sym (c .before .before .before .before .before .before .before .z .given .1) ∙ c .before .before .before .before .before .before .before .before .before .sheet .ensures) (c .before .before .sheet2 .ensures)
 

@@ -5,11 +5,9 @@ use Rattle.prints.proofs.contents.stands.Tie as tie
 use Rattle.prints.proofs.contents.stands.Reads as reads
 use Rattle.prints.proofs.contents.stands.Lts as lts
 
--- src/contents.rt:69:9
 returns : tie.Need-returns
 returns c = sym (rw (lt-ltb 0 (c .before .args .kind) (c .if1 .taken)))
 
--- src/contents.rt:65:1
 returns-2 : tie.Need-returns-2
 returns-2 c = sym (rw (le-ltb 0 (c .before .args .kind) (c .if1 .left)))
 

@@ -29,7 +29,6 @@ pieces-at t = and 2 pieces-kinds.ps (is 2 pieces-kinds.ps μ-pieces t) pieces.Pr
 abbrev pieces-below : ℕ → In 2 pieces-kinds.ps
 pieces-below t = and 2 pieces-kinds.ps (falls 2 pieces-kinds.ps _<_ μ-pieces t) pieces.Pre
 
--- src/pieces.rt:63:9
 pieces-find-requires : (t : ℕ) → pieces-lts.Need-find-requires (
   find-reads.Asked,
   find-reads.Learnt,
@@ -44,7 +43,6 @@ pieces-find-requires : (t : ℕ) → pieces-lts.Need-find-requires (
 ) (pieces-at t) pieces.Post
 pieces-find-requires t c κs = tt
 
--- src/pieces.rt:65:9
 pieces-piece-requires : (t : ℕ) → pieces-lts.Need-piece-requires (
   find-reads.Asked,
   find-reads.Learnt,
@@ -59,7 +57,6 @@ pieces-piece-requires : (t : ℕ) → pieces-lts.Need-piece-requires (
 ) (pieces-at t) pieces.Post
 pieces-piece-requires t c κs = tt
 
--- src/pieces.rt:65:9
 pieces-same-length : (t : ℕ) → pieces-lts.Need-same-length (
   find-reads.Asked,
   find-reads.Learnt,
@@ -74,7 +71,6 @@ pieces-same-length : (t : ℕ) → pieces-lts.Need-same-length (
 ) (pieces-at t) pieces.Post
 pieces-same-length t c = search needs
 
--- src/pieces.rt:65:9
 pieces-returns : (t : ℕ) → pieces-lts.Need-returns (
   find-reads.Asked,
   find-reads.Learnt,
@@ -89,7 +85,6 @@ pieces-returns : (t : ℕ) → pieces-lts.Need-returns (
 ) (pieces-at t) pieces.Post
 pieces-returns t c = last-piece (c .before .before .before .before .before .before .before .before .args .forms) (c .before .before .before .before .before .before .before .before .args .alike) (c .before .before .before .before .before .before .before .before .args .c .now) (c .before .before .before .before .before .before .before .before .args .out .now) (c .before .before .before .before .before .before .before .before .args .at) (c .before .before .before .before .before .find .result) (c .before .before .before .before .before .find .ensures) _ _ (c .before .before .before .before .if1 .taken) (c .before .before .piece .ensures)
 
--- src/pieces.rt:67:36
 pieces-slice-aggregate-piece : (t : ℕ) → pieces-lts.Need-slice-aggregate-piece (
   find-reads.Asked,
   find-reads.Learnt,
@@ -104,7 +99,6 @@ pieces-slice-aggregate-piece : (t : ℕ) → pieces-lts.Need-slice-aggregate-pie
 ) (pieces-at t) pieces.Post
 pieces-slice-aggregate-piece t c = sym (length-take-le _ _ (omega (arith, c .before .if1 .left)))
 
--- src/pieces.rt:67:9
 pieces-piece-requires-2 : (t : ℕ) → pieces-lts.Need-piece-requires-2 (
   find-reads.Asked,
   find-reads.Learnt,
@@ -119,7 +113,6 @@ pieces-piece-requires-2 : (t : ℕ) → pieces-lts.Need-piece-requires-2 (
 ) (pieces-at t) pieces.Post
 pieces-piece-requires-2 t c κs = tt
 
--- src/pieces.rt:68:22
 pieces-slice-aggregate-text : (t : ℕ) → pieces-lts.Need-slice-aggregate-text (
   find-reads.Asked,
   find-reads.Learnt,
@@ -134,7 +127,6 @@ pieces-slice-aggregate-text : (t : ℕ) → pieces-lts.Need-slice-aggregate-text
 ) (pieces-at t) pieces.Post
 pieces-slice-aggregate-text t c = search needs
 
--- src/pieces.rt:68:9
 pieces-text-requires : (t : ℕ) → pieces-lts.Need-text-requires (
   find-reads.Asked,
   find-reads.Learnt,
@@ -149,7 +141,6 @@ pieces-text-requires : (t : ℕ) → pieces-lts.Need-text-requires (
 ) (pieces-at t) pieces.Post
 pieces-text-requires t c κs = tt
 
--- src/pieces.rt:69:16
 pieces-add-next : (t : ℕ) → pieces-lts.Need-add-next (
   find-reads.Asked,
   find-reads.Learnt,
@@ -164,7 +155,6 @@ pieces-add-next : (t : ℕ) → pieces-lts.Need-add-next (
 ) (pieces-at t) pieces.Post
 pieces-add-next t c = search needs
 
--- src/pieces.rt:70:9
 pieces-behind-first-requires : (t : ℕ) → pieces-lts.Need-behind-first-requires (
   find-reads.Asked,
   find-reads.Learnt,
@@ -179,7 +169,6 @@ pieces-behind-first-requires : (t : ℕ) → pieces-lts.Need-behind-first-requir
 ) (pieces-at t) pieces.Post
 pieces-behind-first-requires t c κs = tt
 
--- src/pieces.rt:71:25
 pieces-sub-pieces : (t : ℕ) → pieces-lts.Need-sub-pieces (
   find-reads.Asked,
   find-reads.Learnt,
@@ -194,7 +183,6 @@ pieces-sub-pieces : (t : ℕ) → pieces-lts.Need-sub-pieces (
 ) (pieces-at t) pieces.Post
 pieces-sub-pieces t c = search needs
 
--- src/pieces.rt:71:25
 pieces-part-pieces-start : (t : ℕ) → pieces-lts.Need-part-pieces-start (
   find-reads.Asked,
   find-reads.Learnt,
@@ -209,7 +197,6 @@ pieces-part-pieces-start : (t : ℕ) → pieces-lts.Need-part-pieces-start (
 ) (pieces-at t) pieces.Post
 pieces-part-pieces-start t c = search needs
 
--- src/pieces.rt:71:25
 pieces-part-pieces-end : (t : ℕ) → pieces-lts.Need-part-pieces-end (
   find-reads.Asked,
   find-reads.Learnt,
@@ -224,7 +211,6 @@ pieces-part-pieces-end : (t : ℕ) → pieces-lts.Need-part-pieces-end (
 ) (pieces-at t) pieces.Post
 pieces-part-pieces-end t c = search needs
 
--- src/pieces.rt:71:5
 pieces-pieces-requires : (t : ℕ) → pieces-lts.Need-pieces-requires (
   find-reads.Asked,
   find-reads.Learnt,
@@ -239,7 +225,6 @@ pieces-pieces-requires : (t : ℕ) → pieces-lts.Need-pieces-requires (
 ) (pieces-at t) pieces.Post
 pieces-pieces-requires t c κs = (omega (arith, ap (λ (l : List ℕ). length l) (rest-all (c .before .before .before .before .before .before .before .before .before .before .before .before .before .before .find .result + 1) (c .before .before .before .before .before .before .before .before .before .before .before .before .before .before .before .before .before .args .c .now)), length-drop (c .before .before .before .before .before .before .before .before .before .before .before .before .before .before .find .result + 1) (c .before .before .before .before .before .before .before .before .before .before .before .before .before .before .before .before .before .args .c .now), c .before .before .before .before .before .before .before .before .before .before .before .before .before .if1 .left, c .before .before .before .before .before .before .before .before .before .before .before .before .before .before .before .before .before .pre .0), tt)
 
--- src/pieces.rt:60:1
 pieces-same-length-2 : (t : ℕ) → pieces-lts.Need-same-length-2 (
   find-reads.Asked,
   find-reads.Learnt,
@@ -254,7 +239,6 @@ pieces-same-length-2 : (t : ℕ) → pieces-lts.Need-same-length-2 (
 ) (pieces-at t) pieces.Post
 pieces-same-length-2 t c = search needs
 
--- src/pieces.rt:60:1
 pieces-returns-2 : (t : ℕ) → pieces-lts.Need-returns-2 (
   find-reads.Asked,
   find-reads.Learnt,

@@ -5,11 +5,9 @@ use Rattle.prints.proofs.pieces.behind_first.Tie as tie
 use Rattle.prints.proofs.pieces.behind_first.Reads as reads
 use Rattle.prints.proofs.pieces.behind_first.Lts as lts
 
--- src/pieces.rt:54:9
 returns : tie.Need-returns
 returns c = search needs
 
--- src/pieces.rt:50:1
 returns-2 : tie.Need-returns-2
 returns-2 c = sym (rw (c .if1 .left))
 

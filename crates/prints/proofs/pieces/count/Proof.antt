@@ -10,39 +10,30 @@ use Rattle.leaves.proofs.numbers.serial.Reads as serial-reads
 use Rattle.prints.proofs.texts.number.Reads as number-reads
 use Rattle.prints.proofs.texts.text.Reads as text-reads
 
--- src/pieces.rt:21:24
 serial-requires : tie.Need-serial-requires
 serial-requires c κs = search needs
 
--- src/pieces.rt:21:19
 enum-known-n : tie.Need-enum-known-n
 enum-known-n c = search needs
 
--- src/pieces.rt:22:28
 enum-told : tie.Need-enum-told
 enum-told c = search needs
 
--- src/pieces.rt:22:9
 text-requires : tie.Need-text-requires
 text-requires c κs = search needs
 
--- src/pieces.rt:22:9
 same-length : tie.Need-same-length
 same-length c = search needs
 
--- src/pieces.rt:22:9
 returns : tie.Need-returns
 returns c = count-stands (c .before .before .before .before .before .before .before .before .before .args .c .now) (c .before .before .before .before .before .before .before .before .before .args .out .now) _ (c .before .before .before .before .before .before .before .before .before .args .at) _ (showCount 20) (readCount 10 (c .before .before .before .before .before .before .before .before .before .args .c .now)) (sym (c .before .before .before .before .enum-told .given .1) ∙ c .before .before .before .before .before .before .serial .ensures) (c .before .before .text .ensures)
 
--- src/pieces.rt:24:5
 number-requires : tie.Need-number-requires
 number-requires c κs = search needs
 
--- src/pieces.rt:18:1
 same-length-2 : tie.Need-same-length-2
 same-length-2 c = search needs
 
--- src/pieces.rt:18:1
 returns-2 : tie.Need-returns-2
 returns-2 c = count-anew (c .before .before .before .before .before .before .before .before .before .before .args .c .now) (c .before .before .before .before .before .before .before .before .before .before .args .out .now) _ (c .before .before .before .before .before .before .before .before .before .before .args .at) _ (showCount 20) (readCount 10 (c .before .before .before .before .before .before .before .before .before .before .args .c .now)) (c .before .before .before .before .before .n .given .0 .0) (sym (c .before .before .before .before .before .n .given .1) ∙ c .before .before .before .before .before .before .before .serial .ensures) (c .before .before .number .ensures)
 

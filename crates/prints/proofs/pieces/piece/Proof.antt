@@ -8,39 +8,30 @@ use Rattle.prints.proofs.pieces.count.Reads as count-reads
 use Rattle.prints.proofs.pieces.size.Reads as size-reads
 use Rattle.prints.proofs.texts.text.Reads as text-reads
 
--- src/pieces.rt:41:9
 size-requires : tie.Need-size-requires
 size-requires c κs = search needs
 
--- src/pieces.rt:41:9
 same-length : tie.Need-same-length
 same-length c = search needs
 
--- src/pieces.rt:41:9
 returns : tie.Need-returns
 returns c = rw (le-leb 20 (c .before .before .before .before .before .before .before .args .form) (c .before .before .before .before .if1 .taken)) (c .before .before .size .ensures)
 
--- src/pieces.rt:44:9
 count-requires : tie.Need-count-requires
 count-requires c κs = search needs
 
--- src/pieces.rt:44:9
 same-length-2 : tie.Need-same-length-2
 same-length-2 c = search needs
 
--- src/pieces.rt:44:9
 returns-2 : tie.Need-returns-2
 returns-2 c = rw (c .before .before .before .before .if2 .taken) (c .before .before .count .ensures)
 
--- src/pieces.rt:46:5
 text-requires : tie.Need-text-requires
 text-requires c κs = search needs
 
--- src/pieces.rt:37:1
 same-length-3 : tie.Need-same-length-3
 same-length-3 c = search needs
 
--- src/pieces.rt:37:1
 returns-3 : tie.Need-returns-3
 returns-3 c = rw (lt-leb 20 (c .before .before .before .before .before .before .before .before .args .form) (c .before .before .before .before .before .if1 .left), ne-eqb (c .before .before .before .before .before .before .before .before .args .form) 7 (c .before .before .before .before .if2 .left)) (c .before .before .text .ensures)
 

@@ -13,39 +13,30 @@ use Rattle.leaves.proofs.numbers.decimal.Reads as numbers-decimal-reads
 use Rattle.prints.proofs.texts.decimal.Reads as texts-decimal-reads
 use Rattle.prints.proofs.texts.text.Reads as text-reads
 
--- src/pieces.rt:30:26
 decimal-requires : tie.Need-decimal-requires
 decimal-requires c κs = search needs
 
--- src/pieces.rt:30:21
 enum-known-d : tie.Need-enum-known-d
 enum-known-d c = search needs
 
--- src/pieces.rt:31:28
 enum-told : tie.Need-enum-told
 enum-told c = search needs
 
--- src/pieces.rt:31:9
 text-requires : tie.Need-text-requires
 text-requires c κs = search needs
 
--- src/pieces.rt:31:9
 same-length : tie.Need-same-length
 same-length c = search needs
 
--- src/pieces.rt:31:9
 returns : tie.Need-returns
 returns c = reading-stands (c .before .before .before .before .before .before .before .before .before .args .c .now) (c .before .before .before .before .before .before .before .before .before .args .out .now) _ (c .before .before .before .before .before .before .before .before .before .args .at) _ showDecimal (readDecimal (c .before .before .before .before .before .before .before .before .before .args .c .now)) (sym (c .before .before .before .before .enum-told .given .1) ∙ c .before .before .before .before .before .before .decimal .ensures) (c .before .before .text .ensures)
 
--- src/pieces.rt:33:5
 decimal-requires-2 : tie.Need-decimal-requires-2
 decimal-requires-2 c κs = search needs
 
--- src/pieces.rt:27:1
 same-length-2 : tie.Need-same-length-2
 same-length-2 c = search needs
 
--- src/pieces.rt:27:1
 returns-2 : tie.Need-returns-2
 returns-2 c =
     let f : SFits w64 (c .before .before .before .before .before .before .d .given .0 .0 .value) = search needs in

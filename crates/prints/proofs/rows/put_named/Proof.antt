@@ -11,59 +11,45 @@ use Rattle.entries.proofs.names.part.Reads as part-reads
 use Rattle.prints.proofs.rows.end.Reads as end-reads
 use Rattle.prints.proofs.texts.text.Reads as text-reads
 
--- src/rows.rt:70:19
 part-requires : tie.Need-part-requires
 part-requires c κs = search needs
 
--- src/rows.rt:70:9
 text-requires : tie.Need-text-requires
 text-requires c κs = search needs
 
--- src/rows.rt:71:22
 slice-aggregate-text : tie.Need-slice-aggregate-text
 slice-aggregate-text c = search needs
 
--- src/rows.rt:71:9
 text-requires-2 : tie.Need-text-requires-2
 text-requires-2 c κs = search needs
 
--- src/rows.rt:72:22
 enum-known-rest : tie.Need-enum-known-rest
 enum-known-rest c = search needs
 
--- src/rows.rt:73:27
 enum-told : tie.Need-enum-told
 enum-told c = search needs
 
--- src/rows.rt:73:9
 end-requires : tie.Need-end-requires
 end-requires c κs = search needs
 
--- src/rows.rt:73:9
 same-length : tie.Need-same-length
 same-length c = search needs
 
--- src/rows.rt:73:9
 returns : tie.Need-returns
 returns c = unnamed (bytesAt (c .before .before .before .before .before .before .before .before .before .before .before .before .before .before .before .before .before .before .args .s .now) (c .before .before .before .before .before .before .before .before .before .before .before .before .before .before .before .before .before .before .args .key)) (c .before .before .before .before .before .before .before .before .before .before .before .before .before .before .before .before .before .before .args .out .now) _ _ _ _ (rw (c .before .before .before .before .before .before .before .before .before .before .before .before .before .before .before .part .ensures) at (c .before .before .before .before .before .before .before .before .before .before .before .before .before .text .ensures)) (c .before .before .before .before .before .before .before .before .text2 .ensures) (restIn (c .before .before .before .before .before .before .before .before .before .before .before .before .before .before .before .before .before .before .args .s .now) (c .before .before .before .before .before .before .before .before .before .before .before .before .before .before .before .before .before .before .args .rest)) (ap (restIn (c .before .before .before .before .before .before .before .before .before .before .before .before .before .before .before .before .before .before .args .s .now)) (c .before .before .before .before .enum-told .given .1)) _ _ (c .before .before .end .ensures)
 
--- src/rows.rt:75:20
 part-requires-2 : tie.Need-part-requires-2
 part-requires-2 c κs = search needs
 
--- src/rows.rt:75:9
 text-requires-3 : tie.Need-text-requires-3
 text-requires-3 c κs = search needs
 
--- src/rows.rt:76:5
 end-requires-2 : tie.Need-end-requires-2
 end-requires-2 c κs = search needs
 
--- src/rows.rt:67:1
 same-length-2 : tie.Need-same-length-2
 same-length-2 c = search needs
 
--- src/rows.rt:67:1
 returns-2 : tie.Need-returns-2
 returns-2 c = layer-line (bytesAt (c .before .before .before .before .before .before .before .before .before .before .before .before .before .before .before .before .before .before .before .before .before .before .before .before .args .s .now) (c .before .before .before .before .before .before .before .before .before .before .before .before .before .before .before .before .before .before .before .before .before .before .before .before .args .key)) (c .before .before .before .before .before .before .before .before .before .before .before .before .before .before .before .before .before .before .before .before .before .before .before .before .args .out .now) _ _ _ _ (rw (c .before .before .before .before .before .before .before .before .before .before .before .before .before .before .before .before .before .before .before .before .before .part .ensures) at (c .before .before .before .before .before .before .before .before .before .before .before .before .before .before .before .before .before .before .before .text .ensures)) (c .before .before .before .before .before .before .before .before .before .before .before .before .before .before .text2 .ensures) (restIn (c .before .before .before .before .before .before .before .before .before .before .before .before .before .before .before .before .before .before .before .before .before .before .before .before .args .s .now) (c .before .before .before .before .before .before .before .before .before .before .before .before .before .before .before .before .before .before .before .before .before .before .before .before .args .rest)) _ _ (ap (restIn (c .before .before .before .before .before .before .before .before .before .before .before .before .before .before .before .before .before .before .before .before .before .before .before .before .args .s .now)) (c .before .before .before .before .before .before .before .before .before .before .rest .given .1)) _ _ _ _ (rw (c .before .before .before .before .before .before .before .before .part2 .ensures) at (c .before .before .before .before .before .before .text3 .ensures)) (c .before .before .end2 .ensures)
 

@@ -10,19 +10,15 @@ use Rattle.prints.proofs.rows.put_plain.Lts as lts
 use Rattle.prints.proofs.rows.end.Reads as end-reads
 use Rattle.prints.proofs.texts.text.Reads as text-reads
 
--- src/rows.rt:31:9
 text-requires : tie.Need-text-requires
 text-requires c κs = search needs
 
--- src/rows.rt:32:5
 end-requires : tie.Need-end-requires
 end-requires c κs = search needs
 
--- src/rows.rt:28:1
 same-length : tie.Need-same-length
 same-length c = search needs
 
--- src/rows.rt:28:1
 returns : tie.Need-returns
 returns c = at-front (c .before .before .before .before .before .before .before .before .before .before .args .line .now ++ lineEnd) (c .before .before .before .before .before .before .before .before .before .before .args .out .now) _ _ (then (c .before .before .before .before .before .before .before .before .before .before .args .line .now) lineEnd (c .before .before .before .before .before .before .before .before .before .before .args .out .now) _ _ (Bytes 0) _ _ (c .before .before .before .before .before .before .text .ensures) (c .before .before .end .ensures))
 

@@ -14,63 +14,48 @@ use Rattle.prints.proofs.texts.decimal.Reads as reads
 use Rattle.prints.proofs.texts.decimal.Lts as lts
 use Rattle.leaves.proofs.write.put_decimal.Reads as put-decimal-reads
 
--- src/texts.rt:48:22
 enum-known-at : tie.Need-enum-known-at
 enum-known-at c = search needs
 
--- src/texts.rt:49:9
 enum-told : tie.Need-enum-told
 enum-told c = search needs
 
--- src/texts.rt:49:9
 returns : tie.Need-returns
 returns c = none-left (showDecimal (c .before .before .before .args .z)) (c .before .before .before .args .out .now) (c .before .before .before .args .at) (c .enum-told .given .1)
 
--- src/texts.rt:52:9
 returns-2 : tie.Need-returns-2
 returns-2 c = beyond (showDecimal (c .before .before .before .before .before .args .z)) (c .before .before .before .before .before .args .out .now) (c .before .before .before .before .before .args .at) (c .before .before .at .given .0 .0) (c .before .before .at .given .1) (c .if1 .taken)
 
--- src/texts.rt:54:45
 sub-put-decimal : tie.Need-sub-put-decimal
 sub-put-decimal c = search needs
 
--- src/texts.rt:54:45
 part-put-decimal-start : tie.Need-part-put-decimal-start
 part-put-decimal-start c = search needs
 
--- src/texts.rt:54:45
 part-put-decimal-end : tie.Need-part-put-decimal-end
 part-put-decimal-end c = search needs
 
--- src/texts.rt:54:30
 put-decimal-requires : tie.Need-put-decimal-requires
 put-decimal-requires c κs = search needs
 
--- src/texts.rt:54:22
 enum-known-long : tie.Need-enum-known-long
 enum-known-long c = search needs
 
--- src/texts.rt:55:9
 enum-told-2 : tie.Need-enum-told-2
 enum-told-2 c = search needs
 
--- src/texts.rt:55:9
 same-length : tie.Need-same-length
 same-length c = search needs
 
--- src/texts.rt:55:9
 returns-3 : tie.Need-returns-3
 returns-3 c = let f : SFits w64 (c .before .before .before .before .before .before .before .before .before .before .before .args .z) = search needs in placed-full (showDecimal (c .before .before .before .before .before .before .before .before .before .before .before .args .z)) (c .before .before .before .before .before .before .before .before .before .before .before .args .out .now) _ (c .before .before .before .before .before .before .before .before .before .before .before .args .at) _ (c .before .before .before .before .before .before .before .before .at .given .0 .0) (c .before .before .before .before .before .before .before .before .at .given .1) (c .before .before .before .before .before .before .if1 .left) (rw (toZ-ofZ f) at (c .before .before .before .before .put-decimal .ensures)) (c .enum-told2 .given .1)
 
--- src/texts.rt:57:18
 add-t6 : tie.Need-add-t6
 add-t6 c = let f : SFits w64 (c .before .before .before .before .before .before .before .before .before .before .before .before .args .z) = search needs in record { fits = omega (arith, placed-room (showDecimal (c .before .before .before .before .before .before .before .before .before .before .before .before .args .z)) (c .before .before .before .before .before .before .before .before .before .before .before .before .args .out .now) _ (c .before .before .before .before .before .before .before .before .before .before .before .before .args .at) _ (c .before .before .before .before .before .before .before .before .before .at .given .0 .0) (c .before .before .before .before .before .before .before .before .before .at .given .1) (c .before .before .before .before .before .before .before .if1 .left) (rw (toZ-ofZ f) at (c .before .before .before .before .before .put-decimal .ensures)) (c .before .long .given .0 .0) (c .before .long .given .1)) }
 
--- src/texts.rt:45:1
 same-length-2 : tie.Need-same-length-2
 same-length-2 c = search needs
 
--- src/texts.rt:45:1
 returns-4 : tie.Need-returns-4
 returns-4 c = let f : SFits w64 (c .before .before .before .before .before .before .before .before .before .before .before .before .args .z) = search needs in placed-bytes (showDecimal (c .before .before .before .before .before .before .before .before .before .before .before .before .args .z)) (c .before .before .before .before .before .before .before .before .before .before .before .before .args .out .now) _ (c .before .before .before .before .before .before .before .before .before .before .before .before .args .at) _ (c .before .before .before .before .before .before .before .before .before .at .given .0 .0) (c .before .before .before .before .before .before .before .before .before .at .given .1) (c .before .before .before .before .before .before .before .if1 .left) (rw (toZ-ofZ f) at (c .before .before .before .before .before .put-decimal .ensures)) (c .before .long .given .0 .0) (c .before .long .given .1)
 

@@ -11,63 +11,48 @@ use Rattle.prints.proofs.texts.number.Reads as reads
 use Rattle.prints.proofs.texts.number.Lts as lts
 use Rattle.leaves.proofs.write.put_count.Reads as put-count-reads
 
--- src/texts.rt:32:22
 enum-known-at : tie.Need-enum-known-at
 enum-known-at c = search needs
 
--- src/texts.rt:33:9
 enum-told : tie.Need-enum-told
 enum-told c = search needs
 
--- src/texts.rt:33:9
 returns : tie.Need-returns
 returns c = none-left (showCount 20 (c .before .before .before .args .v)) (c .before .before .before .args .out .now) (c .before .before .before .args .at) (c .enum-told .given .1)
 
--- src/texts.rt:36:9
 returns-2 : tie.Need-returns-2
 returns-2 c = beyond (showCount 20 (c .before .before .before .before .before .args .v)) (c .before .before .before .before .before .args .out .now) (c .before .before .before .before .before .args .at) (c .before .before .at .given .0 .0) (c .before .before .at .given .1) (c .if1 .taken)
 
--- src/texts.rt:38:43
 sub-put-count : tie.Need-sub-put-count
 sub-put-count c = search needs
 
--- src/texts.rt:38:43
 part-put-count-start : tie.Need-part-put-count-start
 part-put-count-start c = search needs
 
--- src/texts.rt:38:43
 part-put-count-end : tie.Need-part-put-count-end
 part-put-count-end c = search needs
 
--- src/texts.rt:38:30
 put-count-requires : tie.Need-put-count-requires
 put-count-requires c κs = search needs
 
--- src/texts.rt:38:22
 enum-known-long : tie.Need-enum-known-long
 enum-known-long c = search needs
 
--- src/texts.rt:39:9
 enum-told-2 : tie.Need-enum-told-2
 enum-told-2 c = search needs
 
--- src/texts.rt:39:9
 same-length : tie.Need-same-length
 same-length c = search needs
 
--- src/texts.rt:39:9
 returns-3 : tie.Need-returns-3
 returns-3 c = placed-full (showCount 20 (c .before .before .before .before .before .before .before .before .before .before .before .args .v)) (c .before .before .before .before .before .before .before .before .before .before .before .args .out .now) _ (c .before .before .before .before .before .before .before .before .before .before .before .args .at) _ (c .before .before .before .before .before .before .before .before .at .given .0 .0) (c .before .before .before .before .before .before .before .before .at .given .1) (c .before .before .before .before .before .before .if1 .left) (c .before .before .before .before .put-count .ensures) (c .enum-told2 .given .1)
 
--- src/texts.rt:41:18
 add-t6 : tie.Need-add-t6
 add-t6 c = record { fits = omega (arith, placed-room (showCount 20 (c .before .before .before .before .before .before .before .before .before .before .before .before .args .v)) (c .before .before .before .before .before .before .before .before .before .before .before .before .args .out .now) _ (c .before .before .before .before .before .before .before .before .before .before .before .before .args .at) _ (c .before .before .before .before .before .before .before .before .before .at .given .0 .0) (c .before .before .before .before .before .before .before .before .before .at .given .1) (c .before .before .before .before .before .before .before .if1 .left) (c .before .before .before .before .before .put-count .ensures) (c .before .long .given .0 .0) (c .before .long .given .1)) }
 
--- src/texts.rt:29:1
 same-length-2 : tie.Need-same-length-2
 same-length-2 c = search needs
 
--- src/texts.rt:29:1
 returns-4 : tie.Need-returns-4
 returns-4 c = placed-bytes (showCount 20 (c .before .before .before .before .before .before .before .before .before .before .before .before .args .v)) (c .before .before .before .before .before .before .before .before .before .before .before .before .args .out .now) _ (c .before .before .before .before .before .before .before .before .before .before .before .before .args .at) _ (c .before .before .before .before .before .before .before .before .before .at .given .0 .0) (c .before .before .before .before .before .before .before .before .before .at .given .1) (c .before .before .before .before .before .before .before .if1 .left) (c .before .before .before .before .before .put-count .ensures) (c .before .long .given .0 .0) (c .before .long .given .1)
 

@@ -11,63 +11,48 @@ use Rattle.prints.proofs.texts.scale.Reads as reads
 use Rattle.prints.proofs.texts.scale.Lts as lts
 use Rattle.leaves.proofs.write.put_ratio.Reads as put-ratio-reads
 
--- src/texts.rt:80:22
 enum-known-at : tie.Need-enum-known-at
 enum-known-at c = search needs
 
--- src/texts.rt:81:9
 enum-told : tie.Need-enum-told
 enum-told c = search needs
 
--- src/texts.rt:81:9
 returns : tie.Need-returns
 returns c = none-left (showRatio (c .before .before .before .args .p) (c .before .before .before .args .q)) (c .before .before .before .args .out .now) (c .before .before .before .args .at) (c .enum-told .given .1)
 
--- src/texts.rt:84:9
 returns-2 : tie.Need-returns-2
 returns-2 c = beyond (showRatio (c .before .before .before .before .before .args .p) (c .before .before .before .before .before .args .q)) (c .before .before .before .before .before .args .out .now) (c .before .before .before .before .before .args .at) (c .before .before .at .given .0 .0) (c .before .before .at .given .1) (c .if1 .taken)
 
--- src/texts.rt:86:46
 sub-put-ratio : tie.Need-sub-put-ratio
 sub-put-ratio c = search needs
 
--- src/texts.rt:86:46
 part-put-ratio-start : tie.Need-part-put-ratio-start
 part-put-ratio-start c = search needs
 
--- src/texts.rt:86:46
 part-put-ratio-end : tie.Need-part-put-ratio-end
 part-put-ratio-end c = search needs
 
--- src/texts.rt:86:30
 put-ratio-requires : tie.Need-put-ratio-requires
 put-ratio-requires c κs = search needs
 
--- src/texts.rt:86:22
 enum-known-long : tie.Need-enum-known-long
 enum-known-long c = search needs
 
--- src/texts.rt:87:9
 enum-told-2 : tie.Need-enum-told-2
 enum-told-2 c = search needs
 
--- src/texts.rt:87:9
 same-length : tie.Need-same-length
 same-length c = search needs
 
--- src/texts.rt:87:9
 returns-3 : tie.Need-returns-3
 returns-3 c = placed-full (showRatio (c .before .before .before .before .before .before .before .before .before .before .before .args .p) (c .before .before .before .before .before .before .before .before .before .before .before .args .q)) (c .before .before .before .before .before .before .before .before .before .before .before .args .out .now) _ (c .before .before .before .before .before .before .before .before .before .before .before .args .at) _ (c .before .before .before .before .before .before .before .before .at .given .0 .0) (c .before .before .before .before .before .before .before .before .at .given .1) (c .before .before .before .before .before .before .if1 .left) (c .before .before .before .before .put-ratio .ensures) (c .enum-told2 .given .1)
 
--- src/texts.rt:89:18
 add-t7 : tie.Need-add-t7
 add-t7 c = record { fits = omega (arith, placed-room (showRatio (c .before .before .before .before .before .before .before .before .before .before .before .before .args .p) (c .before .before .before .before .before .before .before .before .before .before .before .before .args .q)) (c .before .before .before .before .before .before .before .before .before .before .before .before .args .out .now) _ (c .before .before .before .before .before .before .before .before .before .before .before .before .args .at) _ (c .before .before .before .before .before .before .before .before .before .at .given .0 .0) (c .before .before .before .before .before .before .before .before .before .at .given .1) (c .before .before .before .before .before .before .before .if1 .left) (c .before .before .before .before .before .put-ratio .ensures) (c .before .long .given .0 .0) (c .before .long .given .1)) }
 
--- src/texts.rt:77:1
 same-length-2 : tie.Need-same-length-2
 same-length-2 c = search needs
 
--- src/texts.rt:77:1
 returns-4 : tie.Need-returns-4
 returns-4 c = placed-bytes (showRatio (c .before .before .before .before .before .before .before .before .before .before .before .before .args .p) (c .before .before .before .before .before .before .before .before .before .before .before .before .args .q)) (c .before .before .before .before .before .before .before .before .before .before .before .before .args .out .now) _ (c .before .before .before .before .before .before .before .before .before .before .before .before .args .at) _ (c .before .before .before .before .before .before .before .before .before .at .given .0 .0) (c .before .before .before .before .before .before .before .before .before .at .given .1) (c .before .before .before .before .before .before .before .if1 .left) (c .before .before .before .before .before .put-ratio .ensures) (c .before .long .given .0 .0) (c .before .long .given .1)
 

@@ -11,63 +11,48 @@ use Rattle.prints.proofs.texts.sheet.Reads as reads
 use Rattle.prints.proofs.texts.sheet.Lts as lts
 use Rattle.leaves.proofs.write.put_sheet.Reads as put-sheet-reads
 
--- src/texts.rt:64:22
 enum-known-at : tie.Need-enum-known-at
 enum-known-at c = search needs
 
--- src/texts.rt:65:9
 enum-told : tie.Need-enum-told
 enum-told c = search needs
 
--- src/texts.rt:65:9
 returns : tie.Need-returns
 returns c = none-left (showSheet (c .before .before .before .args .n) (c .before .before .before .args .a)) (c .before .before .before .args .out .now) (c .before .before .before .args .at) (c .enum-told .given .1)
 
--- src/texts.rt:68:9
 returns-2 : tie.Need-returns-2
 returns-2 c = beyond (showSheet (c .before .before .before .before .before .args .n) (c .before .before .before .before .before .args .a)) (c .before .before .before .before .before .args .out .now) (c .before .before .before .before .before .args .at) (c .before .before .at .given .0 .0) (c .before .before .at .given .1) (c .if1 .taken)
 
--- src/texts.rt:70:46
 sub-put-sheet : tie.Need-sub-put-sheet
 sub-put-sheet c = search needs
 
--- src/texts.rt:70:46
 part-put-sheet-start : tie.Need-part-put-sheet-start
 part-put-sheet-start c = search needs
 
--- src/texts.rt:70:46
 part-put-sheet-end : tie.Need-part-put-sheet-end
 part-put-sheet-end c = search needs
 
--- src/texts.rt:70:30
 put-sheet-requires : tie.Need-put-sheet-requires
 put-sheet-requires c κs = search needs
 
--- src/texts.rt:70:22
 enum-known-long : tie.Need-enum-known-long
 enum-known-long c = search needs
 
--- src/texts.rt:71:9
 enum-told-2 : tie.Need-enum-told-2
 enum-told-2 c = search needs
 
--- src/texts.rt:71:9
 same-length : tie.Need-same-length
 same-length c = search needs
 
--- src/texts.rt:71:9
 returns-3 : tie.Need-returns-3
 returns-3 c = placed-full (showSheet (c .before .before .before .before .before .before .before .before .before .before .before .args .n) (c .before .before .before .before .before .before .before .before .before .before .before .args .a)) (c .before .before .before .before .before .before .before .before .before .before .before .args .out .now) _ (c .before .before .before .before .before .before .before .before .before .before .before .args .at) _ (c .before .before .before .before .before .before .before .before .at .given .0 .0) (c .before .before .before .before .before .before .before .before .at .given .1) (c .before .before .before .before .before .before .if1 .left) (c .before .before .before .before .put-sheet .ensures) (c .enum-told2 .given .1)
 
--- src/texts.rt:73:18
 add-t7 : tie.Need-add-t7
 add-t7 c = record { fits = omega (arith, placed-room (showSheet (c .before .before .before .before .before .before .before .before .before .before .before .before .args .n) (c .before .before .before .before .before .before .before .before .before .before .before .before .args .a)) (c .before .before .before .before .before .before .before .before .before .before .before .before .args .out .now) _ (c .before .before .before .before .before .before .before .before .before .before .before .before .args .at) _ (c .before .before .before .before .before .before .before .before .before .at .given .0 .0) (c .before .before .before .before .before .before .before .before .before .at .given .1) (c .before .before .before .before .before .before .before .if1 .left) (c .before .before .before .before .before .put-sheet .ensures) (c .before .long .given .0 .0) (c .before .long .given .1)) }
 
--- src/texts.rt:61:1
 same-length-2 : tie.Need-same-length-2
 same-length-2 c = search needs
 
--- src/texts.rt:61:1
 returns-4 : tie.Need-returns-4
 returns-4 c = placed-bytes (showSheet (c .before .before .before .before .before .before .before .before .before .before .before .before .args .n) (c .before .before .before .before .before .before .before .before .before .before .before .before .args .a)) (c .before .before .before .before .before .before .before .before .before .before .before .before .args .out .now) _ (c .before .before .before .before .before .before .before .before .before .before .before .before .args .at) _ (c .before .before .before .before .before .before .before .before .before .at .given .0 .0) (c .before .before .before .before .before .before .before .before .before .at .given .1) (c .before .before .before .before .before .before .before .if1 .left) (c .before .before .before .before .before .put-sheet .ensures) (c .before .long .given .0 .0) (c .before .long .given .1)
 

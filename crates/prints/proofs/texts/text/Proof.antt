@@ -9,63 +9,48 @@ use Rattle.prints.proofs.texts.text.Reads as reads
 use Rattle.prints.proofs.texts.text.Lts as lts
 use Rattle.leaves.proofs.write.put.Reads as put-reads
 
--- src/texts.rt:16:22
 enum-known-at : tie.Need-enum-known-at
 enum-known-at c = search needs
 
--- src/texts.rt:17:9
 enum-told : tie.Need-enum-told
 enum-told c = search needs
 
--- src/texts.rt:17:9
 returns : tie.Need-returns
 returns c = none-left (c .before .before .before .before .args .c .now) (c .before .before .before .before .args .out .now) (c .before .before .before .before .args .at) (c .enum-told .given .1)
 
--- src/texts.rt:20:9
 returns-2 : tie.Need-returns-2
 returns-2 c = beyond (c .before .before .before .before .before .before .args .c .now) (c .before .before .before .before .before .before .args .out .now) (c .before .before .before .before .before .before .args .at) (c .before .before .at .given .0 .0) (c .before .before .at .given .1) (c .if1 .taken)
 
--- src/texts.rt:22:37
 sub-put : tie.Need-sub-put
 sub-put c = search needs
 
--- src/texts.rt:22:37
 part-put-start : tie.Need-part-put-start
 part-put-start c = search needs
 
--- src/texts.rt:22:37
 part-put-end : tie.Need-part-put-end
 part-put-end c = search needs
 
--- src/texts.rt:22:30
 put-requires : tie.Need-put-requires
 put-requires c κs = search needs
 
--- src/texts.rt:22:22
 enum-known-long : tie.Need-enum-known-long
 enum-known-long c = search needs
 
--- src/texts.rt:23:9
 enum-told-2 : tie.Need-enum-told-2
 enum-told-2 c = search needs
 
--- src/texts.rt:23:9
 same-length : tie.Need-same-length
 same-length c = search needs
 
--- src/texts.rt:23:9
 returns-3 : tie.Need-returns-3
 returns-3 c = placed-full (c .before .before .before .before .before .before .before .before .before .before .before .before .args .c .now) (c .before .before .before .before .before .before .before .before .before .before .before .before .args .out .now) _ (c .before .before .before .before .before .before .before .before .before .before .before .before .args .at) _ (c .before .before .before .before .before .before .before .before .at .given .0 .0) (c .before .before .before .before .before .before .before .before .at .given .1) (c .before .before .before .before .before .before .if1 .left) (c .before .before .before .before .put .ensures) (c .enum-told2 .given .1)
 
--- src/texts.rt:25:18
 add-t6 : tie.Need-add-t6
 add-t6 c = record { fits = omega (arith, placed-room (c .before .before .before .before .before .before .before .before .before .before .before .before .before .args .c .now) (c .before .before .before .before .before .before .before .before .before .before .before .before .before .args .out .now) _ (c .before .before .before .before .before .before .before .before .before .before .before .before .before .args .at) _ (c .before .before .before .before .before .before .before .before .before .at .given .0 .0) (c .before .before .before .before .before .before .before .before .before .at .given .1) (c .before .before .before .before .before .before .before .if1 .left) (c .before .before .before .before .before .put .ensures) (c .before .long .given .0 .0) (c .before .long .given .1)) }
 
--- src/texts.rt:13:1
 same-length-2 : tie.Need-same-length-2
 same-length-2 c = search needs
 
--- src/texts.rt:13:1
 returns-4 : tie.Need-returns-4
 returns-4 c = placed-bytes (c .before .before .before .before .before .before .before .before .before .before .before .before .before .args .c .now) (c .before .before .before .before .before .before .before .before .before .before .before .before .before .args .out .now) _ (c .before .before .before .before .before .before .before .before .before .before .before .before .before .args .at) _ (c .before .before .before .before .before .before .before .before .before .at .given .0 .0) (c .before .before .before .before .before .before .before .before .before .at .given .1) (c .before .before .before .before .before .before .before .if1 .left) (c .before .before .before .before .before .put .ensures) (c .before .long .given .0 .0) (c .before .long .given .1)
 

@@ -7,35 +7,27 @@ use Rattle.sets.proofs.reader.name_behind.Reads as reads
 use Rattle.sets.proofs.reader.name_behind.Lts as lts
 use Rattle.lines.proofs.spool.volume_name.Reads as volume-name-reads
 
--- src/reader.rt:241:17
 add-if1 : tie.Need-add-if1
 add-if1 c = search needs
 
--- src/reader.rt:242:9
 slice-aggregate-result : tie.Need-slice-aggregate-result
 slice-aggregate-result c = search needs
 
--- src/reader.rt:242:9
 returns : tie.Need-returns
 returns c = rw (le-ltb (c .before .before .before .args .i + 1) (c .before .before .before .args .count) (c .before .if1 .taken))
 
--- src/reader.rt:244:27
 add-volume-name : tie.Need-add-volume-name
 add-volume-name c = search needs
 
--- src/reader.rt:244:20
 mul-volume-name : tie.Need-mul-volume-name
 mul-volume-name c = search needs
 
--- src/reader.rt:244:20
 array-read-volume-name : tie.Need-array-read-volume-name
 array-read-volume-name c = search needs
 
--- src/reader.rt:244:5
 volume-name-requires : tie.Need-volume-name-requires
 volume-name-requires c κs = search needs
 
--- src/reader.rt:237:1
 returns-2 : tie.Need-returns-2
 returns-2 c = rw (lt-ltb (c .before .before .before .args .i + 1) (c .before .before .before .args .count) (c .before .if1 .left)) (c .volume-name .ensures)
 

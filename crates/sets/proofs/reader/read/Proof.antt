@@ -11,59 +11,45 @@ use Rattle.drawing.proofs.classes.class_of.Reads as class-of-reads
 use Rattle.sets.proofs.reader.read_set.Reads as read-set-reads
 use Rattle.drawing.proofs.table.clear.Reads as clear-reads
 
--- src/reader.rt:324:5
 clear-requires : tie.Need-clear-requires
 clear-requires c κs = search needs
 
--- src/reader.rt:325:11
 class-of-requires : tie.Need-class-of-requires
 class-of-requires c κs = search needs
 
--- src/reader.rt:326:39
 enum-told : tie.Need-enum-told
 enum-told c = search needs
 
--- src/reader.rt:331:19
 enum-known-c : tie.Need-enum-known-c
 enum-known-c c = search needs
 
--- src/reader.rt:332:17
 read-set-requires : tie.Need-read-set-requires
 read-set-requires c κs = (all-zeros (c .before .before .before .before .before .before .clear .last .0) (length (c .before .before .before .before .before .before .before .before .before .args .t .now)) (c .before .before .before .before .before .before .clear .ensures), λ x. absurd (x (c .before .before .before .before .before .before .clear .kept .0)))
 
--- src/reader.rt:334:34
 enum-known-r : tie.Need-enum-known-r
 enum-known-r c = search needs
 
--- src/reader.rt:335:33
 enum-known-r-2 : tie.Need-enum-known-r-2
 enum-known-r-2 c = search needs
 
--- src/reader.rt:336:21
 clear-requires-2 : tie.Need-clear-requires-2
 clear-requires-2 c κs = search needs
 
--- src/reader.rt:321:1
 same-length : tie.Need-same-length
 same-length c = search needs
 
--- src/reader.rt:321:1
 returns : tie.Need-returns
 returns c = reads-none (c .before .before .before .before .before .before .before .args .class) (length (c .before .before .before .before .before .before .before .args .t .now)) (c .before .before .before .before .before .before .before .args .s .now) (c .before .before .before .before .clear .last .0) (sym (c .enum-told .given .1) ∙ c .before .before .class-of .ensures) (c .before .before .before .before .clear .ensures)
 
--- src/reader.rt:321:1
 same-length-2 : tie.Need-same-length-2
 same-length-2 c = search needs
 
--- src/reader.rt:321:1
 returns-2 : tie.Need-returns-2
 returns-2 c = reads-accepted (c .before .before .before .before .before .before .before .before .before .before .before .before .before .before .args .class) (length (c .before .before .before .before .before .before .before .before .before .before .before .before .before .before .args .t .now)) (c .before .before .before .before .before .before .before .before .before .before .before .before .before .before .args .s .now) (c .before .before .before .before .before .before .before .c .given .0 .0) (sym (c .before .before .before .before .before .before .before .c .given .1) ∙ c .before .before .before .before .before .before .before .before .before .class-of .ensures) (c .before .r .given .0 .0) (c .before .before .before .before .before .before .before .before .before .before .before .clear .last .0) (c .before .before .before .before .read-set .last .1 .1 .1 .0) (c .before .before .before .before .before .before .before .before .before .before .before .clear .kept .0) (subst (SetOut (c .before .before .before .before .before .before .before .c .given .0 .0) (c .before .before .before .before .before .before .before .before .before .before .before .before .before .before .args .s .now) (length (c .before .before .before .before .before .before .before .before .before .before .before .before .before .before .args .t .now)) (c .before .before .before .before .before .before .before .before .before .before .before .clear .last .0) (c .before .before .before .before .read-set .last .1 .1 .1 .0)) (c .before .r .given .1) (c .before .before .before .before .read-set .ensures))
 
--- src/reader.rt:321:1
 same-length-3 : tie.Need-same-length-3
 same-length-3 c = search needs
 
--- src/reader.rt:321:1
 returns-3 : tie.Need-returns-3
 returns-3 c = reads-refused (c .before .before .before .before .before .before .before .before .before .before .before .before .before .before .before .before .before .args .class) (length (c .before .before .before .before .before .before .before .before .before .before .before .before .before .before .before .before .before .args .t .now)) (c .before .before .before .before .before .before .before .before .before .before .before .before .before .before .before .before .before .args .s .now) (c .before .before .before .before .before .before .before .before .before .before .c .given .0 .0) (sym (c .before .before .before .before .before .before .before .before .before .before .c .given .1) ∙ c .before .before .before .before .before .before .before .before .before .before .before .before .class-of .ensures) (c .before .before .before .before .r2 .given .0 .0) (c .before .before .before .before .before .before .before .before .before .before .before .before .before .before .clear .last .0) (c .before .before .before .before .before .before .before .read-set .last .1 .1 .1 .0) (c .before .clear2 .last .0) (c .before .before .before .before .before .before .before .before .before .before .before .before .before .before .clear .kept .0) (c .before .before .before .before .before .before .before .read-set .kept .1 .1 .1 .0) (subst (SetOut (c .before .before .before .before .before .before .before .before .before .before .c .given .0 .0) (c .before .before .before .before .before .before .before .before .before .before .before .before .before .before .before .before .before .args .s .now) (length (c .before .before .before .before .before .before .before .before .before .before .before .before .before .before .before .before .before .args .t .now)) (c .before .before .before .before .before .before .before .before .before .before .before .before .before .before .clear .last .0) (c .before .before .before .before .before .before .before .read-set .last .1 .1 .1 .0)) (c .before .before .before .before .r2 .given .1) (c .before .before .before .before .before .before .before .read-set .ensures)) (c .before .clear2 .ensures)
 

@@ -26,155 +26,117 @@ abbrev μ-loop : tie.MeasureT-loop
 μ-loop s class limit t₀ count unsound tally₀ symbols₀ layers₀ serials₀ used₀ used-all₀ marks₀ inner₀ header₀ places lengths here₀ i₀ t tally symbols layers serials used used-all marks inner header here i =
     count - i
 
--- src/reader.rt:252:9
 volumes-requires : tie.Need-volumes-requires Inv-loop μ-loop
 volumes-requires c κs = search needs
 
--- src/reader.rt:253:17
 cast-count : tie.Need-cast-count Inv-loop μ-loop
 cast-count c = search needs
 
--- src/reader.rt:255:9
 returns : tie.Need-returns Inv-loop μ-loop
 returns c = came-none (c .before .before .before .before .args .class) (c .before .before .before .before .args .s .now) (c .before .before .before .before .args .limit) (length (c .before .before .before .before .args .t .now)) (c .before .before .volumes .result) (c .before .before .volumes .ensures) (c .if1 .taken)
 
--- src/reader.rt:261:9
 first-unsound-requires : tie.Need-first-unsound-requires Inv-loop μ-loop
 first-unsound-requires c κs = search needs
 
--- src/reader.rt:265:21
 cast-t28 : tie.Need-cast-t28 Inv-loop μ-loop
 cast-t28 c = omega (arith, unsound-few (c .before .before .before .before .before .before .args .s .now) (c .before .before .before .before .volumes .result) (c .before .first-unsound .result) (c .before .first-unsound .ensures))
 
--- src/reader.rt:263:9
 returns-2 : tie.Need-returns-2 Inv-loop μ-loop
 returns-2 c = came-unsound (c .before .before .before .before .before .before .args .class) (c .before .before .before .before .before .before .args .s .now) (c .before .before .before .before .before .before .args .limit) (length (c .before .before .before .before .before .before .args .t .now)) (c .before .before .before .before .volumes .result) (c .before .before .before .before .volumes .ensures) (c .before .before .if1 .left) (c .before .first-unsound .result) (c .before .first-unsound .ensures) (c .if2 .taken)
 
--- src/reader.rt:280:9
 nothing-yet-requires : tie.Need-nothing-yet-requires Inv-loop μ-loop
 nothing-yet-requires c κs = search needs
 
--- src/reader.rt:282:5
 loop-holds : tie.Need-loop-holds Inv-loop μ-loop
 loop-holds c = came-first (c .before .before .before .before .before .before .before .before .before .args .class) (c .before .before .before .before .before .before .before .before .before .args .s .now) (c .before .before .before .before .before .before .before .before .before .args .limit) (length (c .before .before .before .before .before .before .before .before .before .args .t .now)) (c .before .before .before .before .before .before .before .volumes .result) (c .before .before .before .before .before .before .before .volumes .ensures) (c .before .before .before .before .before .if1 .left) (sym (c .before .before .before .before .first-unsound .ensures) ∙ c .before .before .before .if2 .left) _ refl (record { now = c .nothing-yet .ensures; tally = refl; lengths = record { symbols = refl; layers = refl; serials = refl; used = refl; usedAll = refl; marks = refl; inner = refl; header = refl }; unused = λ j h. none-used 64 j; table = c .before .before .before .before .before .before .before .before .before .pre .0 }) (c .before .before .before .before .before .before .before .before .before .pre .1)
 
--- src/reader.rt:283:13
 name-behind-requires : tie.Need-name-behind-requires Inv-loop μ-loop
 name-behind-requires c κs = (count-few (c .before .before .before .before .before .before .before .before .before .before .before .args .class) (c .before .before .before .before .before .before .before .before .before .before .before .args .s .now) (c .before .before .before .before .before .before .before .before .before .before .before .args .limit) (length (c .before .before .before .before .before .before .before .before .before .before .before .args .t .now)) (c .before .before .before .before .before .before .before .before .before .volumes .result) (c .before .loop .i) (desk (c .before .loop .here) (c .before .loop .tally) (c .before .loop .symbols) (c .before .loop .layers) (c .before .loop .serials) (c .before .loop .used) (c .before .loop .used-all) (c .before .loop .marks) (c .before .loop .inner) (c .before .loop .header) (c .before .loop .t)) (c .before .loop .inv), (c .loop-test .taken))
 
--- src/reader.rt:285:21
 cast-t32 : tie.Need-cast-t32 Inv-loop μ-loop
 cast-t32 c = omega (arith, (count-few (c .before .before .before .before .before .before .before .before .before .before .before .before .args .class) (c .before .before .before .before .before .before .before .before .before .before .before .before .args .s .now) (c .before .before .before .before .before .before .before .before .before .before .before .before .args .limit) (length (c .before .before .before .before .before .before .before .before .before .before .before .before .args .t .now)) (c .before .before .before .before .before .before .before .before .before .before .volumes .result) (c .before .before .loop .i) (desk (c .before .before .loop .here) (c .before .before .loop .tally) (c .before .before .loop .symbols) (c .before .before .loop .layers) (c .before .before .loop .serials) (c .before .before .loop .used) (c .before .before .loop .used-all) (c .before .before .loop .marks) (c .before .before .loop .inner) (c .before .before .loop .header) (c .before .before .loop .t)) (c .before .before .loop .inv)), (c .before .loop-test .taken))
 
--- src/reader.rt:285:21
 add-t33 : tie.Need-add-t33 Inv-loop μ-loop
 add-t33 c = omega (arith, (count-few (c .before .before .before .before .before .before .before .before .before .before .before .before .args .class) (c .before .before .before .before .before .before .before .before .before .before .before .before .args .s .now) (c .before .before .before .before .before .before .before .before .before .before .before .before .args .limit) (length (c .before .before .before .before .before .before .before .before .before .before .before .before .args .t .now)) (c .before .before .before .before .before .before .before .before .before .before .volumes .result) (c .before .before .loop .i) (desk (c .before .before .loop .here) (c .before .before .loop .tally) (c .before .before .loop .symbols) (c .before .before .loop .layers) (c .before .before .loop .serials) (c .before .before .loop .used) (c .before .before .loop .used-all) (c .before .before .loop .marks) (c .before .before .loop .inner) (c .before .before .loop .header) (c .before .before .loop .t)) (c .before .before .loop .inv)), (c .before .loop-test .taken))
 
--- src/reader.rt:286:18
 mul-read-volume : tie.Need-mul-read-volume Inv-loop μ-loop
 mul-read-volume c = search needs
 
--- src/reader.rt:286:18
 array-read-read-volume : tie.Need-array-read-read-volume Inv-loop μ-loop
 array-read-read-volume c = omega (arith, (count-few (c .before .before .before .before .before .before .before .before .before .before .before .before .args .class) (c .before .before .before .before .before .before .before .before .before .before .before .before .args .s .now) (c .before .before .before .before .before .before .before .before .before .before .before .before .args .limit) (length (c .before .before .before .before .before .before .before .before .before .before .before .before .args .t .now)) (c .before .before .before .before .before .before .before .before .before .before .volumes .result) (c .before .before .loop .i) (desk (c .before .before .loop .here) (c .before .before .loop .tally) (c .before .before .loop .symbols) (c .before .before .loop .layers) (c .before .before .loop .serials) (c .before .before .loop .used) (c .before .before .loop .used-all) (c .before .before .loop .marks) (c .before .before .loop .inner) (c .before .before .loop .header) (c .before .before .loop .t)) (c .before .before .loop .inv)), (c .before .loop-test .taken))
 
--- src/reader.rt:286:30
 mul-read-volume-2 : tie.Need-mul-read-volume-2 Inv-loop μ-loop
 mul-read-volume-2 c = search needs
 
--- src/reader.rt:286:30
 array-read-read-volume-2 : tie.Need-array-read-read-volume-2 Inv-loop μ-loop
 array-read-read-volume-2 c = omega (arith, (count-few (c .before .before .before .before .before .before .before .before .before .before .before .before .args .class) (c .before .before .before .before .before .before .before .before .before .before .before .before .args .s .now) (c .before .before .before .before .before .before .before .before .before .before .before .before .args .limit) (length (c .before .before .before .before .before .before .before .before .before .before .before .before .args .t .now)) (c .before .before .before .before .before .before .before .before .before .before .volumes .result) (c .before .before .loop .i) (desk (c .before .before .loop .here) (c .before .before .loop .tally) (c .before .before .loop .symbols) (c .before .before .loop .layers) (c .before .before .loop .serials) (c .before .before .loop .used) (c .before .before .loop .used-all) (c .before .before .loop .marks) (c .before .before .loop .inner) (c .before .before .loop .header) (c .before .before .loop .t)) (c .before .before .loop .inv)), (c .before .loop-test .taken))
 
--- src/reader.rt:286:18
 add-read-volume : tie.Need-add-read-volume Inv-loop μ-loop
 add-read-volume c = omega (arith, end-few (c .before .before .before .before .before .before .before .before .before .before .before .before .args .class) (c .before .before .before .before .before .before .before .before .before .before .before .before .args .s .now) (c .before .before .before .before .before .before .before .before .before .before .before .before .args .limit) (length (c .before .before .before .before .before .before .before .before .before .before .before .before .args .t .now)) (c .before .before .before .before .before .before .before .before .before .before .volumes .result) (c .before .before .loop .i) (desk (c .before .before .loop .here) (c .before .before .loop .tally) (c .before .before .loop .symbols) (c .before .before .loop .layers) (c .before .before .loop .serials) (c .before .before .loop .used) (c .before .before .loop .used-all) (c .before .before .loop .marks) (c .before .before .loop .inner) (c .before .before .loop .header) (c .before .before .loop .t)) (c .before .before .loop .inv) (c .before .loop-test .taken))
 
--- src/reader.rt:293:13
 mul-read-volume-3 : tie.Need-mul-read-volume-3 Inv-loop μ-loop
 mul-read-volume-3 c = search needs
 
--- src/reader.rt:293:13
 array-read-read-volume-3 : tie.Need-array-read-read-volume-3 Inv-loop μ-loop
 array-read-read-volume-3 c = omega (arith, (count-few (c .before .before .before .before .before .before .before .before .before .before .before .before .args .class) (c .before .before .before .before .before .before .before .before .before .before .before .before .args .s .now) (c .before .before .before .before .before .before .before .before .before .before .before .before .args .limit) (length (c .before .before .before .before .before .before .before .before .before .before .before .before .args .t .now)) (c .before .before .before .before .before .before .before .before .before .before .volumes .result) (c .before .before .loop .i) (desk (c .before .before .loop .here) (c .before .before .loop .tally) (c .before .before .loop .symbols) (c .before .before .loop .layers) (c .before .before .loop .serials) (c .before .before .loop .used) (c .before .before .loop .used-all) (c .before .before .loop .marks) (c .before .before .loop .inner) (c .before .before .loop .header) (c .before .before .loop .t)) (c .before .before .loop .inv)), (c .before .loop-test .taken))
 
--- src/reader.rt:295:13
 slice-aggregate-read-volume : tie.Need-slice-aggregate-read-volume Inv-loop μ-loop
 slice-aggregate-read-volume c = search (needs, tally-long (c .before .before .before .before .before .before .before .before .before .before .before .before .before .args .class) (c .before .before .before .before .before .before .before .before .before .before .before .before .before .args .s .now) (c .before .before .before .before .before .before .before .before .before .before .before .before .before .args .limit) (length (c .before .before .before .before .before .before .before .before .before .before .before .before .before .args .t .now)) (c .before .before .before .before .before .before .before .before .before .before .before .volumes .result) (c .before .before .before .loop .i) (desk (c .before .before .before .loop .here) (c .before .before .before .loop .tally) (c .before .before .before .loop .symbols) (c .before .before .before .loop .layers) (c .before .before .before .loop .serials) (c .before .before .before .loop .used) (c .before .before .before .loop .used-all) (c .before .before .before .loop .marks) (c .before .before .before .loop .inner) (c .before .before .before .loop .header) (c .before .before .before .loop .t)) (c .before .before .before .loop .inv))
 
--- src/reader.rt:296:13
 slice-aggregate-read-volume-2 : tie.Need-slice-aggregate-read-volume-2 Inv-loop μ-loop
 slice-aggregate-read-volume-2 c = search needs
 
--- src/reader.rt:297:13
 slice-aggregate-read-volume-3 : tie.Need-slice-aggregate-read-volume-3 Inv-loop μ-loop
 slice-aggregate-read-volume-3 c = search needs
 
--- src/reader.rt:298:13
 slice-aggregate-read-volume-4 : tie.Need-slice-aggregate-read-volume-4 Inv-loop μ-loop
 slice-aggregate-read-volume-4 c = search needs
 
--- src/reader.rt:299:13
 slice-aggregate-read-volume-5 : tie.Need-slice-aggregate-read-volume-5 Inv-loop μ-loop
 slice-aggregate-read-volume-5 c = search needs
 
--- src/reader.rt:300:13
 slice-aggregate-read-volume-6 : tie.Need-slice-aggregate-read-volume-6 Inv-loop μ-loop
 slice-aggregate-read-volume-6 c = search needs
 
--- src/reader.rt:301:13
 slice-aggregate-read-volume-7 : tie.Need-slice-aggregate-read-volume-7 Inv-loop μ-loop
 slice-aggregate-read-volume-7 c = search needs
 
--- src/reader.rt:302:13
 slice-aggregate-read-volume-8 : tie.Need-slice-aggregate-read-volume-8 Inv-loop μ-loop
 slice-aggregate-read-volume-8 c = search needs
 
--- src/reader.rt:303:13
 slice-aggregate-read-volume-9 : tie.Need-slice-aggregate-read-volume-9 Inv-loop μ-loop
 slice-aggregate-read-volume-9 c = search needs
 
--- src/reader.rt:288:13
 read-volume-requires : tie.Need-read-volume-requires Inv-loop μ-loop
 read-volume-requires c κs = volume-ready (c .before .before .before .before .before .before .before .before .before .before .before .before .before .before .before .before .before .before .before .before .before .before .args .class) (c .before .before .before .before .before .before .before .before .before .before .before .before .before .before .before .before .before .before .before .before .before .before .args .s .now) (c .before .before .before .before .before .before .before .before .before .before .before .before .before .before .before .before .before .before .before .before .before .before .args .limit) (length (c .before .before .before .before .before .before .before .before .before .before .before .before .before .before .before .before .before .before .before .before .before .before .args .t .now)) (c .before .before .before .before .before .before .before .before .before .before .before .before .before .before .before .before .before .before .before .before .volumes .result) (c .before .before .before .before .before .before .before .before .before .before .before .before .loop .i) (desk (c .before .before .before .before .before .before .before .before .before .before .before .before .loop .here) (c .before .before .before .before .before .before .before .before .before .before .before .before .loop .tally) (c .before .before .before .before .before .before .before .before .before .before .before .before .loop .symbols) (c .before .before .before .before .before .before .before .before .before .before .before .before .loop .layers) (c .before .before .before .before .before .before .before .before .before .before .before .before .loop .serials) (c .before .before .before .before .before .before .before .before .before .before .before .before .loop .used) (c .before .before .before .before .before .before .before .before .before .before .before .before .loop .used-all) (c .before .before .before .before .before .before .before .before .before .before .before .before .loop .marks) (c .before .before .before .before .before .before .before .before .before .before .before .before .loop .inner) (c .before .before .before .before .before .before .before .before .before .before .before .before .loop .header) (c .before .before .before .before .before .before .before .before .before .before .before .before .loop .t)) (c .before .before .before .before .before .before .before .before .before .before .before .before .loop .inv) (c .before .before .before .before .before .before .before .before .before .before .before .loop-test .taken)
 
--- src/reader.rt:307:25
 enum-known-r : tie.Need-enum-known-r Inv-loop μ-loop
 enum-known-r c = search needs
 
--- src/reader.rt:310:27
 enum-known-r-2 : tie.Need-enum-known-r-2 Inv-loop μ-loop
 enum-known-r-2 c = search needs
 
--- src/reader.rt:311:17
 same-length : tie.Need-same-length Inv-loop μ-loop
 same-length c = search needs
 
--- src/reader.rt:311:17
 returns-3 : tie.Need-returns-3 Inv-loop μ-loop
 returns-3 c = stops (c .before .before .before .before .before .before .before .before .before .before .before .before .before .before .before .before .before .before .before .before .before .before .before .before .before .before .before .before .before .before .before .before .before .before .before .before .args .class) (c .before .before .before .before .before .before .before .before .before .before .before .before .before .before .before .before .before .before .before .before .before .before .before .before .before .before .before .before .before .before .before .before .before .before .before .before .args .s .now) (c .before .before .before .before .before .before .before .before .before .before .before .before .before .before .before .before .before .before .before .before .before .before .before .before .before .before .before .before .before .before .before .before .before .before .before .before .args .limit) (length (c .before .before .before .before .before .before .before .before .before .before .before .before .before .before .before .before .before .before .before .before .before .before .before .before .before .before .before .before .before .before .before .before .before .before .before .before .args .t .now)) (c .before .before .before .before .before .before .before .before .before .before .before .before .before .before .before .before .before .before .before .before .before .before .before .before .before .before .before .before .before .before .before .before .before .before .volumes .result) (c .before .before .before .before .before .before .before .before .before .before .before .before .before .before .before .before .before .before .before .before .before .before .before .before .before .before .loop .i) (desk (c .before .before .before .before .before .before .before .before .before .before .before .before .before .before .before .before .before .before .before .before .before .before .before .before .before .before .loop .here) (c .before .before .before .before .before .before .before .before .before .before .before .before .before .before .before .before .before .before .before .before .before .before .before .before .before .before .loop .tally) (c .before .before .before .before .before .before .before .before .before .before .before .before .before .before .before .before .before .before .before .before .before .before .before .before .before .before .loop .symbols) (c .before .before .before .before .before .before .before .before .before .before .before .before .before .before .before .before .before .before .before .before .before .before .before .before .before .before .loop .layers) (c .before .before .before .before .before .before .before .before .before .before .before .before .before .before .before .before .before .before .before .before .before .before .before .before .before .before .loop .serials) (c .before .before .before .before .before .before .before .before .before .before .before .before .before .before .before .before .before .before .before .before .before .before .before .before .before .before .loop .used) (c .before .before .before .before .before .before .before .before .before .before .before .before .before .before .before .before .before .before .before .before .before .before .before .before .before .before .loop .used-all) (c .before .before .before .before .before .before .before .before .before .before .before .before .before .before .before .before .before .before .before .before .before .before .before .before .before .before .loop .marks) (c .before .before .before .before .before .before .before .before .before .before .before .before .before .before .before .before .before .before .before .before .before .before .before .before .before .before .loop .inner) (c .before .before .before .before .before .before .before .before .before .before .before .before .before .before .before .before .before .before .before .before .before .before .before .before .before .before .loop .header) (c .before .before .before .before .before .before .before .before .before .before .before .before .before .before .before .before .before .before .before .before .before .before .before .before .before .before .loop .t)) (c .before .before .before .before .before .before .before .before .before .before .before .before .before .before .before .before .before .before .before .before .before .before .before .before .before .before .loop .inv) (c .before .before .before .before .before .before .before .before .before .before .before .before .before .before .before .before .before .before .before .before .before .before .before .before .before .loop-test .taken) (c .before .before .before .before .before .before .before .before .before .before .before .before .before .before .before .before .before .before .before .before .before .before .before .before .name-behind .result .now) (c .before .before .before .before .before .before .before .before .before .before .before .before .before .before .before .before .before .before .before .before .before .before .before .before .name-behind .ensures) _ (c .before .before .before .before .before .before .before .before .before .before .before .before .before .read-volume .result) (c .before .before .before .before .before .before .before .before .before .before .before .before .before .read-volume .ensures) (c .before .r2 .given .0 .0) (c .before .r2 .given .1)
 
--- src/reader.rt:314:9
 add-i : tie.Need-add-i Inv-loop μ-loop
 add-i c = omega (arith, (count-few (c .before .before .before .before .before .before .before .before .before .before .before .before .before .before .before .before .before .before .before .before .before .before .before .before .before .before .before .before .before .before .before .before .before .before .before .before .args .class) (c .before .before .before .before .before .before .before .before .before .before .before .before .before .before .before .before .before .before .before .before .before .before .before .before .before .before .before .before .before .before .before .before .before .before .before .before .args .s .now) (c .before .before .before .before .before .before .before .before .before .before .before .before .before .before .before .before .before .before .before .before .before .before .before .before .before .before .before .before .before .before .before .before .before .before .before .before .args .limit) (length (c .before .before .before .before .before .before .before .before .before .before .before .before .before .before .before .before .before .before .before .before .before .before .before .before .before .before .before .before .before .before .before .before .before .before .before .before .args .t .now)) (c .before .before .before .before .before .before .before .before .before .before .before .before .before .before .before .before .before .before .before .before .before .before .before .before .before .before .before .before .before .before .before .before .before .before .volumes .result) (c .before .before .before .before .before .before .before .before .before .before .before .before .before .before .before .before .before .before .before .before .before .before .before .before .before .before .loop .i) (desk (c .before .before .before .before .before .before .before .before .before .before .before .before .before .before .before .before .before .before .before .before .before .before .before .before .before .before .loop .here) (c .before .before .before .before .before .before .before .before .before .before .before .before .before .before .before .before .before .before .before .before .before .before .before .before .before .before .loop .tally) (c .before .before .before .before .before .before .before .before .before .before .before .before .before .before .before .before .before .before .before .before .before .before .before .before .before .before .loop .symbols) (c .before .before .before .before .before .before .before .before .before .before .before .before .before .before .before .before .before .before .before .before .before .before .before .before .before .before .loop .layers) (c .before .before .before .before .before .before .before .before .before .before .before .before .before .before .before .before .before .before .before .before .before .before .before .before .before .before .loop .serials) (c .before .before .before .before .before .before .before .before .before .before .before .before .before .before .before .before .before .before .before .before .before .before .before .before .before .before .loop .used) (c .before .before .before .before .before .before .before .before .before .before .before .before .before .before .before .before .before .before .before .before .before .before .before .before .before .before .loop .used-all) (c .before .before .before .before .before .before .before .before .before .before .before .before .before .before .before .before .before .before .before .before .before .before .before .before .before .before .loop .marks) (c .before .before .before .before .before .before .before .before .before .before .before .before .before .before .before .before .before .before .before .before .before .before .before .before .before .before .loop .inner) (c .before .before .before .before .before .before .before .before .before .before .before .before .before .before .before .before .before .before .before .before .before .before .before .before .before .before .loop .header) (c .before .before .before .before .before .before .before .before .before .before .before .before .before .before .before .before .before .before .before .before .before .before .before .before .before .before .loop .t)) (c .before .before .before .before .before .before .before .before .before .before .before .before .before .before .before .before .before .before .before .before .before .before .before .before .before .before .loop .inv)), (c .before .before .before .before .before .before .before .before .before .before .before .before .before .before .before .before .before .before .before .before .before .before .before .before .before .loop-test .taken))
 
--- src/reader.rt:282:5
 loop-less : tie.Need-loop-less Inv-loop μ-loop
 loop-less c = omega (arith, (c .before .before .before .before .before .before .before .before .before .before .before .before .before .before .before .before .before .before .before .before .before .before .before .before .before .loop-test .taken))
 
--- src/reader.rt:282:5
 loop-again : tie.Need-loop-again Inv-loop μ-loop
 loop-again c = goes (c .before .before .before .before .before .before .before .before .before .before .before .before .before .before .before .before .before .before .before .before .before .before .before .before .before .before .before .before .before .before .before .before .before .before .before .before .args .class) (c .before .before .before .before .before .before .before .before .before .before .before .before .before .before .before .before .before .before .before .before .before .before .before .before .before .before .before .before .before .before .before .before .before .before .before .before .args .s .now) (c .before .before .before .before .before .before .before .before .before .before .before .before .before .before .before .before .before .before .before .before .before .before .before .before .before .before .before .before .before .before .before .before .before .before .before .before .args .limit) (length (c .before .before .before .before .before .before .before .before .before .before .before .before .before .before .before .before .before .before .before .before .before .before .before .before .before .before .before .before .before .before .before .before .before .before .before .before .args .t .now)) (c .before .before .before .before .before .before .before .before .before .before .before .before .before .before .before .before .before .before .before .before .before .before .before .before .before .before .before .before .before .before .before .before .before .before .volumes .result) (c .before .before .before .before .before .before .before .before .before .before .before .before .before .before .before .before .before .before .before .before .before .before .before .before .before .before .loop .i) (desk (c .before .before .before .before .before .before .before .before .before .before .before .before .before .before .before .before .before .before .before .before .before .before .before .before .before .before .loop .here) (c .before .before .before .before .before .before .before .before .before .before .before .before .before .before .before .before .before .before .before .before .before .before .before .before .before .before .loop .tally) (c .before .before .before .before .before .before .before .before .before .before .before .before .before .before .before .before .before .before .before .before .before .before .before .before .before .before .loop .symbols) (c .before .before .before .before .before .before .before .before .before .before .before .before .before .before .before .before .before .before .before .before .before .before .before .before .before .before .loop .layers) (c .before .before .before .before .before .before .before .before .before .before .before .before .before .before .before .before .before .before .before .before .before .before .before .before .before .before .loop .serials) (c .before .before .before .before .before .before .before .before .before .before .before .before .before .before .before .before .before .before .before .before .before .before .before .before .before .before .loop .used) (c .before .before .before .before .before .before .before .before .before .before .before .before .before .before .before .before .before .before .before .before .before .before .before .before .before .before .loop .used-all) (c .before .before .before .before .before .before .before .before .before .before .before .before .before .before .before .before .before .before .before .before .before .before .before .before .before .before .loop .marks) (c .before .before .before .before .before .before .before .before .before .before .before .before .before .before .before .before .before .before .before .before .before .before .before .before .before .before .loop .inner) (c .before .before .before .before .before .before .before .before .before .before .before .before .before .before .before .before .before .before .before .before .before .before .before .before .before .before .loop .header) (c .before .before .before .before .before .before .before .before .before .before .before .before .before .before .before .before .before .before .before .before .before .before .before .before .before .before .loop .t)) (c .before .before .before .before .before .before .before .before .before .before .before .before .before .before .before .before .before .before .before .before .before .before .before .before .before .before .loop .inv) (c .before .before .before .before .before .before .before .before .before .before .before .before .before .before .before .before .before .before .before .before .before .before .before .before .before .loop-test .taken) (c .before .before .before .before .before .before .before .before .before .before .before .before .before .before .before .before .before .before .before .before .before .before .before .before .name-behind .result .now) (c .before .before .before .before .before .before .before .before .before .before .before .before .before .before .before .before .before .before .before .before .before .before .before .before .name-behind .ensures) _ (c .before .before .before .before .before .before .before .before .before .before .before .before .before .read-volume .result) (c .before .before .before .before .before .before .before .before .before .before .before .before .before .read-volume .ensures) (c .before .r .given .0 .0) (c .before .r .given .1) (c .before .before .before .before .before .before .before .before .before .before .before .before .before .read-volume .kept .1 .1 .1 .1 .1 .1 .1 .1 .1 .1 .1 .1 .1 .1 .1 .1 .0)
 
--- src/reader.rt:316:22
 cast-t66 : tie.Need-cast-t66 Inv-loop μ-loop
 cast-t66 c = omega (arith, few-records (c .before .before .before .before .before .before .before .before .before .before .before .before .args .class) (c .before .before .before .before .before .before .before .before .before .before .before .before .args .s .now) (c .before .before .before .before .before .before .before .before .before .before .before .before .args .limit) (length (c .before .before .before .before .before .before .before .before .before .before .before .before .args .t .now)) (c .before .before .before .before .before .before .before .before .before .before .volumes .result) (c .before .before .loop .i) (desk (c .before .before .loop .here) (c .before .before .loop .tally) (c .before .before .loop .symbols) (c .before .before .loop .layers) (c .before .before .loop .serials) (c .before .before .loop .used) (c .before .before .loop .used-all) (c .before .before .loop .marks) (c .before .before .loop .inner) (c .before .before .loop .header) (c .before .before .loop .t)) (c .before .before .loop .inv) (c .before .loop-test .left))
 
--- src/reader.rt:248:1
 same-length-2 : tie.Need-same-length-2 Inv-loop μ-loop
 same-length-2 c = search needs
 
--- src/reader.rt:248:1
 returns-4 : tie.Need-returns-4 Inv-loop μ-loop
 returns-4 c = (c .before .before .loop .inv .set, accepts (c .before .before .before .before .before .before .before .before .before .before .before .before .args .class) (c .before .before .before .before .before .before .before .before .before .before .before .before .args .s .now) (c .before .before .before .before .before .before .before .before .before .before .before .before .args .limit) (length (c .before .before .before .before .before .before .before .before .before .before .before .before .args .t .now)) (c .before .before .before .before .before .before .before .before .before .before .volumes .result) (c .before .before .loop .i) (desk (c .before .before .loop .here) (c .before .before .loop .tally) (c .before .before .loop .symbols) (c .before .before .loop .layers) (c .before .before .loop .serials) (c .before .before .loop .used) (c .before .before .loop .used-all) (c .before .before .loop .marks) (c .before .before .loop .inner) (c .before .before .loop .header) (c .before .before .loop .t)) (c .before .before .loop .inv) (c .before .loop-test .left), counts-records (c .before .before .before .before .before .before .before .before .before .before .before .before .args .class) (c .before .before .before .before .before .before .before .before .before .before .before .before .args .s .now) (c .before .before .before .before .before .before .before .before .before .before .before .before .args .limit) (length (c .before .before .before .before .before .before .before .before .before .before .before .before .args .t .now)) (c .before .before .before .before .before .before .before .before .before .before .volumes .result) (c .before .before .loop .i) (desk (c .before .before .loop .here) (c .before .before .loop .tally) (c .before .before .loop .symbols) (c .before .before .loop .layers) (c .before .before .loop .serials) (c .before .before .loop .used) (c .before .before .loop .used-all) (c .before .before .loop .marks) (c .before .before .loop .inner) (c .before .before .loop .header) (c .before .before .loop .t)) (c .before .before .loop .inv) (c .before .loop-test .left), lays-records (c .before .before .before .before .before .before .before .before .before .before .before .before .args .class) (c .before .before .before .before .before .before .before .before .before .before .before .before .args .s .now) (c .before .before .before .before .before .before .before .before .before .before .before .before .args .limit) (length (c .before .before .before .before .before .before .before .before .before .before .before .before .args .t .now)) (c .before .before .before .before .before .before .before .before .before .before .volumes .result) (c .before .before .loop .i) (desk (c .before .before .loop .here) (c .before .before .loop .tally) (c .before .before .loop .symbols) (c .before .before .loop .layers) (c .before .before .loop .serials) (c .before .before .loop .used) (c .before .before .loop .used-all) (c .before .before .loop .marks) (c .before .before .loop .inner) (c .before .before .loop .header) (c .before .before .loop .t)) (c .before .before .loop .inv) (c .before .loop-test .left))
 

@@ -11,39 +11,30 @@ use Rattle.sets.proofs.reader.judge.Reads as judge-reads
 use Rattle.sets.proofs.rewriter.clear.Reads as clear-reads
 use Rattle.sets.proofs.rewriter.write_set.Reads as write-set-reads
 
--- src/rewriter.rt:50:11
 judge-requires : tie.Need-judge-requires
 judge-requires c κs = search needs
 
--- src/rewriter.rt:51:45
 enum-told : tie.Need-enum-told
 enum-told c = search needs
 
--- src/rewriter.rt:51:32
 write-set-requires : tie.Need-write-set-requires
 write-set-requires c κs = subst (Judged (c .before .before .before .before .before .before .args .s .now)) (c .before .enum-told .given .1) (c .before .before .before .judge .ensures)
 
--- src/rewriter.rt:52:25
 enum-known-f : tie.Need-enum-known-f
 enum-known-f c = search needs
 
--- src/rewriter.rt:53:13
 clear-requires : tie.Need-clear-requires
 clear-requires c κs = search needs
 
--- src/rewriter.rt:47:1
 same-length : tie.Need-same-length
 same-length c = search needs
 
--- src/rewriter.rt:47:1
 returns : tie.Need-returns
 returns c = search needs
 
--- src/rewriter.rt:47:1
 same-length-2 : tie.Need-same-length-2
 same-length-2 c = search needs
 
--- src/rewriter.rt:47:1
 returns-2 : tie.Need-returns-2
 returns-2 c = rewrites-refused (length (c .before .before .before .before .before .before .before .before .before .before .args .out .now)) (c .before .before .before .before .before .before .before .before .before .before .args .s .now) (c .before .before .before .before .before .f .given .0 .0) (c .before .before .clear .last .0) (subst (Judged (c .before .before .before .before .before .before .before .before .before .before .args .s .now)) (c .before .before .before .before .before .f .given .1) (c .before .before .before .before .before .before .before .judge .ensures)) (c .before .before .clear .ensures)
 

@@ -8,55 +8,42 @@ use Rattle.sets.proofs.rewriter.write_set.Lts as lts
 use Rattle.pens.proofs.volumes.put_set.Reads as put-set-reads
 use Rattle.sets.proofs.rewriter.clear.Reads as clear-reads
 
--- src/rewriter.rt:28:11
 put-set-requires : tie.Need-put-set-requires
 put-set-requires c κs = search needs
 
--- src/rewriter.rt:29:22
 enum-known-n : tie.Need-enum-known-n
 enum-known-n c = search needs
 
--- src/rewriter.rt:30:19
 sub-clear : tie.Need-sub-clear
 sub-clear c = wrote-inside (c .before .before .before .before .before .before .before .before .before .args .s .now) (c .before .before .before .before .before .before .before .before .before .args .out .now) (c .before .before .before .before .before .put-set .last .1 .0) (c .before .before .before .before .before .put-set .result) (c .before .before .before .before .before .before .before .before .before .pre) (c .before .before .before .before .before .put-set .ensures .0) (c .before .before .before .before .before .put-set .ensures .1) _ (c .before .n .given .1)
 
--- src/rewriter.rt:30:19
 part-clear-start : tie.Need-part-clear-start
 part-clear-start c = wrote-inside (c .before .before .before .before .before .before .before .before .before .args .s .now) (c .before .before .before .before .before .before .before .before .before .args .out .now) (c .before .before .before .before .before .put-set .last .1 .0) (c .before .before .before .before .before .put-set .result) (c .before .before .before .before .before .before .before .before .before .pre) (c .before .before .before .before .before .put-set .ensures .0) (c .before .before .before .before .before .put-set .ensures .1) _ (c .before .n .given .1)
 
--- src/rewriter.rt:30:19
 part-clear-end : tie.Need-part-clear-end
 part-clear-end c = search needs
 
--- src/rewriter.rt:30:13
 clear-requires : tie.Need-clear-requires
 clear-requires c κs = search needs
 
--- src/rewriter.rt:31:30
 cast-t13 : tie.Need-cast-t13
 cast-t13 c = omega (arith, wrote-few (c .before .before .before .before .before .before .before .before .before .before .before .before .before .args .s .now) (c .before .before .before .before .before .before .before .before .before .before .before .before .before .args .out .now) (c .before .before .before .before .before .before .before .before .before .put-set .last .1 .0) (c .before .before .before .before .before .before .before .before .before .put-set .result) (c .before .before .before .before .before .before .before .before .before .before .before .before .before .pre) (c .before .before .before .before .before .before .before .before .before .put-set .ensures .0) (c .before .before .before .before .before .before .before .before .before .put-set .ensures .1) _ (c .before .before .before .before .before .n .given .1))
 
--- src/rewriter.rt:34:19
 enum-told : tie.Need-enum-told
 enum-told c = search needs
 
--- src/rewriter.rt:34:13
 clear-requires-2 : tie.Need-clear-requires-2
 clear-requires-2 c κs = search needs
 
--- src/rewriter.rt:24:1
 same-length : tie.Need-same-length
 same-length c = search needs
 
--- src/rewriter.rt:24:1
 returns : tie.Need-returns
 returns c = rewrites-accepted (c .before .before .before .before .before .before .before .before .before .before .before .before .before .args .s .now) (c .before .before .before .before .before .before .before .before .before .before .before .before .before .args .out .now) (c .before .before .before .before .before .before .before .before .before .put-set .last .1 .0) (c .before .before .before .before .before .before .before .before .before .put-set .result) (c .before .before .before .before .before .before .before .before .before .before .before .before .before .pre) (c .before .before .before .before .before .before .before .before .before .put-set .ensures .0) (c .before .before .before .before .before .before .before .before .before .put-set .ensures .1) _ (c .before .before .before .before .before .n .given .1) (c .before .before .clear .last .0) (c .before .before .clear .ensures)
 
--- src/rewriter.rt:24:1
 same-length-2 : tie.Need-same-length-2
 same-length-2 c = search needs
 
--- src/rewriter.rt:24:1
 returns-2 : tie.Need-returns-2
 returns-2 c = rewrites-full (c .before .before .before .before .before .before .before .before .before .before .before .before .args .s .now) (c .before .before .before .before .before .before .before .before .before .before .before .before .args .out .now) (c .before .before .before .before .before .before .before .before .put-set .last .1 .0) (c .before .before .before .before .before .before .before .before .put-set .result) (c .before .before .before .before .before .before .before .before .before .before .before .before .pre) (c .before .before .before .before .before .before .before .before .put-set .ensures .0) (c .before .before .before .before .before .before .before .before .put-set .ensures .1) (c .before .before .before .before .enum-told .given .1) (c .before .before .clear2 .last .0) (c .before .before .clear2 .ensures)
 

@@ -18,39 +18,30 @@ counted n t u did g b e = e ∙ sym (ap (tallyAfter t) g ∙ rw (eq-eqb (n .bloc
 uncounted : (n : Now) (t : List ℕ) (did : Step) → did ≡ S.Go n → (n .block ≡ 7 → ⊥) → t ≡ tallyAfter t did
 uncounted n t did g b = sym (ap (tallyAfter t) g ∙ rw (ne-eqb (n .block) 7 b))
 
--- src/steps.rt:199:18
 enum-known-did : tie.Need-enum-known-did
 enum-known-did c = search needs
 
--- src/steps.rt:201:17
 count-layer-requires : tie.Need-count-layer-requires
 count-layer-requires c κs = (c .before .before .before .before .before .before .before .pre .0, c .before .before .before .before .before .before .before .pre .1 (c .before .before .before .before .did .given .0 .0) (c .before .before .before .before .did .given .1) (c .before .if1 .taken))
 
--- src/steps.rt:205:20
 enum-known-did-2 : tie.Need-enum-known-did-2
 enum-known-did-2 c = search needs
 
--- src/steps.rt:206:20
 enum-known-did-3 : tie.Need-enum-known-did-3
 enum-known-did-3 c = search needs
 
--- src/steps.rt:194:1
 same-length : tie.Need-same-length
 same-length c = search needs
 
--- src/steps.rt:194:1
 returns : tie.Need-returns
 returns c = (sym (c .before .before .before .before .before .before .before .did .given .1), counted (c .before .before .before .before .before .before .before .did .given .0 .0) _ _ _ (c .before .before .before .before .before .before .before .did .given .1) (c .before .before .before .before .if1 .taken) (c .before .before .count-layer .ensures))
 
--- src/steps.rt:194:1
 returns-2 : tie.Need-returns-2
 returns-2 c = (sym (c .before .before .before .did .given .1), uncounted (c .before .before .before .did .given .0 .0) _ _ (c .before .before .before .did .given .1) (c .if1 .left))
 
--- src/steps.rt:194:1
 returns-3 : tie.Need-returns-3
 returns-3 c = (sym (c .before .did2 .given .1), sym (ap (tallyAfter _) (c .before .did2 .given .1)))
 
--- src/steps.rt:194:1
 returns-4 : tie.Need-returns-4
 returns-4 c = (sym (c .before .did3 .given .1), sym (ap (tallyAfter _) (c .before .did3 .given .1)))
 

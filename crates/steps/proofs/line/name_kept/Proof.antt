@@ -28,43 +28,33 @@ tally-left n t did g b = sym (ap (tallyNamed t) g ∙ rw (ne-eqb (n .block) 4 b)
 symbols-left : (n : Now) (t : List ℕ) (rec : List ℤ) (s : List ℕ) (did : Step) → did ≡ S.Go n → (n .block ≡ 4 → ⊥) → s ≡ symbolsNamed t rec s did
 symbols-left n t rec s did g b = sym (ap (symbolsNamed t rec s) g ∙ rw (ne-eqb (n .block) 4 b))
 
--- src/steps.rt:216:18
 enum-known-did : tie.Need-enum-known-did
 enum-known-did c = search needs
 
--- src/steps.rt:218:17
 keep-name-requires : tie.Need-keep-name-requires
 keep-name-requires c κs = (c .before .before .before .before .before .before .before .before .before .pre .0, c .before .before .before .before .before .before .before .before .before .pre .3 (c .before .before .before .before .before .did .given .0 .0) (c .before .before .before .before .before .did .given .1) (c .before .before .if1 .taken) .0, c .before .before .before .before .before .before .before .before .before .pre .1, c .before .before .before .before .before .before .before .before .before .pre .2, c .before .before .before .before .before .before .before .before .before .pre .3 (c .before .before .before .before .before .did .given .0 .0) (c .before .before .before .before .before .did .given .1) (c .before .before .if1 .taken) .1)
 
--- src/steps.rt:222:20
 enum-known-did-2 : tie.Need-enum-known-did-2
 enum-known-did-2 c = search needs
 
--- src/steps.rt:223:20
 enum-known-did-3 : tie.Need-enum-known-did-3
 enum-known-did-3 c = search needs
 
--- src/steps.rt:211:1
 same-length : tie.Need-same-length
 same-length c = search needs
 
--- src/steps.rt:211:1
 same-length-2 : tie.Need-same-length-2
 same-length-2 c = search needs
 
--- src/steps.rt:211:1
 returns : tie.Need-returns
 returns c = (sym (c .before .before .before .before .before .before .before .before .before .before .did .given .1), tally-named (c .before .before .before .before .before .before .before .before .before .before .did .given .0 .0) _ _ _ (c .before .before .before .before .before .before .before .before .before .before .did .given .1) (c .before .before .before .before .before .before .before .if1 .taken) (c .before .before .before .before .keep-name .ensures .1), symbols-named (c .before .before .before .before .before .before .before .before .before .before .did .given .0 .0) _ _ _ _ _ (c .before .before .before .before .before .before .before .before .before .before .did .given .1) (c .before .before .before .before .before .before .before .if1 .taken) (c .before .before .before .before .keep-name .ensures .0))
 
--- src/steps.rt:211:1
 returns-2 : tie.Need-returns-2
 returns-2 c = (sym (c .before .before .before .did .given .1), tally-left (c .before .before .before .did .given .0 .0) _ _ (c .before .before .before .did .given .1) (c .if1 .left), symbols-left (c .before .before .before .did .given .0 .0) _ _ _ _ (c .before .before .before .did .given .1) (c .if1 .left))
 
--- src/steps.rt:211:1
 returns-3 : tie.Need-returns-3
 returns-3 c = (sym (c .before .did2 .given .1), sym (ap (tallyNamed _) (c .before .did2 .given .1)), sym (ap (symbolsNamed _ _ _) (c .before .did2 .given .1)))
 
--- src/steps.rt:211:1
 returns-4 : tie.Need-returns-4
 returns-4 c = (sym (c .before .did3 .given .1), sym (ap (tallyNamed _) (c .before .did3 .given .1)), sym (ap (symbolsNamed _ _ _) (c .before .did3 .given .1)))
 

@@ -3,11 +3,9 @@ use borrow.Author.Tests.{ne-eqb}
 use Rattle.steps.proofs.volume.after_element.Statement.{statement}
 use Rattle.steps.proofs.volume.after_element.Tie as tie
 
--- src/volumes.rt:73:9
 returns : tie.Need-returns
 returns c = sym (rw (ne-eqb _ _ (c .if1 .taken)))
 
--- src/volumes.rt:69:1
 returns-2 : tie.Need-returns-2
 returns-2 c = sym (rw (c .before .if1 .left))
 

@@ -16,43 +16,33 @@ own k complete did e f h = let m : min k 9 ≡ k = omega (arith, h) in sym (ap (
 nine : (k : ℕ) (complete : Bool) (did : Step) → did ≡ S.Stop k → complete ≡ false → 9 < k → S.Stop 9 ≡ lastStep complete did
 nine k complete did e f h = let m : min k 9 ≡ 9 = omega (arith, h) in sym (ap (lastStep complete) e ∙ rw (f, m))
 
--- src/volumes.rt:112:18
 enum-known-did : tie.Need-enum-known-did
 enum-known-did c = search needs
 
--- src/volumes.rt:114:33
 next-volume-requires : tie.Need-next-volume-requires
 next-volume-requires c κs = search needs
 
--- src/volumes.rt:114:17
 returns : tie.Need-returns
 returns c = ap S.Go (c .next-volume .ensures) ∙ sym (ap (lastStep (c .before .before .before .before .before .args .complete)) (c .before .before .before .did .given .1) ∙ rw (c .before .if1 .taken))
 
--- src/volumes.rt:118:26
 enum-told : tie.Need-enum-told
 enum-told c = search needs
 
--- src/volumes.rt:119:20
 enum-known-did-2 : tie.Need-enum-known-did-2
 enum-known-did-2 c = search needs
 
--- src/volumes.rt:121:17
 returns-2 : tie.Need-returns-2
 returns-2 c = sym (ap (lastStep (c .before .before .before .before .args .complete)) (c .before .before .did2 .given .1) ∙ rw (c .if2 .taken))
 
--- src/volumes.rt:124:17
 returns-3 : tie.Need-returns-3
 returns-3 c = own _ _ _ (c .before .before .before .did2 .given .1) (c .before .if2 .left) (c .if3 .taken)
 
--- src/volumes.rt:108:1
 returns-4 : tie.Need-returns-4
 returns-4 c = sym (ap (lastStep (c .before .before .before .before .args .complete)) (c .before .before .did .given .1) ∙ rw (c .if1 .left))
 
--- src/volumes.rt:108:1
 returns-5 : tie.Need-returns-5
 returns-5 c = sym (ap (lastStep (c .before .before .args .complete)) (c .enum-told .given .1))
 
--- src/volumes.rt:108:1
 returns-6 : tie.Need-returns-6
 returns-6 c = nine _ _ _ (c .before .before .before .did2 .given .1) (c .before .if2 .left) (c .if3 .left)
 

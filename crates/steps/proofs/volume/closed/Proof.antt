@@ -4,35 +4,27 @@ use borrow.Author.Needs.{needs}
 use Rattle.steps.proofs.volume.closed.Statement.{statement}
 use Rattle.steps.proofs.volume.closed.Tie as tie
 
--- src/volumes.rt:155:18
 enum-known-did : tie.Need-enum-known-did
 enum-known-did c = search needs
 
--- src/volumes.rt:156:26
 enum-told : tie.Need-enum-told
 enum-told c = search needs
 
--- src/volumes.rt:156:26
 refused-requires : tie.Need-refused-requires
 refused-requires c κs = search needs
 
--- src/volumes.rt:157:20
 enum-known-did-2 : tie.Need-enum-known-did-2
 enum-known-did-2 c = search needs
 
--- src/volumes.rt:157:26
 refused-requires-2 : tie.Need-refused-requires-2
 refused-requires-2 c κs = search needs
 
--- src/volumes.rt:151:1
 returns : tie.Need-returns
 returns c = sym (ap (throughOf (c .before .before .before .args .v) (c .before .before .before .args .line)) (c .before .did .given .1))
 
--- src/volumes.rt:151:1
 returns-2 : tie.Need-returns-2
 returns-2 c = c .refused .ensures ∙ sym (ap (throughOf (c .before .before .before .args .v) (c .before .before .before .args .line)) (c .before .enum-told .given .1))
 
--- src/volumes.rt:151:1
 returns-3 : tie.Need-returns-3
 returns-3 c = c .refused2 .ensures ∙ sym (ap (throughOf (c .before .before .before .before .args .v) (c .before .before .before .before .args .line)) (c .before .before .did2 .given .1))
 

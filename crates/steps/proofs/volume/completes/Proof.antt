@@ -4,43 +4,33 @@ use borrow.Author.Needs.{needs}
 use Rattle.steps.proofs.volume.completes.Statement.{statement}
 use Rattle.steps.proofs.volume.completes.Tie as tie
 
--- src/volumes.rt:83:13
 after-element-requires : tie.Need-after-element-requires
 after-element-requires c κs = search needs
 
--- src/volumes.rt:84:13
 returns : tie.Need-returns
 returns c = sym (rw (c .before .before .if1 .taken, sym (c .before .after-element .ensures), not-true (c .before .after-element .result) (c .if2 .taken)))
 
--- src/volumes.rt:86:9
 is-eof-requires : tie.Need-is-eof-requires
 is-eof-requires c κs = search needs
 
--- src/volumes.rt:86:9
 returns-2 : tie.Need-returns-2
 returns-2 c = c .is-eof .ensures ∙ sym (rw (c .before .before .before .if1 .taken, sym (c .before .before .after-element .ensures), not-false (c .before .before .after-element .result) (c .before .if2 .left)))
 
--- src/volumes.rt:89:9
 is-close-requires : tie.Need-is-close-requires
 is-close-requires c κs = search needs
 
--- src/volumes.rt:89:9
 returns-3 : tie.Need-returns-3
 returns-3 c = c .is-close .ensures ∙ sym (rw (c .before .before .before .if1 .left, c .before .if3 .taken))
 
--- src/volumes.rt:91:9
 after-element-requires-2 : tie.Need-after-element-requires-2
 after-element-requires-2 c κs = search needs
 
--- src/volumes.rt:92:9
 returns-4 : tie.Need-returns-4
 returns-4 c = sym (rw (c .before .before .before .before .if1 .left, ne-eqb _ _ (c .before .before .if3 .left), sym (c .before .after-element2 .ensures), not-true (c .before .after-element2 .result) (c .if4 .taken)))
 
--- src/volumes.rt:94:5
 is-ignored-requires : tie.Need-is-ignored-requires
 is-ignored-requires c κs = search needs
 
--- src/volumes.rt:79:1
 returns-5 : tie.Need-returns-5
 returns-5 c = c .is-ignored .ensures ∙ sym (rw (c .before .before .before .before .before .if1 .left, ne-eqb _ _ (c .before .before .before .if3 .left), sym (c .before .before .after-element2 .ensures), not-false (c .before .before .after-element2 .result) (c .before .if4 .left)))
 

@@ -4,15 +4,12 @@ use borrow.Author.Needs.{needs}
 use Rattle.steps.proofs.volume.next_volume.Statement.{statement}
 use Rattle.steps.proofs.volume.next_volume.Tie as tie
 
--- src/volumes.rt:102:9
 returns : tie.Need-returns
 returns c = sym (rw (ne-eqb _ _ (c .if1 .taken)))
 
--- src/volumes.rt:104:5
 at-block-requires : tie.Need-at-block-requires
 at-block-requires c κs = search needs
 
--- src/volumes.rt:98:1
 returns-2 : tie.Need-returns-2
 returns-2 c = c .at-block .ensures ∙ sym (rw (c .before .if1 .left))
 

@@ -40,263 +40,198 @@ after-line c = let l = c .step .last in desk (c .before .before .before .before 
 kept : (c : tie.After-step Inv-loop μ-loop) → SameLengths (before-line c) (after-line c)
 kept c = let k = c .step .kept in record { tally = k .1 .1 .1 .1 .1 .1 .0; symbols = k .1 .1 .1 .1 .1 .1 .1 .0; layers = k .1 .1 .1 .1 .1 .1 .1 .1 .0; serials = k .1 .1 .1 .1 .1 .1 .1 .1 .1 .0; used = k .1 .1 .1 .1 .1 .1 .1 .1 .1 .1 .0; usedAll = k .1 .1 .1 .1 .1 .1 .1 .1 .1 .1 .1 .0; marks = k .1 .1 .1 .1 .1 .1 .1 .1 .1 .1 .1 .1 .0; inner = k .1 .1 .1 .1 .1 .1 .1 .1 .1 .1 .1 .1 .1 .0; header = k .1 .1 .1 .1 .1 .1 .1 .1 .1 .1 .1 .1 .1 .1 .0; table = k .1 .1 .1 .1 .1 .1 .1 .1 .1 .1 .1 .1 .1 .1 .1 .1 .0 }
 
--- src/volumes.rt:212:5
 loop-holds : tie.Need-loop-holds Inv-loop μ-loop
 loop-holds c = (begins _ _ _ _ _ _ _ (c .before .before .before .before .before .before .before .before .before .before .pre), same-lengths _, none-following (c .before .before .before .before .before .before .before .before .before .before .args .following .now))
 
--- src/volumes.rt:213:13
 next-line-requires : tie.Need-next-line-requires Inv-loop μ-loop
 next-line-requires c κs = let i = c .loop .inv .0 .low in omega (arith, i .line, i .at)
 
--- src/volumes.rt:216:13
 refused-requires : tie.Need-refused-requires Inv-loop μ-loop
 refused-requires c κs = tt
 
--- src/volumes.rt:216:13
 same-length : tie.Need-same-length Inv-loop μ-loop
 same-length c = c .before .before .before .before .loop .inv .1 .tally
 
--- src/volumes.rt:216:13
 same-length-2 : tie.Need-same-length-2 Inv-loop μ-loop
 same-length-2 c = c .before .before .before .before .loop .inv .1 .symbols
 
--- src/volumes.rt:216:13
 same-length-3 : tie.Need-same-length-3 Inv-loop μ-loop
 same-length-3 c = c .before .before .before .before .loop .inv .1 .layers
 
--- src/volumes.rt:216:13
 same-length-4 : tie.Need-same-length-4 Inv-loop μ-loop
 same-length-4 c = c .before .before .before .before .loop .inv .1 .serials
 
--- src/volumes.rt:216:13
 same-length-5 : tie.Need-same-length-5 Inv-loop μ-loop
 same-length-5 c = c .before .before .before .before .loop .inv .1 .used
 
--- src/volumes.rt:216:13
 same-length-6 : tie.Need-same-length-6 Inv-loop μ-loop
 same-length-6 c = c .before .before .before .before .loop .inv .1 .usedAll
 
--- src/volumes.rt:216:13
 same-length-7 : tie.Need-same-length-7 Inv-loop μ-loop
 same-length-7 c = c .before .before .before .before .loop .inv .1 .marks
 
--- src/volumes.rt:216:13
 same-length-8 : tie.Need-same-length-8 Inv-loop μ-loop
 same-length-8 c = c .before .before .before .before .loop .inv .1 .inner
 
--- src/volumes.rt:216:13
 same-length-9 : tie.Need-same-length-9 Inv-loop μ-loop
 same-length-9 c = c .before .before .before .before .loop .inv .1 .header
 
--- src/volumes.rt:216:13
 same-length-10 : tie.Need-same-length-10 Inv-loop μ-loop
 same-length-10 c = c .before .before .before .before .loop .inv .1 .table
 
--- src/volumes.rt:216:13
 returns : tie.Need-returns Inv-loop μ-loop
 returns c = turn-empty _ _ _ _ _ _ _ _ _ _ (c .before .before .before .before .loop .inv) _ (c .before .before .before .next-line .ensures) (c .before .if1 .taken) _ _ (c .refused .ensures)
 
--- src/volumes.rt:218:13
 completes-requires : tie.Need-completes-requires Inv-loop μ-loop
 completes-requires c κs = tt
 
--- src/volumes.rt:221:19
 add-t36 : tie.Need-add-t36 Inv-loop μ-loop
 add-t36 c = let i = c .before .before .before .before .loop .inv .0 .low in omega (arith, i .line, i .at)
 
--- src/volumes.rt:222:19
 both-true-requires : tie.Need-both-true-requires Inv-loop μ-loop
 both-true-requires c κs = tt
 
--- src/volumes.rt:224:13
 step-requires : tie.Need-step-requires Inv-loop μ-loop
 step-requires c κs = turn-ready _ _ _ _ _ _ _ _ _ _ (c .before .before .before .before .before .before .before .before .before .before .before .before .before .before .before .loop .inv) _ (c .before .before .before .before .before .before .before .before .before .before .before .before .before .before .next-line .ensures) (c .before .before .before .before .before .before .before .before .before .before .before .before .if1 .left) _ (c .before .before .before .before .before .before .before .before .before .before .both-true .ensures) (c .before .before .before .before .before .before .before .before .before .before .before .before .before .before .before .before .before .before .before .before .before .before .before .before .before .before .pre)
 
--- src/volumes.rt:243:9
 add-line : tie.Need-add-line Inv-loop μ-loop
 add-line c = let i = c .before .before .before .before .before .before .before .before .before .before .before .before .before .before .before .before .before .before .before .before .before .before .before .before .before .before .before .before .before .before .before .before .before .before .loop .inv .0 .low in omega (arith, i .line, i .at)
 
--- src/volumes.rt:245:36
 at-last-requires : tie.Need-at-last-requires Inv-loop μ-loop
 at-last-requires c κs = tt
 
--- src/volumes.rt:245:13
 closed-requires : tie.Need-closed-requires Inv-loop μ-loop
 closed-requires c κs = tt
 
--- src/volumes.rt:245:13
 same-length-11 : tie.Need-same-length-11 Inv-loop μ-loop
 same-length-11 c = kept (c .before .before .before .before .before .before .before .before .before .before .before .before .before .before .before .before .before .before .before .before .before) .tally ∙ c .before .before .before .before .before .before .before .before .before .before .before .before .before .before .before .before .before .before .before .before .before .before .before .before .before .before .before .before .before .before .before .before .before .before .before .before .before .loop .inv .1 .tally
 
--- src/volumes.rt:245:13
 same-length-12 : tie.Need-same-length-12 Inv-loop μ-loop
 same-length-12 c = kept (c .before .before .before .before .before .before .before .before .before .before .before .before .before .before .before .before .before .before .before .before .before) .symbols ∙ c .before .before .before .before .before .before .before .before .before .before .before .before .before .before .before .before .before .before .before .before .before .before .before .before .before .before .before .before .before .before .before .before .before .before .before .before .before .loop .inv .1 .symbols
 
--- src/volumes.rt:245:13
 same-length-13 : tie.Need-same-length-13 Inv-loop μ-loop
 same-length-13 c = kept (c .before .before .before .before .before .before .before .before .before .before .before .before .before .before .before .before .before .before .before .before .before) .layers ∙ c .before .before .before .before .before .before .before .before .before .before .before .before .before .before .before .before .before .before .before .before .before .before .before .before .before .before .before .before .before .before .before .before .before .before .before .before .before .loop .inv .1 .layers
 
--- src/volumes.rt:245:13
 same-length-14 : tie.Need-same-length-14 Inv-loop μ-loop
 same-length-14 c = kept (c .before .before .before .before .before .before .before .before .before .before .before .before .before .before .before .before .before .before .before .before .before) .serials ∙ c .before .before .before .before .before .before .before .before .before .before .before .before .before .before .before .before .before .before .before .before .before .before .before .before .before .before .before .before .before .before .before .before .before .before .before .before .before .loop .inv .1 .serials
 
--- src/volumes.rt:245:13
 same-length-15 : tie.Need-same-length-15 Inv-loop μ-loop
 same-length-15 c = kept (c .before .before .before .before .before .before .before .before .before .before .before .before .before .before .before .before .before .before .before .before .before) .used ∙ c .before .before .before .before .before .before .before .before .before .before .before .before .before .before .before .before .before .before .before .before .before .before .before .before .before .before .before .before .before .before .before .before .before .before .before .before .before .loop .inv .1 .used
 
--- src/volumes.rt:245:13
 same-length-16 : tie.Need-same-length-16 Inv-loop μ-loop
 same-length-16 c = kept (c .before .before .before .before .before .before .before .before .before .before .before .before .before .before .before .before .before .before .before .before .before) .usedAll ∙ c .before .before .before .before .before .before .before .before .before .before .before .before .before .before .before .before .before .before .before .before .before .before .before .before .before .before .before .before .before .before .before .before .before .before .before .before .before .loop .inv .1 .usedAll
 
--- src/volumes.rt:245:13
 same-length-17 : tie.Need-same-length-17 Inv-loop μ-loop
 same-length-17 c = kept (c .before .before .before .before .before .before .before .before .before .before .before .before .before .before .before .before .before .before .before .before .before) .marks ∙ c .before .before .before .before .before .before .before .before .before .before .before .before .before .before .before .before .before .before .before .before .before .before .before .before .before .before .before .before .before .before .before .before .before .before .before .before .before .loop .inv .1 .marks
 
--- src/volumes.rt:245:13
 same-length-18 : tie.Need-same-length-18 Inv-loop μ-loop
 same-length-18 c = kept (c .before .before .before .before .before .before .before .before .before .before .before .before .before .before .before .before .before .before .before .before .before) .inner ∙ c .before .before .before .before .before .before .before .before .before .before .before .before .before .before .before .before .before .before .before .before .before .before .before .before .before .before .before .before .before .before .before .before .before .before .before .before .before .loop .inv .1 .inner
 
--- src/volumes.rt:245:13
 same-length-19 : tie.Need-same-length-19 Inv-loop μ-loop
 same-length-19 c = kept (c .before .before .before .before .before .before .before .before .before .before .before .before .before .before .before .before .before .before .before .before .before) .header ∙ c .before .before .before .before .before .before .before .before .before .before .before .before .before .before .before .before .before .before .before .before .before .before .before .before .before .before .before .before .before .before .before .before .before .before .before .before .before .loop .inv .1 .header
 
--- src/volumes.rt:245:13
 same-length-20 : tie.Need-same-length-20 Inv-loop μ-loop
 same-length-20 c = kept (c .before .before .before .before .before .before .before .before .before .before .before .before .before .before .before .before .before .before .before .before .before) .table ∙ c .before .before .before .before .before .before .before .before .before .before .before .before .before .before .before .before .before .before .before .before .before .before .before .before .before .before .before .before .before .before .before .before .before .before .before .before .before .loop .inv .1 .table
 
--- src/volumes.rt:245:13
 returns-2 : tie.Need-returns-2 Inv-loop μ-loop
 returns-2 c = turn-last _ _ _ _ _ _ _ _ _ _ (c .before .before .before .before .before .before .before .before .before .before .before .before .before .before .before .before .before .before .before .before .before .before .before .before .before .before .before .before .before .before .before .before .before .before .before .before .before .loop .inv) _ (c .before .before .before .before .before .before .before .before .before .before .before .before .before .before .before .before .before .before .before .before .before .before .before .before .before .before .before .before .before .before .before .before .before .before .before .before .next-line .ensures) (c .before .before .before .before .before .before .before .before .before .before .before .before .before .before .before .before .before .before .before .before .before .before .before .before .before .before .before .before .before .before .before .before .before .before .if1 .left) _ (c .before .before .before .before .before .before .before .before .before .before .before .before .before .before .before .before .before .before .before .before .before .before .before .before .before .before .before .before .before .before .before .before .both-true .ensures) (after-line (c .before .before .before .before .before .before .before .before .before .before .before .before .before .before .before .before .before .before .before .before .before)) (c .before .before .before .before .before .before .before .before .before .before .before .before .before .before .before .before .before .before .before .before .before .step .result) (c .before .before .before .before .before .before .before .before .before .before .before .before .before .before .before .before .before .before .before .before .before .step .ensures) (kept (c .before .before .before .before .before .before .before .before .before .before .before .before .before .before .before .before .before .before .before .before .before)) (c .before .before .if2 .taken) _ (c .before .before .before .before .before .before .before .before .before .before .before .before .before .before .before .before .before .before .before .before .before .before .before .before .before .before .before .before .before .before .before .before .before .completes .ensures) _ (c .before .at-last .ensures) _ (c .closed .ensures) _
 
--- src/volumes.rt:248:22
 enum-known-did : tie.Need-enum-known-did Inv-loop μ-loop
 enum-known-did c = search needs
 
--- src/volumes.rt:212:5
 loop-less : tie.Need-loop-less Inv-loop μ-loop
 loop-less c = let m = seen-forward _ _ _ _ (c .before .before .before .before .before .before .before .before .before .before .before .before .before .before .before .before .before .before .before .before .before .before .before .before .before .before .before .before .before .before .before .before .before .before .before .before .before .next-line .ensures) (c .before .before .before .if2 .left) in omega (arith, m .0, m .1)
 
--- src/volumes.rt:212:5
 loop-again : tie.Need-loop-again Inv-loop μ-loop
 loop-again c = turn-go _ _ _ _ _ _ _ _ _ _ (c .before .before .before .before .before .before .before .before .before .before .before .before .before .before .before .before .before .before .before .before .before .before .before .before .before .before .before .before .before .before .before .before .before .before .before .before .before .before .loop .inv) _ (c .before .before .before .before .before .before .before .before .before .before .before .before .before .before .before .before .before .before .before .before .before .before .before .before .before .before .before .before .before .before .before .before .before .before .before .before .before .next-line .ensures) (c .before .before .before .before .before .before .before .before .before .before .before .before .before .before .before .before .before .before .before .before .before .before .before .before .before .before .before .before .before .before .before .before .before .before .before .if1 .left) _ (c .before .before .before .before .before .before .before .before .before .before .before .before .before .before .before .before .before .before .before .before .before .before .before .before .before .before .before .before .before .before .before .before .before .both-true .ensures) (after-line (c .before .before .before .before .before .before .before .before .before .before .before .before .before .before .before .before .before .before .before .before .before .before)) (c .before .before .before .before .before .before .before .before .before .before .before .before .before .before .before .before .before .before .before .before .before .before .step .result) (c .before .before .before .before .before .before .before .before .before .before .before .before .before .before .before .before .before .before .before .before .before .before .step .ensures) (kept (c .before .before .before .before .before .before .before .before .before .before .before .before .before .before .before .before .before .before .before .before .before .before)) (c .before .before .before .if2 .left) _ (c .before .did .given .1)
 
--- src/volumes.rt:251:24
 enum-known-did-2 : tie.Need-enum-known-did-2 Inv-loop μ-loop
 enum-known-did-2 c = search needs
 
--- src/volumes.rt:253:21
 skip-block-requires : tie.Need-skip-block-requires Inv-loop μ-loop
 skip-block-requires c κs = turn-block _ _ _ _ _ _ _ _ _ _ (c .before .before .before .before .before .before .before .before .before .before .before .before .before .before .before .before .before .before .before .before .before .before .before .before .before .before .before .before .before .before .before .before .before .before .before .before .before .before .loop .inv) _ (c .before .before .before .before .before .before .before .before .before .before .before .before .before .before .before .before .before .before .before .before .before .before .before .before .before .before .before .before .before .before .before .before .before .before .before .before .before .next-line .ensures) (c .before .before .before .before .before .before .before .before .before .before .before .before .before .before .before .before .before .before .before .before .before .before .before .before .before .before .before .before .before .before .before .before .before .before .before .if1 .left) _ (c .before .before .before .before .before .before .before .before .before .before .before .before .before .before .before .before .before .before .before .before .before .before .before .before .before .before .before .before .before .before .before .before .before .both-true .ensures) (after-line (c .before .before .before .before .before .before .before .before .before .before .before .before .before .before .before .before .before .before .before .before .before .before)) (c .before .before .before .before .before .before .before .before .before .before .before .before .before .before .before .before .before .before .before .before .before .before .step .result) (c .before .before .before .before .before .before .before .before .before .before .before .before .before .before .before .before .before .before .before .before .before .before .step .ensures) (kept (c .before .before .before .before .before .before .before .before .before .before .before .before .before .before .before .before .before .before .before .before .before .before)) (c .before .before .before .if2 .left)
 
--- src/volumes.rt:255:30
 enum-known-left : tie.Need-enum-known-left Inv-loop μ-loop
 enum-known-left c = search needs
 
--- src/volumes.rt:212:5
 loop-less-2 : tie.Need-loop-less-2 Inv-loop μ-loop
 loop-less-2 c = let m = seen-forward _ _ _ _ (c .before .before .before .before .before .before .before .before .before .before .before .before .before .before .before .before .before .before .before .before .before .before .before .before .before .before .before .before .before .before .before .before .before .before .before .before .before .before .before .before .before .next-line .ensures) (c .before .before .before .before .before .before .before .if2 .left) in let x = skipped-further _ _ _ _ _ (c .before .before .before .skip-block .ensures) (c .before .left .given .1) in omega (arith, m .0, m .1, x .1, x .2)
 
--- src/volumes.rt:212:5
 loop-again-2 : tie.Need-loop-again-2 Inv-loop μ-loop
 loop-again-2 c = turn-skip _ _ _ _ _ _ _ _ _ _ (c .before .before .before .before .before .before .before .before .before .before .before .before .before .before .before .before .before .before .before .before .before .before .before .before .before .before .before .before .before .before .before .before .before .before .before .before .before .before .before .before .before .before .loop .inv) _ (c .before .before .before .before .before .before .before .before .before .before .before .before .before .before .before .before .before .before .before .before .before .before .before .before .before .before .before .before .before .before .before .before .before .before .before .before .before .before .before .before .before .next-line .ensures) (c .before .before .before .before .before .before .before .before .before .before .before .before .before .before .before .before .before .before .before .before .before .before .before .before .before .before .before .before .before .before .before .before .before .before .before .before .before .before .before .if1 .left) _ (c .before .before .before .before .before .before .before .before .before .before .before .before .before .before .before .before .before .before .before .before .before .before .before .before .before .before .before .before .before .before .before .before .before .before .before .before .before .both-true .ensures) (after-line (c .before .before .before .before .before .before .before .before .before .before .before .before .before .before .before .before .before .before .before .before .before .before .before .before .before .before)) (c .before .before .before .before .before .before .before .before .before .before .before .before .before .before .before .before .before .before .before .before .before .before .before .before .before .before .step .result) (c .before .before .before .before .before .before .before .before .before .before .before .before .before .before .before .before .before .before .before .before .before .before .before .before .before .before .step .ensures) (kept (c .before .before .before .before .before .before .before .before .before .before .before .before .before .before .before .before .before .before .before .before .before .before .before .before .before .before)) (c .before .before .before .before .before .before .before .if2 .left) _ (c .before .before .before .before .before .did2 .given .1) _ (c .before .before .before .skip-block .ensures) _ (c .before .left .given .1)
 
--- src/volumes.rt:259:32
 enum-known-left-2 : tie.Need-enum-known-left-2 Inv-loop μ-loop
 enum-known-left-2 c = search needs
 
--- src/volumes.rt:260:25
 same-length-21 : tie.Need-same-length-21 Inv-loop μ-loop
 same-length-21 c = kept (c .before .before .before .before .before .before .before .before .before .before .before .before .before .before .before .before .before .before .before .before .before .before .before .before .before .before) .tally ∙ c .before .before .before .before .before .before .before .before .before .before .before .before .before .before .before .before .before .before .before .before .before .before .before .before .before .before .before .before .before .before .before .before .before .before .before .before .before .before .before .before .before .before .loop .inv .1 .tally
 
--- src/volumes.rt:260:25
 same-length-22 : tie.Need-same-length-22 Inv-loop μ-loop
 same-length-22 c = kept (c .before .before .before .before .before .before .before .before .before .before .before .before .before .before .before .before .before .before .before .before .before .before .before .before .before .before) .symbols ∙ c .before .before .before .before .before .before .before .before .before .before .before .before .before .before .before .before .before .before .before .before .before .before .before .before .before .before .before .before .before .before .before .before .before .before .before .before .before .before .before .before .before .before .loop .inv .1 .symbols
 
--- src/volumes.rt:260:25
 same-length-23 : tie.Need-same-length-23 Inv-loop μ-loop
 same-length-23 c = kept (c .before .before .before .before .before .before .before .before .before .before .before .before .before .before .before .before .before .before .before .before .before .before .before .before .before .before) .layers ∙ c .before .before .before .before .before .before .before .before .before .before .before .before .before .before .before .before .before .before .before .before .before .before .before .before .before .before .before .before .before .before .before .before .before .before .before .before .before .before .before .before .before .before .loop .inv .1 .layers
 
--- src/volumes.rt:260:25
 same-length-24 : tie.Need-same-length-24 Inv-loop μ-loop
 same-length-24 c = kept (c .before .before .before .before .before .before .before .before .before .before .before .before .before .before .before .before .before .before .before .before .before .before .before .before .before .before) .serials ∙ c .before .before .before .before .before .before .before .before .before .before .before .before .before .before .before .before .before .before .before .before .before .before .before .before .before .before .before .before .before .before .before .before .before .before .before .before .before .before .before .before .before .before .loop .inv .1 .serials
 
--- src/volumes.rt:260:25
 same-length-25 : tie.Need-same-length-25 Inv-loop μ-loop
 same-length-25 c = kept (c .before .before .before .before .before .before .before .before .before .before .before .before .before .before .before .before .before .before .before .before .before .before .before .before .before .before) .used ∙ c .before .before .before .before .before .before .before .before .before .before .before .before .before .before .before .before .before .before .before .before .before .before .before .before .before .before .before .before .before .before .before .before .before .before .before .before .before .before .before .before .before .before .loop .inv .1 .used
 
--- src/volumes.rt:260:25
 same-length-26 : tie.Need-same-length-26 Inv-loop μ-loop
 same-length-26 c = kept (c .before .before .before .before .before .before .before .before .before .before .before .before .before .before .before .before .before .before .before .before .before .before .before .before .before .before) .usedAll ∙ c .before .before .before .before .before .before .before .before .before .before .before .before .before .before .before .before .before .before .before .before .before .before .before .before .before .before .before .before .before .before .before .before .before .before .before .before .before .before .before .before .before .before .loop .inv .1 .usedAll
 
--- src/volumes.rt:260:25
 same-length-27 : tie.Need-same-length-27 Inv-loop μ-loop
 same-length-27 c = kept (c .before .before .before .before .before .before .before .before .before .before .before .before .before .before .before .before .before .before .before .before .before .before .before .before .before .before) .marks ∙ c .before .before .before .before .before .before .before .before .before .before .before .before .before .before .before .before .before .before .before .before .before .before .before .before .before .before .before .before .before .before .before .before .before .before .before .before .before .before .before .before .before .before .loop .inv .1 .marks
 
--- src/volumes.rt:260:25
 same-length-28 : tie.Need-same-length-28 Inv-loop μ-loop
 same-length-28 c = kept (c .before .before .before .before .before .before .before .before .before .before .before .before .before .before .before .before .before .before .before .before .before .before .before .before .before .before) .inner ∙ c .before .before .before .before .before .before .before .before .before .before .before .before .before .before .before .before .before .before .before .before .before .before .before .before .before .before .before .before .before .before .before .before .before .before .before .before .before .before .before .before .before .before .loop .inv .1 .inner
 
--- src/volumes.rt:260:25
 same-length-29 : tie.Need-same-length-29 Inv-loop μ-loop
 same-length-29 c = kept (c .before .before .before .before .before .before .before .before .before .before .before .before .before .before .before .before .before .before .before .before .before .before .before .before .before .before) .header ∙ c .before .before .before .before .before .before .before .before .before .before .before .before .before .before .before .before .before .before .before .before .before .before .before .before .before .before .before .before .before .before .before .before .before .before .before .before .before .before .before .before .before .before .loop .inv .1 .header
 
--- src/volumes.rt:260:25
 same-length-30 : tie.Need-same-length-30 Inv-loop μ-loop
 same-length-30 c = kept (c .before .before .before .before .before .before .before .before .before .before .before .before .before .before .before .before .before .before .before .before .before .before .before .before .before .before) .table ∙ c .before .before .before .before .before .before .before .before .before .before .before .before .before .before .before .before .before .before .before .before .before .before .before .before .before .before .before .before .before .before .before .before .before .before .before .before .before .before .before .before .before .before .loop .inv .1 .table
 
--- src/volumes.rt:260:25
 returns-3 : tie.Need-returns-3 Inv-loop μ-loop
 returns-3 c = turn-left _ _ _ _ _ _ _ _ _ _ (c .before .before .before .before .before .before .before .before .before .before .before .before .before .before .before .before .before .before .before .before .before .before .before .before .before .before .before .before .before .before .before .before .before .before .before .before .before .before .before .before .before .before .loop .inv) _ (c .before .before .before .before .before .before .before .before .before .before .before .before .before .before .before .before .before .before .before .before .before .before .before .before .before .before .before .before .before .before .before .before .before .before .before .before .before .before .before .before .before .next-line .ensures) (c .before .before .before .before .before .before .before .before .before .before .before .before .before .before .before .before .before .before .before .before .before .before .before .before .before .before .before .before .before .before .before .before .before .before .before .before .before .before .before .if1 .left) _ (c .before .before .before .before .before .before .before .before .before .before .before .before .before .before .before .before .before .before .before .before .before .before .before .before .before .before .before .before .before .before .before .before .before .before .before .before .before .both-true .ensures) (after-line (c .before .before .before .before .before .before .before .before .before .before .before .before .before .before .before .before .before .before .before .before .before .before .before .before .before .before)) (c .before .before .before .before .before .before .before .before .before .before .before .before .before .before .before .before .before .before .before .before .before .before .before .before .before .before .step .result) (c .before .before .before .before .before .before .before .before .before .before .before .before .before .before .before .before .before .before .before .before .before .before .before .before .before .before .step .ensures) (kept (c .before .before .before .before .before .before .before .before .before .before .before .before .before .before .before .before .before .before .before .before .before .before .before .before .before .before)) (c .before .before .before .before .before .before .before .if2 .left) _ (c .before .before .before .before .before .did2 .given .1) _ (c .before .before .before .skip-block .ensures) _ (c .before .left2 .given .1)
 
--- src/volumes.rt:264:24
 enum-known-did-3 : tie.Need-enum-known-did-3 Inv-loop μ-loop
 enum-known-did-3 c = search needs
 
--- src/volumes.rt:265:17
 refused-requires-2 : tie.Need-refused-requires-2 Inv-loop μ-loop
 refused-requires-2 c κs = tt
 
--- src/volumes.rt:265:17
 same-length-31 : tie.Need-same-length-31 Inv-loop μ-loop
 same-length-31 c = kept (c .before .before .before .before .before .before .before .before .before .before .before .before .before .before .before .before .before .before .before .before .before .before .before) .tally ∙ c .before .before .before .before .before .before .before .before .before .before .before .before .before .before .before .before .before .before .before .before .before .before .before .before .before .before .before .before .before .before .before .before .before .before .before .before .before .before .before .loop .inv .1 .tally
 
--- src/volumes.rt:265:17
 same-length-32 : tie.Need-same-length-32 Inv-loop μ-loop
 same-length-32 c = kept (c .before .before .before .before .before .before .before .before .before .before .before .before .before .before .before .before .before .before .before .before .before .before .before) .symbols ∙ c .before .before .before .before .before .before .before .before .before .before .before .before .before .before .before .before .before .before .before .before .before .before .before .before .before .before .before .before .before .before .before .before .before .before .before .before .before .before .before .loop .inv .1 .symbols
 
--- src/volumes.rt:265:17
 same-length-33 : tie.Need-same-length-33 Inv-loop μ-loop
 same-length-33 c = kept (c .before .before .before .before .before .before .before .before .before .before .before .before .before .before .before .before .before .before .before .before .before .before .before) .layers ∙ c .before .before .before .before .before .before .before .before .before .before .before .before .before .before .before .before .before .before .before .before .before .before .before .before .before .before .before .before .before .before .before .before .before .before .before .before .before .before .before .loop .inv .1 .layers
 
--- src/volumes.rt:265:17
 same-length-34 : tie.Need-same-length-34 Inv-loop μ-loop
 same-length-34 c = kept (c .before .before .before .before .before .before .before .before .before .before .before .before .before .before .before .before .before .before .before .before .before .before .before) .serials ∙ c .before .before .before .before .before .before .before .before .before .before .before .before .before .before .before .before .before .before .before .before .before .before .before .before .before .before .before .before .before .before .before .before .before .before .before .before .before .before .before .loop .inv .1 .serials
 
--- src/volumes.rt:265:17
 same-length-35 : tie.Need-same-length-35 Inv-loop μ-loop
 same-length-35 c = kept (c .before .before .before .before .before .before .before .before .before .before .before .before .before .before .before .before .before .before .before .before .before .before .before) .used ∙ c .before .before .before .before .before .before .before .before .before .before .before .before .before .before .before .before .before .before .before .before .before .before .before .before .before .before .before .before .before .before .before .before .before .before .before .before .before .before .before .loop .inv .1 .used
 
--- src/volumes.rt:265:17
 same-length-36 : tie.Need-same-length-36 Inv-loop μ-loop
 same-length-36 c = kept (c .before .before .before .before .before .before .before .before .before .before .before .before .before .before .before .before .before .before .before .before .before .before .before) .usedAll ∙ c .before .before .before .before .before .before .before .before .before .before .before .before .before .before .before .before .before .before .before .before .before .before .before .before .before .before .before .before .before .before .before .before .before .before .before .before .before .before .before .loop .inv .1 .usedAll
 
--- src/volumes.rt:265:17
 same-length-37 : tie.Need-same-length-37 Inv-loop μ-loop
 same-length-37 c = kept (c .before .before .before .before .before .before .before .before .before .before .before .before .before .before .before .before .before .before .before .before .before .before .before) .marks ∙ c .before .before .before .before .before .before .before .before .before .before .before .before .before .before .before .before .before .before .before .before .before .before .before .before .before .before .before .before .before .before .before .before .before .before .before .before .before .before .before .loop .inv .1 .marks
 
--- src/volumes.rt:265:17
 same-length-38 : tie.Need-same-length-38 Inv-loop μ-loop
 same-length-38 c = kept (c .before .before .before .before .before .before .before .before .before .before .before .before .before .before .before .before .before .before .before .before .before .before .before) .inner ∙ c .before .before .before .before .before .before .before .before .before .before .before .before .before .before .before .before .before .before .before .before .before .before .before .before .before .before .before .before .before .before .before .before .before .before .before .before .before .before .before .loop .inv .1 .inner
 
--- src/volumes.rt:265:17
 same-length-39 : tie.Need-same-length-39 Inv-loop μ-loop
 same-length-39 c = kept (c .before .before .before .before .before .before .before .before .before .before .before .before .before .before .before .before .before .before .before .before .before .before .before) .header ∙ c .before .before .before .before .before .before .before .before .before .before .before .before .before .before .before .before .before .before .before .before .before .before .before .before .before .before .before .before .before .before .before .before .before .before .before .before .before .before .before .loop .inv .1 .header
 
--- src/volumes.rt:265:17
 same-length-40 : tie.Need-same-length-40 Inv-loop μ-loop
 same-length-40 c = kept (c .before .before .before .before .before .before .before .before .before .before .before .before .before .before .before .before .before .before .before .before .before .before .before) .table ∙ c .before .before .before .before .before .before .before .before .before .before .before .before .before .before .before .before .before .before .before .before .before .before .before .before .before .before .before .before .before .before .before .before .before .before .before .before .before .before .before .loop .inv .1 .table
 
--- src/volumes.rt:265:17
 returns-4 : tie.Need-returns-4 Inv-loop μ-loop
 returns-4 c = turn-stop _ _ _ _ _ _ _ _ _ _ (c .before .before .before .before .before .before .before .before .before .before .before .before .before .before .before .before .before .before .before .before .before .before .before .before .before .before .before .before .before .before .before .before .before .before .before .before .before .before .before .loop .inv) _ (c .before .before .before .before .before .before .before .before .before .before .before .before .before .before .before .before .before .before .before .before .before .before .before .before .before .before .before .before .before .before .before .before .before .before .before .before .before .before .next-line .ensures) (c .before .before .before .before .before .before .before .before .before .before .before .before .before .before .before .before .before .before .before .before .before .before .before .before .before .before .before .before .before .before .before .before .before .before .before .before .if1 .left) _ (c .before .before .before .before .before .before .before .before .before .before .before .before .before .before .before .before .before .before .before .before .before .before .before .before .before .before .before .before .before .before .before .before .before .before .both-true .ensures) (after-line (c .before .before .before .before .before .before .before .before .before .before .before .before .before .before .before .before .before .before .before .before .before .before .before)) (c .before .before .before .before .before .before .before .before .before .before .before .before .before .before .before .before .before .before .before .before .before .before .before .step .result) (c .before .before .before .before .before .before .before .before .before .before .before .before .before .before .before .before .before .before .before .before .before .before .before .step .ensures) (kept (c .before .before .before .before .before .before .before .before .before .before .before .before .before .before .before .before .before .before .before .before .before .before .before)) (c .before .before .before .before .if2 .left) _ (c .before .before .did3 .given .1) _ _ (c .refused2 .ensures)
 

@@ -9,20 +9,16 @@ use Rattle.tables.proofs.blocks.base_row.Lts as lts
 use Rattle.tables.proofs.keys.is_b_sym.Reads as is-b-sym-reads
 use Rattle.tables.proofs.rows.several.Reads as several-reads
 
--- src/blocks.rt:248:8
 is-b-sym-requires : tie.Need-is-b-sym-requires
 is-b-sym-requires c κs = search needs
 
--- src/blocks.rt:249:27
 several-requires : tie.Need-several-requires
 several-requires c κs = search needs
 
--- src/blocks.rt:249:9
 returns : tie.Need-returns
 unfolding baseTable partsOf
 returns c = rw (sym (c .before .before .is-b-sym .ensures) ∙ c .before .if1 .taken, c .several .ensures)
 
--- src/blocks.rt:245:1
 returns-2 : tie.Need-returns-2
 unfolding baseTable
 returns-2 c = rw (sym (c .before .is-b-sym .ensures) ∙ c .if1 .left)

@@ -13,41 +13,32 @@ use Rattle.tables.proofs.rows.inner.Reads as inner-reads
 use Rattle.tables.proofs.rows.plain.Reads as plain-reads
 use Rattle.tables.proofs.rows.times.Reads as times-reads
 
--- src/blocks.rt:343:8
 is-non-requires : tie.Need-is-non-requires
 is-non-requires c κs = search needs
 
--- src/blocks.rt:344:27
 plain-requires : tie.Need-plain-requires
 plain-requires c κs = search needs
 
--- src/blocks.rt:344:9
 returns : tie.Need-returns
 unfolding definesTable partsOf
 returns c = rw (sym (c .before .before .is-non .ensures) ∙ c .before .if1 .taken, c .plain .ensures)
 
--- src/blocks.rt:346:8
 is-e-symbol-requires : tie.Need-is-e-symbol-requires
 is-e-symbol-requires c κs = search needs
 
--- src/blocks.rt:347:38
 inner-requires : tie.Need-inner-requires
 inner-requires c κs = search needs
 
--- src/blocks.rt:347:32
 times-requires : tie.Need-times-requires
 times-requires c κs = search needs
 
--- src/blocks.rt:347:27
 from-requires : tie.Need-from-requires
 from-requires c κs = search needs
 
--- src/blocks.rt:347:9
 returns-2 : tie.Need-returns-2
 unfolding definesTable partsOf
 returns-2 c = rw (sym (c .before .before .before .before .before .before .is-non .ensures) ∙ c .before .before .before .before .before .if1 .left, sym (c .before .before .before .before .is-e-symbol .ensures) ∙ c .before .before .before .if2 .taken, c .from .ensures, c .before .times .ensures, c .before .before .inner .ensures)
 
--- src/blocks.rt:340:1
 returns-3 : tie.Need-returns-3
 unfolding definesTable
 returns-3 c = rw (sym (c .before .before .before .is-non .ensures) ∙ c .before .before .if1 .left, sym (c .before .is-e-symbol .ensures) ∙ c .if2 .left)

@@ -11,46 +11,36 @@ use Rattle.tables.proofs.keys.is_e_sym.Reads as is-e-sym-reads
 use Rattle.tables.proofs.keys.is_e_wire.Reads as is-e-wire-reads
 use Rattle.tables.proofs.rows.several.Reads as several-reads
 
--- src/blocks.rt:258:8
 is-e-sym-requires : tie.Need-is-e-sym-requires
 is-e-sym-requires c κs = search needs
 
--- src/blocks.rt:259:27
 several-requires : tie.Need-several-requires
 several-requires c κs = search needs
 
--- src/blocks.rt:259:9
 returns : tie.Need-returns
 unfolding elecTable partsOf
 returns c = rw (sym (c .before .before .is-e-sym .ensures) ∙ c .before .if1 .taken, c .several .ensures)
 
--- src/blocks.rt:261:8
 is-e-wire-requires : tie.Need-is-e-wire-requires
 is-e-wire-requires c κs = search needs
 
--- src/blocks.rt:262:27
 several-requires-2 : tie.Need-several-requires-2
 several-requires-2 c κs = search needs
 
--- src/blocks.rt:262:9
 returns-2 : tie.Need-returns-2
 unfolding elecTable partsOf
 returns-2 c = rw (sym (c .before .before .before .before .is-e-sym .ensures) ∙ c .before .before .before .if1 .left, sym (c .before .before .is-e-wire .ensures) ∙ c .before .if2 .taken, c .several2 .ensures)
 
--- src/blocks.rt:264:8
 is-e-cirno-requires : tie.Need-is-e-cirno-requires
 is-e-cirno-requires c κs = search needs
 
--- src/blocks.rt:265:27
 several-requires-3 : tie.Need-several-requires-3
 several-requires-3 c κs = search needs
 
--- src/blocks.rt:265:9
 returns-3 : tie.Need-returns-3
 unfolding elecTable partsOf
 returns-3 c = rw (sym (c .before .before .before .before .before .before .is-e-sym .ensures) ∙ c .before .before .before .before .before .if1 .left, sym (c .before .before .before .before .is-e-wire .ensures) ∙ c .before .before .before .if2 .left, sym (c .before .before .is-e-cirno .ensures) ∙ c .before .if3 .taken, c .several3 .ensures)
 
--- src/blocks.rt:255:1
 returns-4 : tie.Need-returns-4
 unfolding elecTable
 returns-4 c = rw (sym (c .before .before .before .before .before .is-e-sym .ensures) ∙ c .before .before .before .before .if1 .left, sym (c .before .before .before .is-e-wire .ensures) ∙ c .before .before .if2 .left, sym (c .before .is-e-cirno .ensures) ∙ c .if3 .left)

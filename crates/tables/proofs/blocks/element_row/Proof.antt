@@ -10,24 +10,19 @@ use Rattle.tables.proofs.keys.is_layer.Reads as is-layer-reads
 use Rattle.tables.proofs.rows.inner.Reads as inner-reads
 use Rattle.tables.proofs.rows.times.Reads as times-reads
 
--- src/blocks.rt:375:8
 is-layer-requires : tie.Need-is-layer-requires
 is-layer-requires c κs = search needs
 
--- src/blocks.rt:376:33
 inner-requires : tie.Need-inner-requires
 inner-requires c κs = search needs
 
--- src/blocks.rt:376:27
 times-requires : tie.Need-times-requires
 times-requires c κs = search needs
 
--- src/blocks.rt:376:9
 returns : tie.Need-returns
 unfolding elementTable partsOf
 returns c = rw (sym (c .before .before .before .is-layer .ensures) ∙ c .before .before .if1 .taken, c .times .ensures, c .before .inner .ensures)
 
--- src/blocks.rt:372:1
 returns-2 : tie.Need-returns-2
 unfolding elementTable
 returns-2 c = rw (sym (c .before .is-layer .ensures) ∙ c .if1 .left)

@@ -21,119 +21,92 @@ use Rattle.tables.proofs.rows.may_be_empty.Reads as may-be-empty-reads
 use Rattle.tables.proofs.rows.plain.Reads as plain-reads
 use Rattle.tables.proofs.rows.several.Reads as several-reads
 
--- src/blocks.rt:200:8
 is-range-requires : tie.Need-is-range-requires
 is-range-requires c κs = search needs
 
--- src/blocks.rt:201:27
 inner-requires : tie.Need-inner-requires
 inner-requires c κs = search needs
 
--- src/blocks.rt:201:9
 returns : tie.Need-returns
 unfolding fileTable partsOf
 returns c = rw (sym (c .before .before .is-range .ensures) ∙ c .before .if1 .taken, c .inner .ensures)
 
--- src/blocks.rt:203:8
 is-all-line-requires : tie.Need-is-all-line-requires
 is-all-line-requires c κs = search needs
 
--- src/blocks.rt:204:27
 several-requires : tie.Need-several-requires
 several-requires c κs = search needs
 
--- src/blocks.rt:204:9
 returns-2 : tie.Need-returns-2
 unfolding fileTable partsOf
 returns-2 c = rw (sym (c .before .before .before .before .is-range .ensures) ∙ c .before .before .before .if1 .left, sym (c .before .before .is-all-line .ensures) ∙ c .before .if2 .taken, c .several .ensures)
 
--- src/blocks.rt:206:8
 is-this-line-requires : tie.Need-is-this-line-requires
 is-this-line-requires c κs = search needs
 
--- src/blocks.rt:207:27
 several-requires-2 : tie.Need-several-requires-2
 several-requires-2 c κs = search needs
 
--- src/blocks.rt:207:9
 returns-3 : tie.Need-returns-3
 unfolding fileTable partsOf
 returns-3 c = rw (sym (c .before .before .before .before .before .before .is-range .ensures) ∙ c .before .before .before .before .before .if1 .left, sym (c .before .before .before .before .is-all-line .ensures) ∙ c .before .before .before .if2 .left, sym (c .before .before .is-this-line .ensures) ∙ c .before .if3 .taken, c .several2 .ensures)
 
--- src/blocks.rt:209:8
 is-all-ele-requires : tie.Need-is-all-ele-requires
 is-all-ele-requires c κs = search needs
 
--- src/blocks.rt:210:27
 several-requires-3 : tie.Need-several-requires-3
 several-requires-3 c κs = search needs
 
--- src/blocks.rt:210:9
 returns-4 : tie.Need-returns-4
 unfolding fileTable partsOf
 returns-4 c = rw (sym (c .before .before .before .before .before .before .before .before .is-range .ensures) ∙ c .before .before .before .before .before .before .before .if1 .left, sym (c .before .before .before .before .before .before .is-all-line .ensures) ∙ c .before .before .before .before .before .if2 .left, sym (c .before .before .before .before .is-this-line .ensures) ∙ c .before .before .before .if3 .left, sym (c .before .before .is-all-ele .ensures) ∙ c .before .if4 .taken, c .several3 .ensures)
 
--- src/blocks.rt:212:8
 is-this-ele-requires : tie.Need-is-this-ele-requires
 is-this-ele-requires c κs = search needs
 
--- src/blocks.rt:213:27
 several-requires-4 : tie.Need-several-requires-4
 several-requires-4 c κs = search needs
 
--- src/blocks.rt:213:9
 returns-5 : tie.Need-returns-5
 unfolding fileTable partsOf
 returns-5 c = rw (sym (c .before .before .before .before .before .before .before .before .before .before .is-range .ensures) ∙ c .before .before .before .before .before .before .before .before .before .if1 .left, sym (c .before .before .before .before .before .before .before .before .is-all-line .ensures) ∙ c .before .before .before .before .before .before .before .if2 .left, sym (c .before .before .before .before .before .before .is-this-line .ensures) ∙ c .before .before .before .before .before .if3 .left, sym (c .before .before .before .before .is-all-ele .ensures) ∙ c .before .before .before .if4 .left, sym (c .before .before .is-this-ele .ensures) ∙ c .before .if5 .taken, c .several4 .ensures)
 
--- src/blocks.rt:215:8
 is-next-file-requires : tie.Need-is-next-file-requires
 is-next-file-requires c κs = search needs
 
--- src/blocks.rt:216:40
 plain-requires : tie.Need-plain-requires
 plain-requires c κs = search needs
 
--- src/blocks.rt:216:27
 may-be-empty-requires : tie.Need-may-be-empty-requires
 may-be-empty-requires c κs = search needs
 
--- src/blocks.rt:216:9
 returns-6 : tie.Need-returns-6
 unfolding fileTable partsOf
 returns-6 c = rw (sym (c .before .before .before .before .before .before .before .before .before .before .before .before .before .is-range .ensures) ∙ c .before .before .before .before .before .before .before .before .before .before .before .before .if1 .left, sym (c .before .before .before .before .before .before .before .before .before .before .before .is-all-line .ensures) ∙ c .before .before .before .before .before .before .before .before .before .before .if2 .left, sym (c .before .before .before .before .before .before .before .before .before .is-this-line .ensures) ∙ c .before .before .before .before .before .before .before .before .if3 .left, sym (c .before .before .before .before .before .before .before .is-all-ele .ensures) ∙ c .before .before .before .before .before .before .if4 .left, sym (c .before .before .before .before .before .is-this-ele .ensures) ∙ c .before .before .before .before .if5 .left, sym (c .before .before .before .is-next-file .ensures) ∙ c .before .before .if6 .taken, c .may-be-empty .ensures, c .before .plain .ensures)
 
--- src/blocks.rt:218:8
 is-date-requires : tie.Need-is-date-requires
 is-date-requires c κs = search needs
 
--- src/blocks.rt:219:27
 several-requires-5 : tie.Need-several-requires-5
 several-requires-5 c κs = search needs
 
--- src/blocks.rt:219:9
 returns-7 : tie.Need-returns-7
 unfolding fileTable partsOf
 returns-7 c = rw (sym (c .before .before .before .before .before .before .before .before .before .before .before .before .before .before .is-range .ensures) ∙ c .before .before .before .before .before .before .before .before .before .before .before .before .before .if1 .left, sym (c .before .before .before .before .before .before .before .before .before .before .before .before .is-all-line .ensures) ∙ c .before .before .before .before .before .before .before .before .before .before .before .if2 .left, sym (c .before .before .before .before .before .before .before .before .before .before .is-this-line .ensures) ∙ c .before .before .before .before .before .before .before .before .before .if3 .left, sym (c .before .before .before .before .before .before .before .before .is-all-ele .ensures) ∙ c .before .before .before .before .before .before .before .if4 .left, sym (c .before .before .before .before .before .before .is-this-ele .ensures) ∙ c .before .before .before .before .before .if5 .left, sym (c .before .before .before .before .is-next-file .ensures) ∙ c .before .before .before .if6 .left, sym (c .before .before .is-date .ensures) ∙ c .before .if7 .taken, c .several5 .ensures)
 
--- src/blocks.rt:221:8
 is-time-requires : tie.Need-is-time-requires
 is-time-requires c κs = search needs
 
--- src/blocks.rt:222:27
 several-requires-6 : tie.Need-several-requires-6
 several-requires-6 c κs = search needs
 
--- src/blocks.rt:222:9
 returns-8 : tie.Need-returns-8
 unfolding fileTable partsOf
 returns-8 c = rw (sym (c .before .before .before .before .before .before .before .before .before .before .before .before .before .before .before .before .is-range .ensures) ∙ c .before .before .before .before .before .before .before .before .before .before .before .before .before .before .before .if1 .left, sym (c .before .before .before .before .before .before .before .before .before .before .before .before .before .before .is-all-line .ensures) ∙ c .before .before .before .before .before .before .before .before .before .before .before .before .before .if2 .left, sym (c .before .before .before .before .before .before .before .before .before .before .before .before .is-this-line .ensures) ∙ c .before .before .before .before .before .before .before .before .before .before .before .if3 .left, sym (c .before .before .before .before .before .before .before .before .before .before .is-all-ele .ensures) ∙ c .before .before .before .before .before .before .before .before .before .if4 .left, sym (c .before .before .before .before .before .before .before .before .is-this-ele .ensures) ∙ c .before .before .before .before .before .before .before .if5 .left, sym (c .before .before .before .before .before .before .is-next-file .ensures) ∙ c .before .before .before .before .before .if6 .left, sym (c .before .before .before .before .is-date .ensures) ∙ c .before .before .before .if7 .left, sym (c .before .before .is-time .ensures) ∙ c .before .if8 .taken, c .several6 .ensures)
 
--- src/blocks.rt:224:5
 header-text-row-requires : tie.Need-header-text-row-requires
 header-text-row-requires c κs = search needs
 
--- src/blocks.rt:197:1
 returns-9 : tie.Need-returns-9
 unfolding fileTable
 returns-9 c = rw (sym (c .before .before .before .before .before .before .before .before .before .before .before .before .before .before .before .before .is-range .ensures) ∙ c .before .before .before .before .before .before .before .before .before .before .before .before .before .before .before .if1 .left, sym (c .before .before .before .before .before .before .before .before .before .before .before .before .before .before .is-all-line .ensures) ∙ c .before .before .before .before .before .before .before .before .before .before .before .before .before .if2 .left, sym (c .before .before .before .before .before .before .before .before .before .before .before .before .is-this-line .ensures) ∙ c .before .before .before .before .before .before .before .before .before .before .before .if3 .left, sym (c .before .before .before .before .before .before .before .before .before .before .is-all-ele .ensures) ∙ c .before .before .before .before .before .before .before .before .before .if4 .left, sym (c .before .before .before .before .before .before .before .before .is-this-ele .ensures) ∙ c .before .before .before .before .before .before .before .if5 .left, sym (c .before .before .before .before .before .before .is-next-file .ensures) ∙ c .before .before .before .before .before .if6 .left, sym (c .before .before .before .before .is-date .ensures) ∙ c .before .before .before .if7 .left, sym (c .before .before .is-time .ensures) ∙ c .before .if8 .left) (c .header-text-row .ensures)

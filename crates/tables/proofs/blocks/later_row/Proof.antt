@@ -15,76 +15,59 @@ use Rattle.tables.proofs.rows.may_be_empty.Reads as may-be-empty-reads
 use Rattle.tables.proofs.rows.plain.Reads as plain-reads
 use Rattle.tables.proofs.rows.several.Reads as several-reads
 
--- src/blocks.rt:287:8
 is-this-line-requires : tie.Need-is-this-line-requires
 is-this-line-requires c κs = search needs
 
--- src/blocks.rt:288:27
 several-requires : tie.Need-several-requires
 several-requires c κs = search needs
 
--- src/blocks.rt:288:9
 returns : tie.Need-returns
 unfolding laterTable partsOf
 returns c = rw (sym (c .before .before .is-this-line .ensures) ∙ c .before .if1 .taken, c .several .ensures)
 
--- src/blocks.rt:290:8
 is-this-ele-requires : tie.Need-is-this-ele-requires
 is-this-ele-requires c κs = search needs
 
--- src/blocks.rt:291:27
 several-requires-2 : tie.Need-several-requires-2
 several-requires-2 c κs = search needs
 
--- src/blocks.rt:291:9
 returns-2 : tie.Need-returns-2
 unfolding laterTable partsOf
 returns-2 c = rw (sym (c .before .before .before .before .is-this-line .ensures) ∙ c .before .before .before .if1 .left, sym (c .before .before .is-this-ele .ensures) ∙ c .before .if2 .taken, c .several2 .ensures)
 
--- src/blocks.rt:293:8
 is-next-file-requires : tie.Need-is-next-file-requires
 is-next-file-requires c κs = search needs
 
--- src/blocks.rt:294:40
 plain-requires : tie.Need-plain-requires
 plain-requires c κs = search needs
 
--- src/blocks.rt:294:27
 may-be-empty-requires : tie.Need-may-be-empty-requires
 may-be-empty-requires c κs = search needs
 
--- src/blocks.rt:294:9
 returns-3 : tie.Need-returns-3
 unfolding laterTable partsOf
 returns-3 c = rw (sym (c .before .before .before .before .before .before .before .is-this-line .ensures) ∙ c .before .before .before .before .before .before .if1 .left, sym (c .before .before .before .before .before .is-this-ele .ensures) ∙ c .before .before .before .before .if2 .left, sym (c .before .before .before .is-next-file .ensures) ∙ c .before .before .if3 .taken, c .may-be-empty .ensures, c .before .plain .ensures)
 
--- src/blocks.rt:296:8
 is-date-requires : tie.Need-is-date-requires
 is-date-requires c κs = search needs
 
--- src/blocks.rt:297:27
 several-requires-3 : tie.Need-several-requires-3
 several-requires-3 c κs = search needs
 
--- src/blocks.rt:297:9
 returns-4 : tie.Need-returns-4
 unfolding laterTable partsOf
 returns-4 c = rw (sym (c .before .before .before .before .before .before .before .before .is-this-line .ensures) ∙ c .before .before .before .before .before .before .before .if1 .left, sym (c .before .before .before .before .before .before .is-this-ele .ensures) ∙ c .before .before .before .before .before .if2 .left, sym (c .before .before .before .before .is-next-file .ensures) ∙ c .before .before .before .if3 .left, sym (c .before .before .is-date .ensures) ∙ c .before .if4 .taken, c .several3 .ensures)
 
--- src/blocks.rt:299:8
 is-time-requires : tie.Need-is-time-requires
 is-time-requires c κs = search needs
 
--- src/blocks.rt:300:27
 several-requires-4 : tie.Need-several-requires-4
 several-requires-4 c κs = search needs
 
--- src/blocks.rt:300:9
 returns-5 : tie.Need-returns-5
 unfolding laterTable partsOf
 returns-5 c = rw (sym (c .before .before .before .before .before .before .before .before .before .before .is-this-line .ensures) ∙ c .before .before .before .before .before .before .before .before .before .if1 .left, sym (c .before .before .before .before .before .before .before .before .is-this-ele .ensures) ∙ c .before .before .before .before .before .before .before .if2 .left, sym (c .before .before .before .before .before .before .is-next-file .ensures) ∙ c .before .before .before .before .before .if3 .left, sym (c .before .before .before .before .is-date .ensures) ∙ c .before .before .before .if4 .left, sym (c .before .before .is-time .ensures) ∙ c .before .if5 .taken, c .several4 .ensures)
 
--- src/blocks.rt:284:1
 returns-6 : tie.Need-returns-6
 unfolding laterTable
 returns-6 c = rw (sym (c .before .before .before .before .before .before .before .before .before .is-this-line .ensures) ∙ c .before .before .before .before .before .before .before .before .if1 .left, sym (c .before .before .before .before .before .before .before .is-this-ele .ensures) ∙ c .before .before .before .before .before .before .if2 .left, sym (c .before .before .before .before .before .is-next-file .ensures) ∙ c .before .before .before .before .if3 .left, sym (c .before .before .before .is-date .ensures) ∙ c .before .before .if4 .left, sym (c .before .is-time .ensures) ∙ c .if5 .left)

@@ -15,85 +15,66 @@ use Rattle.tables.proofs.keys.is_sym.Reads as is-sym-reads
 use Rattle.tables.proofs.rows.inner.Reads as inner-reads
 use Rattle.tables.proofs.rows.several.Reads as several-reads
 
--- src/blocks.rt:223:8
 is-base-requires : tie.Need-is-base-requires
 is-base-requires c κs = search needs
 
--- src/blocks.rt:224:27
 inner-requires : tie.Need-inner-requires
 inner-requires c κs = search needs
 
--- src/blocks.rt:224:9
 returns : tie.Need-returns
 unfolding rangeTable partsOf
 returns c = rw (sym (c .before .before .is-base .ensures) ∙ c .before .if1 .taken, c .inner .ensures)
 
--- src/blocks.rt:226:8
 is-arc-requires : tie.Need-is-arc-requires
 is-arc-requires c κs = search needs
 
--- src/blocks.rt:227:27
 several-requires : tie.Need-several-requires
 several-requires c κs = search needs
 
--- src/blocks.rt:227:9
 returns-2 : tie.Need-returns-2
 unfolding rangeTable partsOf
 returns-2 c = rw (sym (c .before .before .before .before .is-base .ensures) ∙ c .before .before .before .if1 .left, sym (c .before .before .is-arc .ensures) ∙ c .before .if2 .taken, c .several .ensures)
 
--- src/blocks.rt:229:8
 is-elec-requires : tie.Need-is-elec-requires
 is-elec-requires c κs = search needs
 
--- src/blocks.rt:230:27
 inner-requires-2 : tie.Need-inner-requires-2
 inner-requires-2 c κs = search needs
 
--- src/blocks.rt:230:9
 returns-3 : tie.Need-returns-3
 unfolding rangeTable partsOf
 returns-3 c = rw (sym (c .before .before .before .before .before .before .is-base .ensures) ∙ c .before .before .before .before .before .if1 .left, sym (c .before .before .before .before .is-arc .ensures) ∙ c .before .before .before .if2 .left, sym (c .before .before .is-elec .ensures) ∙ c .before .if3 .taken, c .inner2 .ensures)
 
--- src/blocks.rt:232:8
 is-air-requires : tie.Need-is-air-requires
 is-air-requires c κs = search needs
 
--- src/blocks.rt:233:27
 several-requires-2 : tie.Need-several-requires-2
 several-requires-2 c κs = search needs
 
--- src/blocks.rt:233:9
 returns-4 : tie.Need-returns-4
 unfolding rangeTable partsOf
 returns-4 c = rw (sym (c .before .before .before .before .before .before .before .before .is-base .ensures) ∙ c .before .before .before .before .before .before .before .if1 .left, sym (c .before .before .before .before .before .before .is-arc .ensures) ∙ c .before .before .before .before .before .if2 .left, sym (c .before .before .before .before .is-elec .ensures) ∙ c .before .before .before .if3 .left, sym (c .before .before .is-air .ensures) ∙ c .before .if4 .taken, c .several2 .ensures)
 
--- src/blocks.rt:235:8
 is-pipe-requires : tie.Need-is-pipe-requires
 is-pipe-requires c κs = search needs
 
--- src/blocks.rt:236:27
 several-requires-3 : tie.Need-several-requires-3
 several-requires-3 c κs = search needs
 
--- src/blocks.rt:236:9
 returns-5 : tie.Need-returns-5
 unfolding rangeTable partsOf
 returns-5 c = rw (sym (c .before .before .before .before .before .before .before .before .before .before .is-base .ensures) ∙ c .before .before .before .before .before .before .before .before .before .if1 .left, sym (c .before .before .before .before .before .before .before .before .is-arc .ensures) ∙ c .before .before .before .before .before .before .before .if2 .left, sym (c .before .before .before .before .before .before .is-elec .ensures) ∙ c .before .before .before .before .before .if3 .left, sym (c .before .before .before .before .is-air .ensures) ∙ c .before .before .before .if4 .left, sym (c .before .before .is-pipe .ensures) ∙ c .before .if5 .taken, c .several3 .ensures)
 
--- src/blocks.rt:238:8
 is-sym-requires : tie.Need-is-sym-requires
 is-sym-requires c κs = search needs
 
--- src/blocks.rt:239:27
 inner-requires-3 : tie.Need-inner-requires-3
 inner-requires-3 c κs = search needs
 
--- src/blocks.rt:239:9
 returns-6 : tie.Need-returns-6
 unfolding rangeTable partsOf
 returns-6 c = rw (sym (c .before .before .before .before .before .before .before .before .before .before .before .before .is-base .ensures) ∙ c .before .before .before .before .before .before .before .before .before .before .before .if1 .left, sym (c .before .before .before .before .before .before .before .before .before .before .is-arc .ensures) ∙ c .before .before .before .before .before .before .before .before .before .if2 .left, sym (c .before .before .before .before .before .before .before .before .is-elec .ensures) ∙ c .before .before .before .before .before .before .before .if3 .left, sym (c .before .before .before .before .before .before .is-air .ensures) ∙ c .before .before .before .before .before .if4 .left, sym (c .before .before .before .before .is-pipe .ensures) ∙ c .before .before .before .if5 .left, sym (c .before .before .is-sym .ensures) ∙ c .before .if6 .taken, c .inner3 .ensures)
 
--- src/blocks.rt:220:1
 returns-7 : tie.Need-returns-7
 unfolding rangeTable
 returns-7 c = rw (sym (c .before .before .before .before .before .before .before .before .before .before .before .is-base .ensures) ∙ c .before .before .before .before .before .before .before .before .before .before .if1 .left, sym (c .before .before .before .before .before .before .before .before .before .is-arc .ensures) ∙ c .before .before .before .before .before .before .before .before .if2 .left, sym (c .before .before .before .before .before .before .before .is-elec .ensures) ∙ c .before .before .before .before .before .before .if3 .left, sym (c .before .before .before .before .before .is-air .ensures) ∙ c .before .before .before .before .if4 .left, sym (c .before .before .before .is-pipe .ensures) ∙ c .before .before .if5 .left, sym (c .before .is-sym .ensures) ∙ c .if6 .left)

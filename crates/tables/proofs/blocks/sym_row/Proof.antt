@@ -10,33 +10,26 @@ use Rattle.tables.proofs.keys.is_s_base.Reads as is-s-base-reads
 use Rattle.tables.proofs.keys.is_s_elec.Reads as is-s-elec-reads
 use Rattle.tables.proofs.rows.several.Reads as several-reads
 
--- src/blocks.rt:274:8
 is-s-base-requires : tie.Need-is-s-base-requires
 is-s-base-requires c κs = search needs
 
--- src/blocks.rt:275:27
 several-requires : tie.Need-several-requires
 several-requires c κs = search needs
 
--- src/blocks.rt:275:9
 returns : tie.Need-returns
 unfolding symTable partsOf
 returns c = rw (sym (c .before .before .is-s-base .ensures) ∙ c .before .if1 .taken, c .several .ensures)
 
--- src/blocks.rt:277:8
 is-s-elec-requires : tie.Need-is-s-elec-requires
 is-s-elec-requires c κs = search needs
 
--- src/blocks.rt:278:27
 several-requires-2 : tie.Need-several-requires-2
 several-requires-2 c κs = search needs
 
--- src/blocks.rt:278:9
 returns-2 : tie.Need-returns-2
 unfolding symTable partsOf
 returns-2 c = rw (sym (c .before .before .before .before .is-s-base .ensures) ∙ c .before .before .before .if1 .left, sym (c .before .before .is-s-elec .ensures) ∙ c .before .if2 .taken, c .several2 .ensures)
 
--- src/blocks.rt:271:1
 returns-3 : tie.Need-returns-3
 unfolding symTable
 returns-3 c = rw (sym (c .before .before .before .is-s-base .ensures) ∙ c .before .before .if1 .left, sym (c .before .is-s-elec .ensures) ∙ c .if2 .left)

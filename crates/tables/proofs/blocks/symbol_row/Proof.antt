@@ -17,71 +17,55 @@ use Rattle.tables.proofs.rows.several.Reads as several-reads
 use Rattle.tables.proofs.rows.text.Reads as text-reads
 use Rattle.tables.proofs.rows.with_state.Reads as with-state-reads
 
--- src/blocks.rt:356:8
 is-name-requires : tie.Need-is-name-requires
 is-name-requires c κs = search needs
 
--- src/blocks.rt:357:27
 text-requires : tie.Need-text-requires
 text-requires c κs = search needs
 
--- src/blocks.rt:357:9
 returns : tie.Need-returns
 unfolding symbolTable partsOf
 returns c = rw (sym (c .before .before .is-name .ensures) ∙ c .before .if1 .taken, c .text .ensures)
 
--- src/blocks.rt:359:8
 is-element-requires : tie.Need-is-element-requires
 is-element-requires c κs = search needs
 
--- src/blocks.rt:360:27
 inner-requires : tie.Need-inner-requires
 inner-requires c κs = search needs
 
--- src/blocks.rt:360:9
 returns-2 : tie.Need-returns-2
 unfolding symbolTable partsOf
 returns-2 c = rw (sym (c .before .before .before .before .is-name .ensures) ∙ c .before .before .before .if1 .left, sym (c .before .before .is-element .ensures) ∙ c .before .if2 .taken, c .inner .ensures)
 
--- src/blocks.rt:362:8
 is-hide-requires : tie.Need-is-hide-requires
 is-hide-requires c κs = search needs
 
--- src/blocks.rt:363:27
 inner-requires-2 : tie.Need-inner-requires-2
 inner-requires-2 c κs = search needs
 
--- src/blocks.rt:363:9
 returns-3 : tie.Need-returns-3
 unfolding symbolTable partsOf
 returns-3 c = rw (sym (c .before .before .before .before .before .before .is-name .ensures) ∙ c .before .before .before .before .before .if1 .left, sym (c .before .before .before .before .is-element .ensures) ∙ c .before .before .before .if2 .left, sym (c .before .before .is-hide .ensures) ∙ c .before .if3 .taken, c .inner2 .ensures)
 
--- src/blocks.rt:365:8
 is-wall-requires : tie.Need-is-wall-requires
 is-wall-requires c κs = search needs
 
--- src/blocks.rt:366:56
 several-requires : tie.Need-several-requires
 several-requires c κs = search needs
 
--- src/blocks.rt:366:43
 may-be-empty-requires : tie.Need-may-be-empty-requires
 may-be-empty-requires c κs = search needs
 
--- src/blocks.rt:366:38
 from-requires : tie.Need-from-requires
 from-requires c κs = search needs
 
--- src/blocks.rt:366:27
 with-state-requires : tie.Need-with-state-requires
 with-state-requires c κs = search needs
 
--- src/blocks.rt:366:9
 returns-4 : tie.Need-returns-4
 unfolding symbolTable partsOf
 returns-4 c = rw (sym (c .before .before .before .before .before .before .before .before .before .before .before .is-name .ensures) ∙ c .before .before .before .before .before .before .before .before .before .before .if1 .left, sym (c .before .before .before .before .before .before .before .before .before .is-element .ensures) ∙ c .before .before .before .before .before .before .before .before .if2 .left, sym (c .before .before .before .before .before .before .before .is-hide .ensures) ∙ c .before .before .before .before .before .before .if3 .left, sym (c .before .before .before .before .before .is-wall .ensures) ∙ c .before .before .before .before .if4 .taken, c .with-state .ensures, c .before .from .ensures, c .before .before .may-be-empty .ensures, c .before .before .before .several .ensures)
 
--- src/blocks.rt:353:1
 returns-5 : tie.Need-returns-5
 unfolding symbolTable
 returns-5 c = rw (sym (c .before .before .before .before .before .before .before .is-name .ensures) ∙ c .before .before .before .before .before .before .if1 .left, sym (c .before .before .before .before .before .is-element .ensures) ∙ c .before .before .before .before .if2 .left, sym (c .before .before .before .is-hide .ensures) ∙ c .before .before .if3 .left, sym (c .before .is-wall .ensures) ∙ c .if4 .left)

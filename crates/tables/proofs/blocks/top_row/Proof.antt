@@ -13,75 +13,58 @@ use Rattle.tables.proofs.keys.is_symbol_define.Reads as is-symbol-defin
 use Rattle.tables.proofs.rows.inner.Reads as inner-reads
 use Rattle.tables.proofs.rows.times.Reads as times-reads
 
--- src/blocks.rt:149:8
 is-file-format-requires : tie.Need-is-file-format-requires
 is-file-format-requires c κs = search needs
 
--- src/blocks.rt:150:33
 inner-requires : tie.Need-inner-requires
 inner-requires c κs = search needs
 
--- src/blocks.rt:150:27
 times-requires : tie.Need-times-requires
 times-requires c κs = search needs
 
--- src/blocks.rt:150:9
 returns : tie.Need-returns
 unfolding topTable partsOf
 returns c = rw (sym (c .before .before .before .is-file-format .ensures) ∙ c .before .before .if1 .taken, c .times .ensures, c .before .inner .ensures)
 
--- src/blocks.rt:152:8
 is-drawing-format-requires : tie.Need-is-drawing-format-requires
 is-drawing-format-requires c κs = search needs
 
--- src/blocks.rt:153:33
 inner-requires-2 : tie.Need-inner-requires-2
 inner-requires-2 c κs = search needs
 
--- src/blocks.rt:153:27
 times-requires-2 : tie.Need-times-requires-2
 times-requires-2 c κs = search needs
 
--- src/blocks.rt:153:9
 returns-2 : tie.Need-returns-2
 unfolding topTable partsOf
 returns-2 c = rw (sym (c .before .before .before .before .before .is-file-format .ensures) ∙ c .before .before .before .before .if1 .left, sym (c .before .before .before .is-drawing-format .ensures) ∙ c .before .before .if2 .taken, c .times2 .ensures, c .before .inner2 .ensures)
 
--- src/blocks.rt:155:8
 is-symbol-define-requires : tie.Need-is-symbol-define-requires
 is-symbol-define-requires c κs = search needs
 
--- src/blocks.rt:156:33
 inner-requires-3 : tie.Need-inner-requires-3
 inner-requires-3 c κs = search needs
 
--- src/blocks.rt:156:27
 times-requires-3 : tie.Need-times-requires-3
 times-requires-3 c κs = search needs
 
--- src/blocks.rt:156:9
 returns-3 : tie.Need-returns-3
 unfolding topTable partsOf
 returns-3 c = rw (sym (c .before .before .before .before .before .before .before .is-file-format .ensures) ∙ c .before .before .before .before .before .before .if1 .left, sym (c .before .before .before .before .before .is-drawing-format .ensures) ∙ c .before .before .before .before .if2 .left, sym (c .before .before .before .is-symbol-define .ensures) ∙ c .before .before .if3 .taken, c .times3 .ensures, c .before .inner3 .ensures)
 
--- src/blocks.rt:158:8
 is-element-block-requires : tie.Need-is-element-block-requires
 is-element-block-requires c κs = search needs
 
--- src/blocks.rt:159:33
 inner-requires-4 : tie.Need-inner-requires-4
 inner-requires-4 c κs = search needs
 
--- src/blocks.rt:159:27
 times-requires-4 : tie.Need-times-requires-4
 times-requires-4 c κs = search needs
 
--- src/blocks.rt:159:9
 returns-4 : tie.Need-returns-4
 unfolding topTable partsOf
 returns-4 c = rw (sym (c .before .before .before .before .before .before .before .before .before .is-file-format .ensures) ∙ c .before .before .before .before .before .before .before .before .if1 .left, sym (c .before .before .before .before .before .before .before .is-drawing-format .ensures) ∙ c .before .before .before .before .before .before .if2 .left, sym (c .before .before .before .before .before .is-symbol-define .ensures) ∙ c .before .before .before .before .if3 .left, sym (c .before .before .before .is-element-block .ensures) ∙ c .before .before .if4 .taken, c .times4 .ensures, c .before .inner4 .ensures)
 
--- src/blocks.rt:146:1
 returns-5 : tie.Need-returns-5
 unfolding topTable
 returns-5 c = rw (sym (c .before .before .before .before .before .before .before .is-file-format .ensures) ∙ c .before .before .before .before .before .before .if1 .left, sym (c .before .before .before .before .before .is-drawing-format .ensures) ∙ c .before .before .before .before .if2 .left, sym (c .before .before .before .is-symbol-define .ensures) ∙ c .before .before .if3 .left, sym (c .before .is-element-block .ensures) ∙ c .if4 .left)

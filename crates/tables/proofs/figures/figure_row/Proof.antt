@@ -19,121 +19,93 @@ use Rattle.tables.proofs.rows.inner.Reads as inner-reads
 use Rattle.tables.proofs.rows.several.Reads as several-reads
 use Rattle.tables.proofs.rows.times.Reads as times-reads
 
--- src/figures.rt:83:8
 is-line-requires : tie.Need-is-line-requires
 is-line-requires c κs = search needs
 
--- src/figures.rt:85:24
 by-home-requires : tie.Need-by-home-requires
 by-home-requires c κs = search needs
 
--- src/figures.rt:85:13
 several-requires : tie.Need-several-requires
 several-requires c κs = search needs
 
--- src/figures.rt:84:27
 times-requires : tie.Need-times-requires
 times-requires c κs = search needs
 
--- src/figures.rt:84:9
 returns : tie.Need-returns
 unfolding partsOf
 returns c = rw (sym (c .before .before .before .before .is-line .ensures) ∙ c .before .before .before .if1 .taken, c .times .ensures, c .before .several .ensures, c .before .before .by-home .ensures) (ap (found 0) (line-home (c .before .before .before .before .before .before .args .in-layer)))
 
--- src/figures.rt:89:8
 is-circle-requires : tie.Need-is-circle-requires
 is-circle-requires c κs = search needs
 
--- src/figures.rt:90:33
 several-requires-2 : tie.Need-several-requires-2
 several-requires-2 c κs = search needs
 
--- src/figures.rt:90:27
 times-requires-2 : tie.Need-times-requires-2
 times-requires-2 c κs = search needs
 
--- src/figures.rt:90:9
 returns-2 : tie.Need-returns-2
 unfolding partsOf
 returns-2 c = rw (sym (c .before .before .before .before .before .is-line .ensures) ∙ c .before .before .before .before .if1 .left, sym (c .before .before .before .is-circle .ensures) ∙ c .before .before .if2 .taken, c .times2 .ensures, c .before .several2 .ensures)
 
--- src/figures.rt:92:8
 is-ellipse-requires : tie.Need-is-ellipse-requires
 is-ellipse-requires c κs = search needs
 
--- src/figures.rt:93:33
 several-requires-3 : tie.Need-several-requires-3
 several-requires-3 c κs = search needs
 
--- src/figures.rt:93:27
 times-requires-3 : tie.Need-times-requires-3
 times-requires-3 c κs = search needs
 
--- src/figures.rt:93:9
 returns-3 : tie.Need-returns-3
 unfolding partsOf
 returns-3 c = rw (sym (c .before .before .before .before .before .before .before .is-line .ensures) ∙ c .before .before .before .before .before .before .if1 .left, sym (c .before .before .before .before .before .is-circle .ensures) ∙ c .before .before .before .before .if2 .left, sym (c .before .before .before .is-ellipse .ensures) ∙ c .before .before .if3 .taken, c .times3 .ensures, c .before .several3 .ensures)
 
--- src/figures.rt:95:8
 is-point-requires : tie.Need-is-point-requires
 is-point-requires c κs = search needs
 
--- src/figures.rt:99:17
 by-home-requires-2 : tie.Need-by-home-requires-2
 by-home-requires-2 c κs = search needs
 
--- src/figures.rt:97:13
 several-requires-4 : tie.Need-several-requires-4
 several-requires-4 c κs = search needs
 
--- src/figures.rt:96:27
 times-requires-4 : tie.Need-times-requires-4
 times-requires-4 c κs = search needs
 
--- src/figures.rt:96:9
 returns-4 : tie.Need-returns-4
 unfolding partsOf
 returns-4 c = rw (sym (c .before .before .before .before .before .before .before .before .before .before .is-line .ensures) ∙ c .before .before .before .before .before .before .before .before .before .if1 .left, sym (c .before .before .before .before .before .before .before .before .is-circle .ensures) ∙ c .before .before .before .before .before .before .before .if2 .left, sym (c .before .before .before .before .before .before .is-ellipse .ensures) ∙ c .before .before .before .before .before .if3 .left, sym (c .before .before .before .before .is-point .ensures) ∙ c .before .before .before .if4 .taken, c .times4 .ensures, c .before .several4 .ensures, c .before .before .by-home2 .ensures) (ap (found 3) (point-home (c .before .before .before .before .before .before .before .before .before .before .before .before .args .in-layer)))
 
--- src/figures.rt:107:8
 is-successive-requires : tie.Need-is-successive-requires
 is-successive-requires c κs = search needs
 
--- src/figures.rt:108:33
 inner-requires : tie.Need-inner-requires
 inner-requires c κs = search needs
 
--- src/figures.rt:108:27
 times-requires-5 : tie.Need-times-requires-5
 times-requires-5 c κs = search needs
 
--- src/figures.rt:108:9
 returns-5 : tie.Need-returns-5
 unfolding partsOf
 returns-5 c = rw (sym (c .before .before .before .before .before .before .before .before .before .before .before .is-line .ensures) ∙ c .before .before .before .before .before .before .before .before .before .before .if1 .left, sym (c .before .before .before .before .before .before .before .before .before .is-circle .ensures) ∙ c .before .before .before .before .before .before .before .before .if2 .left, sym (c .before .before .before .before .before .before .before .is-ellipse .ensures) ∙ c .before .before .before .before .before .before .if3 .left, sym (c .before .before .before .before .before .is-point .ensures) ∙ c .before .before .before .before .if4 .left, sym (c .before .before .before .is-successive .ensures) ∙ c .before .before .if5 .taken, c .times5 .ensures, c .before .inner .ensures)
 
--- src/figures.rt:110:8
 is-text-requires : tie.Need-is-text-requires
 is-text-requires c κs = search needs
 
--- src/figures.rt:111:33
 inner-requires-2 : tie.Need-inner-requires-2
 inner-requires-2 c κs = search needs
 
--- src/figures.rt:111:27
 times-requires-6 : tie.Need-times-requires-6
 times-requires-6 c κs = search needs
 
--- src/figures.rt:111:9
 returns-6 : tie.Need-returns-6
 unfolding partsOf
 returns-6 c = rw (sym (c .before .before .before .before .before .before .before .before .before .before .before .before .before .is-line .ensures) ∙ c .before .before .before .before .before .before .before .before .before .before .before .before .if1 .left, sym (c .before .before .before .before .before .before .before .before .before .before .before .is-circle .ensures) ∙ c .before .before .before .before .before .before .before .before .before .before .if2 .left, sym (c .before .before .before .before .before .before .before .before .before .is-ellipse .ensures) ∙ c .before .before .before .before .before .before .before .before .if3 .left, sym (c .before .before .before .before .before .before .before .is-point .ensures) ∙ c .before .before .before .before .before .before .if4 .left, sym (c .before .before .before .before .before .is-successive .ensures) ∙ c .before .before .before .before .if5 .left, sym (c .before .before .before .is-text .ensures) ∙ c .before .before .if6 .taken, c .times6 .ensures, c .before .inner2 .ensures)
 
--- src/figures.rt:113:5
 placing-row-requires : tie.Need-placing-row-requires
 placing-row-requires c κs = search needs
 
--- src/figures.rt:80:1
 returns-7 : tie.Need-returns-7
 unfolding partsOf
 returns-7 c = rw (sym (c .before .before .before .before .before .before .before .before .before .before .before .before .is-line .ensures) ∙ c .before .before .before .before .before .before .before .before .before .before .before .if1 .left, sym (c .before .before .before .before .before .before .before .before .before .before .is-circle .ensures) ∙ c .before .before .before .before .before .before .before .before .before .if2 .left, sym (c .before .before .before .before .before .before .before .before .is-ellipse .ensures) ∙ c .before .before .before .before .before .before .before .if3 .left, sym (c .before .before .before .before .before .before .is-point .ensures) ∙ c .before .before .before .before .before .if4 .left, sym (c .before .before .before .before .is-successive .ensures) ∙ c .before .before .before .if5 .left, sym (c .before .before .is-text .ensures) ∙ c .before .if6 .left) (c .placing-row .ensures)

@@ -15,37 +15,29 @@ use Rattle.tables.proofs.keys.is_type.Reads as is-type-reads
 use Rattle.tables.proofs.rows.several.Reads as several-reads
 use Rattle.tables.proofs.rows.free_text.Reads as free-text-reads
 
--- src/figures.rt:139:8
 is-type-requires : tie.Need-is-type-requires
 is-type-requires c κs = search needs
 
--- src/figures.rt:142:13
 by-home-requires : tie.Need-by-home-requires
 by-home-requires c κs = search needs
 
--- src/figures.rt:140:27
 several-requires : tie.Need-several-requires
 several-requires c κs = search needs
 
--- src/figures.rt:140:9
 returns : tie.Need-returns
 unfolding textTable partsOf textRules
 returns c = rw (sym (c .before .before .before .is-type .ensures) ∙ c .before .before .if1 .taken, c .several .ensures, c .before .by-home .ensures) (ap (found 0) (lettering-home (c .before .before .before .before .before .args .in-layer) (c .before .before .before .before .before .args .first)))
 
--- src/figures.rt:148:8
 is-character-requires : tie.Need-is-character-requires
 is-character-requires c κs = search needs
 
--- src/figures.rt:149:27
 free-text-requires : tie.Need-free-text-requires
 free-text-requires c κs = search needs
 
--- src/figures.rt:149:9
 returns-2 : tie.Need-returns-2
 unfolding textTable partsOf textRules
 returns-2 c = rw (sym (c .before .before .before .before .is-type .ensures) ∙ c .before .before .before .if1 .left, sym (c .before .before .is-character .ensures) ∙ c .before .if2 .taken, c .free-text .ensures)
 
--- src/figures.rt:136:1
 returns-3 : tie.Need-returns-3
 unfolding textTable partsOf textRules
 returns-3 c = rw (sym (c .before .before .before .is-type .ensures) ∙ c .before .before .if1 .left, sym (c .before .is-character .ensures) ∙ c .if2 .left)

@@ -13,48 +13,37 @@ use Rattle.tables.proofs.rows.inner.Reads as inner-reads
 use Rattle.tables.proofs.rows.several.Reads as several-reads
 use Rattle.tables.proofs.rows.times.Reads as times-reads
 
--- src/figures.rt:68:9
 returns : tie.Need-returns
 returns c = rw (c .if1 .taken)
 
--- src/figures.rt:70:9
 is-e-symbol-requires : tie.Need-is-e-symbol-requires
 is-e-symbol-requires c κs = search needs
 
--- src/figures.rt:71:9
 returns-2 : tie.Need-returns-2
 returns-2 c = no-placing (c .before .before .before .before .args .k .now) (c .before .before .before .before .args .placed) (sym (c .before .is-e-symbol .ensures) ∙ not-true _ (c .if2 .taken))
 
--- src/figures.rt:74:38
 inner-requires : tie.Need-inner-requires
 inner-requires c κs = search needs
 
--- src/figures.rt:74:32
 times-requires : tie.Need-times-requires
 times-requires c κs = search needs
 
--- src/figures.rt:74:27
 from-requires : tie.Need-from-requires
 from-requires c κs = search needs
 
--- src/figures.rt:74:9
 returns-3 : tie.Need-returns-3
 unfolding partsOf
 returns-3 c = rw (c .before .before .before .if3 .taken, sym (c .before .before .before .before .before .is-e-symbol .ensures) ∙ not-false _ (c .before .before .before .before .if2 .left), c .from .ensures, c .before .times .ensures, c .before .before .inner .ensures)
 
--- src/figures.rt:76:27
 several-requires : tie.Need-several-requires
 several-requires c κs = search needs
 
--- src/figures.rt:76:21
 times-requires-2 : tie.Need-times-requires-2
 times-requires-2 c κs = search needs
 
--- src/figures.rt:76:16
 from-requires-2 : tie.Need-from-requires-2
 from-requires-2 c κs = search needs
 
--- src/figures.rt:64:1
 returns-4 : tie.Need-returns-4
 returns-4 c = rw (c .from2 .ensures, c .before .times2 .ensures, c .before .before .several .ensures) (one-line (c .before .before .before .before .before .before .before .before .args .k .now) (c .before .before .before .before .before .before .before .before .args .placed) (c .before .before .before .before .before .before .if1 .left) (c .before .before .before .if3 .left) (sym (c .before .before .before .before .before .is-e-symbol .ensures) ∙ not-false _ (c .before .before .before .before .if2 .left)))
 

@@ -13,28 +13,22 @@ use Rattle.tables.proofs.keys.is_point.Reads as is-point-reads
 use Rattle.tables.proofs.rows.several.Reads as several-reads
 use Rattle.tables.proofs.rows.times.Reads as times-reads
 
--- src/figures.rt:120:8
 is-point-requires : tie.Need-is-point-requires
 is-point-requires c κs = search needs
 
--- src/figures.rt:124:17
 by-home-requires : tie.Need-by-home-requires
 by-home-requires c κs = search needs
 
--- src/figures.rt:122:13
 several-requires : tie.Need-several-requires
 several-requires c κs = search needs
 
--- src/figures.rt:121:27
 times-requires : tie.Need-times-requires
 times-requires c κs = search needs
 
--- src/figures.rt:121:9
 returns : tie.Need-returns
 unfolding pointTable partsOf
 returns c = rw (sym (c .before .before .before .before .is-point .ensures) ∙ c .before .before .before .if1 .taken, c .times .ensures, c .before .several .ensures, c .before .before .by-home .ensures) (ap (found 0) (points-home (c .before .before .before .before .before .before .args .in-layer)))
 
--- src/figures.rt:117:1
 returns-2 : tie.Need-returns-2
 unfolding pointTable partsOf
 returns-2 c = rw (sym (c .before .is-point .ensures) ∙ c .if1 .left)

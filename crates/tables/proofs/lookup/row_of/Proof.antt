@@ -22,187 +22,146 @@ use Rattle.tables.proofs.figures.figure_row.Reads as figure-row-reads
 use Rattle.tables.proofs.figures.lettering_row.Reads as lettering-row-reads
 use Rattle.tables.proofs.figures.point_row.Reads as point-row-reads
 
--- src/lookup.rt:28:9
 top-row-requires : tie.Need-top-row-requires
 top-row-requires c κs = search needs
 
--- src/lookup.rt:28:9
 returns : tie.Need-returns
 unfolding tableOf
 returns c = rw (c .before .if1 .taken) (c .top-row .ensures)
 
--- src/lookup.rt:31:9
 file-row-requires : tie.Need-file-row-requires
 file-row-requires c κs = search needs
 
--- src/lookup.rt:31:9
 returns-2 : tie.Need-returns-2
 unfolding tableOf
 returns-2 c = rw (c .before .if2 .taken) (c .file-row .ensures)
 
--- src/lookup.rt:34:9
 range-row-requires : tie.Need-range-row-requires
 range-row-requires c κs = search needs
 
--- src/lookup.rt:34:9
 returns-3 : tie.Need-returns-3
 unfolding tableOf
 returns-3 c = rw (c .before .if3 .taken) (c .range-row .ensures)
 
--- src/lookup.rt:37:9
 base-row-requires : tie.Need-base-row-requires
 base-row-requires c κs = search needs
 
--- src/lookup.rt:37:9
 returns-4 : tie.Need-returns-4
 unfolding tableOf
 returns-4 c = rw (c .before .if4 .taken) (c .base-row .ensures)
 
--- src/lookup.rt:40:9
 elec-row-requires : tie.Need-elec-row-requires
 elec-row-requires c κs = search needs
 
--- src/lookup.rt:40:9
 returns-5 : tie.Need-returns-5
 unfolding tableOf
 returns-5 c = rw (c .before .if5 .taken) (c .elec-row .ensures)
 
--- src/lookup.rt:43:9
 sym-row-requires : tie.Need-sym-row-requires
 sym-row-requires c κs = search needs
 
--- src/lookup.rt:43:9
 returns-6 : tie.Need-returns-6
 unfolding tableOf
 returns-6 c = rw (c .before .if6 .taken) (c .sym-row .ensures)
 
--- src/lookup.rt:46:9
 later-row-requires : tie.Need-later-row-requires
 later-row-requires c κs = search needs
 
--- src/lookup.rt:46:9
 returns-7 : tie.Need-returns-7
 unfolding tableOf
 returns-7 c = rw (c .before .if7 .taken) (c .later-row .ensures)
 
--- src/lookup.rt:49:9
 drawing-row-requires : tie.Need-drawing-row-requires
 drawing-row-requires c κs = search needs
 
--- src/lookup.rt:49:9
 returns-8 : tie.Need-returns-8
 unfolding tableOf
 returns-8 c = rw (c .before .if8 .taken) (c .drawing-row .ensures)
 
--- src/lookup.rt:52:9
 defines-row-requires : tie.Need-defines-row-requires
 defines-row-requires c κs = search needs
 
--- src/lookup.rt:52:9
 returns-9 : tie.Need-returns-9
 unfolding tableOf
 returns-9 c = rw (c .before .if9 .taken) (c .defines-row .ensures)
 
--- src/lookup.rt:55:9
 symbol-row-requires : tie.Need-symbol-row-requires
 symbol-row-requires c κs = search needs
 
--- src/lookup.rt:55:9
 returns-10 : tie.Need-returns-10
 unfolding tableOf
 returns-10 c = rw (c .before .if10 .taken) (c .symbol-row .ensures)
 
--- src/lookup.rt:58:9
 element-row-requires : tie.Need-element-row-requires
 element-row-requires c κs = search needs
 
--- src/lookup.rt:58:9
 returns-11 : tie.Need-returns-11
 unfolding tableOf
 returns-11 c = rw (c .before .if11 .taken) (c .element-row .ensures)
 
--- src/lookup.rt:61:9
 figure-row-requires : tie.Need-figure-row-requires
 figure-row-requires c κs = search needs
 
--- src/lookup.rt:61:9
 returns-12 : tie.Need-returns-12
 unfolding tableOf layerTable
 returns-12 c = rw (c .before .if12 .taken) (c .figure-row .ensures)
 
--- src/lookup.rt:64:9
 figure-row-requires-2 : tie.Need-figure-row-requires-2
 figure-row-requires-2 c κs = search needs
 
--- src/lookup.rt:64:9
 returns-13 : tie.Need-returns-13
 unfolding tableOf layerTable
 returns-13 c = rw (c .before .if13 .taken) (c .figure-row2 .ensures)
 
--- src/lookup.rt:67:9
 figure-row-requires-3 : tie.Need-figure-row-requires-3
 figure-row-requires-3 c κs = search needs
 
--- src/lookup.rt:67:9
 returns-14 : tie.Need-returns-14
 unfolding tableOf figureTable
 returns-14 c = rw (c .before .if14 .taken) (c .figure-row3 .ensures)
 
--- src/lookup.rt:70:9
 point-row-requires : tie.Need-point-row-requires
 point-row-requires c κs = search needs
 
--- src/lookup.rt:70:9
 returns-15 : tie.Need-returns-15
 unfolding tableOf
 returns-15 c = rw (c .before .if15 .taken) (c .point-row .ensures)
 
--- src/lookup.rt:73:9
 point-row-requires-2 : tie.Need-point-row-requires-2
 point-row-requires-2 c κs = search needs
 
--- src/lookup.rt:73:9
 returns-16 : tie.Need-returns-16
 unfolding tableOf
 returns-16 c = rw (c .before .if16 .taken) (c .point-row2 .ensures)
 
--- src/lookup.rt:76:9
 lettering-row-requires : tie.Need-lettering-row-requires
 lettering-row-requires c κs = search needs
 
--- src/lookup.rt:76:9
 returns-17 : tie.Need-returns-17
 unfolding tableOf
 returns-17 c = rw (c .before .if17 .taken) (c .lettering-row .ensures)
 
--- src/lookup.rt:79:9
 lettering-row-requires-2 : tie.Need-lettering-row-requires-2
 lettering-row-requires-2 c κs = search needs
 
--- src/lookup.rt:79:9
 returns-18 : tie.Need-returns-18
 unfolding tableOf
 returns-18 c = rw (c .before .if18 .taken) (c .lettering-row2 .ensures)
 
--- src/lookup.rt:82:9
 placed-row-requires : tie.Need-placed-row-requires
 placed-row-requires c κs = search needs
 
--- src/lookup.rt:82:9
 returns-19 : tie.Need-returns-19
 unfolding tableOf
 returns-19 c = rw (c .before .if19 .taken) (c .placed-row .ensures)
 
--- src/lookup.rt:85:9
 lettering-row-requires-3 : tie.Need-lettering-row-requires-3
 lettering-row-requires-3 c κs = search needs
 
--- src/lookup.rt:85:9
 returns-20 : tie.Need-returns-20
 unfolding tableOf
 returns-20 c = rw (c .before .if20 .taken) (c .lettering-row3 .ensures)
 
--- src/lookup.rt:24:1
 returns-21 : tie.Need-returns-21
 unfolding tableOf
 returns-21 c = rw (ne-eqb _ _ (c .before .before .before .before .before .before .before .before .before .before .before .before .before .before .before .before .before .before .before .if1 .left), ne-eqb _ _ (c .before .before .before .before .before .before .before .before .before .before .before .before .before .before .before .before .before .before .if2 .left), ne-eqb _ _ (c .before .before .before .before .before .before .before .before .before .before .before .before .before .before .before .before .before .if3 .left), ne-eqb _ _ (c .before .before .before .before .before .before .before .before .before .before .before .before .before .before .before .before .if4 .left), ne-eqb _ _ (c .before .before .before .before .before .before .before .before .before .before .before .before .before .before .before .if5 .left), ne-eqb _ _ (c .before .before .before .before .before .before .before .before .before .before .before .before .before .before .if6 .left), ne-eqb _ _ (c .before .before .before .before .before .before .before .before .before .before .before .before .before .if7 .left), ne-eqb _ _ (c .before .before .before .before .before .before .before .before .before .before .before .before .if8 .left), ne-eqb _ _ (c .before .before .before .before .before .before .before .before .before .before .before .if9 .left), ne-eqb _ _ (c .before .before .before .before .before .before .before .before .before .before .if10 .left), ne-eqb _ _ (c .before .before .before .before .before .before .before .before .before .if11 .left), ne-eqb _ _ (c .before .before .before .before .before .before .before .before .if12 .left), ne-eqb _ _ (c .before .before .before .before .before .before .before .if13 .left), ne-eqb _ _ (c .before .before .before .before .before .before .if14 .left), ne-eqb _ _ (c .before .before .before .before .before .if15 .left), ne-eqb _ _ (c .before .before .before .before .if16 .left), ne-eqb _ _ (c .before .before .before .if17 .left), ne-eqb _ _ (c .before .before .if18 .left), ne-eqb _ _ (c .before .if19 .left), ne-eqb _ _ (c .if20 .left))

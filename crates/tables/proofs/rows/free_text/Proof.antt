@@ -7,15 +7,12 @@ use Rattle.tables.proofs.rows.free_text.Lts as lts
 use Rattle.leaves.proofs.texts.text_rule.Reads as text-rule-reads
 use Rattle.tables.proofs.rows.text.Reads as text-reads
 
--- src/rows.rt:75:9
 text-rule-requires : tie.Need-text-rule-requires
 text-rule-requires c κs = search needs
 
--- src/rows.rt:76:5
 text-requires : tie.Need-text-requires
 text-requires c κs = search needs
 
--- src/rows.rt:72:1
 returns : tie.Need-returns
 returns c = c .text .ensures ∙ rw (c .before .text-rule .ensures)
 
