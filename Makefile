@@ -4,7 +4,7 @@
 # make sentences   tools/explain says what it must of the listed answers: seconds
 # make answer SPOOL=FILE   build accread where it is not built, and say in a sentence what it answers for a spool
 # make compared   the questions that the gate's program asks, and the reference's answers to them: a few seconds
-# make accread prove the reader and build target/bin/accread: about a quarter of an hour
+# make accread prove the reader and build target/bin/accread: ten to fifteen minutes
 # make accfix  prove the rewriter and build target/bin/accfix
 # make host    prove the C side and build target/staticlib/libhost.a and target/host (examples/host.c)
 # make edits   the wrong programs that the gate leaves out, tried and refused: most of an hour
