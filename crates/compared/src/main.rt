@@ -1,5 +1,6 @@
 // Answers the questions of tests/reference on standard input, by the reader, the check and the rewriter: for each it prints the line that
 // the reference prints (README.md there tells how questions and answers are written). tools/frame-compared makes stdin and stdout.
+use host::ploverdell_check;
 use rules::Answer;
 use sets::read;
 use sets::rewrite;
@@ -27,14 +28,6 @@ fn show(n: u64) {
 
 fn show_hash(h: u64) {
     io::print_hex(1, h, 16);
-}
-
-fn space() {
-    io::write_all(1, b" ");
-}
-
-fn newline() {
-    io::write_all(1, b"\n");
 }
 
 // h * 0x100000001B3, modulo 2^64: h * 2^40 and h * 0x1B3, the latter by halves of h.
@@ -93,20 +86,10 @@ fn hash_bytes(bytes: &[u8]) -> u64 {
     h
 }
 
-fn show_fields(number: u8, volume: u8, line: u32, count: u32) {
-    show(number as u64);
-    space();
-    show(volume as u64);
-    space();
-    show(line as u64);
-    space();
-    show(count as u64);
-}
-
 fn show_answer(a: Answer) {
     match a {
-        Answer::Accepted(count) => show_fields(0, 0, 0, count),
-        Answer::Refused(f) => show_fields(f.number, f.volume, f.line, 0),
+        Answer::Accepted(count) => shows::answer(1, 0, 0, 0, count as u64),
+        Answer::Refused(f) => shows::answer(1, f.number, f.volume, f.line, 0),
     }
 }
 
@@ -130,38 +113,24 @@ fn soil_bytes(out: &mut [u8]) {
 fn show_reading(spool: &[u8], cls: u64, table: &mut [i64]) {
     soil_table(table);
     show_answer(read(spool, cls, table));
-    space();
+    shows::space(1);
     show_hash(hash_table(table));
-}
-
-// "answers one number: answer + 100 × volume + 10,000 × line"
-fn pack(a: Answer) -> u64 {
-    match a {
-        Answer::Accepted(_) => 0,
-        Answer::Refused(f) => f.number as u64 + 100 * f.volume as u64 + 10000 * f.line as u64,
-    }
-}
-
-// "uses a table of 256 records of its own"
-fn show_check(spool: &[u8], cls: u64) {
-    let mut table = [0i64; 8192];
-    show(pack(read(spool, cls, &mut table)));
 }
 
 fn show_rewriting(spool: &[u8], out: &mut [u8]) {
     soil_bytes(out);
     show_answer(rewrite(spool, out));
-    space();
+    shows::space(1);
     show_hash(hash_bytes(out));
 }
 
 fn show_line(spool: &[u8], cls: u64, table: &mut [i64], out: &mut [u8]) {
     show_reading(spool, cls, table);
-    space();
-    show_check(spool, cls);
-    space();
+    shows::space(1);
+    show(ploverdell_check(spool, cls));
+    shows::space(1);
     show_rewriting(spool, out);
-    newline();
+    shows::newline(1);
 }
 
 // Four bytes, high first.

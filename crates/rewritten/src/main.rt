@@ -4,15 +4,10 @@
 use rules::Answer;
 use sets::read;
 use sets::rewrite;
-
-// More questions than this are not read. (A program that is proved to end must stop somewhere.)
-const MOST_QUESTIONS: usize = 65536;
-
-// One byte more than a spool may have: an input that is longer is answered as a spool that is (2).
-const MOST_READ: usize = 61441;
-
-// A length that no spool has.
-const END: usize = 65536;
+use shows::questions::MOST_QUESTIONS;
+use shows::questions::MOST_READ;
+use shows::questions::next_spool;
+use shows::questions::pair;
 
 // The header's eight texts stand one behind the other, each a place and a length.
 fn is_header_text(i: usize) -> bool {
@@ -154,22 +149,6 @@ fn ask(spool: &[u8], room: usize) {
         return;
     }
     first(spool, &mut out[..room]);
-}
-
-// Two bytes, high first.
-fn pair(high: u8, low: u8) -> usize {
-    256 * high as usize + low as usize
-}
-
-// Reads the question's spool and gives its length; END where it is too long or the input ends before it.
-fn next_spool(len: usize, spool: &mut [u8]) -> usize {
-    if spool.len() < len {
-        return END;
-    }
-    if io::read_full(0, &mut spool[..len]) < len {
-        return END;
-    }
-    len
 }
 
 // Reads a question and answers it; false where there is none.

@@ -2,20 +2,16 @@
 // they are framed). For each it prints one line `answer volume line records`, then, if accepted, one line of 32 numbers for each record.
 use rules::Answer;
 use sets::read;
-
-// More questions than this are not read. (A program that is proved to end must stop somewhere.)
-const MOST_QUESTIONS: usize = 65536;
-
-// One byte more than a spool may have: an input that is longer is answered as a spool that is (2).
-const MOST_READ: usize = 61441;
+use shows::questions::END;
+use shows::questions::MOST_QUESTIONS;
+use shows::questions::MOST_READ;
+use shows::questions::next_spool;
+use shows::questions::pair;
 
 const MOST_RECORDS: usize = 256;
 
 // The length that says: the spool of the question before.
 const SAME_SPOOL: usize = 65535;
-
-// A length that no spool has.
-const END: usize = 65536;
 
 // Says so where a number of the table from this place on is not 0.
 fn show_leavings(from: u64, table: &[i64]) {
@@ -47,11 +43,6 @@ fn answer(spool: &[u8], cls: u64, table: &mut [i64]) {
     }
 }
 
-// Two bytes, high first.
-fn pair(high: u8, low: u8) -> usize {
-    256 * high as usize + low as usize
-}
-
 // The table holds other numbers than zeros before its front is lent.
 fn ask(spool: &[u8], cls: u8, records: usize) {
     if MOST_RECORDS < records {
@@ -66,18 +57,12 @@ fn ask(spool: &[u8], cls: u8, records: usize) {
     answer(spool, cls as u64, &mut table[..numbers]);
 }
 
-// Reads the question's spool and gives its length; END where it is too long or the input ends before it.
-fn next_spool(len: usize, before: usize, spool: &mut [u8]) -> usize {
+// The length of the question's spool, which is read where it is not the one before; END where there is none.
+fn spool_length(len: usize, before: usize, spool: &mut [u8]) -> usize {
     if len == SAME_SPOOL {
         return before;
     }
-    if spool.len() < len {
-        return END;
-    }
-    if io::read_full(0, &mut spool[..len]) < len {
-        return END;
-    }
-    len
+    next_spool(len, spool)
 }
 
 // Reads a question, answers it, and gives the length of its spool; END where there is none.
@@ -86,7 +71,7 @@ fn question(before: usize, spool: &mut [u8]) -> usize {
     if io::read_full(0, &mut head) < 5 {
         return END;
     }
-    let len = next_spool(pair(head[3], head[4]), before, spool);
+    let len = spool_length(pair(head[3], head[4]), before, spool);
     if spool.len() < len {
         return END;
     }

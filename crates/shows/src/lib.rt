@@ -1,17 +1,19 @@
 // What the programs print: "one line `answer volume line records` in decimal, single spaces, newline at the end; if accepted, one line of 32
 // numbers per record follows".
+pub mod questions;
+
 const MOST_RECORDS: usize = 256;
 
-fn space(fd: i32) {
+pub fn space(fd: i32) {
     io::write_all(fd, b" ");
 }
 
-fn newline(fd: i32) {
+pub fn newline(fd: i32) {
     io::write_all(fd, b"\n");
 }
 
-// An answer's line, to standard output (1) or standard error (2).
-pub fn answer_line(fd: i32, number: u8, volume: u8, line: u32, count: u64) {
+// An answer's four numbers, to standard output (1) or standard error (2).
+pub fn answer(fd: i32, number: u8, volume: u8, line: u32, count: u64) {
     io::print_decimal(fd, number as u64);
     space(fd);
     io::print_decimal(fd, volume as u64);
@@ -19,6 +21,11 @@ pub fn answer_line(fd: i32, number: u8, volume: u8, line: u32, count: u64) {
     io::print_decimal(fd, line as u64);
     space(fd);
     io::print_decimal(fd, count);
+}
+
+// The same, as a line.
+pub fn answer_line(fd: i32, number: u8, volume: u8, line: u32, count: u64) {
+    answer(fd, number, volume, line, count);
     newline(fd);
 }
 

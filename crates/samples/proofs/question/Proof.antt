@@ -8,8 +8,8 @@ use Rattle.samples.proofs.question.Reads as reads
 use Rattle.samples.proofs.question.Lts as lts
 use Rattle.io.proofs.read_full.Reads as read-full-reads
 use Rattle.samples.proofs.ask.Reads as ask-reads
-use Rattle.samples.proofs.next_spool.Reads as next-spool-reads
-use Rattle.samples.proofs.pair.Reads as pair-reads
+use Rattle.samples.proofs.spool_length.Reads as spool-length-reads
+use Rattle.shows.proofs.questions.pair.Reads as pair-reads
 
 slice-aggregate-read-full : tie.Need-slice-aggregate-read-full
 slice-aggregate-read-full c = search needs
@@ -29,8 +29,8 @@ array-read-pair-2 c = search needs
 pair-requires : tie.Need-pair-requires
 pair-requires c κs = search needs
 
-next-spool-requires : tie.Need-next-spool-requires
-next-spool-requires c κs = search needs
+spool-length-requires : tie.Need-spool-length-requires
+spool-length-requires c κs = search needs
 
 same-length : tie.Need-same-length
 same-length c = search needs
@@ -75,7 +75,7 @@ question-spec =
     array-read-pair
     array-read-pair-2
     pair-requires
-    next-spool-requires
+    spool-length-requires
     same-length
     returns-2
     slice-reshare-prefix-ask

@@ -2,17 +2,14 @@ use native.Mathlib.Omega.{arith}
 use mathlib.Core.Path.{sym}
 use lib.Seq.{length-take-le}
 use borrow.Author.Needs.{needs}
-use Rattle.samples.proofs.next_spool.Statement.{statement}
-use Rattle.samples.proofs.next_spool.Tie as tie
-use Rattle.samples.proofs.next_spool.Reads as reads
-use Rattle.samples.proofs.next_spool.Lts as lts
+use Rattle.shows.proofs.questions.next_spool.Statement.{statement}
+use Rattle.shows.proofs.questions.next_spool.Tie as tie
+use Rattle.shows.proofs.questions.next_spool.Reads as reads
+use Rattle.shows.proofs.questions.next_spool.Lts as lts
 use Rattle.io.proofs.read_full.Reads as read-full-reads
 
 returns : tie.Need-returns
 returns c = search needs
-
-returns-2 : tie.Need-returns-2
-returns-2 c = search needs
 
 slice-relend-prefix-read-full : tie.Need-slice-relend-prefix-read-full
 slice-relend-prefix-read-full c = search needs
@@ -26,25 +23,24 @@ read-full-requires c κs = search needs
 same-length : tie.Need-same-length
 same-length c = search needs
 
-returns-3 : tie.Need-returns-3
-returns-3 c = search needs
+returns-2 : tie.Need-returns-2
+returns-2 c = search needs
 
 same-length-2 : tie.Need-same-length-2
 same-length-2 c = search needs
 
-returns-4 : tie.Need-returns-4
-returns-4 c = search needs
+returns-3 : tie.Need-returns-3
+returns-3 c = search needs
 
 pub next-spool-spec : {M : Type 1} → statement M
 next-spool-spec =
     tie.close
     (tie.spec
     returns
-    returns-2
     slice-relend-prefix-read-full
     slice-aggregate-read-full
     read-full-requires
     same-length
-    returns-3
+    returns-2
     same-length-2
-    returns-4)
+    returns-3)
