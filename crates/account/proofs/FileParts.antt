@@ -4,7 +4,6 @@ use mathlib.Core.Bool.{Bool, true, false}
 use mathlib.Core.List.{List, [], _∷_, map}
 use mathlib.Core.Path.{_≡_, refl, sym, _∙_, ap}
 use native.Mathlib.Omega.{arith}
-use lib.Dec.{leb}
 use lib.IntN.{ℤ, pos}
 use lib.ListN.{length, getD, set, drop, drop-of-length-le, length-take, length-drop}
 use lib.Seq.{paste, paste-suc}
@@ -12,11 +11,10 @@ use native.Mathlib.Numerals.{add-one}
 use mir.Syntax.{w64}
 use mir.Val.{SFits, toZ, ofZ}
 use mir.Facts.{toZ-ofZ}
-use borrow.Author.Tests.{eq-eqb, ne-eqb, le-leb, lt-leb}
-use Rattle.rules.specs.Base.{same, within}
+use borrow.Author.Tests.{eq-eqb, ne-eqb}
+use Rattle.rules.specs.Base.{same}
 use Rattle.rules.specs.Values.{capital}
 use Rattle.rules.specs.Blocks.{fileTable, rangeTable, baseTable, elecTable, symTable, laterTable, around}
-use Rattle.rules.proofs.Chains.{and-false}
 use Rattle.leaves.proofs.Scan.{at, same-long}
 use Rattle.tables.specs.Tables.{tableOf}
 use Rattle.account.specs.FileLines.{PartOpen, fileTableOf, marksFrom, marksTo, partMarks, keptName, keptFirst, keptLater}
@@ -94,16 +92,6 @@ copy-step t₀ h t w i f e k l =
     ap (set t (w + i)) (toZ-ofZ f) ∙ ap (λ (u : List ℤ). set u (w + i) (getD h i (pos 0))) e ∙ paste-suc t₀ w h i (pos 0) k l ∙ ap (paste t₀ w h) (sym (add-one i))
 
 -- ── the next volume's name ──
-module _ (b : ℕ) where
-  pub capital-low : b < 97 → b ≡ capital b
-  capital-low h = sym (rw (lt-leb 97 b h))
-
-  pub capital-high : 122 < b → b ≡ capital b
-  capital-high h = sym (rw (lt-leb b 122 h, and-false (leb 97 b)))
-
-  pub capital-small : 97 ≤ b → b ≤ 122 → b - 32 ≡ capital b
-  capital-small h k = sym (rw (le-leb 97 b h, le-leb b 122 k))
-
 pub capital-length : (c : List ℕ) → length (map capital c) ≡ length c
 capital-length [] = refl
 capital-length (b ∷ c) = ap suc (capital-length c)

@@ -11,6 +11,7 @@ pub mod PointsLines
 pub mod TextsLines
 pub mod FigureActs
 pub mod ElementActs
+pub mod KeyedLines
 pub mod SymbolNames
 pub mod SymbolSteps
 pub mod ScratchCode

@@ -16,6 +16,7 @@ use account::TOP;
 use entries::Next;
 use entries::acts::act;
 use entries::names::part;
+use leaves::bytes::capital;
 use rules::LineForm;
 use rules::Span;
 ghost use mathlib.Core.Path.{_≡_};
@@ -148,18 +149,6 @@ fn keep(first: bool, row: u8, header: &mut [i64])
         return;
     }
     keep_later(row, header);
-}
-
-fn capital(b: u8) -> u8
-    ensures { λ r. ⌜ r ≡ capital b ⌝ }
-{
-    if b < 97 {
-        return b;
-    }
-    if 122 < b {
-        return b;
-    }
-    b - 32
 }
 
 // "next_file names the next volume (a-z read as A-Z) and is empty in the last"

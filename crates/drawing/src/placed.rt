@@ -21,6 +21,8 @@ use entries::acts::complete;
 use entries::names::part;
 use entries::row_lines::act_row;
 use entries::row_lines::reaches;
+use entries::shapes::key_of;
+use entries::shapes::rest_of;
 use entries::shapes::shape_for;
 use entries::shapes::sort_of;
 use rules::Digits;
@@ -215,7 +217,8 @@ fn close_placed(class: Digits, range: Digits, here: Now, marks: &[bool], rec: &m
     Step::Go(figure_done(here))
 }
 
-// A line in a placed symbol's block, directly in it.
+// A line in a placed symbol's block, directly in it. A line with a key goes on in one place, whichever its form, so
+// that `on_key` is compiled into it.
 fn on_placed_own(
     s: &[u8],
     symbols: &[u32],
@@ -234,50 +237,37 @@ fn on_placed_own(
     ensures { λ r. ⌜ OwnLine (knownIn (now (s .entry)) (now (symbols .entry)) (now (layers .entry))) class range here (lent (now (tally .entry)) (now (serials .entry)) (now (marks .entry)) (now (inner .entry))) (lent (now (tally .exit)) (now (serials .exit)) (now (marks .exit)) (now (inner .exit))) (now (rec .entry)) (now (rec .exit)) r (formIn (now (s .entry)) form) ⌝ }
 {
     match form {
-        LineForm::Ignored => Step::Go(here),
-        LineForm::Close => close_placed(class, range, here, marks, rec),
-        LineForm::Eof => Step::Stop(9),
-        LineForm::Opens(o) => {
-            let key = o.key;
-            on_key(
-                s,
-                symbols,
-                layers,
-                class,
-                range,
-                here,
-                form,
-                key,
-                Rest::Brace,
-                tally,
-                serials,
-                marks,
-                inner,
-                rec,
-            )
+        LineForm::Ignored => {
+            return Step::Go(here);
         }
-        LineForm::Equals(q) => {
-            let key = q.key;
-            let rest = q.rest;
-            on_key(
-                s,
-                symbols,
-                layers,
-                class,
-                range,
-                here,
-                form,
-                key,
-                Rest::Equals(rest),
-                tally,
-                serials,
-                marks,
-                inner,
-                rec,
-            )
+        LineForm::Close => {
+            return close_placed(class, range, here, marks, rec);
         }
-        LineForm::Refused(r) => Step::Stop(r.number),
+        LineForm::Eof => {
+            return Step::Stop(9);
+        }
+        LineForm::Opens(_) => {}
+        LineForm::Equals(_) => {}
+        LineForm::Refused(r) => {
+            return Step::Stop(r.number);
+        }
     }
+    on_key(
+        s,
+        symbols,
+        layers,
+        class,
+        range,
+        here,
+        form,
+        key_of(form),
+        rest_of(form),
+        tally,
+        serials,
+        marks,
+        inner,
+        rec,
+    )
 }
 
 // A line in a placed symbol: its record is the last one taken.

@@ -8,8 +8,8 @@ use native.Mathlib.Omega.{arith}
 use native.Mathlib.Numerals.{add-one, sub-one}
 use lib.IntN.{ℤ, pos}
 use lib.Dec.{eqb}
-use lib.ListN.{length, getD, take, drop, set, length-set}
-use lib.Seq.{sets, getD-set-same, getD-set-other}
+use lib.ListN.{length, getD, take, drop, set, length-set, length-drop}
+use lib.Seq.{sets, getD-set-same, getD-set-other, drop-drop}
 use Rattle.rules.specs.Base.{split, headOnto, isNil, within, indexOf}
 use Rattle.rules.specs.Numbers.{readCount, readFixed, isDay, isClock, readDecimal}
 use Rattle.rules.specs.RefusalNumbers.{Got, got, bad, unless, mapG, orBad, keep, consG, andThen}
@@ -17,12 +17,13 @@ use Rattle.rules.specs.Values.{Num, num, natural, Known, Part, count, digit, ki
 use Rattle.rules.specs.RecordTable.{numbers}
 use Rattle.leaves.specs.Bytes.{upTo, past}
 use Rattle.leaves.proofs.Scan.{rest-all}
-use Rattle.leaves.proofs.Cuts.{upTo-none, past-drop, split-last, split-more}
+use Rattle.leaves.proofs.Cuts.{upTo-le, upTo-none, past-drop, split-last, split-more}
 use Rattle.tables.specs.Rows.{partOf, partsOf}
-use Rattle.entries.specs.Parts.{valOf}
+use Rattle.entries.specs.Parts.{valOf, PieceIs}
 use Rattle.entries.specs.Entering.{On, Puts, doneOf, putVal, leastOf, plainly, lastOf, numberFrom, agreeFrom}
 use Rattle.entries.specs.declared.Val.{Val}
 use Rattle.entries.specs.declared.Val.the-variants as Vs
+use Rattle.entries.specs.declared.Piece.{Piece}
 use Rattle.entries.specs.declared.Put.{Put}
 use Rattle.entries.specs.declared.Put.the-variants.{Done, Refused}
 
@@ -149,29 +150,82 @@ module _ (k : Known) (parts more : ℕ) (c : List ℕ) where
   abbrev pub wanted : Got (List Num)
   wanted = readAll k (partOf (parts % 100) ∷ partsOf more (parts / 100)) (split 44 c)
 
-  pub too-many : (w : List Num → List ℤ) (t : List ℤ) → length (upTo 44 c) < length c → more ≡ 0 → Puts wanted w t (Refused 10)
+  too-many : (w : List Num → List ℤ) (t : List ℤ) → length (upTo 44 c) < length c → more ≡ 0 → Puts wanted w t (Refused 10)
   too-many w t l z =
       rw (parts-none more (parts / 100) z, split-more 44 c l, split-some (past 44 c) k, ten-cons (readPart k (partOf (parts % 100)) (upTo 44 c)) (ten-part k (partOf (parts % 100)) (upTo 44 c)))
       (record { eq = refl; filled = tt })
 
-  pub too-few : (w : List Num → List ℤ) (t : List ℤ) → length c ≤ length (upTo 44 c) → (more ≡ 0 → ⊥) → Puts wanted w t (Refused 10)
+  too-few : (w : List Num → List ℤ) (t : List ℤ) → length c ≤ length (upTo 44 c) → (more ≡ 0 → ⊥) → Puts wanted w t (Refused 10)
   too-few w t l z =
       rw (parts-more more (parts / 100) z, split-last 44 c l, ten-cons (readPart k (partOf (parts % 100)) c) (ten-part k (partOf (parts % 100)) c))
       (record { eq = refl; filled = tt })
 
   module _ (v : Val) (p : ℕ) (t : List ℤ) (told : v ≡ valOf (readPart k (partOf (parts % 100)) (upTo 44 c))) where
-    pub the-last : (t₂ : List ℤ) (a : Put) → length c ≤ length (upTo 44 c) → more ≡ 0 → a ≡ doneOf v → t₂ ≡ putVal v p t → Puts wanted (λ v. sets t p (plainly v)) t₂ a
+    the-last : (t₂ : List ℤ) (a : Put) → length c ≤ length (upTo 44 c) → more ≡ 0 → a ≡ doneOf v → t₂ ≡ putVal v p t → Puts wanted (λ v. sets t p (plainly v)) t₂ a
     the-last t₂ a l z e f =
         rw (parts-none more (parts / 100) z, split-last 44 c l, e, f, told, upTo-none 44 c l) (last-put (readPart k (partOf (parts % 100)) c) t p)
 
-    pub and-more : (e : ℕ) (t₁ t₂ : List ℤ) (a r b : Put) → e ≡ length (upTo 44 c) → e < length c → (more ≡ 0 → ⊥) → a ≡ doneOf v → t₁ ≡ putVal v p t → b ≡ leastOf a r
-        → Puts (readAll k (partOf (parts / 100 % 100) ∷ partsOf (more - 1) (parts / 100 / 100)) (split 44 (take (length c - (e + 1)) (drop (e + 1) c)))) (λ v. sets t₁ (p + 1) (plainly v)) t₂ r
-        → Puts wanted (λ v. sets t p (plainly v)) t₂ b
-    and-more e t₁ t₂ a r b q l z d f o h =
+    and-more : (e : ℕ) (t₁ t₂ : List ℤ) (a r : Put) → e ≡ length (upTo 44 c) → e < length c → (more ≡ 0 → ⊥) → a ≡ doneOf v → t₁ ≡ putVal v p t
+        → Puts (readAll k (partOf (parts / 100 % 100) ∷ partsOf (more - 1) (parts / 100 / 100)) (split 44 (drop (e + 1) c))) (λ v. sets t₁ (p + 1) (plainly v)) t₂ r
+        → Puts wanted (λ v. sets t p (plainly v)) t₂ (leastOf a r)
+    and-more e t₁ t₂ a r q l z d f h =
         let l₁ : length (upTo 44 c) < length c = omega arith in
-        let h₁ = rw (rest-all (e + 1) c, add-one e, q, add-one p, f, told) at h in
-        rw (parts-more more (parts / 100) z, split-more 44 c l₁, past-drop 44 c l₁, o, d, told)
+        let h₁ = rw (add-one e, q, add-one p, f, told) at h in
+        rw (parts-more more (parts / 100) z, split-more 44 c l₁, past-drop 44 c l₁, d, told)
         (cons-put (readPart k (partOf (parts % 100)) (upTo 44 c)) (readAll k (partOf (parts / 100 % 100) ∷ partsOf (more - 1) (parts / 100 / 100)) (split 44 (drop (suc (length (upTo 44 c))) c))) t t₂ p r h₁)
+
+-- ── the loop over them ──
+least-behind : (a b r : Put) → leastOf a (leastOf b r) ≡ leastOf (leastOf a b) r
+least-behind Done b r = refl
+least-behind (Refused l) Done r = refl
+least-behind (Refused l) (Refused m) Done = refl
+least-behind (Refused l) (Refused m) (Refused n) = let e : min l (min m n) ≡ min (min l m) n = omega arith in rw e
+
+-- What is left of the values of c: those from place i on, by their forms in `codes` (one, and `left` more), to the places from q on.
+-- Whatever they answer, all of c answers that or the smallest number so far.
+pub record Going (k : Known) (parts more : ℕ) (c : List ℕ) (p : ℕ) (t : List ℤ) (codes left q i : ℕ) (worst : Put) (t₁ : List ℤ) : Type 0 where
+  pub within : i ≤ length c
+  pub room : q + left < length t₁
+  pub kept : length t₁ ≡ length t
+  pub whole : (t₂ : List ℤ) (r : Put) → Puts (wanted k codes left (drop i c)) (λ v. sets t₁ q (plainly v)) t₂ r → Puts (wanted k parts more c) (λ v. sets t p (plainly v)) t₂ (leastOf worst r)
+
+pub going-start : (k : Known) (parts more : ℕ) (c : List ℕ) (p : ℕ) (t : List ℤ) → p + more < length t → Going k parts more c p t parts more p 0 Done t
+going-start k parts more c p t h = record { within = omega arith; room = h; kept = refl; whole = λ t₂ r x. x }
+
+module _ (k : Known) (parts more : ℕ) (c : List ℕ) (p : ℕ) (t : List ℤ) (codes left q i : ℕ) (worst : Put) (t₁ : List ℤ) (g : Going k parts more c p t codes left q i worst t₁) (a : Piece)
+    (h : PieceIs k (codes % 100) (take (length c - i) (drop i c)) a) where
+  piece-val : a .val ≡ valOf (readPart k (partOf (codes % 100)) (upTo 44 (drop i c)))
+  piece-val = rw (rest-all i c) at (h .val)
+
+  piece-end : a .end ≡ length (upTo 44 (drop i c))
+  piece-end = rw (rest-all i c) at (h .end)
+
+  pub piece-within : i + a .end ≤ length c
+  piece-within = omega (arith, piece-end, upTo-le 44 (drop i c), length-drop i c, g .within)
+
+  pub going-few : (t₂ : List ℤ) (b : Put) → length c ≤ i + a .end → (left ≡ 0 → ⊥) → b ≡ leastOf worst (Refused 10) → Puts (wanted k parts more c) (λ v. sets t p (plainly v)) t₂ b
+  going-few t₂ b l z o = rw o (g .whole t₂ (Refused 10) (too-few k codes left (drop i c) (λ v. sets t₁ q (plainly v)) t₂ (omega (arith, piece-end, length-drop i c)) z))
+
+  pub going-many : (t₂ : List ℤ) (b : Put) → i + a .end < length c → left ≡ 0 → b ≡ leastOf worst (Refused 10) → Puts (wanted k parts more c) (λ v. sets t p (plainly v)) t₂ b
+  going-many t₂ b l z o = rw o (g .whole t₂ (Refused 10) (too-many k codes left (drop i c) (λ v. sets t₁ q (plainly v)) t₂ (omega (arith, piece-end, length-drop i c)) z))
+
+  pub going-last : (t₂ : List ℤ) (r b : Put) → length c ≤ i + a .end → left ≡ 0 → r ≡ doneOf (a .val) → t₂ ≡ putVal (a .val) q t₁ → b ≡ leastOf worst r
+      → Puts (wanted k parts more c) (λ v. sets t p (plainly v)) t₂ b
+  going-last t₂ r b l z d f o = rw o (g .whole t₂ r (the-last k codes left (drop i c) (a .val) q t₁ piece-val t₂ r (omega (arith, piece-end, length-drop i c)) z d f))
+
+  pub going-more : (t₂ : List ℤ) (r b : Put) → i + a .end < length c → (left ≡ 0 → ⊥) → r ≡ doneOf (a .val) → t₂ ≡ putVal (a .val) q t₁ → b ≡ leastOf worst r
+      → Going k parts more c p t (codes / 100) (left - 1) (q + 1) (i + a .end + 1) b t₂
+  going-more t₂ r b l z d f o =
+      record {
+        within = omega arith;
+        room = omega (arith, g .room, ap length f, put-long (a .val) q t₁);
+        kept = ap length f ∙ put-long (a .val) q t₁ ∙ g .kept;
+        whole = λ t₃ x y.
+            let n : i + a .end + 1 ≡ i + (a .end + 1) = omega arith in
+            let e : drop (i + a .end + 1) c ≡ drop (a .end + 1) (drop i c) = ap (λ (m : ℕ). drop m c) n ∙ sym (drop-drop (a .end + 1) i c) in
+            rw (o, sym (least-behind worst r x))
+            (g .whole t₃ (leastOf r x) (and-more k codes left (drop i c) (a .val) q t₁ piece-val (a .end) t₂ t₃ r x piece-end (omega (arith, length-drop i c)) z d f (rw e at y)));
+      }
 
 -- ── the rules across them ──
 long-cons : (g : Got Num) (x : Got (List Num)) (n : ℕ) → On (λ v. length v ≡ n) x → On (λ v. length v ≡ suc n) (consG g x)

@@ -19,7 +19,7 @@ use Rattle.rules.proofs.Chains.{and-left, and-right}
 use Rattle.rules.specs.declared.Span.{Span}
 use Rattle.tables.specs.Rows.{timesOf}
 use Rattle.entries.specs.Entering.{On, Puts, settled}
-use Rattle.entries.specs.Shapes.{shapeIn, sortOf}
+use Rattle.entries.specs.Shapes.{shapeIn, sortOf, spanOf}
 use Rattle.entries.specs.Acts.{placeOf, putLine, roomy, valueOf, Acts, nextFor}
 use Rattle.entries.specs.declared.Shape.{Shape as Placed}
 use Rattle.entries.specs.declared.Shape.the-variants as P
@@ -93,10 +93,44 @@ module _ (g : Got Value) (r : Rule) (dump : ℕ) (t t₁ : List ℤ) (a : Put) (
       go (bad m) h s = done-not m (sym d ∙ h .eq)
 
 -- ── by the shape ──
-pub shape-put : (f : Value → Act) → ((v : Value) → valueOf (f v) ≡ v) → (g : Got Value) (r : Rule) (dump : ℕ) (t t₁ : List ℤ) (a : Put)
+shape-put : (f : Value → Act) → ((v : Value) → valueOf (f v) ≡ v) → (g : Got Value) (r : Rule) (dump : ℕ) (t t₁ : List ℤ) (a : Put)
     → Puts g (λ v. putLine r dump v t) t₁ a → Puts (mapG f g) (λ b. putLine r dump (valueOf b) t) t₁ a
 shape-put f e (got v) r dump t t₁ a h = record { eq = h .eq; filled = rw (e v) (h .filled) }
 shape-put f e (bad n) r dump t t₁ a h = record { eq = h .eq; filled = tt }
+
+module _ (k : Known) (j : ℕ) (r : Rule) (dump : ℕ) (t t₁ : List ℤ) (s : List ℕ) where
+  -- what a line of a shape puts
+  abbrev pub ShapePuts : Placed → Put → Type 0
+  ShapePuts x a = Puts (readShape k j r (shapeIn s x)) (λ b. putLine r dump (valueOf b) t) t₁ a
+
+  pub opener-puts : (x : Placed) → sortOf x ≡ 0 → t₁ ≡ putState (r .state) (pos 2) t → ShapePuts x Done
+  opener-puts P.Opener e f = record { eq = refl; filled = f }
+  opener-puts P.NoContent e f = absurd (omega arith)
+  opener-puts (P.Content p) e f = absurd (omega arith)
+  opener-puts (P.Opening p) e f = absurd (omega arith)
+  opener-puts P.Formless e f = absurd (omega arith)
+
+  pub empty-puts : (x : Placed) → sortOf x ≡ 1 → t₁ ≡ putState (r .state) (pos 1) t → ShapePuts x Done
+  empty-puts P.Opener e f = absurd (omega arith)
+  empty-puts P.NoContent e f = record { eq = refl; filled = f }
+  empty-puts (P.Content p) e f = absurd (omega arith)
+  empty-puts (P.Opening p) e f = absurd (omega arith)
+  empty-puts P.Formless e f = absurd (omega arith)
+
+  pub formless-puts : (x : Placed) → sortOf x ≡ 4 → ShapePuts x (Refused 5)
+  formless-puts P.Opener e = absurd (omega arith)
+  formless-puts P.NoContent e = absurd (omega arith)
+  formless-puts (P.Content p) e = absurd (omega arith)
+  formless-puts (P.Opening p) e = absurd (omega arith)
+  formless-puts P.Formless e = record { eq = refl; filled = tt }
+
+  pub content-puts : (x : Placed) (a : Put) → (sortOf x ≡ 4 → ⊥) → (sortOf x ≡ 0 → ⊥) → (sortOf x ≡ 1 → ⊥)
+      → Puts (readKind k (r .holds) (spanOf x .at) (bytesAt s (spanOf x))) (λ v. putLine r dump v t) t₁ a → ShapePuts x a
+  content-puts P.Opener a n₄ n₀ n₁ h = absurd (n₀ refl)
+  content-puts P.NoContent a n₄ n₀ n₁ h = absurd (n₁ refl)
+  content-puts (P.Content p) a n₄ n₀ n₁ h = shape-put (entry j) (λ (v : Value). refl) (readKind k (r .holds) (p .at) (bytesAt s p)) r dump t t₁ a h
+  content-puts (P.Opening p) a n₄ n₀ n₁ h = shape-put (begin (innerOf (r .holds)) j) (λ (v : Value). refl) (readKind k (r .holds) (p .at) (bytesAt s p)) r dump t t₁ a h
+  content-puts P.Formless a n₄ n₀ n₁ h = absurd (n₄ refl)
 
 -- ── what is done ──
 module _ (j : ℕ) (r : Rule) (dump : ℕ) (t t₁ : List ℤ) (a : Put) where

@@ -11,10 +11,14 @@ use lib.ListN.{length, getD, drop, drop-of-length-le}
 use lib.Seq.{drop-cons}
 use borrow.Author.Tests.{eqb-true, ne-eqb, not-true, le-leb, lt-ltb}
 use Rattle.rules.specs.declared.Digits.{Digits}
+use Rattle.rules.specs.declared.Opener.{Opener}
+use Rattle.rules.specs.declared.Equation.{Equation}
+use Rattle.rules.specs.declared.LineForm.{LineForm}
+use Rattle.rules.specs.declared.LineForm.the-variants as L
 use Rattle.rules.specs.Base.{all, within}
 use Rattle.rules.specs.RefusalNumbers.{Got, got, bad, unless, mapG, andThen}
 use Rattle.rules.specs.RangeClass.{reaches}
-use Rattle.rules.specs.Lines.{Rest, Shape, opener, noContent, content, opening, formless, shapeOf, hasForm}
+use Rattle.rules.specs.Lines.{Rest, Shape, opener, noContent, content, opening, formless, shapeOf, hasForm, keyed, bytesAt, formIn}
 use Rattle.rules.specs.Values.{Known, Value, readKind}
 use Rattle.rules.specs.Rows.{Rule, Act, stay, entry, begin, shut, refuse, orRefuse, innerOf, readShape, shapeFor, fits, notTwice, actRow, actUnknown, actFound, Found, absent, found, find, present, complete}
 use Rattle.rules.specs.RecordTable.{ruleAt, columns}
@@ -25,6 +29,7 @@ use Rattle.rules.proofs.Rows.{found-row, row-all, row-at, reaches-none}
 use Rattle.tables.specs.Tables.{tableOf}
 use Rattle.tables.specs.Rows.{ruleOf, forLine, foundForLine}
 use Rattle.tables.specs.declared.Row.{Row}
+use Rattle.entries.specs.Shapes.{keyOf, restOf, restIn}
 use Rattle.entries.specs.Acts.{placeOf, putLine, roomy, nextOf, Entered, Acts, wanted, needsNone}
 use Rattle.entries.specs.declared.Next.{Next}
 use Rattle.entries.proofs.LineActs.{room-place, room-state, room-settled}
@@ -282,6 +287,13 @@ no-mark (b ∷ full) (suc i) h = no-mark full i (omega arith)
 pub closed-acts : (rule : ℕ → Rule) (dump : ℕ) (t : List ℤ) (b : Bool) (n : Next) → n ≡ nextOf (cond b shut (refuse 8)) → Acts rule dump t (cond b shut (refuse 8)) t n
 closed-acts rule dump t true n e = record { eq = e; entered = refl }
 closed-acts rule dump t false n e = record { eq = e; entered = tt }
+
+-- a line with a key, by its key and by what stands behind it
+pub opens-keyed : (s : List ℕ) (f : LineForm) (o : Opener) → f ≡ L.Opens o → formIn s f ≡ keyed (bytesAt s (keyOf f)) (restIn s (restOf f))
+opens-keyed s f o e = rw e
+
+pub equals-keyed : (s : List ℕ) (f : LineForm) (q : Equation) → f ≡ L.Equals q → formIn s f ≡ keyed (bytesAt s (keyOf f)) (restIn s (restOf f))
+equals-keyed s f q e = rw e
 
 -- ── room for the rows of a table ──
 pub room-more : (dump m n : ℕ) (t : List Rule) → m ≤ n → all (roomy dump m) t ≡ true → all (roomy dump n) t ≡ true

@@ -23,7 +23,7 @@ use Rattle.tables.specs.declared.Row.{Row}
 use Rattle.tables.specs.Rows.{ruleOf}
 use Rattle.tables.specs.Tables.{tableOf}
 use Rattle.entries.specs.Names.{nameIn, namesIn, indexFrom, knownIn}
-use Rattle.entries.specs.Shapes.{restIn, shapeIn, shapeBy, sortOf}
+use Rattle.entries.specs.Shapes.{keyOf, restOf, restIn, shapeIn, shapeBy, sortOf}
 use Rattle.entries.specs.Acts.{nextOf, Entered, Acts}
 use Rattle.entries.specs.declared.Index.{Index}
 use Rattle.entries.specs.declared.Next.{Next}
@@ -34,6 +34,8 @@ use Rattle.entries.specs.declared.Shape.the-variants as P
 use Rattle.entries.proofs.names.part as part′
 use Rattle.entries.proofs.names.name_at as name-at′
 use Rattle.entries.proofs.names.index_of as index-of′
+use Rattle.entries.proofs.shapes.key_of as key-of′
+use Rattle.entries.proofs.shapes.rest_of as rest-of′
 use Rattle.entries.proofs.shapes.shape_for as shape-for′
 use Rattle.entries.proofs.shapes.sort_of as sort-of′
 use Rattle.entries.proofs.row_lines.reaches as reaches′
@@ -61,6 +63,18 @@ index-of-code : One index-of′.Kinds.ps index-of′.Kinds.r index-of′.Reads.L
 index-of-code κs x r₁ r₂ e₁ e₂ = index-of-unique (now (x .0)) (now (x .1 .0)) (now (x .1 .1 .0)) r₁ r₂
 
 -- ── shapes ──
+pub key-of-unique : (form : LineForm) (r₁ r₂ : Span) → r₁ ≡ keyOf form → r₂ ≡ keyOf form → r₁ ≡ r₂
+key-of-unique form r₁ r₂ c₁ c₂ = c₁ ∙ sym c₂
+
+key-of-code : One key-of′.Kinds.ps key-of′.Kinds.r key-of′.Reads.Learnt (λ κs r e. r)
+key-of-code κs x r₁ r₂ e₁ e₂ = key-of-unique (x .0) r₁ r₂
+
+pub rest-of-unique : (form : LineForm) (r₁ r₂ : Rest) → r₁ ≡ restOf form → r₂ ≡ restOf form → r₁ ≡ r₂
+rest-of-unique form r₁ r₂ c₁ c₂ = c₁ ∙ sym c₂
+
+rest-of-code : One rest-of′.Kinds.ps rest-of′.Kinds.r rest-of′.Reads.Learnt (λ κs r e. r)
+rest-of-code κs x r₁ r₂ e₁ e₂ = rest-of-unique (x .0) r₁ r₂
+
 -- they mean the same; the numbers themselves may differ in a length that runs over the spool's end
 pub shape-for-unique : (s : List ℕ) (free : Bool) (rest : Rest) (r₁ r₂ : Shape) → shapeIn s r₁ ≡ shapeBy free (restIn s rest) → shapeIn s r₂ ≡ shapeBy free (restIn s rest) → shapeIn s r₁ ≡ shapeIn s r₂
 shape-for-unique s free rest r₁ r₂ c₁ c₂ = c₁ ∙ sym c₂

@@ -4,6 +4,8 @@ use crate::Rest;
 use crate::names::part;
 use crate::row_lines::act_row;
 use crate::row_lines::reaches;
+use crate::shapes::key_of;
+use crate::shapes::rest_of;
 use crate::shapes::shape_for;
 use crate::shapes::sort_of;
 use rules::Digits;
@@ -188,6 +190,7 @@ fn act_key(
 }
 
 // A line in a block of a table, in a file of the range d; `full` tells for each row whether it has had all it may have.
+// Lines with a key go to one call, so that the compiler can put that function in line.
 pub fn act(
     table: u8,
     s: &[u8],
@@ -203,40 +206,31 @@ pub fn act(
     ensures { λ r. ⌜ Acts (ruleAt (tableOf table)) dump (now (rec .entry)) (act (knownIn (now (s .entry)) (now (symbols .entry)) (now (layers .entry))) (tableOf table) d (now (full .entry)) (formIn (now (s .entry)) form)) (now (rec .exit)) r ⌝ }
 {
     match form {
-        LineForm::Ignored => Next::Stay,
-        LineForm::Close => close(table, d, full),
-        LineForm::Eof => Next::Refuse(9),
-        LineForm::Opens(o) => {
-            let key = o.key;
-            act_key(
-                table,
-                s,
-                symbols,
-                layers,
-                d,
-                full,
-                key,
-                Rest::Brace,
-                dump,
-                rec,
-            )
+        LineForm::Ignored => {
+            return Next::Stay;
         }
-        LineForm::Equals(q) => {
-            let key = q.key;
-            let rest = q.rest;
-            act_key(
-                table,
-                s,
-                symbols,
-                layers,
-                d,
-                full,
-                key,
-                Rest::Equals(rest),
-                dump,
-                rec,
-            )
+        LineForm::Close => {
+            return close(table, d, full);
         }
-        LineForm::Refused(r) => Next::Refuse(r.number),
+        LineForm::Eof => {
+            return Next::Refuse(9);
+        }
+        LineForm::Opens(_) => {}
+        LineForm::Equals(_) => {}
+        LineForm::Refused(r) => {
+            return Next::Refuse(r.number);
+        }
     }
+    act_key(
+        table,
+        s,
+        symbols,
+        layers,
+        d,
+        full,
+        key_of(form),
+        rest_of(form),
+        dump,
+        rec,
+    )
 }

@@ -11,6 +11,7 @@ use crate::shapes::inner_of;
 use crate::shapes::is_free;
 use crate::shapes::shape_for;
 use crate::shapes::sort_of;
+use crate::shapes::span_of;
 use rules::Digits;
 use rules::Span;
 use tables::Row;
@@ -78,7 +79,8 @@ fn put_content(
     Put::Done
 }
 
-// A line that has the form its row asks for.
+// A line that has the form its row asks for. Content is entered by one call, whether it opens a block or not, so that the compiler can
+// put that function in line.
 fn put_shape(
     row: Row,
     s: &[u8],
@@ -91,19 +93,19 @@ fn put_shape(
     requires { ⌜ (length (now s) ≤ 61440) × (length (now symbols) ≤ 65536) × (length (now layers) ≤ 65536) × (roomy dump (length (now rec)) (ruleOf row) ≡ true) ⌝ }
     ensures { λ r. ⌜ Puts (readShape (knownIn (now (s .entry)) (now (symbols .entry)) (now (layers .entry))) (row .number) (ruleOf row) (shapeIn (now (s .entry)) shape)) (λ a. putLine (ruleOf row) dump (valueOf a) (now (rec .entry))) (now (rec .exit)) r ⌝ }
 {
-    match shape {
-        Shape::Opener => {
-            put_state(row.state, 2, rec);
-            Put::Done
-        }
-        Shape::NoContent => {
-            put_state(row.state, 1, rec);
-            Put::Done
-        }
-        Shape::Content(p) => put_content(row, s, symbols, layers, p, dump, rec),
-        Shape::Opening(p) => put_content(row, s, symbols, layers, p, dump, rec),
-        Shape::Formless => Put::Refused(5),
+    let sort = sort_of(shape);
+    if sort == 4 {
+        return Put::Refused(5);
     }
+    if sort == 0 {
+        put_state(row.state, 2, rec);
+        return Put::Done;
+    }
+    if sort == 1 {
+        put_state(row.state, 1, rec);
+        return Put::Done;
+    }
+    put_content(row, s, symbols, layers, span_of(shape), dump, rec)
 }
 
 // Digits of a range or class that have at least what is asked for.

@@ -3,6 +3,7 @@ use crate::Rest;
 use crate::Shape;
 use crate::names::part;
 use leaves::bytes::same;
+use rules::LineForm;
 use rules::Span;
 use tables::Row;
 ghost use mathlib.Core.Path.{_≡_};
@@ -10,7 +11,44 @@ ghost use Rattle.rules.specs.Lines.{equals, bytesAt};
 ghost use Rattle.rules.specs.Values.{isFree};
 ghost use Rattle.rules.specs.Rows.{isEither, fits, innerOf};
 ghost use Rattle.tables.specs.Rows.{kindOf};
-ghost use Rattle.entries.specs.Shapes.{restIn, shapeIn, shapeBy, sortOf, endsOpen};
+ghost use Rattle.entries.specs.Shapes.{nothingAt, keyOf, restOf, restIn, shapeIn, shapeBy, sortOf, spanOf, endsOpen};
+
+fn nowhere() -> Span
+    ensures { λ r. ⌜ r ≡ nothingAt ⌝ }
+{
+    Span { at: 0, len: 0 }
+}
+
+// A line's key; nothing where it has none.
+pub fn key_of(form: LineForm) -> Span
+    ensures { λ r. ⌜ r ≡ keyOf form ⌝ }
+{
+    match form {
+        LineForm::Ignored => nowhere(),
+        LineForm::Close => nowhere(),
+        LineForm::Eof => nowhere(),
+        LineForm::Opens(o) => o.key,
+        LineForm::Equals(q) => q.key,
+        LineForm::Refused(_) => nowhere(),
+    }
+}
+
+// What stands behind a line's key.
+pub fn rest_of(form: LineForm) -> Rest
+    ensures { λ r. ⌜ r ≡ restOf form ⌝ }
+{
+    match form {
+        LineForm::Ignored => Rest::Brace,
+        LineForm::Close => Rest::Brace,
+        LineForm::Eof => Rest::Brace,
+        LineForm::Opens(_) => Rest::Brace,
+        LineForm::Equals(q) => {
+            let rest = q.rest;
+            Rest::Equals(rest)
+        }
+        LineForm::Refused(_) => Rest::Brace,
+    }
+}
 
 fn ends_open(c: &[u8]) -> bool
     ensures { λ r. ⌜ r ≡ endsOpen (now (c .entry)) ⌝ }
@@ -69,6 +107,19 @@ pub fn sort_of(shape: Shape) -> u8
         Shape::Content(_) => 2,
         Shape::Opening(_) => 3,
         Shape::Formless => 4,
+    }
+}
+
+// The places of a shape's content; nothing where it has none.
+pub(crate) fn span_of(shape: Shape) -> Span
+    ensures { λ r. ⌜ r ≡ spanOf shape ⌝ }
+{
+    match shape {
+        Shape::Opener => nowhere(),
+        Shape::NoContent => nowhere(),
+        Shape::Content(p) => p,
+        Shape::Opening(p) => p,
+        Shape::Formless => nowhere(),
     }
 }
 

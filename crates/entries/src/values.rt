@@ -62,30 +62,31 @@ fn each(
     requires { ⌜ (length (now symbols) ≤ 65536) × (length (now layers) ≤ 65536) × (p + more < length (now rec)) ⌝ }
     ensures { λ r. ⌜ Puts (readAll (knownIn (now (s .entry)) (now (symbols .entry)) (now (layers .entry))) (partOf (parts % 100) ∷ partsOf more (parts / 100)) (split 44 (now (c .entry)))) (λ v. sets (now (rec .entry)) p (plainly v)) (now (rec .exit)) r ⌝ }
 {
-    let a = piece(parts % 100, s, symbols, layers, c);
-    let v = a.val;
-    let e = a.end;
-    if e < c.len() {
-        if more == 0 {
-            return Put::Refused(10);
+    let mut codes = parts;
+    let mut left = more;
+    let mut to = p;
+    let mut at = 0;
+    let mut worst = Put::Done;
+    loop {
+        let a = piece(codes % 100, s, symbols, layers, &c[at..]);
+        let v = a.val;
+        let e = at + a.end;
+        if c.len() <= e {
+            if left != 0 {
+                return least(worst, Put::Refused(10));
+            }
+            return least(worst, put_value(v, to, rec));
         }
-        let first = put_value(v, p, rec);
-        let rest = each(
-            parts / 100,
-            more - 1,
-            s,
-            symbols,
-            layers,
-            &c[e + 1..],
-            p + 1,
-            rec,
-        );
-        return least(first, rest);
+        if left == 0 {
+            return least(worst, Put::Refused(10));
+        }
+        let first = put_value(v, to, rec);
+        worst = least(worst, first);
+        codes = codes / 100;
+        left -= 1;
+        to += 1;
+        at = e + 1;
     }
-    if more != 0 {
-        return Put::Refused(10);
-    }
-    put_value(v, p, rec)
 }
 
 fn equal_at(rec: &[i64], i: usize, j: usize) -> bool

@@ -3,7 +3,7 @@
 -- FUNCTION-unique says it in the contract's own words, with `s` for `now (s .entry)` and `out₁`, `out₂` for `now (out .exit)`.
 -- FUNCTION-code says it of the contract as the code has it: were it worded otherwise, this would not be proved.
 use Prim.Native.Nat.{ℕ}
-use mathlib.Core.Bool.{Bool, _&&_}
+use mathlib.Core.Bool.{Bool, _&&_, _||_}
 use mathlib.Core.List.{List}
 use mathlib.Core.Path.{_≡_, sym, _∙_, ap₂}
 use lib.Dec.{leb}
@@ -16,7 +16,7 @@ use borrow.Fn.Kinds.{PK, RK, Out, Dens, resT, endedOf}
 use Rattle.rules.specs.Base.{all, same, within}
 use Rattle.rules.specs.Lines.{allowed}
 use Rattle.rules.specs.Numbers.{readCount, readDecimal, fixed, showCount, showSize, showDecimal}
-use Rattle.rules.specs.Values.{byteIn, isLayerId, findSheet, sheets, readRatio, showSheet, showRatio}
+use Rattle.rules.specs.Values.{capital, byteIn, isLayerId, findSheet, sheets, readRatio, showSheet, showRatio}
 use Rattle.leaves.specs.Bytes.{upTo, bytesOf}
 use Rattle.leaves.specs.Readings.{countOf, readingOf, readUpToEight, readDay, readClock}
 use Rattle.leaves.specs.Pieces.{decimalPiece}
@@ -30,10 +30,13 @@ use Rattle.leaves.specs.declared.Sheet.{Sheet}
 use Rattle.leaves.specs.declared.Ratio.{Ratio}
 use Rattle.leaves.specs.declared.TextRule.{TextRule}
 use Rattle.leaves.specs.declared.Wrote.{Wrote}
+use Rattle.leaves.proofs.truth.both as both′
+use Rattle.leaves.proofs.truth.either as either′
 use Rattle.leaves.proofs.bytes.same as same′
 use Rattle.leaves.proofs.bytes.find as find′
 use Rattle.leaves.proofs.bytes.within as within′
 use Rattle.leaves.proofs.bytes.allowed as allowed′
+use Rattle.leaves.proofs.bytes.capital as capital′
 use Rattle.leaves.proofs.bytes.all_in as all-in′
 use Rattle.leaves.proofs.bytes.is_layer_id as is-layer-id′
 use Rattle.leaves.proofs.numbers.count as count′
@@ -89,6 +92,12 @@ allowed-unique s r₁ r₂ c₁ c₂ = c₁ ∙ sym c₂
 allowed-code : One allowed′.Kinds.ps allowed′.Kinds.r allowed′.Reads.Learnt (λ κs r e. r)
 allowed-code κs x r₁ r₂ e₁ e₂ = allowed-unique (now (x .0)) r₁ r₂
 
+pub capital-unique : (b r₁ r₂ : ℕ) → r₁ ≡ capital b → r₂ ≡ capital b → r₁ ≡ r₂
+capital-unique b r₁ r₂ c₁ c₂ = c₁ ∙ sym c₂
+
+capital-code : One capital′.Kinds.ps capital′.Kinds.r capital′.Reads.Learnt (λ κs r e. r)
+capital-code κs x r₁ r₂ e₁ e₂ = capital-unique (x .0) r₁ r₂
+
 pub all-in-unique : (s : List ℕ) (set : ℕ) (r₁ r₂ : Bool) → r₁ ≡ all (byteIn (bytesOf set)) s → r₂ ≡ all (byteIn (bytesOf set)) s → r₁ ≡ r₂
 all-in-unique s set r₁ r₂ c₁ c₂ = c₁ ∙ sym c₂
 
@@ -100,6 +109,19 @@ is-layer-id-unique s r₁ r₂ c₁ c₂ = c₁ ∙ sym c₂
 
 is-layer-id-code : One is-layer-id′.Kinds.ps is-layer-id′.Kinds.r is-layer-id′.Reads.Learnt (λ κs r e. r)
 is-layer-id-code κs x r₁ r₂ e₁ e₂ = is-layer-id-unique (now (x .0)) r₁ r₂
+
+-- ── truths ──
+pub both-unique : (a b r₁ r₂ : Bool) → r₁ ≡ (a && b) → r₂ ≡ (a && b) → r₁ ≡ r₂
+both-unique a b r₁ r₂ c₁ c₂ = c₁ ∙ sym c₂
+
+both-code : One both′.Kinds.ps both′.Kinds.r both′.Reads.Learnt (λ κs r e. r)
+both-code κs x r₁ r₂ e₁ e₂ = both-unique (x .0) (x .1 .0) r₁ r₂
+
+pub either-unique : (a b r₁ r₂ : Bool) → r₁ ≡ (a || b) → r₂ ≡ (a || b) → r₁ ≡ r₂
+either-unique a b r₁ r₂ c₁ c₂ = c₁ ∙ sym c₂
+
+either-code : One either′.Kinds.ps either′.Kinds.r either′.Reads.Learnt (λ κs r e. r)
+either-code κs x r₁ r₂ e₁ e₂ = either-unique (x .0) (x .1 .0) r₁ r₂
 
 -- ── numbers ──
 pub count-unique : (s : List ℕ) (r₁ r₂ : Count) → r₁ ≡ countOf (readCount 9 s) → r₂ ≡ countOf (readCount 9 s) → r₁ ≡ r₂

@@ -5,7 +5,7 @@ ghost use lib.ListN.{length};
 ghost use Rattle.rules.specs.Base.{all, same, within};
 ghost use Rattle.rules.specs.Lines.{singleByte, leadByte, trailByte, allowed};
 ghost use Rattle.rules.specs.Numbers.{isDigit};
-ghost use Rattle.rules.specs.Values.{lettersAndDigits, telephone, circuitBytes, isLetter, byteIn, isLayerId};
+ghost use Rattle.rules.specs.Values.{capital, lettersAndDigits, telephone, circuitBytes, isLetter, byteIn, isLayerId};
 ghost use Rattle.leaves.specs.Bytes.{half, word, upTo, bytesOf, mayStand, startsPair, isLayerLetter};
 
 // Four bytes at once, as one number: two such numbers are equal only if all four bytes are.
@@ -185,6 +185,19 @@ pub(crate) fn digit(b: u8) -> bool
     ensures { λ r. ⌜ r ≡ isDigit b ⌝ }
 {
     within(48, 57, b as u64)
+}
+
+// "a-z read as A-Z"
+pub fn capital(b: u8) -> u8
+    ensures { λ r. ⌜ r ≡ capital b ⌝ }
+{
+    if b < 97 {
+        return b;
+    }
+    if 122 < b {
+        return b;
+    }
+    b - 32
 }
 
 fn letter(b: u8) -> bool

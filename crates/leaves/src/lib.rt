@@ -4,6 +4,7 @@ pub mod numbers;
 pub mod pieces;
 pub mod sheets;
 pub mod texts;
+pub mod truth;
 pub mod write;
 
 // A number without a sign, where one was read.

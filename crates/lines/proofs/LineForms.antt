@@ -12,7 +12,8 @@ use Rattle.rules.specs.Base.{choose, bytes, isNil, same}
 use Rattle.rules.specs.declared.LineForm.{LineForm}
 use Rattle.rules.specs.declared.LineForm.the-variants as L
 use Rattle.rules.specs.Lines.{unindent, Scan, neither, atEqual, atBrace, keyOnto, afterColon, scan, brace, equals, wrong, close, eof, withKey, formFrom, formOfRest, formOf, allowed, withPlaces, lineFormOf}
-use Rattle.lines.specs.LineForms.{blankOf, opensHere, KeyEnd, endless, equalAt, braceAt, later, keyEndOf, refusedAs, bareForm, shortForm, equalForm, braceForm, equalsAt, opensAt, restForm}
+use Rattle.lines.specs.LineForms.{blankOf, opensHere, KeyEnd, endless, equalAt, braceAt, later, keyEndOf, refusedAs, equalsAt, opensAt, restForm}
+use Rattle.lines.specs.LineSketch.{keylessForm, sketchForm, wordKind, bareKind, equalSketch, braceSketch}
 use Rattle.leaves.proofs.Scan.{at as by-place}
 
 -- ── leading blanks ──
@@ -192,9 +193,9 @@ unindent-behind (b ∷ c ∷ s) = go (eqb b 32 || eqb b 9) (eqb b 129 && eqb c 6
 -- ── the form by the end of the key ──
 -- the third argument: the place of the line's first byte
 abbrev pub formByEnd : ℕ → ℕ → ℕ → List ℕ → KeyEnd → LineForm
-formByEnd volume line at s endless = bareForm volume line s
-formByEnd volume line at s (equalAt n) = equalForm volume line at n (at + length s)
-formByEnd volume line at s (braceAt n) = braceForm volume line at n (at + length s)
+formByEnd volume line at s endless = keylessForm volume line (wordKind s)
+formByEnd volume line at s (equalAt n) = sketchForm volume line (equalSketch at n (at + length s))
+formByEnd volume line at s (braceAt n) = sketchForm volume line (braceSketch at n (at + length s))
 
 equals-same : (a b n p q x y : ℕ) → a ≡ b → p ≡ q → x ≡ y → equalsAt a n p x ≡ equalsAt b n q y
 equals-same a b n p q x y e f g = rw (e, f, g)
@@ -203,34 +204,34 @@ opens-same : (a b n : ℕ) → a ≡ b → opensAt a n ≡ opensAt b n
 opens-same a b n e = rw e
 
 module _ (volume line at : ℕ) (s : List ℕ) where
-  by-neither : withPlaces volume line (at + length s) (formFrom s (at + length s) neither) ≡ bareForm volume line s
-  unfolding bareForm
+  by-neither : withPlaces volume line (at + length s) (formFrom s (at + length s) neither) ≡ keylessForm volume line (wordKind s)
+  unfolding keylessForm wordKind
   by-neither = go (same s (bytes "}")) (same s (bytes "EOF"))
     where
-      go : (t u : Bool) → withPlaces volume line (at + length s) (cond t close (cond u eof (wrong 5))) ≡ cond t L.Close (cond u L.Eof (refusedAs 5 volume line))
+      go : (t u : Bool) → withPlaces volume line (at + length s) (cond t close (cond u eof (wrong 5))) ≡ keylessForm volume line (cond t 2 (cond u 3 7))
       go true u = refl
       go false true = refl
       go false false = refl
 
-  by-equal : (k c : List ℕ) → Around s 1 k c → withPlaces volume line (at + length s) (withKey k (equals (at + length s - length c) c)) ≡ equalForm volume line at (length k) (at + length s)
-  unfolding equalForm
+  by-equal : (k c : List ℕ) → Around s 1 k c → withPlaces volume line (at + length s) (withKey k (equals (at + length s - length c) c)) ≡ sketchForm volume line (equalSketch at (length k) (at + length s))
+  unfolding sketchForm keylessForm equalSketch
   by-equal [] c h = refl
   by-equal (b ∷ k) c (p, q, r) =
       let z : _≡_ {A = ℕ} (suc (length k)) 0 → ⊥ = λ e. omega (arith, e) in
       rw (ne-eqb (suc (length k)) 0 z) (equals-same _ _ (suc (length k)) _ _ _ _ (omega (arith, r)) (omega (arith, r)) (omega (arith, r)))
 
-  by-brace : (k c : List ℕ) → Around s 2 k c → withPlaces volume line (at + length s) (cond (isNil c) (withKey k brace) (wrong 5)) ≡ braceForm volume line at (length k) (at + length s)
-  unfolding braceForm
-  by-brace k (x ∷ c) (p, q, r) =
-      let z : (at + length k + 2 ≡ at + length s) → ⊥ = λ e. omega (arith, e, r) in
-      rw (ne-eqb _ _ z)
-  by-brace [] [] (p, q, r) =
-      let y : at + 0 + 2 ≡ at + length s = omega (arith, r) in
-      rw (eq-eqb _ _ y)
+  by-brace : (k c : List ℕ) → Around s 2 k c → withPlaces volume line (at + length s) (cond (isNil c) (withKey k brace) (wrong 5)) ≡ sketchForm volume line (braceSketch at (length k) (at + length s))
+  unfolding sketchForm keylessForm braceSketch
+  by-brace [] [] h = refl
+  by-brace [] (x ∷ c) h = refl
+  by-brace (b ∷ k) (x ∷ c) (p, q, r) =
+      let y : (at + suc (length k) + 2 ≡ at + length s) → ⊥ = λ e. omega (arith, e, r) in
+      let z : _≡_ {A = ℕ} (suc (length k)) 0 → ⊥ = λ e. omega (arith, e) in
+      rw (ne-eqb (suc (length k)) 0 z, ne-eqb _ _ y)
   by-brace (b ∷ k) [] (p, q, r) =
       let y : at + suc (length k) + 2 ≡ at + length s = omega (arith, r) in
       let z : _≡_ {A = ℕ} (suc (length k)) 0 → ⊥ = λ e. omega (arith, e) in
-      rw (eq-eqb _ _ y, ne-eqb (suc (length k)) 0 z) (opens-same _ _ (suc (length k)) (omega (arith, r)))
+      rw (ne-eqb (suc (length k)) 0 z, eq-eqb _ _ y) (opens-same _ _ (suc (length k)) (omega (arith, r)))
 
   by-scan : (r : Scan) → Apart s r → withPlaces volume line (at + length s) (formFrom s (at + length s) r) ≡ formByEnd volume line at s (keyEndOf r)
   by-scan neither h = by-neither
@@ -252,16 +253,16 @@ module _ (volume line at : ℕ) where
   rest-wrong [] e = clash refl e
   rest-wrong (b ∷ s) e = rest-by volume line at b s ∙ rw e
 
-  pub rest-short : (s : List ℕ) → allowed s ≡ true → keyEndOf (scan s) ≡ endless → restForm volume line at s ≡ shortForm volume line s
-  unfolding restForm shortForm
+  pub rest-short : (s : List ℕ) → allowed s ≡ true → keyEndOf (scan s) ≡ endless → restForm volume line at s ≡ keylessForm volume line (bareKind s)
+  unfolding restForm keylessForm bareKind
   rest-short [] e f = refl
   rest-short (b ∷ s) e f = rest-by volume line at b s ∙ rw (e, f)
 
-  pub rest-equal : (s : List ℕ) (n : ℕ) → keyEndOf (scan s) ≡ equalAt n → restForm volume line at s ≡ cond (allowed s) (equalForm volume line at n (at + length s)) (refusedAs 4 volume line)
+  pub rest-equal : (s : List ℕ) (n : ℕ) → keyEndOf (scan s) ≡ equalAt n → restForm volume line at s ≡ cond (allowed s) (sketchForm volume line (equalSketch at n (at + length s))) (refusedAs 4 volume line)
   rest-equal [] n f = absurd (let z : _≡_ {A = ℕ} 0 1 = cc in omega arith)
   rest-equal (b ∷ s) n f = rest-by volume line at b s ∙ rw f
 
-  pub rest-brace : (s : List ℕ) (n : ℕ) → keyEndOf (scan s) ≡ braceAt n → restForm volume line at s ≡ cond (allowed s) (braceForm volume line at n (at + length s)) (refusedAs 4 volume line)
+  pub rest-brace : (s : List ℕ) (n : ℕ) → keyEndOf (scan s) ≡ braceAt n → restForm volume line at s ≡ cond (allowed s) (sketchForm volume line (braceSketch at n (at + length s))) (refusedAs 4 volume line)
   rest-brace [] n f = absurd (let z : _≡_ {A = ℕ} 0 1 = cc in omega arith)
   rest-brace (b ∷ s) n f = rest-by volume line at b s ∙ rw f
 

@@ -16,8 +16,10 @@ use Rattle.rules.specs.declared.LineForm.the-variants as L
 use Rattle.rules.specs.Lines.{unindent, scan, allowed, allowedFrom, singleByte, leadByte, trailByte, lineFormOf}
 use Rattle.leaves.specs.Bytes.{upTo}
 use Rattle.leaves.proofs.Cuts.{upTo-take}
-use Rattle.lines.specs.LineForms.{blankOf, opensHere, charOf, keyChar, KeyEnd, endless, equalAt, braceAt, keyEndOf, later, keyFrom, cleanFrom, crFrom, keyByte, Blanks, Passed, KeyPassed, CleanRun, KeyRun, refusedAs, bareForm, shortForm, equalForm, braceForm, restForm}
-use Rattle.lines.specs.LineLook.{seenAt, foundAt, crHere, soundAt, lookFrom, lookIn}
+use Rattle.lines.specs.LineForms.{blankOf, opensHere, charOf, keyChar, KeyEnd, endless, equalAt, braceAt, keyEndOf, later, keyFrom, cleanFrom, crFrom, keyByte, Blanks, Passed, KeyPassed, CleanRun, KeyRun, refusedAs, restForm}
+use Rattle.lines.specs.LineLook.{seenAt, foundAt, crHere, lookFrom, lookIn}
+use Rattle.lines.specs.LineSketch.{keylessForm, sketchForm, bareKind, equalSketch, braceSketch}
+use Rattle.lines.specs.declared.Look.{Look}
 use Rattle.lines.specs.declared.Look.the-variants.{End}
 use Rattle.leaves.proofs.Scan.{at as by-place}
 use Rattle.lines.proofs.SoundEnds.{or-neither}
@@ -390,16 +392,6 @@ pub cr-by : (t : List ℕ) (i : ℕ) → i < length t → crHere (drop i t) ≡ 
 unfolding crHere
 cr-by t i h = rw (by-place t i h)
 
-pub short-none : (volume line : ℕ) (s : List ℕ) → length s ≡ 0 → shortForm volume line s ≡ L.Ignored
-unfolding shortForm
-short-none volume line [] h = refl
-short-none volume line (b ∷ s) h = absurd (omega (arith, h))
-
-pub short-some : (volume line : ℕ) (s : List ℕ) → (length s ≡ 0 → ⊥) → bareForm volume line s ≡ shortForm volume line s
-unfolding shortForm
-short-some volume line [] h = absurd (h refl)
-short-some volume line (b ∷ s) h = refl
-
 -- ── what is found ──
 same-test : (a b c d : ℕ) → (a < b → c < d) → (b ≤ a → d ≤ c) → ltb a b ≡ ltb c d
 same-test a b c d f g = go (ltb a b) refl
@@ -425,8 +417,12 @@ module _ (form : LineForm) (at end : ℕ) (t : List ℕ) where
       let q : at + length (upTo 13 t) ≡ at + r + length u = omega (arith, e) in
       rw (p, q)
 
+-- a line with this form starts at a place, where bytes that are no CR are wrong
+unfoldable pub soundAt : LineForm → ℕ → ℕ → ℕ → ℕ → List ℕ → Look
+soundAt form volume line at end t = cond (crHere t) (seenAt form at end) (foundAt (refusedAs 4 volume line) at end t)
+
 -- what stands at the end of the allowed bytes: a CR, nothing, or a wrong byte
-pub sound-is : (volume line at end : ℕ) (f g : LineForm) (v : List ℕ) → charOf v ≡ 0 → (length (upTo 13 v) ≡ 0 → g ≡ f) → foundAt (cond (allowed (upTo 13 v)) g (refusedAs 4 volume line)) at end v ≡ soundAt f volume line at end v
+sound-is : (volume line at end : ℕ) (f g : LineForm) (v : List ℕ) → charOf v ≡ 0 → (length (upTo 13 v) ≡ 0 → g ≡ f) → foundAt (cond (allowed (upTo 13 v)) g (refusedAs 4 volume line)) at end v ≡ soundAt f volume line at end v
 unfolding soundAt crHere foundAt upTo
 sound-is volume line at end f g [] z e = refl
 sound-is volume line at end f g (b ∷ s) z e = go (eqb b 13) refl
@@ -524,7 +520,7 @@ module _ (volume line at end : ℕ) (t : List ℕ) where
     pub look-over : length t ≤ k → lookFrom volume line at end t ≡ End
     look-over h = look-rest ∙ found-none (restForm volume line (at + n) (upTo 13 (drop n t))) at end t (omega (arith, cr-is))
 
-    pub look-short : k < length t → getD t k 0 ≡ 13 → seenAt (shortForm volume line (take (k - n) (drop n t))) (at + k) end ≡ lookFrom volume line at end t
+    pub look-short : k < length t → getD t k 0 ≡ 13 → seenAt (keylessForm volume line (bareKind (take (k - n) (drop n t)))) (at + k) end ≡ lookFrom volume line at end t
     look-short h e =
         let u = up-here t k h e in
         let l = ap length u in
@@ -535,7 +531,7 @@ module _ (volume line at end : ℕ) (t : List ℕ) where
         let part : m ≡ take (k - n) (drop n t) = sym (upTo-take 13 (drop n t)) ∙ ap (λ i. take i (drop n t)) size in
         sym
         (look-rest ∙ found-some (restForm volume line (at + n) m) at end t k (omega (arith, cr-is, l)) h
-        ∙ ap (λ f. seenAt f (at + k) end) (forms.rest-short volume line (at + n) m clean key ∙ ap (shortForm volume line) part))
+        ∙ ap (λ f. seenAt f (at + k) end) (forms.rest-short volume line (at + n) m clean key ∙ ap (λ u. keylessForm volume line (bareKind u)) part))
 
     pub look-wrong : k < length t → (getD t k 0 ≡ 13 → ⊥) → (getD t k 0 ≡ 61 → ⊥) → opensHere (drop k t) ≡ false → foundAt (refusedAs 4 volume line) (at + k) end (drop k t) ≡ lookFrom volume line at end t
     look-wrong h e f g =
@@ -560,16 +556,16 @@ module _ (volume line at end : ℕ) (t : List ℕ) where
         ∙ sound-is volume line (at + j) end (form (at + j)) g (drop j t) (w .stop) (λ z. let p : at + n + length m ≡ at + j = omega (arith, cr, rest, z) in ap form p))
 
     module _ (j : ℕ) where
-      pub look-equal : k < length t → getD t k 0 ≡ 61 → CleanRun t (k + 1) j → soundAt (equalForm volume line (at + n) (k - n) (at + j)) volume line (at + j) end (drop j t) ≡ lookFrom volume line at end t
+      pub look-equal : k < length t → getD t k 0 ≡ 61 → CleanRun t (k + 1) j → soundAt (sketchForm volume line (equalSketch (at + n) (k - n) (at + j))) volume line (at + j) end (drop j t) ≡ lookFrom volume line at end t
       look-equal h e w =
           let q = ap (upTo 13) (by-place t k h) ∙ up-more (getD t k 0) (drop (k + 1) t) (not-byte (λ b. eqb b 61) 13 (getD t k 0) refl (eq-eqb _ _ e)) in
           let l = ap length q in
           let i : k + 0 ≡ k = omega arith in
           let key : keyFrom t k ≡ equalAt k = ap (λ u. later k (keyEndOf (scan u))) q ∙ rw (eq-eqb _ _ e) (ap equalAt i) in
           let m = upTo 13 (drop n t) in
-          look-keyed 1 j (equalForm volume line (at + n) (k - n)) (forms.rest-equal volume line (at + n) m (k - n) (later-equal n k (keyEndOf (scan m)) (r .key ∙ key))) (omega (arith, l)) (ap allowed q ∙ rw e) w
+          look-keyed 1 j (λ cr. sketchForm volume line (equalSketch (at + n) (k - n) cr)) (forms.rest-equal volume line (at + n) m (k - n) (later-equal n k (keyEndOf (scan m)) (r .key ∙ key))) (omega (arith, l)) (ap allowed q ∙ rw e) w
 
-      pub look-brace : opensHere (drop k t) ≡ true → CleanRun t (k + 2) j → soundAt (braceForm volume line (at + n) (k - n) (at + j)) volume line (at + j) end (drop j t) ≡ lookFrom volume line at end t
+      pub look-brace : opensHere (drop k t) ≡ true → CleanRun t (k + 2) j → soundAt (sketchForm volume line (braceSketch (at + n) (k - n) (at + j))) volume line (at + j) end (drop j t) ≡ lookFrom volume line at end t
       unfolding upTo
       look-brace f w =
           let q = ap (upTo 13) (opens-bytes (drop k t) f ∙ ap (λ u. 58 ∷ 123 ∷ u) (drop-drop 2 k t)) in
@@ -577,7 +573,7 @@ module _ (volume line at end : ℕ) (t : List ℕ) where
           let i : k + 0 ≡ k = omega arith in
           let key : keyFrom t k ≡ braceAt k = ap (λ u. later k (keyEndOf (scan u))) q ∙ ap braceAt i in
           let m = upTo 13 (drop n t) in
-          look-keyed 2 j (braceForm volume line (at + n) (k - n)) (forms.rest-brace volume line (at + n) m (k - n) (later-brace n k (keyEndOf (scan m)) (r .key ∙ key))) (omega (arith, l)) (ap allowed q) w
+          look-keyed 2 j (λ cr. sketchForm volume line (braceSketch (at + n) (k - n) cr)) (forms.rest-brace volume line (at + n) m (k - n) (later-brace n k (keyEndOf (scan m)) (r .key ∙ key))) (omega (arith, l)) (ap allowed q) w
 
 -- ── the whole spool ──
 module _ (volume line at end : ℕ) (s : List ℕ) where

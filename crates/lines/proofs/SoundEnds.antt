@@ -5,15 +5,15 @@ use mathlib.Core.Bool.{Bool, true, false, cond, _&&_, _||_}
 use mathlib.Core.List.{List, [], _∷_}
 use mathlib.Core.Option.{Option, none, some}
 use native.Mathlib.Omega.{arith}
-use lib.Dec.{eqb, leb}
+use lib.Dec.{eqb, leb, ltb}
 use lib.ListN.{length, getD, take, drop, drop-of-length-le, length-drop}
 use lib.Seq.{drop-drop, getD-drop, take-all, take-nil}
-use borrow.Author.Tests.{eq-eqb, ne-eqb, le-leb, lt-leb, lt-ltb, le-ltb, eqb-true, eqb-false, leb-true, leb-false}
-use Rattle.rules.proofs.Chains.{and-false, clash}
+use borrow.Author.Tests.{eq-eqb, ne-eqb, le-leb, lt-leb, lt-ltb, le-ltb, eqb-true, eqb-false, leb-true, leb-false, ltb-true}
+use Rattle.rules.proofs.Chains.{and-left, and-right, and-false, clash}
 use Rattle.rules.specs.Base.{choose, all, isNil, isSome, mapO}
 use Rattle.rules.specs.Spool.{mostInLine, mostVolumes, headLine, linesFrom, shortLines, linesOf}
 use Rattle.leaves.proofs.Scan.{at}
-use Rattle.lines.specs.LineEnds.{endByte, plainRun, lastByte, unsoundFrom, firstUnsound}
+use Rattle.lines.specs.LineEnds.{endByte, plainRun, highByte, NoEnd, lastByte, unsoundFrom, firstUnsound}
 use Rattle.lines.specs.declared.Layout.{Layout}
 
 -- ── the run ──
@@ -34,6 +34,67 @@ pub run-le : (s : List ℕ) → plainRun s ≤ length s
 unfolding plainRun
 run-le [] = zero-le
 run-le (b ∷ s) = elim (endByte b) as (λ t. cond t 0 (suc (plainRun s)) ≤ suc (length s)) [ true ↦ zero-le | false ↦ omega (arith, run-le s) ]
+
+-- ── bytes that are greater, several at a time ──
+-- the three bytes are at most 26
+pub end-high : (b : ℕ) → 26 < b → endByte b ≡ false
+end-high b h = rw (ne-eqb b 13 (λ e. omega (arith, e)), ne-eqb b 26 (λ e. omega (arith, e)), ne-eqb b 10 (λ e. omega (arith, e)))
+
+run-high : (n : ℕ) (s : List ℕ) → n ≤ length s → all highByte (take n s) ≡ true → plainRun s ≡ n + plainRun (drop n s)
+unfolding plainRun
+run-high zero s h e = omega arith
+run-high (suc n) [] h e = absurd (omega arith)
+run-high (suc n) (b ∷ s) h e =
+    let f = end-high b (ltb-true 26 b (and-left (ltb 26 b) (all highByte (take n s)) e)) in
+    let ih = run-high n s (omega arith) (and-right (ltb 26 b) (all highByte (take n s)) e) in
+    rw f (omega (arith, ih))
+
+and-together : (a b c : Bool) → ((a && b) && c) ≡ (a && (b && c))
+and-together true b c = refl
+and-together false b c = refl
+
+all-take : (n m : ℕ) (s : List ℕ) → (all highByte (take n s) && all highByte (take m (drop n s))) ≡ all highByte (take (m + n) s)
+all-take zero m s = let e : m + 0 ≡ m = omega arith in rw e
+all-take (suc n) m [] = let e : m + suc n ≡ suc (m + n) = omega arith in rw e (ap (all highByte) (take-nil {A = ℕ} m))
+all-take (suc n) m (b ∷ s) =
+    let e : m + suc n ≡ suc (m + n) = omega arith in
+    rw e (and-together (highByte b) (all highByte (take n s)) (all highByte (take m (drop n s))) ∙ ap (λ t. highByte b && t) (all-take n m s))
+
+and-four : (a b c d : Bool) → ((a && b) && (c && d)) ≡ (a && (b && (c && (d && true))))
+and-four true true true true = refl
+and-four true true true false = refl
+and-four true true false d = refl
+and-four true false c d = refl
+and-four false b c d = refl
+
+-- the tests as the code makes them
+module _ (s : List ℕ) (i : ℕ) where
+  abbrev highAt : ℕ → Bool
+  highAt k = highByte (getD s k 0)
+
+  -- the byte at a place, and the bytes behind it
+  then-at : (k j : ℕ) → k + 1 ≡ j → k < length s → drop k s ≡ getD s k 0 ∷ drop j s
+  then-at k j e h = at s k h ∙ rw e
+
+  pub four-high : i + 4 ≤ length s → ((highAt i && highAt (i + 1)) && (highAt (i + 2) && highAt (i + 3))) ≡ all highByte (take 4 (drop i s))
+  four-high h =
+      let t₃ = then-at (i + 3) (i + 4) (omega arith) (omega arith) in
+      let t₂ = then-at (i + 2) (i + 3) (omega arith) (omega arith) ∙ ap (λ t. getD s (i + 2) 0 ∷ t) t₃ in
+      let t₁ = then-at (i + 1) (i + 2) (omega arith) (omega arith) ∙ ap (λ t. getD s (i + 1) 0 ∷ t) t₂ in
+      and-four (highAt i) (highAt (i + 1)) (highAt (i + 2)) (highAt (i + 3)) ∙ sym (ap (λ t. all highByte (take 4 t)) (at s i (omega arith) ∙ ap (λ t. getD s i 0 ∷ t) t₁))
+
+  pub eight-high : (all highByte (take 4 (drop i s)) && all highByte (take 4 (drop (i + 4) s))) ≡ all highByte (take 8 (drop i s))
+  eight-high = ap (λ t. all highByte (take 4 (drop i s)) && all highByte (take 4 t)) (sym (drop-drop 4 i s)) ∙ all-take 4 4 (drop i s)
+
+  pub no-end-yet : i ≤ length s → NoEnd s i i
+  no-end-yet h = record { low = omega arith; high = h; run = refl }
+
+  pub no-end-eight : (j : ℕ) → NoEnd s i j → j + 8 ≤ length s → all highByte (take 8 (drop j s)) ≡ true → NoEnd s i (j + 8)
+  no-end-eight j p h e =
+      let low = p .low in
+      let more = run-high 8 (drop j s) (omega (arith, length-drop j s)) e in
+      let d = ap plainRun (drop-drop 8 j s) in
+      record { low = omega arith; high = h; run = omega (arith, p .run, more, d) }
 
 -- ── the lines, where n bytes stand before the first of them ──
 abbrev short : List ℕ → Bool
@@ -164,9 +225,6 @@ unfolding linesOf
 sound-nothing s i h = rw (drop-of-length-le s h)
 
 -- the three bytes as the code tests them
-pub end-high : (b : ℕ) → 26 < b → endByte b ≡ false
-end-high b h = rw (ne-eqb b 13 (λ e. omega (arith, e)), ne-eqb b 26 (λ e. omega (arith, e)), ne-eqb b 10 (λ e. omega (arith, e)))
-
 pub end-cr : (b : ℕ) → b ≡ 13 → endByte b ≡ true
 end-cr b e = rw (eq-eqb b 13 e)
 

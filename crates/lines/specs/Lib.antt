@@ -3,3 +3,4 @@ pub mod VolumeNames
 pub mod VolumePlaces
 pub mod LineForms
 pub mod LineLook
+pub mod LineSketch

@@ -1,9 +1,10 @@
 -- Rule 3 by place; that it says what Spool.linesOf says is proved in proofs/SoundEnds.
-use Prim.Native.Nat.{ℕ, zero, suc, _+_}
+use Prim.Native.Nat.{ℕ, zero, suc, _+_, _≤_}
+use mathlib.Core.Path.{_≡_}
 use mathlib.Core.Bool.{Bool, false, cond, _&&_, _||_}
 use mathlib.Core.List.{List, [], _∷_}
 use lib.Dec.{eqb, ltb}
-use lib.ListN.{getD, take, drop}
+use lib.ListN.{length, getD, take, drop}
 use Rattle.rules.specs.Base.{isNil, isSome}
 use Rattle.rules.specs.Spool.{mostVolumes, linesOf}
 use Rattle.lines.specs.declared.Layout.{Layout}
@@ -16,6 +17,16 @@ endByte b = eqb b 13 || (eqb b 26 || eqb b 10)
 unfoldable pub plainRun : List ℕ → ℕ
 plainRun [] = 0
 plainRun (b ∷ s) = cond (endByte b) 0 (suc (plainRun s))
+
+-- greater than each of these
+abbrev pub highByte : ℕ → Bool
+highByte b = ltb 26 b
+
+-- between two places stands none of these
+pub record NoEnd (s : List ℕ) (i j : ℕ) : Type 0 where
+  pub low : i ≤ j
+  pub high : j ≤ length s
+  pub run : i + plainRun (drop i s) ≡ j + plainRun (drop j s)
 
 -- one byte 1A and no more, at a place where a line starts
 unfoldable pub lastByte : ℕ → ℕ → List ℕ → Bool

@@ -1,11 +1,11 @@
 -- The parts of a line's form that the code finds by place; that they are those of Lines is proved in proofs/LineForms.
-use Prim.Native.Nat.{ℕ, _+_, _-_, _≤_}
+use Prim.Native.Nat.{ℕ, _+_, _≤_}
 use mathlib.Core.Path.{_≡_}
 use mathlib.Core.Bool.{Bool, false, cond, _&&_, _||_, not}
 use mathlib.Core.List.{List, [], _∷_}
 use lib.Dec.{eqb}
 use lib.ListN.{length, drop}
-use Rattle.rules.specs.Base.{bytes, same, within}
+use Rattle.rules.specs.Base.{within}
 use Rattle.rules.specs.Lines.{Scan, neither, atEqual, atBrace, unindent, scan, allowed, singleByte, leadByte, trailByte, span, formOfRest, withPlaces}
 use Rattle.rules.specs.declared.LineForm.{LineForm}
 use Rattle.rules.specs.declared.LineForm.the-variants as L
@@ -100,28 +100,11 @@ pub record KeyRun (t : List ℕ) (i j : ℕ) : Type 0 where
 abbrev pub refusedAs : ℕ → ℕ → ℕ → LineForm
 refusedAs number volume line = L.Refused (record { number = number; volume = volume; line = line })
 
--- a line without a key
-unfoldable pub bareForm : ℕ → ℕ → List ℕ → LineForm
-bareForm volume line s = cond (same s (bytes "}")) L.Close (cond (same s (bytes "EOF")) L.Eof (refusedAs 5 volume line))
-
--- the same, and perhaps without anything
-unfoldable pub shortForm : ℕ → ℕ → List ℕ → LineForm
-shortForm volume line [] = L.Ignored
-shortForm volume line (b ∷ s) = bareForm volume line (b ∷ s)
-
 abbrev pub equalsAt : ℕ → ℕ → ℕ → ℕ → LineForm
 equalsAt at n rest len = L.Equals (record { key = span at n; rest = span rest len })
 
--- a key of n bytes at a place, with `=` behind it, in a line that runs to end
-unfoldable pub equalForm : ℕ → ℕ → ℕ → ℕ → ℕ → LineForm
-equalForm volume line at n end = cond (eqb n 0) (refusedAs 5 volume line) (equalsAt at n (at + n + 1) (end - (at + n + 1)))
-
 abbrev pub opensAt : ℕ → ℕ → LineForm
 opensAt at n = L.Opens (record { key = span at n })
-
--- the same with `:{`, behind which nothing may stand
-unfoldable pub braceForm : ℕ → ℕ → ℕ → ℕ → ℕ → LineForm
-braceForm volume line at n end = cond (eqb (at + n + 2) end) (cond (eqb n 0) (refusedAs 5 volume line) (opensAt at n)) (refusedAs 5 volume line)
 
 -- a line without its leading blanks, from the place of its first byte
 unfoldable pub restForm : ℕ → ℕ → ℕ → List ℕ → LineForm

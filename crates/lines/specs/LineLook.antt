@@ -9,7 +9,6 @@ use Rattle.rules.specs.Spool.{mostBytes, linesFrom}
 use Rattle.rules.specs.Lines.{lineFormOf}
 use Rattle.rules.specs.declared.LineForm.{LineForm}
 use Rattle.leaves.specs.Bytes.{upTo}
-use Rattle.lines.specs.LineForms.{refusedAs}
 use Rattle.lines.specs.declared.Look.{Look}
 use Rattle.lines.specs.declared.Look.the-variants.{End, Line}
 
@@ -24,10 +23,6 @@ foundAt form at end t = cond (ltb (length (upTo 13 t)) (length t)) (seenAt form 
 unfoldable pub crHere : List ℕ → Bool
 crHere [] = false
 crHere (b ∷ t) = eqb b 13
-
--- the same, where bytes that are no CR are wrong
-unfoldable pub soundAt : LineForm → ℕ → ℕ → ℕ → ℕ → List ℕ → Look
-soundAt form volume line at end t = cond (crHere t) (seenAt form at end) (foundAt (refusedAs 4 volume line) at end t)
 
 -- the line that starts a volume's last bytes: all before the first CR
 unfoldable pub lookFrom : ℕ → ℕ → ℕ → ℕ → List ℕ → Look

@@ -2,12 +2,13 @@
 use crate::CR;
 use crate::Layout;
 use crate::MOST_VOLUMES;
+use leaves::truth::both;
 ghost use mathlib.Core.Path.{_≡_};
 ghost use Prim.Native.Nat.{_+_, _<_, _≤_};
-ghost use lib.ListN.{length, take, drop};
-ghost use Rattle.rules.specs.Base.{isSome};
+ghost use lib.ListN.{length, getD, take, drop};
+ghost use Rattle.rules.specs.Base.{all, isSome};
 ghost use Rattle.rules.specs.Spool.{linesOf};
-ghost use Rattle.lines.specs.LineEnds.{endByte, plainRun, lastByte, firstUnsound};
+ghost use Rattle.lines.specs.LineEnds.{endByte, plainRun, highByte, NoEnd, lastByte, firstUnsound};
 
 const MOST_IN_LINE: usize = 512;
 
@@ -31,12 +32,54 @@ fn is_end(b: u8) -> bool
     b == LF
 }
 
+// Whether the byte at a place is greater than CR, LF and 1A.
+fn above(s: &[u8], i: usize) -> bool
+    requires { ⌜ i < length (now s) ⌝ }
+    ensures { λ r. ⌜ r ≡ highByte (getD (now (s .entry)) i 0) ⌝ }
+{
+    END < s[i]
+}
+
+// Whether four bytes are, from a place on.
+fn four_above(s: &[u8], i: usize) -> bool
+    requires { ⌜ i + 4 ≤ length (now s) ⌝ }
+    ensures { λ r. ⌜ r ≡ all highByte (take 4 (drop i (now (s .entry)))) ⌝ }
+{
+    both(
+        both(above(s, i), above(s, i + 1)),
+        both(above(s, i + 2), above(s, i + 3)),
+    )
+}
+
+// Whether eight are.
+fn eight_above(s: &[u8], i: usize) -> bool
+    requires { ⌜ i + 8 ≤ length (now s) ⌝ }
+    ensures { λ r. ⌜ r ≡ all highByte (take 8 (drop i (now (s .entry)))) ⌝ }
+{
+    both(four_above(s, i), four_above(s, i + 4))
+}
+
+// Over such bytes from a place on, eight at a time.
+fn skip_eights(s: &[u8], from: usize) -> usize
+    requires { ⌜ from ≤ length (now s) ⌝ }
+    ensures { λ r. ⌜ NoEnd (now (s .entry)) from r ⌝ }
+{
+    let mut i = from;
+    while 8 <= s.len() - i {
+        if !eight_above(s, i) {
+            return i;
+        }
+        i += 8;
+    }
+    i
+}
+
 // Where the first of these bytes stands from a place on, or the length.
 fn end_from(s: &[u8], from: usize) -> usize
     requires { ⌜ from ≤ length (now s) ⌝ }
     ensures { λ r. ⌜ r ≡ from + plainRun (drop from (now (s .entry))) ⌝ }
 {
-    let mut i = from;
+    let mut i = skip_eights(s, from);
     while i < s.len() {
         if is_end(s[i]) {
             return i;

@@ -17,14 +17,43 @@ ghost use mathlib.Core.Bool.{_||_};
 ghost use Prim.Native.Nat.{_+_, _<_, _≤_};
 ghost use lib.ListN.{length, drop};
 ghost use Rattle.rules.specs.Base.{within as inRange};
-ghost use Rattle.lines.specs.LineForms.{blankOf, Blanks, opensHere, charOf, keyChar, keyByte, Passed, KeyPassed, CleanRun, KeyRun, refusedAs, shortForm, bareForm, equalForm, braceForm};
-ghost use Rattle.lines.specs.LineLook.{seenAt, foundAt, crHere, soundAt, lookFrom, lookIn};
+ghost use Rattle.lines.specs.LineForms.{blankOf, Blanks, opensHere, charOf, keyChar, keyByte, Passed, KeyPassed, CleanRun, KeyRun, refusedAs};
+ghost use Rattle.lines.specs.LineLook.{seenAt, crHere, lookIn};
+ghost use Rattle.lines.specs.LineSketch.{keylessSketch, unreadSketch, bareKind, equalSketch, braceSketch, keylessForm, sketchForm, Sketched};
 
 const TAB: u8 = 9;
 
 const WIDE_LEAD: u8 = 129;
 
 const WIDE_TRAIL: u8 = 64;
+
+// The kinds of a sketch: no line, the forms of a line, and the two refusals: a byte that is not allowed (4), no form (5).
+const NO_LINE: u32 = 0;
+
+const IGNORED: u32 = 1;
+
+const CLOSE: u32 = 2;
+
+const EOF: u32 = 3;
+
+const OPENS: u32 = 4;
+
+const EQUALS: u32 = 5;
+
+const BAD_BYTES: u32 = 6;
+
+const NO_FORM: u32 = 7;
+
+// A line in plain numbers: its kind, the place and the size of its key, the place and the length of what stands behind its `=`, and the
+// place of its CR. Its form is made of them once, as forms that are made in many branches are copied through memory.
+struct Sketch {
+    kind: u32,
+    first: u32,
+    size: u32,
+    rest: u32,
+    len: u32,
+    cr: u32,
+}
 
 // How many bytes the blank at a place has; 0 where no blank stands there.
 fn blank_at(s: &[u8], i: usize) -> usize
@@ -208,6 +237,136 @@ fn key_run(t: &[u8], from: usize) -> usize
     i
 }
 
+// A line that is told by its kind and the place of its CR.
+fn keyless(kind: u32, cr: u32) -> Sketch
+    ensures { λ r. ⌜ r ≡ keylessSketch kind cr ⌝ }
+{
+    Sketch {
+        kind: kind,
+        first: 0,
+        size: 0,
+        rest: 0,
+        len: 0,
+        cr: cr,
+    }
+}
+
+// A line whose kind is known, from a place on: only its CR is searched.
+fn unread(kind: u32, t: &[u8], at: u32) -> Sketch
+    requires { ⌜ at + length (now t) ≤ 61440 ⌝ }
+    ensures { λ r. ⌜ r ≡ unreadSketch kind at (now (t .entry)) ⌝ }
+{
+    let n = find(t, CR);
+    if n == t.len() {
+        return keyless(NO_LINE, 0);
+    }
+    keyless(kind, at + n as u32)
+}
+
+// The kind of a line without a key, by its bytes behind the blanks.
+fn bare_kind(s: &[u8]) -> u32
+    ensures { λ r. ⌜ r ≡ bareKind (now (s .entry)) ⌝ }
+{
+    if s.len() == 0 {
+        return IGNORED;
+    }
+    if same(s, b"}") {
+        return CLOSE;
+    }
+    if same(s, b"EOF") {
+        return EOF;
+    }
+    NO_FORM
+}
+
+// A key with an `=` behind it, in a line that runs to its CR.
+fn equal_sketch(first: u32, size: u32, cr: u32) -> Sketch
+    requires { ⌜ first + size + 1 ≤ cr ⌝ }
+    ensures { λ r. ⌜ r ≡ equalSketch first size cr ⌝ }
+{
+    if size == 0 {
+        return keyless(NO_FORM, cr);
+    }
+    let rest = first + size + 1;
+    Sketch {
+        kind: EQUALS,
+        first: first,
+        size: size,
+        rest: rest,
+        len: cr - rest,
+        cr: cr,
+    }
+}
+
+// A key with a `:{` behind it: nothing may follow.
+fn brace_sketch(first: u32, size: u32, cr: u32) -> Sketch
+    requires { ⌜ first + size + 2 ≤ cr ⌝ }
+    ensures { λ r. ⌜ r ≡ braceSketch first size cr ⌝ }
+{
+    if size == 0 {
+        return keyless(NO_FORM, cr);
+    }
+    if first + size + 2 != cr {
+        return keyless(NO_FORM, cr);
+    }
+    Sketch {
+        kind: OPENS,
+        first: first,
+        size: size,
+        rest: 0,
+        len: 0,
+        cr: cr,
+    }
+}
+
+// Whether a CR stands at a place.
+fn cr_at(t: &[u8], i: usize) -> bool
+    ensures { λ r. ⌜ r ≡ crHere (drop i (now (t .entry))) ⌝ }
+{
+    if t.len() <= i {
+        return false;
+    }
+    t[i] == CR
+}
+
+// The line that starts a part of the spool, which runs to a volume's end.
+fn sketch_from(t: &[u8], at: u32) -> Sketch
+    requires { ⌜ at + length (now t) ≤ 61440 ⌝ }
+    ensures { λ r. ⌜ Sketched at (now (t .entry)) r ⌝ }
+{
+    if t.len() == 0 {
+        return keyless(NO_LINE, 0);
+    }
+    if t[0] == b'#' {
+        return unread(IGNORED, t, at);
+    }
+    let n = indent(t);
+    let k = key_run(t, n);
+    if t.len() <= k {
+        return keyless(NO_LINE, 0);
+    }
+    if t[k] == CR {
+        return keyless(bare_kind(&t[n..k]), at + k as u32);
+    }
+    let first = at + n as u32;
+    let size = (k - n) as u32;
+    if t[k] == b'=' {
+        let r = clean_run(t, k + 1);
+        if !cr_at(t, r) {
+            return unread(BAD_BYTES, &t[r..], at + r as u32);
+        }
+        return equal_sketch(first, size, at + r as u32);
+    }
+    if opens_at(t, k) {
+        let r = clean_run(t, k + 2);
+        if !cr_at(t, r) {
+            return unread(BAD_BYTES, &t[r..], at + r as u32);
+        }
+        return brace_sketch(first, size, at + r as u32);
+    }
+    unread(BAD_BYTES, &t[k..], at + k as u32)
+}
+
 fn refused(number: u8, volume: u8, line: u32) -> LineForm
     ensures { λ r. ⌜ r ≡ refusedAs number volume line ⌝ }
 {
@@ -218,61 +377,50 @@ fn refused(number: u8, volume: u8, line: u32) -> LineForm
     })
 }
 
-// A line without a key.
-fn bare_form(s: &[u8], volume: u8, line: u32) -> LineForm
-    ensures { λ r. ⌜ r ≡ bareForm volume line (now (s .entry)) ⌝ }
+// The form of a line without a key, by its kind.
+fn keyless_form(kind: u32, volume: u8, line: u32) -> LineForm
+    ensures { λ r. ⌜ r ≡ keylessForm volume line kind ⌝ }
 {
-    if same(s, b"}") {
+    if kind == IGNORED {
+        return LineForm::Ignored;
+    }
+    if kind == CLOSE {
         return LineForm::Close;
     }
-    if same(s, b"EOF") {
+    if kind == EOF {
         return LineForm::Eof;
+    }
+    if kind == BAD_BYTES {
+        return refused(4, volume, line);
     }
     refused(5, volume, line)
 }
 
-// A line without a key, and perhaps without anything.
-fn short_form(s: &[u8], volume: u8, line: u32) -> LineForm
-    ensures { λ r. ⌜ r ≡ shortForm volume line (now (s .entry)) ⌝ }
+// The form that a sketch tells.
+fn formed(f: Sketch, volume: u8, line: u32) -> LineForm
+    ensures { λ r. ⌜ r ≡ sketchForm volume line f ⌝ }
 {
-    if s.len() == 0 {
-        return LineForm::Ignored;
+    if f.kind == EQUALS {
+        return LineForm::Equals(Equation {
+            key: Span {
+                at: f.first,
+                len: f.size,
+            },
+            rest: Span {
+                at: f.rest,
+                len: f.len,
+            },
+        });
     }
-    bare_form(s, volume, line)
-}
-
-// A key with an `=` behind it, in a line that runs to a place.
-fn equal_form(at: u32, n: u32, end: u32, volume: u8, line: u32) -> LineForm
-    requires { ⌜ at + n + 1 ≤ end ⌝ }
-    ensures { λ r. ⌜ r ≡ equalForm volume line at n end ⌝ }
-{
-    if n == 0 {
-        return refused(5, volume, line);
+    if f.kind == OPENS {
+        return LineForm::Opens(Opener {
+            key: Span {
+                at: f.first,
+                len: f.size,
+            },
+        });
     }
-    let rest = at + n + 1;
-    LineForm::Equals(Equation {
-        key: Span { at: at, len: n },
-        rest: Span {
-            at: rest,
-            len: end - rest,
-        },
-    })
-}
-
-// A key with a `:{` behind it: nothing may follow.
-fn brace_form(at: u32, n: u32, end: u32, volume: u8, line: u32) -> LineForm
-    requires { ⌜ at + n + 2 ≤ end ⌝ }
-    ensures { λ r. ⌜ r ≡ braceForm volume line at n end ⌝ }
-{
-    if at + n + 2 != end {
-        return refused(5, volume, line);
-    }
-    if n == 0 {
-        return refused(5, volume, line);
-    }
-    LineForm::Opens(Opener {
-        key: Span { at: at, len: n },
-    })
+    keyless_form(f.kind, volume, line)
 }
 
 // A line with this form, its CR at a place.
@@ -286,87 +434,6 @@ fn seen(form: LineForm, cr: u32, end: u32) -> Look
         next: next,
         last: next + 1 == end,
     })
-}
-
-// A line whose form is known, from a place on: only its CR is searched.
-fn unread(form: LineForm, t: &[u8], at: u32, end: u32) -> Look
-    requires { ⌜ at + length (now t) ≤ 61440 ⌝ }
-    ensures { λ r. ⌜ r ≡ foundAt form at end (now (t .entry)) ⌝ }
-{
-    let n = find(t, CR);
-    if n == t.len() {
-        return Look::End;
-    }
-    seen(form, at + n as u32, end)
-}
-
-// Whether a CR stands at a place.
-fn cr_at(t: &[u8], i: usize) -> bool
-    ensures { λ r. ⌜ r ≡ crHere (drop i (now (t .entry))) ⌝ }
-{
-    if t.len() <= i {
-        return false;
-    }
-    t[i] == CR
-}
-
-// A line with this form, if no byte of it up to its CR is wrong: the allowed ones reach to r.
-fn sound(form: LineForm, t: &[u8], r: usize, at: u32, end: u32, volume: u8, line: u32) -> Look
-    requires { ⌜ (r ≤ length (now t)) × (at + length (now t) ≤ 61440) ⌝ }
-    ensures { λ a. ⌜ a ≡ soundAt form volume line (at + r) end (drop r (now (t .entry))) ⌝ }
-{
-    if cr_at(t, r) {
-        return seen(form, at + r as u32, end);
-    }
-    unread(refused(4, volume, line), &t[r..], at + r as u32, end)
-}
-
-// The line that starts a part of the spool, which runs to a volume's end.
-fn look_from(t: &[u8], at: u32, end: u32, volume: u8, line: u32) -> Look
-    requires { ⌜ at + length (now t) ≤ 61440 ⌝ }
-    ensures { λ r. ⌜ r ≡ lookFrom volume line at end (now (t .entry)) ⌝ }
-{
-    if t.len() == 0 {
-        return Look::End;
-    }
-    if t[0] == b'#' {
-        return unread(LineForm::Ignored, t, at, end);
-    }
-    let n = indent(t);
-    let k = key_run(t, n);
-    if t.len() <= k {
-        return Look::End;
-    }
-    if t[k] == CR {
-        return seen(short_form(&t[n..k], volume, line), at + k as u32, end);
-    }
-    let first = at + n as u32;
-    let size = (k - n) as u32;
-    if t[k] == b'=' {
-        let r = clean_run(t, k + 1);
-        return sound(
-            equal_form(first, size, at + r as u32, volume, line),
-            t,
-            r,
-            at,
-            end,
-            volume,
-            line,
-        );
-    }
-    if opens_at(t, k) {
-        let r = clean_run(t, k + 2);
-        return sound(
-            brace_form(first, size, at + r as u32, volume, line),
-            t,
-            r,
-            at,
-            end,
-            volume,
-            line,
-        );
-    }
-    unread(refused(4, volume, line), &t[k..], at + k as u32, end)
 }
 
 // The line that starts at a place of a volume, which runs to `end`; places that are none of the spool are those of no line.
@@ -385,5 +452,10 @@ pub fn look(s: &[u8], at: u32, end: u32, volume: u8, line: u32) -> Look
     if to < from {
         return Look::End;
     }
-    look_from(&s[from..to], at, end, volume, line)
+    let f = sketch_from(&s[from..to], at);
+    if f.kind == NO_LINE {
+        return Look::End;
+    }
+    let cr = f.cr;
+    seen(formed(f, volume, line), cr, end)
 }

@@ -12,11 +12,11 @@ use account::Where;
 use drawing::blocks::at_block;
 use drawing::skip::skip_block;
 use drawing::walk::next_line;
+use leaves::truth::both;
 use rules::Digits;
 use rules::LineForm;
 use rules::Refusal;
 ghost use mathlib.Core.Path.{_≡_};
-ghost use mathlib.Core.Bool.{_&&_};
 ghost use Rattle.steps.specs.VolumeLines.{eofForm, closeForm, ignoredForm, afterElement, completesOf, nextNow, lastStep};
 ghost use Rattle.standing.specs.Standing.{desk};
 ghost use Rattle.standing.specs.Reading.{throughOf, stopOf, VolumeReady, VolumePromise};
@@ -122,15 +122,6 @@ fn at_last(complete: bool, did: Step) -> Step
     }
 }
 
-fn both_true(a: bool, b: bool) -> bool
-    ensures { λ r. ⌜ r ≡ (a && b) ⌝ }
-{
-    if a {
-        return b;
-    }
-    false
-}
-
 fn refused(v: Volume, number: u8, line: u32) -> Through
     ensures { λ r. ⌜ r ≡ stopOf v number line ⌝ }
 {
@@ -189,7 +180,7 @@ pub fn read_volume(
         let place = Where {
             volume: v.number,
             line: line + 1,
-            ends: both_true(last_volume, seen.last),
+            ends: both(last_volume, seen.last),
         };
         let did = step(
             s,

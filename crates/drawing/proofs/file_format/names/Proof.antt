@@ -11,7 +11,7 @@ use Rattle.drawing.proofs.file_format.names.Statement.{statement}
 use Rattle.drawing.proofs.file_format.names.Tie as tie
 use Rattle.drawing.proofs.file_format.names.Reads as reads
 use Rattle.drawing.proofs.file_format.names.Lts as lts
-use Rattle.drawing.proofs.file_format.capital.Reads as capital-reads
+use Rattle.leaves.proofs.bytes.capital.Reads as capital-reads
 
 abbrev Inv-loop : tie.InvT-loop
 Inv-loop c name i₀ i = (i ≤ length c) × (length c ≡ length name) × (same (map capital c) name ≡ same (map capital (drop i c)) (drop i name))

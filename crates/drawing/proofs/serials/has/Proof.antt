@@ -3,13 +3,14 @@ use Prim.Native.Nat.{_≤_, _-_}
 use mathlib.Core.Path.{_≡_, refl, sym, _∙_}
 use native.Mathlib.Omega.{arith}
 use lib.ListN.{length, drop}
-use borrow.Author.Tests.{not-true, not-false}
-use Rattle.rules.specs.Base.{hasNumber, all}
-use Rattle.drawing.proofs.MarkScan.{number-hit, number-miss, number-end, mark-hit, mark-miss, mark-end}
+use Rattle.rules.specs.Base.{hasNumber}
+use Rattle.drawing.proofs.MarkScan.{eight-hit, eight-miss}
 use Rattle.drawing.proofs.serials.has.Statement.{statement}
 use Rattle.drawing.proofs.serials.has.Tie as tie
 use Rattle.drawing.proofs.serials.has.Reads as reads
 use Rattle.drawing.proofs.serials.has.Lts as lts
+use Rattle.drawing.proofs.serials.has_from.Reads as has-from-reads
+use Rattle.drawing.proofs.serials.in_eight.Reads as in-eight-reads
 
 abbrev Inv-loop : tie.InvT-loop
 Inv-loop serials n i₀ i = (i ≤ length serials) × (hasNumber n serials ≡ hasNumber n (drop i serials))
@@ -20,14 +21,14 @@ abbrev μ-loop : tie.MeasureT-loop
 loop-holds : tie.Need-loop-holds Inv-loop μ-loop
 loop-holds c = (omega arith, refl)
 
-mul-if1 : tie.Need-mul-if1 Inv-loop μ-loop
-mul-if1 c = search needs
+sub-loop : tie.Need-sub-loop Inv-loop μ-loop
+sub-loop c = omega arith
 
-shared-slice-read-if1 : tie.Need-shared-slice-read-if1 Inv-loop μ-loop
-shared-slice-read-if1 c = omega arith
+in-eight-requires : tie.Need-in-eight-requires Inv-loop μ-loop
+in-eight-requires c κs = omega arith
 
 returns : tie.Need-returns Inv-loop μ-loop
-returns c = sym (c .before .before .before .loop .inv .1 ∙ number-hit (c .before .before .before .before .args .n) (c .before .before .before .before .args .serials .now) (c .before .before .before .loop .i) (c .before .before .loop-test .taken) (c .if1 .taken))
+returns c = sym (c .before .before .before .loop .inv .1 ∙ eight-hit (c .before .before .before .before .before .args .n) (c .before .before .before .before .before .args .serials .now) (c .before .before .before .loop .i) (sym (c .before .in-eight .ensures) ∙ c .if1 .taken))
 
 add-i : tie.Need-add-i Inv-loop μ-loop
 add-i c = omega arith
@@ -36,10 +37,13 @@ loop-less : tie.Need-loop-less Inv-loop μ-loop
 loop-less c = omega arith
 
 loop-again : tie.Need-loop-again Inv-loop μ-loop
-loop-again c = (omega arith, c .before .before .before .loop .inv .1 ∙ number-miss (c .before .before .before .before .args .n) (c .before .before .before .before .args .serials .now) (c .before .before .before .loop .i) (c .before .before .loop-test .taken) (c .if1 .left))
+loop-again c = (omega arith, c .before .before .before .loop .inv .1 ∙ eight-miss (c .before .before .before .before .before .args .n) (c .before .before .before .before .before .args .serials .now) (c .before .before .before .loop .i) (sym (c .before .in-eight .ensures) ∙ c .if1 .left))
+
+has-from-requires : tie.Need-has-from-requires Inv-loop μ-loop
+has-from-requires c κs = search needs
 
 returns-2 : tie.Need-returns-2 Inv-loop μ-loop
-returns-2 c = sym (c .before .loop .inv .1 ∙ number-end (c .before .before .args .n) (c .before .before .args .serials .now) (c .before .loop .i) (c .loop-test .left))
+returns-2 c = c .has-from .ensures ∙ sym (c .before .before .loop .inv .1)
 
 pub has-spec : {M : Type 1} → statement M
 has-spec =
@@ -48,10 +52,11 @@ has-spec =
     Inv-loop
     μ-loop
     loop-holds
-    mul-if1
-    shared-slice-read-if1
+    sub-loop
+    in-eight-requires
     returns
     add-i
     loop-less
     loop-again
+    has-from-requires
     returns-2)

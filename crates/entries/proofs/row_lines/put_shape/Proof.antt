@@ -1,98 +1,76 @@
-use mathlib.Core.Path.{refl}
+use mathlib.Core.Path.{sym, _∙_}
 use lib.ListN.{length}
-use Rattle.rules.specs.Lines.{bytesAt}
-use Rattle.rules.specs.Values.{Value, readKind}
-use Rattle.rules.specs.Rows.{entry, begin, innerOf}
-use Rattle.tables.specs.Rows.{kindOf, ruleOf}
-use Rattle.entries.specs.Names.{knownIn}
-use Rattle.entries.proofs.LineActs.{room-state, shape-put}
 use borrow.Author.Needs.{needs}
+use Rattle.tables.specs.Rows.{ruleOf}
+use Rattle.entries.specs.Names.{knownIn}
+use Rattle.entries.proofs.LineActs.{room-state, opener-puts, empty-puts, formless-puts, content-puts}
 use Rattle.entries.proofs.row_lines.put_shape.Statement.{statement}
 use Rattle.entries.proofs.row_lines.put_shape.Tie as tie
 use Rattle.entries.proofs.row_lines.put_shape.Reads as reads
 use Rattle.entries.proofs.row_lines.put_shape.Lts as lts
 use Rattle.entries.proofs.row_lines.put_content.Reads as put-content-reads
 use Rattle.entries.proofs.row_lines.put_state.Reads as put-state-reads
+use Rattle.entries.proofs.shapes.sort_of.Reads as sort-of-reads
+use Rattle.entries.proofs.shapes.span_of.Reads as span-of-reads
 
-enum-told : tie.Need-enum-told
-enum-told c = search needs
+sort-of-requires : tie.Need-sort-of-requires
+sort-of-requires c κs = search needs
+
+returns : tie.Need-returns
+returns c =
+    let a = c .before .before .before .before .before .args in
+    formless-puts (knownIn (a .s .now) (a .symbols .now) (a .layers .now)) (a .row .number) (ruleOf (a .row)) (a .dump) (a .rec .now) _ (a .s .now) (a .shape) (sym (c .before .sort-of .ensures) ∙ c .if1 .taken)
 
 put-state-requires : tie.Need-put-state-requires
-put-state-requires c κs = room-state (c .before .before .before .before .before .before .args .dump) (length (c .before .before .before .before .before .before .args .rec .now)) (ruleOf (c .before .before .before .before .before .before .args .row)) (c .before .before .before .before .before .before .pre .3)
-
-enum-told-2 : tie.Need-enum-told-2
-enum-told-2 c = search needs
-
-put-state-requires-2 : tie.Need-put-state-requires-2
-put-state-requires-2 c κs = room-state (c .before .before .before .before .before .before .args .dump) (length (c .before .before .before .before .before .before .args .rec .now)) (ruleOf (c .before .before .before .before .before .before .args .row)) (c .before .before .before .before .before .before .pre .3)
-
-enum-known-shape : tie.Need-enum-known-shape
-enum-known-shape c = search needs
-
-put-content-requires : tie.Need-put-content-requires
-put-content-requires c κs = search needs
-
-enum-known-shape-2 : tie.Need-enum-known-shape-2
-enum-known-shape-2 c = search needs
-
-put-content-requires-2 : tie.Need-put-content-requires-2
-put-content-requires-2 c κs = search needs
-
-enum-told-3 : tie.Need-enum-told-3
-enum-told-3 c = search needs
+put-state-requires c κs = room-state (c .before .before .before .before .before .before .before .args .dump) (length (c .before .before .before .before .before .before .before .args .rec .now)) (ruleOf (c .before .before .before .before .before .before .before .args .row)) (c .before .before .before .before .before .before .before .pre .3)
 
 same-length : tie.Need-same-length
 same-length c = search needs
 
-returns : tie.Need-returns
-returns c = rw (c .before .before .before .enum-told .given .1) (record { eq = refl; filled = c .before .put-state .ensures })
+returns-2 : tie.Need-returns-2
+returns-2 c =
+    let a = c .before .before .before .before .before .before .before .before .before .args in
+    opener-puts (knownIn (a .s .now) (a .symbols .now) (a .layers .now)) (a .row .number) (ruleOf (a .row)) (a .dump) (a .rec .now) _ (a .s .now) (a .shape) (sym (c .before .before .before .before .before .sort-of .ensures) ∙ c .before .before .before .if2 .taken) (c .before .put-state .ensures)
+
+put-state-requires-2 : tie.Need-put-state-requires-2
+put-state-requires-2 c κs = room-state (c .before .before .before .before .before .before .before .before .args .dump) (length (c .before .before .before .before .before .before .before .before .args .rec .now)) (ruleOf (c .before .before .before .before .before .before .before .before .args .row)) (c .before .before .before .before .before .before .before .before .pre .3)
 
 same-length-2 : tie.Need-same-length-2
 same-length-2 c = search needs
 
-returns-2 : tie.Need-returns-2
-returns-2 c = rw (c .before .before .before .enum-told2 .given .1) (record { eq = refl; filled = c .before .put-state2 .ensures })
+returns-3 : tie.Need-returns-3
+returns-3 c =
+    let a = c .before .before .before .before .before .before .before .before .before .before .args in
+    empty-puts (knownIn (a .s .now) (a .symbols .now) (a .layers .now)) (a .row .number) (ruleOf (a .row)) (a .dump) (a .rec .now) _ (a .s .now) (a .shape) (sym (c .before .before .before .before .before .before .sort-of .ensures) ∙ c .before .before .before .if3 .taken) (c .before .put-state2 .ensures)
+
+span-of-requires : tie.Need-span-of-requires
+span-of-requires c κs = search needs
+
+put-content-requires : tie.Need-put-content-requires
+put-content-requires c κs = search needs
 
 same-length-3 : tie.Need-same-length-3
 same-length-3 c = search needs
 
-returns-3 : tie.Need-returns-3
-returns-3 c =
-    let a = c .before .before .before .before .before .before .before .before .before .args in
-    let p = c .before .before .before .before .shape .given .0 .0 in
-    rw (c .before .before .before .before .shape .given .1) (shape-put (entry (a .row .number)) (λ (v : Value). refl) (readKind (knownIn (c .before .before .before .before .before .before .before .before .before .args .s .now) (c .before .before .before .before .before .before .before .before .before .args .symbols .now) (c .before .before .before .before .before .before .before .before .before .args .layers .now)) (kindOf (a .row)) (p .at) (bytesAt (a .s .now) p)) (ruleOf (a .row)) (a .dump) (a .rec .now) _ _ (c .before .put-content .ensures))
-
-same-length-4 : tie.Need-same-length-4
-same-length-4 c = search needs
-
 returns-4 : tie.Need-returns-4
 returns-4 c =
-    let a = c .before .before .before .before .before .before .before .before .before .args in
-    let p = c .before .before .before .before .shape2 .given .0 .0 in
-    rw (c .before .before .before .before .shape2 .given .1) (shape-put (begin (innerOf (kindOf (a .row))) (a .row .number)) (λ (v : Value). refl) (readKind (knownIn (c .before .before .before .before .before .before .before .before .before .args .s .now) (c .before .before .before .before .before .before .before .before .before .args .symbols .now) (c .before .before .before .before .before .before .before .before .before .args .layers .now)) (kindOf (a .row)) (p .at) (bytesAt (a .s .now) p)) (ruleOf (a .row)) (a .dump) (a .rec .now) _ _ (c .before .put-content2 .ensures))
-
-returns-5 : tie.Need-returns-5
-returns-5 c = rw (c .enum-told3 .given .1) (record { eq = refl; filled = tt })
+    let a = c .before .before .before .before .before .before .before .before .before .before .before .args in
+    let e = c .before .before .before .before .before .before .before .sort-of .ensures in
+    content-puts (knownIn (a .s .now) (a .symbols .now) (a .layers .now)) (a .row .number) (ruleOf (a .row)) (a .dump) (a .rec .now) _ (a .s .now) (a .shape) _ (λ n. c .before .before .before .before .before .before .if1 .left (e ∙ n)) (λ n. c .before .before .before .before .before .if2 .left (e ∙ n)) (λ n. c .before .before .before .before .if3 .left (e ∙ n)) (rw (c .before .before .before .span-of .ensures) at (c .before .put-content .ensures))
 
 pub put-shape-spec : {M : Type 1} → statement M
 put-shape-spec =
     tie.close
     (tie.spec
-    enum-told
-    put-state-requires
-    enum-told-2
-    put-state-requires-2
-    enum-known-shape
-    put-content-requires
-    enum-known-shape-2
-    put-content-requires-2
-    enum-told-3
-    same-length
+    sort-of-requires
     returns
-    same-length-2
+    put-state-requires
+    same-length
     returns-2
-    same-length-3
+    put-state-requires-2
+    same-length-2
     returns-3
-    same-length-4
-    returns-4
-    returns-5)
+    span-of-requires
+    put-content-requires
+    same-length-3
+    returns-4)

@@ -13,8 +13,11 @@ Inv-loop s from i₀ i = (i ≤ length s) × (from + plainRun (drop from s) ≡ 
 abbrev μ-loop : tie.MeasureT-loop
 μ-loop s from i₀ i = length s - i
 
+skip-eights-requires : tie.Need-skip-eights-requires Inv-loop μ-loop
+skip-eights-requires c κs = c .before .pre
+
 loop-holds : tie.Need-loop-holds Inv-loop μ-loop
-loop-holds c = (c .before .pre, omega arith)
+loop-holds c = (c .skip-eights .ensures .high, c .skip-eights .ensures .run)
 
 shared-slice-read-is-end : tie.Need-shared-slice-read-is-end Inv-loop μ-loop
 shared-slice-read-is-end c = omega arith
@@ -23,7 +26,7 @@ is-end-requires : tie.Need-is-end-requires Inv-loop μ-loop
 is-end-requires c κs = tt
 
 returns : tie.Need-returns Inv-loop μ-loop
-returns c = omega (arith, c .before .before .before .before .loop .inv .1, laws.run-stop (c .before .before .before .before .before .before .args .s .now) (c .before .before .before .before .loop .i) (c .before .before .before .loop-test .taken) (sym (c .before .is-end .ensures) ∙ c .if1 .taken))
+returns c = omega (arith, c .before .before .before .before .loop .inv .1, laws.run-stop (c .before .before .before .before .before .before .before .args .s .now) (c .before .before .before .before .loop .i) (c .before .before .before .loop-test .taken) (sym (c .before .is-end .ensures) ∙ c .if1 .taken))
 
 add-i : tie.Need-add-i Inv-loop μ-loop
 add-i c = omega arith
@@ -32,10 +35,10 @@ loop-less : tie.Need-loop-less Inv-loop μ-loop
 loop-less c = omega arith
 
 loop-again : tie.Need-loop-again Inv-loop μ-loop
-loop-again c = (omega arith, omega (arith, c .before .before .before .before .loop .inv .1, laws.run-more (c .before .before .before .before .before .before .args .s .now) (c .before .before .before .before .loop .i) (c .before .before .before .loop-test .taken) (sym (c .before .is-end .ensures) ∙ c .if1 .left)))
+loop-again c = (omega arith, omega (arith, c .before .before .before .before .loop .inv .1, laws.run-more (c .before .before .before .before .before .before .before .args .s .now) (c .before .before .before .before .loop .i) (c .before .before .before .loop-test .taken) (sym (c .before .is-end .ensures) ∙ c .if1 .left)))
 
 returns-2 : tie.Need-returns-2 Inv-loop μ-loop
-returns-2 c = omega (arith, c .before .loop .inv .1, laws.run-end (c .before .before .before .args .s .now) (c .before .loop .i) (c .loop-test .left))
+returns-2 c = omega (arith, c .before .loop .inv .1, laws.run-end (c .before .before .before .before .args .s .now) (c .before .loop .i) (c .loop-test .left))
 
 pub end-from-spec : {M : Type 1} → statement M
 end-from-spec =
@@ -43,6 +46,7 @@ end-from-spec =
     (tie.spec
     Inv-loop
     μ-loop
+    skip-eights-requires
     loop-holds
     shared-slice-read-is-end
     is-end-requires

@@ -1,10 +1,10 @@
 use native.Mathlib.Omega.{arith}
-use Rattle.account.proofs.FileParts.{capital-low, capital-high, capital-small}
+use Rattle.leaves.proofs.Capitals.{capital-low, capital-high, capital-small}
 use borrow.Author.Needs.{needs}
-use Rattle.drawing.proofs.file_format.capital.Statement.{statement}
-use Rattle.drawing.proofs.file_format.capital.Tie as tie
-use Rattle.drawing.proofs.file_format.capital.Reads as reads
-use Rattle.drawing.proofs.file_format.capital.Lts as lts
+use Rattle.leaves.proofs.bytes.capital.Statement.{statement}
+use Rattle.leaves.proofs.bytes.capital.Tie as tie
+use Rattle.leaves.proofs.bytes.capital.Reads as reads
+use Rattle.leaves.proofs.bytes.capital.Lts as lts
 
 returns : tie.Need-returns
 returns c = capital-low _ (c .if1 .taken)
