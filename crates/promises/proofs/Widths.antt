@@ -2,55 +2,29 @@
 use Prim.Native.Nat.{ℕ, zero, suc, _+_, _*_, _-_, _≤_}
 use mathlib.Core.Bool.{Bool, true, false}
 use mathlib.Core.List.{List, [], _∷_, _++_, map}
-use mathlib.Core.Option.{Option, some}
+use mathlib.Core.Option.{some}
 use mathlib.Core.Path.{_≡_, refl, _∙_, ap}
 use native.Mathlib.Omega.{arith}
 use lib.IntN.{ℤ}
 use lib.Dec.{eqb}
-use lib.ListN.{length, take, drop, replicate, length-set, length-append, length-take, length-drop, length-replicate}
-use lib.Seq.{length-sets, take-append-add}
+use lib.ListN.{length, take, drop, replicate, length-append, length-take, length-drop, length-replicate}
+use lib.Seq.{take-append-add}
 use Rattle.rules.specs.declared.Digits.{Digits}
 use Rattle.rules.specs.Base.{flat}
-use Rattle.rules.specs.RangeClass.{digits, hides}
-use Rattle.rules.specs.Values.{Value, nums}
-use Rattle.rules.specs.Rows.{Rule, Slots, Held, partOf}
+use Rattle.rules.specs.RangeClass.{digits}
+use Rattle.rules.specs.Values.{nums}
+use Rattle.rules.specs.Rows.{Rule, Held}
 use Rattle.rules.specs.Blocks.{fileTables, drawingTable, symbolTable}
 use Rattle.rules.specs.Figures.{layerTable, figureTable, pointTable, textTable, placedTable, placedTables}
 use Rattle.rules.specs.Sets.{Point, Figure, plain, chain, lettering, placed, Layer, Symbol, Contents, Set, rangeOf, isSingle}
-use Rattle.rules.specs.RecordTable.{putNumbers, putState, putSlot, firstSlot, otherSlots, putSlots, putParts, putHeld, unreadState, markUnread, start, twoOf, fileRecords, layerRecords, ruleAt, pointRecords, figureRecords, innerRecords, symbolRecords, bodyRecords, laterRecords, recordsFrom, recordsOf}
+use Rattle.rules.specs.RecordTable.{putHeld, markUnread, start, twoOf, fileRecords, layerRecords, ruleAt, pointRecords, figureRecords, innerRecords, symbolRecords, bodyRecords, laterRecords, recordsFrom, recordsOf}
 use Rattle.rules.proofs.Chains.{by-cond}
+use Rattle.rules.proofs.RecordLengths.{length-slot, length-slots, length-parts, length-unread}
 use Rattle.promises.specs.DemandOne.{Wide, noRecord, oneMore}
 
 -- ── what is put into a record ──
-numbers-length : (p : ℕ) (zs t : List ℤ) → length (putNumbers p zs t) ≡ length t
-numbers-length zero zs t = refl
-numbers-length (suc p) zs t = length-sets t (suc p) zs
-
-state-length : (q : ℕ) (z : ℤ) (t : List ℤ) → length (putState q z t) ≡ length t
-state-length zero z t = refl
-state-length (suc q) z t = length-set t (suc q) z
-
-slot-length : (r : Rule) (o : Option Value) (t : List ℤ) → length (putSlot r o t) ≡ length t
-slot-length r o t = state-length (r .state) _ _ ∙ numbers-length (r .place) _ t
-
-slots-length : (rs : List Rule) (s : Slots) (t : List ℤ) → length (putSlots rs s t) ≡ length t
-slots-length [] s t = refl
-slots-length (r ∷ rs) s t = slot-length r (firstSlot s) _ ∙ slots-length rs (otherSlots s) t
-
-parts-length : (p : ℕ) (ts : List (List Rule)) (h : Held) (t : List ℤ) → length (putParts p ts h t) ≡ length t
-parts-length p [] h t = refl
-parts-length p (r ∷ rs) h t = slots-length r (partOf h p) _ ∙ parts-length (suc p) rs h t
-
-unread-one : (q : ℕ) (b : Bool) (t : List ℤ) → length (unreadState q b t) ≡ length t
-unread-one zero b t = refl
-unread-one (suc q) b t = length-set t (suc q) _
-
-unread-length : (c d : Digits) (rs : List Rule) (t : List ℤ) → length (markUnread c d rs t) ≡ length t
-unread-length c d [] t = refl
-unread-length c d (r ∷ rs) t = unread-one (r .state) (hides c d (r .least)) _ ∙ unread-length c d rs t
-
 placed-length : (c d : Digits) (h : Held) (t : List ℤ) → length (markUnread c d placedTable (putHeld placedTables h t)) ≡ length t
-placed-length c d h t = unread-length c d placedTable _ ∙ parts-length 0 placedTables h t
+placed-length c d h t = length-unread c d placedTable _ ∙ length-parts 0 placedTables h t
 
 -- ── lists of records ──
 wide-append : (a b : List (List ℤ)) → Wide a → Wide b → Wide (a ++ b)
@@ -68,17 +42,17 @@ flat-length (r ∷ rs) (oneMore e w) = omega (arith, length-append r (flat rs), 
 -- ── the records of a set ──
 wide-points : (kind owner volume : ℕ) (ps : List Point) → Wide (pointRecords kind owner volume ps)
 wide-points kind owner volume [] = noRecord
-wide-points kind owner volume (p ∷ ps) = oneMore (slot-length (ruleAt (pointTable true) 0) (some (nums (p .values))) _) (wide-points kind owner volume ps)
+wide-points kind owner volume (p ∷ ps) = oneMore (length-slot (ruleAt (pointTable true) 0) (some (nums (p .values))) _) (wide-points kind owner volume ps)
 
 wide-figure : (c d : Digits) (t : List Rule) (more owner volume : ℕ) (f : Figure) → Wide (figureRecords c d t more owner volume f)
 wide-figure c d t more owner volume (plain n j v) =
     oneMore
     (by-cond (λ (l : List ℤ). length l ≡ 32) (eqb j 6)
     (λ _. placed-length c d ((some (nums v) ∷ []) ∷ []) (start (16 + more) owner volume n))
-    (λ _. slot-length (ruleAt t j) (some (nums v)) _))
+    (λ _. length-slot (ruleAt t j) (some (nums v)) _))
     noRecord
 wide-figure c d t more owner volume (chain n ps) = oneMore refl (wide-points (17 + more) owner volume ps)
-wide-figure c d t more owner volume (lettering n s) = oneMore (slots-length (textTable true 4 12) s _) noRecord
+wide-figure c d t more owner volume (lettering n s) = oneMore (length-slots (textTable true 4 12) s _) noRecord
 wide-figure c d t more owner volume (placed n h) = oneMore (placed-length c d h _) noRecord
 
 wide-inner : (n : ℕ) (y : Symbol) → Wide (innerRecords n y)
@@ -89,7 +63,7 @@ wide-inner n y =
 
 wide-symbols : (n : ℕ) (ys : List Symbol) → Wide (symbolRecords n ys)
 wide-symbols n [] = noRecord
-wide-symbols n (y ∷ ys) = oneMore (slots-length symbolTable (y .own) _) (wide-append (innerRecords n y) _ (wide-inner n y) (wide-symbols (suc n) ys))
+wide-symbols n (y ∷ ys) = oneMore (length-slots symbolTable (y .own) _) (wide-append (innerRecords n y) _ (wide-inner n y) (wide-symbols (suc n) ys))
 
 wide-layers : (n : ℕ) (ls : List Layer) → Wide (layerRecords n ls)
 wide-layers n [] = noRecord
@@ -106,8 +80,8 @@ wide-two t e =
     oneMore first (oneMore second noRecord)
 
 wide-file : (b : Bool) (k : ℕ) (v : Contents) → Wide (fileRecords b k v)
-wide-file true k v = wide-two (putHeld (fileTables true) (v .file) (start 1 0 k (v .line) ++ start 2 0 k (v .line))) (parts-length 0 (fileTables true) (v .file) (start 1 0 k (v .line) ++ start 2 0 k (v .line)))
-wide-file false k v = oneMore (parts-length 0 (fileTables false) (v .file) _) noRecord
+wide-file true k v = wide-two (putHeld (fileTables true) (v .file) (start 1 0 k (v .line) ++ start 2 0 k (v .line))) (length-parts 0 (fileTables true) (v .file) (start 1 0 k (v .line) ++ start 2 0 k (v .line)))
+wide-file false k v = oneMore (length-parts 0 (fileTables false) (v .file) _) noRecord
 
 wide-later : (c d : Digits) (t : List Rule) (k : ℕ) (vs : List Contents) → Wide (laterRecords c d t k vs)
 wide-later c d t k [] = noRecord
@@ -122,7 +96,7 @@ wide-from c s (v ∷ vs) =
     wide-append _ _
     (wide-append _ _
     (wide-append _ _
-    (wide-append (fileRecords true 1 v) _ (wide-file true 1 v) (oneMore (slots-length drawingTable (s .drawing .own) _) (wide-layers 0 (s .drawing .layers))))
+    (wide-append (fileRecords true 1 v) _ (wide-file true 1 v) (oneMore (length-slots drawingTable (s .drawing .own) _) (wide-layers 0 (s .drawing .layers))))
     (wide-symbols 0 (s .symbols)))
     (wide-body c d t 1 v))
     (wide-later c d t 2 vs)

@@ -1,3 +1,4 @@
 pub mod Chains
+pub mod RecordLengths
 pub mod Rows
 pub mod Runs

@@ -41,7 +41,7 @@ use Rattle.standing.proofs.FigureSights.{plain-serials}
 use Rattle.standing.proofs.RecordStores.{store-part, laid-get, points-size}
 use Rattle.standing.proofs.PointEntries.{point-rows, plain-points, point-few, point-laid}
 use Rattle.account.proofs.Lent.{with-same}
-use Rattle.standing.proofs.SlotLengths.{length-slot}
+use Rattle.rules.proofs.RecordLengths.{length-slot}
 
 chain-kind : (h : Home) → chainKind (isLayer h) ≡ 17 + homeMore h
 chain-kind (inElement y) = refl

@@ -37,7 +37,7 @@ use Rattle.account.specs.DrawingLines.{drawingAct, drawingNow, drawingMarks, dr
 use Rattle.account.proofs.RowsTaken.{Taken, entry-taken, begin-taken}
 use Rattle.standing.proofs.Marks.{marks-set, mark-free}
 use Rattle.standing.proofs.LaidTables.{laid-part, laid-change, with-back}
-use Rattle.standing.proofs.SlotLengths.{length-slots}
+use Rattle.rules.proofs.RecordLengths.{length-slots}
 use Rattle.standing.proofs.Standings.{deskWith, stands-on, lengths-kept, stands-still}
 use Rattle.standing.proofs.OwnLines.{housed, own-line}
 

@@ -23,7 +23,7 @@ use Rattle.standing.specs.SoFar.{emptyRecords, closedRecords}
 use Rattle.standing.specs.Standing.{Desk, deskNow, closedSerials, thisOf, fileNumber, Stands}
 use Rattle.account.specs.FileLines.{countAt, chainedTo, datedAs, agrees, firstTally, laterTally}
 use Rattle.standing.specs.FileStanding.{fileHead, InFile}
-use Rattle.standing.proofs.SlotLengths.{length-held}
+use Rattle.rules.proofs.RecordLengths.{length-held}
 use Rattle.standing.proofs.FileReadBack.{arc-back, sym-back, elec-back, date-back, time-back, all-back, this-back, later-back, laid-paste}
 use Rattle.standing.proofs.Standings.{deskKept, lengths-kept}
 

@@ -23,7 +23,7 @@ use Rattle.standing.specs.Reading.{Standing}
 use Rattle.account.specs.FileLines.{PartOpen, fileWidth, FileReady}
 use Rattle.standing.proofs.LaidTables.{laid-room, laid-within}
 use Rattle.standing.proofs.RecordStores.{points-size}
-use Rattle.standing.proofs.SlotLengths.{length-slots}
+use Rattle.rules.proofs.RecordLengths.{length-slots}
 use Rattle.standing.proofs.OpenBlocks
 use Rattle.standing.proofs.Standings.{first-volume}
 

@@ -41,7 +41,7 @@ use Rattle.standing.proofs.LineSizes.{line-size, read-shut}
 use Rattle.standing.proofs.ValueSizes.{values-size}
 use Rattle.standing.proofs.Marks.{marks-set, mark-free}
 use Rattle.standing.proofs.Standings.{known}
-use Rattle.standing.proofs.SlotLengths.{length-held}
+use Rattle.rules.proofs.RecordLengths.{length-held}
 use Rattle.standing.proofs.HomeFacts.{home-stays}
 use Rattle.account.proofs.PlacedLaws.{own-is}
 use Rattle.standing.proofs.PlacedFacts.{isSerials, placed-rows, placed-rows-six, placed-places, serial-rule, symbol-rule, other-rule, entry-plain, begin-inner, blank-marks, figure-serial, opening-row, serials-linked}

@@ -35,7 +35,7 @@ use Rattle.standing.proofs.LaidTables.{laid-same}
 use Rattle.standing.proofs.MoreRecords.{more-figures, flat-map-more}
 use Rattle.standing.proofs.Standings.{sight, stands-on}
 use Rattle.standing.proofs.HomeFacts.{home-stays}
-use Rattle.standing.proofs.SlotLengths.{length-held, length-unread}
+use Rattle.rules.proofs.RecordLengths.{length-held, length-unread}
 use Rattle.standing.proofs.PlacedFacts.{placed-rows, placed-rows-six, must-symbol}
 use Rattle.standing.proofs.PlacedTables.{lentOf, lentDesk, begun, record-is, record-laid, range-is}
 use Rattle.standing.proofs.PlacedTextStanding.{text-line}

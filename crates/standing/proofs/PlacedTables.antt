@@ -29,7 +29,7 @@ use Rattle.standing.proofs.Marks.{mark-free}
 use Rattle.account.proofs.RowsTaken.{Taken}
 use Rattle.standing.proofs.LaidTables.{flat-more, laid-part, laid-change}
 use Rattle.standing.proofs.Standings.{sight, deskWith, stands-on}
-use Rattle.standing.proofs.SlotLengths.{length-held}
+use Rattle.rules.proofs.RecordLengths.{length-held}
 use Rattle.standing.proofs.PlacedFacts.{clear-placed, figure-serial}
 use Rattle.standing.proofs.OwnLines.{housed, line-value}
 

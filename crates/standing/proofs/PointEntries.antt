@@ -31,7 +31,7 @@ use Rattle.account.proofs.RowsTaken.{Taken, entry-taken}
 use Rattle.standing.proofs.LineOrigins.{isValues, entry-from, entry-nums}
 use Rattle.standing.proofs.LaidTables.{laid-more}
 use Rattle.standing.proofs.RowRecords.{zeros, row-record}
-use Rattle.standing.proofs.SlotLengths.{length-slot}
+use Rattle.rules.proofs.RecordLengths.{length-slot}
 use Rattle.standing.proofs.HeadRecords.{line-put}
 
 -- ── what is computed of the table of points ──

@@ -17,7 +17,7 @@ use Rattle.rules.proofs.Chains.{flat-append}
 use Rattle.standing.specs.Laid.{Laid}
 use Rattle.account.specs.Records.{withPart}
 use Rattle.standing.proofs.RowRecords.{sets-part}
-use Rattle.standing.proofs.SlotLengths.{length-slot}
+use Rattle.rules.proofs.RecordLengths.{length-slot}
 
 -- ── a store ──
 -- one number stored in the part at n

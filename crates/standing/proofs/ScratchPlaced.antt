@@ -32,7 +32,8 @@ use Rattle.account.specs.PlacedLines.{Lent, lent, ownNumber, clashes, lentAfter
 use Rattle.standing.specs.LineDone.{namesOf, idsOf, OnPlaced}
 use Rattle.account.specs.TableApart.{symbolIn, symbolOpen, scratchPlace, movedTo, backNow, putBack}
 use Rattle.account.proofs.PlacedLaws.{own-apart}
-use Rattle.standing.proofs.SlotLengths.{length-line, length-unread}
+use Rattle.rules.proofs.RecordLengths.{length-unread}
+use Rattle.standing.proofs.SlotLengths.{length-line}
 use Rattle.standing.proofs.ForeParts.{long-part, part-long}
 use Rattle.standing.proofs.ScratchFigures.{enteredBy, entered-by, entered-long}
 use Rattle.standing.proofs.ScratchPlaces.{Room, OwnBy, back-still, Moved, back-same}

@@ -30,7 +30,7 @@ use Rattle.standing.proofs.Openers.{plainKind}
 use Rattle.standing.proofs.RowOpeners.{isOpens}
 use Rattle.standing.proofs.OwnLines.{housed}
 use Rattle.standing.proofs.Marks.{must-row}
-use Rattle.standing.proofs.SlotLengths.{length-slots}
+use Rattle.rules.proofs.RecordLengths.{length-slots}
 
 -- ── what is computed of the table ──
 pub symbol-rows : tableOf 9 ≡ symbolTable

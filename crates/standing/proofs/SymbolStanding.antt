@@ -47,7 +47,7 @@ use Rattle.standing.proofs.Marks.{marks-set, mark-free}
 use Rattle.account.proofs.RowsTaken.{Taken, entry-taken, begin-taken}
 use Rattle.standing.proofs.LaidTables.{laid-part, laid-change, laid-same, with-back}
 use Rattle.standing.proofs.MoreRecords.{ownRecord, symbol-more}
-use Rattle.standing.proofs.SlotLengths.{length-slots}
+use Rattle.rules.proofs.RecordLengths.{length-slots}
 use Rattle.standing.proofs.Standings.{deskWith, stands-on, known, stands-still}
 use Rattle.standing.proofs.SymbolFacts.{symbol-rows, symbol-length, symbol-clear, symbol-housed, name-row, element-key, hide-key, wall-row, Opened, opened-rows, same-order, name-slot, record-name, name-of, named-below, must-hold, text-is, element, hidden}
 

@@ -37,7 +37,7 @@ use Rattle.account.proofs.RowsTaken.{Taken, entry-taken}
 use Rattle.standing.proofs.Marks.{marks-set, mark-free}
 use Rattle.standing.proofs.LaidTables.{flat-more, laid-same, laid-part, laid-change, with-back}
 use Rattle.standing.proofs.MoreRecords.{more-figures}
-use Rattle.standing.proofs.SlotLengths.{length-slots}
+use Rattle.rules.proofs.RecordLengths.{length-slots}
 use Rattle.standing.proofs.Standings.{sight, deskWith, stands-on, known, stands-still}
 use Rattle.standing.proofs.HomeFacts.{home-layered, home-stays}
 use Rattle.standing.proofs.FigureSights.{plain-serials}
