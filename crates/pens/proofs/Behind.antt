@@ -11,11 +11,11 @@ use lib.Seq.{take-at, drop-at, take-all, drop-drop, drop-append-add, length-take
 use Rattle.leaves.specs.declared.Wrote.{Wrote}
 use Rattle.leaves.specs.declared.Wrote.the-variants as W
 use Rattle.leaves.specs.Writing.{putAnswer, putMemory, Puts}
-use Rattle.pens.specs.Printed.{Prints, Within}
+use Rattle.prints.specs.Printing.{Prints, Within}
 use Rattle.pens.specs.Writing.{Spared}
 use Rattle.pens.proofs.Laying.{room}
 
-full-not : {P : Type 0} {n : ℕ} → W.Full ≡ W.Bytes n → P
+pub full-not : {P : Type 0} {n : ℕ} → W.Full ≡ W.Bytes n → P
 full-not e = absurd (let z : _≡_ {A = ℕ} 0 1 = cc in omega arith)
 
 -- ── one text ──

@@ -19,11 +19,12 @@ use Rattle.leaves.specs.Writing.{Puts}
 use Rattle.leaves.proofs.Cuts.{upTo-le}
 use Rattle.lines.specs.VolumeNames.{rawName, nameAt}
 use Rattle.lines.proofs.VolumeNames.{name-up}
-use Rattle.pens.specs.Printed.{Within}
+use Rattle.prints.specs.Printing.{Within}
 use Rattle.pens.specs.Texts.{laid}
 use Rattle.pens.specs.Shown.{shown}
 use Rattle.pens.specs.Volumes.{Fronts, BodyOut, BodyPromise, headBytes, VolumeOut, VolumePromise}
-use Rattle.pens.proofs.LentOutput.{full-not, puts-prints, puts-within, lent, back, lent-long, back-is, within-long, put-long, put-laid}
+use Rattle.pens.proofs.Behind.{full-not}
+use Rattle.pens.proofs.LentOutput.{puts-prints, puts-within, lent, back, lent-long, back-is, within-long, put-long, put-laid}
 use Rattle.pens.proofs.VolumeEnd.{fronts-fit, fronts-none}
 
 abbrev pub blankHead : List ℕ

@@ -1,10 +1,10 @@
 -- A writer that was lent the output from a place on: what it does with the whole output.
-use Prim.Native.Nat.{ℕ, _+_, _-_, _≤_, _<_}
+use Prim.Native.Nat.{ℕ, _+_, _-_, _≤_}
 use mathlib.Core.Bool.{Bool, true, false, cond}
 use mathlib.Core.List.{List, [], _∷_, _++_, append-assoc, append-nil}
 use mathlib.Core.Path.{_≡_, refl, sym, _∙_, ap, subst}
 use native.Mathlib.Omega.{arith}
-use borrow.Author.Tests.{leb-true, leb-false, le-leb}
+use borrow.Author.Tests.{leb-true, le-leb}
 use borrow.Rule.Slice.PartMut.{midOf, putMid, same-len-mid}
 use lib.Dec.{leb}
 use lib.ListN.{length, take, drop, length-append, length-drop, drop-of-length-le}
@@ -12,34 +12,16 @@ use lib.Seq.{drop-drop, take-all}
 use Rattle.leaves.specs.declared.Wrote.{Wrote}
 use Rattle.leaves.specs.declared.Wrote.the-variants as W
 use Rattle.leaves.specs.Writing.{Puts}
-use Rattle.pens.specs.Printed.{Prints, Within}
+use Rattle.prints.specs.Printing.{Prints, Within}
 use Rattle.pens.specs.declared.Pen.{Pen}
 use Rattle.pens.specs.declared.Drawn.{Drawn}
 use Rattle.pens.specs.declared.Drawn.the-variants as D
 use Rattle.pens.specs.Texts.{laid, Draws, Safe}
 use Rattle.pens.specs.Moves.{moved}
 use Rattle.pens.specs.KeyWriting.{Kept}
+use Rattle.pens.proofs.Behind.{printed, unprinted}
 
 -- ── answers ──
-pub full-not : {P : Type 0} {n : ℕ} → W.Full ≡ W.Bytes n → P
-full-not e = absurd (let z : _≡_ {A = ℕ} 0 1 = cc in omega arith)
-
--- a text that was written fits, and is as long as the answer says
-pub printed : (x before after : List ℕ) (n : ℕ) → Prints x before after (W.Bytes n) → (length x ≤ length before) × (n ≡ length x)
-printed x before after n w = go (leb (length x) (length before)) refl (w .answer)
-  where
-    go : (b : Bool) → leb (length x) (length before) ≡ b → W.Bytes n ≡ cond b (W.Bytes (length x)) W.Full → (length x ≤ length before) × (n ≡ length x)
-    go true q e = (leb-true (length x) (length before) q, cc)
-    go false q e = full-not (sym e)
-
--- one that was not has no room
-pub unprinted : (x before after : List ℕ) → Prints x before after W.Full → length before < length x
-unprinted x before after w = go (leb (length x) (length before)) refl (w .answer)
-  where
-    go : (b : Bool) → leb (length x) (length before) ≡ b → W.Full ≡ cond b (W.Bytes (length x)) W.Full → length before < length x
-    go true q e = full-not e
-    go false q e = leb-false (length x) (length before) q
-
 -- a text put is a text printed
 pub puts-prints : (x before after : List ℕ) (r : Wrote) → Puts x before after r → Prints x before after r
 puts-prints x before after r w = record { answer = w .answer; memory = λ h. w .memory ∙ rw (le-leb (length x) (length before) h) }
@@ -47,9 +29,6 @@ puts-prints x before after r w = record { answer = w .answer; memory = λ h. w .
 -- an answer within the output
 pub bytes-within : (before after : List ℕ) (m : ℕ) → length after ≡ length before → m ≤ length before → Within before after (W.Bytes m)
 bytes-within before after m e h = record { long = e; within = λ n q. let same : m ≡ n = cc in omega (arith, same, h) }
-
-pub full-within : (before after : List ℕ) → length after ≡ length before → Within before after W.Full
-full-within before after e = record { long = e; within = λ n q. full-not q }
 
 -- a text put stays within the output
 pub puts-within : (x before after : List ℕ) (r : Wrote) → Puts x before after r → Within before after r
@@ -109,7 +88,7 @@ module _ (at : ℕ) (out : List ℕ) (h : at ≤ length out) where
 
     pub wrote-draws : (n : ℕ) (next : Pen) → Prints x lent part (W.Bytes n) → Draws x at next out (back part) (D.Go next)
     wrote-draws n next w =
-        let (f, e) = printed x lent part n w in
+        let f = printed x lent part n w .1 in
         record {
           drawn = λ _. (refl, lent-laid f (w .memory f));
           full = λ g. absurd (omega (arith, f, g, lent-long, h));
@@ -133,7 +112,7 @@ module _ (p : Pen) (out x part : List ℕ) (block : ℕ) (safe : Safe p out) (r 
       let w : Prints x (lent (p .at) out (safe .within)) part (W.Bytes n) = subst (Prints x (lent (p .at) out (safe .within)) part) e prints in
       let long = back-long (p .at) out (safe .within) part (keeps .long) in
       let room = lent-room (p .at) out (safe .within) part r n keeps e in
-      let same : n ≡ length x = printed x (lent (p .at) out (safe .within)) part n w .1 in
+      let same : n ≡ length x = sym (printed x (lent (p .at) out (safe .within)) part n w .0) in
       let is : next ≡ moved p (length x) block 0 = q ∙ ap (λ (m : ℕ). moved p m block 0) same in
       subst (λ (u : Pen). Kept out after (D.Go u) × Draws x (p .at) (moved p (length x) block 0) out after (D.Go u)) (sym is) (
         record { safe = record { begun = omega (arith, safe .begun); within = omega (arith, room, long, same) }; long = long },

@@ -20,7 +20,6 @@ pub mod ChainLaws
 pub mod TextLaws
 pub mod PlacedLaws
 pub mod LineLaws
-pub mod Putting
 pub mod Writers
 pub mod KeyRows
 pub mod Closings

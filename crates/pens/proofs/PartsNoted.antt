@@ -20,7 +20,7 @@ use Rattle.rules.proofs.Rows.{Row, here, there, row-all, differ, row-find}
 use Rattle.leaves.specs.declared.Wrote.{Wrote}
 use Rattle.leaves.specs.declared.Wrote.the-variants as W
 use Rattle.tables.specs.Tables.{tableOf}
-use Rattle.pens.specs.Printed.{Prints}
+use Rattle.prints.specs.Printing.{Prints}
 use Rattle.pens.specs.Texts.{ended, lineBytes}
 use Rattle.pens.specs.Noting.{notesFrom, rowsIn, Noted, tablesOf, partTable, NotedParts, showDepth}
 use Rattle.pens.specs.Closing.{rowBytes, shutBytes}

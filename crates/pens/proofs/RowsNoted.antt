@@ -33,9 +33,9 @@ use Rattle.entries.specs.declared.Shape.the-variants as P
 use Rattle.entries.specs.Shapes.{restIn, shapeIn, sortOf, shapeBy}
 use Rattle.entries.specs.Acts.{valueOf}
 use Rattle.entries.proofs.ByShape.{free-is}
-use Rattle.prints.specs.Reading.{Reads}
+use Rattle.prints.specs.Reading.{Reads, PrintsRow}
 use Rattle.keywords.specs.Keys.{keyAt}
-use Rattle.pens.specs.Printed.{Prints, Within}
+use Rattle.prints.specs.Printing.{Prints, Within}
 use Rattle.pens.specs.Moves.{isOpener}
 use Rattle.pens.specs.Noting.{noteOf, restOf, partTable}
 use Rattle.pens.specs.Closing.{rowBytes}
@@ -230,8 +230,7 @@ module _ (spool : List ℕ) (table number note : ℕ) (before : List ℕ) where
           subst (λ (x : Rest). Reads k q x v) (sym (m spool ∙ ap (λ (u : Rule). restOf spool (u .holds) note) (w .rule))) z
 
       pub noted-line : (after : List ℕ) (wrote : Wrote) → Within mid after wrote
-          → ((k : Known) (q : Rule) (v : Value) → ruleOf row ≡ forLine q → q .key ≡ keyAt (tableOf table) (row .number) → Reads k q (restIn spool rest) v
-          → Prints (lineOf k q v ++ 13 ∷ 10 ∷ []) mid after wrote)
+          → PrintsRow table row (restIn spool rest) mid after wrote
           → Within before after wrote × PrintsNoted spool table number note before after wrote
       noted-line after wrote y p =
           (record { long = y .long ∙ mid-long; within = λ n z. omega (arith, y .within n z, mid-long) }, prints)

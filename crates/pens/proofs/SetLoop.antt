@@ -18,9 +18,10 @@ use Rattle.lines.specs.VolumePlaces.{zeros, noLayout, layoutOf}
 use Rattle.lines.specs.declared.Layout.{Layout}
 use Rattle.lines.proofs.VolumePlaces.{volumes-laid}
 use Rattle.lines.proofs.VolumesSeen.{volume-in}
-use Rattle.pens.specs.Printed.{Within}
+use Rattle.prints.specs.Printing.{Within}
 use Rattle.pens.specs.Volumes.{Fronts, VolumePromise, SetPromise}
-use Rattle.pens.proofs.LentOutput.{lent, back, within-long, lent-room, full-within}
+use Rattle.pens.proofs.Behind.{within-full}
+use Rattle.pens.proofs.LentOutput.{lent, back, within-long, lent-room}
 use Rattle.pens.proofs.SetWalk.{accepted-so, Done, done-begins, turn-full, turn-on, all-done}
 
 -- a volume's number and places are within bounds
@@ -85,7 +86,7 @@ module _ (s before out notes : List ℕ) (at i : ℕ) (z : Going s before out no
 
   pub no-room : r ≡ W.Full → Within before (back at out f part) W.Full × SetPromise s before (back at out f part) W.Full
   no-room b = (
-    full-within before (back at out f part) (within-long at out f part r w ∙ z .long),
+    within-full before (back at out f part) (within-long at out f part r w ∙ z .long),
     λ set q. turn-full s set (accepted-so s set q) i at out f (z .done set q) _ _ (below set q) (ap (λ (y : Layout). getD (y .places) i 0) (sym e))
         (ap (λ (y : Layout). getD (y .lengths) i 0 + getD (l .places) i 0) (sym e)) part r promise before (back at out f part) (z .long) b,
   )

@@ -22,7 +22,8 @@ use Rattle.pens.specs.Shown.{shown}
 use Rattle.pens.specs.Standing.{Here, Pens}
 use Rattle.pens.specs.Volumes.{Fronts, through, ServedAfter, BodyOut, BodyPromise}
 use Rattle.pens.proofs.Laying.{bytes-unlines, front-of}
-use Rattle.pens.proofs.LentOutput.{full-not, printed, unprinted, puts-prints, lent, back, lent-long, back-is, lent-laid}
+use Rattle.pens.proofs.Behind.{full-not, printed, unprinted}
+use Rattle.pens.proofs.LentOutput.{puts-prints, lent, back, lent-long, back-is, lent-laid}
 use Rattle.pens.proofs.VolumeWalk.{Reading, Left, Walk}
 
 pub fronts-fit : (x before after : List ℕ) (n : ℕ) → n ≡ length x → n ≤ length before → take n after ≡ x → Fronts x before after (W.Bytes n)
@@ -78,7 +79,7 @@ module _ (spool : List ℕ) (start end : ℕ) (first : Bool) (before : List ℕ)
         → BodyOut (x .known) first (x .ends) before (back (p .at) out (w .safe .within) part) (W.Bytes (p .at + n))
     body-wrote n z =
         let y = puts-prints (26 ∷ []) (lent (p .at) out (w .safe .within)) part (W.Bytes n) z in
-        let (fits, one) = printed (26 ∷ []) (lent (p .at) out (w .safe .within)) part n y in
+        let (one, fits, _) = printed (26 ∷ []) (lent (p .at) out (w .safe .within)) part n y in
         let room : p .at + 1 ≤ length out = omega (arith, fits, lent-long (p .at) out (w .safe .within), w .safe .within) in
         let lies : back (p .at) out (w .safe .within) part ≡ take (p .at) out ++ ((26 ∷ []) ++ drop (p .at + 1) out) = lent-laid (p .at) out (w .safe .within) (26 ∷ []) part fits (y .memory fits) in
         record {

@@ -12,7 +12,7 @@ use lib.Seq.{take-at, drop-at, drop-drop, drop-append-add, length-take-le, take-
 use Rattle.leaves.specs.declared.Wrote.{Wrote}
 use Rattle.leaves.specs.declared.Wrote.the-variants as W
 use Rattle.leaves.proofs.Scan.{rest-all}
-use Rattle.pens.specs.Printed.{Prints, Within}
+use Rattle.prints.specs.Printing.{Prints, Within}
 use Rattle.pens.specs.declared.Pen.{Pen}
 use Rattle.pens.specs.declared.Drawn.{Drawn}
 use Rattle.pens.specs.declared.Drawn.the-variants as D

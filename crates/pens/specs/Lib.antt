@@ -1,4 +1,3 @@
-pub mod Printed
 pub mod Texts
 pub mod Moves
 pub mod Noting

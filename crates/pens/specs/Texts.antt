@@ -4,13 +4,14 @@ use mathlib.Core.Path.{_≡_}
 use mathlib.Core.List.{List, [], _∷_, _++_}
 use lib.ListN.{length, take, drop}
 use Rattle.rules.specs.FixedForm.{Text}
+use Rattle.prints.specs.Texts.{lineEnd}
 use Rattle.pens.specs.declared.Pen.{Pen}
 use Rattle.pens.specs.declared.Drawn.{Drawn}
 use Rattle.pens.specs.declared.Drawn.the-variants as D
 
 -- a line and its end
 abbrev pub ended : List ℕ → List ℕ
-ended l = l ++ 13 ∷ 10 ∷ []
+ended l = l ++ lineEnd
 
 abbrev pub lineBytes : Text → List ℕ
 lineBytes [] = []

@@ -22,7 +22,7 @@ use Rattle.entries.specs.Shapes.{restIn}
 use Rattle.tables.specs.Tables.{tableOf}
 use Rattle.prints.specs.Reading.{Reads}
 use Rattle.keywords.specs.Keys.{keyAt}
-use Rattle.pens.specs.Printed.{Prints}
+use Rattle.prints.specs.Printing.{Prints}
 use Rattle.pens.specs.Texts.{lineBytes}
 use Rattle.pens.specs.Noting.{restOf, Noted, tablesOf, partTable, NotedParts, showDepth}
 use Rattle.pens.specs.Closing.{rowBytes, shutBytes}

@@ -1,26 +1,28 @@
 // A line `}`: what was noted is written, and the block closed.
-use crate::CHAIN;
-use crate::DEFINES;
-use crate::DRAWING;
 use crate::Drawn;
-use crate::ELEMENTS;
-use crate::FIGURES;
-use crate::FILE;
-use crate::HIDE;
-use crate::LAYER_NAMES;
-use crate::PLACED;
 use crate::Pen;
-use crate::SYMBOL;
-use crate::TEXT;
-use crate::TOP;
+use crate::keys::file_table;
 use crate::noted::put_noted;
 use crate::noted::put_rows;
 use crate::places::at_block;
-use crate::put::put_plain;
+use crate::places::by_home;
 use crate::swap::exchange;
+use account::CHAIN;
+use account::DEFINES;
+use account::DRAWING;
+use account::ELEMENTS;
+use account::FIGURES;
+use account::FILE;
+use account::HIDE;
+use account::LAYER_NAMES;
+use account::PLACED;
+use account::SYMBOL;
+use account::TEXT;
+use account::TOP;
 use leaves::Wrote;
+use prints::rows::put_plain;
 ghost use mathlib.Core.Path.{_≡_};
-ghost use mathlib.Core.Bool.{true, cond};
+ghost use mathlib.Core.Bool.{true};
 ghost use Prim.Native.Nat.{_≤_};
 ghost use lib.ListN.{length};
 ghost use Rattle.rules.specs.Blocks.{around};
@@ -101,40 +103,12 @@ fn close_symbol(s: &[u8], pen: Pen, notes: &[u32], out: &mut [u8]) -> Drawn
     shut(at_block(pen, n + m, SYMBOL, 0), DEFINES, out)
 }
 
-// The block around figures: ELEMENT, or a symbol.
-fn around_figures(layered: bool) -> u8
-    ensures { λ r. ⌜ r ≡ cond layered 7 5 ⌝ }
-{
-    if layered {
-        return ELEMENTS;
-    }
-    SYMBOL
-}
-
-fn text_table(layered: bool) -> u8
-    ensures { λ r. ⌜ r ≡ cond layered 16 17 ⌝ }
-{
-    if layered {
-        return 16;
-    }
-    17
-}
-
-fn file_table(first: bool) -> u8
-    ensures { λ r. ⌜ r ≡ cond first 1 6 ⌝ }
-{
-    if first {
-        return 1;
-    }
-    6
-}
-
 // The block around one whose `}` is all that is written.
 fn around_block(pen: Pen) -> u8
     ensures { λ r. ⌜ r ≡ aroundBlock pen ⌝ }
 {
     if pen.block == FIGURES {
-        return around_figures(pen.layered);
+        return by_home(pen.layered, ELEMENTS, SYMBOL);
     }
     if pen.block == CHAIN {
         return FIGURES;
@@ -179,13 +153,13 @@ pub(crate) fn on_close(s: &[u8], first: bool, pen: Pen, notes: &[u32], out: &mut
         return Drawn::Go(part_closed(pen));
     }
     if pen.block == TEXT {
-        return close_rows(text_table(pen.layered), s, pen, FIGURES, notes, out);
+        return close_rows(by_home(pen.layered, 16, 17), s, pen, FIGURES, notes, out);
     }
     if pen.block == PLACED {
         return close_rows(18, s, pen, FIGURES, notes, out);
     }
     if pen.block == FILE {
-        return close_rows(file_table(first), s, pen, TOP, notes, out);
+        return close_rows(file_table(first, 0), s, pen, TOP, notes, out);
     }
     if pen.block == DRAWING {
         return close_drawing(s, pen, notes, out);

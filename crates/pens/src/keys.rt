@@ -1,30 +1,31 @@
 // A line with a key: written at once, or noted till its block closes.
-use crate::CHAIN;
-use crate::DEFINES;
-use crate::DRAWING;
 use crate::Drawn;
-use crate::ELEMENTS;
-use crate::FIGURES;
-use crate::FILE;
-use crate::HIDE;
-use crate::LAYER_NAMES;
-use crate::PLACED;
 use crate::Pen;
-use crate::SYMBOL;
-use crate::TEXT;
-use crate::TOP;
 use crate::noted::note_of;
 use crate::noted::notes_from;
 use crate::noted::opens;
 use crate::places::among_figures;
 use crate::places::at_block;
 use crate::places::begun;
+use crate::places::by_home;
 use crate::places::forget;
-use crate::put::put_named;
-use crate::put::put_row;
+use account::CHAIN;
+use account::DEFINES;
+use account::DRAWING;
+use account::ELEMENTS;
+use account::FIGURES;
+use account::FILE;
+use account::HIDE;
+use account::LAYER_NAMES;
+use account::PLACED;
+use account::SYMBOL;
+use account::TEXT;
+use account::TOP;
 use entries::Rest;
 use entries::names::part;
 use leaves::Wrote;
+use prints::rows::put_named;
+use prints::rows::put_row;
 use rules::Span;
 use tables::Found;
 use tables::Row;
@@ -64,7 +65,8 @@ fn figure_table(layered: bool, rest: Rest) -> u8
     12
 }
 
-fn file_table(first: bool, part: u8) -> u8
+// The table of FILE_FORMAT's open part; the volumes behind the first have no inner parts.
+pub(crate) fn file_table(first: bool, part: u8) -> u8
     ensures { λ r. ⌜ r ≡ fileTableOf first part ⌝ }
 {
     if !first {
@@ -83,16 +85,6 @@ fn file_table(first: bool, part: u8) -> u8
         return 4;
     }
     5
-}
-
-// Of two tables the one for a layer, or the one for a symbol.
-fn by_home(layered: bool, layer: u8, symbol: u8) -> u8
-    ensures { λ r. ⌜ r ≡ cond layered layer symbol ⌝ }
-{
-    if layered {
-        return layer;
-    }
-    symbol
 }
 
 fn placed_table(part: u8) -> u8

@@ -3,7 +3,6 @@ mod closing;
 mod keys;
 mod noted;
 mod places;
-mod put;
 mod swap;
 pub mod volumes;
 
@@ -26,28 +25,3 @@ pub(crate) enum Drawn {
     Go(Pen),
     Full,
 }
-
-// Which block is open.
-const TOP: u8 = 0;
-
-const FILE: u8 = 1;
-
-const DRAWING: u8 = 2;
-
-const LAYER_NAMES: u8 = 3;
-
-const DEFINES: u8 = 4;
-
-const SYMBOL: u8 = 5;
-
-const HIDE: u8 = 6;
-
-const ELEMENTS: u8 = 7;
-
-const FIGURES: u8 = 8;
-
-const CHAIN: u8 = 9;
-
-const TEXT: u8 = 10;
-
-const PLACED: u8 = 11;

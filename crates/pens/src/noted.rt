@@ -1,11 +1,11 @@
 // Rows whose lines are noted where they stand, and written when their block closes, in the table's order.
-use crate::put::put_plain;
-use crate::put::put_row;
 use entries::Rest;
 use entries::shapes::shape_for;
 use entries::shapes::sort_of;
 use keywords::put_key;
 use leaves::Wrote;
+use prints::rows::put_plain;
+use prints::rows::put_row;
 use rules::Span;
 use tables::Found;
 use tables::Row;
@@ -14,7 +14,7 @@ ghost use mathlib.Core.Path.{_≡_};
 ghost use Prim.Native.Nat.{_≤_};
 ghost use lib.ListN.{getD};
 ghost use Rattle.entries.specs.Shapes.{restIn};
-ghost use Rattle.pens.specs.Printed.{Within};
+ghost use Rattle.prints.specs.Printing.{Within};
 ghost use Rattle.pens.specs.Noting.{noteOf, notesFrom, rowsIn, partTable};
 ghost use Rattle.pens.specs.Writing.{RestIs, RowAt, Opens, PrintsNoted, TellsInner, PrintsPart, PrintsSlot, PrintsRows};
 

@@ -1,7 +1,8 @@
 // How the pen goes on.
-use crate::FIGURES;
 use crate::Pen;
+use account::FIGURES;
 ghost use mathlib.Core.Path.{_≡_};
+ghost use mathlib.Core.Bool.{cond};
 ghost use Prim.Native.Nat.{_+_, _≤_};
 ghost use Rattle.pens.specs.Moves.{moved, begun, amongFigures};
 ghost use Rattle.pens.specs.Noting.{forgotten};
@@ -45,6 +46,16 @@ pub(crate) fn among_figures(pen: Pen, n: usize, layered: bool) -> Pen
         start: pen.start,
         at: pen.at + n,
     }
+}
+
+// Of two blocks or tables the one of a layer's figures, or the one of a symbol's.
+pub(crate) fn by_home(layered: bool, in_layer: u8, in_symbol: u8) -> u8
+    ensures { λ r. ⌜ r ≡ cond layered in_layer in_symbol ⌝ }
+{
+    if layered {
+        return in_layer;
+    }
+    in_symbol
 }
 
 // All notes are taken away.

@@ -1,11 +1,10 @@
 // The volumes, each behind its head.
 use crate::Drawn;
 use crate::Pen;
-use crate::TOP;
 use crate::closing::on_close;
 use crate::keys::on_key;
 use crate::places::at_block;
-use crate::put::put_plain;
+use account::TOP;
 use entries::Rest;
 use leaves::Wrote;
 use leaves::write::put;
@@ -13,12 +12,13 @@ use lines::Look;
 use lines::forms::look;
 use lines::spool::volume_name;
 use lines::spool::volumes;
+use prints::rows::put_plain;
 use rules::LineForm;
 ghost use mathlib.Core.Path.{_≡_};
 ghost use mathlib.Core.List.{_++_};
 ghost use Prim.Native.Nat.{_≤_};
 ghost use lib.ListN.{length, drop};
-ghost use Rattle.pens.specs.Printed.{Within};
+ghost use Rattle.prints.specs.Printing.{Within};
 ghost use Rattle.pens.specs.Texts.{Safe};
 ghost use Rattle.pens.specs.Keys.{EofLine};
 ghost use Rattle.pens.specs.KeyWriting.{Kept};

@@ -15,7 +15,7 @@ use Rattle.leaves.specs.Writing.{Puts}
 use Rattle.leaves.specs.declared.Wrote.{Wrote}
 use Rattle.leaves.specs.declared.Wrote.the-variants as W
 use Rattle.leaves.proofs.Scan.{rest-all}
-use Rattle.prints.specs.Printing.{Prints, goOn, Writes, shift}
+use Rattle.prints.specs.Printing.{Prints, Within, goOn, Writes, shift}
 
 full-bytes : {P : Type 0} {n : ℕ} → W.Full ≡ W.Bytes n → P
 full-bytes e = absurd (let z : _≡_ {A = ℕ} 0 1 = cc in omega arith)
@@ -24,13 +24,16 @@ same-place : (n m : ℕ) → W.Bytes n ≡ W.Bytes m → n ≡ m
 same-place n m e = cc
 
 -- ── a text with all or nothing of it written ──
-pub put-prints : (text before after : List ℕ) (r : Wrote) → Puts text before after r → Prints text before after r
-put-prints text before after r p =
-    record { answer = p .answer; memory = λ h. p .memory ∙ rw h; long = ap (λ (l : List ℕ). length l) (p .memory) ∙ kept (leb (length text) (length before)) refl }
-  where
-    kept : (t : Bool) → leb (length text) (length before) ≡ t → length (cond t (text ++ drop (length text) before) before) ≡ length before
-    kept true h = let l = leb-true (length text) (length before) h in omega (arith, l, length-append text (drop (length text) before), length-drop (length text) before)
-    kept false h = refl
+module _ (text before after : List ℕ) (r : Wrote) (p : Puts text before after r) where
+  put-all : length text ≤ length before → after ≡ text ++ drop (length text) before
+  put-all h = p .memory ∙ rw (le-leb (length text) (length before) h)
+
+  put-long : length after ≡ length before
+  put-long = ap (λ (l : List ℕ). length l) (p .memory) ∙ kept (leb (length text) (length before)) refl
+    where
+      kept : (t : Bool) → leb (length text) (length before) ≡ t → length (cond t (text ++ drop (length text) before) before) ≡ length before
+      kept true h = let l = leb-true (length text) (length before) h in omega (arith, l, length-append text (drop (length text) before), length-drop (length text) before)
+      kept false h = refl
 
 -- ── where there is no room ──
 pub none-left : (text before : List ℕ) (at : Wrote) → at ≡ W.Full → Writes text at before before W.Full
@@ -46,8 +49,8 @@ beyond text before at n e h =
     })
 
 -- ── a text in the rest of the output ──
-module _ (text before after : List ℕ) (n : ℕ) (r : Wrote) (h : n ≤ length before) (p : Prints text (take (length before - n) (drop n before)) after r) where
-  rest-put : Prints text (drop n before) after r
+module _ (text before after : List ℕ) (n : ℕ) (r : Wrote) (h : n ≤ length before) (p : Puts text (take (length before - n) (drop n before)) after r) where
+  rest-put : Puts text (drop n before) after r
   rest-put = rw (rest-all n before) at p
 
   rest-long : length (drop n before) ≡ length before - n
@@ -67,21 +70,21 @@ module _ (text before after : List ℕ) (n : ℕ) (r : Wrote) (h : n ≤ length 
       let l = leb-false (length text) (length (drop n before)) e in
       ap (shift n) (rest-put .answer) ∙ rw (e, lt-leb (n + length text) (length before) (omega (arith, l, rest-long)))
 
-  pub placed : Writes text (W.Bytes n) before (putMid n (length before - n) before after) (shift n r)
+  placed : Writes text (W.Bytes n) before (putMid n (length before - n) before after) (shift n r)
   placed =
       record {
         answer = moved (leb (length text) (length (drop n before))) refl;
         memory = λ m z k.
             let q = same-place n m z in
-            let f = rest-put .memory (le-leb (length text) (length (drop n before)) (omega (arith, q, k, rest-long))) in
+            let f = put-all text (drop n before) after r rest-put (omega (arith, q, k, rest-long)) in
             rw (← q) (back ∙ ap (λ (l : List ℕ). take n before ++ l) (f ∙ ap (λ (l : List ℕ). text ++ l) (drop-drop (length text) n before)));
-        long = ap (λ (l : List ℕ). length l) back ∙ length-append (take n before) after ∙ omega (arith, rest-put .long, rest-long, length-take-le n before h);
+        long = ap (λ (l : List ℕ). length l) back ∙ length-append (take n before) after ∙ omega (arith, put-long text (drop n before) after r rest-put, rest-long, length-take-le n before h);
       }
 
 -- the same, by what is known of the answers
 module _ (text before after : List ℕ) (at r : Wrote) (n : ℕ) (e : at ≡ W.Bytes n) (h : n ≤ length before) (p : Puts text (take (length before - n) (drop n before)) after r) where
   there : Writes text (W.Bytes n) before (putMid n (length before - n) before after) (shift n r)
-  there = placed text before after n r h (put-prints text (take (length before - n) (drop n before)) after r p)
+  there = placed text before after n r h p
 
   pub placed-full : r ≡ W.Full → Writes text at before (putMid n (length before - n) before after) W.Full
   placed-full f = rw e (rw f at there)
@@ -140,35 +143,28 @@ module _ (a d b c e : List ℕ) where
       }
 
 -- ── at the front ──
-pub from-front : (text before after : List ℕ) (r : Wrote) → Prints text before after r → Writes text (W.Bytes 0) before after r
+pub from-front : (text before after : List ℕ) (r : Wrote) → Puts text before after r → Writes text (W.Bytes 0) before after r
 from-front text before after r p =
     record {
       answer = rw (zero-add (length text)) (p .answer);
       memory = λ n z h.
           let q = same-place 0 n z in
-          rw (← q, zero-add (length text)) (p .memory (le-leb (length text) (length before) (omega (arith, q, h))));
-      long = p .long;
+          rw (← q, zero-add (length text)) (put-all text before after r p (omega (arith, q, h)));
+      long = put-long text before after r p;
     }
 
 pub at-front : (text before after : List ℕ) (r : Wrote) → Writes text (W.Bytes 0) before after r → Prints text before after r
 at-front text before after r p =
     record {
       answer = rw (zero-add (length text)) at (p .answer);
-      memory = λ h. rw (zero-add (length text)) at (p .memory 0 refl (omega (arith, leb-true (length text) (length before) h)));
-      long = p .long;
+      memory = λ h. rw (zero-add (length text)) at (p .memory 0 refl (omega (arith, h)));
     }
 
--- a text at the front, and another in the rest of the output
-pub joined : (a d before mid after : List ℕ) (n : ℕ) (r : Wrote) → Prints a before mid (W.Bytes n) → n ≤ length mid → Prints d (take (length mid - n) (drop n mid)) after r
-    → Prints (a ++ d) before (putMid n (length mid - n) mid after) (shift n r)
-joined a d before mid after n r p h q =
-    at-front (a ++ d) before (putMid n (length mid - n) mid after) (shift n r)
-    (then a d before mid (putMid n (length mid - n) mid after) (W.Bytes 0) (W.Bytes n) (shift n r) (from-front a before mid (W.Bytes n) p) (placed d mid after n r h q))
-
 -- whatever is written from the front on ends within the output
-pub front-within : (text before after : List ℕ) (r : Wrote) → Writes text (W.Bytes 0) before after r → (n : ℕ) → r ≡ W.Bytes n → n ≤ length before
-front-within text before after r p n e = go (leb (0 + length text) (length before)) refl (sym e ∙ p .answer)
+pub front-within : (text before after : List ℕ) (r : Wrote) → Writes text (W.Bytes 0) before after r → Within before after r
+front-within text before after r p =
+    record { long = p .long; within = λ n e. go n (leb (0 + length text) (length before)) refl (sym e ∙ p .answer) }
   where
-    go : (t : Bool) → leb (0 + length text) (length before) ≡ t → W.Bytes n ≡ cond t (W.Bytes (0 + length text)) W.Full → n ≤ length before
-    go true q z = let s = same-place n (0 + length text) z in omega (arith, s, leb-true (0 + length text) (length before) q)
-    go false q z = full-bytes (sym z)
+    go : (n : ℕ) (t : Bool) → leb (0 + length text) (length before) ≡ t → W.Bytes n ≡ cond t (W.Bytes (0 + length text)) W.Full → n ≤ length before
+    go n true q z = let s = same-place n (0 + length text) z in omega (arith, s, leb-true (0 + length text) (length before) q)
+    go n false q z = full-bytes (sym z)

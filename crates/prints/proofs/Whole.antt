@@ -29,7 +29,7 @@ use Rattle.tables.specs.Tables.{tableOf}
 use Rattle.entries.specs.Shapes.{shapeBy}
 use Rattle.entries.proofs.ByShape.{free-is}
 use Rattle.keywords.specs.Keys.{keyAt}
-use Rattle.prints.specs.Printing.{Prints, Writes}
+use Rattle.prints.specs.Printing.{Prints, Within, Writes}
 use Rattle.prints.specs.Texts.{sheetText, ratioText, behindText, lineEnd}
 use Rattle.prints.specs.Reading.{Reads, PrintsRow, PrintsLayer}
 use Rattle.prints.proofs.Going.{then, at-front, front-within}
@@ -71,6 +71,12 @@ module _ (at : Wrote) (before : List ℕ) where
       let rest : Writes (map capital c) p mid after w = rw (rest-all 1 (d ∷ c)) at y in
       rw (← q) (then (b ∷ []) (map capital c) before mid after at p w x rest)
 
+-- ── a text and the end of its line ──
+pub plain-line : (text b c d : List ℕ) (p w : Wrote) → Writes text (W.Bytes 0) b c p → Writes lineEnd p c d w → Within b d w × Prints (text ++ lineEnd) b d w
+plain-line text b c d p w x y =
+    let all = then text lineEnd b c d (W.Bytes 0) p w x y in
+    (front-within (text ++ lineEnd) b d w all, at-front (text ++ lineEnd) b d w all)
+
 -- ── a layer's line ──
 named : (id : List ℕ) (at : ℕ) (c : List ℕ) (v : Value) → layerValue id (freeShapeOf (equals at c)) ≡ got v → charsOf v ≡ c
 named id at [] v e = let q : empty ≡ v = cc in rw (← q)
@@ -80,39 +86,35 @@ named id at (b ∷ c) v e =
     rw (← q)
 
 module _ (id b c d : List ℕ) (p q : Wrote) (x : Writes id (W.Bytes 0) b c p) (y : Writes (61 ∷ []) p c d q) where
-  pub unnamed : (rest : Rest) → rest ≡ brace → (e : List ℕ) (r : Wrote) → Writes lineEnd q d e r → PrintsLayer id rest b e r
+  pub unnamed : (rest : Rest) → rest ≡ brace → (e : List ℕ) (r : Wrote) → Writes lineEnd q d e r → Within b e r × PrintsLayer id rest b e r
   unnamed rest s e r z =
       let all = then (id ++ 61 ∷ []) lineEnd b d e (W.Bytes 0) q r (then id (61 ∷ []) b c d (W.Bytes 0) p q x y) z in
-      rw s (record { line = λ v g. never g; long = all .long; within = front-within ((id ++ 61 ∷ []) ++ lineEnd) b e r all })
+      subst (λ (c : Rest). Within b e r × PrintsLayer id c b e r) (sym s) (front-within ((id ++ 61 ∷ []) ++ lineEnd) b e r all, λ v g. never g)
 
-  pub layer-line : (rest : Rest) (at : ℕ) (n : List ℕ) → rest ≡ equals at n → (e f : List ℕ) (r w : Wrote) → Writes n q d e r → Writes lineEnd r e f w → PrintsLayer id rest b f w
+  pub layer-line : (rest : Rest) (at : ℕ) (n : List ℕ) → rest ≡ equals at n → (e f : List ℕ) (r w : Wrote) → Writes n q d e r → Writes lineEnd r e f w → Within b f w × PrintsLayer id rest b f w
   layer-line rest at n s e f r w u z =
       let front = then (id ++ 61 ∷ []) n b d e (W.Bytes 0) q r (then id (61 ∷ []) b c d (W.Bytes 0) p q x y) u in
       let all = then ((id ++ 61 ∷ []) ++ n) lineEnd b e f (W.Bytes 0) r w front z in
-      rw s
-      (record {
-        line = λ v g.
+      subst (λ (c : Rest). Within b f w × PrintsLayer id c b f w) (sym s) (
+        front-within (((id ++ 61 ∷ []) ++ n) ++ lineEnd) b f w all,
+        λ v g.
             subst (λ (t : List ℕ). Prints (t ++ lineEnd) b f w) (append-assoc id (61 ∷ []) n ∙ ap (λ (t : List ℕ). id ++ 61 ∷ t) (sym (named id at n v g)))
-            (at-front (((id ++ 61 ∷ []) ++ n) ++ lineEnd) b f w all);
-        long = all .long;
-        within = front-within (((id ++ 61 ∷ []) ++ n) ++ lineEnd) b f w all;
-      })
+            (at-front (((id ++ 61 ∷ []) ++ n) ++ lineEnd) b f w all),
+      )
 
 -- ── a row's line ──
 shape-same : (row : Row) (r : Rule) (c : Rest) → ruleOf row ≡ forLine r → shapeBy (eqb (row .kind) 1) c ≡ shapeFor r c
 shape-same row r c e = ap (λ (t : Bool). cond t (freeShapeOf c) (shapeOf c)) (free-is row ∙ ap (λ (q : Rule). isFree (q .holds)) e)
 
 pub row-line : (table : ℕ) (row : Row) (rest : Rest) (shape : Shape) → shape ≡ shapeBy (eqb (row .kind) 1) rest → (b c d e : List ℕ) (p q w : Wrote)
-    → Writes (keyAt (tableOf table) (row .number)) (W.Bytes 0) b c p → Writes (behindText row shape) p c d q → Writes lineEnd q d e w → PrintsRow table row rest b e w
+    → Writes (keyAt (tableOf table) (row .number)) (W.Bytes 0) b c p → Writes (behindText row shape) p c d q → Writes lineEnd q d e w → Within b e w × PrintsRow table row rest b e w
 row-line table row rest shape s b c d e p q w x y z =
     let key = keyAt (tableOf table) (row .number) in
-    let all = then (key ++ behindText row shape) lineEnd b d e (W.Bytes 0) q w (then key (behindText row shape) b c d (W.Bytes 0) p q x y) z in
-    record {
-      line = λ k r v f h reads.
+    let all = then (key ++ behindText row shape) lineEnd b d e (W.Bytes 0) q w (then key (behindText row shape) b c d (W.Bytes 0) p q x y) z in (
+      front-within ((key ++ behindText row shape) ++ lineEnd) b e w all,
+      λ k r v f h reads.
           let same = ap (behindText row) (s ∙ shape-same row r rest f) ∙ behind-shown row k r rest v f reads in
           let line : key ++ behindText row shape ≡ lineOf k r v =
           ap (λ (t : List ℕ). key ++ t) same ∙ ap (λ (t : List ℕ). t ++ behind k (r .holds) v) (sym h) in
-          at-front (lineOf k r v ++ lineEnd) b e w (subst (λ (t : List ℕ). Writes (t ++ lineEnd) (W.Bytes 0) b e w) line all);
-      long = all .long;
-      within = front-within ((key ++ behindText row shape) ++ lineEnd) b e w all;
-    }
+          at-front (lineOf k r v ++ lineEnd) b e w (subst (λ (t : List ℕ). Writes (t ++ lineEnd) (W.Bytes 0) b e w) line all),
+    )

@@ -1,7 +1,7 @@
 -- What a writer of a line does with the output that it is lent. Where the line does not fit, nothing but the length is said of it.
 use Prim.Native.Nat.{ℕ, _+_, _≤_}
 use mathlib.Core.Path.{_≡_}
-use mathlib.Core.Bool.{true, cond}
+use mathlib.Core.Bool.{cond}
 use mathlib.Core.List.{List, _++_}
 use lib.Dec.{leb}
 use lib.ListN.{length, take, drop}
@@ -9,11 +9,15 @@ use Rattle.leaves.specs.Writing.{putAnswer}
 use Rattle.leaves.specs.declared.Wrote.{Wrote}
 use Rattle.leaves.specs.declared.Wrote.the-variants as W
 
--- a text at the front
+-- all of the text at the front, where it fits; where it does not, who lent the output makes it zeros
 pub record Prints (text before after : List ℕ) (r : Wrote) : Type 0 where
   pub answer : r ≡ putAnswer text (length before)
-  pub memory : leb (length text) (length before) ≡ true → after ≡ text ++ drop (length text) before
+  pub memory : length text ≤ length before → after ≡ text ++ drop (length text) before
+
+-- in any case, whatever the line is
+pub record Within (before after : List ℕ) (r : Wrote) : Type 0 where
   pub long : length after ≡ length before
+  pub within : (n : ℕ) → r ≡ W.Bytes n → n ≤ length before
 
 -- ── one text behind another ──
 -- where a text ends that goes on at a place; where there was no room there is none for it

@@ -7,7 +7,7 @@ use crate::texts::text;
 use leaves::Ratio;
 use leaves::Sheet;
 use leaves::Wrote;
-use leaves::bytes::within;
+use leaves::bytes::capital;
 use leaves::sheets::ratio;
 use leaves::sheets::sheet;
 use tables::Row;
@@ -18,15 +18,6 @@ ghost use lib.Dec.{leb, ltb};
 ghost use Rattle.rules.specs.Values.{capital, findSheet, sheets, readRatio};
 ghost use Rattle.prints.specs.Printing.{Writes};
 ghost use Rattle.prints.specs.Texts.{sheetText, ratioText, contentText};
-
-fn capital(b: u8) -> u8
-    ensures { λ r. ⌜ r ≡ capital b ⌝ }
-{
-    if within(97, 122, b as u64) {
-        return b - 32;
-    }
-    b
-}
 
 // The name of the next volume, in capitals, byte by byte.
 fn capitals(c: &[u8], at: Wrote, out: &mut [u8]) -> Wrote

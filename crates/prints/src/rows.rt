@@ -13,7 +13,7 @@ ghost use mathlib.Core.List.{_++_};
 ghost use lib.Dec.{eqb};
 ghost use Rattle.rules.specs.Lines.{bytesAt};
 ghost use Rattle.entries.specs.Shapes.{restIn, shapeBy, shapeIn};
-ghost use Rattle.prints.specs.Printing.{Prints, Writes};
+ghost use Rattle.prints.specs.Printing.{Prints, Within, Writes};
 ghost use Rattle.prints.specs.Texts.{behindText, lineEnd};
 ghost use Rattle.prints.specs.Reading.{PrintsRow, PrintsLayer};
 
@@ -26,7 +26,7 @@ fn end(at: Wrote, out: &mut [u8]) -> Wrote
 
 // A text and the end of its line.
 pub fn put_plain(line: &[u8], out: &mut [u8]) -> Wrote
-    ensures { λ r. ⌜ Prints (now (line .entry) ++ lineEnd) (now (out .entry)) (now (out .exit)) r ⌝ }
+    ensures { λ r. ⌜ Within (now (out .entry)) (now (out .exit)) r × Prints (now (line .entry) ++ lineEnd) (now (out .entry)) (now (out .exit)) r ⌝ }
 {
     let w = text(line, Wrote::Bytes(0), out);
     end(w, out)
@@ -54,7 +54,7 @@ fn behind(row: Row, s: &[u8], shape: Shape, at: Wrote, out: &mut [u8]) -> Wrote
 
 // The line of a table's row, from what follows its key in the spool.
 pub fn put_row(table: u8, row: Row, s: &[u8], rest: Rest, out: &mut [u8]) -> Wrote
-    ensures { λ r. ⌜ PrintsRow table row (restIn (now (s .entry)) rest) (now (out .entry)) (now (out .exit)) r ⌝ }
+    ensures { λ r. ⌜ Within (now (out .entry)) (now (out .exit)) r × PrintsRow table row (restIn (now (s .entry)) rest) (now (out .entry)) (now (out .exit)) r ⌝ }
 {
     let free = row.kind == 1;
     let shape = shape_for(s, free, rest);
@@ -65,7 +65,7 @@ pub fn put_row(table: u8, row: Row, s: &[u8], rest: Rest, out: &mut [u8]) -> Wro
 
 // A layer's id and its name.
 pub fn put_named(s: &[u8], key: Span, rest: Rest, out: &mut [u8]) -> Wrote
-    ensures { λ r. ⌜ PrintsLayer (bytesAt (now (s .entry)) key) (restIn (now (s .entry)) rest) (now (out .entry)) (now (out .exit)) r ⌝ }
+    ensures { λ r. ⌜ Within (now (out .entry)) (now (out .exit)) r × PrintsLayer (bytesAt (now (s .entry)) key) (restIn (now (s .entry)) rest) (now (out .entry)) (now (out .exit)) r ⌝ }
 {
     let id = text(part(s, key), Wrote::Bytes(0), out);
     let equal = text(b"=", id, out);

@@ -20,8 +20,9 @@ use Rattle.leaves.specs.declared.Wrote.the-variants as W
 use Rattle.leaves.specs.Writing.{putAnswer}
 use Rattle.lines.proofs.VolumePlaces.{volumes-laid}
 use Rattle.pens.specs.Volumes.{Fronts, SetPromise}
-use Rattle.pens.specs.Printed.{Within}
-use Rattle.pens.proofs.LentOutput.{full-not, lent, back, lent-long, back-is}
+use Rattle.prints.specs.Printing.{Within}
+use Rattle.pens.proofs.Behind.{full-not}
+use Rattle.pens.proofs.LentOutput.{lent, back, lent-long, back-is}
 use Rattle.pens.proofs.SetWalk.{accepted-so}
 use Rattle.sets.specs.SetReading.{IsAccepted, Judged}
 

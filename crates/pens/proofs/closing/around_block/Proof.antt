@@ -4,13 +4,13 @@ use Rattle.pens.proofs.closing.around_block.Statement.{statement}
 use Rattle.pens.proofs.closing.around_block.Tie as tie
 use Rattle.pens.proofs.closing.around_block.Reads as reads
 use Rattle.pens.proofs.closing.around_block.Lts as lts
-use Rattle.pens.proofs.closing.around_figures.Reads as around-figures-reads
+use Rattle.pens.proofs.places.by_home.Reads as by-home-reads
 
-around-figures-requires : tie.Need-around-figures-requires
-around-figures-requires c κs = search needs
+by-home-requires : tie.Need-by-home-requires
+by-home-requires c κs = search needs
 
 returns : tie.Need-returns
-returns c = rw (c .before .if1 .taken) (c .around-figures .ensures)
+returns c = rw (c .before .if1 .taken) (c .by-home .ensures)
 
 returns-2 : tie.Need-returns-2
 returns-2 c = rw (c .if2 .taken)
@@ -26,4 +26,4 @@ returns-5 c = rw (ne-eqb _ _ (c .before .before .before .before .before .before 
 
 pub around-block-spec : {M : Type 1} → statement M
 around-block-spec =
-    tie.close (tie.spec around-figures-requires returns returns-2 returns-3 returns-4 returns-5)
+    tie.close (tie.spec by-home-requires returns returns-2 returns-3 returns-4 returns-5)

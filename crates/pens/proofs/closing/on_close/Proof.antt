@@ -9,11 +9,11 @@ use Rattle.pens.proofs.closing.around_block.Reads as around-block-reads
 use Rattle.pens.proofs.closing.close_drawing.Reads as close-drawing-reads
 use Rattle.pens.proofs.closing.close_rows.Reads as close-rows-reads
 use Rattle.pens.proofs.closing.close_symbol.Reads as close-symbol-reads
-use Rattle.pens.proofs.closing.file_table.Reads as file-table-reads
+use Rattle.pens.proofs.keys.file_table.Reads as file-table-reads
 use Rattle.pens.proofs.closing.in_part.Reads as in-part-reads
 use Rattle.pens.proofs.closing.part_closed.Reads as part-closed-reads
 use Rattle.pens.proofs.closing.shut.Reads as shut-reads
-use Rattle.pens.proofs.closing.text_table.Reads as text-table-reads
+use Rattle.pens.proofs.places.by_home.Reads as by-home-reads
 
 in-part-requires : tie.Need-in-part-requires
 in-part-requires c κs = search needs
@@ -24,17 +24,17 @@ part-closed-requires c κs = sym (c .before .in-part .ensures) ∙ c .if1 .taken
 returns : tie.Need-returns
 returns c = (part-kept _ _ _ (c .before .before .before .before .before .before .pre .0) (c .part-closed .ensures), done-part _ _ (c .before .before .before .before .before .before .args .pen) _ _ _ (sym (c .before .before .in-part .ensures) ∙ c .before .if1 .taken) (c .part-closed .ensures))
 
-text-table-requires : tie.Need-text-table-requires
-text-table-requires c κs = search needs
+by-home-requires : tie.Need-by-home-requires
+by-home-requires c κs = search needs
 
 close-rows-requires : tie.Need-close-rows-requires
-close-rows-requires c κs = (c .before .before .before .before .before .before .before .before .before .pre .0, text-base _ (c .before .before .before .before .before .before .before .before .before .args .pen .layered) (c .before .text-table .ensures))
+close-rows-requires c κs = (c .before .before .before .before .before .before .before .before .before .pre .0, text-base _ (c .before .before .before .before .before .before .before .before .before .args .pen .layered) (c .before .by-home .ensures))
 
 same-length : tie.Need-same-length
 same-length c = search needs
 
 returns-2 : tie.Need-returns-2
-returns-2 c = (c .before .before .close-rows .ensures .0, done-text _ _ _ _ _ _ _ _ (c .before .before .before .before .text-table .ensures) (c .before .before .before .before .before .if2 .taken) (c .before .before .close-rows .ensures .1))
+returns-2 c = (c .before .before .close-rows .ensures .0, done-text _ _ _ _ _ _ _ _ (c .before .before .before .before .by-home .ensures) (c .before .before .before .before .before .if2 .taken) (c .before .before .close-rows .ensures .1))
 
 close-rows-requires-2 : tie.Need-close-rows-requires-2
 close-rows-requires-2 c κs = search needs
@@ -110,7 +110,7 @@ on-close-spec =
     in-part-requires
     part-closed-requires
     returns
-    text-table-requires
+    by-home-requires
     close-rows-requires
     same-length
     returns-2

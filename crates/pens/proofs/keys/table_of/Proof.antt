@@ -4,7 +4,7 @@ use Rattle.pens.proofs.keys.table_of.Statement.{statement}
 use Rattle.pens.proofs.keys.table_of.Tie as tie
 use Rattle.pens.proofs.keys.table_of.Reads as reads
 use Rattle.pens.proofs.keys.table_of.Lts as lts
-use Rattle.pens.proofs.keys.by_home.Reads as by-home-reads
+use Rattle.pens.proofs.places.by_home.Reads as by-home-reads
 use Rattle.pens.proofs.keys.figure_table.Reads as figure-table-reads
 use Rattle.pens.proofs.keys.file_table.Reads as file-table-reads
 use Rattle.pens.proofs.keys.placed_table.Reads as placed-table-reads

@@ -21,7 +21,7 @@ use Rattle.pens.proofs.noted.note_at.Reads as note-at-reads
 use Rattle.pens.proofs.noted.notes_from.Reads as notes-from-reads
 use Rattle.pens.proofs.noted.put_noted.Reads as put-noted-reads
 use Rattle.pens.proofs.noted.rows_in.Reads as rows-in-reads
-use Rattle.pens.proofs.put.put_plain.Reads as put-plain-reads
+use Rattle.prints.proofs.rows.put_plain.Reads as put-plain-reads
 use Rattle.pens.proofs.noted.+put_part+put_rows+put_slot.{statement}
 use Rattle.pens.proofs.noted.+put_part+put_rows+put_slot.Tie.{close}
 

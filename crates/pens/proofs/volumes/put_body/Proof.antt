@@ -1,5 +1,6 @@
 use mathlib.Core.Path.{sym, _∙_}
-use Rattle.pens.proofs.LentOutput.{full-within, bytes-within, put-long, put-room}
+use Rattle.pens.proofs.Behind.{within-full}
+use Rattle.pens.proofs.LentOutput.{bytes-within, put-long, put-room}
 use Prim.Native.Nat.{suc, _+_, _-_}
 use mathlib.Core.Bool.{cond}
 use borrow.Author.Needs.{needs}
@@ -55,7 +56,7 @@ same-length-2 c = c .before .before .before .before .before .before .on-line .en
 
 returns : tie.Need-returns Inv-loop μ-loop
 returns c = (
-  full-within _ _ (c .before .before .before .before .before .before .on-line .ensures .0 .long ∙ c .before .before .before .before .before .before .before .before .before .before .before .before .before .before .loop .inv .long),
+  within-full _ _ (c .before .before .before .before .before .before .on-line .ensures .0 .long ∙ c .before .before .before .before .before .before .before .before .before .before .before .before .before .before .loop .inv .long),
   c .before .before .before .before .before .before .on-line .ensures .1,
   body-promise _ _ _ _ _ _ _ (λ x. body-short (x .known) _ (x .ends) _ _
       (walk-short _ _ _ _ _ _ _ _ _ _ (c .before .before .before .before .before .before .before .before .before .before .before .before .before .before .loop .inv) (c .before .before .before .before .before .before .before .before .before .before .seen .given .0 .0) (sym (c .before .before .before .before .before .before .before .before .before .before .before .before .look .ensures) ∙ c .before .before .before .before .before .before .before .before .before .before .seen .given .1) _ _ _ (c .before .before .before .before .before .before .on-line .ensures .2) x (c .enum-told2 .given .1) (c .before .before .before .before .before .before .on-line .ensures .0 .long))),
@@ -96,7 +97,7 @@ same-length-4 c = put-long (c .before .before .before .before .before .before .b
 
 returns-2 : tie.Need-returns-2 Inv-loop μ-loop
 returns-2 c = (
-  full-within _ _ (put-long (c .before .before .before .before .before .before .before .before .loop .pen .at) (c .before .before .before .before .before .before .before .before .loop .out) (c .before .before .before .before .before .before .before .before .loop .inv .safe .within) _ _ _ (c .before .before .before .before .put .ensures) ∙ c .before .before .before .before .before .before .before .before .loop .inv .long),
+  within-full _ _ (put-long (c .before .before .before .before .before .before .before .before .loop .pen .at) (c .before .before .before .before .before .before .before .before .loop .out) (c .before .before .before .before .before .before .before .before .loop .inv .safe .within) _ _ _ (c .before .before .before .before .put .ensures) ∙ c .before .before .before .before .before .before .before .before .loop .inv .long),
   c .before .before .before .before .before .before .before .before .loop .inv .many,
   body-promise _ _ _ _ _ _ _ (λ x. body-unwrote _ _ _ _ _ _ _ _ _ _ (c .before .before .before .before .before .before .before .before .loop .inv) (c .before .before .before .before .before .before .before .loop-test .left) _ x (rw (c .enum-told3 .given .1) at (c .before .before .before .before .put .ensures))),
 )

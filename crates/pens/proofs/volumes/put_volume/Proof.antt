@@ -1,7 +1,8 @@
 use Rattle.lines.specs.VolumeNames.{nameAt}
 use mathlib.Core.Path.{refl}
 use native.Mathlib.Omega.{arith}
-use Rattle.pens.proofs.LentOutput.{full-within, bytes-within, within-long, lent-room}
+use Rattle.pens.proofs.Behind.{within-full}
+use Rattle.pens.proofs.LentOutput.{bytes-within, within-long, lent-room}
 use Rattle.pens.proofs.Heads.{name-short, volume-narrow, volume-full, volume-kept, volume-wrote, volume-promise}
 use borrow.Author.Needs.{needs}
 use Rattle.pens.proofs.volumes.put_volume.Statement.{statement}
@@ -13,7 +14,7 @@ use Rattle.pens.proofs.volumes.put_body.Reads as put-body-reads
 use Rattle.pens.proofs.volumes.put_head.Reads as put-head-reads
 
 returns : tie.Need-returns
-returns c = (full-within _ _ refl, c .before .before .before .before .pre, λ K e v next ls s st k no-limit a b g. volume-narrow K _ _ (name-short (c .before .before .before .before .args .s .now) (c .before .before .before .before .args .start)) st _ _ (c .if1 .taken))
+returns c = (within-full _ _ refl, c .before .before .before .before .pre, λ K e v next ls s st k no-limit a b g. volume-narrow K _ _ (name-short (c .before .before .before .before .args .s .now) (c .before .before .before .before .args .start)) st _ _ (c .if1 .taken))
 
 sub-put-body : tie.Need-sub-put-body
 sub-put-body c = search needs
@@ -41,7 +42,7 @@ same-length-2 c = search needs
 
 returns-2 : tie.Need-returns-2
 returns-2 c = (
-  full-within _ _ (within-long 12 (c .before .before .before .before .before .before .before .before .before .before .before .before .before .args .out .now) (c .before .before .before .before .before .before .before .before .before .if1 .left) _ _ (c .before .before .before .before .before .before .put-body .ensures .0)),
+  within-full _ _ (within-long 12 (c .before .before .before .before .before .before .before .before .before .before .before .before .before .args .out .now) (c .before .before .before .before .before .before .before .before .before .if1 .left) _ _ (c .before .before .before .before .before .before .put-body .ensures .0)),
   c .before .before .before .before .before .before .put-body .ensures .1,
   volume-promise _ _ _ _ _ _ _ _ _ _ (c .before .before .before .before .before .before .put-body .ensures .2) (λ K st w. volume-full K _ _ (name-short (c .before .before .before .before .before .before .before .before .before .before .before .before .before .args .s .now) (c .before .before .before .before .before .before .before .before .before .before .before .before .before .args .start)) st _ _ (c .before .before .before .before .before .before .before .before .before .if1 .left) _ (rw (c .enum-told .given .1) at w)),
 )

@@ -11,7 +11,7 @@ use borrow.Fn.PlainCycle.{Measures, is, falls, and}
 use Rattle.prints.proofs.contents.capitals.Reads as capitals
 use Rattle.prints.proofs.contents.capitals.Kinds as capitals-kinds
 use Rattle.prints.proofs.contents.+capitals.Lts-capitals as capitals-lts
-use Rattle.prints.proofs.contents.capital.Reads as capital-reads
+use Rattle.leaves.proofs.bytes.capital.Reads as capital-reads
 use Rattle.prints.proofs.texts.text.Reads as text-reads
 use Rattle.prints.proofs.contents.+capitals.{statement}
 use Rattle.prints.proofs.contents.+capitals.Tie.{close}

@@ -1,7 +1,4 @@
-use mathlib.Core.List.{_++_}
-use Rattle.leaves.specs.declared.Wrote.the-variants.{Bytes}
-use Rattle.prints.specs.Texts.{lineEnd}
-use Rattle.prints.proofs.Going.{then, at-front}
+use Rattle.prints.proofs.Whole.{plain-line}
 use borrow.Author.Needs.{needs}
 use Rattle.prints.proofs.rows.put_plain.Statement.{statement}
 use Rattle.prints.proofs.rows.put_plain.Tie as tie
@@ -20,7 +17,7 @@ same-length : tie.Need-same-length
 same-length c = search needs
 
 returns : tie.Need-returns
-returns c = at-front (c .before .before .before .before .before .before .before .before .before .before .args .line .now ++ lineEnd) (c .before .before .before .before .before .before .before .before .before .before .args .out .now) _ _ (then (c .before .before .before .before .before .before .before .before .before .before .args .line .now) lineEnd (c .before .before .before .before .before .before .before .before .before .before .args .out .now) _ _ (Bytes 0) _ _ (c .before .before .before .before .before .before .text .ensures) (c .before .before .end .ensures))
+returns c = plain-line (c .before .before .before .before .before .before .before .before .before .before .args .line .now) (c .before .before .before .before .before .before .before .before .before .before .args .out .now) _ _ _ _ (c .before .before .before .before .before .before .text .ensures) (c .before .before .end .ensures)
 
 pub put-plain-spec : {M : Type 1} → statement M
 put-plain-spec = tie.close (tie.spec text-requires end-requires same-length returns)

@@ -4,9 +4,6 @@ use mir.Val.{SFits}
 use native.Mathlib.Omega.{arith}
 use Rattle.rules.specs.Numbers.{showDecimal}
 use Rattle.prints.proofs.Going.{none-left, beyond, placed-full, placed-room, placed-bytes}
-use native.Mathlib.Omega.{arith}
-use Rattle.rules.specs.Numbers.{showDecimal}
-use Rattle.prints.proofs.Going.{none-left, beyond, placed-full, placed-room, placed-bytes}
 use borrow.Author.Needs.{needs}
 use Rattle.prints.proofs.texts.decimal.Statement.{statement}
 use Rattle.prints.proofs.texts.decimal.Tie as tie

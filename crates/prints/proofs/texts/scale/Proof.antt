@@ -1,9 +1,6 @@
 use native.Mathlib.Omega.{arith}
 use Rattle.rules.specs.Values.{showRatio}
 use Rattle.prints.proofs.Going.{none-left, beyond, placed-full, placed-room, placed-bytes}
-use native.Mathlib.Omega.{arith}
-use Rattle.rules.specs.Values.{showRatio}
-use Rattle.prints.proofs.Going.{none-left, beyond, placed-full, placed-room, placed-bytes}
 use borrow.Author.Needs.{needs}
 use Rattle.prints.proofs.texts.scale.Statement.{statement}
 use Rattle.prints.proofs.texts.scale.Tie as tie

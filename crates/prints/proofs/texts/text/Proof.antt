@@ -1,7 +1,5 @@
 use native.Mathlib.Omega.{arith}
 use Rattle.prints.proofs.Going.{none-left, beyond, placed-full, placed-room, placed-bytes}
-use native.Mathlib.Omega.{arith}
-use Rattle.prints.proofs.Going.{none-left, beyond, placed-full, placed-room, placed-bytes}
 use borrow.Author.Needs.{needs}
 use Rattle.prints.proofs.texts.text.Statement.{statement}
 use Rattle.prints.proofs.texts.text.Tie as tie
