@@ -39,4 +39,5 @@ const SPACE: u8 = 32;
 pub mod ends;
 pub mod forms;
 mod names;
+mod runs;
 pub mod spool;

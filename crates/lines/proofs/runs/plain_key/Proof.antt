@@ -5,8 +5,8 @@ use lib.ListN.{length}
 use borrow.Author.Tests.{not-false}
 use Rattle.lines.specs.LineForms.{KeyPassed}
 use Rattle.lines.proofs.LineLook as laws
-use Rattle.lines.proofs.forms.plain_key.Statement.{statement}
-use Rattle.lines.proofs.forms.plain_key.Tie as tie
+use Rattle.lines.proofs.runs.plain_key.Statement.{statement}
+use Rattle.lines.proofs.runs.plain_key.Tie as tie
 
 abbrev Inv-loop : tie.InvT-loop
 Inv-loop t from i₀ i = (i ≤ length t) × KeyPassed t from i

@@ -1,7 +1,7 @@
 use mathlib.Core.Path.{sym, _∙_}
 use borrow.Author.Needs.{needs}
-use Rattle.lines.proofs.forms.in_either.Statement.{statement}
-use Rattle.lines.proofs.forms.in_either.Tie as tie
+use Rattle.lines.proofs.runs.in_either.Statement.{statement}
+use Rattle.lines.proofs.runs.in_either.Tie as tie
 
 in-run-requires : tie.Need-in-run-requires
 in-run-requires c κs = search needs

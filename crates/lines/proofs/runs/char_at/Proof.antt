@@ -4,8 +4,8 @@ use borrow.Author.Tests.{not-true, not-false}
 use mathlib.Core.Bool.{cond}
 use Rattle.lines.proofs.LineLook as laws
 use borrow.Author.Needs.{needs}
-use Rattle.lines.proofs.forms.char_at.Statement.{statement}
-use Rattle.lines.proofs.forms.char_at.Tie as tie
+use Rattle.lines.proofs.runs.char_at.Statement.{statement}
+use Rattle.lines.proofs.runs.char_at.Tie as tie
 
 shared-slice-read-b : tie.Need-shared-slice-read-b
 shared-slice-read-b c = search needs

@@ -3,8 +3,8 @@ use mathlib.Core.Path.{sym, _∙_}
 use native.Mathlib.Omega.{arith}
 use lib.ListN.{length}
 use Rattle.lines.proofs.LineLook as laws
-use Rattle.lines.proofs.forms.indent.Statement.{statement}
-use Rattle.lines.proofs.forms.indent.Tie as tie
+use Rattle.lines.proofs.runs.indent.Statement.{statement}
+use Rattle.lines.proofs.runs.indent.Tie as tie
 
 abbrev Inv-loop : tie.InvT-loop
 Inv-loop s i₀ i = (i ≤ length s) × laws.BlanksYet s i

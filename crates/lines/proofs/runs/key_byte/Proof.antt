@@ -1,8 +1,8 @@
 use mathlib.Core.Path.{sym, _∙_}
 use Rattle.lines.proofs.LineLook as laws
 use borrow.Author.Needs.{needs}
-use Rattle.lines.proofs.forms.key_byte.Statement.{statement}
-use Rattle.lines.proofs.forms.key_byte.Tie as tie
+use Rattle.lines.proofs.runs.key_byte.Statement.{statement}
+use Rattle.lines.proofs.runs.key_byte.Tie as tie
 
 returns : tie.Need-returns
 returns c = sym (laws.byte-equal (c .before .args .b) (c .if1 .taken))

@@ -4,8 +4,8 @@ use Prim.Native.Nat.{_-_, _≤_, _+_}
 use lib.ListN.{length}
 use Rattle.lines.specs.LineForms.{Passed}
 use Rattle.lines.proofs.LineLook as laws
-use Rattle.lines.proofs.forms.clean_run.Statement.{statement}
-use Rattle.lines.proofs.forms.clean_run.Tie as tie
+use Rattle.lines.proofs.runs.clean_run.Statement.{statement}
+use Rattle.lines.proofs.runs.clean_run.Tie as tie
 
 abbrev Inv-loop : tie.InvT-loop
 Inv-loop t from i₀ i = (i ≤ length t) × Passed t from i

@@ -2,8 +2,8 @@ use mathlib.Core.Path.{sym}
 use native.Mathlib.Omega.{arith}
 use Rattle.lines.proofs.LineForms as laws
 use borrow.Author.Needs.{needs}
-use Rattle.lines.proofs.forms.blank_at.Statement.{statement}
-use Rattle.lines.proofs.forms.blank_at.Tie as tie
+use Rattle.lines.proofs.runs.blank_at.Statement.{statement}
+use Rattle.lines.proofs.runs.blank_at.Tie as tie
 
 shared-slice-read-if1 : tie.Need-shared-slice-read-if1
 shared-slice-read-if1 c = search needs

@@ -2,8 +2,8 @@ use mathlib.Core.Path.{sym, _∙_}
 use native.Mathlib.Omega.{arith}
 use Rattle.lines.proofs.LineLook as laws
 use borrow.Author.Needs.{needs}
-use Rattle.lines.proofs.forms.key_char.Statement.{statement}
-use Rattle.lines.proofs.forms.key_char.Tie as tie
+use Rattle.lines.proofs.runs.key_char.Statement.{statement}
+use Rattle.lines.proofs.runs.key_char.Tie as tie
 
 shared-slice-read-if1 : tie.Need-shared-slice-read-if1
 shared-slice-read-if1 c = search needs
