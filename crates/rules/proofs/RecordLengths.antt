@@ -3,9 +3,9 @@ use Prim.Native.Nat.{ℕ, zero, suc}
 use mathlib.Core.List.{List, [], _∷_}
 use mathlib.Core.Option.{Option}
 use mathlib.Core.Path.{_≡_, refl, _∙_}
-use mathlib.Core.Bool.{cond, Bool}
-use lib.IntN.{ℤ, pos}
-use lib.ListN.{length, length-set, getD}
+use mathlib.Core.Bool.{Bool}
+use lib.IntN.{ℤ}
+use lib.ListN.{length, length-set}
 use lib.Seq.{length-sets}
 use Rattle.rules.specs.Values.{Value}
 use Rattle.rules.specs.Rows.{Rule, Slots, Held, partOf}
@@ -39,7 +39,7 @@ length-held ts h t = length-parts 0 ts h t
 -- states of unread attributes are put where there are places for them
 state-unread : (q : ℕ) (b : Bool) (t : List ℤ) → length (unreadState q b t) ≡ length t
 state-unread zero b t = refl
-state-unread (suc q) b t = length-set t (suc q) (cond b (pos 3) (getD t (suc q) (pos 0)))
+state-unread (suc q) b t = length-set t (suc q) _
 
 pub length-unread : (c d : Digits) (rs : List Rule) (t : List ℤ) → length (markUnread c d rs t) ≡ length t
 length-unread c d [] t = refl
