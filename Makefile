@@ -7,7 +7,7 @@
 # make accread prove the reader and build target/bin/accread: ten to fifteen minutes
 # make accfix  prove the rewriter and build target/bin/accfix
 # make host    prove the C side and build target/staticlib/libhost.a and target/host (examples/host.c)
-# make edits   the wrong programs that the gate leaves out, tried and refused: about half an hour where all is proved
+# make edits   the wrong programs that the gate leaves out, tried and refused: within an hour where all is proved
 # make bench   ns per byte of splitting, of reading and of rewriting a spool, beside plain C (bench/FIGURES.md)
 # make native-bench   the reader's and the rewriter's figures where the machine is not x86-64, without an emulator
 # make stack   the bytes of stack that the check, the reader and the rewriter take
