@@ -21,7 +21,7 @@ use Rattle.rules.specs.RecordTable.{numbers, numbersOf, stateOf, columns, first
 use Rattle.rules.proofs.Chains.{and-left, and-right, cond-same, map-append}
 use Rattle.promises.specs.PlacesApart.{bareValue, bareSlots, bareHeld, barePoint, bareFigure, bareLayer, bareDrawing, bareSymbol, bareBlock, bareContents, bareSet, textPlaces, kindOf, without, placesApart}
 use Rattle.promises.proofs.Bare.{part-bare, range-bare, single-bare}
-use Rattle.promises.proofs.FitSets.{isText, FitSlot, FitSlots, FitHeld, Each, FitFigure, FitSymbol, FitBlock, FitContents, FitVolumes, FitSet}
+use Rattle.promises.proofs.FitSets.{isText, isShown, anyText, FitSlot, FitSlots, FitHeld, Each, FitFigure, FitSymbol, FitBlock, FitContents, FitVolumes, FitSet}
 
 -- ── lists that agree but at some places ──
 abbrev isPlace : ℕ → ℕ → Bool
@@ -68,7 +68,7 @@ text-columns (either i) e = cc
 -- what `FitHeld` says, part by part from number n on
 abbrev FitParts : ℕ → List (List Rule) → Held → Type 0
 FitParts n [] h = Unit {0}
-FitParts n (r ∷ ts) h = FitSlots r (partOf h n) × FitParts (suc n) ts h
+FitParts n (r ∷ ts) h = FitSlots anyText r (partOf h n) × FitParts (suc n) ts h
 
 module _ (p : ℕ → Bool) where
   -- the same number goes into both
@@ -121,22 +121,22 @@ module _ (p : ℕ → Bool) where
   abbrev rowApart : Rule → Bool
   rowApart r = not (isText (r .holds)) || hidesPlace (r .place)
 
-  numbers-apart : (d : Kind) (q : ℕ) (o : Option Value) (t u : List ℤ) → (not (isText d) || hidesPlace q) ≡ true → FitSlot (isText d) o → without p t ≡ without p u
+  numbers-apart : (d : Kind) (b : Bool) (q : ℕ) (o : Option Value) (t u : List ℤ) → (not (isText d) || hidesPlace q) ≡ true → FitSlot anyText (isText d) b o → without p t ≡ without p u
       → without p (putNumbers q (padded (columns d) (numbersOf o)) t) ≡ without p (putNumbers q (padded (columns d) (numbersOf (mapO bareValue o))) u)
-  numbers-apart d q none t u a f e = numbers-same q _ t u e
-  numbers-apart d q (some empty) t u a f e = numbers-same q _ t u e
-  numbers-apart d q (some (nums v)) t u a f e = numbers-same q _ t u e
-  numbers-apart d zero (some (chars at c)) t u a f e = e
-  numbers-apart d (suc q) (some (chars at c)) t u a f e =
-      rw (text-columns d f)
-      (set-same (set t (suc q) (pos at)) (set u (suc q) (pos 0)) (suc (suc q)) (pos (length c)) (set-hidden t u (suc q) (pos at) (pos 0) (rw f at a) e))
-  numbers-apart d q (some (linked n ps)) t u a f e = numbers-same q _ t u e
+  numbers-apart d b q none t u a f e = numbers-same q _ t u e
+  numbers-apart d b q (some empty) t u a f e = numbers-same q _ t u e
+  numbers-apart d b q (some (nums v)) t u a f e = numbers-same q _ t u e
+  numbers-apart d b zero (some (chars at c)) t u a f e = e
+  numbers-apart d b (suc q) (some (chars at c)) t u a f e =
+      rw (text-columns d (f .0))
+      (set-same (set t (suc q) (pos at)) (set u (suc q) (pos 0)) (suc (suc q)) (pos (length c)) (set-hidden t u (suc q) (pos at) (pos 0) (rw (f .0) at a) e))
+  numbers-apart d b q (some (linked n ps)) t u a f e = numbers-same q _ t u e
 
-  slot-apart : (r : Rule) (o : Option Value) (t u : List ℤ) → rowApart r ≡ true → FitSlot (isText (r .holds)) o → without p t ≡ without p u
+  slot-apart : (r : Rule) (o : Option Value) (t u : List ℤ) → rowApart r ≡ true → FitSlot anyText (isText (r .holds)) (isShown (r .holds)) o → without p t ≡ without p u
       → without p (putSlot r o t) ≡ without p (putSlot r (mapO bareValue o) u)
-  slot-apart r o t u a f e = rw (state-bare o) (state-same (r .state) (stateOf o) _ _ (numbers-apart (r .holds) (r .place) o t u a f e))
+  slot-apart r o t u a f e = rw (state-bare o) (state-same (r .state) (stateOf o) _ _ (numbers-apart (r .holds) (isShown (r .holds)) (r .place) o t u a f e))
 
-  slots-apart : (rs : List Rule) (s : Slots) (t u : List ℤ) → all rowApart rs ≡ true → FitSlots rs s → without p t ≡ without p u
+  slots-apart : (rs : List Rule) (s : Slots) (t u : List ℤ) → all rowApart rs ≡ true → FitSlots anyText rs s → without p t ≡ without p u
       → without p (putSlots rs s t) ≡ without p (putSlots rs (bareSlots s) u)
   slots-apart [] s t u a f e = e
   slots-apart (r ∷ rs) s t u a f e =
@@ -195,11 +195,11 @@ each-item : {A : Type 0} (P : A → Type 0) (f : A → List (List ℤ)) (b : A �
 each-item P f b e [] g = no-record
 each-item P f b e (a ∷ s) g = behind-it (e a (g .0)) (each-item P f b e s (g .1))
 
-drawing-apart : (d : Drawing) → FitSlots drawingTable (d .own) → placesApart (drawingRecord d) ≡ placesApart (drawingRecord (bareDrawing d))
+drawing-apart : (d : Drawing) → FitSlots anyText drawingTable (d .own) → placesApart (drawingRecord d) ≡ placesApart (drawingRecord (bareDrawing d))
 unfolding drawingTable
 drawing-apart d f = slots-apart (isPlace 3) drawingTable (d .own) (start 3 0 1 (d .line)) (start 3 0 1 0) refl f refl
 
-symbol-apart : (n : ℕ) (y : Symbol) → FitSlots symbolTable (y .own)
+symbol-apart : (n : ℕ) (y : Symbol) → FitSlots anyText symbolTable (y .own)
     → placesApart (putSlots symbolTable (y .own) (start 4 n 1 (y .line))) ≡ placesApart (putSlots symbolTable (bareSlots (y .own)) (start 4 n 1 0))
 unfolding symbolTable
 symbol-apart n y f = slots-apart (isPlace 4) symbolTable (y .own) (start 4 n 1 (y .line)) (start 4 n 1 0) refl f refl
@@ -214,7 +214,7 @@ layer-apart : (n : ℕ) (l : Layer) → placesApart (layerRecord n l) ≡ places
 layer-apart n l = rw (second-bare (l .name))
 
 -- both records of FILE_FORMAT in the first volume: the line of the second stands at 35
-header-apart : (k : ℕ) (v : Contents) → FitHeld (fileTables true) (v .file)
+header-apart : (k : ℕ) (v : Contents) → FitHeld anyText (fileTables true) (v .file)
     → Apart (fileRecords true k v) (fileRecords true k (bareContents v))
 unfolding fileTable rangeTable baseTable elecTable symTable
 header-apart k v f =
@@ -225,7 +225,7 @@ header-apart k v f =
           (start 1 0 k (v .line) ++ start 2 0 k (v .line)) (start 1 0 k 0 ++ start 2 0 k 0) refl (f 0, (f 1, (f 2, (f 3, (f 4, tt))))) refl);
     }
 
-later-apart : (k : ℕ) (v : Contents) → FitHeld (fileTables false) (v .file)
+later-apart : (k : ℕ) (v : Contents) → FitHeld anyText (fileTables false) (v .file)
     → Apart (fileRecords false k v) (fileRecords false k (bareContents v))
 unfolding laterTable
 later-apart k v f =
@@ -249,13 +249,13 @@ chain-apart more owner volume line ps = rw (length-map ps barePoint, type-bare p
     type-bare [] = refl
     type-bare (p ∷ ps) = refl
 
-text-apart : (b : Bool) (owner volume line : ℕ) (s : Slots) → FitSlots (textTable b 4 12) s
+text-apart : (b : Bool) (owner volume line : ℕ) (s : Slots) → FitSlots anyText (textTable b 4 12) s
     → placesApart (textRecord (moreIn b) owner volume line s) ≡ placesApart (textRecord (moreIn b) owner volume 0 (bareSlots s))
 unfolding textTable
 text-apart true owner volume line s f = slots-apart (isPlace 15) (textTable true 4 12) s (start 15 owner volume line) (start 15 owner volume 0) refl f refl
 text-apart false owner volume line s f = slots-apart (isPlace 35) (textTable true 4 12) s (start 35 owner volume line) (start 35 owner volume 0) refl f refl
 
-placed-apart : (c d : Digits) (owner volume line : ℕ) (h : Held) → FitHeld placedTables h
+placed-apart : (c d : Digits) (owner volume line : ℕ) (h : Held) → FitHeld anyText placedTables h
     → placesApart (placedRecord c d 0 owner volume line h) ≡ placesApart (placedRecord c d 0 owner volume 0 (bareHeld h))
 unfolding textTable placedTable
 placed-apart c d owner volume line h f =
@@ -282,7 +282,7 @@ plain-apart c d t more owner volume line j v = go (eqb j 6)
     go true = placed-line c d more owner volume line h
     go false = line-apart (ruleAt t j) (some (nums v)) (10 + more + j) owner volume line
 
-figure-apart : (b : Bool) (c d : Digits) (t : List Rule) (owner volume : ℕ) (f : Figure) → FitFigure b f
+figure-apart : (b : Bool) (c d : Digits) (t : List Rule) (owner volume : ℕ) (f : Figure) → FitFigure anyText b f
     → Apart (figureRecords c d t (moreIn b) owner volume f) (figureRecords c d t (moreIn b) owner volume (bareFigure f))
 figure-apart b c d t owner volume (plain n j v) g = one-more (plain-apart c d t (moreIn b) owner volume n j v) no-record
 figure-apart b c d t owner volume (chain n ps) g = one-more (chain-apart (moreIn b) owner volume n ps) (points-apart (17 + moreIn b) owner volume ps)
@@ -295,25 +295,25 @@ layers-apart : (n : ℕ) (ls : List Layer) → Apart (layerRecords n ls) (layerR
 layers-apart n [] = no-record
 layers-apart n (l ∷ ls) = one-more (layer-apart n l) (layers-apart (suc n) ls)
 
-inner-apart : (n : ℕ) (y : Symbol) → FitSymbol y → Apart (innerRecords n y) (innerRecords n (bareSymbol y))
+inner-apart : (n : ℕ) (y : Symbol) → FitSymbol anyText y → Apart (innerRecords n y) (innerRecords n (bareSymbol y))
 inner-apart n y g =
-    go (y .hideFirst) (each-item (FitFigure false) _ bareFigure (figure-apart false (digits 0 0) (digits 0 0) figureTable n 1) (y .figures) (g .1)) (points-apart 43 n 1 (y .hidden))
+    go (y .hideFirst) (each-item (FitFigure anyText false) _ bareFigure (figure-apart false (digits 0 0) (digits 0 0) figureTable n 1) (y .figures) (g .1)) (points-apart 43 n 1 (y .hidden))
   where
     go : (b : Bool) {s t u v : List (List ℤ)} → Apart s u → Apart t v → Apart (cond b (t ++ s) (s ++ t)) (cond b (v ++ u) (u ++ v))
     go true p q = behind-it q p
     go false p q = behind-it p q
 
-symbols-apart : (n : ℕ) (ys : List Symbol) → Each FitSymbol ys → Apart (symbolRecords n ys) (symbolRecords n (map bareSymbol ys))
+symbols-apart : (n : ℕ) (ys : List Symbol) → Each (FitSymbol anyText) ys → Apart (symbolRecords n ys) (symbolRecords n (map bareSymbol ys))
 symbols-apart n [] g = no-record
 symbols-apart n (y ∷ ys) g = one-more (symbol-apart n y (g .0 .0)) (behind-it (inner-apart n y (g .0)) (symbols-apart (suc n) ys (g .1)))
 
 module _ (c d : Digits) (t : List Rule) where
-  body-apart : (k : ℕ) (v : Contents) → Each FitBlock (v .blocks) → Apart (bodyRecords c d t k v) (bodyRecords c d t k (bareContents v))
+  body-apart : (k : ℕ) (v : Contents) → Each (FitBlock anyText) (v .blocks) → Apart (bodyRecords c d t k v) (bodyRecords c d t k (bareContents v))
   body-apart k v g =
-      each-item FitBlock (blockRecords c d t k) bareBlock
-      (λ u h. each-item (FitFigure true) (figureRecords c d t 0 (u .layer) k) bareFigure (figure-apart true c d t (u .layer) k) (u .figures) h) (v .blocks) g
+      each-item (FitBlock anyText) (blockRecords c d t k) bareBlock
+      (λ u h. each-item (FitFigure anyText true) (figureRecords c d t 0 (u .layer) k) bareFigure (figure-apart true c d t (u .layer) k) (u .figures) h) (v .blocks) g
 
-  volumes-apart : (k : ℕ) (vs : List Contents) → Each (FitContents false) vs → Apart (laterRecords c d t k vs) (laterRecords c d t k (map bareContents vs))
+  volumes-apart : (k : ℕ) (vs : List Contents) → Each (FitContents anyText false) vs → Apart (laterRecords c d t k vs) (laterRecords c d t k (map bareContents vs))
   volumes-apart k [] g = no-record
   volumes-apart k (v ∷ vs) g = behind-it (behind-it (later-apart k v (g .0 .0)) (body-apart k v (g .0 .1))) (volumes-apart (suc k) vs (g .1))
 
@@ -322,7 +322,7 @@ module _ (c d : Digits) (t : List Rule) where
       fileRecords true 1 v ++ (drawingRecord (s .drawing) ∷ layerRecords 0 (s .drawing .layers)) ++ symbolRecords 0 (s .symbols)
       ++ bodyRecords c d t 1 v ++ laterRecords c d t 2 vs
 
-  all-apart : (s : Set) (v : Contents) (vs : List Contents) → FitSlots drawingTable (s .drawing .own) → Each FitSymbol (s .symbols) → FitVolumes (v ∷ vs)
+  all-apart : (s : Set) (v : Contents) (vs : List Contents) → FitSlots anyText drawingTable (s .drawing .own) → Each (FitSymbol anyText) (s .symbols) → FitVolumes anyText (v ∷ vs)
       → Apart (allRecords s v vs) (allRecords (bareSet s) (bareContents v) (map bareContents vs))
   all-apart s v vs fd fy fv =
       behind-it
@@ -331,12 +331,12 @@ module _ (c d : Digits) (t : List Rule) where
       (body-apart 1 v (fv .0 .1)))
       (volumes-apart 2 vs (fv .1))
 
-pub records-bare : (c : Digits) (s : Set) → FitSet s → map placesApart (recordsOf c s) ≡ map placesApart (recordsOf c (bareSet s))
+pub records-bare : (c : Digits) (s : Set) → FitSet anyText s → map placesApart (recordsOf c s) ≡ map placesApart (recordsOf c (bareSet s))
 unfolding recordsOf
 records-bare c s f = go (s .volumes) (f .2)
   where
-    go : (vs : List Contents) → FitVolumes vs → map placesApart (recordsFrom c s vs) ≡ map placesApart (recordsFrom c (bareSet s) (map bareContents vs))
+    go : (vs : List Contents) → FitVolumes anyText vs → map placesApart (recordsFrom c s vs) ≡ map placesApart (recordsFrom c (bareSet s) (map bareContents vs))
     go [] g = refl
     go (v ∷ vs) g =
-        all-apart c (rangeOf s) (layerTable (isSingle s)) s v vs (f .0) (f .1) g .eq
+        all-apart c (rangeOf s) (layerTable (isSingle s)) s v vs (f .0 .0) (f .1) g .eq
         ∙ ap₂ (λ d t. map placesApart (allRecords c d t (bareSet s) (bareContents v) (map bareContents vs))) (sym (range-bare s)) (ap layerTable (sym (single-bare s)))
