@@ -18,7 +18,7 @@ use Rattle.rules.specs.Sets.{Contents}
 use Rattle.rules.specs.Machine.{layerValue}
 use Rattle.rules.proofs.Chains.{On, on-unless, on-map, by-cond, on-weaken, on-all, and-false, clash}
 use Rattle.rules.proofs.Rows.{Row, here, there, found-row}
-use Rattle.promises.proofs.FitSets.{isText, isShown, FitValue, FitSlots, FitHeld, Each, FitContents, FitVolumes}
+use Rattle.promises.proofs.FitSets.{isShown, FitValue, FitSlots, FitHeld, Each, FitContents, FitVolumes}
 
 pub each-more : {A : Type 0} (P : A → Type 0) (s : List A) (a : A) → Each P s → P a → Each P (s ++ a ∷ [])
 each-more P [] a g x = (x, tt)

@@ -27,7 +27,7 @@ use Rattle.rules.proofs.Rows.{Row, found-row, row-below}
 use Rattle.promises.specs.PlacesApart.{bareSet, placesApart}
 use Rattle.promises.proofs.RecordPlaces.{records-bare}
 use Rattle.promises.proofs.FitSets.{anyText, FitValue, FitSlots, FitHeld, Each, FitPlain, FitFigure, FitLayer, FitDrawing, FitSymbol, FitBlock, FitContents, FitSet}
-use Rattle.promises.proofs.FitRows.{each-more, volume-more, fit-nil, fit-blank, fit-set, fit-blanks, fit-enter, FitRest, FitForm, layer-fit, FitRow, FitAct, row-fit, unknown-fit, act-fit}
+use Rattle.promises.proofs.FitRows.{each-more, volume-more, fit-nil, fit-blank, fit-set, fit-blanks, fit-enter, FitForm, layer-fit, FitRow, FitAct, row-fit, unknown-fit, act-fit}
 
 module _ (S : ℕ → List ℕ → Type 0) where
   -- ── states ──

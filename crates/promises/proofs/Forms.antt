@@ -213,7 +213,7 @@ tells-more m n (keyed k brace) h t = omega arith
 tells-more m n (keyed k (equals p c)) h t = (omega (arith, t .0), t .1)
 
 -- what a scan tells of what was scanned
-abbrev Cuts : List ℕ → Scan → Type 0
+abbrev pub Cuts : List ℕ → Scan → Type 0
 Cuts s neither = Unit {0}
 Cuts s (atEqual k c) = s ≡ k ++ 61 ∷ c
 Cuts s (atBrace k c) = s ≡ k ++ 58 ∷ 123 ∷ c
@@ -227,7 +227,7 @@ cuts-colon : (s : List ℕ) (z : Scan) → Cuts s z → Cuts (58 ∷ s) (afterCo
 cuts-colon [] z e = cuts-onto 58 [] z e
 cuts-colon (b ∷ s) z e = by-cond (Cuts (58 ∷ b ∷ s)) (eqb b 123) (λ q. ap (λ n. 58 ∷ n ∷ s) (eqb-true b 123 q)) (λ q. cuts-onto 58 (b ∷ s) z e)
 
-scan-cuts : (s : List ℕ) → Cuts s (scan s)
+pub scan-cuts : (s : List ℕ) → Cuts s (scan s)
 scan-cuts [] = tt
 scan-cuts (b ∷ s) =
     let i = scan-cuts s in

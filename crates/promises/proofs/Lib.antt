@@ -1,4 +1,5 @@
 pub mod Answered
+pub mod AnyTable
 pub mod BackBlocks
 pub mod BackDrawing
 pub mod BackFigures
@@ -37,6 +38,7 @@ pub mod LengthBlocks
 pub mod LengthFigures
 pub mod LengthRows
 pub mod Limits
+pub mod LinePlaces
 pub mod Listing
 pub mod Lower
 pub mod LowerPlaced
@@ -47,6 +49,7 @@ pub mod LowerSerials
 pub mod LowerSteps
 pub mod Nameless
 pub mod Numbers
+pub mod Parsed
 pub mod Places
 pub mod RecordCount
 pub mod RecordPlaces
@@ -54,6 +57,8 @@ pub mod Refusals
 pub mod RewriterBack
 pub mod Round
 pub mod RowGood
+pub mod SetTexts
+pub mod ShownTexts
 pub mod Sizes
 pub mod Stands
 pub mod TextPlaces

@@ -1,25 +1,27 @@
 -- Demand 2, proved: the fixed form of an accepted spool, read back and written again.
 use Prim.Native.Nat.{ℕ, suc, _+_, _*_, _/_, _≤_}
-use mathlib.Core.Bool.{true, not}
+use mathlib.Core.Bool.{true, cond, not}
 use mathlib.Core.List.{List, [], _∷_, _++_, map}
-use mathlib.Core.Option.{Option, none, some}
+use mathlib.Core.Option.{none, some}
 use mathlib.Core.Path.{_≡_, refl, sym, _∙_, ap, ap₂, subst}
 use native.Mathlib.Omega.{arith}
 use lib.ListN.{length, length-map}
+use borrow.Author.Tests.{le-leb}
 use Rattle.rules.specs.declared.Digits.{Digits}
 use Rattle.rules.specs.declared.Answer.the-variants.{Accepted}
-use Rattle.rules.specs.Base.{isNil, all, total}
+use Rattle.rules.specs.Base.{mapO, isNil, all, total}
 use Rattle.rules.specs.Spool.{Volume, namesOf, volumesOf, unlines}
-use Rattle.rules.specs.RangeClass.{classOf}
 use Rattle.rules.specs.Sets.{Contents, Set, nothingYet}
 use Rattle.rules.specs.Machine.{Line, Env, top, Outcome, refused, accepted, run}
 use Rattle.rules.specs.RecordTable.{width, recordsFrom, recordsOf}
 use Rattle.rules.specs.FixedForm.{Text, volumeLines, volumesBytes, fixedForm}
-use Rattle.rules.specs.Answers.{numbered, nextName, Listed, listed, noLines, listVolumes, outcomeOfLines, outcomeOfVolumes, outcomeOf, answerWith, readOutcome, readRecords, readAnswer, fullClass, namesIn, writtenIn, rewriteOutcome, written}
-use Rattle.rules.proofs.Runs.{not-accepted}
+use Rattle.rules.specs.Answers.{numbered, nextName, answerWith, refusal, readOutcome, readRecords, readAnswer, fullClass, namesIn, writtenIn, rewriteOutcome, written, fitOutput, rewriteAnswer}
 use Rattle.rules.proofs.Chains.{and-left, and-right, and-true, clash}
-use Rattle.promises.specs.PlacesApart.{bareLine, bareSet, placesApart, textsFrom, textsOf}
-use Rattle.promises.specs.DemandTwo.{RoundTrip, DemandTwo}
+use Rattle.promises.specs.PlacesApart.{bareLine, bareSet, placesApart}
+use Rattle.promises.specs.TableTexts.{textsOf}
+use Rattle.promises.specs.TextsKept.{textsKept}
+use Rattle.promises.specs.DemandTwo.{RoundTrip, DemandTwo, WrittenBack}
+use Rattle.promises.proofs.AnyTable.{rewrite-is, class15, fits-table, any-table}
 use Rattle.promises.proofs.Frame.{Spooled, laid, framed, volumes-inv, volumes-back, volumes-framed, framed-length, names-laid}
 use Rattle.promises.proofs.Frames.{listing-bare, laid-texts, nextsOfNames, nexts-names, named}
 use Rattle.promises.proofs.Good.{GoodSet}
@@ -27,7 +29,7 @@ use Rattle.promises.proofs.GoodLines.{lines-fine, lines-some, lines-cou
 use Rattle.promises.proofs.BackSlots.{layAll, plainEnv, retaken}
 use Rattle.promises.proofs.BackSet.{endsOnce, set-back}
 use Rattle.promises.proofs.Inv.{nextsOf, Steady, read-good}
-use Rattle.promises.proofs.Sizes.{listing, Texts, listing-inv, listing-of, nextsOfVolumes, someLines, none-empty, unlines-length, sizes, sizes-weight, volumes-weight, listing-told}
+use Rattle.promises.proofs.Sizes.{listing, Texts, nextsOfVolumes, someLines, none-empty, unlines-length, sizes, sizes-weight, volumes-weight, listing-told}
 use Rattle.promises.proofs.Weights.{weigh}
 use Rattle.promises.proofs.Length.{fixed-short}
 use Rattle.promises.proofs.Places.{accepted-real}
@@ -35,37 +37,9 @@ use Rattle.promises.proofs.Fits.{records-read}
 use Rattle.promises.proofs.Limits.{limit-lift, limit-drop, taken-fits, taken-counts}
 use Rattle.promises.proofs.TwoClasses.{taken, outcome-at}
 use Rattle.promises.proofs.BareForm.{form-bare}
+use Rattle.promises.proofs.Parsed.{Parsed, parsed, reading}
+use Rattle.promises.proofs.ShownTexts.{shown-texts, read-shows}
 use Rattle.promises.proofs.TextPlaces.{texts-bare}
-
--- ── a spool that was read ──
-pub record Parsed (e : Env) (spool : List ℕ) (s : Set) : Type 0 where
-  pub volumes : List Volume
-  pub found : volumesOf spool ≡ some volumes
-  pub texts : List Text
-  pub theirs : Texts volumes texts
-  pub runs : run e (top nothingYet 0) (listing 1 volumes texts) ≡ accepted s
-
-parsed : (e : Env) (spool : List ℕ) (s : Set) → outcomeOfVolumes e (volumesOf spool) ≡ accepted s → Parsed e spool s
-parsed e spool s h = go (volumesOf spool) refl h
-  where
-    by : (vs : List Volume) → volumesOf spool ≡ some vs → (l : Listed) → listVolumes 1 vs ≡ l → outcomeOfLines e l ≡ accepted s → Parsed e spool s
-    by vs p (listed ls) q h =
-        let i = listing-inv 1 vs ls q in
-        record { volumes = vs; found = p; texts = i .texts; theirs = i .theirs; runs = ap (run e (top nothingYet 0)) (sym (i .are)) ∙ h }
-    by vs p (noLines v) q h = not-accepted h
-
-    go : (o : Option (List Volume)) → volumesOf spool ≡ o → outcomeOfVolumes e o ≡ accepted s → Parsed e spool s
-    go none p h = not-accepted h
-    go (some vs) p h = by vs p (listVolumes 1 vs) refl h
-
--- a spool with these volumes and texts is read by their listing
-reading : (e : Env) (spool : List ℕ) (vs : List Volume) (ts : List Text) → volumesOf spool ≡ some vs → Texts vs ts
-    → outcomeOfVolumes e (volumesOf spool) ≡ run e (top nothingYet 0) (listing 1 vs ts)
-reading e spool vs ts p h = ap (outcomeOfVolumes e) p ∙ ap (outcomeOfLines e) (listing-of 1 vs ts h)
-
-pub rewrite-is : (spool : List ℕ) → rewriteOutcome spool ≡ outcomeOfVolumes plainEnv (volumesOf spool)
-unfolding rewriteOutcome outcomeOf
-rewrite-is spool = refl
 
 -- what is written of a spool whose set is known
 written-is : (spool : List ℕ) (vs : List Volume) (s : Set) → volumesOf spool ≡ some vs → rewriteOutcome spool ≡ accepted s → written spool ≡ fixedForm (namesOf vs) s
@@ -93,13 +67,6 @@ records-retaken c m s = go (s .volumes)
     go [] = refl
     go (v ∷ vs) = refl
 
-texts-retaken : (m : ℕ) (s : Set) → textsOf (retaken m s) ≡ textsOf s
-texts-retaken m s = go (s .volumes)
-  where
-    go : (vs : List Contents) → textsFrom (retaken m s) vs ≡ textsFrom s vs
-    go [] = refl
-    go (v ∷ vs) = refl
-
 -- sums over lists
 total-plus : {A : Type 0} (k : ℕ) (f : A → ℕ) (s : List A) → total (λ a. k + f a) s ≡ k * length s + total f s
 total-plus k f [] = omega arith
@@ -108,10 +75,6 @@ total-plus k f (a ∷ s) = let e = total-plus k f s in omega arith
 body-total : (ts : List Text) → total (λ b. 12 + length b) (map unlines ts) ≡ total (λ t. 13 + weigh t) ts
 body-total [] = refl
 body-total (t ∷ ts) = let a = unlines-length t in let b = body-total ts in omega arith
-
-pub class15 : classOf 15 ≡ some fullClass
-unfolding classOf
-class15 = refl
 
 pub accepted-same : {s t : Set} → accepted s ≡ accepted t → s ≡ t
 accepted-same e = cc
@@ -128,6 +91,13 @@ accepted-inv len spool n e = go (readOutcome 15 len spool) refl
     go : (o : Outcome) → readOutcome 15 len spool ≡ o → (u : Set) × (readOutcome 15 len spool ≡ accepted u) × (length (recordsOf fullClass u) ≡ n)
     go (refused k v l) q = absurd (let z = sym (answer-with len spool (refused k v l) q) ∙ e in let y : _≡_ {A = ℕ} 0 1 = cc in omega arith)
     go (accepted u) q = (u, q, let z = sym (taken len spool 15 fullClass u class15 q .1) ∙ e in cc)
+
+-- with room for it the rewriter accepts
+pub room-accepts : (len : ℕ) (spool : List ℕ) (s : Set) → rewriteOutcome spool ≡ accepted s → length (written spool) ≤ len → rewriteAnswer len spool ≡ Accepted (length (written spool))
+unfolding rewriteAnswer
+room-accepts len spool s e h =
+    let n = length (written spool) in
+    ap (λ o. fitOutput len n (answerWith n o)) e ∙ ap (λ b. cond b (Accepted n) (refusal 20 0 0)) (le-leb n len h)
 
 -- the lines written weigh no more than the lines read
 no-longer : (vs : List Volume) (ts : List Text) (s : Set) → Texts vs ts → all someLines ts ≡ true → run plainEnv (top nothingYet 0) (listing 1 vs ts) ≡ accepted s
@@ -277,9 +247,6 @@ module _ (spool : List ℕ) (s : Set) (outcome : rewriteOutcome spool ≡ accept
         ∙ sym (form-bare names t) ∙ ap (fixedForm names) (a .bare) ∙ form-retaken names (a .count) (bareSet s) ∙ form-bare names s
         ∙ sym (written-is spool vs s (p .found) outcome)
 
-    again-texts : textsOf t ≡ textsOf s
-    again-texts = sym (texts-bare t) ∙ ap textsOf (a .bare) ∙ texts-retaken (a .count) (bareSet s) ∙ texts-bare s
-
     again-records : (c : Digits) → map placesApart (recordsOf c t) ≡ map placesApart (recordsOf c s)
     again-records c =
         records-read c plainEnv (listing 1 (laid 0 names bodies) lines) t (a .runs)
@@ -292,6 +259,21 @@ module _ (spool : List ℕ) (s : Set) (outcome : rewriteOutcome spool ≡ accept
         sym (taken-counts fullClass fullClass none (listing 1 (laid 0 names bodies) lines) t (a .runs))
         ∙ sym (length-map (recordsOf fullClass t) placesApart) ∙ ap length (again-records fullClass) ∙ length-map (recordsOf fullClass s) placesApart
         ∙ taken-counts fullClass fullClass none (listing 1 vs (p .texts)) s (p .runs)
+
+    -- so the count of records is the same, and the whole set
+    again-set : bareSet t ≡ bareSet s
+    again-set =
+        let n : a .count ≡ s .taken = sym (ap (λ (v : Set). v .taken) (a .bare)) ∙ again-taken in
+        a .bare ∙ ap (λ (m : ℕ). retaken m (bareSet s)) n
+
+    again-texts : (c : Digits) → textsOf (written spool) (recordsOf c t) ≡ textsOf spool (recordsOf c s)
+    again-texts c =
+        shown-texts (written spool) (recordsOf c t) (textsKept t) (read-shows plainEnv c (written spool) t (sym (rewrite-is (written spool)) ∙ again-outcome))
+        ∙ sym (texts-bare t) ∙ ap textsKept again-set ∙ texts-bare s
+        ∙ sym (shown-texts spool (recordsOf c s) (textsKept s) (read-shows plainEnv c spool s (sym (rewrite-is spool) ∙ outcome)))
+
+    again-names : mapO namesOf (volumesOf (written spool)) ≡ mapO namesOf (volumesOf spool)
+    again-names = ap (mapO namesOf) (ap volumesOf is-output ∙ again-found) ∙ ap some (names-laid 0 names bodies as-bodies) ∙ sym (ap (mapO namesOf) (p .found))
 
     -- ── with a table ──
     module _ (len : ℕ) (u : Set) (reads : readOutcome 15 len spool ≡ accepted u) where
@@ -316,13 +298,21 @@ module _ (spool : List ℕ) (s : Set) (outcome : rewriteOutcome spool ≡ accept
           ∙ reading env output (laid 0 names bodies) lines again-found again-theirs
           ∙ limit-lift fullClass m (listing 1 (laid 0 names bodies) lines) (top nothingYet 0) t (a .runs) (omega arith)
 
+  written-short : length (written spool) ≤ length spool
+  written-short = subst (λ o. length o ≤ length spool) (sym is-output) output-length
+
   round : RoundTrip spool s
   round =
       let a = again in
       record {
-        noLonger = subst (λ o. length o ≤ length spool) (sym is-output) output-length;
+        noLonger = written-short;
+        writes = λ size room. room-accepts size spool s outcome (omega (arith, written-short, room));
+        many = length (recordsOf fullClass s);
+        reads = λ len room. taken len spool 15 fullClass s class15 (fits-table len spool s outcome room) .1;
+        names = again-names a;
         set = a .set;
         again = again-outcome a;
+        whole = again-set a;
         count = λ len n e.
             let (u, o, q) = accepted-inv len spool n e in
             let w = taken len (written spool) 15 fullClass (a .set) class15 (again-limited a len u o) in
@@ -332,9 +322,20 @@ module _ (spool : List ℕ) (s : Set) (outcome : rewriteOutcome spool ≡ accept
             let (u, o, q) = accepted-inv len spool n e in
             ap (map placesApart) (taken len (written spool) 15 fullClass (a .set) class15 (again-limited a len u o) .0) ∙ again-records a fullClass
             ∙ ap (λ v. map placesApart (recordsOf fullClass v)) (sym (same-set a len u o)) ∙ ap (map placesApart) (sym (taken len spool 15 fullClass u class15 o .0));
-        texts = again-texts a;
+        texts = λ len n e.
+            let (u, o, q) = accepted-inv len spool n e in
+            ap (textsOf (written spool)) (taken len (written spool) 15 fullClass (a .set) class15 (again-limited a len u o) .0) ∙ again-texts a fullClass
+            ∙ ap (λ v. textsOf spool (recordsOf fullClass v)) (sym (same-set a len u o)) ∙ ap (textsOf spool) (sym (taken len spool 15 fullClass u class15 o .0));
         twice = again-form a;
       }
 
+pub written-back : WrittenBack
+written-back spool s e = round spool s e (parsed plainEnv spool s (sym (rewrite-is spool) ∙ e))
+
 pub demand-two : DemandTwo
-demand-two spool s e = round spool s e (parsed plainEnv spool s (sym (rewrite-is spool) ∙ e))
+unfolding written-back round
+demand-two spool len n e =
+    let (s, o, q) = accepted-inv len spool n e in
+    let w = any-table len spool s o in
+    let b = written-back spool s w in
+    record { set = s; read = o; rewritten = w; back = b; many = q }

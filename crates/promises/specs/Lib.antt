@@ -4,3 +4,5 @@ pub mod DemandThree
 pub mod PlacesApart
 pub mod ReaderCalls
 pub mod RewriterCalls
+pub mod TableTexts
+pub mod TextsKept

@@ -1,19 +1,15 @@
 -- "Places apart" (demand 2): document 01, "Fixed form": "Places, in demand 2, are line numbers and byte places of text."
 -- What is read, with every place made 0.
-use Prim.Native.Nat.{ℕ, zero, suc}
-use Prim.Native.String as S
-use mathlib.Core.Bool.{Bool, true, cond, _||_}
-use mathlib.Core.List.{List, [], _∷_, _++_, map}
-use mathlib.Core.Option.{Option, none, some}
+use Prim.Native.Nat.{ℕ, suc}
+use mathlib.Core.Bool.{Bool, cond, _||_}
+use mathlib.Core.List.{List, [], _∷_, map}
 use lib.Dec.{eqb}
 use lib.IntN.{ℤ, pos, negsuc}
-use Rattle.rules.specs.Base.{mapO, flat, hasNumber}
+use Rattle.rules.specs.Base.{mapO, hasNumber}
 use Rattle.rules.specs.Lines.{Rest, brace, equals, Form, ignored, wrong, close, eof, keyed}
-use Rattle.rules.specs.Values.{Num, Value, empty, nums, chars, linked, charsOf}
-use Rattle.rules.specs.Rows.{Rule, Slots, Held, partOf, slotValue, held, Act, stay, entry, begin, shut, refuse}
-use Rattle.rules.specs.Blocks.{fileTable, drawingTable}
-use Rattle.rules.specs.Figures.{textTable, placedTable}
-use Rattle.rules.specs.Sets.{Point, Figure, plain, chain, lettering, placed, Layer, Drawing, Symbol, LayerBlock, Contents, Set, symbolNameOf}
+use Rattle.rules.specs.Values.{Value, empty, nums, chars, linked}
+use Rattle.rules.specs.Rows.{Slots, Held, Act, stay, entry, begin, shut, refuse}
+use Rattle.rules.specs.Sets.{Point, Figure, plain, chain, lettering, placed, Layer, Drawing, Symbol, LayerBlock, Contents, Set}
 use Rattle.rules.specs.Machine.{Line, Home, inElement, inLayer, State, top, file, drawing, layerNames, defines, symbol, hide, elements, figures, successive, texts, placing, skipping, ended, Outcome, refused, accepted}
 
 -- ── what is kept ──
@@ -129,39 +125,3 @@ without p (z ∷ t) = cond (p 0) (pos 0) z ∷ without (λ i. p (suc i)) t
 -- a record with its line, at 3, and the byte places of its texts made 0
 abbrev pub placesApart : List ℤ → List ℤ
 placesApart t = without (λ i. hasNumber i (3 ∷ textPlaces (kindOf t))) t
-
--- ── the bytes of the texts that the records show, in the order of the records ──
-abbrev pub textAt : S.String → List Rule → Slots → List ℕ
-textAt k t s = charsOf (slotValue (held k t s))
-
-abbrev pub headerTexts : Slots → List (List ℕ)
-headerTexts s =
-    textAt "cad" fileTable s ∷ textAt "os" fileTable s ∷ textAt "hard" fileTable s ∷ textAt "ver" fileTable s
-    ∷ textAt "corp" fileTable s ∷ textAt "make" fileTable s ∷ textAt "tel" fileTable s ∷ textAt "name" fileTable s ∷ []
-
-abbrev pub drawingTexts : Drawing → List (List ℕ)
-drawingTexts d =
-    textAt "project" drawingTable (d .own) ∷ textAt "drawname" drawingTable (d .own) ∷ textAt "drawer" drawingTable (d .own)
-    ∷ map (λ l. charsOf (l .name)) (d .layers)
-
-abbrev pub figureTexts : Figure → List (List ℕ)
-figureTexts (plain n j v) = []
-figureTexts (chain n ps) = []
-figureTexts (lettering n s) = textAt "character" (textTable true 4 12) s ∷ []
-figureTexts (placed n h) = textAt "circuit" placedTable (partOf h 0) ∷ textAt "character" (textTable true 16 24) (partOf h 1) ∷ []
-
-abbrev pub symbolTexts : Symbol → List (List ℕ)
-symbolTexts y = symbolNameOf y ∷ flat (map figureTexts (y .figures))
-
-abbrev pub blockTexts : LayerBlock → List (List ℕ)
-blockTexts u = flat (map figureTexts (u .figures))
-
-abbrev pub bodyTexts : Contents → List (List ℕ)
-bodyTexts v = flat (map blockTexts (v .blocks))
-
-abbrev pub textsFrom : Set → List Contents → List (List ℕ)
-textsFrom s [] = []
-textsFrom s (v ∷ vs) = headerTexts (partOf (v .file) 0) ++ drawingTexts (s .drawing) ++ flat (map symbolTexts (s .symbols)) ++ flat (map bodyTexts (v ∷ vs))
-
-abbrev pub textsOf : Set → List (List ℕ)
-textsOf s = textsFrom s (s .volumes)

@@ -1,8 +1,9 @@
 -- The demands of the functions themselves: what a caller of `read` or `rewrite` learns is a call as `promises` has it, so its corollaries
 -- hold of the code, from the contracts and the theorems alone.
-use Prim.Native.Nat.{ℕ}
+use Prim.Native.Nat.{ℕ, _≤_}
 use mathlib.Core.List.{List}
 use mathlib.Core.Path.{_≡_}
+use lib.ListN.{length}
 use contract.Lifetimes.{Lfts}
 use denote.Ref.{now}
 use denote.Triple.Clauses.{AtExit}
@@ -10,9 +11,10 @@ use borrow.Fn.Kinds.{PK, RK, Out, Dens, resT, endedOf}
 use Rattle.rules.specs.declared.Refusal.{Refusal}
 use Rattle.rules.specs.declared.Answer.the-variants.{Accepted, Refused}
 use Rattle.promises.specs.ReaderCalls.{Call, TwoCalls, Accepts, Refuses}
-use Rattle.promises.specs.RewriterCalls.{Rewriting, CallsBack}
+use Rattle.promises.specs.RewriterCalls.{Rewriting, CallsBack, Rewrites}
+use Rattle.promises.specs.TextsKept.{Points}
 use Rattle.promises.proofs.Calls.{lower-call-accepts, higher-call-refuses}
-use Rattle.promises.proofs.RewriterBack.{rewriter-calls}
+use Rattle.promises.proofs.RewriterBack.{call-texts, rewriter-calls, accepted-rewrites}
 use Rattle.sets.proofs.reader.read as read′
 use Rattle.sets.proofs.rewriter.rewrite as rewrite′
 
@@ -45,6 +47,18 @@ rewrite-call κs x r e c = record {
 pub rewrites-back : (κs : Lfts 2) (x : Dens κs rewrite′.Kinds.ps) (r : resT rewrite′.Kinds.r κs .Denot) (e : AtExit (endedOf 2 rewrite′.Kinds.ps rewrite′.Kinds.r) κs)
     (c : rewrite′.Reads.Learnt κs x r e) (n : ℕ) → r ≡ Accepted n → CallsBack (rewrite-call κs x r e c) n
 rewrites-back κs x r e c n = rewriter-calls (rewrite-call κs x r e c) n
+
+-- what `read` accepts at class 15 is accepted by `rewrite`, with an output not shorter than the spool
+pub read-rewritten : (κs κs′ : Lfts 2) (x : Dens κs read′.Kinds.ps) (x′ : Dens κs′ rewrite′.Kinds.ps) (r : resT read′.Kinds.r κs .Denot) (r′ : resT rewrite′.Kinds.r κs′ .Denot)
+    (e : AtExit (endedOf 2 read′.Kinds.ps read′.Kinds.r) κs) (e′ : AtExit (endedOf 2 rewrite′.Kinds.ps rewrite′.Kinds.r) κs′)
+    (c : read′.Reads.Learnt κs x r e) (c′ : rewrite′.Reads.Learnt κs′ x′ r′ e′) (k : ℕ) → read-call κs x r e c .class ≡ 15 → r ≡ Accepted k
+    → now (x′ .0) ≡ now (x .0) → length (now (x′ .0)) ≤ length (now (x′ .1 .0)) → Rewrites k (rewrite-call κs′ x′ r′ e′ c′)
+read-rewritten κs κs′ x x′ r r′ e e′ c c′ k full a = accepted-rewrites (read-call κs x r e c) k full a (rewrite-call κs′ x′ r′ e′ c′)
+
+-- the texts that the records of `read` point at
+pub read-texts : (κs : Lfts 2) (x : Dens κs read′.Kinds.ps) (r : resT read′.Kinds.r κs .Denot) (e : AtExit (endedOf 2 read′.Kinds.ps read′.Kinds.r) κs)
+    (c : read′.Reads.Learnt κs x r e) (n : ℕ) → r ≡ Accepted n → Points (read-call κs x r e c) n
+read-texts κs x r e c n = call-texts (read-call κs x r e c) n
 
 -- ── demand 3: two calls of `read` ──
 module _ (κs κs′ : Lfts 2) (x : Dens κs read′.Kinds.ps) (x′ : Dens κs′ read′.Kinds.ps) (r : resT read′.Kinds.r κs .Denot) (r′ : resT read′.Kinds.r κs′ .Denot)

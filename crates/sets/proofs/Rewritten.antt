@@ -14,7 +14,7 @@ use Rattle.rules.specs.Spool.{mostBytes}
 use Rattle.rules.specs.Machine.{Outcome, refused, accepted}
 use Rattle.rules.specs.Answers.{answerWith, refusal, rewriteOutcome, written, fitOutput, rewriteAnswer, rewriteOutput}
 use Rattle.promises.proofs.Answered.{demand-one}
-use Rattle.promises.proofs.Round.{demand-two}
+use Rattle.promises.proofs.Round.{written-back}
 use Rattle.leaves.specs.declared.Wrote.{Wrote}
 use Rattle.leaves.specs.declared.Wrote.the-variants as W
 use Rattle.leaves.specs.Writing.{putAnswer}
@@ -81,7 +81,7 @@ module _ (spool before after : List ℕ) (r : Wrote) (yes : IsAccepted spool) (w
     pub wrote-few : n ≤ mostBytes
     wrote-few =
         let a = accepted-so spool (yes .0) (yes .1) in
-        omega (arith, wrote .1, demand-two spool (yes .0) (yes .1) .noLonger, volumes-laid spool (a .volumes) (a .are) .spool)
+        omega (arith, wrote .1, written-back spool (yes .0) (yes .1) .noLonger, volumes-laid spool (a .volumes) (a .are) .spool)
 
     -- what is behind it is cleared
     pub rewrites-accepted : (rest : List ℕ) → rest ≡ replicate (length (lent n after wrote-inside)) 0 → Rewrites len spool (A.Accepted n) (back n after wrote-inside rest)

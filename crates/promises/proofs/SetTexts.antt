@@ -1,0 +1,226 @@
+-- The records of a set show the texts that it keeps, where every text that is kept stands in the spool at its place.
+use Prim.Native.Nat.{ℕ, zero, suc, _+_, _<_}
+use mathlib.Core.Bool.{Bool, true, false, cond}
+use mathlib.Core.List.{List, [], _∷_, _++_, map}
+use mathlib.Core.Option.{Option, none, some}
+use mathlib.Core.Path.{_≡_, refl, subst}
+use native.Mathlib.Omega.{arith}
+use lib.IntN.{ℤ, pos}
+use lib.ListN.{length, getD}
+use Rattle.rules.specs.declared.Digits.{Digits}
+use Rattle.rules.specs.Base.{flat}
+use Rattle.rules.specs.RangeClass.{digits}
+use Rattle.rules.specs.Values.{Num, Value, empty, nums, chars, linked, charsOf}
+use Rattle.rules.specs.Rows.{Rule, Slots, Held, partOf, slotValue}
+use Rattle.rules.specs.Blocks.{fileTable, rangeTable, baseTable, elecTable, symTable, laterTable, fileTables, drawingTable, symbolTable}
+use Rattle.rules.specs.Figures.{layerTable, figureTable, pointTable, textTable, placedTable, placedTables}
+use Rattle.rules.specs.Sets.{Point, Figure, plain, chain, lettering, placed, Layer, Drawing, Symbol, Contents, Set, rangeOf, isSingle, symbolNameOf}
+use Rattle.rules.specs.RecordTable.{numbersOf, firstOr0, others, firstSlot, otherSlots, putSlots, start, fileRecords, drawingRecord, layerRecords, pointRecords, chainRecord, lineRecord, textRecord, placedRecord, figureRecords, innerRecords, symbolRecords, blockRecords, bodyRecords, laterRecords, recordsFrom, recordsOf}
+use Rattle.rules.proofs.Chains.{clash}
+use Rattle.promises.specs.PlacesApart.{textPlaces, kindOf}
+use Rattle.promises.specs.TableTexts.{Shows, ShowsAt, ShowTexts}
+use Rattle.promises.specs.TextsKept.{Kept, fileKept, drawingKept, layerKept, noTexts, pointKept, figureKept, innerKept, symbolKept, blockKept, bodyKept, laterKept, keptFrom, textsKept}
+use Rattle.promises.proofs.FitSets.{Each, FitSlot, FitSlots, FitHeld, FitFigure, FitLayer, FitSymbol, FitBlock, FitContents, FitVolumes, FitSet}
+
+-- a text and its place, as a record has them
+abbrev pub Standing : List ℕ → ℕ → List ℕ → Type 0
+Standing spool at c = Shows spool (pos at) (pos (length c)) c
+
+-- the slots behind the first i
+abbrev skips : ℕ → Slots → Slots
+skips zero s = s
+skips (suc i) s = skips i (otherSlots s)
+
+at-skips : (i : ℕ) (s : Slots) → firstSlot (skips i s) ≡ getD s i none
+at-skips zero [] = refl
+at-skips zero (o ∷ s) = refl
+at-skips (suc i) [] = at-skips i []
+at-skips (suc i) (o ∷ s) = at-skips i s
+
+module _ (spool : List ℕ) where
+  abbrev S : ℕ → List ℕ → Type 0
+  S = Standing spool
+
+  -- ── one text ──
+  slot-shows : (o : Option Value) → FitSlot S true true o → Shows spool (firstOr0 (numbersOf o)) (firstOr0 (others (numbersOf o))) (charsOf (slotValue o))
+  slot-shows none f = Shows.empty
+  slot-shows (some empty) f = Shows.empty
+  slot-shows (some (nums v)) f = clash refl f
+  slot-shows (some (chars at c)) f = f .1 refl
+  slot-shows (some (linked n ps)) f = clash refl f
+
+  column : (i : ℕ) (s : Slots) → FitSlot S true true (firstSlot (skips i s))
+      → Shows spool (firstOr0 (numbersOf (firstSlot (skips i s)))) (firstOr0 (others (numbersOf (firstSlot (skips i s))))) (charsOf (slotValue (getD s i none)))
+  column i s f =
+      subst (λ o. Shows spool (firstOr0 (numbersOf (firstSlot (skips i s)))) (firstOr0 (others (numbersOf (firstSlot (skips i s))))) (charsOf (slotValue o)))
+      (at-skips i s) (slot-shows (firstSlot (skips i s)) f)
+
+  -- ── lists of records ──
+  record Show (rs : List (List ℤ)) (cs : List Kept) : Type 0 where
+    texts : ShowTexts spool rs cs
+
+  no-record : Show [] []
+  no-record = record { texts = tt }
+
+  one-more : {r : List ℤ} {c : Kept} {rs : List (List ℤ)} {cs : List Kept} → ShowsAt spool r (textPlaces (kindOf r)) c → Show rs cs → Show (r ∷ rs) (c ∷ cs)
+  one-more p q = record { texts = (p, q .texts) }
+
+  behind-it : {rs us : List (List ℤ)} {cs ds : List Kept} → Show rs cs → Show us ds → Show (rs ++ us) (cs ++ ds)
+  behind-it {rs} {us} {cs} {ds} p q = record { texts = go rs cs (p .texts) }
+    where
+      go : (rs : List (List ℤ)) (cs : List Kept) → ShowTexts spool rs cs → ShowTexts spool (rs ++ us) (cs ++ ds)
+      go [] [] h = q .texts
+      go [] (c ∷ cs) h = absurd h
+      go (r ∷ rs) [] h = absurd h
+      go (r ∷ rs) (c ∷ cs) h = (h .0, go rs cs (h .1))
+
+  each-item : {A : Type 0} (P : A → Type 0) (f : A → List (List ℤ)) (g : A → List Kept) → ((a : A) → P a → Show (f a) (g a)) → (s : List A) → Each P s
+      → Show (flat (map f s)) (flat (map g s))
+  each-item P f g e [] h = no-record
+  each-item P f g e (a ∷ s) h = behind-it (e a (h .0)) (each-item P f g e s (h .1))
+
+  -- ── one record ──
+  header-shows : (k : ℕ) (v : Contents) → FitHeld S (fileTables true) (v .file) → Show (fileRecords true k v) (fileKept true v)
+  unfolding fileTable rangeTable baseTable elecTable symTable
+  header-shows k v f =
+      let s = partOf (v .file) 0 in
+      let g = f 0 .1 .1 .1 .1 .1 .1 .1 .1 in
+      record {
+        texts = (
+          (
+            column 8 s (g .0),
+            (
+              column 9 s (g .1 .0),
+              (
+                column 10 s (g .1 .1 .0),
+                (
+                  column 11 s (g .1 .1 .1 .0),
+                  (
+                    column 12 s (g .1 .1 .1 .1 .0),
+                    (column 13 s (g .1 .1 .1 .1 .1 .0), (column 14 s (g .1 .1 .1 .1 .1 .1 .0), (column 15 s (g .1 .1 .1 .1 .1 .1 .1 .0), tt))),
+                  ),
+                ),
+              ),
+            ),
+          ),
+          (tt, tt),
+        );
+      }
+
+  later-shows : (k : ℕ) (v : Contents) → Show (fileRecords false k v) (fileKept false v)
+  unfolding laterTable
+  later-shows k v = record { texts = (tt, tt) }
+
+  drawing-shows : (d : Drawing) → FitSlots S drawingTable (d .own) → ShowsAt spool (drawingRecord d) (textPlaces (kindOf (drawingRecord d))) (drawingKept d)
+  unfolding drawingTable
+  drawing-shows d f = (column 2 (d .own) (f .1 .1 .0), (column 3 (d .own) (f .1 .1 .1 .0), (column 5 (d .own) (f .1 .1 .1 .1 .1 .0), tt)))
+
+  symbol-shows : (n : ℕ) (y : Symbol) → FitSlots S symbolTable (y .own)
+      → ShowsAt spool (putSlots symbolTable (y .own) (start 4 n 1 (y .line))) (textPlaces (kindOf (putSlots symbolTable (y .own) (start 4 n 1 (y .line))))) (symbolNameOf y ∷ [])
+  unfolding symbolTable
+  symbol-shows n y f = (column 0 (y .own) (f .0), tt)
+
+  layers-show : (n : ℕ) (ls : List Layer) → Each (FitLayer S) ls → Show (layerRecords n ls) (map layerKept ls)
+  layers-show n [] h = no-record
+  layers-show n (l ∷ ls) h = record { texts = ((slot-shows (some (l .name)) (h .0), tt), layers-show (suc n) ls (h .1) .texts) }
+
+  -- ── figures ──
+  -- what is added to the kinds inside a symbol
+  abbrev moreIn : Bool → ℕ
+  moreIn true = 0
+  moreIn false = 20
+
+  points-show : (kind owner volume : ℕ) (ps : List Point) → textPlaces kind ≡ [] → Show (pointRecords kind owner volume ps) (map pointKept ps)
+  unfolding pointTable
+  points-show kind owner volume [] e = no-record
+  points-show kind owner volume (p ∷ ps) e = one-more (rw e tt) (points-show kind owner volume ps e)
+
+  -- a figure that is one line, in a layer and in a symbol
+  abbrev LineShows : Digits → Digits → List Rule → ℕ → ℕ → ℕ → ℕ → ℕ → List Num → Type 0
+  LineShows c d t more owner volume n j v =
+      ShowsAt spool (lineRecord c d t more owner volume n j v) (textPlaces (kindOf (lineRecord c d t more owner volume n j v))) (noTexts (10 + more + j))
+
+  line-layer : (c d : Digits) (single : Bool) (owner volume n j : ℕ) (v : List Num) → j < 7 → LineShows c d (layerTable single) 0 owner volume n j v
+  unfolding layerTable placedTable textTable
+  line-layer c d single owner volume n zero v h = tt
+  line-layer c d single owner volume n (suc zero) v h = tt
+  line-layer c d single owner volume n (suc (suc zero)) v h = tt
+  line-layer c d single owner volume n (suc (suc (suc zero))) v h = tt
+  line-layer c d single owner volume n (suc (suc (suc (suc zero)))) v h = tt
+  line-layer c d single owner volume n (suc (suc (suc (suc (suc zero))))) v h = (Shows.empty, tt)
+  line-layer c d single owner volume n (suc (suc (suc (suc (suc (suc zero)))))) v h = (Shows.empty, (Shows.empty, tt))
+  line-layer c d single owner volume n (suc (suc (suc (suc (suc (suc (suc j))))))) v h = absurd (omega arith)
+
+  line-symbol : (c d : Digits) (owner volume n j : ℕ) (v : List Num) → j < 6 → LineShows c d figureTable 20 owner volume n j v
+  unfolding figureTable
+  line-symbol c d owner volume n zero v h = tt
+  line-symbol c d owner volume n (suc zero) v h = tt
+  line-symbol c d owner volume n (suc (suc zero)) v h = tt
+  line-symbol c d owner volume n (suc (suc (suc zero))) v h = tt
+  line-symbol c d owner volume n (suc (suc (suc (suc zero)))) v h = tt
+  line-symbol c d owner volume n (suc (suc (suc (suc (suc zero))))) v h = (Shows.empty, tt)
+  line-symbol c d owner volume n (suc (suc (suc (suc (suc (suc j)))))) v h = absurd (omega arith)
+
+  abbrev tableIn : Bool → Bool → List Rule
+  tableIn true single = layerTable single
+  tableIn false single = figureTable
+
+  chain-shows : (b : Bool) (owner volume n : ℕ) (ps : List Point)
+      → Show (chainRecord (moreIn b) owner volume n ps ∷ pointRecords (17 + moreIn b) owner volume ps) ([] ∷ map pointKept ps)
+  chain-shows true owner volume n ps = one-more tt (points-show 17 owner volume ps refl)
+  chain-shows false owner volume n ps = one-more tt (points-show 37 owner volume ps refl)
+
+  text-shows : (b : Bool) (owner volume n : ℕ) (s : Slots) → FitSlots S (textTable b 4 12) s → Show (textRecord (moreIn b) owner volume n s ∷ []) (figureKept (moreIn b) (lettering n s))
+  unfolding textTable
+  text-shows true owner volume n s f = record { texts = ((column 1 s (f .1 .0), tt), tt) }
+  text-shows false owner volume n s f = record { texts = ((column 1 s (f .1 .0), tt), tt) }
+
+  placed-shows : (c d : Digits) (owner volume n : ℕ) (h : Held) → FitHeld S placedTables h → Show (placedRecord c d 0 owner volume n h ∷ []) (figureKept 0 (placed n h))
+  unfolding textTable placedTable
+  placed-shows c d owner volume n h f = record { texts = ((column 4 (partOf h 0) (f 0 .1 .1 .1 .1 .0), (column 1 (partOf h 1) (f 1 .1 .0), tt)), tt) }
+
+  figure-shows : (b single : Bool) (c d : Digits) (owner volume : ℕ) (f : Figure) → FitFigure S b f
+      → Show (figureRecords c d (tableIn b single) (moreIn b) owner volume f) (figureKept (moreIn b) f)
+  figure-shows true single c d owner volume (plain n j v) g = one-more (line-layer c d single owner volume n j v g) no-record
+  figure-shows false single c d owner volume (plain n j v) g = one-more (line-symbol c d owner volume n j v g) no-record
+  figure-shows b single c d owner volume (chain n ps) g = chain-shows b owner volume n ps
+  figure-shows b single c d owner volume (lettering n s) g = text-shows b owner volume n s g
+  figure-shows true single c d owner volume (placed n h) g = placed-shows c d owner volume n h g
+  figure-shows false single c d owner volume (placed n h) g = absurd g
+
+  -- ── the whole ──
+  inner-shows : (n : ℕ) (y : Symbol) → FitSymbol S y → Show (innerRecords n y) (innerKept y)
+  inner-shows n y g =
+      go (y .hideFirst) (each-item (FitFigure S false) _ (figureKept 20) (figure-shows false false (digits 0 0) (digits 0 0) n 1) (y .figures) (g .1)) (points-show 43 n 1 (y .hidden) refl)
+    where
+      go : (b : Bool) {rs us : List (List ℤ)} {cs ds : List Kept} → Show rs cs → Show us ds → Show (cond b (us ++ rs) (rs ++ us)) (cond b (ds ++ cs) (cs ++ ds))
+      go true p q = behind-it q p
+      go false p q = behind-it p q
+
+  symbols-show : (n : ℕ) (ys : List Symbol) → Each (FitSymbol S) ys → Show (symbolRecords n ys) (flat (map symbolKept ys))
+  symbols-show n [] g = no-record
+  symbols-show n (y ∷ ys) g = one-more (symbol-shows n y (g .0 .0)) (behind-it (inner-shows n y (g .0)) (symbols-show (suc n) ys (g .1)))
+
+  module _ (c d : Digits) (single : Bool) where
+    body-shows : (k : ℕ) (v : Contents) → Each (FitBlock S) (v .blocks) → Show (bodyRecords c d (layerTable single) k v) (bodyKept v)
+    body-shows k v g =
+        each-item (FitBlock S) (blockRecords c d (layerTable single) k) blockKept
+        (λ u h. each-item (FitFigure S true) (figureRecords c d (layerTable single) 0 (u .layer) k) (figureKept 0) (figure-shows true single c d (u .layer) k) (u .figures) h)
+        (v .blocks) g
+
+    volumes-show : (k : ℕ) (vs : List Contents) → Each (FitContents S false) vs → Show (laterRecords c d (layerTable single) k vs) (flat (map laterKept vs))
+    volumes-show k [] g = no-record
+    volumes-show k (v ∷ vs) g = behind-it (behind-it (later-shows k v) (body-shows k v (g .0 .1))) (volumes-show (suc k) vs (g .1))
+
+  pub set-shows : (c : Digits) (s : Set) → FitSet S s → ShowTexts spool (recordsOf c s) (textsKept s)
+  unfolding recordsOf
+  set-shows c s f = go (s .volumes) (f .2) .texts
+    where
+      go : (vs : List Contents) → FitVolumes S vs → Show (recordsFrom c s vs) (keptFrom s vs)
+      go [] g = no-record
+      go (v ∷ vs) g =
+          behind-it
+          (behind-it
+          (behind-it (behind-it (header-shows 1 v (g .0 .0)) (one-more (drawing-shows (s .drawing) (f .0 .0)) (layers-show 0 (s .drawing .layers) (f .0 .1)))) (symbols-show 0 (s .symbols) (f .1)))
+          (body-shows c (rangeOf s) (isSingle s) 1 v (g .0 .1)))
+          (volumes-show c (rangeOf s) (isSingle s) 2 vs (g .1))
