@@ -23,7 +23,7 @@ use Rattle.rules.specs.RecordTable.{recordsOf, tableOf, width}
 use Rattle.rules.specs.Answers.{Listed, listed, noLines, listVolumes, outcomeOfLines, outcomeOfVolumes, outcomeOf, outcomeAt, digitsOr, answerNumber, answerCount, refusal, readOutcome, recordsIn, answerWith, readRecords, readAnswer, readTable, namesIn, writtenIn, rewriteOutcome, written, fitOutput, rewriteAnswer, rewriteBytes, rewriteOutput}
 use Rattle.rules.proofs.Chains.{by-cond, cond-same}
 use Rattle.rules.proofs.Runs.{not-accepted}
-use Rattle.promises.specs.DemandOne.{Answered, acceptedWith, refusedWith, OneAnswer, Filled, Reads, Written, Rewrites, DemandOne}
+use Rattle.promises.specs.DemandOne.{Answered, acceptedWith, refusedWith, Filled, Reads, Written, Rewrites, DemandOne}
 use Rattle.promises.proofs.Widths.{flat-length, wide-records, take-replicate, filled-length, filled}
 use Rattle.promises.proofs.Count.{count-records}
 use Rattle.promises.proofs.Refusals.{OutcomeTold, toldSet, toldNumber, told-spool, told-at}
@@ -37,12 +37,8 @@ not-refused : {P : Type 0} {n : ℕ} {r : Refusal} → Accepted n ≡ Refused r 
 not-refused e = absurd (true≢false (ap isAnswer e))
 
 told-answer : (count : ℕ) (o : Outcome) → OutcomeTold o → Answered 19 (answerWith count o)
-told-answer count (refused n v l) (toldNumber _ _ _ p q) = refusedWith _ p q
+told-answer count (refused n v l) (toldNumber _ _ _ w) = refusedWith _ w
 told-answer count (accepted s) toldSet = acceptedWith count
-
--- what is computed is one
-one : {last : ℕ} {a : Answer} → Answered last a → OneAnswer last a
-one w = record { some = w; only = λ a b p q. p ∙ sym q }
 
 -- ── an accepted reading is a run over lines ──
 lines-run : (e : Env) (l : Listed) (s : Set) → outcomeOfLines e l ≡ accepted s → (ls : List Line) × (run e (top nothingYet 0) ls ≡ accepted s)
@@ -97,7 +93,7 @@ reads class len spool =
     let o = readOutcome class len spool in
     let c = digitsOr (classOf class) in
     record {
-      answer = one (told-answer _ o (reader-told class len spool));
+      answer = told-answer _ o (reader-told class len spool);
       size = filled-length len (pos 0) (flat (readRecords class len spool));
       whenRefused = table-refused c len o;
       whenAccepted = λ n. table-accepted c len o n (λ s q. records-fit (classOf class) (len / width) spool s q);
@@ -125,8 +121,11 @@ output-accepted len names (refused m v l) n q = not-refused (sym q)
 output-accepted len names (accepted s) n q = let w = writtenIn names (accepted s) in fit-accepted (leb (length w) len) len n w (leb-true (length w) len) q
 
 output-told : (len count : ℕ) (o : Outcome) → OutcomeTold o → Answered 20 (fitOutput len count (answerWith count o))
-output-told len count (refused n v l) (toldNumber _ _ _ p q) = refusedWith _ p (omega arith)
-output-told len count (accepted s) toldSet = by-cond (Answered 20) (leb count len) (λ _. acceptedWith count) (λ _. refusedWith _ (omega arith) (omega arith))
+output-told len count (refused n v l) (toldNumber _ _ _ w) =
+    refusedWith _ (record { least = w .least; most = omega (arith, w .most); whole = w .whole; inVolume = w .inVolume })
+output-told len count (accepted s) toldSet =
+    by-cond (Answered 20) (leb count len) (λ _. acceptedWith count)
+    (λ _. refusedWith _ (record { least = omega arith; most = omega arith; whole = λ _. (refl, refl); inVolume = λ e. absurd (true≢false e) }))
 
 output-short : (len count : ℕ) (o : Outcome) (s : Set) → o ≡ accepted s → len < count → fitOutput len count (answerWith count o) ≡ refusal 20 0 0
 output-short len count (refused m v l) s q h = not-accepted q
@@ -138,7 +137,7 @@ fit-short false len count n r h q = h refl
 
 -- the reading itself gives no 20
 output-only : (len count : ℕ) (o : Outcome) (r : Refusal) → OutcomeTold o → fitOutput len count (answerWith count o) ≡ Refused r → r .number ≡ 20 → len < count
-output-only len count (refused n v l) r (toldNumber _ _ _ p q) e t = let same : n ≡ r .number = ap answerNumber e in absurd (omega arith)
+output-only len count (refused n v l) r (toldNumber _ _ _ w) e t = let same : n ≡ r .number = ap answerNumber e in absurd (omega (arith, w .most, same, t))
 output-only len count (accepted s) r w e t = fit-short (leb count len) len count count r (leb-false count len) e
 
 rewriter-told : (spool : List ℕ) → OutcomeTold (rewriteOutcome spool)
@@ -152,7 +151,7 @@ rewrites len spool =
     let names = namesIn (volumesOf spool) in
     let w = rewriter-told spool in
     record {
-      answer = one (output-told len (length (written spool)) o w);
+      answer = output-told len (length (written spool)) o w;
       size = filled-length len 0 (rewriteBytes len spool);
       whenRefused = output-refused len names o;
       whenAccepted = output-accepted len names o;

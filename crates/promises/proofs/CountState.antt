@@ -1,58 +1,107 @@
--- What a state counts of records taken, and what else it keeps: the invariant of the count.
+-- At which lines a state's records were taken, and what else it keeps: the invariant of the count.
 use Prim.Native.Nat.{ℕ, zero, suc, _+_, _<_}
-use mathlib.Core.Bool.{true, false, cond, true≢false}
-use mathlib.Core.List.{[], _∷_}
+use mathlib.Core.Bool.{Bool, true, false, cond, true≢false}
+use mathlib.Core.List.{List, [], _∷_, _++_, append-nil}
 use mathlib.Core.Option.{Option, none, some}
-use mathlib.Core.Path.{_≡_, refl, sym, _∙_, ap}
+use mathlib.Core.Path.{_≡_, refl, sym, _∙_}
 use native.Mathlib.Omega.{arith}
-use lib.ListN.{length, getD, set, length-set, List·getD-map}
+use lib.ListN.{length, getD, set, replicate, length-set, List·getD-map}
 use lib.Seq.{getD-set-same}
 use borrow.Author.Tests.{not-false}
-use Rattle.rules.specs.Base.{isNone, isSome}
+use Rattle.rules.specs.Base.{isNil, isNone, isSome}
 use Rattle.rules.specs.Values.{Value}
 use Rattle.rules.specs.Rows.{Slots, blank, marks, innerOf}
 use Rattle.rules.specs.Blocks.{symbolTable}
-use Rattle.rules.specs.Sets.{Set, isFirst}
+use Rattle.rules.specs.Sets.{Point, Figure, Drawing, Symbol, Contents, Set, isFirst}
 use Rattle.rules.specs.Machine.{Env, Home, inElement, inLayer, State, top, file, drawing, layerNames, defines, symbol, hide, elements, figures, successive, texts, placing, skipping, ended, roomFor}
 use Rattle.rules.specs.RecordTable.{ruleAt}
 use Rattle.rules.proofs.Chains.{clash}
 use Rattle.rules.proofs.Rows.{row-at}
-use Rattle.promises.proofs.RecordCount.{figuresCount, symbolCount, bodyCount, closedCount, drawnCount}
+use Rattle.promises.specs.Acceptance.{Place, place}
+use Rattle.promises.proofs.RecordLines.{pointPlaces, figuresPlaces, symbolPlaces, drawnPlaces, headPlaces, bodyPlaces, frontPlaces, setPlaces}
 use Rattle.promises.proofs.CountActs.{Begun}
 
--- ── what a state counts ──
--- behind the header, the drawing and the volume's record
-abbrev within : Set → ℕ
-within s = suc (drawnCount (s .drawing) + closedCount s + suc (bodyCount (s .now)))
+-- ── the lines at which a state's records were taken ──
+-- the number of the volume at hand
+abbrev pub number : Set → ℕ
+number s = suc (length (s .volumes))
 
--- a symbol whose `element` is open; its figures are counted where they stand
-abbrev homeCount : Home → ℕ
-homeCount (inElement y) = suc (length (y .hidden))
-homeCount (inLayer k) = 0
+-- the volume of a state's lines; once ELEMENT is closed the volume is among the closed ones
+abbrev topVolume : Set → ℕ → ℕ
+topVolume s zero = number s
+topVolume s (suc zero) = number s
+topVolume s (suc (suc zero)) = number s
+topVolume s (suc (suc (suc zero))) = number s
+topVolume s (suc (suc (suc (suc k)))) = length (s .volumes)
 
--- at the top level, by the block that comes next; the volume at hand is not counted twice, once it is among the closed ones
-abbrev topCount : Set → ℕ → ℕ
-topCount s zero = cond (isFirst s) 0 (suc (drawnCount (s .drawing))) + closedCount s
-topCount s (suc zero) = suc (closedCount s + suc (bodyCount (s .now)))
-topCount s (suc (suc zero)) = within s
-topCount s (suc (suc (suc zero))) = within s
-topCount s (suc (suc (suc (suc k)))) = suc (drawnCount (s .drawing) + closedCount s)
+abbrev pub volumeOf : State → ℕ
+volumeOf (top s k) = topVolume s k
+volumeOf (file s n h p) = number s
+volumeOf (drawing s d) = number s
+volumeOf (layerNames s d) = number s
+volumeOf (defines s b) = number s
+volumeOf (symbol s y) = number s
+volumeOf (hide s y ps) = number s
+volumeOf (elements s) = number s
+volumeOf (figures s h fs) = number s
+volumeOf (successive s h fs n ps) = number s
+volumeOf (texts s h fs n o) = number s
+volumeOf (placing s h fs n o p) = number s
+volumeOf (skipping s h fs n o d) = number s
+volumeOf (ended s) = length (s .volumes)
 
-abbrev counted : State → ℕ
-counted (top s k) = topCount s k
-counted (file s n h p) = cond (isFirst s) 2 (suc (suc (drawnCount (s .drawing)))) + closedCount s
-counted (drawing s d) = suc (closedCount s + suc (bodyCount (s .now))) + drawnCount d
-counted (layerNames s d) = suc (closedCount s + suc (bodyCount (s .now))) + drawnCount d
-counted (defines s b) = within s
-counted (symbol s y) = within s + symbolCount y
-counted (hide s y ps) = within s + suc (figuresCount (y .figures) + length ps)
-counted (elements s) = within s
-counted (figures s h fs) = within s + homeCount h + figuresCount fs
-counted (successive s h fs n ps) = within s + homeCount h + figuresCount fs + suc (length ps)
-counted (texts s h fs n o) = within s + homeCount h + figuresCount fs + 1
-counted (placing s h fs n o p) = within s + figuresCount fs + 1
-counted (skipping s h fs n o d) = within s + figuresCount fs + 1
-counted (ended s) = suc (drawnCount (s .drawing) + closedCount s)
+-- FILE_FORMAT takes two records in the first volume, one in others
+abbrev pub filePlaces : List Contents → ℕ → List Place
+filePlaces vs n = replicate (cond (isNil vs) 2 1) (place (suc (length vs)) n)
+
+-- what stands before a volume's ELEMENT, and what it holds so far
+abbrev pub openPlaces : Drawing → List Symbol → List Contents → Contents → List Place
+openPlaces d ys [] v = frontPlaces 1 d ys v
+openPlaces d ys (u ∷ us) v = setPlaces d ys (u ∷ us) ++ place (suc (length (u ∷ us))) (v .line) ∷ []
+
+abbrev pub within : Set → List Place
+within s = openPlaces (s .drawing) (s .symbols) (s .volumes) (s .now) ++ bodyPlaces (number s) (s .now)
+
+abbrev pub closed : Set → List Place
+closed s = setPlaces (s .drawing) (s .symbols) (s .volumes)
+
+abbrev pub front : Set → List Place
+front s = frontPlaces (number s) (s .drawing) (s .symbols) (s .now)
+
+-- a symbol whose `element` is open: only a `hide` that was written before it has points
+abbrev homeIn : List Place → List Place → ℕ → Home → List Place
+homeIn before inside n (inElement y) = before ++ (place n (y .line) ∷ pointPlaces n (y .hidden))
+homeIn before inside n (inLayer k) = inside
+
+abbrev pub homePlaces : Set → Home → List Place
+homePlaces s h = homeIn (front s) (within s) (number s) h
+
+abbrev pub inFigures : Set → Home → List Figure → List Place
+inFigures s h fs = homePlaces s h ++ figuresPlaces (number s) fs
+
+-- at the top level, by the block that comes next
+abbrev topPlaces : Set → ℕ → List Place
+topPlaces s zero = closed s
+topPlaces s (suc zero) = headPlaces (number s) (s .now)
+topPlaces s (suc (suc zero)) = headPlaces (number s) (s .now) ++ drawnPlaces (number s) (s .drawing)
+topPlaces s (suc (suc (suc zero))) = within s
+topPlaces s (suc (suc (suc (suc k)))) = closed s
+
+abbrev pub shown : State → List Place
+shown (top s k) = topPlaces s k
+shown (file s n h p) = closed s ++ filePlaces (s .volumes) n
+shown (drawing s d) = headPlaces (number s) (s .now) ++ drawnPlaces (number s) d
+shown (layerNames s d) = headPlaces (number s) (s .now) ++ drawnPlaces (number s) d
+shown (defines s b) = front s
+shown (symbol s y) = front s ++ symbolPlaces (number s) y
+shown (hide s y ps) = front s ++ (place (number s) (y .line) ∷ (figuresPlaces (number s) (y .figures) ++ pointPlaces (number s) ps))
+shown (elements s) = within s
+shown (figures s h fs) = inFigures s h fs
+shown (successive s h fs n ps) = inFigures s h fs ++ (place (number s) n ∷ pointPlaces (number s) ps)
+shown (texts s h fs n o) = inFigures s h fs ++ place (number s) n ∷ []
+shown (placing s k fs n o p) = inFigures s (inLayer k) fs ++ place (number s) n ∷ []
+shown (skipping s k fs n o d) = inFigures s (inLayer k) fs ++ place (number s) n ∷ []
+shown (ended s) = closed s
 
 -- the set that a state holds
 abbrev pub setOf : State → Set
@@ -72,55 +121,97 @@ setOf (skipping s h fs n o d) = s
 setOf (ended s) = s
 
 -- ── what else is kept ──
--- a symbol's slots: where `element` or `hide` has not been, there are no figures or no points
-pub record Slotted (own : Slots) (shown hidden : ℕ) : Type 0 where
+-- a symbol's slots: where `element` or `hide` has not been, there are no figures or no points; and points before `element` are a `hide` before it
+pub record Slotted (own : Slots) (shown : List Figure) (hidden : List Point) (hideFirst : Bool) : Type 0 where
   pub size : length own ≡ 4
-  pub figs : isNone (getD own 1 none) ≡ true → shown ≡ 0
-  pub dots : isNone (getD own 2 none) ≡ true → hidden ≡ 0
+  pub figs : isNone (getD own 1 none) ≡ true → shown ≡ []
+  pub dots : isNone (getD own 2 none) ≡ true → hidden ≡ []
+  pub order : isNone (getD own 1 none) ≡ true → hideFirst ≡ false → hidden ≡ []
+
+-- before the first volume's ELEMENT
+abbrev Early : Set → Type 0
+Early s = (s .volumes ≡ []) × (s .now .blocks ≡ [])
+
+abbrev Earlier : Set → Type 0
+Earlier s = (s .volumes ≡ []) × (s .now .blocks ≡ []) × (s .symbols ≡ [])
 
 -- while `element` is open its slot is taken, whatever figures it will have
-abbrev HomeKept : Home → Type 0
-HomeKept (inElement y) = (n : ℕ) → Slotted (y .own) n (length (y .hidden))
-HomeKept (inLayer k) = Unit {0}
+abbrev KeptIn : Type 0 → Home → Type 0
+KeptIn early (inElement y) = early × ((fs : List Figure) → Slotted (y .own) fs (y .hidden) (y .hideFirst)) × (y .hideFirst ≡ false → y .hidden ≡ [])
+KeptIn early (inLayer k) = Unit {0}
+
+abbrev HomeKept : Set → Home → Type 0
+HomeKept s h = KeptIn (Early s) h
 
 abbrev TopKept : Set → ℕ → Type 0
-TopKept s zero = Unit {0}
-TopKept s (suc zero) = Unit {0}
-TopKept s (suc (suc zero)) = Unit {0}
+TopKept s zero = isFirst s ≡ true → s .symbols ≡ []
+TopKept s (suc zero) = Earlier s
+TopKept s (suc (suc zero)) = Earlier s
 TopKept s (suc (suc (suc zero))) = Unit {0}
 TopKept s (suc (suc (suc (suc k)))) = isFirst s ≡ false
 
-abbrev Kept : State → Type 0
+abbrev pub Kept : State → Type 0
 Kept (top s k) = TopKept s k
-Kept (file s n h p) = Unit {0}
-Kept (drawing s d) = Unit {0}
-Kept (layerNames s d) = Unit {0}
-Kept (defines s b) = Unit {0}
-Kept (symbol s y) = Slotted (y .own) (figuresCount (y .figures)) (length (y .hidden))
-Kept (hide s y ps) = (n : ℕ) → Slotted (y .own) (figuresCount (y .figures)) n
+Kept (file s n h p) = isFirst s ≡ true → s .symbols ≡ []
+Kept (drawing s d) = Earlier s
+Kept (layerNames s d) = Earlier s
+Kept (defines s b) = Early s
+Kept (symbol s y) = Early s × Slotted (y .own) (y .figures) (y .hidden) (y .hideFirst)
+Kept (hide s y ps) = Early s × ((ps : List Point) → Slotted (y .own) (y .figures) ps (y .hideFirst)) × (y .hideFirst ≡ true → y .figures ≡ [])
 Kept (elements s) = Unit {0}
-Kept (figures s h fs) = HomeKept h
-Kept (successive s h fs n ps) = HomeKept h
-Kept (texts s h fs n o) = HomeKept h
+Kept (figures s h fs) = HomeKept s h
+Kept (successive s h fs n ps) = HomeKept s h
+Kept (texts s h fs n o) = HomeKept s h
 Kept (placing s h fs n o p) = Unit {0}
 Kept (skipping s h fs n o d) = Unit {0}
-Kept (ended s) = isFirst s ≡ false
+Kept (ended s) = Unit {0}
 
--- ── the invariant ──
-pub record Holds (limit : Option ℕ) (taken count : ℕ) (more : Type 0) : Type 0 where
-  pub counts : taken ≡ count
+-- the volume of the lines that follow is k; behind the end of a set none follow
+abbrev pub Tied : ℕ → State → Type 0
+Tied k (top s j) = topVolume s j ≡ k
+Tied k (file s n h p) = number s ≡ k
+Tied k (drawing s d) = number s ≡ k
+Tied k (layerNames s d) = number s ≡ k
+Tied k (defines s b) = number s ≡ k
+Tied k (symbol s y) = number s ≡ k
+Tied k (hide s y ps) = number s ≡ k
+Tied k (elements s) = number s ≡ k
+Tied k (figures s h fs) = number s ≡ k
+Tied k (successive s h fs n ps) = number s ≡ k
+Tied k (texts s h fs n o) = number s ≡ k
+Tied k (placing s h fs n o p) = number s ≡ k
+Tied k (skipping s h fs n o d) = number s ≡ k
+Tied k (ended s) = Unit {0}
+
+-- ── the invariant, and what a line adds ──
+pub record Holds (limit : Option ℕ) (taken : ℕ) (places : List Place) (more : Type 0) : Type 0 where
+  pub counts : taken ≡ length places
   pub room : roomFor limit taken ≡ true
   pub kept : more
 
 abbrev pub Inv : Env → State → Type 0
-Inv e st = Holds (e .limit) (setOf st .taken) (counted st) (Kept st)
+Inv e st = Holds (e .limit) (setOf st .taken) (shown st) (Kept st)
 
--- a step that takes no record, and one that takes n
-pub still : {m : Option ℕ} {t c c′ : ℕ} {A B : Type 0} → Holds m t c A → c ≡ c′ → B → Holds m t c′ B
-still h e b = record { counts = h .counts ∙ e; room = h .room; kept = b }
+-- records that were taken at one line stand behind those before
+pub record Grows (limit : Option ℕ) (taken taken′ : ℕ) (places places′ : List Place) (here : Place) (more tied : Type 0) : Type 0 where
+  pub count : ℕ
+  pub counts : taken′ ≡ taken + count
+  pub shows : places′ ≡ places ++ replicate count here
+  pub room : roomFor limit taken′ ≡ true
+  pub kept : more
+  pub ties : tied
 
-pub took : {m : Option ℕ} {t c c′ : ℕ} {A B : Type 0} (n : ℕ) → roomFor m (t + n) ≡ true → Holds m t c A → c + n ≡ c′ → B → Holds m (t + n) c′ B
-took n r h e b = record { counts = ap (λ (k : ℕ). k + n) (h .counts) ∙ e; room = r; kept = b }
+-- from a state, by a line with number n, to a state whose next line is in volume k
+abbrev pub Adds : Env → ℕ → ℕ → State → State → Type 0
+Adds e n k st st′ =
+    Grows (e .limit) (setOf st .taken) (setOf st′ .taken) (shown st) (shown st′) (place (volumeOf st) n) (Kept st′) (Tied k st′)
+
+-- a line that takes no record, and one that takes n
+pub still : {m : Option ℕ} {t : ℕ} {ps ps′ : List Place} {here : Place} {A B C : Type 0} → Holds m t ps A → ps′ ≡ ps → B → C → Grows m t t ps ps′ here B C
+still {t} {ps} h e b c = record { count = 0; counts = omega arith; shows = e ∙ sym (append-nil ps); room = h .room; kept = b; ties = c }
+
+pub took : {m : Option ℕ} {t : ℕ} {ps ps′ : List Place} {here : Place} {A B C : Type 0} (n : ℕ) → roomFor m (t + n) ≡ true → Holds m t ps A → ps′ ≡ ps ++ replicate n here → B → C → Grows m t (t + n) ps ps′ here B C
+took n r h e b c = record { count = n; counts = refl; shows = e; room = r; kept = b; ties = c }
 
 -- ── the slots of a symbol ──
 -- a slot that is filled stays filled
@@ -135,22 +226,35 @@ set-none (o ∷ s) (suc j) v (suc i) e = set-none s j v i e
 set-some : {P : Type 0} (s : Slots) (j : ℕ) (v : Value) → j < length s → isNone (getD (set s j (some v)) j none) ≡ true → P
 set-some s j v h e = clash e (rw (getD-set-same s j (some v) none h))
 
-pub slotted-set : {own : Slots} {f h : ℕ} (j : ℕ) (v : Value) → Slotted own f h → Slotted (set own j (some v)) f h
-slotted-set {own} j v w =
-    record { size = length-set own j (some v) ∙ w .size; figs = λ e. w .figs (set-none own j v 1 e); dots = λ e. w .dots (set-none own j v 2 e) }
+pub slotted-set : {own : Slots} {f : List Figure} {h : List Point} {b : Bool} (j : ℕ) (v : Value) → Slotted own f h b → Slotted (set own j (some v)) f h b
+slotted-set {own} j v w = record {
+  size = length-set own j (some v) ∙ w .size;
+  figs = λ e. w .figs (set-none own j v 1 e);
+  dots = λ e. w .dots (set-none own j v 2 e);
+  order = λ e. w .order (set-none own j v 1 e);
+}
 
 -- `element` opens, `hide` opens: from here on any number of figures, of points
-pub slotted-figs : {own : Slots} {f h : ℕ} (v : Value) → Slotted own f h → (n : ℕ) → Slotted (set own 1 (some v)) n h
-slotted-figs {own} v w n =
-    record { size = length-set own 1 (some v) ∙ w .size; figs = λ e. set-some own 1 v (omega (arith, w .size)) e; dots = λ e. w .dots (set-none own 1 v 2 e) }
+pub slotted-figs : {own : Slots} {f : List Figure} {h : List Point} {b : Bool} (v : Value) → Slotted own f h b → (fs : List Figure) → Slotted (set own 1 (some v)) fs h b
+slotted-figs {own} v w fs = record {
+  size = length-set own 1 (some v) ∙ w .size;
+  figs = λ e. set-some own 1 v (omega (arith, w .size)) e;
+  dots = λ e. w .dots (set-none own 1 v 2 e);
+  order = λ e. set-some own 1 v (omega (arith, w .size)) e;
+}
 
-pub slotted-dots : {own : Slots} {f h : ℕ} (v : Value) → Slotted own f h → (n : ℕ) → Slotted (set own 2 (some v)) f n
-slotted-dots {own} v w n =
-    record { size = length-set own 2 (some v) ∙ w .size; figs = λ e. w .figs (set-none own 2 v 1 e); dots = λ e. set-some own 2 v (omega (arith, w .size)) e }
+pub slotted-dots : {own : Slots} {f : List Figure} {h : List Point} {b : Bool} (v : Value) → Slotted own f h b
+    → (ps : List Point) → Slotted (set own 2 (some v)) f ps (isNone (getD (set own 2 (some v)) 1 none))
+slotted-dots {own} v w ps = record {
+  size = length-set own 2 (some v) ∙ w .size;
+  figs = λ e. w .figs (set-none own 2 v 1 e);
+  dots = λ e. set-some own 2 v (omega (arith, w .size)) e;
+  order = λ e q. clash e q;
+}
 
-pub slotted-blank : Slotted (blank symbolTable) 0 0
+pub slotted-blank : Slotted (blank symbolTable) [] [] false
 unfolding symbolTable
-slotted-blank = record { size = refl; figs = λ e. refl; dots = λ e. refl }
+slotted-blank = record { size = refl; figs = λ e. refl; dots = λ e. refl; order = λ e q. refl }
 
 -- inner block 1 is row 1, `element`; any further one is row 2, `hide`
 abbrev pub SymbolOpens : ℕ → ℕ → Type 0

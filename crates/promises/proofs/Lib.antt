@@ -16,10 +16,12 @@ pub mod Costs
 pub mod Count
 pub mod CountActs
 pub mod CountState
+pub mod Exactly
 pub mod FineActs
 pub mod FitRows
 pub mod FitSets
 pub mod Fits
+pub mod Fitting
 pub mod Forms
 pub mod Frame
 pub mod Frames
@@ -51,7 +53,7 @@ pub mod Nameless
 pub mod Numbers
 pub mod Parsed
 pub mod Places
-pub mod RecordCount
+pub mod RecordLines
 pub mod RecordPlaces
 pub mod Refusals
 pub mod RewriterBack

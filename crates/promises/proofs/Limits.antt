@@ -24,7 +24,7 @@ use Rattle.promises.proofs.CountState.{setOf}
 
 -- ── what a line gives without a limit and with the limit m, where n records were taken before ──
 -- the same, or without a limit a state with more than m records, and with it 19
-data Alike (m n : ℕ) : Got State → Got State → Type 0 where
+pub data Alike (m n : ℕ) : Got State → Got State → Type 0 where
   refuses : {k : ℕ} → Alike m n (bad k) (bad k)
   goes : (st : State) → n ≤ setOf st .taken → Alike m n (got st) (got st)
   over : (st : State) → n ≤ setOf st .taken → m < setOf st .taken → Alike m n (got st) (bad 19)
@@ -99,10 +99,10 @@ module _ {m n : ℕ} where
 ruleset alikes = (refuses, goes, alike-unless, alike-cond, alike-then, alike-act, alike-shut, alike-skip, alike-room, le-refl, le-add-right)
 
 -- the reading with no limit, and with a table of m records
-abbrev free : Digits → Env
+abbrev pub free : Digits → Env
 free c = record { class = c; limit = none }
 
-abbrev bound : Digits → ℕ → Env
+abbrev pub bound : Digits → ℕ → Env
 bound c m = record { class = c; limit = some m }
 
 -- ── one line ──
@@ -192,7 +192,7 @@ module _ (c : Digits) (m : ℕ) (l : Line) where
   alike-in (skipping s h fs n o d) = alike-skipping s h fs n o d (l .form)
   alike-in (ended s) = refuses
 
-  alike-step : (st : State) → Alike m (setOf st .taken) (step (free c) l st) (step (bound c m) l st)
+  pub alike-step : (st : State) → Alike m (setOf st .taken) (step (free c) l st) (step (bound c m) l st)
   alike-step st = alike-cond (l .last) _ _ _ _ (alike-next (alike-also (completes l st) (alike-in st))) (alike-in st)
 
 -- ── all lines ──

@@ -6,7 +6,7 @@ use mathlib.Core.Option.{Option}
 use mathlib.Core.Path.{_≡_, refl, sym, _∙_, ap}
 use native.Mathlib.Omega.{arith}
 use lib.Dec.{eqb, leb, ltb}
-use borrow.Author.Tests.{le-leb, eq-eqb}
+use borrow.Author.Tests.{le-leb, ltb-true, eq-eqb}
 use Rattle.rules.specs.declared.Digits.{Digits}
 use Rattle.rules.specs.Base.{isNil}
 use Rattle.rules.specs.RefusalNumbers.{Got, got, bad, mapG, also}
@@ -171,10 +171,21 @@ notAfter v n v′ n′ = ltb v v′ || (eqb v v′ && leb n n′)
 pub notAfter-refl : (v n : ℕ) → notAfter v n v n ≡ true
 notAfter-refl v n = rw (eq-eqb v v refl, le-leb n n (omega arith)) (or-true (ltb v v))
 
--- all these lines stand at a place or behind it
+abbrev pub before : ℕ → ℕ → ℕ → ℕ → Bool
+before v n v′ n′ = ltb v v′ || (eqb v v′ && ltb n n′)
+
+-- a place before another is not after it
+before-not-after : (v n v′ n′ : ℕ) → before v n v′ n′ ≡ true → notAfter v n v′ n′ ≡ true
+before-not-after v n v′ n′ e = go (ltb v v′) (eqb v v′) e
+  where
+    go : (b c : Bool) → (b || (c && ltb n n′)) ≡ true → (b || (c && leb n n′)) ≡ true
+    go true c e = refl
+    go false c e = let h = ltb-true n n′ (and-right c _ e) in rw (and-left c _ e, le-leb n n′ (omega (arith, h)))
+
+-- all these lines stand behind a place
 abbrev pub From : ℕ → ℕ → List Line → Type 0
 From v n [] = Unit {0}
-From v n (l ∷ ls) = (notAfter v n (l .volume) (l .line) ≡ true) × From v n ls
+From v n (l ∷ ls) = (before v n (l .volume) (l .line) ≡ true) × From v n ls
 
 -- lines in the order of their places
 abbrev pub Sorted : List Line → Type 0
@@ -188,17 +199,17 @@ proper (l ∷ []) = l .last && isNil (l .next)
 proper (l ∷ m ∷ ls) = proper (m ∷ ls)
 
 -- through its last line no set comes but one that has ended
-ended-run : {P : Type 0} (e : Env) (l : Line) (s s′ : State) → (l .last && isNil (l .next)) ≡ true → step e l s ≡ got s′ → (k v n : ℕ) → finish s′ ≡ refused k v n → P
+pub ended-run : {P : Type 0} (e : Env) (l : Line) (s s′ : State) → (l .last && isNil (l .next)) ≡ true → step e l s ≡ got s′ → (k v n : ℕ) → finish s′ ≡ refused k v n → P
 ended-run e l s s′ p h k v n q =
     let (t, z) = last-ends e l s s′ (and-left (l .last) _ p) (and-right (l .last) _ p) h in
     not-accepted (sym (rw z at q))
 
--- a refusal is not before the lines that are read
-late : (e : Env) (v n : ℕ) (ls : List Line) (s : State) → proper ls ≡ true → From v n ls → (k v′ n′ : ℕ) → run e s ls ≡ refused k v′ n′ → notAfter v n v′ n′ ≡ true
+-- a refusal is at one of the lines that are read
+pub late : (e : Env) (v n : ℕ) (ls : List Line) (s : State) → proper ls ≡ true → From v n ls → (k v′ n′ : ℕ) → run e s ls ≡ refused k v′ n′ → before v n v′ n′ ≡ true
 late e v n [] s p f k v′ n′ h = clash p refl
 late e v n (l ∷ []) s p f k v′ n′ h = go (step e l s) refl h
   where
-    go : (g : Got State) → step e l s ≡ g → thenRun g l finish ≡ refused k v′ n′ → notAfter v n v′ n′ ≡ true
+    go : (g : Got State) → step e l s ≡ g → thenRun g l finish ≡ refused k v′ n′ → before v n v′ n′ ≡ true
     go (got s′) q h = ended-run e l s s′ p q k v′ n′ h
     go (bad j) q h =
         let a : l .volume ≡ v′ = cc in
@@ -206,7 +217,7 @@ late e v n (l ∷ []) s p f k v′ n′ h = go (step e l s) refl h
         rw (← a, ← b) (f .0)
 late e v n (l ∷ m ∷ ls) s p f k v′ n′ h = go (step e l s) (λ s′. late e v n (m ∷ ls) s′ p (f .1) k v′ n′) h
   where
-    go : (g : Got State) → ((s′ : State) → run e s′ (m ∷ ls) ≡ refused k v′ n′ → notAfter v n v′ n′ ≡ true) → thenRun g l (λ s′. run e s′ (m ∷ ls)) ≡ refused k v′ n′ → notAfter v n v′ n′ ≡ true
+    go : (g : Got State) → ((s′ : State) → run e s′ (m ∷ ls) ≡ refused k v′ n′ → before v n v′ n′ ≡ true) → thenRun g l (λ s′. run e s′ (m ∷ ls)) ≡ refused k v′ n′ → before v n v′ n′ ≡ true
     go (got s′) ih h = ih s′ h
     go (bad j) ih h =
         let a : l .volume ≡ v′ = cc in
@@ -266,7 +277,7 @@ module _ (low high : Digits) (le : NotAbove low high) (m : Option ℕ) where
   refused-too (l ∷ x ∷ ls) s p o k v n e = go (step hi′ l s) refl (λ s′. refused-too (x ∷ ls) s′ p (o .1) k v n)
     where
       at : (g : Got State) → thenRun g l (λ s′. run lo′ s′ (x ∷ ls)) ≡ refused k v n → notAfter (l .volume) (l .line) v n ≡ true
-      at (got s′) h = late lo′ (l .volume) (l .line) (x ∷ ls) s′ p (o .0) k v n h
+      at (got s′) h = before-not-after (l .volume) (l .line) v n (late lo′ (l .volume) (l .line) (x ∷ ls) s′ p (o .0) k v n h)
       at (bad j) h =
           let a : l .volume ≡ v = cc in
           let b : l .line ≡ n = cc in

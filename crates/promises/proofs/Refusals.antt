@@ -1,11 +1,13 @@
--- Every refusal of the reading has a number from 1 to 19: 4 to 19 at a line, 1 to 3 before.
+-- Every refusal of the reading has a number from 1 to 19, 4 to 19 at a line, 1 to 3 before, and a volume of the spool where it has one.
 use Prim.Native.Nat.{ℕ, zero, suc, _+_, _≤_}
 use mathlib.Core.Bool.{Bool, true, false}
 use mathlib.Core.List.{List, [], _∷_, _++_}
 use mathlib.Core.Option.{Option, none, some}
+use mathlib.Core.Path.{_≡_, refl}
 use native.Mathlib.Omega.{arith}
 use lib.Dec.{eqb}
 use lib.ListN.{length}
+use borrow.Author.Tests.{ne-eqb}
 use Rattle.rules.specs.declared.Digits.{Digits}
 use Rattle.rules.specs.Base.{choose, bytes, isNil, same}
 use Rattle.rules.specs.RefusalNumbers.{Got, got, bad}
@@ -15,10 +17,14 @@ use Rattle.rules.specs.Rows.{Found, absent, found, find, Slots, Held, partOf, m
 use Rattle.rules.specs.Blocks.{topTable}
 use Rattle.rules.specs.Figures.{placedTable}
 use Rattle.rules.specs.Sets.{Point, Figure, Drawing, Symbol, Set, nothingYet, rangeOf, knownOf}
-use Rattle.rules.specs.Machine.{Line, Env, Home, inElement, inLayer, State, top, file, drawing, layerNames, defines, symbol, hide, elements, figures, successive, texts, placing, skipping, ended, openTop, onTop, shutPart, onFile, onDrawing, layerValue, onLayerNames, openSymbol, onSymbol, onDefines, onHide, onElements, closeFigures, openPlaced, openFigure, onFigures, onSuccessive, onTexts, bySkip, onUnknown, onPlaced, onPlacedKey, onPlacedOwn, onPlacing, skipShut, onSkipping, stepIn, step, Outcome, refused, accepted, thenRun, finish, run}
-use Rattle.rules.specs.Spool.{Volume, volumesOf, linesOf}
+use Rattle.rules.specs.Machine.{Line, Env, Home, inElement, inLayer, State, top, file, drawing, layerNames, defines, symbol, hide, elements, figures, successive, texts, placing, skipping, ended, openTop, onTop, shutPart, onFile, onDrawing, layerValue, onLayerNames, openSymbol, onSymbol, onDefines, onHide, onElements, closeFigures, openPlaced, openFigure, onFigures, onSuccessive, onTexts, bySkip, onUnknown, onPlaced, onPlacedKey, onPlacedOwn, onPlacing, skipShut, onSkipping, stepIn, step, Outcome, refused, accepted, thenRun, run}
+use Rattle.rules.specs.Spool.{Volume, volumesOf, linesOf, mostVolumes}
 use Rattle.rules.specs.Answers.{numbered, linesOfVolume, nextName, Listed, listed, noLines, ontoLines, listVolume, listVolumes, outcomeOfLines, outcomeOfVolumes, outcomeOf, outcomeAt}
-use Rattle.rules.proofs.Chains.{by-cond}
+use Rattle.rules.proofs.Chains.{and-left, and-right, clash, by-cond}
+use Rattle.promises.specs.DemandOne.{ofWhole, Located}
+use Rattle.promises.proofs.Frame.{volumes-inv}
+use Rattle.promises.proofs.LowerRun.{last-ends, proper}
+use Rattle.promises.proofs.Listing.{Among, Within, listing-within, lines-proper}
 use Rattle.promises.proofs.FineActs.{within-le, Fine, fine-cond, fines, fine-kind, FineAct, FineForm, fine-row, fine-unknown, fine-act, fine-byAct, answers, refuses, passed, broken, closing, ending, keying}
 
 -- ── the contexts ──
@@ -219,47 +225,51 @@ fine-volumes k (v ∷ vs) = fine-list k v vs (linesOf (v .body)) _ (fine-volumes
 -- ── the outcome ──
 pub data OutcomeTold : Outcome → Type 0 where
   toldSet : {s : Set} → OutcomeTold (accepted s)
-  toldNumber : (n v l : ℕ) → 1 ≤ n → n ≤ 19 → OutcomeTold (refused n v l)
+  toldNumber : (n v l : ℕ) → Located 19 (record { number = n; volume = v; line = l }) → OutcomeTold (refused n v l)
 
-told-nine : OutcomeTold (refused 9 0 0)
-told-nine = toldNumber 9 0 0 (omega arith) (omega arith)
+-- a refusal of the spool as a whole, and one in a volume
+told-whole : (n : ℕ) → 1 ≤ n → n ≤ 19 → ofWhole n ≡ true → OutcomeTold (refused n 0 0)
+told-whole n p q w = toldNumber n 0 0 (record { least = p; most = q; whole = λ _. (refl, refl); inVolume = λ e. clash w e })
 
-told-finish : (st : State) → OutcomeTold (finish st)
-told-finish (top s k) = told-nine
-told-finish (file s n h p) = told-nine
-told-finish (drawing s d) = told-nine
-told-finish (layerNames s d) = told-nine
-told-finish (defines s b) = told-nine
-told-finish (symbol s y) = told-nine
-told-finish (hide s y ps) = told-nine
-told-finish (elements s) = told-nine
-told-finish (figures s h fs) = told-nine
-told-finish (successive s h fs n ps) = told-nine
-told-finish (texts s h fs n o) = told-nine
-told-finish (placing s h fs n o p) = told-nine
-told-finish (skipping s h fs n o d) = told-nine
-told-finish (ended s) = toldSet
+not-whole : (n : ℕ) → 3 ≤ n → n ≤ 19 → ofWhole n ≡ false
+not-whole n p q = rw (ne-eqb n 1 (λ e. omega (arith, e)), ne-eqb n 2 (λ e. omega (arith, e)), ne-eqb n 20 (λ e. omega (arith, e)))
 
-told-then : (g : Got State) (l : Line) (f : State → Outcome) → Fine g → ((st : State) → OutcomeTold (f st)) → OutcomeTold (thenRun g l f)
-told-then (got st) l f w h = h st
-told-then (bad n) l f (refuses _ w) h = let b = within-le 4 19 n w in toldNumber n (l .volume) (l .line) (omega arith) (b .1)
+told-in : (n v l : ℕ) → 3 ≤ n → n ≤ 19 → 1 ≤ v → v ≤ mostVolumes → OutcomeTold (refused n v l)
+told-in n v l p q a b =
+    toldNumber n v l (record { least = omega (arith, p); most = q; whole = λ e. clash e (not-whole n p q); inVolume = λ _. (a, b) })
 
-told-run : (e : Env) (st : State) (ls : List Line) → FineLines ls → OutcomeTold (run e st ls)
-told-run e st [] noLine = told-finish st
-told-run e st (l ∷ ls) (oneLine w r) = told-then (step e l st) l _ (fine-step e l st w) (λ st′. told-run e st′ ls r)
+told-step : (g : Got State) (l : Line) (f : State → Outcome) → Fine g → 1 ≤ l .volume → l .volume ≤ mostVolumes → ((st : State) → g ≡ got st → OutcomeTold (f st)) → OutcomeTold (thenRun g l f)
+told-step (got st) l f w a b h = h st refl
+told-step (bad n) l f (refuses _ w) a b h = let r = within-le 4 19 n w in told-in n (l .volume) (l .line) (omega (arith, r .0)) (r .1) a b
 
-told-lines : (e : Env) (l : Listed) → FineListed l → OutcomeTold (outcomeOfLines e l)
-told-lines e (listed ls) (lines w) = told-run e (top nothingYet 0) ls w
-told-lines e (noLines v) w = toldNumber 3 v 0 (omega arith) (omega arith)
+-- through the last line no set comes but one that has ended
+told-run : (e : Env) (st : State) (ls : List Line) → FineLines ls → proper ls ≡ true → Among 1 mostVolumes ls → OutcomeTold (run e st ls)
+told-run e st [] w p m = clash p refl
+told-run e st (l ∷ []) (oneLine w r) p m =
+    told-step (step e l st) l _ (fine-step e l st w) (m .0) (m .1) λ st′ q.
+    let (t, z) = last-ends e l st st′ (and-left (l .last) _ p) (and-right (l .last) _ p) q in
+    rw z toldSet
+told-run e st (l ∷ x ∷ ls) (oneLine w r) p m =
+    told-step (step e l st) l _ (fine-step e l st w) (m .0) (m .1) λ st′ _. told-run e st′ (x ∷ ls) r p (m .2)
 
-told-volumes : (e : Env) (vs : Option (List Volume)) → OutcomeTold (outcomeOfVolumes e vs)
-told-volumes e none = toldNumber 2 0 0 (omega arith) (omega arith)
-told-volumes e (some vs) = told-lines e (listVolumes 1 vs) (fine-volumes 1 vs)
+told-volumes : (e : Env) (spool : List ℕ) → OutcomeTold (outcomeOfVolumes e (volumesOf spool))
+told-volumes e spool = go (volumesOf spool) refl
+  where
+    by : (u : Volume) (vs : List Volume) (l : Listed) → listVolumes 1 (u ∷ vs) ≡ l → FineListed l → Within 1 mostVolumes l → OutcomeTold (outcomeOfLines e l)
+    by u vs (listed ls) q (lines w) m = told-run e (top nothingYet 0) ls w (lines-proper 1 u vs ls q) m
+    by u vs (noLines v) q w m = told-in 3 v 0 (omega arith) (omega arith) (m .0) (m .1)
+
+    go : (o : Option (List Volume)) → volumesOf spool ≡ o → OutcomeTold (outcomeOfVolumes e o)
+    go none p = told-whole 2 (omega arith) (omega arith) refl
+    go (some []) p = absurd (let w = volumes-inv spool [] p in omega (arith, w .one))
+    go (some (u ∷ vs)) p =
+        by u vs (listVolumes 1 (u ∷ vs)) refl (fine-volumes 1 (u ∷ vs))
+        (listing-within 1 mostVolumes 0 (u ∷ vs) (omega arith) (let w = volumes-inv spool (u ∷ vs) p in omega (arith, w .few)))
 
 pub told-spool : (e : Env) (spool : List ℕ) → OutcomeTold (outcomeOf e spool)
 unfolding outcomeOf
-told-spool e spool = told-volumes e (volumesOf spool)
+told-spool e spool = told-volumes e spool
 
 pub told-at : (c : Option Digits) (m : Option ℕ) (spool : List ℕ) → OutcomeTold (outcomeAt c m spool)
-told-at none m spool = toldNumber 1 0 0 (omega arith) (omega arith)
+told-at none m spool = told-whole 1 (omega arith) (omega arith) refl
 told-at (some c) m spool = told-spool (record { class = c; limit = m }) spool

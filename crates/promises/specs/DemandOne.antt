@@ -1,6 +1,8 @@
--- Demand 1, the part that speaks of the definitions alone: every lent part gets exactly one answer, and the lent memory on return is what
--- that answer says, number for number. (That the code returns these answers and this memory are the contracts of the code.)
+-- Demand 1, the part that speaks of the definitions alone: every spool gets an answer, and the lent memory on return is what that answer
+-- says, number for number. (That the code returns these answers and this memory are the contracts of the code; that there is no second
+-- answer is said by the theorems `Unique` of its crates.)
 use Prim.Native.Nat.{ℕ, _*_, _-_, _≤_, _<_}
+use mathlib.Core.Bool.{Bool, true, false}
 use mathlib.Core.List.{List, [], _∷_, _++_}
 use mathlib.Core.Path.{_≡_}
 use lib.IntN.{ℤ, pos}
@@ -8,22 +10,29 @@ use lib.ListN.{length, replicate}
 use Rattle.rules.specs.declared.Refusal.{Refusal}
 use Rattle.rules.specs.declared.Answer.{Answer}
 use Rattle.rules.specs.declared.Answer.the-variants.{Accepted, Refused}
-use Rattle.rules.specs.Base.{flat}
+use Rattle.rules.specs.Base.{flat, hasNumber}
+use Rattle.rules.specs.Spool.{mostVolumes}
 use Rattle.rules.specs.Sets.{Set}
 use Rattle.rules.specs.Machine.{accepted}
 use Rattle.rules.specs.RecordTable.{width}
 use Rattle.rules.specs.Answers.{refusal, readRecords, readAnswer, readTable, rewriteOutcome, written, rewriteAnswer, rewriteOutput}
 
--- ── exactly one answer ──
--- an answer is a count, or a refusal with a number from 1 to the last
+-- ── an answer ──
+-- 1 (class), 2 (spool) and 20 (output) are of the spool as a whole
+abbrev pub ofWhole : ℕ → Bool
+ofWhole number = hasNumber number (1 ∷ 2 ∷ 20 ∷ [])
+
+-- "A refusal is one number with volume and line": a number from 1 to the last; a volume from 1 to 12, but 0 and line 0 of the whole spool
+pub record Located (last : ℕ) (r : Refusal) : Type 0 where
+  pub least : 1 ≤ r .number
+  pub most : r .number ≤ last
+  pub whole : ofWhole (r .number) ≡ true → (r .volume ≡ 0) × (r .line ≡ 0)
+  pub inVolume : ofWhole (r .number) ≡ false → (1 ≤ r .volume) × (r .volume ≤ mostVolumes)
+
+-- a count, or a refusal
 pub data Answered (last : ℕ) : Answer → Type 0 where
   acceptedWith : (n : ℕ) → Answered last (Accepted n)
-  refusedWith : (r : Refusal) → 1 ≤ r .number → r .number ≤ last → Answered last (Refused r)
-
--- there is such an answer, and no second one
-pub record OneAnswer (last : ℕ) (given : Answer) : Type 0 where
-  pub some : Answered last given
-  pub only : (a b : Answer) → a ≡ given → b ≡ given → a ≡ b
+  refusedWith : (r : Refusal) → Located last r → Answered last (Refused r)
 
 -- ── the reader ──
 -- each record has 32 numbers
@@ -40,7 +49,7 @@ pub record Filled (len n : ℕ) (records : List (List ℤ)) (table : List ℤ) :
 
 -- what the reader gives back for a class, a table of `len` numbers and a spool
 pub record Reads (class len : ℕ) (spool : List ℕ) : Type 0 where
-  pub answer : OneAnswer 19 (readAnswer class len spool)
+  pub answer : Answered 19 (readAnswer class len spool)
   -- the lent table is as long as it was
   pub size : length (readTable class len spool) ≡ len
   -- "Refused: no records, table wholly zero"
@@ -56,7 +65,7 @@ pub record Written (len n : ℕ) (bytes output : List ℕ) : Type 0 where
 
 -- what the rewriter gives back for an output of `len` bytes and a spool
 pub record Rewrites (len : ℕ) (spool : List ℕ) : Type 0 where
-  pub answer : OneAnswer 20 (rewriteAnswer len spool)
+  pub answer : Answered 20 (rewriteAnswer len spool)
   -- the lent output is as long as it was
   pub size : length (rewriteOutput len spool) ≡ len
   -- "Refused: output wholly zero"

@@ -1,3 +1,4 @@
+pub mod Acceptance
 pub mod DemandOne
 pub mod DemandTwo
 pub mod DemandThree

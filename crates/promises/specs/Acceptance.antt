@@ -1,0 +1,96 @@
+-- Promise 2, its first half: "A set is accepted at a class exactly when it keeps the rules of document 01 for that class and its records
+-- fit; otherwise the first broken rule is named."
+use Prim.Native.Nat.{ℕ, _*_, _/_, _≤_, _<_}
+use mathlib.Core.Bool.{Bool, true, _&&_, _||_}
+use mathlib.Core.List.{List, map}
+use mathlib.Core.Option.{none}
+use mathlib.Core.Path.{_≡_}
+use lib.Dec.{eqb, ltb}
+use lib.IntN.{ℤ, pos, negsuc}
+use lib.ListN.{length, getD}
+use Rattle.rules.specs.declared.Answer.{Answer}
+use Rattle.rules.specs.declared.Answer.the-variants.{Accepted}
+use Rattle.rules.specs.Base.{all}
+use Rattle.rules.specs.RangeClass.{classOf}
+use Rattle.rules.specs.Sets.{Set}
+use Rattle.rules.specs.Machine.{Outcome, refused, accepted}
+use Rattle.rules.specs.RecordTable.{recordsOf, width}
+use Rattle.rules.specs.Answers.{outcomeAt, digitsOr, refusal, readAnswer, readRecords, written, rewriteAnswer}
+
+-- ── the rules of a class, apart from the table ──
+-- the reading with room for whatever records there are: every rule of document 01 but 19
+abbrev pub ruled : ℕ → List ℕ → Outcome
+ruled class spool = outcomeAt (classOf class) none spool
+
+-- the records that a set has at a class
+abbrev pub recordsAt : ℕ → Set → List (List ℤ)
+recordsAt class s = recordsOf (digitsOr (classOf class)) s
+
+-- the spool keeps the rules of the class, and has n records there
+pub record Keeps (class : ℕ) (spool : List ℕ) (n : ℕ) : Type 0 where
+  pub set : Set
+  pub rules : ruled class spool ≡ accepted set
+  pub count : length (recordsAt class set) ≡ n
+
+-- ── lines of a set ──
+pub record Place : Type 0 where
+  pub volume : ℕ
+  pub line : ℕ
+
+abbrev pub place : ℕ → ℕ → Place
+place v l = record { volume = v; line = l }
+
+abbrev pub earlier : Place → Place → Bool
+earlier p q = ltb (p .volume) (q .volume) || (eqb (p .volume) (q .volume) && ltb (p .line) (q .line))
+
+-- the line at which a record was taken: "2 volume from 1, 3 line"
+abbrev pub natural : ℤ → ℕ
+natural (pos n) = n
+natural (negsuc n) = 0
+
+abbrev pub placeOf : List ℤ → Place
+placeOf r = place (natural (getD r 2 (pos 0))) (natural (getD r 3 (pos 0)))
+
+-- "19: record doesn't fit the table"
+abbrev pub noRoom : Place → Answer
+noRoom p = refusal 19 (p .volume) (p .line)
+
+-- records taken at these lines, one after the other, do not fit a table of len numbers: the line of the first that does not
+abbrev pub firstOut : ℕ → List Place → Place
+firstOut len ps = getD ps (len / width) (place 0 0)
+
+-- ── a set that keeps the rules ──
+pub record Fits (class : ℕ) (spool : List ℕ) (s : Set) (len : ℕ) : Type 0 where
+  pub accepts : length (recordsAt class s) * width ≤ len → readAnswer class len spool ≡ Accepted (length (recordsAt class s))
+  -- with the records that it has, whatever the table's length
+  pub records : length (recordsAt class s) * width ≤ len → readRecords class len spool ≡ recordsAt class s
+  -- 19 at the line of the first record that does not fit
+  pub refuses : len < length (recordsAt class s) * width → readAnswer class len spool ≡ noRoom (firstOut len (map placeOf (recordsAt class s)))
+
+-- ── one that breaks a rule: number, volume and line of the first that is broken ──
+pub record Names (class : ℕ) (spool : List ℕ) (number volume line : ℕ) : Type 0 where
+  -- the lines of the records before it: one list, whatever the table's length
+  pub places : List Place
+  pub before : all (λ p. earlier p (place volume line)) places ≡ true
+  -- where they fit, that rule is named
+  pub names : (len : ℕ) → length places * width ≤ len → readAnswer class len spool ≡ refusal number volume line
+  -- where they do not, 19 is the first rule that is broken
+  pub refuses : (len : ℕ) → len < length places * width → readAnswer class len spool ≡ noRoom (firstOut len places)
+
+-- ── the reader ──
+pub record Acceptance (class : ℕ) (spool : List ℕ) : Type 0 where
+  -- "exactly when": accepted, then it keeps the rules and its records fit
+  pub onlyKept : (len n : ℕ) → readAnswer class len spool ≡ Accepted n → Keeps class spool n × (n * width ≤ len)
+  -- it keeps the rules: accepted where its records fit
+  pub whenKept : (s : Set) → ruled class spool ≡ accepted s → (len : ℕ) → Fits class spool s len
+  pub whenBroken : (number volume line : ℕ) → ruled class spool ≡ refused number volume line → Names class spool number volume line
+
+-- ── the rewriter: "reads at class 15 and has no table limit"; 20 is judged last ──
+pub record RewriterAccepts (spool : List ℕ) (len : ℕ) : Type 0 where
+  pub whenKept : (s : Set) → ruled 15 spool ≡ accepted s → length (written spool) ≤ len → rewriteAnswer len spool ≡ Accepted (length (written spool))
+  pub whenShort : (s : Set) → ruled 15 spool ≡ accepted s → len < length (written spool) → rewriteAnswer len spool ≡ refusal 20 0 0
+  pub whenBroken : (number volume line : ℕ) → ruled 15 spool ≡ refused number volume line → rewriteAnswer len spool ≡ refusal number volume line
+
+pub record ExactlyWhen : Type 0 where
+  pub reader : (class : ℕ) (spool : List ℕ) → Acceptance class spool
+  pub rewriter : (spool : List ℕ) (len : ℕ) → RewriterAccepts spool len
