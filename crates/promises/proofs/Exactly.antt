@@ -22,6 +22,7 @@ use Rattle.promises.specs.Acceptance.{ruled, recordsAt, Keeps, Place, pl
 use Rattle.promises.proofs.Frame.{volumes-inv}
 use Rattle.promises.proofs.Count.{inv-start}
 use Rattle.promises.proofs.Limits.{free, bound}
+use Rattle.promises.proofs.Refusals.{least-listed}
 use Rattle.promises.proofs.Listing.{lines-whole, lines-proper}
 use Rattle.promises.proofs.Fitting.{takenOn, Limited, limited, taken-before, taken-places}
 use Rattle.promises.proofs.Calls.{accepted-set}
@@ -61,6 +62,15 @@ module _ (c : Digits) where
       go none p e = refl
       go (some []) p e = absurd (let w = volumes-inv spool [] p in omega (arith, w .one))
       go (some (u ∷ vs)) p e = by u vs (listVolumes 1 (u ∷ vs)) refl e
+
+  -- none is taken before all volumes are found to have lines
+  none-volumes : (o : Option (List Volume)) (k v n : ℕ) → outcomeOfVolumes (free c) o ≡ refused k v n → k ≤ 3 → placesIn c o ≡ []
+  none-volumes none k v n e h = refl
+  none-volumes (some vs) k v n e h = go (listVolumes 1 vs) refl e
+    where
+      go : (l : Listed) → listVolumes 1 vs ≡ l → outcomeOfLines (free c) l ≡ refused k v n → listedPlaces c l ≡ []
+      go (listed ls) q e = absurd (omega (arith, least-listed (free c) vs ls q k v n e, h))
+      go (noLines w) q e = refl
 
   -- of an accepted set they are the lines of its records
   shown-volumes : (o : Option (List Volume)) (s : Set) → outcomeOfVolumes (free c) o ≡ accepted s → placesIn c o ≡ map placeOf (recordsOf c s)
@@ -152,6 +162,7 @@ acceptance class spool = go (classOf class) refl
           whenBroken = λ k v l e. record {
             places = [];
             before = refl;
+            noneYet = λ _. refl;
             names = λ len h. answer-refused class len spool k v l (no-class class len spool p ∙ sym is ∙ e);
             refuses = λ len h. absurd (omega (arith, h));
           };
@@ -162,13 +173,14 @@ acceptance class spool = go (classOf class) refl
       whenBroken = λ k v l e. record {
         places = placesIn c (volumesOf spool);
         before = before-volumes c spool k v l (sym (ruled-at class c spool p) ∙ e);
+        noneYet = none-volumes c (volumesOf spool) k v l (sym (ruled-at class c spool p) ∙ e);
         names = λ len h. answer-refused class len spool k v l (fits-table class c p spool len h ∙ e);
         refuses = full-answer class c p spool;
       };
     }
 
 -- ── the rewriter ──
-ruled-full : (spool : List ℕ) → ruled 15 spool ≡ rewriteOutcome spool
+pub ruled-full : (spool : List ℕ) → ruled 15 spool ≡ rewriteOutcome spool
 unfolding classOf rewriteOutcome
 ruled-full spool = refl
 

@@ -27,6 +27,7 @@ pub mod Frame
 pub mod Frames
 pub mod Good
 pub mod GoodLines
+pub mod HostCall
 pub mod Inv
 pub mod InvBody
 pub mod InvFile
@@ -51,6 +52,8 @@ pub mod LowerSerials
 pub mod LowerSteps
 pub mod Nameless
 pub mod Numbers
+pub mod OneCall
+pub mod Packing
 pub mod Parsed
 pub mod Places
 pub mod RecordLines
@@ -68,3 +71,4 @@ pub mod TwoClasses
 pub mod Values
 pub mod Weights
 pub mod Widths
+pub mod Witness

@@ -3,7 +3,7 @@ use Prim.Native.Nat.{ℕ, zero, suc, _+_, _≤_}
 use mathlib.Core.Bool.{Bool, true, false}
 use mathlib.Core.List.{List, [], _∷_, _++_}
 use mathlib.Core.Option.{Option, none, some}
-use mathlib.Core.Path.{_≡_, refl}
+use mathlib.Core.Path.{_≡_, refl, sym, subst}
 use native.Mathlib.Omega.{arith}
 use lib.Dec.{eqb}
 use lib.ListN.{length}
@@ -17,10 +17,11 @@ use Rattle.rules.specs.Rows.{Found, absent, found, find, Slots, Held, partOf, m
 use Rattle.rules.specs.Blocks.{topTable}
 use Rattle.rules.specs.Figures.{placedTable}
 use Rattle.rules.specs.Sets.{Point, Figure, Drawing, Symbol, Set, nothingYet, rangeOf, knownOf}
-use Rattle.rules.specs.Machine.{Line, Env, Home, inElement, inLayer, State, top, file, drawing, layerNames, defines, symbol, hide, elements, figures, successive, texts, placing, skipping, ended, openTop, onTop, shutPart, onFile, onDrawing, layerValue, onLayerNames, openSymbol, onSymbol, onDefines, onHide, onElements, closeFigures, openPlaced, openFigure, onFigures, onSuccessive, onTexts, bySkip, onUnknown, onPlaced, onPlacedKey, onPlacedOwn, onPlacing, skipShut, onSkipping, stepIn, step, Outcome, refused, accepted, thenRun, run}
+use Rattle.rules.specs.Machine.{Line, Env, Home, inElement, inLayer, State, top, file, drawing, layerNames, defines, symbol, hide, elements, figures, successive, texts, placing, skipping, ended, openTop, onTop, shutPart, onFile, onDrawing, layerValue, onLayerNames, openSymbol, onSymbol, onDefines, onHide, onElements, closeFigures, openPlaced, openFigure, onFigures, onSuccessive, onTexts, bySkip, onUnknown, onPlaced, onPlacedKey, onPlacedOwn, onPlacing, skipShut, onSkipping, stepIn, step, Outcome, refused, accepted, thenRun, finish, run}
 use Rattle.rules.specs.Spool.{Volume, volumesOf, linesOf, mostVolumes}
 use Rattle.rules.specs.Answers.{numbered, linesOfVolume, nextName, Listed, listed, noLines, ontoLines, listVolume, listVolumes, outcomeOfLines, outcomeOfVolumes, outcomeOf, outcomeAt}
 use Rattle.rules.proofs.Chains.{and-left, and-right, clash, by-cond}
+use Rattle.rules.proofs.Runs.{not-accepted}
 use Rattle.promises.specs.DemandOne.{ofWhole, Located}
 use Rattle.promises.proofs.Frame.{volumes-inv}
 use Rattle.promises.proofs.LowerRun.{last-ends, proper}
@@ -221,6 +222,37 @@ fine-list k v vs (some ls) rest w = fine-onto _ rest (fine-volume k (nextName vs
 fine-volumes : (k : ℕ) (vs : List Volume) → FineListed (listVolumes k vs)
 fine-volumes k [] = lines noLine
 fine-volumes k (v ∷ vs) = fine-list k v vs (linesOf (v .body)) _ (fine-volumes (suc k) vs)
+
+-- ── a refusal at a line is 4 or more ──
+least-finish : (st : State) (k v n : ℕ) → finish st ≡ refused k v n → 4 ≤ k
+least-finish (top s j) k v n e = let z : 9 ≡ k = cc in omega arith
+least-finish (file s j h p) k v n e = let z : 9 ≡ k = cc in omega arith
+least-finish (drawing s d) k v n e = let z : 9 ≡ k = cc in omega arith
+least-finish (layerNames s d) k v n e = let z : 9 ≡ k = cc in omega arith
+least-finish (defines s b) k v n e = let z : 9 ≡ k = cc in omega arith
+least-finish (symbol s y) k v n e = let z : 9 ≡ k = cc in omega arith
+least-finish (hide s y ps) k v n e = let z : 9 ≡ k = cc in omega arith
+least-finish (elements s) k v n e = let z : 9 ≡ k = cc in omega arith
+least-finish (figures s h fs) k v n e = let z : 9 ≡ k = cc in omega arith
+least-finish (successive s h fs j ps) k v n e = let z : 9 ≡ k = cc in omega arith
+least-finish (texts s h fs j o) k v n e = let z : 9 ≡ k = cc in omega arith
+least-finish (placing s h fs j o p) k v n e = let z : 9 ≡ k = cc in omega arith
+least-finish (skipping s h fs j o d) k v n e = let z : 9 ≡ k = cc in omega arith
+least-finish (ended s) k v n e = not-accepted (sym e)
+
+least-run : (e : Env) (st : State) (ls : List Line) → FineLines ls → (k v n : ℕ) → run e st ls ≡ refused k v n → 4 ≤ k
+least-run e st [] w k v n q = least-finish st k v n q
+least-run e st (l ∷ ls) (oneLine w r) k v n q = go (step e l st) (fine-step e l st w) (λ st′. least-run e st′ ls r k v n) q
+  where
+    go : (g : Got State) → Fine g → ((st′ : State) → run e st′ ls ≡ refused k v n → 4 ≤ k) → thenRun g l (λ st′. run e st′ ls) ≡ refused k v n → 4 ≤ k
+    go (got st′) f ih q = ih st′ q
+    go (bad j) (refuses _ f) ih q = let z : j ≡ k = cc in omega (arith, within-le 4 19 j f .0, z)
+
+pub least-listed : (e : Env) (vs : List Volume) (ls : List Line) → listVolumes 1 vs ≡ listed ls → (k v n : ℕ) → run e (top nothingYet 0) ls ≡ refused k v n → 4 ≤ k
+least-listed e vs ls q k v n = go (subst FineListed q (fine-volumes 1 vs))
+  where
+    go : FineListed (listed ls) → run e (top nothingYet 0) ls ≡ refused k v n → 4 ≤ k
+    go (lines w) = least-run e (top nothingYet 0) ls w k v n
 
 -- ── the outcome ──
 pub data OutcomeTold : Outcome → Type 0 where

@@ -2,7 +2,7 @@
 -- fit; otherwise the first broken rule is named."
 use Prim.Native.Nat.{ℕ, _*_, _/_, _≤_, _<_}
 use mathlib.Core.Bool.{Bool, true, _&&_, _||_}
-use mathlib.Core.List.{List, map}
+use mathlib.Core.List.{List, [], map}
 use mathlib.Core.Option.{none}
 use mathlib.Core.Path.{_≡_}
 use lib.Dec.{eqb, ltb}
@@ -72,6 +72,8 @@ pub record Names (class : ℕ) (spool : List ℕ) (number volume line : ℕ) : T
   -- the lines of the records before it: one list, whatever the table's length
   pub places : List Place
   pub before : all (λ p. earlier p (place volume line)) places ≡ true
+  -- "Order: 1, 2, 3 over all volumes, then line by line"
+  pub noneYet : number ≤ 3 → places ≡ []
   -- where they fit, that rule is named
   pub names : (len : ℕ) → length places * width ≤ len → readAnswer class len spool ≡ refusal number volume line
   -- where they do not, 19 is the first rule that is broken

@@ -1,9 +1,13 @@
 pub mod Acceptance
 pub mod DemandOne
-pub mod DemandTwo
 pub mod DemandThree
+pub mod DemandTwo
+pub mod HostCalls
 pub mod PlacesApart
 pub mod ReaderCalls
 pub mod RewriterCalls
+pub mod SingleCalls
 pub mod TableTexts
+pub mod TakenApart
 pub mod TextsKept
+pub mod Witnesses
