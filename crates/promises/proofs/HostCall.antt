@@ -19,7 +19,7 @@ use Rattle.promises.proofs.Exactly.{exactly-when, ruled-full}
 use Rattle.promises.proofs.OneCall.{kept-accepts, read-calls, rewrite-calls}
 use Rattle.promises.proofs.Calls.{lower-call-accepts, higher-call-refuses}
 use Rattle.promises.proofs.Packing.{taken-apart}
-use Rattle.promises.proofs.Round.{demand-two}
+use Rattle.promises.proofs.Round.{written-back}
 
 -- ── a number and its answer ──
 -- what is accepted has the number 0, what is refused another
@@ -96,7 +96,7 @@ rewrites c =
       zeros = λ h. call .whenRefused (refusalIn (c .number)) (t .refused h);
       whenAccepted = λ e. call .whenAccepted (c .count) (t .accepted e ∙ ap Accepted (sym (c .counts)));
       whenKept = λ n k h.
-          let short = demand-two (c .spool) (k .set) (sym (ruled-full (c .spool)) ∙ k .rules) .noLonger in
+          let short = written-back (c .spool) (k .set) (sym (ruled-full (c .spool)) ∙ k .rules) .noLonger in
           c .answers ∙ none-packed a (length (written (c .spool))) (call .whenKept (k .set) (k .rules) (omega (arith, h, short)));
     }
 

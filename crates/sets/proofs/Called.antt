@@ -12,14 +12,16 @@ use Rattle.rules.specs.declared.Refusal.{Refusal}
 use Rattle.rules.specs.declared.Answer.the-variants.{Accepted, Refused}
 use Rattle.promises.specs.ReaderCalls.{Call, TwoCalls, Accepts, Refuses}
 use Rattle.promises.specs.RewriterCalls.{Rewriting, CallsBack, Rewrites}
+use Rattle.promises.specs.SingleCalls.{ReadCall, RewriteCall}
 use Rattle.promises.specs.TextsKept.{Points}
+use Rattle.promises.proofs.OneCall.{read-calls, rewrite-calls}
 use Rattle.promises.proofs.Calls.{lower-call-accepts, higher-call-refuses}
 use Rattle.promises.proofs.RewriterBack.{call-texts, rewriter-calls, accepted-rewrites}
 use Rattle.sets.proofs.reader.read as read′
 use Rattle.sets.proofs.rewriter.rewrite as rewrite′
 
 -- what a contract's callers learn (C), of the arguments, the answer and the lent memory on return, gives an A
-abbrev Learns : {n : ℕ} (ps : List (PK n)) (r : RK n) → Out n ps r → Type 0 → Type 0
+abbrev pub Learns : {n : ℕ} (ps : List (PK n)) (r : RK n) → Out n ps r → Type 0 → Type 0
 Learns {n} ps r C A = (κs : Lfts n) (x : Dens κs ps) (a : resT r κs .Denot) (e : AtExit (endedOf n ps r) κs) → C κs x a e → A
 
 abbrev pub read-call : Learns read′.Kinds.ps read′.Kinds.r read′.Reads.Learnt Call
@@ -42,6 +44,15 @@ rewrite-call κs x r e c = record {
   answers = c .0;
   fills = c .1;
 }
+
+-- ── promise 1, and what is accepted: one call ──
+pub reads-once : (κs : Lfts 2) (x : Dens κs read′.Kinds.ps) (r : resT read′.Kinds.r κs .Denot) (e : AtExit (endedOf 2 read′.Kinds.ps read′.Kinds.r) κs)
+    (c : read′.Reads.Learnt κs x r e) → ReadCall (read-call κs x r e c)
+reads-once κs x r e c = read-calls (read-call κs x r e c)
+
+pub rewrites-once : (κs : Lfts 2) (x : Dens κs rewrite′.Kinds.ps) (r : resT rewrite′.Kinds.r κs .Denot) (e : AtExit (endedOf 2 rewrite′.Kinds.ps rewrite′.Kinds.r) κs)
+    (c : rewrite′.Reads.Learnt κs x r e) → RewriteCall (rewrite-call κs x r e c)
+rewrites-once κs x r e c = rewrite-calls (rewrite-call κs x r e c)
 
 -- ── demand 2: the bytes that `rewrite` wrote, read and rewritten ──
 pub rewrites-back : (κs : Lfts 2) (x : Dens κs rewrite′.Kinds.ps) (r : resT rewrite′.Kinds.r κs .Denot) (e : AtExit (endedOf 2 rewrite′.Kinds.ps rewrite′.Kinds.r) κs)
