@@ -1,20 +1,19 @@
 -- What a line that a row took says of that row: it stands in the table, it was not full, and its numbers fill its places.
-use Prim.Native.Nat.{ℕ, zero, suc, _+_, _<_}
-use mathlib.Core.Bool.{Bool, true, false, cond, _&&_, _||_, not}
+use Prim.Native.Nat.{ℕ, suc, _+_, _<_}
+use mathlib.Core.Bool.{Bool, true, false, cond, _&&_}
 use mathlib.Core.List.{List, [], _∷_, map}
-use mathlib.Core.Option.{Option, none, some}
+use mathlib.Core.Option.{some}
 use mathlib.Core.Path.{_≡_, refl, sym, _∙_, ap, subst}
-use native.Mathlib.Omega.{arith}
-use lib.Dec.{eqb, leb}
+use lib.Dec.{leb}
 use lib.IntN.{ℤ}
 use lib.ListN.{length, getD}
 use borrow.Author.Tests.{eq-eqb}
 use Rattle.rules.specs.declared.Digits.{Digits}
-use Rattle.rules.specs.Base.{all, same, split, cut, Cut}
-use Rattle.rules.specs.RefusalNumbers.{Got, got, bad, unless, mapG, keep, consG, orBad}
+use Rattle.rules.specs.Base.{all, same, split, cut}
+use Rattle.rules.specs.RefusalNumbers.{Got, got, bad, unless, mapG, keep, orBad}
 use Rattle.rules.specs.Lines.{Rest, Form, ignored, wrong, close, eof, keyed, Shape, opener, noContent, content, opening, formless, hasForm, shapeOf}
-use Rattle.rules.specs.Values.{Num, Value, empty, nums, chars, linked, Known, byteIn, lettersAndDigits, capital, Part, range, readPart, readAll, agree, Kind, values, text, word, volumeName, sheet, ratio, serials, nothing, opens, headed, either, sheets, twoNums, findSheet, goodRatio, withOne, ratioParts, readCounts, readRatio, mostPartners, readSerials, linkedOf, readText, readKind}
-use Rattle.rules.specs.Rows.{Rule, Found, absent, found, find, shapeFor, Act, stay, entry, begin, shut, refuse, orRefuse, innerOf, readShape, actRow, actUnknown, actFound, complete, act}
+use Rattle.rules.specs.Values.{Num, Value, empty, nums, chars, Known, byteIn, lettersAndDigits, capital, Part, range, readPart, readAll, agree, Kind, values, text, word, volumeName, sheet, ratio, serials, nothing, opens, headed, either, sheets, twoNums, findSheet, goodRatio, withOne, ratioParts, readCounts, readRatio, mostPartners, readSerials, linkedOf, readKind}
+use Rattle.rules.specs.Rows.{Rule, Found, absent, found, find, shapeFor, Act, stay, entry, begin, shut, refuse, orRefuse, innerOf, readShape, actRow, actFound, complete, act}
 use Rattle.rules.specs.RecordTable.{numbers, columns, ruleAt}
 use Rattle.rules.proofs.Chains.{clash, never, none-some, unless-got, map-got, keep-got, or-got, cons-got, by-cond}
 use Rattle.rules.proofs.Rows.{Row, found-row, row-at, row-below, isRefusal, row-did}

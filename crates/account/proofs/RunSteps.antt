@@ -1,11 +1,12 @@
 -- One line of the reading: where it is the last of its volume, and where it is not.
-use Prim.Native.Nat.{ℕ, suc, _+_, _<_, _≤_, min}
-use mathlib.Core.Bool.{Bool, true, false, cond, _&&_, _||_}
-use mathlib.Core.List.{List, [], _∷_, _++_}
-use mathlib.Core.Path.{_≡_, refl, sym, _∙_, ap}
+use Prim.Native.Nat.{ℕ, min}
+use mathlib.Core.Bool.{Bool, true, false, cond}
+use mathlib.Core.List.{List, _∷_}
+use mathlib.Core.Path.{_≡_, refl, _∙_, ap}
 use Rattle.rules.specs.Base.{isNil}
 use Rattle.rules.specs.RefusalNumbers.{Got, got, bad, mapG, also}
-use Rattle.rules.specs.Machine.{Line, Env, State, stepIn, Stage, withinOther, stageOf, isEof, isClose, isIgnored, completes, nextVolume, step, Outcome, refused, thenRun, run}
+use Rattle.rules.specs.Machine.{Line, Env, State}
+use Rattle.rules.specs.LineByLine.{stepIn, withinOther, stageOf, completes, nextVolume, Outcome, refused, thenRun, run}
 use Rattle.rules.proofs.Chains.{cond-same}
 
 -- the number that a volume's last line has in a block: the block has not closed

@@ -13,7 +13,9 @@ use Rattle.rules.specs.Lines.{Form, ignored, wrong, close, eof, keyed, formIn}
 use Rattle.rules.specs.RangeClass.{Skip, passes, deeper, noForm, skipOf, mostDepth}
 use Rattle.rules.specs.Rows.{Held}
 use Rattle.rules.specs.Sets.{Set, Figure}
-use Rattle.rules.specs.Machine.{Line, Env, State, skipping, bySkip, skipDeeper, skipShut, onSkipping, stepIn, refused, run}
+use Rattle.rules.specs.Machine.{Line, Env, State, skipping}
+use Rattle.rules.specs.PlacedSymbol.{bySkip, skipDeeper, skipShut, onSkipping}
+use Rattle.rules.specs.LineByLine.{stepIn, refused, run}
 use Rattle.lines.specs.declared.Seen.{Seen}
 use Rattle.account.specs.declared.Volume.{Volume}
 use Rattle.account.specs.declared.Pos.{Pos}

@@ -1,11 +1,10 @@
 -- From line to line: what `next_line` answers of the lines left.
-use Prim.Native.Nat.{ℕ, suc, _+_, _≤_}
-use mathlib.Core.Bool.{true, false}
-use mathlib.Core.Path.{_≡_, refl, sym, _∙_, ap, subst}
-use mathlib.Core.List.{List, [], _∷_, _++_}
+use Prim.Native.Nat.{ℕ, _+_}
+use mathlib.Core.Bool.{false}
+use mathlib.Core.Path.{_≡_, refl, sym, ap, subst}
+use mathlib.Core.List.{List, _∷_, _++_}
 use mathlib.Core.Option.{some}
 use native.Mathlib.Omega.{arith}
-use native.Mathlib.Numerals.{add-one}
 use lib.ListN.{length}
 use Rattle.rules.specs.Base.{isNil}
 use Rattle.rules.specs.Machine.{Line}
@@ -15,7 +14,7 @@ use Rattle.lines.specs.LineLook.{lookIn, linesIn}
 use Rattle.lines.specs.declared.Seen.{Seen}
 use Rattle.lines.specs.declared.Look.{Look}
 use Rattle.lines.specs.declared.Look.the-variants as K
-use Rattle.lines.proofs.LinesSeen.{Found, Follows, look-line, look-end}
+use Rattle.lines.proofs.LinesSeen.{look-line, look-end}
 use Rattle.account.specs.declared.Volume.{Volume}
 use Rattle.account.specs.declared.Pos.{Pos}
 use Rattle.account.specs.Walk.{seenOr, seenFrom, At, behind, todo, lineAt, Next}

@@ -1,11 +1,9 @@
 -- What the code remembers of the reading between two lines, and how a line changes it.
-use Prim.Native.Nat.{ℕ, _+_, _*_, _-_}
-use mathlib.Core.Bool.{Bool, true, false, cond}
+use Prim.Native.Nat.{ℕ, _+_}
+use mathlib.Core.Bool.{Bool, cond}
 use mathlib.Core.Path.{_≡_}
 use mathlib.Core.List.{List, [], _∷_}
-use lib.Dec.{eqb, leb}
 use lib.IntN.{ℤ, pos}
-use lib.ListN.{length}
 use lib.Seq.{sets}
 use Rattle.rules.specs.Rows.{Rule, Act, stay, entry, begin, shut, refuse}
 use Rattle.entries.specs.Acts.{putLine}

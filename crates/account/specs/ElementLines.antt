@@ -5,7 +5,7 @@ use mathlib.Core.Path.{_≡_}
 use mathlib.Core.List.{List}
 use lib.Dec.{eqb}
 use lib.ListN.{getD, set}
-use Rattle.rules.specs.Values.{Value, amountAt}
+use Rattle.rules.specs.Values.{amountAt}
 use Rattle.rules.specs.Rows.{Act, stay, entry, begin, shut, refuse}
 use Rattle.account.specs.declared.Now.{Now}
 use Rattle.account.specs.declared.Step.{Step}

@@ -1,6 +1,6 @@
 -- A line among the figures of a layer or of a symbol's `element`: what it answers, and what it leaves in the table and the marks.
 use Prim.Native.Nat.{ℕ, _+_}
-use mathlib.Core.Bool.{Bool, true, false, cond}
+use mathlib.Core.Bool.{Bool, false, cond}
 use mathlib.Core.Path.{_≡_}
 use mathlib.Core.List.{List}
 use lib.Dec.{eqb}

@@ -10,7 +10,7 @@ use Rattle.rules.specs.declared.LineForm.{LineForm}
 use Rattle.rules.specs.Lines.{formIn}
 use Rattle.rules.specs.RangeClass.{digits}
 use Rattle.rules.specs.Values.{Value}
-use Rattle.rules.specs.Rows.{fullAt, Act, stay, entry, begin, shut, refuse, act}
+use Rattle.rules.specs.Rows.{rowsAtLimit, Act, stay, entry, begin, shut, refuse, act}
 use Rattle.rules.specs.RecordTable.{ruleAt}
 use Rattle.rules.specs.Figures.{leastPoints}
 use Rattle.tables.specs.Tables.{tableOf}
@@ -38,7 +38,7 @@ chainKind false = 37
 abbrev pub pointAct : ℕ → List ℕ → List ℕ → List ℕ → Now → LineForm → List ℤ → Act
 pointAct table s symbols layers n form t =
     taking (hasRoom (n .free) t)
-    (act (knownIn s symbols layers) (tableOf table) (digits 0 0) (fullAt (n .points) (tableOf table)) (formIn s form))
+    (act (knownIn s symbols layers) (tableOf table) (digits 0 0) (rowsAtLimit (n .points) (tableOf table)) (formIn s form))
 
 abbrev pub morePoints : Now → Now
 morePoints n = record { block = n .block; part = n .part; layered = n .layered; owner = n .owner; own = n .own; free = n .free + 32; figures = n .figures; points = n .points + 1 }

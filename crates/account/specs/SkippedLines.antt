@@ -9,7 +9,8 @@ use Rattle.rules.specs.Lines.{equals, Form, ignored, wrong, close, eof, keyed, 
 use Rattle.rules.specs.RangeClass.{Skip, passes, deeper, noForm, skipShape, skipOf}
 use Rattle.rules.specs.Rows.{Held}
 use Rattle.rules.specs.Sets.{Set, Figure}
-use Rattle.rules.specs.Machine.{Line, Env, State, placing, skipping, refused, run}
+use Rattle.rules.specs.Machine.{Line, Env, State, placing, skipping}
+use Rattle.rules.specs.LineByLine.{refused, run}
 use Rattle.account.specs.declared.Volume.{Volume}
 use Rattle.account.specs.declared.Pos.{Pos}
 use Rattle.account.specs.declared.Left.{Left}

@@ -1,6 +1,6 @@
 -- The table of records and the numbers lent for it. The reader is lent the table itself. The rewriter keeps no records: it is lent room
 -- for three of them, a scratch, and its table is one that is only thought of.
-use Prim.Native.Nat.{ℕ, _+_, _*_, _-_, _≤_, _<_}
+use Prim.Native.Nat.{ℕ, _+_, _-_, _≤_, _<_}
 use mathlib.Core.Bool.{Bool, true, false, cond, _&&_, _||_, not}
 use mathlib.Core.Path.{_≡_}
 use mathlib.Core.List.{List}

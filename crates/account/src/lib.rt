@@ -23,31 +23,31 @@ pub struct Where {
 }
 
 // Which block is open.
-pub const TOP: u8 = 0;
+pub const BLOCK_TOP: u8 = 0;
 
-pub const FILE: u8 = 1;
+pub const BLOCK_FILE: u8 = 1;
 
-pub const DRAWING: u8 = 2;
+pub const BLOCK_DRAWING: u8 = 2;
 
-pub const LAYER_NAMES: u8 = 3;
+pub const BLOCK_LAYER_NAMES: u8 = 3;
 
-pub const DEFINES: u8 = 4;
+pub const BLOCK_DEFINES: u8 = 4;
 
-pub const SYMBOL: u8 = 5;
+pub const BLOCK_SYMBOL: u8 = 5;
 
-pub const HIDE: u8 = 6;
+pub const BLOCK_HIDE: u8 = 6;
 
-pub const ELEMENTS: u8 = 7;
+pub const BLOCK_ELEMENTS: u8 = 7;
 
-pub const FIGURES: u8 = 8;
+pub const BLOCK_FIGURES: u8 = 8;
 
-pub const CHAIN: u8 = 9;
+pub const BLOCK_CHAIN: u8 = 9;
 
-pub const TEXT: u8 = 10;
+pub const BLOCK_TEXT: u8 = 10;
 
-pub const PLACED: u8 = 11;
+pub const BLOCK_PLACED: u8 = 11;
 
-pub const ENDED: u8 = 12;
+pub const BLOCK_ENDED: u8 = 12;
 
 // Which block is open, and how far it is. What its lines held is in the records.
 pub struct Now {
@@ -70,29 +70,29 @@ pub struct Now {
 }
 
 // The tally of a set, twelve numbers: the ranges arc, E_sym and S_elec;
-pub const ARC: usize = 0;
+pub const TALLY_ARC: usize = 0;
 
-pub const SYMBOL_RANGE: usize = 1;
+pub const TALLY_SYMBOL_RANGE: usize = 1;
 
-pub const DEFINE_RANGE: usize = 2;
+pub const TALLY_DEFINE_RANGE: usize = 2;
 // the first volume's date, time and all_ele, and this_ele of the volume at hand;
-pub const DATE: usize = 3;
+pub const TALLY_DATE: usize = 3;
 
-pub const TIME: usize = 4;
+pub const TALLY_TIME: usize = 4;
 
-pub const ALL: usize = 5;
+pub const TALLY_ALL: usize = 5;
 
-pub const HERE: usize = 6;
+pub const TALLY_HERE: usize = 6;
 // the figures in this volume's closed layers, and in the closed volumes;
-pub const ELEMENTS_HERE: usize = 7;
+pub const TALLY_ELEMENTS_HERE: usize = 7;
 
-pub const TOTAL: usize = 8;
+pub const TALLY_TOTAL: usize = 8;
 // how many symbols and layers have names, and how many serial numbers there are.
-pub const SYMBOLS: usize = 9;
+pub const TALLY_SYMBOLS: usize = 9;
 
-pub const LAYERS: usize = 10;
+pub const TALLY_LAYERS: usize = 10;
 
-pub const SERIALS: usize = 11;
+pub const TALLY_SERIALS: usize = 11;
 
 // What a line made of it, or its refusal; a line that opens a block to be skipped has that read first.
 pub enum Step {

@@ -1,12 +1,12 @@
 -- The ten classes by their digits.
 use Prim.Native.Nat.{ℕ, _-_, _/_, _%_, _≤_}
 use mathlib.Core.Bool.{true, false}
-use mathlib.Core.Path.{_≡_, refl, sym, _∙_, ap, ap₂}
+use mathlib.Core.Path.{_≡_, ap₂}
 use native.Mathlib.Omega.{arith}
 use lib.Dec.{leb}
 use borrow.Author.Tests.{leb-true}
 use Rattle.rules.specs.Base.{within}
-use Rattle.rules.specs.RangeClass.{digits, digitsOf, classOf}
+use Rattle.rules.specs.RangeClass.{digits, classOf}
 use Rattle.rules.proofs.Chains.{and-left, and-right}
 use Rattle.account.specs.Classes.{classIn}
 use Rattle.account.specs.declared.Class.the-variants as C

@@ -1,5 +1,5 @@
 -- A line among points: from what `act_at` promises to the line's own contract.
-use Prim.Native.Nat.{ℕ, _+_, _*_, _<_, _≤_}
+use Prim.Native.Nat.{ℕ, _+_, _<_, _≤_}
 use mathlib.Core.Bool.{Bool, true, false, cond}
 use mathlib.Core.List.{List, [], _∷_}
 use mathlib.Core.Path.{_≡_, refl, sym, _∙_, ap, subst}
@@ -16,7 +16,7 @@ use Rattle.rules.specs.Base.{all}
 use Rattle.rules.specs.Lines.{Form}
 use Rattle.rules.specs.RangeClass.{digits}
 use Rattle.rules.specs.Values.{Known}
-use Rattle.rules.specs.Rows.{fullAt, Act, act}
+use Rattle.rules.specs.Rows.{rowsAtLimit, Act, act}
 use Rattle.rules.specs.RecordTable.{ruleAt}
 use Rattle.rules.specs.Figures.{leastPoints, pointTable}
 use Rattle.tables.specs.Tables.{tableOf}
@@ -46,14 +46,14 @@ points-room true = refl
 points-room false = refl
 
 -- "block of 3 to 100 point": the code's own mark
-points-full : (b : Bool) (n : ℕ) → leb 100 n ∷ [] ≡ fullAt n (tableOf (pointTableOf b))
+points-full : (b : Bool) (n : ℕ) → leb 100 n ∷ [] ≡ rowsAtLimit n (tableOf (pointTableOf b))
 unfolding tableOf pointTable
 points-full true n = refl
 points-full false n = refl
 
 pub point-acts : (b : Bool) (table : ℕ) (d : Digits) (k : Known) (f : Form) (points free : ℕ) (t₀ t₁ : List ℤ) (x : Next) → table ≡ pointTableOf b → d ≡ digits 0 0
     → ActsAt (ruleAt (tableOf table)) free t₀ (act k (tableOf table) d (leb 100 points ∷ []) f) t₁ x
-    → ActsAt (ruleAt (tableOf (pointTableOf b))) free t₀ (act k (tableOf (pointTableOf b)) (digits 0 0) (fullAt points (tableOf (pointTableOf b))) f) t₁ x
+    → ActsAt (ruleAt (tableOf (pointTableOf b))) free t₀ (act k (tableOf (pointTableOf b)) (digits 0 0) (rowsAtLimit points (tableOf (pointTableOf b))) f) t₁ x
 point-acts b table d k f points free t₀ t₁ x e q m =
     subst (λ (full : List Bool). ActsAt (ruleAt (tableOf (pointTableOf b))) free t₀ (act k (tableOf (pointTableOf b)) (digits 0 0) full f) t₁ x) (points-full b points)
     (subst (λ (d : Digits). ActsAt (ruleAt (tableOf (pointTableOf b))) free t₀ (act k (tableOf (pointTableOf b)) d (leb 100 points ∷ []) f) t₁ x) q

@@ -1,5 +1,5 @@
 // What the blocks have in common.
-use account::FIGURES;
+use account::BLOCK_FIGURES;
 use account::Now;
 use entries::Next;
 use entries::acts::act;
@@ -117,7 +117,7 @@ pub(crate) fn figure_done(now: Now) -> Now
     ensures { λ r. ⌜ r ≡ figureDone now ⌝ }
 {
     Now {
-        block: FIGURES,
+        block: BLOCK_FIGURES,
         part: 0,
         layered: now.layered,
         owner: now.owner,

@@ -3,13 +3,13 @@ use crate::blocks::at_block;
 use crate::blocks::digits_of;
 use crate::blocks::has_room;
 use crate::table::head;
-use account::DRAWING;
-use account::LAYER_NAMES;
-use account::LAYERS;
+use account::BLOCK_DRAWING;
+use account::BLOCK_LAYER_NAMES;
+use account::BLOCK_TOP;
 use account::LayerName;
 use account::Now;
 use account::Step;
-use account::TOP;
+use account::TALLY_LAYERS;
 use account::Where;
 use entries::Index;
 use entries::Next;
@@ -75,9 +75,9 @@ pub fn on_drawing(
         }
         Next::Begin(inner) => {
             marks[inner.row as usize] = true;
-            Step::Go(at_block(here, LAYER_NAMES, 0))
+            Step::Go(at_block(here, BLOCK_LAYER_NAMES, 0))
         }
-        Next::Shut => Step::Go(at_block(here, TOP, 2)),
+        Next::Shut => Step::Go(at_block(here, BLOCK_TOP, 2)),
         Next::Refuse(k) => Step::Stop(k),
     }
 }
@@ -162,11 +162,11 @@ fn take_layer(
     if !has_room(t, w) {
         return Step::Stop(19);
     }
-    let count = tally[LAYERS];
+    let count = tally[TALLY_LAYERS];
     put_layer(count, part(s, key), name, at, w, t);
     // an id has five bytes
     layers[count as usize] = key.at + 327680;
-    tally[LAYERS] = count + 1;
+    tally[TALLY_LAYERS] = count + 1;
     Step::Go(layer_taken(here))
 }
 
@@ -191,7 +191,7 @@ fn layer_line(
     match read {
         LayerName::Bad(n) => Step::Stop(n),
         LayerName::Is(name) => {
-            let count = tally[LAYERS] as usize;
+            let count = tally[TALLY_LAYERS] as usize;
             if 64 <= count {
                 return Step::Stop(11);
             }
@@ -219,7 +219,7 @@ pub fn on_layer_names(
 {
     match form {
         LineForm::Ignored => Step::Go(here),
-        LineForm::Close => Step::Go(at_block(here, DRAWING, 0)),
+        LineForm::Close => Step::Go(at_block(here, BLOCK_DRAWING, 0)),
         LineForm::Eof => Step::Stop(9),
         LineForm::Opens(o) => {
             let key = o.key;

@@ -1,13 +1,13 @@
 // ELEMENT: the layers of a volume.
 use crate::blocks::at_block;
 use crate::blocks::no_digits;
-use account::ELEMENTS_HERE;
-use account::FIGURES;
-use account::HERE;
+use account::BLOCK_FIGURES;
+use account::BLOCK_TOP;
 use account::Now;
 use account::Step;
-use account::TOP;
-use account::TOTAL;
+use account::TALLY_ELEMENTS_HERE;
+use account::TALLY_HERE;
+use account::TALLY_TOTAL;
 use entries::Next;
 use entries::acts::act;
 use rules::LineForm;
@@ -35,7 +35,7 @@ fn open_layer(was: Now, layer: u32, used: &mut [bool], used_all: &mut [bool]) ->
     used[i] = true;
     used_all[i] = true;
     Step::Go(Now {
-        block: FIGURES,
+        block: BLOCK_FIGURES,
         part: 0,
         layered: true,
         owner: layer,
@@ -51,11 +51,11 @@ fn close_element(was: Now, tally: &mut [u32]) -> Step
     requires { ⌜ (length (now tally) ≡ 12) × (getD (now tally) 8 0 + getD (now tally) 7 0 ≤ 4294967295) ⌝ }
     ensures { λ r. ⌜ ElementCloses was (now (tally .entry)) (now (tally .exit)) r ⌝ }
 {
-    if tally[HERE] != tally[ELEMENTS_HERE] {
+    if tally[TALLY_HERE] != tally[TALLY_ELEMENTS_HERE] {
         return Step::Stop(17);
     }
-    tally[TOTAL] = tally[TOTAL] + tally[ELEMENTS_HERE];
-    Step::Go(at_block(was, TOP, 4))
+    tally[TALLY_TOTAL] = tally[TALLY_TOTAL] + tally[TALLY_ELEMENTS_HERE];
+    Step::Go(at_block(was, BLOCK_TOP, 4))
 }
 
 // A line in ELEMENT.
@@ -99,5 +99,5 @@ pub fn count_layer(was: Now, tally: &mut [u32])
     requires { ⌜ (length (now tally) ≡ 12) × (getD (now tally) 7 0 + was .figures ≤ 4294967295) ⌝ }
     ensures { λ _. ⌜ now (tally .exit) ≡ tallied (now (tally .entry)) (was .figures) ⌝ }
 {
-    tally[ELEMENTS_HERE] = tally[ELEMENTS_HERE] + was.figures;
+    tally[TALLY_ELEMENTS_HERE] = tally[TALLY_ELEMENTS_HERE] + was.figures;
 }

@@ -4,10 +4,10 @@ use crate::blocks::at_block;
 use crate::blocks::digits_of;
 use crate::blocks::unmark;
 use crate::table::head;
-use account::ELEMENTS;
-use account::FIGURES;
+use account::BLOCK_ELEMENTS;
+use account::BLOCK_FIGURES;
+use account::BLOCK_SYMBOL;
 use account::Now;
-use account::SYMBOL;
 use account::Step;
 use account::Where;
 use entries::Next;
@@ -91,7 +91,7 @@ fn figure_opened(now: Now, block: u8) -> Now
     ensures { λ r. ⌜ r ≡ figureOpened now block ⌝ }
 {
     Now {
-        block: FIGURES + block,
+        block: BLOCK_FIGURES + block,
         part: 0,
         layered: now.layered,
         owner: now.owner,
@@ -107,12 +107,12 @@ fn close_figures(now: Now) -> Step
     ensures { λ r. ⌜ r ≡ figuresClosed now ⌝ }
 {
     if now.layered {
-        return Step::Go(at_block(now, ELEMENTS, 0));
+        return Step::Go(at_block(now, BLOCK_ELEMENTS, 0));
     }
     if now.figures == 0 {
         return Step::Stop(8);
     }
-    Step::Go(at_block(now, SYMBOL, 0))
+    Step::Go(at_block(now, BLOCK_SYMBOL, 0))
 }
 
 // A block's marks, as it opens.

@@ -1,18 +1,18 @@
 // FILE_FORMAT, and the parts of `range` in it.
 use crate::blocks::at_block;
 use crate::blocks::no_digits;
-use account::ALL;
-use account::ARC;
-use account::DATE;
-use account::DEFINE_RANGE;
-use account::ELEMENTS_HERE;
-use account::FILE;
-use account::HERE;
+use account::BLOCK_FILE;
+use account::BLOCK_TOP;
 use account::Now;
-use account::SYMBOL_RANGE;
 use account::Step;
-use account::TIME;
-use account::TOP;
+use account::TALLY_ALL;
+use account::TALLY_ARC;
+use account::TALLY_DATE;
+use account::TALLY_DEFINE_RANGE;
+use account::TALLY_ELEMENTS_HERE;
+use account::TALLY_HERE;
+use account::TALLY_SYMBOL_RANGE;
+use account::TALLY_TIME;
 use entries::Next;
 use entries::acts::act;
 use entries::names::part;
@@ -184,18 +184,18 @@ fn ranges_tally(header: &[i64], tally: &mut [u32])
     requires { ⌜ Header (now header) × (length (now tally) ≡ 12) ⌝ }
     ensures { λ _. ⌜ now (tally .exit) ≡ rangesTally (now (header .entry)) (now (tally .entry)) ⌝ }
 {
-    tally[ARC] = header[6] as u32;
-    tally[SYMBOL_RANGE] = header[8] as u32;
-    tally[DEFINE_RANGE] = header[11] as u32;
+    tally[TALLY_ARC] = header[6] as u32;
+    tally[TALLY_SYMBOL_RANGE] = header[8] as u32;
+    tally[TALLY_DEFINE_RANGE] = header[11] as u32;
 }
 
 fn set_tally(header: &[i64], tally: &mut [u32])
     requires { ⌜ Header (now header) × (length (now tally) ≡ 12) ⌝ }
     ensures { λ _. ⌜ now (tally .exit) ≡ setTally (now (header .entry)) (now (tally .entry)) ⌝ }
 {
-    tally[DATE] = header[14] as u32;
-    tally[TIME] = header[15] as u32;
-    tally[ALL] = header[13] as u32;
+    tally[TALLY_DATE] = header[14] as u32;
+    tally[TALLY_TIME] = header[15] as u32;
+    tally[TALLY_ALL] = header[13] as u32;
 }
 
 // What a header says of its volume: this_ele, of which none is counted yet.
@@ -203,8 +203,8 @@ fn here_tally(this: u32, tally: &mut [u32])
     requires { ⌜ length (now tally) ≡ 12 ⌝ }
     ensures { λ _. ⌜ now (tally .exit) ≡ hereTally this (now (tally .entry)) ⌝ }
 {
-    tally[HERE] = this;
-    tally[ELEMENTS_HERE] = 0;
+    tally[TALLY_HERE] = this;
+    tally[TALLY_ELEMENTS_HERE] = 0;
 }
 
 fn first_tally(header: &[i64], tally: &mut [u32])
@@ -228,10 +228,10 @@ fn dated(header: &[i64], tally: &[u32]) -> bool
     requires { ⌜ Header (now header) × (length (now tally) ≡ 12) ⌝ }
     ensures { λ r. ⌜ r ≡ datedAs (now (tally .entry)) (now (header .entry)) ⌝ }
 {
-    if header[68] as u32 != tally[DATE] {
+    if header[68] as u32 != tally[TALLY_DATE] {
         return false;
     }
-    header[69] as u32 == tally[TIME]
+    header[69] as u32 == tally[TALLY_TIME]
 }
 
 // "16: volume chain, date or time unlike volume 1's, at FILE_FORMAT's close"
@@ -257,14 +257,14 @@ fn close_file(
     if first {
         copy_record(header, 64, here.free - 64, t);
         first_tally(header, tally);
-        return Step::Go(at_block(here, TOP, 1));
+        return Step::Go(at_block(here, BLOCK_TOP, 1));
     }
     if !dated(header, tally) {
         return Step::Stop(16);
     }
     copy_record(header, 32, here.free - 32, t);
     later_tally(header, tally);
-    Step::Go(at_block(here, TOP, 3))
+    Step::Go(at_block(here, BLOCK_TOP, 3))
 }
 
 // A line in FILE_FORMAT, in its own part or an inner one. Its numbers are kept apart till it closes.
@@ -308,13 +308,13 @@ pub fn on_file(
         }
         Next::Begin(inner) => {
             marks[from + inner.row as usize] = true;
-            Step::Go(at_block(here, FILE, inner.block))
+            Step::Go(at_block(here, BLOCK_FILE, inner.block))
         }
         Next::Shut => {
             if here.part == 0 {
                 return close_file(s, following, first, here, tally, header, t);
             }
-            Step::Go(at_block(here, FILE, around(here.part)))
+            Step::Go(at_block(here, BLOCK_FILE, around(here.part)))
         }
         Next::Refuse(k) => Step::Stop(k),
     }

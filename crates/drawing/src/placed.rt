@@ -9,11 +9,11 @@ use crate::classes::exceeds;
 use crate::classes::hides;
 use crate::serials::has;
 use crate::skip::skip_line;
+use account::BLOCK_PLACED;
 use account::Now;
-use account::PLACED;
-use account::SERIALS;
 use account::Skipped;
 use account::Step;
+use account::TALLY_SERIALS;
 use entries::Next;
 use entries::Rest;
 use entries::acts::act;
@@ -71,12 +71,12 @@ fn keep_serial(here: Now, tally: &mut [u32], serials: &mut [u64], rec: &[i64]) -
     ensures { λ r. ⌜ SerialLine here (ownNumber (now (rec .entry))) (now (tally .entry)) (now (tally .exit)) (now (serials .entry)) (now (serials .exit)) r ⌝ }
 {
     let own = rec[14] as u64;
-    let count = tally[SERIALS] as usize;
+    let count = tally[TALLY_SERIALS] as usize;
     if has(&serials[..count], own) {
         return Step::Stop(15);
     }
     serials[count] = own;
-    tally[SERIALS] = tally[SERIALS] + 1;
+    tally[TALLY_SERIALS] = tally[TALLY_SERIALS] + 1;
     Step::Go(here)
 }
 
@@ -138,7 +138,7 @@ fn placed_done(
         Next::Begin(opened) => {
             marks[opened.row as usize] = true;
             unmark(inner);
-            Step::Go(at_block(here, PLACED, 1))
+            Step::Go(at_block(here, BLOCK_PLACED, 1))
         }
         Next::Shut => Step::Stop(8),
         Next::Refuse(k) => Step::Stop(k),
@@ -200,7 +200,7 @@ fn on_placed_text(
             Step::Go(here)
         }
         Next::Begin(_) => Step::Stop(5),
-        Next::Shut => Step::Go(at_block(here, PLACED, 0)),
+        Next::Shut => Step::Go(at_block(here, BLOCK_PLACED, 0)),
         Next::Refuse(k) => Step::Stop(k),
     }
 }

@@ -4,8 +4,8 @@ use crate::blocks::at_block;
 use crate::blocks::figure_done;
 use crate::blocks::no_digits;
 use crate::table::head;
+use account::BLOCK_SYMBOL;
 use account::Now;
-use account::SYMBOL;
 use account::Step;
 use account::Where;
 use entries::Next;
@@ -137,7 +137,7 @@ pub fn on_hide(
             Step::Go(more_points(here))
         }
         Next::Begin(_) => Step::Stop(5),
-        Next::Shut => Step::Go(at_block(here, SYMBOL, 0)),
+        Next::Shut => Step::Go(at_block(here, BLOCK_SYMBOL, 0)),
         Next::Refuse(n) => Step::Stop(n),
     }
 }

@@ -1,37 +1,36 @@
 // The numbers lent in place of a table. The reader is lent its table. The rewriter keeps no records: a scratch of three is enough for it,
 // and its table is one that is only thought of, as long as `limit` says. A line on the scratch has the places moved there and back.
 use crate::table::clear;
-use account::CHAIN;
-use account::DEFINES;
-use account::FILE;
+use account::BLOCK_CHAIN;
+use account::BLOCK_DEFINES;
+use account::BLOCK_FILE;
+use account::BLOCK_PLACED;
+use account::BLOCK_TEXT;
+use account::BLOCK_TOP;
 use account::Now;
-use account::PLACED;
 use account::Step;
-use account::TEXT;
-use account::TOP;
 ghost use mathlib.Core.Path.{_≡_};
 ghost use mathlib.Core.Bool.{false};
 ghost use Prim.Native.Nat.{_+_, _*_, _-_, _≤_};
-ghost use Rattle.account.specs.Points.{chainPlace};
 ghost use Rattle.account.specs.TableApart.{scratchPlace, scratchFree, movedTo, lentNow, chainAt, freshFor, opensOwn, backNow, backStep, Grows};
 
 // The place of the next record on the scratch.
 fn scratch_place(block: u8) -> usize
     ensures { λ r. ⌜ r ≡ scratchPlace block ⌝ }
 {
-    if block == DEFINES {
+    if block == BLOCK_DEFINES {
         return 0;
     }
-    if block == FILE {
+    if block == BLOCK_FILE {
         return 64;
     }
-    if block == CHAIN {
+    if block == BLOCK_CHAIN {
         return 64;
     }
-    if block == TEXT {
+    if block == BLOCK_TEXT {
         return 64;
     }
-    if block == PLACED {
+    if block == BLOCK_PLACED {
         return 64;
     }
     32
@@ -46,7 +45,7 @@ fn scratch_free(here: Now, limit: usize) -> usize
     if left < 32 {
         return 96;
     }
-    if here.block != TOP {
+    if here.block != BLOCK_TOP {
         return scratch_place(here.block);
     }
     if left < 64 {
@@ -89,7 +88,7 @@ pub fn chain_at(whole: bool, here: Now) -> usize
     if !whole {
         return 32;
     }
-    if here.block != CHAIN {
+    if here.block != BLOCK_CHAIN {
         return 0;
     }
     here.free - 32 * (here.points as usize + 1)
@@ -102,7 +101,7 @@ pub fn make_fresh(whole: bool, here: Now, t: &mut [i64])
     if whole {
         return;
     }
-    if here.block == DEFINES {
+    if here.block == BLOCK_DEFINES {
         clear(t);
     }
 }
@@ -111,10 +110,10 @@ pub fn make_fresh(whole: bool, here: Now, t: &mut [i64])
 fn opens_own(block: u8) -> bool
     ensures { λ r. ⌜ r ≡ opensOwn block ⌝ }
 {
-    if block == TOP {
+    if block == BLOCK_TOP {
         return true;
     }
-    block == DEFINES
+    block == BLOCK_DEFINES
 }
 
 // How many numbers a line took.

@@ -4,14 +4,14 @@ use crate::blocks::digits_of;
 use crate::blocks::has_room;
 use crate::blocks::unmark;
 use crate::table::head;
-use account::DEFINES;
-use account::FIGURES;
-use account::HIDE;
+use account::BLOCK_DEFINES;
+use account::BLOCK_FIGURES;
+use account::BLOCK_HIDE;
+use account::BLOCK_SYMBOL;
+use account::BLOCK_TOP;
 use account::Now;
-use account::SYMBOL;
-use account::SYMBOLS;
 use account::Step;
-use account::TOP;
+use account::TALLY_SYMBOLS;
 use account::Where;
 use entries::Index;
 use entries::Next;
@@ -40,7 +40,7 @@ fn non_read(here: Now, count: usize) -> Step
     if count != 0 {
         return Step::Stop(6);
     }
-    Step::Go(at_block(here, DEFINES, 1))
+    Step::Go(at_block(here, BLOCK_DEFINES, 1))
 }
 
 // A symbol is begun: its record, and nothing in it.
@@ -49,7 +49,7 @@ fn symbol_opened(here: Now, count: u32) -> Now
     ensures { λ r. ⌜ r ≡ symbolOpened here count ⌝ }
 {
     Now {
-        block: SYMBOL,
+        block: BLOCK_SYMBOL,
         part: 0,
         layered: false,
         owner: count,
@@ -93,7 +93,7 @@ fn close_defines(here: Now, count: usize) -> Step
     if !defined(here, count) {
         return Step::Stop(8);
     }
-    Step::Go(at_block(here, TOP, 3))
+    Step::Go(at_block(here, BLOCK_TOP, 3))
 }
 
 // A line in SYMBOL_DEFINE.
@@ -182,7 +182,7 @@ fn symbol_part(here: Now, block: u8) -> Now
 {
     if block == 1 {
         return Now {
-            block: FIGURES,
+            block: BLOCK_FIGURES,
             part: 0,
             layered: false,
             owner: here.owner,
@@ -193,7 +193,7 @@ fn symbol_part(here: Now, block: u8) -> Now
         };
     }
     Now {
-        block: HIDE,
+        block: BLOCK_HIDE,
         part: 0,
         layered: false,
         owner: here.owner,
@@ -236,7 +236,7 @@ pub fn on_symbol(
             marks[inner.row as usize] = true;
             Step::Go(symbol_part(here, inner.block))
         }
-        Next::Shut => Step::Go(at_block(here, DEFINES, 0)),
+        Next::Shut => Step::Go(at_block(here, BLOCK_DEFINES, 0)),
         Next::Refuse(n) => Step::Stop(n),
     }
 }
@@ -247,7 +247,7 @@ pub fn keep_name(tally: &mut [u32], symbols: &mut [u32], rec: &[i64])
     ensures { λ _. ⌜ (now (symbols .exit) ≡ set (now (symbols .entry)) (getD (now (tally .entry)) 9 0) (nameNumber (nameOf (now (rec .entry))))) × (now (tally .exit) ≡ set (now (tally .entry)) 9 (getD (now (tally .entry)) 9 0 + 1)) ⌝ }
 {
     let name = name_in(rec);
-    let i = tally[SYMBOLS] as usize;
+    let i = tally[TALLY_SYMBOLS] as usize;
     symbols[i] = name.at + 65536 * name.len;
-    tally[SYMBOLS] = tally[SYMBOLS] + 1;
+    tally[TALLY_SYMBOLS] = tally[TALLY_SYMBOLS] + 1;
 }

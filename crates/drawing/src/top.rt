@@ -6,16 +6,16 @@ use crate::blocks::unmark;
 use crate::serials::all_marked;
 use crate::table::clear;
 use crate::table::head;
-use account::ALL;
-use account::DEFINES;
-use account::DRAWING;
-use account::ELEMENTS;
-use account::ENDED;
-use account::FILE;
-use account::LAYERS;
+use account::BLOCK_DEFINES;
+use account::BLOCK_DRAWING;
+use account::BLOCK_ELEMENTS;
+use account::BLOCK_ENDED;
+use account::BLOCK_FILE;
 use account::Now;
 use account::Step;
-use account::TOTAL;
+use account::TALLY_ALL;
+use account::TALLY_LAYERS;
+use account::TALLY_TOTAL;
 use account::Where;
 use entries::Next;
 use entries::acts::act;
@@ -39,14 +39,14 @@ fn at_eof(here: Now, at: Where, tally: &[u32], used_all: &[bool]) -> Step
     if !at.ends {
         return Step::Stop(9);
     }
-    let count = tally[LAYERS] as usize;
+    let count = tally[TALLY_LAYERS] as usize;
     if !all_marked(&used_all[..count]) {
         return Step::Stop(14);
     }
-    if tally[ALL] != tally[TOTAL] {
+    if tally[TALLY_ALL] != tally[TALLY_TOTAL] {
         return Step::Stop(17);
     }
-    Step::Go(at_block(here, ENDED, 0))
+    Step::Go(at_block(here, BLOCK_ENDED, 0))
 }
 
 fn record_taken(here: Now, block: u8, size: usize) -> Now
@@ -98,12 +98,12 @@ fn open_file(
     unmark(marks);
     begin_header(first, at, header);
     if !first {
-        return Step::Go(record_taken(here, FILE, 32));
+        return Step::Go(record_taken(here, BLOCK_FILE, 32));
     }
     if !has_room(t, w + 32) {
         return Step::Stop(19);
     }
-    Step::Go(record_taken(here, FILE, 64))
+    Step::Go(record_taken(here, BLOCK_FILE, 64))
 }
 
 fn open_drawing(here: Now, at: Where, marks: &mut [bool], t: &mut [i64]) -> Step
@@ -115,7 +115,7 @@ fn open_drawing(here: Now, at: Where, marks: &mut [bool], t: &mut [i64]) -> Step
     }
     head(t, w, 3, 0, at.volume, at.line);
     unmark(marks);
-    Step::Go(record_taken(here, DRAWING, 32))
+    Step::Go(record_taken(here, BLOCK_DRAWING, 32))
 }
 
 // "FILE_FORMAT, DRAWING_FORMAT, SYMBOL_DEFINE, ELEMENT, each once in this order"
@@ -142,10 +142,10 @@ fn open_block(
         return open_drawing(here, at, marks, t);
     }
     if block == 2 {
-        return Step::Go(at_block(here, DEFINES, 0));
+        return Step::Go(at_block(here, BLOCK_DEFINES, 0));
     }
     unmark(used);
-    Step::Go(at_block(here, ELEMENTS, 0))
+    Step::Go(at_block(here, BLOCK_ELEMENTS, 0))
 }
 
 // A line outside all blocks.

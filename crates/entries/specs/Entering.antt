@@ -9,7 +9,8 @@ use lib.Signed.{ltZ}
 use lib.ListN.{length, getD, set}
 use Rattle.rules.specs.RefusalNumbers.{Got, got, bad}
 use Rattle.rules.specs.Base.{split}
-use Rattle.rules.specs.Values.{Num, Across, nothingMore, endsDiffer, arcOfCircle, axesOfEllipse, equalZ, Kind, values, text, word, volumeName, sheet, ratio, serials, nothing, opens, headed, either, readSerials}
+use Rattle.rules.specs.Values.{Num, Across, nothingMore, endsDiffer, arcOfCircle, axesOfEllipse, equalZ, Kind, values, text, word, volumeName, sheet, ratio}
+use Rattle.rules.specs.Values.{serials, nothing, opens, headed, either, readSerials}
 use Rattle.leaves.specs.declared.Count.{Count}
 use Rattle.leaves.specs.declared.Count.the-variants as C
 use Rattle.entries.specs.declared.Val.{Val}

@@ -1,5 +1,5 @@
 -- Signed numbers of 64 bits: a decimal's size, and its negation, as the machine reads them back.
-use Prim.Native.Nat.{ℕ, zero, suc, _+_, _<_}
+use Prim.Native.Nat.{ℕ, zero, suc, _<_}
 use mathlib.Core.Path.{_≡_, refl, ap, _∙_}
 use native.Mathlib.Omega.{arith}
 use lib.IntN.{ℤ, pos, negsuc, negℤ, _-ℤ_, _+ℤ_, +ℤ-idl, +ℤ-one}

@@ -1,6 +1,6 @@
 ghost use Prim.Native.Nat.{_+_, _≤_};
 ghost use mathlib.Core.Path.{_≡_};
-ghost use mathlib.Core.Bool.{Bool, _||_};
+ghost use mathlib.Core.Bool.{_||_};
 ghost use lib.ListN.{length};
 ghost use Rattle.rules.specs.Base.{all, same, within};
 ghost use Rattle.rules.specs.Lines.{singleByte, leadByte, trailByte, allowed};

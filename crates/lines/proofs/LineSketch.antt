@@ -14,13 +14,13 @@ use Rattle.rules.specs.declared.LineForm.the-variants as L
 use Rattle.leaves.specs.Bytes.{upTo}
 use Rattle.lines.specs.LineForms.{opensHere, Blanks, CleanRun, KeyRun, refusedAs}
 use Rattle.lines.specs.LineLook.{seenAt, foundAt, crHere, lookFrom}
-use Rattle.lines.specs.LineSketch.{noLine, ignored, close, eof, badBytes, noForm, keylessForm, sketchForm, lookOf, Sketched, keylessSketch, unreadSketch, wordKind, bareKind, equalSketch, braceSketch}
+use Rattle.lines.specs.LineSketch.{sketchNoLine, sketchIgnored, sketchClose, sketchEof, sketchBadBytes, sketchNoForm, keylessForm, sketchForm, lookOf, Sketched, keylessSketch, unreadSketch, wordKind, bareKind, equalSketch, braceSketch}
 use Rattle.lines.specs.declared.forms.Sketch.{Sketch}
 use Rattle.lines.specs.declared.Look.the-variants.{End}
 use Rattle.lines.proofs.LineLook as laws
 
 -- ── the kind of a line without a key, as the code tests it ──
-pub kind-none : (s : List ℕ) → length s ≡ 0 → bareKind s ≡ ignored
+pub kind-none : (s : List ℕ) → length s ≡ 0 → bareKind s ≡ sketchIgnored
 unfolding bareKind
 kind-none [] h = refl
 kind-none (b ∷ s) h = absurd (omega (arith, h))
@@ -32,7 +32,7 @@ kind-some (b ∷ s) h = refl
 
 -- ── a line whose CR is searched ──
 module _ (kind at : ℕ) (t : List ℕ) where
-  pub unread-none : length t ≤ length (upTo 13 t) → keylessSketch noLine 0 ≡ unreadSketch kind at t
+  pub unread-none : length t ≤ length (upTo 13 t) → keylessSketch sketchNoLine 0 ≡ unreadSketch kind at t
   unfolding unreadSketch
   unread-none h = sym (rw (le-ltb (length (upTo 13 t)) (length t) h))
 
@@ -42,11 +42,11 @@ module _ (kind at : ℕ) (t : List ℕ) where
 
 -- ── what a sketch stands for ──
 module _ (volume line end : ℕ) (f : Sketch) where
-  pub look-none : f .kind ≡ noLine → lookOf volume line end f ≡ End
+  pub look-none : f .kind ≡ sketchNoLine → lookOf volume line end f ≡ End
   unfolding lookOf
   look-none e = rw (eq-eqb _ _ e)
 
-  pub look-line : (f .kind ≡ noLine → ⊥) → lookOf volume line end f ≡ seenAt (sketchForm volume line f) (f .cr) end
+  pub look-line : (f .kind ≡ sketchNoLine → ⊥) → lookOf volume line end f ≡ seenAt (sketchForm volume line f) (f .cr) end
   unfolding lookOf
   look-line e = rw (ne-eqb _ _ e)
 
@@ -56,19 +56,19 @@ module _ (volume line end : ℕ) where
   bare-look [] cr = refl
   bare-look (b ∷ s) cr = go (same (b ∷ s) (bytes "}")) (same (b ∷ s) (bytes "EOF"))
     where
-      go : (t u : Bool) → lookOf volume line end (keylessSketch (cond t close (cond u eof noForm)) cr) ≡ seenAt (keylessForm volume line (cond t close (cond u eof noForm))) cr end
+      go : (t u : Bool) → lookOf volume line end (keylessSketch (cond t sketchClose (cond u sketchEof sketchNoForm)) cr) ≡ seenAt (keylessForm volume line (cond t sketchClose (cond u sketchEof sketchNoForm))) cr end
       go true u = refl
       go false true = refl
       go false false = refl
 
   module _ (at : ℕ) (t : List ℕ) where
-    ignored-look : lookOf volume line end (unreadSketch ignored at t) ≡ foundAt L.Ignored at end t
+    ignored-look : lookOf volume line end (unreadSketch sketchIgnored at t) ≡ foundAt L.Ignored at end t
     unfolding lookOf sketchForm keylessForm unreadSketch foundAt
-    ignored-look = ap-cond (lookOf volume line end) (ltb (length (upTo 13 t)) (length t)) (keylessSketch ignored (at + length (upTo 13 t))) (keylessSketch noLine 0)
+    ignored-look = ap-cond (lookOf volume line end) (ltb (length (upTo 13 t)) (length t)) (keylessSketch sketchIgnored (at + length (upTo 13 t))) (keylessSketch sketchNoLine 0)
 
-    wrong-look : lookOf volume line end (unreadSketch badBytes at t) ≡ foundAt (refusedAs 4 volume line) at end t
+    wrong-look : lookOf volume line end (unreadSketch sketchBadBytes at t) ≡ foundAt (refusedAs 4 volume line) at end t
     unfolding lookOf sketchForm keylessForm unreadSketch foundAt
-    wrong-look = ap-cond (lookOf volume line end) (ltb (length (upTo 13 t)) (length t)) (keylessSketch badBytes (at + length (upTo 13 t))) (keylessSketch noLine 0)
+    wrong-look = ap-cond (lookOf volume line end) (ltb (length (upTo 13 t)) (length t)) (keylessSketch sketchBadBytes (at + length (upTo 13 t))) (keylessSketch sketchNoLine 0)
 
   -- a sketch of a line, its CR at a place
   abbrev Seen : ℕ → Sketch → Type 0
@@ -102,34 +102,34 @@ module _ (first size cr : ℕ) (h : cr < mostBytes) where
 
 -- ── the line that starts a volume's last bytes ──
 module _ (at : ℕ) (t : List ℕ) where
-  no-line : ((volume line end : ℕ) → lookFrom volume line at end t ≡ End) → Sketched at t (keylessSketch noLine 0)
-  no-line e = record { cr = omega arith; look = λ v l e′. look-none v l e′ (keylessSketch noLine 0) refl ∙ sym (e v l e′) }
+  no-line : ((volume line end : ℕ) → lookFrom volume line at end t ≡ End) → Sketched at t (keylessSketch sketchNoLine 0)
+  no-line e = record { cr = omega arith; look = λ v l e′. look-none v l e′ (keylessSketch sketchNoLine 0) refl ∙ sym (e v l e′) }
 
-  pub sketch-empty : length t ≡ 0 → Sketched at t (keylessSketch noLine 0)
+  pub sketch-empty : length t ≡ 0 → Sketched at t (keylessSketch sketchNoLine 0)
   sketch-empty h = no-line (λ v l e. laws.look-empty v l at e t h)
 
   module _ (m : at + length t ≤ mostBytes) where
-    pub sketch-comment : 0 < length t → getD t 0 0 ≡ 35 → Sketched at t (unreadSketch ignored at t)
-    sketch-comment h e = record { cr = unread-inside ignored at t m; look = λ v l e′. ignored-look v l e′ at t ∙ laws.look-comment v l at e′ t h e }
+    pub sketch-comment : 0 < length t → getD t 0 0 ≡ 35 → Sketched at t (unreadSketch sketchIgnored at t)
+    sketch-comment h e = record { cr = unread-inside sketchIgnored at t m; look = λ v l e′. ignored-look v l e′ at t ∙ laws.look-comment v l at e′ t h e }
 
     -- a byte that is not allowed stands at a place
     wrong-from : (i : ℕ) → i ≤ length t → ((volume line end : ℕ) → foundAt (refusedAs 4 volume line) (at + i) end (drop i t) ≡ lookFrom volume line at end t)
-        → Sketched at t (unreadSketch badBytes (at + i) (drop i t))
-    wrong-from i h e = record { cr = unread-inside badBytes (at + i) (drop i t) (omega (arith, length-drop i t)); look = λ v l e′. wrong-look v l e′ (at + i) (drop i t) ∙ e v l e′ }
+        → Sketched at t (unreadSketch sketchBadBytes (at + i) (drop i t))
+    wrong-from i h e = record { cr = unread-inside sketchBadBytes (at + i) (drop i t) (omega (arith, length-drop i t)); look = λ v l e′. wrong-look v l e′ (at + i) (drop i t) ∙ e v l e′ }
 
     module _ (n k : ℕ) (b : Blanks t n) (r : KeyRun t n k) (c : getD t 0 0 ≡ 35 → ⊥) where
-      pub sketch-over : length t ≤ k → Sketched at t (keylessSketch noLine 0)
+      pub sketch-over : length t ≤ k → Sketched at t (keylessSketch sketchNoLine 0)
       sketch-over h = no-line (λ v l e. laws.look-over v l at e t n k b r c h)
 
       pub sketch-bare : k < length t → getD t k 0 ≡ 13 → Sketched at t (keylessSketch (bareKind (take (k - n) (drop n t))) (at + k))
       sketch-bare h e = record { cr = omega arith; look = λ v l e′. bare-look v l e′ (take (k - n) (drop n t)) (at + k) ∙ laws.look-short v l at e′ t n k b r c h e }
 
-      pub sketch-wrong : k < length t → (getD t k 0 ≡ 13 → ⊥) → (getD t k 0 ≡ 61 → ⊥) → opensHere (drop k t) ≡ false → Sketched at t (unreadSketch badBytes (at + k) (drop k t))
+      pub sketch-wrong : k < length t → (getD t k 0 ≡ 13 → ⊥) → (getD t k 0 ≡ 61 → ⊥) → opensHere (drop k t) ≡ false → Sketched at t (unreadSketch sketchBadBytes (at + k) (drop k t))
       sketch-wrong h e f g = wrong-from k (omega arith) (λ v l e′. laws.look-wrong v l at e′ t n k b r c h e f g)
 
       module _ (j : ℕ) where
         module _ (h : k < length t) (e : getD t k 0 ≡ 61) (w : CleanRun t (k + 1) j) where
-          pub sketch-equal-wrong : crHere (drop j t) ≡ false → Sketched at t (unreadSketch badBytes (at + j) (drop j t))
+          pub sketch-equal-wrong : crHere (drop j t) ≡ false → Sketched at t (unreadSketch sketchBadBytes (at + j) (drop j t))
           sketch-equal-wrong q = wrong-from j (w .passed .high) (λ v l e′. laws.sound-not (sketchForm v l (equalSketch (at + n) (k - n) (at + j))) v l (at + j) e′ (drop j t) q ∙ laws.look-equal v l at e′ t n k b r c j h e w)
 
           pub sketch-equal : crHere (drop j t) ≡ true → Sketched at t (equalSketch (at + n) (k - n) (at + j))
@@ -141,7 +141,7 @@ module _ (at : ℕ) (t : List ℕ) where
               }
 
         module _ (f : opensHere (drop k t) ≡ true) (w : CleanRun t (k + 2) j) where
-          pub sketch-brace-wrong : crHere (drop j t) ≡ false → Sketched at t (unreadSketch badBytes (at + j) (drop j t))
+          pub sketch-brace-wrong : crHere (drop j t) ≡ false → Sketched at t (unreadSketch sketchBadBytes (at + j) (drop j t))
           sketch-brace-wrong q = wrong-from j (w .passed .high) (λ v l e′. laws.sound-not (sketchForm v l (braceSketch (at + n) (k - n) (at + j))) v l (at + j) e′ (drop j t) q ∙ laws.look-brace v l at e′ t n k b r c j f w)
 
           pub sketch-brace : crHere (drop j t) ≡ true → Sketched at t (braceSketch (at + n) (k - n) (at + j))

@@ -22,21 +22,21 @@ ghost use Rattle.lines.specs.LineLook.{seenAt, crHere, lookIn};
 ghost use Rattle.lines.specs.LineSketch.{keylessSketch, unreadSketch, bareKind, equalSketch, braceSketch, keylessForm, sketchForm, Sketched};
 
 // The kinds of a sketch: no line, the forms of a line, and the two refusals: a byte that is not allowed (4), no form (5).
-const NO_LINE: u32 = 0;
+const SKETCH_NO_LINE: u32 = 0;
 
-const IGNORED: u32 = 1;
+const SKETCH_IGNORED: u32 = 1;
 
-const CLOSE: u32 = 2;
+const SKETCH_CLOSE: u32 = 2;
 
-const EOF: u32 = 3;
+const SKETCH_EOF: u32 = 3;
 
-const OPENS: u32 = 4;
+const SKETCH_OPENS: u32 = 4;
 
-const EQUALS: u32 = 5;
+const SKETCH_EQUALS: u32 = 5;
 
-const BAD_BYTES: u32 = 6;
+const SKETCH_BAD_BYTES: u32 = 6;
 
-const NO_FORM: u32 = 7;
+const SKETCH_NO_FORM: u32 = 7;
 
 // A line in plain numbers: its kind, the place and the size of its key, the place and the length of what stands behind its `=`, and the
 // place of its CR. Its form is made of them once, as forms that are made in many branches are copied through memory.
@@ -70,7 +70,7 @@ fn unread(kind: u32, t: &[u8], at: u32) -> Sketch
 {
     let n = find(t, CR);
     if n == t.len() {
-        return keyless(NO_LINE, 0);
+        return keyless(SKETCH_NO_LINE, 0);
     }
     keyless(kind, at + n as u32)
 }
@@ -80,15 +80,15 @@ fn bare_kind(s: &[u8]) -> u32
     ensures { λ r. ⌜ r ≡ bareKind (now (s .entry)) ⌝ }
 {
     if s.len() == 0 {
-        return IGNORED;
+        return SKETCH_IGNORED;
     }
     if same(s, b"}") {
-        return CLOSE;
+        return SKETCH_CLOSE;
     }
     if same(s, b"EOF") {
-        return EOF;
+        return SKETCH_EOF;
     }
-    NO_FORM
+    SKETCH_NO_FORM
 }
 
 // A key with an `=` behind it, in a line that runs to its CR.
@@ -97,11 +97,11 @@ fn equal_sketch(first: u32, size: u32, cr: u32) -> Sketch
     ensures { λ r. ⌜ r ≡ equalSketch first size cr ⌝ }
 {
     if size == 0 {
-        return keyless(NO_FORM, cr);
+        return keyless(SKETCH_NO_FORM, cr);
     }
     let rest = first + size + 1;
     Sketch {
-        kind: EQUALS,
+        kind: SKETCH_EQUALS,
         first: first,
         size: size,
         rest: rest,
@@ -116,13 +116,13 @@ fn brace_sketch(first: u32, size: u32, cr: u32) -> Sketch
     ensures { λ r. ⌜ r ≡ braceSketch first size cr ⌝ }
 {
     if size == 0 {
-        return keyless(NO_FORM, cr);
+        return keyless(SKETCH_NO_FORM, cr);
     }
     if first + size + 2 != cr {
-        return keyless(NO_FORM, cr);
+        return keyless(SKETCH_NO_FORM, cr);
     }
     Sketch {
-        kind: OPENS,
+        kind: SKETCH_OPENS,
         first: first,
         size: size,
         rest: 0,
@@ -147,15 +147,15 @@ fn sketch_from(t: &[u8], at: u32) -> Sketch
     ensures { λ r. ⌜ Sketched at (now (t .entry)) r ⌝ }
 {
     if t.len() == 0 {
-        return keyless(NO_LINE, 0);
+        return keyless(SKETCH_NO_LINE, 0);
     }
     if t[0] == b'#' {
-        return unread(IGNORED, t, at);
+        return unread(SKETCH_IGNORED, t, at);
     }
     let n = indent(t);
     let k = key_run(t, n);
     if t.len() <= k {
-        return keyless(NO_LINE, 0);
+        return keyless(SKETCH_NO_LINE, 0);
     }
     if t[k] == CR {
         return keyless(bare_kind(&t[n..k]), at + k as u32);
@@ -165,18 +165,18 @@ fn sketch_from(t: &[u8], at: u32) -> Sketch
     if t[k] == b'=' {
         let r = clean_run(t, k + 1);
         if !cr_at(t, r) {
-            return unread(BAD_BYTES, &t[r..], at + r as u32);
+            return unread(SKETCH_BAD_BYTES, &t[r..], at + r as u32);
         }
         return equal_sketch(first, size, at + r as u32);
     }
     if opens_at(t, k) {
         let r = clean_run(t, k + 2);
         if !cr_at(t, r) {
-            return unread(BAD_BYTES, &t[r..], at + r as u32);
+            return unread(SKETCH_BAD_BYTES, &t[r..], at + r as u32);
         }
         return brace_sketch(first, size, at + r as u32);
     }
-    unread(BAD_BYTES, &t[k..], at + k as u32)
+    unread(SKETCH_BAD_BYTES, &t[k..], at + k as u32)
 }
 
 fn refused(number: u8, volume: u8, line: u32) -> LineForm
@@ -193,16 +193,16 @@ fn refused(number: u8, volume: u8, line: u32) -> LineForm
 fn keyless_form(kind: u32, volume: u8, line: u32) -> LineForm
     ensures { λ r. ⌜ r ≡ keylessForm volume line kind ⌝ }
 {
-    if kind == IGNORED {
+    if kind == SKETCH_IGNORED {
         return LineForm::Ignored;
     }
-    if kind == CLOSE {
+    if kind == SKETCH_CLOSE {
         return LineForm::Close;
     }
-    if kind == EOF {
+    if kind == SKETCH_EOF {
         return LineForm::Eof;
     }
-    if kind == BAD_BYTES {
+    if kind == SKETCH_BAD_BYTES {
         return refused(4, volume, line);
     }
     refused(5, volume, line)
@@ -212,7 +212,7 @@ fn keyless_form(kind: u32, volume: u8, line: u32) -> LineForm
 fn formed(f: Sketch, volume: u8, line: u32) -> LineForm
     ensures { λ r. ⌜ r ≡ sketchForm volume line f ⌝ }
 {
-    if f.kind == EQUALS {
+    if f.kind == SKETCH_EQUALS {
         return LineForm::Equals(Equation {
             key: Span {
                 at: f.first,
@@ -224,7 +224,7 @@ fn formed(f: Sketch, volume: u8, line: u32) -> LineForm
             },
         });
     }
-    if f.kind == OPENS {
+    if f.kind == SKETCH_OPENS {
         return LineForm::Opens(Opener {
             key: Span {
                 at: f.first,
@@ -265,7 +265,7 @@ pub fn look(s: &[u8], at: u32, end: u32, volume: u8, line: u32) -> Look
         return Look::End;
     }
     let f = sketch_from(&s[from..to], at);
-    if f.kind == NO_LINE {
+    if f.kind == SKETCH_NO_LINE {
         return Look::End;
     }
     let cr = f.cr;

@@ -1,16 +1,15 @@
 -- A line with a key that was taken: its row, what it read as, and what it did.
-use Prim.Native.Nat.{ℕ, _+_, _≤_}
-use mathlib.Core.Bool.{Bool, true, false, cond}
-use mathlib.Core.List.{List, [], _∷_, _++_}
+use Prim.Native.Nat.{ℕ}
+use mathlib.Core.Bool.{Bool, true, false}
+use mathlib.Core.List.{List}
 use mathlib.Core.Path.{_≡_, refl, sym, _∙_, ap, subst}
-use native.Mathlib.Omega.{arith}
 use native.Mathlib.Nat.{le-refl}
-use lib.ListN.{length, getD}
+use lib.ListN.{getD}
 use Rattle.rules.specs.declared.Digits.{Digits}
 use Rattle.rules.specs.RefusalNumbers.{Got, got, bad, unless}
-use Rattle.rules.specs.Lines.{Rest, brace, equals, Form, keyed, Shape, opener, noContent, content, opening, formless, shapeOf, hasForm}
+use Rattle.rules.specs.Lines.{Rest, brace, equals, keyed, Shape, opener, noContent, content, opening, formless, shapeOf, hasForm}
 use Rattle.rules.specs.Values.{Value, Known, readKind}
-use Rattle.rules.specs.Rows.{Rule, Found, absent, found, find, shapeFor, Act, stay, entry, begin, shut, refuse, orRefuse, innerOf, readShape, actRow, actUnknown, actFound, act}
+use Rattle.rules.specs.Rows.{Rule, Found, absent, found, find, shapeFor, Act, stay, entry, begin, shut, refuse, orRefuse, innerOf, readShape, actRow, actFound, act}
 use Rattle.rules.specs.FixedForm.{opensBlock}
 use Rattle.rules.specs.Machine.{State, byAct}
 use Rattle.rules.proofs.Chains.{On, on-map, on-all, on-got, never, same-eq, clash}

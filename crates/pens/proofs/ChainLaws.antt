@@ -1,5 +1,5 @@
 -- A line in `successive`.
-use Prim.Native.Nat.{ℕ, _+_}
+use Prim.Native.Nat.{ℕ}
 use mathlib.Core.Bool.{Bool, true, false, _&&_}
 use mathlib.Core.List.{List, [], _∷_, _++_, append-assoc}
 use mathlib.Core.Option.{none}
@@ -13,11 +13,12 @@ use Rattle.rules.specs.RefusalNumbers.{got, unless}
 use Rattle.rules.specs.Lines.{close, keyed, bytesAt}
 use Rattle.rules.specs.RangeClass.{digits}
 use Rattle.rules.specs.Values.{Value, nums, Known, numsOf}
-use Rattle.rules.specs.Rows.{Rule, found, find, fullAt, complete}
+use Rattle.rules.specs.Rows.{Rule, found, find, rowsAtLimit, complete}
 use Rattle.rules.specs.Figures.{leastPoints, pointTable}
 use Rattle.rules.specs.RecordTable.{ruleAt}
 use Rattle.rules.specs.Sets.{Point, Figure, chain, Set, withRecords, knownOf}
-use Rattle.rules.specs.Machine.{Line, Env, Home, State, figures, successive, stepIn, isLayer, taking, pointAt, onSuccessive}
+use Rattle.rules.specs.Machine.{Line, Env, Home, State, figures, successive, isLayer, taking, pointAt, onSuccessive}
+use Rattle.rules.specs.LineByLine.{stepIn}
 use Rattle.rules.specs.Answers.{fullClass}
 use Rattle.rules.specs.FixedForm.{Text, openLine, opensBlock, lineOf, showPoints}
 use Rattle.rules.proofs.Chains.{never, and-right, unless-got}
@@ -60,12 +61,12 @@ module _ (K : Known) (spool : List ℕ) (first : Bool) (p : Pen) (ns out : List 
   pub successive-key : (key : Span) (rest : CodeRest) → l .form ≡ keyed (bytesAt spool key) (restIn spool rest) → PlacedRest rest → FormFits (l .form)
       → KeyLine spool first key rest p ns ns′ out out′ d → LineOut K spool first st′ ns′ out′ d
   successive-key key rest form fit-place fit line =
-      acted (successive s h fs n ps) _ _ _ (knownOf s) (digits 0 0) st′ (pointTable (isLayer h)) (fullAt (length ps) (pointTable (isLayer h))) (bytesAt spool key) (restIn spool rest)
+      acted (successive s h fs n ps) _ _ _ (knownOf s) (digits 0 0) st′ (pointTable (isLayer h)) (rowsAtLimit (length ps) (pointTable (isLayer h))) (bytesAt spool key) (restIn spool rest)
       (table-keys (isLayer h) 0 0 .13) (subst FormFits form fit) (ap (onSuccessive e l s h fs n ps) (sym form) ∙ q)
       enters (λ j r v f w u o g m. never m)
     where
       enters : (j : ℕ) (r : Rule) (v : Value) → find (bytesAt spool key) (pointTable (isLayer h)) ≡ found j r → Row (pointTable (isLayer h)) j r → Reads (knownOf s) r (restIn spool rest) v → opensBlock (r .holds) v ≡ false
-          → getD (fullAt (length ps) (pointTable (isLayer h))) j false ≡ false → (taking e 1 s λ s′. successive s′ h fs n (ps ++ pointAt l v ∷ [])) ≡ got st′ → LineOut K spool first st′ ns′ out′ d
+          → getD (rowsAtLimit (length ps) (pointTable (isLayer h))) j false ≡ false → (taking e 1 s λ s′. successive s′ h fs n (ps ++ pointAt l v ∷ [])) ≡ got st′ → LineOut K spool first st′ ns′ out′ d
       enters j r v f w u o g m =
           let b9 = z .here .0 in
           let b = isLayer h in
@@ -91,7 +92,7 @@ module _ (K : Known) (spool : List ℕ) (first : Bool) (p : Pen) (ns out : List 
 
   pub successive-close : l .form ≡ close → CloseDone spool first p ns out out′ d → ns′ ≡ ns → LineOut K spool first st′ ns′ out′ d
   successive-close form done notes =
-      shut-did (successive s h fs n ps) _ _ _ (complete (digits 0 0) (pointTable (isLayer h)) (fullAt (length ps) (pointTable (isLayer h)))) st′ (ap (onSuccessive e l s h fs n ps) (sym form) ∙ q) shuts
+      shut-did (successive s h fs n ps) _ _ _ (complete (digits 0 0) (pointTable (isLayer h)) (rowsAtLimit (length ps) (pointTable (isLayer h)))) st′ (ap (onSuccessive e l s h fs n ps) (sym form) ∙ q) shuts
     where
       shuts : unless (leb leastPoints (length ps)) 8 (got (figures s h (fs ++ chain n ps ∷ []))) ≡ got st′ → LineOut K spool first st′ ns′ out′ d
       shuts m =

@@ -12,13 +12,14 @@ use Rattle.rules.specs.Base.{bytes, isNil}
 use Rattle.rules.specs.RefusalNumbers.{got, unless}
 use Rattle.rules.specs.Lines.{close, keyed, bytesAt}
 use Rattle.rules.specs.RangeClass.{digitsOf}
-use Rattle.rules.specs.Values.{Value, Known, opens}
+use Rattle.rules.specs.Values.{Value, Known}
 use Rattle.rules.specs.Rows.{Rule, found, find, blank}
 use Rattle.rules.specs.Blocks.{definesTable, symbolTable}
 use Rattle.rules.specs.Sets.{Symbol, Set, withRecords, defineRange, knownOf}
 use Rattle.rules.specs.RecordTable.{ruleAt}
 use Rattle.rules.specs.Answers.{fullClass}
-use Rattle.rules.specs.Machine.{Line, Env, State, top, defines, symbol, stepIn, taking}
+use Rattle.rules.specs.Machine.{Line, Env, State, top, defines, symbol, taking}
+use Rattle.rules.specs.LineByLine.{stepIn}
 use Rattle.rules.specs.FixedForm.{Text, openLine, opensBlock, lineOf, showSymbols, showDefines}
 use Rattle.rules.proofs.Chains.{clash, unless-got}
 use Rattle.rules.proofs.Rows.{Row, row-below}

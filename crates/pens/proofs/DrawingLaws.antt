@@ -15,12 +15,13 @@ use Rattle.rules.specs.RefusalNumbers.{Got, got, unless, andThen}
 use Rattle.rules.specs.Lines.{close, keyed, freeShapeOf, bytesAt}
 use Rattle.rules.specs.RangeClass.{digitsOf}
 use Rattle.rules.specs.Values.{Value, Known, opens, charsOf, isLayerId}
-use Rattle.rules.specs.Rows.{Rule, row, found, find, Slots, marks}
+use Rattle.rules.specs.Rows.{Rule, row, found, find, Slots, rowsThere}
 use Rattle.rules.specs.Blocks.{drawingTable, mostLayers}
 use Rattle.rules.specs.Sets.{Layer, Drawing, Set, withDrawing, withRecords, withLayer, withOwn, arcOf, knownOf}
 use Rattle.rules.specs.RecordTable.{ruleAt}
 use Rattle.rules.specs.Answers.{fullClass}
-use Rattle.rules.specs.Machine.{Line, Env, State, top, drawing, layerNames, layerValue, stepIn, taking}
+use Rattle.rules.specs.Machine.{Line, Env, State, top, drawing, layerNames, layerValue, taking}
+use Rattle.rules.specs.LineByLine.{stepIn}
 use Rattle.rules.specs.FixedForm.{Text, openLine, block, opensBlock, lineOf, noInner, showSlot, showSlots, showLayers, showDrawing}
 use Rattle.rules.proofs.Chains.{clash, unless-got, then-got}
 use Rattle.rules.proofs.Rows.{Row, row-all, row-below}
@@ -195,7 +196,7 @@ module _ (K : Known) (spool : List ℕ) (first : Bool) (p : Pen) (ns out : List 
       → KeyLine spool first key rest p ns ns′ out out′ d → LineOut K spool first st′ ns′ out′ d
   drawing-key key rest f placed fits does =
       acted (drawing s dr) (λ j v. got (drawing s (withRow j v))) (λ i j v. got (layerNames s (withRow j v))) (λ _. got (top (withDrawing dr s) 2))
-      (knownOf s) (digitsOf (arcOf s)) st′ drawingTable (marks (dr .own)) (bytesAt spool key) (restIn spool rest) (table-keys false 0 0 .7) (rw f at fits) (rw f at q) ent beg
+      (knownOf s) (digitsOf (arcOf s)) st′ drawingTable (rowsThere (dr .own)) (bytesAt spool key) (restIn spool rest) (table-keys false 0 0 .7) (rw f at fits) (rw f at q) ent beg
     where
       -- what the code promises for row j
       done : (j : ℕ) (r : Rule) (v : Value) → find (bytesAt spool key) drawingTable ≡ found j r → Row drawingTable j r → Reads (knownOf s) r (restIn spool rest) v
@@ -206,7 +207,7 @@ module _ (K : Known) (spool : List ℕ) (first : Bool) (p : Pen) (ns out : List 
           (u′, does K j (rule j) v (ap (find (bytesAt spool key)) (drawing-table first p (isBrace rest) (z .here .0)) ∙ h ∙ ap (found j) (row-is w)) u′)
 
       ent : (j : ℕ) (r : Rule) (v : Value) → find (bytesAt spool key) drawingTable ≡ found j r → Row drawingTable j r → Reads (knownOf s) r (restIn spool rest) v
-          → opensBlock (r .holds) v ≡ false → getD (marks (dr .own)) j false ≡ false → got (drawing s (withRow j v)) ≡ got st′ → LineOut K spool first st′ ns′ out′ d
+          → opensBlock (r .holds) v ≡ false → getD (rowsThere (dr .own)) j false ≡ false → got (drawing s (withRow j v)) ≡ got st′ → LineOut K spool first st′ ns′ out′ d
       ent j r v h w u o m g =
           let low = entry-row j r v w o in
           let (u′, k) = done j r v h w u in
@@ -217,7 +218,7 @@ module _ (K : Known) (spool : List ℕ) (first : Bool) (p : Pen) (ns out : List 
           (refl, row-stands j v (noteOf rest) low n (noted-line spool K (rule j) rest v placed u′)))
 
       beg : (j : ℕ) (r : Rule) (v : Value) → find (bytesAt spool key) drawingTable ≡ found j r → Row drawingTable j r → Reads (knownOf s) r (restIn spool rest) v
-          → opensBlock (r .holds) v ≡ true → getD (marks (dr .own)) j false ≡ false → got (layerNames s (withRow j v)) ≡ got st′ → LineOut K spool first st′ ns′ out′ d
+          → opensBlock (r .holds) v ≡ true → getD (rowsThere (dr .own)) j false ≡ false → got (layerNames s (withRow j v)) ≡ got st′ → LineOut K spool first st′ ns′ out′ d
       beg j r v h w u o m g =
           let (j7, r7) = begin-row j r v w o in
           let (u′, k) = done j r v h w u in
@@ -225,7 +226,7 @@ module _ (K : Known) (spool : List ℕ) (first : Bool) (p : Pen) (ns out : List 
           let (x, n) = names-done first (isBrace rest) p rest K 7 (rule 7) v ns ns′ out out′ d (z .here .0) k7 in
           let st : named v ≡ st′ = ap (λ (i : ℕ). layerNames s (withRow i v)) (sym j7) ∙ cc in
           subst (λ (a : State). LineOut K spool first a ns′ out′ d) st
-          (names-drawn v (unread (dr .own) 7 (ap (λ (i : ℕ). getD (marks (dr .own)) i false) (sym j7) ∙ m)) (rw (names-row K v .0) at x) n)
+          (names-drawn v (unread (dr .own) 7 (ap (λ (i : ℕ). getD (rowsThere (dr .own)) i false) (sym j7) ∙ m)) (rw (names-row K v .0) at x) n)
 
   -- ── `}` ──
   close-shown : shown K first (top (withDrawing dr s) 2) ≡ drawingBegun K s ++ (rowsText K dr ++ (namesText K dr ++ bytes "}" ∷ []))
@@ -237,7 +238,7 @@ module _ (K : Known) (spool : List ℕ) (first : Bool) (p : Pen) (ns out : List 
   drawing-close f does n =
       let g =
       closed (drawing s dr) (λ j v. got (drawing s (withRow j v))) (λ i j v. got (layerNames s (withRow j v))) (λ _. got (top (withDrawing dr s) 2))
-      (knownOf s) drawingTable (digitsOf (arcOf s)) (marks (dr .own)) st′ (rw f at q) in
+      (knownOf s) drawingTable (digitsOf (arcOf s)) (rowsThere (dr .own)) st′ (rw f at q) in
       let st : top (withDrawing dr s) 2 ≡ st′ = cc in
       let front = within .front in
       let x : List ℕ = drawingRows K (take 7 (dr .own)) in

@@ -1,5 +1,5 @@
 -- A line in ELEMENT.
-use Prim.Native.Nat.{ℕ, _+_}
+use Prim.Native.Nat.{ℕ}
 use mathlib.Core.Bool.{Bool, true, false, not}
 use mathlib.Core.List.{List, [], _∷_, _++_, append-assoc, append-nil}
 use mathlib.Core.Option.{none}
@@ -13,12 +13,13 @@ use Rattle.rules.specs.RefusalNumbers.{got, unless}
 use Rattle.rules.specs.Lines.{Rest, close, keyed, Shape, opener, noContent, content, opening, formless, bytesAt}
 use Rattle.rules.specs.RangeClass.{digits}
 use Rattle.rules.specs.Values.{Num, Value, empty, nums, chars, linked, Known, Kind, layerId, headed, readPart, readKind, servedSymbols, amountAt, showContent}
-use Rattle.rules.specs.Rows.{Rule, found, find, fullAt, fits, shapeFor, Act, begin, readShape, innerOf, complete}
+use Rattle.rules.specs.Rows.{Rule, found, find, rowsAtLimit, fits, shapeFor, Act, begin, readShape, innerOf, complete}
 use Rattle.rules.specs.Blocks.{elementTable}
 use Rattle.rules.specs.Figures.{layerTable}
 use Rattle.rules.specs.Sets.{Set, withVolume, isSingle, knownOf, usedIn}
 use Rattle.rules.specs.VolumesAndTotals.{countedHere}
-use Rattle.rules.specs.Machine.{Line, Env, inLayer, State, top, elements, figures, stepIn, onElements}
+use Rattle.rules.specs.Machine.{Line, Env, inLayer, State, top, elements, figures, onElements}
+use Rattle.rules.specs.LineByLine.{stepIn}
 use Rattle.rules.specs.Answers.{fullClass}
 use Rattle.rules.specs.FixedForm.{Text, openLine, opensBlock, lineOf, showBlocks}
 use Rattle.rules.proofs.Chains.{never, clash, map-got, unless-got}
@@ -83,13 +84,13 @@ module _ (K : Known) (spool : List ℕ) (first : Bool) (p : Pen) (ns out : List 
   pub elements-key : (key : Span) (rest : CodeRest) → l .form ≡ keyed (bytesAt spool key) (restIn spool rest) → PlacedRest rest → FormFits (l .form)
       → KeyLine spool first key rest p ns ns′ out out′ d → LineOut K spool first st′ ns′ out′ d
   elements-key key rest form placed fit line =
-      acted (elements s) _ _ _ (knownOf s) (digits 0 0) st′ elementTable (fullAt 0 elementTable) (bytesAt spool key) (restIn spool rest) (table-keys true 0 0 .10)
+      acted (elements s) _ _ _ (knownOf s) (digits 0 0) st′ elementTable (rowsAtLimit 0 elementTable) (bytesAt spool key) (restIn spool rest) (table-keys true 0 0 .10)
       (subst FormFits form fit) (ap (onElements s) (sym form) ∙ q)
       (λ j r v f w u o g n. never n)
       opens-layer
     where
       opens-layer : (j : ℕ) (r : Rule) (v : Value) → find (bytesAt spool key) elementTable ≡ found j r → Row elementTable j r → Reads (knownOf s) r (restIn spool rest) v → opensBlock (r .holds) v ≡ true
-          → getD (fullAt 0 elementTable) j false ≡ false → unless (not (hasNumber (amountAt v 0) (usedIn (s .now)))) 14 (got (figures s (inLayer (amountAt v 0)) [])) ≡ got st′
+          → getD (rowsAtLimit 0 elementTable) j false ≡ false → unless (not (hasNumber (amountAt v 0) (usedIn (s .now)))) 14 (got (figures s (inLayer (amountAt v 0)) [])) ≡ got st′
           → LineOut K spool first st′ ns′ out′ d
       opens-layer j r v f w u o g n =
           let b7 = z .here .0 in
@@ -106,7 +107,7 @@ module _ (K : Known) (spool : List ℕ) (first : Bool) (p : Pen) (ns out : List 
 
   pub elements-close : l .form ≡ close → CloseDone spool first p ns out out′ d → ns′ ≡ ns → LineOut K spool first st′ ns′ out′ d
   elements-close form done same =
-      shut-did (elements s) _ _ _ (complete (digits 0 0) elementTable (fullAt 0 elementTable)) st′ (ap (onElements s) (sym form) ∙ q) shuts
+      shut-did (elements s) _ _ _ (complete (digits 0 0) elementTable (rowsAtLimit 0 elementTable)) st′ (ap (onElements s) (sym form) ∙ q) shuts
     where
       volume : shown K first (top (withVolume s) 4) ≡ shown K first (elements s) ++ bytes "}" ∷ []
       volume =

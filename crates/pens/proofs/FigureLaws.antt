@@ -1,5 +1,5 @@
 -- A line among figures, in a symbol's `element` or in a layer.
-use Prim.Native.Nat.{ℕ, zero, suc, _+_, _≤_, _<_}
+use Prim.Native.Nat.{ℕ, zero, suc, _≤_, _<_}
 use mathlib.Core.Bool.{Bool, true, false, cond, _&&_, not}
 use mathlib.Core.List.{List, [], _∷_, _++_, append-assoc, append-nil}
 use mathlib.Core.Option.{Option, none, some}
@@ -14,16 +14,17 @@ use Rattle.rules.specs.Base.{bytes, all, same, isNil, isSome}
 use Rattle.rules.specs.RefusalNumbers.{got}
 use Rattle.rules.specs.Lines.{Rest, brace, equals, close, keyed, stem, byStem, shapeOf, bytesAt}
 use Rattle.rules.specs.Values.{Value, empty, nums, chars, linked, Known, Kind, values, text, word, volumeName, sheet, ratio, serials, nothing, opens, headed, either, numsOf, servedSymbols}
-use Rattle.rules.specs.Rows.{Rule, row, repeated, anyNumber, found, find, blank, fullAt, fits, shapeFor, isOpener as opensShape, innerOf, complete}
+use Rattle.rules.specs.Rows.{Rule, row, repeated, anyNumber, found, find, blank, rowsAtLimit, fits, shapeFor, isOpener as opensShape, innerOf, complete}
 use Rattle.rules.specs.Blocks.{blankHeld}
 use Rattle.rules.specs.Figures.{plainRows, blockRows, placedRow, anyOf, layerTable, figureTable, textTable, placedTables}
 use Rattle.rules.specs.RecordTable.{ruleAt}
 use Rattle.rules.specs.Sets.{Figure, plain, Symbol, LayerBlock, Set, withRecords, withBlock, symbolFigures, rangeOf, isSingle, knownOf}
-use Rattle.rules.specs.Machine.{Line, Env, Home, inElement, inLayer, State, symbol, elements, figures, successive, texts, placing, stepIn, isLayer, homeTable, taking, openFigure, onFigures, closeFigures}
+use Rattle.rules.specs.Machine.{Line, Env, Home, inElement, inLayer, State, symbol, elements, figures, successive, texts, placing, isLayer, homeTable, taking, openFigure, onFigures, closeFigures}
+use Rattle.rules.specs.LineByLine.{stepIn}
 use Rattle.rules.specs.Answers.{fullClass}
 use Rattle.rules.specs.FixedForm.{Text, openLine, opensBlock, behind, lineOf, block, showFigures, showBlocks}
 use Rattle.rules.proofs.Chains.{never, clash, same-eq, and-left, and-right, unless-got}
-use Rattle.rules.proofs.Rows.{Row, here, there, found-row, row-all, row-at, row-below, row-find, differ}
+use Rattle.rules.proofs.Rows.{Row, here, there, found-row, row-all, row-at, row-below, row-find}
 use Rattle.promises.proofs.Forms.{keyOk, keysOk}
 use Rattle.promises.proofs.Nameless.{nameless}
 use Rattle.promises.proofs.RowGood.{numbersOnly}
@@ -241,7 +242,7 @@ module _ (K : Known) (spool : List ℕ) (first : Bool) where
       pub figures-key : (key : Span) (rest : CodeRest) → l .form ≡ keyed (bytesAt spool key) (restIn spool rest) → PlacedRest rest → FormFits (l .form)
           → KeyLine spool first key rest p ns ns′ out out′ d → LineOut K spool first st′ ns′ out′ d
       figures-key key rest form fit-place fit line =
-          acted (figures s h fs) _ _ _ (knownOf s) (rangeOf s) st′ (homeTable s h) (fullAt 0 (homeTable s h)) (bytesAt spool key) (restIn spool rest) (home-rows s h .0)
+          acted (figures s h fs) _ _ _ (knownOf s) (rangeOf s) st′ (homeTable s h) (rowsAtLimit 0 (homeTable s h)) (bytesAt spool key) (restIn spool rest) (home-rows s h .0)
           (subst FormFits form fit) (ap (onFigures e l s h fs) (sym form) ∙ q)
           enters opens-block
         where
@@ -250,7 +251,7 @@ module _ (K : Known) (spool : List ℕ) (first : Bool) where
           does j r v f w u = line (homeKnown K s h) j r v (home-found p ns s h (bytesAt spool key) rest j r v (z .here .0) (z .here .1) f u) (home-reads s h j r (restIn spool rest) v w u)
 
           enters : (j : ℕ) (r : Rule) (v : Value) → find (bytesAt spool key) (homeTable s h) ≡ found j r → Row (homeTable s h) j r → Reads (knownOf s) r (restIn spool rest) v → opensBlock (r .holds) v ≡ false
-              → getD (fullAt 0 (homeTable s h)) j false ≡ false → (taking e 1 s λ s′. figures s′ h (fs ++ plain (l .line) j (numsOf v) ∷ [])) ≡ got st′ → LineOut K spool first st′ ns′ out′ d
+              → getD (rowsAtLimit 0 (homeTable s h)) j false ≡ false → (taking e 1 s λ s′. figures s′ h (fs ++ plain (l .line) j (numsOf v) ∷ [])) ≡ got st′ → LineOut K spool first st′ ns′ out′ d
           enters j r v f w u o g n =
               let b8 = z .here .0 in
               let done = does j r v f w u in
@@ -269,7 +270,7 @@ module _ (K : Known) (spool : List ℕ) (first : Bool) where
               (refl, home-records K first spool p′ ns′ 1 s h (home-at K first spool p p′ ns ns′ s h refl refl (same 0) (same 3) (z .here .1))))
 
           opens-block : (j : ℕ) (r : Rule) (v : Value) → find (bytesAt spool key) (homeTable s h) ≡ found j r → Row (homeTable s h) j r → Reads (knownOf s) r (restIn spool rest) v → opensBlock (r .holds) v ≡ true
-              → getD (fullAt 0 (homeTable s h)) j false ≡ false → openFigure e l s h fs (innerOf (r .holds)) ≡ got st′ → LineOut K spool first st′ ns′ out′ d
+              → getD (rowsAtLimit 0 (homeTable s h)) j false ≡ false → openFigure e l s h fs (innerOf (r .holds)) ≡ got st′ → LineOut K spool first st′ ns′ out′ d
           opens-block j r v f w u o g n =
               let b8 = z .here .0 in
               let done = does j r v f w u in
@@ -351,7 +352,7 @@ module _ (K : Known) (spool : List ℕ) (first : Bool) where
     pub figures-close : (s : Set) (h : Home) (fs : List Figure) (z : Pens K spool first p ns out (figures s h fs)) (q : stepIn e l (figures s h fs) ≡ got st′)
         → l .form ≡ close → CloseDone spool first p ns out out′ d → ns′ ≡ ns → LineOut K spool first st′ ns′ out′ d
     figures-close s h fs z q form done kept =
-        shut-did (figures s h fs) _ _ _ (complete (rangeOf s) (homeTable s h) (fullAt 0 (homeTable s h))) st′ (ap (onFigures e l s h fs) (sym form) ∙ q) (shuts h z)
+        shut-did (figures s h fs) _ _ _ (complete (rangeOf s) (homeTable s h) (rowsAtLimit 0 (homeTable s h))) st′ (ap (onFigures e l s h fs) (sym form) ∙ q) (shuts h z)
       where
         shuts : (h : Home) → Pens K spool first p ns out (figures s h fs) → closeFigures s h fs ≡ got st′ → LineOut K spool first st′ ns′ out′ d
         shuts (inElement y) z n = element-close s y fs z done kept n

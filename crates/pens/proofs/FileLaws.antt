@@ -16,12 +16,13 @@ use Rattle.rules.specs.Lines.{Form, close, keyed, Shape, opener, noContent, con
 use Rattle.rules.specs.RangeClass.{digits}
 use Rattle.rules.specs.Numbers.{readFixed}
 use Rattle.rules.specs.Values.{Num, num, Value, nums, Known, Kind, rangeOfSymbols, nothingMore, values, servedSymbols, readPart, readAll, agree, readKind, amount, amountAt}
-use Rattle.rules.specs.Rows.{Rule, found, find, Held, partOf, enter, marks, slotValue, numberOf, innerOf, fits, shapeFor, readShape, Act, entry, shut, refuse, act, complete}
+use Rattle.rules.specs.Rows.{Rule, found, find, Held, partOf, enter, rowsThere, slotValue, numberOf, innerOf, fits, shapeFor, readShape, Act, entry, shut, refuse, act, complete}
 use Rattle.rules.specs.Blocks.{fileTable, rangeTable, baseTable, elecTable, symTable, laterTable, fileTables, around}
 use Rattle.rules.specs.RecordTable.{ruleAt}
 use Rattle.rules.specs.Sets.{Contents, Set, withNow, isFirst, headOr, knownOf}
 use Rattle.rules.specs.VolumesAndTotals.{chained, dated}
-use Rattle.rules.specs.Machine.{Line, Env, State, top, file, byAct, closeFile, shutPart, stepIn}
+use Rattle.rules.specs.Machine.{Line, Env, State, top, file, byAct, closeFile, shutPart}
+use Rattle.rules.specs.LineByLine.{stepIn}
 use Rattle.rules.specs.Answers.{fullClass}
 use Rattle.rules.specs.FixedForm.{Text, openLine, opensBlock}
 use Rattle.rules.proofs.Chains.{clash, never, unless-got, map-got, keep-got, cons-got}
@@ -222,7 +223,7 @@ module _ (K : Known) (spool : List ℕ) (first : Bool) (p : Pen) (ns out : List 
   abbrev does : Bool → Form → Got State
   does b f =
       byAct (file s n h i) (λ j v. got (file s n (enter h i j v) i)) (λ m j v. got (file s n (enter h i j v) m)) (λ _. shutPart i (closeFile l s n h) (λ m. file s n h m))
-      (act (knownOf s) (getD (fileTables b) i []) (digits 0 0) (marks (partOf h i)) f)
+      (act (knownOf s) (getD (fileTables b) i []) (digits 0 0) (rowsThere (partOf h i)) f)
 
   did : (f : Form) → l .form ≡ f → does first f ≡ got st′
   did f g = ap (λ (b : Bool). does b f) (sym (z .here .1 .volume)) ∙ ap (does (isFirst s)) (sym g) ∙ q
@@ -232,7 +233,7 @@ module _ (K : Known) (spool : List ℕ) (first : Bool) (p : Pen) (ns out : List 
   file-key key rest f placed fit line =
       let (block, here) = z .here in
       acted {P = LineOut K spool first st′ ns′ out′ d} (file s n h i) (λ j v. got (file s n (enter h i j v) i)) (λ m j v. got (file s n (enter h i j v) m))
-      (λ _. shutPart i (closeFile l s n h) (λ m. file s n h m)) (knownOf s) (digits 0 0) st′ table (marks (partOf h i)) (bytesAt spool key) (restIn spool rest)
+      (λ _. shutPart i (closeFile l s n h) (λ m. file s n h m)) (knownOf s) (digits 0 0) st′ table (rowsThere (partOf h i)) (bytesAt spool key) (restIn spool rest)
       (file-rows first i .0) (subst FormFits f fit) (did (keyed (bytesAt spool key) (restIn spool rest)) f)
       (λ j r v at w reads o full en.
       let is : file s n (enter h i j v) i ≡ st′ = cc in
@@ -248,7 +249,7 @@ module _ (K : Known) (spool : List ℕ) (first : Bool) (p : Pen) (ns out : List 
   file-close f done notes =
       go i z
       (shut-got (file s n h i) (λ j v. got (file s n (enter h i j v) i)) (λ m j v. got (file s n (enter h i j v) m)) (λ _. shutPart i (closeFile l s n h) (λ m. file s n h m))
-      (complete (digits 0 0) table (marks (partOf h i))) st′ (did close f))
+      (complete (digits 0 0) table (rowsThere (partOf h i))) st′ (did close f))
     where
       go : (i : ℕ) → Pens K spool first p ns out (file s n h i) → shutPart i (closeFile l s n h) (λ m. file s n h m) ≡ got st′ → LineOut K spool first st′ ns′ out′ d
       go zero z g =

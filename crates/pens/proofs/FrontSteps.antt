@@ -11,7 +11,7 @@ use Rattle.rules.specs.RefusalNumbers.{Got, got}
 use Rattle.rules.specs.Lines.{close}
 use Rattle.rules.specs.Values.{Value, Known, opens}
 use Rattle.rules.specs.RecordTable.{ruleAt}
-use Rattle.rules.specs.Rows.{Rule, row, Slots, marks, shut, refuse, complete, act}
+use Rattle.rules.specs.Rows.{Rule, row, Slots, rowsThere, shut, refuse, complete, act}
 use Rattle.rules.specs.Sets.{Set, withRecords}
 use Rattle.rules.specs.Machine.{Env, State, byAct, taking}
 use Rattle.rules.proofs.Chains.{never, clash}
@@ -40,7 +40,7 @@ pub row-is : {t : List Rule} {j : ℕ} {r : Rule} → Row t j r → r ≡ ruleAt
 row-is w = sym (row-at w (row "" (opens 0) 0))
 
 -- a row that may be read has not been read
-pub unread : (o : Slots) (i : ℕ) → getD (marks o) i false ≡ false → getD o i none ≡ none
+pub unread : (o : Slots) (i : ℕ) → getD (rowsThere o) i false ≡ false → getD o i none ≡ none
 unread o i e = go (getD o i none) (sym (List·getD-map isSome o i none) ∙ e)
   where
     go : (v : Option Value) → isSome v ≡ false → v ≡ none

@@ -12,12 +12,13 @@ use Rattle.rules.specs.RefusalNumbers.{got, bad}
 use Rattle.rules.specs.Lines.{close, keyed, bytesAt}
 use Rattle.rules.specs.RangeClass.{digits}
 use Rattle.rules.specs.Values.{Value, empty, nums, chars, linked, Known, numsOf}
-use Rattle.rules.specs.Rows.{Rule, found, find, fullAt}
+use Rattle.rules.specs.Rows.{Rule, found, find, rowsAtLimit}
 use Rattle.rules.specs.Figures.{pointTable}
 use Rattle.rules.specs.Sets.{Point, Symbol, Set, withRecords, symbolHidden, knownOf}
 use Rattle.rules.specs.RecordTable.{ruleAt}
 use Rattle.rules.specs.Answers.{fullClass}
-use Rattle.rules.specs.Machine.{Line, Env, State, symbol, hide, pointAt, stepIn, taking}
+use Rattle.rules.specs.Machine.{Line, Env, State, symbol, hide, pointAt, taking}
+use Rattle.rules.specs.LineByLine.{stepIn}
 use Rattle.rules.specs.FixedForm.{Text, openLine, block, opensBlock, lineOf, showPoints}
 use Rattle.rules.proofs.Chains.{never}
 use Rattle.rules.proofs.Rows.{Row, row-below}
@@ -118,11 +119,11 @@ module _ (K : Known) (spool : List ℕ) (first : Bool) (p : Pen) (ns out : List 
       → KeyLine spool first key rest p ns ns′ out out′ d → LineOut K spool first st′ ns′ out′ d
   hide-key key rest f placed fits does =
       acted (hide s y ps) (λ j v. taking e 1 s λ s′. hide s′ y (ps ++ pointAt l v ∷ [])) (λ i j v. bad 5) (λ _. got (symbol s (symbolHidden ps y)))
-      (knownOf s) (digits 0 0) st′ (pointTable false) (fullAt (length ps) (pointTable false)) (bytesAt spool key) (restIn spool rest)
+      (knownOf s) (digits 0 0) st′ (pointTable false) (rowsAtLimit (length ps) (pointTable false)) (bytesAt spool key) (restIn spool rest)
       (table-keys false 0 0 .13) (rw f at fits) (rw f at q) ent (λ j r v h w u o m g. never g)
     where
       ent : (j : ℕ) (r : Rule) (v : Value) → find (bytesAt spool key) (pointTable false) ≡ found j r → Row (pointTable false) j r → Reads (knownOf s) r (restIn spool rest) v
-          → opensBlock (r .holds) v ≡ false → getD (fullAt (length ps) (pointTable false)) j false ≡ false → taking e 1 s (λ s′. hide s′ y (ps ++ pointAt l v ∷ [])) ≡ got st′ → LineOut K spool first st′ ns′ out′ d
+          → opensBlock (r .holds) v ≡ false → getD (rowsAtLimit (length ps) (pointTable false)) j false ≡ false → taking e 1 s (λ s′. hide s′ y (ps ++ pointAt l v ∷ [])) ≡ got st′ → LineOut K spool first st′ ns′ out′ d
       ent j r v h w u o m g =
           let (j0, r0) = point-row w in
           let t : tableOf (tableFor first p (isBrace rest)) ≡ pointTable false = ap tableOf (hide-table first p (isBrace rest) (z .here .0)) ∙ points-table in
@@ -145,7 +146,7 @@ module _ (K : Known) (spool : List ℕ) (first : Bool) (p : Pen) (ns out : List 
   hide-close f does n =
       let g : got (symbol s (symbolHidden ps y)) ≡ got st′ =
       closed (hide s y ps) (λ j v. taking e 1 s λ s′. hide s′ y (ps ++ pointAt l v ∷ [])) (λ i j v. bad 5) (λ _. got (symbol s (symbolHidden ps y)))
-      (knownOf s) (pointTable false) (digits 0 0) (fullAt (length ps) (pointTable false)) st′ (rw f at q) in
+      (knownOf s) (pointTable false) (digits 0 0) (rowsAtLimit (length ps) (pointTable false)) st′ (rw f at q) in
       let r : symbol s (symbolHidden ps y) ≡ st′ = cc in
       let next : Pen = moved p 3 5 0 in
       let w = within .in-symbol in

@@ -1,12 +1,12 @@
 -- Texts laid into the output, and what that is worth at a state of the reading.
-use Prim.Native.Nat.{ℕ, zero, suc, _+_, _-_, _≤_, _<_}
+use Prim.Native.Nat.{ℕ, _+_, _-_, _≤_, _<_}
 use mathlib.Core.Bool.{Bool, true, false}
-use mathlib.Core.List.{List, [], _∷_, _++_, append-assoc, append-nil}
+use mathlib.Core.List.{List, [], _∷_, _++_, append-assoc}
 use mathlib.Core.Path.{_≡_, refl, sym, _∙_, ap, subst}
 use native.Mathlib.Omega.{arith}
 use borrow.Author.Tests.{leb-true, leb-false}
 use lib.Dec.{leb}
-use lib.ListN.{length, take, drop, length-append, length-drop, take-append-drop}
+use lib.ListN.{length, take, drop, length-append, take-append-drop}
 use lib.Seq.{take-at, drop-at, length-take-le}
 use Rattle.rules.specs.Spool.{unlines}
 use Rattle.rules.specs.Values.{Known}
@@ -14,8 +14,7 @@ use Rattle.rules.specs.FixedForm.{Text}
 use Rattle.rules.specs.Machine.{State}
 use Rattle.pens.specs.declared.Pen.{Pen}
 use Rattle.pens.specs.declared.Drawn.{Drawn}
-use Rattle.pens.specs.declared.Drawn.the-variants as D
-use Rattle.pens.specs.Texts.{ended, lineBytes, laid, Draws, Inserts}
+use Rattle.pens.specs.Texts.{ended, lineBytes, Draws, Inserts}
 use Rattle.pens.specs.Shown.{shown}
 use Rattle.pens.specs.Standing.{Here, Pens}
 use Rattle.pens.specs.Drawing.{LineOut}

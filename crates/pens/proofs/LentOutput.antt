@@ -1,7 +1,7 @@
 -- A writer that was lent the output from a place on: what it does with the whole output.
 use Prim.Native.Nat.{ℕ, _+_, _-_, _≤_}
 use mathlib.Core.Bool.{Bool, true, false, cond}
-use mathlib.Core.List.{List, [], _∷_, _++_, append-assoc, append-nil}
+use mathlib.Core.List.{List, _++_, append-nil}
 use mathlib.Core.Path.{_≡_, refl, sym, _∙_, ap, subst}
 use native.Mathlib.Omega.{arith}
 use borrow.Author.Tests.{leb-true, le-leb}
@@ -14,7 +14,6 @@ use Rattle.leaves.specs.declared.Wrote.the-variants as W
 use Rattle.leaves.specs.Writing.{Puts}
 use Rattle.prints.specs.Printing.{Prints, Within}
 use Rattle.pens.specs.declared.Pen.{Pen}
-use Rattle.pens.specs.declared.Drawn.{Drawn}
 use Rattle.pens.specs.declared.Drawn.the-variants as D
 use Rattle.pens.specs.Texts.{laid, Draws, Safe}
 use Rattle.pens.specs.Moves.{moved}

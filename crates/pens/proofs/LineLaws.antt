@@ -1,9 +1,9 @@
 -- One line, in any state: what the code promises of it is what the definitions make of it.
-use Prim.Native.Nat.{ℕ, zero, suc, _+_, _≤_, _<_}
-use mathlib.Core.Bool.{Bool, true, false}
-use mathlib.Core.List.{List, [], _∷_, _++_, append-nil}
+use Prim.Native.Nat.{ℕ, zero, suc}
+use mathlib.Core.Bool.{Bool}
+use mathlib.Core.List.{List}
 use mathlib.Core.Option.{none}
-use mathlib.Core.Path.{_≡_, refl, sym, _∙_, ap, subst}
+use mathlib.Core.Path.{_≡_, sym, _∙_, ap, subst}
 use native.Mathlib.Omega.{arith}
 use lib.ListN.{length}
 use Rattle.rules.specs.declared.LineForm.{LineForm}
@@ -12,7 +12,9 @@ use Rattle.rules.specs.declared.Span.{Span}
 use Rattle.rules.specs.RefusalNumbers.{got}
 use Rattle.rules.specs.Lines.{ignored, wrong, close, eof, keyed, bytesAt}
 use Rattle.rules.specs.Values.{Known}
-use Rattle.rules.specs.Machine.{Line, Env, State, top, file, drawing, layerNames, defines, symbol, hide, elements, figures, successive, texts, placing, skipping, ended, onTop, onFile, onDrawing, onLayerNames, onDefines, onSymbol, onHide, onElements, onFigures, onSuccessive, onTexts, onPlacing, onSkipping, stepIn}
+use Rattle.rules.specs.Machine.{Line, Env, State, top, file, drawing, layerNames, defines, symbol, hide, elements, figures, successive, texts, placing, skipping, ended, onTop, onFile, onDrawing, onLayerNames, onDefines, onSymbol, onHide, onElements, onFigures, onSuccessive, onTexts}
+use Rattle.rules.specs.PlacedSymbol.{onPlacing, onSkipping}
+use Rattle.rules.specs.LineByLine.{stepIn}
 use Rattle.rules.specs.Answers.{fullClass}
 use Rattle.rules.proofs.Chains.{never}
 use Rattle.entries.specs.declared.Rest.{Rest}
@@ -21,7 +23,7 @@ use Rattle.entries.specs.Shapes.{restIn}
 use Rattle.pens.specs.declared.Pen.{Pen}
 use Rattle.pens.specs.declared.Drawn.{Drawn}
 use Rattle.pens.specs.declared.Drawn.the-variants as D
-use Rattle.pens.specs.Keys.{KeyLine, NamedLine, EofLine, PlacedRest}
+use Rattle.pens.specs.Keys.{KeyLine, EofLine, PlacedRest}
 use Rattle.pens.specs.KeyWriting.{KeyOrName}
 use Rattle.pens.specs.Closing.{CloseDone}
 use Rattle.pens.specs.Standing.{Pens}

@@ -1,14 +1,14 @@
 -- A line that opens a block: its row is one that opens a block, and has not been read.
 use Prim.Native.Nat.{ℕ}
 use mathlib.Core.Bool.{Bool, true, false, cond}
-use mathlib.Core.List.{List, [], _∷_, map}
-use mathlib.Core.Path.{_≡_, refl, sym, _∙_, ap, subst}
+use mathlib.Core.List.{List, map}
+use mathlib.Core.Path.{_≡_, refl, ap, subst}
 use lib.ListN.{getD}
 use Rattle.rules.specs.declared.Digits.{Digits}
-use Rattle.rules.specs.RefusalNumbers.{Got, got, bad, unless}
-use Rattle.rules.specs.Lines.{Rest, Form, ignored, wrong, close, eof, keyed, Shape, opener, noContent, content, opening, formless, hasForm, shapeOf}
+use Rattle.rules.specs.RefusalNumbers.{got, bad, unless}
+use Rattle.rules.specs.Lines.{Form, ignored, wrong, close, eof, keyed, Shape, opener, noContent, content, opening, formless, hasForm, shapeOf}
 use Rattle.rules.specs.Values.{Value, empty, Known, Kind, values, text, word, volumeName, sheet, ratio, serials, nothing, opens, headed, either, readKind}
-use Rattle.rules.specs.Rows.{Rule, Found, absent, found, find, fits, shapeFor, Act, stay, entry, begin, shut, refuse, orRefuse, innerOf, readShape, actRow, actFound, complete, act}
+use Rattle.rules.specs.Rows.{Rule, Found, absent, found, find, fits, shapeFor, Act, stay, entry, begin, shut, refuse, orRefuse, innerOf, readShape, actFound, complete, act}
 use Rattle.rules.proofs.Chains.{and-false, by-cond, clash, map-got, never}
 use Rattle.rules.proofs.Rows.{Row, here, there, found-row, row-did}
 

@@ -15,10 +15,12 @@ use Rattle.rules.specs.RefusalNumbers.{Got, got, bad, unless}
 use Rattle.rules.specs.Lines.{close, keyed, shapeOf, hasForm, bytesAt}
 use Rattle.rules.specs.RangeClass.{digits, digitsOf, reaches, exceeds, both}
 use Rattle.rules.specs.Values.{Value, Known, Kind, values, text, word, volumeName, sheet, ratio, serials, nothing, opens, headed, either, servedSymbols}
-use Rattle.rules.specs.Rows.{Rule, Found, absent, found, find, Held, partOf, enter, marks, orRefuse, innerOf, complete}
+use Rattle.rules.specs.Rows.{Rule, Found, absent, found, find, Held, partOf, enter, rowsThere, orRefuse, innerOf, complete}
 use Rattle.rules.specs.Figures.{textTable, placedTable, placedTables}
 use Rattle.rules.specs.Sets.{Figure, placed, Set, symbolRange, rangeOf, knownOf}
-use Rattle.rules.specs.Machine.{Line, Env, inLayer, State, figures, placing, skipping, stepIn, byAct, newSerial, onPlacedKey, onPlacing}
+use Rattle.rules.specs.Machine.{Line, Env, inLayer, State, figures, placing, skipping, byAct}
+use Rattle.rules.specs.PlacedSymbol.{newSerial, onPlacedKey, onPlacing}
+use Rattle.rules.specs.LineByLine.{stepIn}
 use Rattle.rules.specs.Answers.{fullClass}
 use Rattle.rules.specs.FixedForm.{Text, openLine, opensBlock, showHeld}
 use Rattle.rules.proofs.Chains.{never, clash, same-eq, and-left, and-right, cond-true, unless-got}
@@ -165,7 +167,7 @@ module _ (K : Known) (spool : List ℕ) (first : Bool) (p : Pen) (ns out : List 
     own-key z (found j r) f q =
         let (w, same-key) = found-row (bytesAt spool key) placedTable j r f in
         let knows : reaches (e .class) (r .least) ≡ true = ap (λ (x : Digits). reaches x (r .least)) c ∙ row-all (λ r. reaches fullClass (r .least)) w (placed-rows .0) in
-        row-acted (placing s m fs n o 0) _ _ _ (knownOf s) (rangeOf s) st′ (getD (marks (partOf o 0)) j false) j r (restIn spool rest)
+        row-acted (placing s m fs n o 0) _ _ _ (knownOf s) (rangeOf s) st′ (getD (rowsThere (partOf o 0)) j false) j r (restIn spool rest)
         (row-all (λ r. keyOk (r .key)) w (table-keys true 0 0 .15))
         (subst (λ (x : List ℕ). FormFits (keyed x (restIn spool rest))) (same-eq (bytesAt spool key) (r .key) same-key) (subst FormFits form fit))
         (cond-true (reaches (e .class) (r .least)) _ _ (got st′) knows q)
@@ -174,7 +176,7 @@ module _ (K : Known) (spool : List ℕ) (first : Bool) (p : Pen) (ns out : List 
 
     text-key : (z : Pens K spool first p ns out (placing s m fs n o 1)) → stepIn e l (placing s m fs n o 1) ≡ got st′ → LineOut K spool first st′ ns′ out′ d
     text-key z q =
-        acted (placing s m fs n o 1) _ _ _ (knownOf s) (digits 0 0) st′ (textTable true 16 24) (marks (partOf o 1)) (bytesAt spool key) (restIn spool rest)
+        acted (placing s m fs n o 1) _ _ _ (knownOf s) (digits 0 0) st′ (textTable true 16 24) (rowsThere (partOf o 1)) (bytesAt spool key) (restIn spool rest)
         (table-keys true 16 24 .14) (subst FormFits form fit) (ap (onPlacing e s m fs n o 1) (sym form) ∙ q)
         (λ j r v f w u x full a. enters 1 z key rest place line j r v f w u x a)
         (λ j r v f w u x full a. clash x (opens-not r v (row-all opensNothing w (placed-rows .2))))
@@ -220,9 +222,9 @@ module _ (K : Known) (spool : List ℕ) (first : Bool) (p : Pen) (ns out : List 
   pub placing-close : (i : ℕ) → Pens K spool first p ns out (placing s m fs n o i) → stepIn e l (placing s m fs n o i) ≡ got st′
       → l .form ≡ close → CloseDone spool first p ns out out′ d → ns′ ≡ ns → LineOut K spool first st′ ns′ out′ d
   placing-close zero z q form done notes =
-      shut-did (placing s m fs n o 0) _ _ _ (complete (both (e .class) (rangeOf s)) placedTable (marks (partOf o 0))) st′ (ap (onPlacing e s m fs n o 0) (sym form) ∙ q) (own-close form done notes z)
+      shut-did (placing s m fs n o 0) _ _ _ (complete (both (e .class) (rangeOf s)) placedTable (rowsThere (partOf o 0))) st′ (ap (onPlacing e s m fs n o 0) (sym form) ∙ q) (own-close form done notes z)
   placing-close (suc zero) z q form done notes =
-      shut-did (placing s m fs n o 1) _ _ _ (complete (digits 0 0) (textTable true 16 24) (marks (partOf o 1))) st′ (ap (onPlacing e s m fs n o 1) (sym form) ∙ q) (text-close form done notes z)
+      shut-did (placing s m fs n o 1) _ _ _ (complete (digits 0 0) (textTable true 16 24) (rowsThere (partOf o 1))) st′ (ap (onPlacing e s m fs n o 1) (sym form) ∙ q) (text-close form done notes z)
   placing-close (suc (suc i)) z q form done notes = absurd (omega (arith, z .here .1 .open-part))
 
 -- nothing is skipped at class 15, and the writing never stands there

@@ -35,7 +35,7 @@ use Rattle.entries.specs.Acts.{valueOf}
 use Rattle.entries.proofs.ByShape.{free-is}
 use Rattle.prints.specs.Reading.{Reads, PrintsRow}
 use Rattle.keywords.specs.Keys.{keyAt}
-use Rattle.prints.specs.Printing.{Prints, Within}
+use Rattle.prints.specs.Printing.{Within}
 use Rattle.pens.specs.Moves.{isOpener}
 use Rattle.pens.specs.Noting.{noteOf, restOf, partTable}
 use Rattle.pens.specs.Closing.{rowBytes}

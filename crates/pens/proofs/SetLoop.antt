@@ -1,7 +1,6 @@
 -- The loop over the volumes: what holds before each, whatever the spool is, and for every set that it is accepted as.
-use Prim.Native.Nat.{ℕ, suc, _+_, _-_, _≤_, _<_}
-use mathlib.Core.Bool.{Bool}
-use mathlib.Core.List.{List, [], _∷_}
+use Prim.Native.Nat.{ℕ, suc, _+_, _≤_, _<_}
+use mathlib.Core.List.{List, []}
 use mathlib.Core.Option.{Option, none, some}
 use mathlib.Core.Path.{_≡_, refl, sym, _∙_, ap, subst}
 use native.Mathlib.Omega.{arith}
@@ -10,8 +9,8 @@ use lib.ListN.{length, getD, drop}
 use lib.Seq.{drop-cons}
 use Rattle.rules.specs.Spool.{Volume, volumesOf}
 use Rattle.rules.specs.Sets.{Set}
-use Rattle.rules.specs.Machine.{accepted}
-use Rattle.rules.specs.Answers.{rewriteOutcome, written}
+use Rattle.rules.specs.LineByLine.{accepted}
+use Rattle.rules.specs.Answers.{rewriteOutcome}
 use Rattle.leaves.specs.declared.Wrote.{Wrote}
 use Rattle.leaves.specs.declared.Wrote.the-variants as W
 use Rattle.lines.specs.VolumePlaces.{zeros, noLayout, layoutOf}
@@ -19,7 +18,7 @@ use Rattle.lines.specs.declared.Layout.{Layout}
 use Rattle.lines.proofs.VolumePlaces.{volumes-laid}
 use Rattle.lines.proofs.VolumesSeen.{volume-in}
 use Rattle.prints.specs.Printing.{Within}
-use Rattle.pens.specs.Volumes.{Fronts, VolumePromise, SetPromise}
+use Rattle.pens.specs.Volumes.{VolumePromise, SetPromise}
 use Rattle.pens.proofs.Behind.{within-full}
 use Rattle.pens.proofs.LentOutput.{lent, back, within-long, lent-room}
 use Rattle.pens.proofs.SetWalk.{accepted-so, Done, done-begins, turn-full, turn-on, all-done}

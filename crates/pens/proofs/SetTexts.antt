@@ -1,25 +1,24 @@
 -- What is shown behind each volume is what the fixed form writes of it.
-use Prim.Native.Nat.{ℕ, zero, suc, _+_}
-use mathlib.Core.Bool.{Bool, true, false, cond}
+use Prim.Native.Nat.{ℕ}
+use mathlib.Core.Bool.{Bool, true, false}
 use mathlib.Core.List.{List, [], _∷_, _++_, map, append-assoc, append-nil}
-use mathlib.Core.Option.{none}
-use mathlib.Core.Path.{_≡_, refl, sym, _∙_, ap, subst}
+use mathlib.Core.Path.{_≡_, refl, sym, _∙_, ap}
 use native.Mathlib.Omega.{arith}
 use lib.Dec.{eqb}
-use lib.ListN.{length, length-append}
-use Rattle.rules.specs.Base.{bytes, isNil}
-use Rattle.rules.specs.Spool.{Volume, unlines, volumeBytes}
+use lib.ListN.{length}
+use Rattle.rules.specs.Base.{bytes}
+use Rattle.rules.specs.Spool.{unlines, volumeBytes}
 use Rattle.rules.specs.Values.{Known}
-use Rattle.rules.specs.Rows.{Rule, Held, numberOf, partOf}
+use Rattle.rules.specs.Rows.{Rule, numberOf, partOf}
 use Rattle.rules.specs.Blocks.{fileTables, elecTable}
 use Rattle.rules.specs.Figures.{layerTable}
-use Rattle.rules.specs.Sets.{Layer, Drawing, Symbol, Contents, Set, headOr, firstContents, symbolRange, isFirst, isSingle, symbolNameOf, knownOf}
+use Rattle.rules.specs.Sets.{Drawing, Symbol, Contents, Set, headOr, symbolRange, isSingle, symbolNameOf, knownOf}
 use Rattle.rules.specs.FixedForm.{Text, block, showHeld, showDrawing, showDefines, showBlocks, showFirst, showLater, ending, laterLines, volumeLines, volumesBytes}
-use Rattle.rules.specs.Machine.{Env, State, top, ended}
+use Rattle.rules.specs.Machine.{Env, top, ended}
 use Rattle.pens.specs.Shown.{fileText, drawingText, definesText, frontText, elementText, shown}
 use Rattle.pens.proofs.ShownLaws.{Before, block-more, held-more, drawing-more, defines-more, blocks-more}
 use Rattle.pens.proofs.VolumeSound.{Closed}
-use Rattle.pens.proofs.VolumeRuns.{After, Final, more-volumes}
+use Rattle.pens.proofs.VolumeRuns.{Final}
 
 module _ (e : Env) (set : Set) where
   abbrev k : Known

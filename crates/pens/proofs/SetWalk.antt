@@ -1,38 +1,35 @@
 -- The volumes of an accepted set written one behind the other: how far the writing has come, and what one more volume makes of it.
-use Prim.Native.Nat.{ℕ, zero, suc, _+_, _-_, _≤_, _<_}
-use mathlib.Core.Bool.{Bool, true, false, cond}
+use Prim.Native.Nat.{ℕ, suc, _+_, _≤_, _<_}
+use mathlib.Core.Bool.{Bool, true, false}
 use mathlib.Core.List.{List, [], _∷_, _++_, append-assoc, append-nil}
 use mathlib.Core.Option.{Option, none, some}
 use mathlib.Core.Path.{_≡_, refl, sym, _∙_, ap, subst}
 use native.Mathlib.Omega.{arith}
-use borrow.Author.Tests.{leb-true, ne-eqb}
+use borrow.Author.Tests.{ne-eqb}
 use lib.Dec.{eqb, leb}
 use lib.ListN.{length, getD, take, drop, length-append, length-drop}
 use lib.Seq.{drop-drop}
-use Rattle.rules.specs.Base.{all, isNil}
+use Rattle.rules.specs.Base.{all}
 use Rattle.rules.specs.Spool.{mostInLine, Volume, namesOf, linesFrom, shortLines, linesOf, volumesOf, unlines, volumeBytes}
-use Rattle.rules.specs.RefusalNumbers.{got}
 use Rattle.rules.specs.Values.{Known}
-use Rattle.rules.specs.Sets.{Contents, Set, nothingYet, isFirst, knownOf}
+use Rattle.rules.specs.Sets.{Contents, Set, nothingYet, knownOf}
 use Rattle.rules.specs.FixedForm.{Text, volumeLines, volumesBytes, fixedForm}
-use Rattle.rules.specs.Machine.{Line, Env, State, top, ended, Outcome, refused, accepted, run}
+use Rattle.rules.specs.Machine.{Line, Env, State, top}
+use Rattle.rules.specs.LineByLine.{Outcome, accepted, run}
 use Rattle.rules.specs.Answers.{nextName, Listed, listed, noLines, listVolumes, outcomeOfLines, outcomeOfVolumes, outcomeOf, fullClass, namesIn, writtenIn, rewriteOutcome, written}
 use Rattle.rules.proofs.Chains.{clash, cond-some}
 use Rattle.rules.proofs.Runs.{not-accepted}
 use Rattle.leaves.specs.declared.Wrote.{Wrote}
 use Rattle.leaves.specs.declared.Wrote.the-variants as W
-use Rattle.lines.specs.VolumeNames.{nameAt}
 use Rattle.lines.specs.VolumePlaces.{layoutOf}
-use Rattle.lines.specs.declared.Layout.{Layout}
 use Rattle.lines.proofs.VolumePlaces.{volumes-laid}
-use Rattle.lines.proofs.VolumesSeen.{VolumeIn, volume-in, volume-lines}
+use Rattle.lines.proofs.VolumesSeen.{volume-in, volume-lines}
 use Rattle.pens.specs.Shown.{shown}
-use Rattle.pens.specs.Standing.{Served}
-use Rattle.pens.specs.Volumes.{Fronts, LinesAt, Begins, ServedAfter, VolumeOut, VolumePromise, SetPromise}
+use Rattle.pens.specs.Volumes.{Fronts, LinesAt, Begins, ServedAfter, VolumeOut, VolumePromise}
 use Rattle.pens.proofs.LentOutput.{lent, back, lent-long, back-is}
 use Rattle.pens.proofs.VolumeEnd.{fronts-fit, fronts-none}
 use Rattle.pens.proofs.Heads.{fronted, unfronted, take-after}
-use Rattle.pens.proofs.VolumeRuns.{Lists, lists-of, After, Stepped, volume-step, Final, closed-later, more-volumes, rest-final}
+use Rattle.pens.proofs.VolumeRuns.{Lists, lists-of, After, volume-step, Final, closed-later, more-volumes, rest-final}
 use Rattle.pens.proofs.SetTexts.{restLines, text-between, text-last, volumes-append}
 
 -- as the rewriter reads

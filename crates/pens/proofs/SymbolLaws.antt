@@ -1,6 +1,6 @@
 -- A line in a symbol.
 use Prim.Native.Nat.{ℕ, zero, suc, _+_, _<_}
-use mathlib.Core.Bool.{Bool, true, false, cond, not}
+use mathlib.Core.Bool.{Bool, true, false, cond}
 use mathlib.Core.List.{List, [], _∷_, _++_, append-assoc, append-nil}
 use mathlib.Core.Option.{Option, none, some}
 use mathlib.Core.Path.{_≡_, refl, sym, _∙_, ap, subst}
@@ -12,14 +12,15 @@ use Rattle.rules.specs.Base.{bytes, isNone, isSome}
 use Rattle.rules.specs.RefusalNumbers.{got, unless}
 use Rattle.rules.specs.Lines.{close, keyed, bytesAt}
 use Rattle.rules.specs.RangeClass.{digitsOf}
-use Rattle.rules.specs.Values.{Value, Known, opens}
-use Rattle.rules.specs.Rows.{Rule, row, found, find, Slots, marks, innerOf}
+use Rattle.rules.specs.Values.{Value, Known}
+use Rattle.rules.specs.Rows.{Rule, found, find, Slots, rowsThere, innerOf}
 use Rattle.rules.specs.Blocks.{symbolTable}
 use Rattle.rules.specs.Figures.{figureTable}
 use Rattle.rules.specs.Sets.{Symbol, Set, withSymbol, symbolOwn, symbolOrder, defineRange, knownOf}
 use Rattle.rules.specs.RecordTable.{ruleAt}
 use Rattle.rules.specs.Answers.{fullClass}
-use Rattle.rules.specs.Machine.{Line, Env, inElement, State, defines, symbol, hide, figures, newName, openSymbol, stepIn}
+use Rattle.rules.specs.Machine.{Line, Env, inElement, State, defines, symbol, hide, figures, newName, openSymbol}
+use Rattle.rules.specs.LineByLine.{stepIn}
 use Rattle.rules.specs.FixedForm.{Text, openLine, block, opensBlock, lineOf, showSlot, showSlots, showFigures, showPoints, symbolInner, exchanged, showSymbol, showSymbols}
 use Rattle.rules.proofs.Chains.{clash, unless-got}
 use Rattle.rules.proofs.Rows.{Row, row-below}
@@ -299,7 +300,7 @@ module _ (K : Known) (spool : List ℕ) (first : Bool) (p : Pen) (ns out : List 
       → KeyLine spool first key rest p ns ns′ out out′ d → LineOut K spool first st′ ns′ out′ d
   symbol-key key rest f placed fits does =
       acted (symbol s y) (λ j v. unless (newName s (withRow j v)) 15 (got (symbol s (withRow j v)))) (λ i j v. openSymbol s (withRow j v) i) (λ _. got (defines (withSymbol y s) false))
-      (knownOf s) (digitsOf (defineRange s)) st′ symbolTable (marks (y .own)) (bytesAt spool key) (restIn spool rest) (table-keys false 0 0 .9) (rw f at fits) (rw f at q) ent beg
+      (knownOf s) (digitsOf (defineRange s)) st′ symbolTable (rowsThere (y .own)) (bytesAt spool key) (restIn spool rest) (table-keys false 0 0 .9) (rw f at fits) (rw f at q) ent beg
     where
       -- what the code promises for row j
       done : (j : ℕ) (r : Rule) (v : Value) → find (bytesAt spool key) symbolTable ≡ found j r → Row symbolTable j r → Reads (knownOf s) r (restIn spool rest) v → nameless (rule j .holds) ≡ true
@@ -309,7 +310,7 @@ module _ (K : Known) (spool : List ℕ) (first : Bool) (p : Pen) (ns out : List 
           (u′, does K j (rule j) v (ap (find (bytesAt spool key)) (symbol-table first p (isBrace rest) (z .here .0)) ∙ h ∙ ap (found j) (row-is w)) u′)
 
       ent : (j : ℕ) (r : Rule) (v : Value) → find (bytesAt spool key) symbolTable ≡ found j r → Row symbolTable j r → Reads (knownOf s) r (restIn spool rest) v
-          → opensBlock (r .holds) v ≡ false → getD (marks (y .own)) j false ≡ false → unless (newName s (withRow j v)) 15 (got (symbol s (withRow j v))) ≡ got st′ → LineOut K spool first st′ ns′ out′ d
+          → opensBlock (r .holds) v ≡ false → getD (rowsThere (y .own)) j false ≡ false → unless (newName s (withRow j v)) 15 (got (symbol s (withRow j v))) ≡ got st′ → LineOut K spool first st′ ns′ out′ d
       ent zero r v h w u o m g =
           let (u′, k) = done 0 r v h w u (rules-nameless .0) in
           let (x, n) = name-done first (isBrace rest) p rest K (rule 0) v ns ns′ out out′ d (z .here .0) k in
@@ -329,7 +330,7 @@ module _ (K : Known) (spool : List ℕ) (first : Bool) (p : Pen) (ns out : List 
       ent (suc (suc (suc (suc j)))) r v h w u o m g = absurd (omega (arith, four-rows w))
 
       beg : (j : ℕ) (r : Rule) (v : Value) → find (bytesAt spool key) symbolTable ≡ found j r → Row symbolTable j r → Reads (knownOf s) r (restIn spool rest) v
-          → opensBlock (r .holds) v ≡ true → getD (marks (y .own)) j false ≡ false → openSymbol s (withRow j v) (innerOf (r .holds)) ≡ got st′ → LineOut K spool first st′ ns′ out′ d
+          → opensBlock (r .holds) v ≡ true → getD (rowsThere (y .own)) j false ≡ false → openSymbol s (withRow j v) (innerOf (r .holds)) ≡ got st′ → LineOut K spool first st′ ns′ out′ d
       beg zero r v h w u o m g = clash (ap (λ (x : Rule). opensBlock (x .holds) v) (sym (row-is w)) ∙ o) (rules-open v .0)
       beg (suc zero) r v h w u o m g =
           let (u′, k) = done 1 r v h w u (rules-nameless .1) in
@@ -365,7 +366,7 @@ module _ (K : Known) (spool : List ℕ) (first : Bool) (p : Pen) (ns out : List 
   symbol-close f does n =
       let g =
       closed (symbol s y) (λ j v. unless (newName s (withRow j v)) 15 (got (symbol s (withRow j v)))) (λ i j v. openSymbol s (withRow j v) i) (λ _. got (defines (withSymbol y s) false))
-      (knownOf s) symbolTable (digitsOf (defineRange s)) (marks (y .own)) st′ (rw f at q) in
+      (knownOf s) symbolTable (digitsOf (defineRange s)) (rowsThere (y .own)) st′ (rw f at q) in
       let st : withSymbols ≡ st′ = cc in
       let a : List ℕ = rowBytes K (rule 0) (getD (y .own) 0 none) in
       let b : List ℕ = rowBytes K (rule 3) (getD (y .own) 3 none) in

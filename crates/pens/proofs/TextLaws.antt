@@ -13,10 +13,11 @@ use Rattle.rules.specs.RefusalNumbers.{got}
 use Rattle.rules.specs.Lines.{close, keyed, bytesAt}
 use Rattle.rules.specs.RangeClass.{digits}
 use Rattle.rules.specs.Values.{Value, Known}
-use Rattle.rules.specs.Rows.{Rule, found, find, Slots, partOf, marks, innerOf, complete}
+use Rattle.rules.specs.Rows.{Rule, found, find, Slots, partOf, rowsThere, innerOf, complete}
 use Rattle.rules.specs.Figures.{textTable}
 use Rattle.rules.specs.Sets.{Figure, lettering, Set, knownOf}
-use Rattle.rules.specs.Machine.{Line, Env, Home, State, figures, texts, stepIn, isLayer, onTexts}
+use Rattle.rules.specs.Machine.{Line, Env, Home, State, figures, texts, isLayer, onTexts}
+use Rattle.rules.specs.LineByLine.{stepIn}
 use Rattle.rules.specs.Answers.{fullClass}
 use Rattle.rules.specs.FixedForm.{Text, openLine, opensBlock, showSlots, noInner}
 use Rattle.rules.proofs.Chains.{never, and-right}
@@ -92,12 +93,12 @@ module _ (K : Known) (spool : List ℕ) (first : Bool) (p : Pen) (ns out : List 
   pub texts-key : (key : Span) (rest : CodeRest) → l .form ≡ keyed (bytesAt spool key) (restIn spool rest) → PlacedRest rest → FormFits (l .form)
       → KeyLine spool first key rest p ns ns′ out out′ d → LineOut K spool first st′ ns′ out′ d
   texts-key key rest form fit-place fit line =
-      acted (texts s h fs n o) _ _ _ (knownOf s) (digits 0 0) st′ (textTable (isLayer h) 4 12) (marks o) (bytesAt spool key) (restIn spool rest)
+      acted (texts s h fs n o) _ _ _ (knownOf s) (digits 0 0) st′ (textTable (isLayer h) 4 12) (rowsThere o) (bytesAt spool key) (restIn spool rest)
       (table-keys (isLayer h) 4 12 .14) (subst FormFits form fit) (ap (onTexts s h fs n o) (sym form) ∙ q)
       enters (λ j r v f w u x g m. never m)
     where
       enters : (j : ℕ) (r : Rule) (v : Value) → find (bytesAt spool key) (textTable (isLayer h) 4 12) ≡ found j r → Row (textTable (isLayer h) 4 12) j r → Reads (knownOf s) r (restIn spool rest) v
-          → opensBlock (r .holds) v ≡ false → getD (marks o) j false ≡ false → got (texts s h fs n (set o j (some v))) ≡ got st′ → LineOut K spool first st′ ns′ out′ d
+          → opensBlock (r .holds) v ≡ false → getD (rowsThere o) j false ≡ false → got (texts s h fs n (set o j (some v))) ≡ got st′ → LineOut K spool first st′ ns′ out′ d
       enters j r v f w u x g m =
           let b10 = z .here .0 in
           let b = isLayer h in
@@ -123,7 +124,7 @@ module _ (K : Known) (spool : List ℕ) (first : Bool) (p : Pen) (ns out : List 
 
   pub texts-close : l .form ≡ close → CloseDone spool first p ns out out′ d → ns′ ≡ ns → LineOut K spool first st′ ns′ out′ d
   texts-close form done notes =
-      shut-did (texts s h fs n o) _ _ _ (complete (digits 0 0) (textTable (isLayer h) 4 12) (marks o)) st′ (ap (onTexts s h fs n o) (sym form) ∙ q) shuts
+      shut-did (texts s h fs n o) _ _ _ (complete (digits 0 0) (textTable (isLayer h) 4 12) (rowsThere o)) st′ (ap (onTexts s h fs n o) (sym form) ∙ q) shuts
     where
       shuts : got (figures s h (fs ++ lettering n o ∷ [])) ≡ got st′ → LineOut K spool first st′ ns′ out′ d
       shuts m =

@@ -14,12 +14,13 @@ use Rattle.rules.specs.RefusalNumbers.{Got, got, bad, unless}
 use Rattle.rules.specs.Lines.{close, eof, keyed, bytesAt}
 use Rattle.rules.specs.RangeClass.{digits}
 use Rattle.rules.specs.Values.{Value, Known}
-use Rattle.rules.specs.Rows.{Rule, found, find, blank, Held, fullAt}
+use Rattle.rules.specs.Rows.{Rule, found, find, blank, Held, rowsAtLimit}
 use Rattle.rules.specs.Blocks.{topTable, fileTables, drawingTable, blankHeld}
 use Rattle.rules.specs.Figures.{layerTable}
 use Rattle.rules.specs.Sets.{Drawing, Symbol, LayerBlock, Set, withRecords, isFirst, isSingle, knownOf}
 use Rattle.rules.specs.VolumesAndTotals.{countedAll, layersUsed}
-use Rattle.rules.specs.Machine.{Line, Env, State, top, file, drawing, defines, elements, ended, roomFor, taking, openTop, onTop, stepIn}
+use Rattle.rules.specs.Machine.{Line, Env, State, top, file, drawing, defines, elements, ended, roomFor, taking, openTop, onTop}
+use Rattle.rules.specs.LineByLine.{stepIn}
 use Rattle.rules.specs.Answers.{fullClass}
 use Rattle.rules.specs.FixedForm.{Text, openLine, lineOf, showSymbols, showBlocks}
 use Rattle.rules.proofs.Chains.{and-left, never, unless-got}
@@ -136,7 +137,7 @@ module _ (K : Known) (spool : List ℕ) (first : Bool) (p : Pen) (ns out : List 
       → KeyLine spool first key rest p ns ns′ out out′ d → LineOut K spool first st′ ns′ out′ d
   top-key key rest f placed fits line =
       acted {P = LineOut K spool first st′ ns′ out′ d} (top s k) (λ j v. bad 5) (λ i j v. unless (eqb j k) 9 (openTop e l s j)) (λ _. bad 9) (knownOf s) (digits 0 0) st′
-      topTable (fullAt 0 topTable) (bytesAt spool key) (restIn spool rest) (table-keys true 0 0 .0) (subst FormFits f fits) (ap (onTop e l s k) (sym f) ∙ q)
+      topTable (rowsAtLimit 0 topTable) (bytesAt spool key) (restIn spool rest) (table-keys true 0 0 .0) (subst FormFits f fits) (ap (onTop e l s k) (sym f) ∙ q)
       (λ j r v at w reads o full en. never en)
       (λ j r v at w reads o full op.
       let (same, opens) = unless-got (eqb j k) 9 (openTop e l s j) st′ op in

@@ -1,13 +1,11 @@
 -- A volume's end: the byte 1A behind what is shown, or no room.
-use Prim.Native.Nat.{ℕ, zero, suc, _+_, _-_, _≤_, _<_}
-use mathlib.Core.Bool.{Bool, true, false, cond}
-use mathlib.Core.List.{List, [], _∷_, _++_, append-assoc}
-use mathlib.Core.Path.{_≡_, refl, sym, _∙_, ap, subst}
+use Prim.Native.Nat.{ℕ, zero, suc, _+_, _≤_, _<_}
+use mathlib.Core.Bool.{Bool, false}
+use mathlib.Core.List.{List, [], _∷_, _++_}
+use mathlib.Core.Path.{_≡_, sym, _∙_, ap, subst}
 use native.Mathlib.Omega.{arith}
 use borrow.Author.Tests.{le-leb, lt-leb}
-use lib.Dec.{leb}
 use lib.ListN.{length, take, drop, length-append}
-use lib.Seq.{take-at}
 use Rattle.rules.specs.Spool.{unlines}
 use Rattle.rules.specs.RefusalNumbers.{got}
 use Rattle.rules.specs.Values.{Known}
@@ -17,14 +15,14 @@ use Rattle.leaves.specs.declared.Wrote.{Wrote}
 use Rattle.leaves.specs.declared.Wrote.the-variants as W
 use Rattle.leaves.specs.Writing.{Puts}
 use Rattle.pens.specs.declared.Pen.{Pen}
-use Rattle.pens.specs.Texts.{lineBytes, laid}
+use Rattle.pens.specs.Texts.{lineBytes}
 use Rattle.pens.specs.Shown.{shown}
 use Rattle.pens.specs.Standing.{Here, Pens}
 use Rattle.pens.specs.Volumes.{Fronts, through, ServedAfter, BodyOut, BodyPromise}
 use Rattle.pens.proofs.Laying.{bytes-unlines, front-of}
 use Rattle.pens.proofs.Behind.{full-not, printed, unprinted}
-use Rattle.pens.proofs.LentOutput.{puts-prints, lent, back, lent-long, back-is, lent-laid}
-use Rattle.pens.proofs.VolumeWalk.{Reading, Left, Walk}
+use Rattle.pens.proofs.LentOutput.{puts-prints, lent, back, lent-long, lent-laid}
+use Rattle.pens.proofs.VolumeWalk.{Reading, Walk}
 
 pub fronts-fit : (x before after : List ℕ) (n : ℕ) → n ≡ length x → n ≤ length before → take n after ≡ x → Fronts x before after (W.Bytes n)
 fronts-fit x before after n e h m = record {

@@ -1,27 +1,25 @@
 -- The reading of an accepted set, volume by volume: where each volume ends, and what the volumes behind it leave as it was.
-use Prim.Native.Nat.{ℕ, zero, suc, _+_, _≤_, _<_}
-use mathlib.Core.Bool.{Bool, true, false, cond, _&&_, _||_, not}
-use mathlib.Core.List.{List, [], _∷_, _++_, append-assoc, append-nil}
+use Prim.Native.Nat.{ℕ, suc, _+_}
+use mathlib.Core.Bool.{Bool, true, false, cond, _&&_, _||_}
+use mathlib.Core.List.{List, [], _∷_, _++_, append-assoc}
 use mathlib.Core.Option.{Option, none, some}
 use mathlib.Core.Path.{_≡_, refl, sym, _∙_, ap, subst}
 use native.Mathlib.Omega.{arith}
 use borrow.Author.Tests.{eqb-true}
 use lib.Dec.{eqb}
-use lib.ListN.{length, length-append}
+use lib.ListN.{length}
 use Rattle.rules.specs.Base.{isNil}
 use Rattle.rules.specs.Spool.{Volume, linesOf}
 use Rattle.rules.specs.RefusalNumbers.{Got, got, bad, mapG, andThen, also}
 use Rattle.rules.specs.Lines.{Form, ignored, wrong, close, eof, keyed, formOf}
-use Rattle.rules.specs.Rows.{shut, refuse, complete}
-use Rattle.rules.specs.RangeClass.{digits}
-use Rattle.rules.specs.Rows.{fullAt}
 use Rattle.rules.specs.Blocks.{elementTable}
 use Rattle.rules.specs.Values.{Known}
-use Rattle.rules.specs.Sets.{Contents, Set, withVolume, isFirst}
+use Rattle.rules.specs.Sets.{Contents, Set, isFirst}
 use Rattle.rules.specs.VolumesAndTotals.{countedHere, countedAll, layersUsed}
-use Rattle.rules.specs.Machine.{Line, Env, State, top, file, drawing, layerNames, defines, symbol, hide, elements, figures, successive, texts, placing, skipping, ended, onTop, onElements, stepIn, isIgnored, isClose, isEof, completes, nextVolume, step, Outcome, refused, accepted, thenRun, finish, run}
-use Rattle.rules.specs.Answers.{numbered, linesOfVolume, nextName, Listed, listed, noLines, ontoLines, listVolume, listVolumes}
-use Rattle.rules.proofs.Chains.{On, on-unless, on-cond, on-got, and-left, and-right, cond-same, clash, never, then-got, map-got, also-got, or-left, nil-snoc}
+use Rattle.rules.specs.Machine.{Line, Env, State, top, file, drawing, layerNames, defines, symbol, hide, elements, figures, successive, texts, placing, skipping, ended, onTop, onElements}
+use Rattle.rules.specs.LineByLine.{stepIn, isIgnored, isClose, isEof, completes, nextVolume, step, Outcome, accepted, thenRun, run}
+use Rattle.rules.specs.Answers.{numbered, linesOfVolume, nextName, Listed, listed, noLines, listVolume, listVolumes}
+use Rattle.rules.proofs.Chains.{On, on-unless, on-got, cond-same, clash, never, map-got, also-got, or-left, nil-snoc}
 use Rattle.rules.proofs.Runs.{not-accepted, finish-ended}
 use Rattle.pens.specs.Volumes.{through}
 use Rattle.pens.proofs.VolumeSound.{Sound, Same, Closed}

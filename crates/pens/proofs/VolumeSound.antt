@@ -1,29 +1,23 @@
 -- What the lines of a volume leave as it was, and that what is shown of it only grows.
-use Prim.Native.Nat.{ℕ, zero, suc, _+_, _≤_, _<_}
-use mathlib.Core.Bool.{Bool, true, false, cond, _&&_, _||_, not}
-use mathlib.Core.List.{List, [], _∷_, _++_, append-nil}
-use mathlib.Core.Option.{Option, none, some}
+use Prim.Native.Nat.{ℕ, zero, suc, _+_, _≤_}
+use mathlib.Core.Bool.{Bool, true, false, cond, _||_, not}
+use mathlib.Core.List.{List, [], _∷_, _++_}
+use mathlib.Core.Option.{none, some}
 use mathlib.Core.Path.{_≡_, refl, sym, _∙_, ap, subst}
 use native.Mathlib.Omega.{arith}
 use native.Mathlib.Nat.{le-refl}
-use lib.ListN.{length, getD, set, length-append, length-set}
-use lib.Seq.{getD-set-same}
-use borrow.Author.Tests.{eqb-true, not-true}
-use lib.Dec.{eqb, leb}
-use Rattle.rules.specs.Base.{bytes, isNil, isSome, isNone, hasNumber}
-use Rattle.rules.specs.RefusalNumbers.{Got, got, bad, unless, andThen}
-use Rattle.rules.specs.Lines.{Rest, Form, ignored, wrong, close, eof, keyed, freeShapeOf}
-use Rattle.rules.specs.RangeClass.{digits, digitsOf}
-use Rattle.rules.specs.Values.{Value, Known, numsOf, charsOf, amountAt, isLayerId}
-use Rattle.rules.specs.Rows.{Rule, Slots, blank, Held, marks, fullAt, act, partOf, enter, begin, innerOf}
-use Rattle.rules.specs.Blocks.{topTable, fileTables, drawingTable, symbolTable, definesTable, elementTable, blankHeld}
-use Rattle.rules.specs.Figures.{layerTable, figureTable, pointTable, textTable, leastPoints}
-use Rattle.rules.specs.Sets.{Point, Figure, plain, chain, lettering, placed, Layer, Drawing, Symbol, LayerBlock, Contents, Set, withNow, withDrawing, withSymbol, withVolume, withRecords, withBlock, withLayer, withOwn, symbolOwn, symbolFigures, symbolHidden, symbolOrder, isFirst, isSingle, knownOf, arcOf, defineRange}
+use lib.ListN.{length, getD, set, length-append}
+use lib.Dec.{eqb}
+use Rattle.rules.specs.Base.{bytes, isNil, isSome}
+use Rattle.rules.specs.Values.{Value, Known, charsOf}
+use Rattle.rules.specs.Rows.{Rule, Slots}
+use Rattle.rules.specs.Figures.{layerTable, figureTable}
+use Rattle.rules.specs.Sets.{Point, Figure, chain, Layer, Drawing, Symbol, LayerBlock, Contents, Set, withNow, withDrawing, withSymbol, withVolume, withRecords, withBlock, withLayer, withOwn, symbolOwn, symbolFigures, symbolHidden, symbolOrder, isSingle, knownOf}
 use Rattle.rules.specs.FixedForm.{Text, openLine, block, showDrawing, showLayers, showPoints, showFigure, showFigures, showSymbol, showSymbols, showDefines, showBlocks}
-use Rattle.rules.specs.Machine.{Line, Env, Home, inElement, inLayer, State, top, file, drawing, layerNames, defines, symbol, hide, elements, figures, successive, texts, placing, skipping, ended, isLayer}
+use Rattle.rules.specs.Machine.{Home, inElement, inLayer, State, top, file, drawing, layerNames, defines, symbol, hide, elements, figures, successive, texts, placing, skipping, ended, isLayer}
 use Rattle.rules.proofs.Chains.{clash}
 use Rattle.pens.specs.Texts.{lineBytes}
-use Rattle.pens.specs.Shown.{fileText, drawingText, definesText, frontText, elementText, topText, drawingBegun, namesText, definesBegun, symbolBegun, shownPart, hiddenPart, partsText, elementsBegun, homeKnown, homeRows, homeText, figuresText, shown}
+use Rattle.pens.specs.Shown.{fileText, drawingText, definesText, frontText, elementText, topText, drawingBegun, namesText, definesBegun, symbolBegun, shownPart, hiddenPart, partsText, elementsBegun, homeKnown, homeRows, figuresText, shown}
 use Rattle.pens.proofs.Laying.{bytes-append}
 use Rattle.pens.proofs.ShownLaws.{block-parts, layers-more, layers-last, points-more, points-last, figures-more, symbols-last, defines-more, blocks-more, blocks-last, blocks-one}
 use Rattle.pens.proofs.DrawingLaws.{rowsText, drawing-text}

@@ -1,8 +1,8 @@
 -- One line of a volume, in any state: what it leaves as it was, and that no less is shown.
-use Prim.Native.Nat.{ℕ, zero, suc, _+_, _≤_, _<_}
+use Prim.Native.Nat.{ℕ, zero, suc, _≤_, _<_}
 use mathlib.Core.Bool.{Bool, true, false, cond, _&&_, _||_, not}
-use mathlib.Core.List.{List, [], _∷_, _++_, map}
-use mathlib.Core.Option.{Option, none, some}
+use mathlib.Core.List.{List, [], _∷_, map}
+use mathlib.Core.Option.{none, some}
 use mathlib.Core.Path.{_≡_, refl, sym, _∙_, ap, subst}
 use native.Mathlib.Omega.{arith}
 use native.Mathlib.Nat.{le-refl}
@@ -11,23 +11,25 @@ use lib.Dec.{eqb, leb, ltb}
 use lib.ListN.{length, getD, set, length-set}
 use lib.Seq.{getD-set-same}
 use Rattle.rules.specs.Base.{isNil, isSome, isNone, among, hasNumber}
-use Rattle.rules.specs.RefusalNumbers.{Got, got, bad, unless, andThen}
+use Rattle.rules.specs.RefusalNumbers.{got, bad, unless}
 use Rattle.rules.specs.Lines.{Rest, Form, ignored, wrong, close, eof, keyed, freeShapeOf}
 use Rattle.rules.specs.RangeClass.{digits, digitsOf, exceeds, both, skipOf, mostDepth, reaches}
 use Rattle.rules.specs.Values.{Value, Known, numsOf, amountAt, isLayerId}
-use Rattle.rules.specs.Rows.{Rule, Found, absent, found, find, Slots, blank, Held, marks, fullAt, Act, begin, act, actRow, actUnknown, partOf, enter, innerOf}
-use Rattle.rules.specs.Blocks.{topTable, fileTables, drawingTable, mostLayers, symbolTable, definesTable, elementTable, blankHeld}
+use Rattle.rules.specs.Rows.{Rule, Found, absent, found, find, Slots, blank, Held, rowsThere, rowsAtLimit, Act, begin, act, actRow, actUnknown, partOf, enter, innerOf}
+use Rattle.rules.specs.Blocks.{topTable, fileTables, drawingTable, mostLayers, symbolTable, definesTable, elementTable}
 use Rattle.rules.specs.Figures.{pointTable, textTable, leastPoints, placedTable, placedTables}
-use Rattle.rules.specs.Sets.{Point, Figure, plain, chain, lettering, placed, Layer, Drawing, Symbol, Set, withNow, withDrawing, withSymbol, withVolume, withRecords, withBlock, withLayer, withOwn, symbolOwn, symbolFigures, symbolHidden, symbolOrder, isFirst, knownOf, arcOf, defineRange, rangeOf, usedIn}
+use Rattle.rules.specs.Sets.{Point, Figure, plain, lettering, placed, Drawing, Symbol, Set, withNow, withRecords, symbolOwn, isFirst, knownOf, arcOf, defineRange, rangeOf, usedIn}
 use Rattle.rules.specs.VolumesAndTotals.{chained, dated, countedHere, countedAll, layersUsed}
-use Rattle.rules.specs.Machine.{Line, Env, Home, inElement, inLayer, State, top, file, drawing, layerNames, defines, symbol, hide, elements, figures, successive, texts, placing, skipping, ended, roomFor, openTop, atEof, onTop, closeFile, onFile, onDrawing, layerValue, layerLine, onLayerNames, onDefines, newName, openSymbol, onSymbol, pointAt, onHide, onElements, isLayer, homeTable, closeFigures, openPlaced, openFigure, onFigures, onSuccessive, onTexts, onUnknown, newSerial, onPlaced, onPlacedKey, onPlacedOwn, onPlacing, skipShut, onSkipping, stepIn}
+use Rattle.rules.specs.Machine.{Line, Env, Home, inElement, inLayer, State, top, file, drawing, layerNames, defines, symbol, hide, elements, figures, successive, texts, placing, skipping, ended, openTop, onTop, closeFile, onFile, onDrawing, layerValue, onLayerNames, onDefines, newName, openSymbol, onSymbol, pointAt, onHide, onElements, isLayer, homeTable, closeFigures, openFigure, onFigures, onSuccessive, onTexts}
+use Rattle.rules.specs.PlacedSymbol.{onUnknown, newSerial, onPlaced, onPlacedKey, onPlacedOwn, onPlacing, skipShut, onSkipping}
+use Rattle.rules.specs.LineByLine.{stepIn}
 use Rattle.rules.proofs.Chains.{On, on-unless, on-cond, on-then, on-got, and-left, clash, then-got}
 use Rattle.rules.proofs.Rows.{Row, row-below}
 use Rattle.promises.proofs.CountActs.{on-byAct, on-taking, on-shut, on-skip, act-begin}
 use Rattle.pens.specs.Volumes.{through}
 use Rattle.pens.proofs.FrontSteps.{unread}
 use Rattle.pens.proofs.Openings.{opensKind, act-opens, row-test}
-use Rattle.pens.proofs.VolumeSound.{HomeSound, Sound, Same, same-records, same-now, same-drawing, same-symbol, same-closed, weight, front-grows, drawing-opens, drawing-row, names-open, names-more, names-shut, drawing-shut, defines-open, defines-non, symbol-opens, defines-shut, symbol-row, element-opens, hide-opens, hide-more, hide-shut, symbol-shut, figure-more, figure-opens, figure-shut, chain-more, chain-shut, element-shut, elements-open, layer-opens, layer-shut, elements-shut, eof-grows}
+use Rattle.pens.proofs.VolumeSound.{Sound, Same, same-records, same-now, same-drawing, same-symbol, same-closed, weight, front-grows, drawing-opens, drawing-row, names-open, names-more, names-shut, drawing-shut, defines-open, defines-non, symbol-opens, defines-shut, symbol-row, element-opens, hide-opens, hide-more, hide-shut, symbol-shut, figure-more, figure-opens, figure-shut, chain-more, chain-shut, element-shut, elements-open, layer-opens, layer-shut, elements-shut, eof-grows}
 
 -- ── rows by their numbers ──
 names-row : (j : ℕ) → getD (map (λ (r : Rule). opensKind (r .holds)) drawingTable) j false ≡ true → j ≡ 7
@@ -101,11 +103,11 @@ module _ (K : Known) (first : Bool) (s₀ : Set) (start : isFirst s₀ ≡ first
       four : (k : ℕ) → k ≡ 4 → Sound first s₀ (top s k) → Goes (top s k) (ended s)
       four k e z = subst (λ (m : ℕ). Goes (top s m) (ended s)) (sym e) (record { sound = subst (λ (m : ℕ). Sound first s₀ (top s m)) e z; grows = eof-grows K first s })
   top-goes s k (keyed key c) z =
-      on-byAct (Goes (top s k)) (top s k) (λ j v. bad 5) (λ i j v. unless (eqb j k) 9 (openTop e l s j)) (λ _. bad 9) (act (knownOf s) topTable (digits 0 0) (fullAt 0 topTable) (keyed key c))
+      on-byAct (Goes (top s k)) (top s k) (λ j v. bad 5) (λ i j v. unless (eqb j k) 9 (openTop e l s j)) (λ _. bad 9) (act (knownOf s) topTable (digits 0 0) (rowsAtLimit 0 topTable) (keyed key c))
       (stays (top s k) z) (λ j v. tt)
       (λ i j v a.
       on-unless (Goes (top s k)) (eqb j k) 9 (openTop e l s j) λ q.
-      let w = act-begin (knownOf s) topTable (digits 0 0) (fullAt 0 topTable) (keyed key c) a in
+      let w = act-begin (knownOf s) topTable (digits 0 0) (rowsAtLimit 0 topTable) (keyed key c) a in
       subst (λ (m : ℕ). On (Goes (top s m)) (openTop e l s j)) (eqb-true j k q)
       (top-opens s j (top-rows (w .row)) (subst (λ (m : ℕ). Sound first s₀ (top s m)) (sym (eqb-true j k q)) z)))
       tt
@@ -124,7 +126,7 @@ module _ (K : Known) (first : Bool) (s₀ : Set) (start : isFirst s₀ ≡ first
 
   file-goes : (s : Set) (n : ℕ) (h : Held) (p : ℕ) (f : Form) → Same first s₀ s → On (Goes (file s n h p)) (onFile l s n h p f)
   file-goes s n h p f z =
-      on-byAct (Goes (file s n h p)) (file s n h p) _ _ _ (act (knownOf s) (getD (fileTables (isFirst s)) p []) (digits 0 0) (marks (partOf h p)) f)
+      on-byAct (Goes (file s n h p)) (file s n h p) _ _ _ (act (knownOf s) (getD (fileTables (isFirst s)) p []) (digits 0 0) (rowsThere (partOf h p)) f)
       (same h p) (λ j v. same (enter h p j v) p) (λ i j v a. same (enter h p j v) i)
       (on-shut (Goes (file s n h p)) p (closeFile l s n h) (λ q. file s n h q) (file-shut s n h p z) (λ q. same h q))
     where
@@ -134,11 +136,11 @@ module _ (K : Known) (first : Bool) (s₀ : Set) (start : isFirst s₀ ≡ first
   -- ── DRAWING_FORMAT ──
   drawing-goes : (s : Set) (d : Drawing) (f : Form) → Sound first s₀ (drawing s d) → On (Goes (drawing s d)) (onDrawing s d f)
   drawing-goes s d f z =
-      on-byAct (Goes (drawing s d)) (drawing s d) _ _ _ (act (knownOf s) drawingTable (digitsOf (arcOf s)) (marks (d .own)) f)
+      on-byAct (Goes (drawing s d)) (drawing s d) _ _ _ (act (knownOf s) drawingTable (digitsOf (arcOf s)) (rowsThere (d .own)) f)
       (stays (drawing s d) z)
       (λ j v. record { sound = (z .0, z .1, length-set (d .own) j (some v) ∙ z .2); grows = drawing-row K first s d j v })
       (λ i j v a.
-      let w = act-opens (knownOf s) drawingTable (digitsOf (arcOf s)) (marks (d .own)) f a in
+      let w = act-opens (knownOf s) drawingTable (digitsOf (arcOf s)) (rowsThere (d .own)) f a in
       let seven : j ≡ 7 = names-row j (row-test (λ (r : Rule). opensKind (r .holds)) (w .row) (w .opens-block)) in
       record {
         sound = (
@@ -147,7 +149,7 @@ module _ (K : Known) (first : Bool) (s₀ : Set) (start : isFirst s₀ ≡ first
           length-set (d .own) j (some v) ∙ z .2,
           ap (λ (m : ℕ). isSome (getD (set (d .own) m (some v)) 7 none)) seven ∙ ap isSome (getD-set-same (d .own) 7 (some v) none (omega (arith, z .2))),
         );
-        grows = names-open K first s d (set (d .own) j (some v)) (unread (d .own) 7 (ap (λ (m : ℕ). getD (marks (d .own)) m false) (sym seven) ∙ w .free));
+        grows = names-open K first s d (set (d .own) j (some v)) (unread (d .own) 7 (ap (λ (m : ℕ). getD (rowsThere (d .own)) m false) (sym seven) ∙ w .free));
       })
       (record { sound = (same-drawing first s₀ d s (z .1) (z .0), z .1); grows = drawing-shut K first s d (z .2) })
 
@@ -187,11 +189,11 @@ module _ (K : Known) (first : Bool) (s₀ : Set) (start : isFirst s₀ ≡ first
           (record { sound = (same-records first s₀ 1 s (z .0), z .1, blank-symbol); grows = symbol-opens K first s 1 fresh })
 
   -- ── a symbol ──
-  symbol-begins : (s : Set) (y : Symbol) (i j : ℕ) (v : Value) (f : Form) → act (knownOf s) symbolTable (digitsOf (defineRange s)) (marks (y .own)) f ≡ begin i j v → Sound first s₀ (symbol s y)
+  symbol-begins : (s : Set) (y : Symbol) (i j : ℕ) (v : Value) (f : Form) → act (knownOf s) symbolTable (digitsOf (defineRange s)) (rowsThere (y .own)) f ≡ begin i j v → Sound first s₀ (symbol s y)
       → On (Goes (symbol s y)) (openSymbol s (symbolOwn (set (y .own) j (some v)) y) i)
   symbol-begins s y zero j v f a z = tt
   symbol-begins s y (suc zero) j v f a z =
-      let w = act-begin (knownOf s) symbolTable (digitsOf (defineRange s)) (marks (y .own)) f a in
+      let w = act-begin (knownOf s) symbolTable (digitsOf (defineRange s)) (rowsThere (y .own)) f a in
       let is : j ≡ 1 = element-row j (row-test (λ (r : Rule). eqb (innerOf (r .holds)) 1) (w .row) (eq-eqb (innerOf (w .rule .holds)) 1 (w .inner))) in
       record {
         sound = (
@@ -202,10 +204,10 @@ module _ (K : Known) (first : Bool) (s₀ : Set) (start : isFirst s₀ ≡ first
             ap (λ (m : ℕ). isSome (getD (set (y .own) m (some v)) 1 none)) is ∙ ap isSome (getD-set-same (y .own) 1 (some v) none (omega (arith, z .2))),
           ),
         );
-        grows = element-opens K first s y j v (unread (y .own) 1 (ap (λ (m : ℕ). getD (marks (y .own)) m false) (sym is) ∙ w .free));
+        grows = element-opens K first s y j v (unread (y .own) 1 (ap (λ (m : ℕ). getD (rowsThere (y .own)) m false) (sym is) ∙ w .free));
       }
   symbol-begins s y (suc (suc i)) j v f a z =
-      let w = act-begin (knownOf s) symbolTable (digitsOf (defineRange s)) (marks (y .own)) f a in
+      let w = act-begin (knownOf s) symbolTable (digitsOf (defineRange s)) (rowsThere (y .own)) f a in
       let is : j ≡ 2 = hide-row j (row-test (λ (r : Rule). leb 2 (innerOf (r .holds))) (w .row) (le-leb 2 (innerOf (w .rule .holds)) (omega (arith, w .inner)))) in
       record {
         sound = (
@@ -215,12 +217,12 @@ module _ (K : Known) (first : Bool) (s₀ : Set) (start : isFirst s₀ ≡ first
           ap (λ (m : ℕ). isSome (getD (set (y .own) m (some v)) 2 none)) is ∙ ap isSome (getD-set-same (y .own) 2 (some v) none (omega (arith, z .2))),
         );
         grows =
-            hide-opens K first s y j v (isNone (getD (set (y .own) j (some v)) 1 none)) (unread (y .own) 2 (ap (λ (m : ℕ). getD (marks (y .own)) m false) (sym is) ∙ w .free));
+            hide-opens K first s y j v (isNone (getD (set (y .own) j (some v)) 1 none)) (unread (y .own) 2 (ap (λ (m : ℕ). getD (rowsThere (y .own)) m false) (sym is) ∙ w .free));
       }
 
   symbol-goes : (s : Set) (y : Symbol) (f : Form) → Sound first s₀ (symbol s y) → On (Goes (symbol s y)) (onSymbol s y f)
   symbol-goes s y f z =
-      on-byAct (Goes (symbol s y)) (symbol s y) _ _ _ (act (knownOf s) symbolTable (digitsOf (defineRange s)) (marks (y .own)) f)
+      on-byAct (Goes (symbol s y)) (symbol s y) _ _ _ (act (knownOf s) symbolTable (digitsOf (defineRange s)) (rowsThere (y .own)) f)
       (stays (symbol s y) z)
       (λ j v. on-unless (Goes (symbol s y)) (newName s (symbolOwn (set (y .own) j (some v)) y)) 15 _ λ _.
       record { sound = (z .0, z .1, length-set (y .own) j (some v) ∙ z .2); grows = symbol-row K first s y j v })
@@ -229,7 +231,7 @@ module _ (K : Known) (first : Bool) (s₀ : Set) (start : isFirst s₀ ≡ first
 
   hide-goes : (s : Set) (y : Symbol) (ps : List Point) (f : Form) → Sound first s₀ (hide s y ps) → On (Goes (hide s y ps)) (onHide e l s y ps f)
   hide-goes s y ps f z =
-      on-byAct (Goes (hide s y ps)) (hide s y ps) _ _ _ (act (knownOf s) (pointTable false) (digits 0 0) (fullAt (length ps) (pointTable false)) f)
+      on-byAct (Goes (hide s y ps)) (hide s y ps) _ _ _ (act (knownOf s) (pointTable false) (digits 0 0) (rowsAtLimit (length ps) (pointTable false)) f)
       (stays (hide s y ps) z)
       (λ j v. on-taking (Goes (hide s y ps)) e 1 s _ λ _. record { sound = (same-records first s₀ 1 s (z .0), z .1, z .2, z .3); grows = hide-more K first s y ps 1 (pointAt l v) })
       (λ i j v a. tt)
@@ -238,7 +240,7 @@ module _ (K : Known) (first : Bool) (s₀ : Set) (start : isFirst s₀ ≡ first
   -- ── ELEMENT ──
   elements-go : (s : Set) (f : Form) → Same first s₀ s → On (Goes (elements s)) (onElements s f)
   elements-go s f z =
-      on-byAct (Goes (elements s)) (elements s) _ _ _ (act (knownOf s) elementTable (digits 0 0) (fullAt 0 elementTable) f)
+      on-byAct (Goes (elements s)) (elements s) _ _ _ (act (knownOf s) elementTable (digits 0 0) (rowsAtLimit 0 elementTable) f)
       (stays (elements s) z) (λ j v. tt)
       (λ i j v a. on-unless (Goes (elements s)) (not (hasNumber (amountAt v 0) (usedIn (s .now)))) 14 _ λ _. record { sound = (z, tt); grows = layer-opens K first s (amountAt v 0) })
       (on-unless (Goes (elements s)) (countedHere s) 17 _ λ _. record { sound = same-closed first s₀ s z; grows = elements-shut K first s })
@@ -259,7 +261,7 @@ module _ (K : Known) (first : Bool) (s₀ : Set) (start : isFirst s₀ ≡ first
 
   figures-go : (s : Set) (h : Home) (fs : List Figure) (f : Form) → Sound first s₀ (figures s h fs) → On (Goes (figures s h fs)) (onFigures e l s h fs f)
   figures-go s h fs f z =
-      on-byAct (Goes (figures s h fs)) (figures s h fs) _ _ _ (act (knownOf s) (homeTable s h) (rangeOf s) (fullAt 0 (homeTable s h)) f)
+      on-byAct (Goes (figures s h fs)) (figures s h fs) _ _ _ (act (knownOf s) (homeTable s h) (rangeOf s) (rowsAtLimit 0 (homeTable s h)) f)
       (stays (figures s h fs) z)
       (λ j v. on-taking (Goes (figures s h fs)) e 1 s _ λ _. record { sound = (same-records first s₀ 1 s (z .0), z .1); grows = figure-more K first s h fs 1 (plain (l .line) j (numsOf v)) })
       (λ i j v a. figure-begins s h fs i z)
@@ -267,7 +269,7 @@ module _ (K : Known) (first : Bool) (s₀ : Set) (start : isFirst s₀ ≡ first
 
   successive-goes : (s : Set) (h : Home) (fs : List Figure) (n : ℕ) (ps : List Point) (f : Form) → Sound first s₀ (successive s h fs n ps) → On (Goes (successive s h fs n ps)) (onSuccessive e l s h fs n ps f)
   successive-goes s h fs n ps f z =
-      on-byAct (Goes (successive s h fs n ps)) (successive s h fs n ps) _ _ _ (act (knownOf s) (pointTable (isLayer h)) (digits 0 0) (fullAt (length ps) (pointTable (isLayer h))) f)
+      on-byAct (Goes (successive s h fs n ps)) (successive s h fs n ps) _ _ _ (act (knownOf s) (pointTable (isLayer h)) (digits 0 0) (rowsAtLimit (length ps) (pointTable (isLayer h))) f)
       (stays (successive s h fs n ps) z)
       (λ j v. on-taking (Goes (successive s h fs n ps)) e 1 s _ λ _. record { sound = (same-records first s₀ 1 s (z .0), z .1); grows = chain-more K first s h fs n ps 1 (pointAt l v) })
       (λ i j v a. tt)
@@ -275,7 +277,7 @@ module _ (K : Known) (first : Bool) (s₀ : Set) (start : isFirst s₀ ≡ first
 
   texts-go : (s : Set) (h : Home) (fs : List Figure) (n : ℕ) (o : Slots) (f : Form) → Sound first s₀ (texts s h fs n o) → On (Goes (texts s h fs n o)) (onTexts s h fs n o f)
   texts-go s h fs n o f z =
-      on-byAct (Goes (texts s h fs n o)) (texts s h fs n o) _ _ _ (act (knownOf s) (textTable (isLayer h) 4 12) (digits 0 0) (marks o) f)
+      on-byAct (Goes (texts s h fs n o)) (texts s h fs n o) _ _ _ (act (knownOf s) (textTable (isLayer h) 4 12) (digits 0 0) (rowsThere o) f)
       (stays (texts s h fs n o) z)
       (λ j v. record { sound = z; grows = le-refl (weight K first (texts s h fs n o)) })
       (λ i j v a. tt)
@@ -308,18 +310,18 @@ module _ (K : Known) (first : Bool) (s₀ : Set) (start : isFirst s₀ ≡ first
     key-goes : (k : List ℕ) (c : Rest) (g : Found) → On (Goes (placing s m fs n o 0)) (onPlacedKey e s m fs n o k c g)
     key-goes k c absent = unknown-goes k c
     key-goes k c (found j r) =
-        on-cond (Goes (placing s m fs n o 0)) (reaches (e .class) (r .least)) _ _ (λ _. placed-goes 0 (actRow (knownOf s) (rangeOf s) (getD (marks (partOf o 0)) j false) j r c)) (λ _. unknown-goes k c)
+        on-cond (Goes (placing s m fs n o 0)) (reaches (e .class) (r .least)) _ _ (λ _. placed-goes 0 (actRow (knownOf s) (rangeOf s) (getD (rowsThere (partOf o 0)) j false) j r c)) (λ _. unknown-goes k c)
 
     own-goes : (f : Form) → On (Goes (placing s m fs n o 0)) (onPlacedOwn e s m fs n o f)
     own-goes ignored = inside 0 o 0
     own-goes (wrong k) = tt
-    own-goes close = placed-goes 0 (act (knownOf s) placedTable (both (e .class) (rangeOf s)) (marks (partOf o 0)) close)
+    own-goes close = placed-goes 0 (act (knownOf s) placedTable (both (e .class) (rangeOf s)) (rowsThere (partOf o 0)) close)
     own-goes eof = tt
     own-goes (keyed k c) = key-goes k c (find k placedTable)
 
     placing-goes : (p : ℕ) (f : Form) → On (Goes (placing s m fs n o p)) (onPlacing e s m fs n o p f)
     placing-goes zero f = own-goes f
-    placing-goes (suc p) f = placed-goes (suc p) (act (knownOf s) (getD placedTables (suc p) []) (digits 0 0) (marks (partOf o (suc p))) f)
+    placing-goes (suc p) f = placed-goes (suc p) (act (knownOf s) (getD placedTables (suc p) []) (digits 0 0) (rowsThere (partOf o (suc p))) f)
 
     skip-same : (d : ℕ) (st : State) → Sound first s₀ st → weight K first (skipping s m fs n o d) ≡ weight K first st → Goes (skipping s m fs n o d) st
     skip-same d st x q = record { sound = x; grows = omega (arith, q) }

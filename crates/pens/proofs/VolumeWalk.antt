@@ -1,29 +1,29 @@
 -- A volume's lines walked through: how far the writing has come, and what one more line makes of it.
-use Prim.Native.Nat.{ℕ, zero, suc, _+_, _-_, _≤_, _<_}
+use Prim.Native.Nat.{ℕ, suc, _+_, _-_, _≤_, _<_}
 use mathlib.Core.Bool.{Bool, true, false, cond, not}
-use mathlib.Core.List.{List, [], _∷_, _++_}
-use mathlib.Core.Option.{none, some}
+use mathlib.Core.List.{List, [], _∷_}
+use mathlib.Core.Option.{none}
 use mathlib.Core.Path.{_≡_, refl, sym, _∙_, ap, subst}
 use native.Mathlib.Omega.{arith}
 use borrow.Author.Tests.{leb-true}
 use lib.Dec.{leb}
-use lib.ListN.{length, take, drop, length-append, length-drop}
-use lib.Seq.{length-take-le, take-at}
+use lib.ListN.{length, drop, length-drop}
+use lib.Seq.{length-take-le}
 use Rattle.rules.specs.declared.LineForm.{LineForm}
 use Rattle.rules.specs.declared.LineForm.the-variants as L
 use Rattle.rules.specs.Base.{all, isNil}
-use Rattle.rules.specs.Spool.{mostInLine, unlines}
-use Rattle.rules.specs.RefusalNumbers.{Got, got, bad, andThen}
-use Rattle.rules.specs.Lines.{Rest, brace, equals, Form, ignored, wrong, close, eof, keyed, formOf, formIn, bytesAt}
+use Rattle.rules.specs.Spool.{mostInLine}
+use Rattle.rules.specs.RefusalNumbers.{got}
+use Rattle.rules.specs.Lines.{brace, equals, Form, ignored, wrong, close, eof, keyed, formOf, formIn, bytesAt}
 use Rattle.rules.specs.Values.{Known}
 use Rattle.rules.specs.Sets.{Set}
-use Rattle.rules.specs.Machine.{Line, Env, State, top, file, drawing, layerNames, defines, symbol, hide, elements, figures, successive, texts, placing, skipping, ended, stepIn}
+use Rattle.rules.specs.Machine.{Line, Env, State, top, drawing}
+use Rattle.rules.specs.LineByLine.{stepIn}
 use Rattle.rules.specs.Answers.{numbered, fullClass}
 use Rattle.rules.proofs.Chains.{and-left, and-right, by-cond, clash, then-got}
 use Rattle.promises.proofs.Forms.{Tells, form-tells}
-use Rattle.lines.specs.LineLook.{lookIn, linesIn}
+use Rattle.lines.specs.LineLook.{lookIn}
 use Rattle.lines.specs.declared.Seen.{Seen}
-use Rattle.lines.specs.declared.Look.{Look}
 use Rattle.lines.specs.declared.Look.the-variants as S
 use Rattle.lines.proofs.LinesSeen.{look-line, look-end, look-equals, look-forward}
 use Rattle.pens.specs.declared.Pen.{Pen}

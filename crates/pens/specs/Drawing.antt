@@ -2,14 +2,15 @@
 use Prim.Native.Nat.{ℕ, _+_, _≤_, _<_}
 use mathlib.Core.Bool.{Bool, true}
 use mathlib.Core.Path.{_≡_}
-use mathlib.Core.List.{List, _∷_, _++_}
+use mathlib.Core.List.{List}
 use mathlib.Core.Option.{none}
 use lib.ListN.{length}
 use Rattle.rules.specs.declared.LineForm.{LineForm}
 use Rattle.rules.specs.RefusalNumbers.{got}
-use Rattle.rules.specs.Lines.{Rest, brace, equals, Form, ignored, wrong, close, eof, keyed, allowed, formIn}
+use Rattle.rules.specs.Lines.{brace, equals, Form, ignored, wrong, close, eof, keyed, allowed, formIn}
 use Rattle.rules.specs.Values.{Known}
-use Rattle.rules.specs.Machine.{Line, Env, State, stepIn}
+use Rattle.rules.specs.Machine.{Line, Env, State}
+use Rattle.rules.specs.LineByLine.{stepIn}
 use Rattle.rules.specs.Answers.{fullClass}
 use Rattle.pens.specs.declared.Pen.{Pen}
 use Rattle.pens.specs.declared.Drawn.{Drawn}

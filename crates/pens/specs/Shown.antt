@@ -10,8 +10,9 @@ use Rattle.rules.specs.Values.{Known}
 use Rattle.rules.specs.Rows.{Rule, Held}
 use Rattle.rules.specs.Blocks.{fileTables}
 use Rattle.rules.specs.Figures.{layerTable, figureTable}
-use Rattle.rules.specs.Sets.{Point, Figure, Drawing, Symbol, Contents, Set, isSingle, knownOf}
-use Rattle.rules.specs.Machine.{Home, inElement, inLayer, State, top, file, drawing, layerNames, defines, symbol, hide, elements, figures, successive, texts, placing, skipping, ended, isLayer}
+use Rattle.rules.specs.Sets.{Figure, Drawing, Symbol, Set, isSingle, knownOf}
+use Rattle.rules.specs.Machine.{Home, inElement, inLayer, State, top, file, drawing, layerNames, defines, symbol, hide, elements, figures, successive, texts}
+use Rattle.rules.specs.Machine.{placing, skipping, ended, isLayer}
 use Rattle.rules.specs.FixedForm.{Text, openLine, block, showHeld, showLayers, showDrawing, showPoints, showFigures, showSymbols, showDefines, showBlocks}
 
 -- K: what is known where the set is written; the header, the drawing and the symbols name nothing, so it is all one to them

@@ -1,18 +1,19 @@
 -- How the pen, the notes and the output between two lines stand to the state that the definitions are in.
-use Prim.Native.Nat.{ℕ, zero, suc, _+_, _≤_, _<_}
+use Prim.Native.Nat.{ℕ, zero, suc, _≤_, _<_}
 use mathlib.Core.Bool.{Bool, true, false, cond}
 use mathlib.Core.Path.{_≡_}
-use mathlib.Core.List.{List, [], _∷_, _++_}
+use mathlib.Core.List.{List, []}
 use mathlib.Core.Option.{none}
 use lib.ListN.{length, getD, take}
 use Rattle.rules.specs.Base.{isNone, isSome}
 use Rattle.rules.specs.Values.{Known, servedSymbols}
-use Rattle.rules.specs.Rows.{Slots, Held}
+use Rattle.rules.specs.Rows.{Held}
 use Rattle.rules.specs.Blocks.{fileTables, drawingTable, symbolTable}
 use Rattle.rules.specs.Figures.{textTable}
 use Rattle.rules.specs.Sets.{Drawing, Symbol, Set, isFirst, symbolRange, knownOf}
 use Rattle.rules.specs.RecordTable.{ruleAt}
-use Rattle.rules.specs.Machine.{Home, inElement, inLayer, State, top, file, drawing, layerNames, defines, symbol, hide, elements, figures, successive, texts, placing, skipping, ended, isLayer}
+use Rattle.rules.specs.Machine.{Home, inElement, inLayer, State, top, file, drawing, layerNames, defines, symbol, hide, elements, figures, successive, texts}
+use Rattle.rules.specs.Machine.{placing, skipping, ended, isLayer}
 use Rattle.pens.specs.declared.Pen.{Pen}
 use Rattle.pens.specs.Texts.{lineBytes}
 use Rattle.pens.specs.Noting.{Noted, NotedRows, NotedParts}

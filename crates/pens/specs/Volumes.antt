@@ -11,7 +11,9 @@ use Rattle.rules.specs.Spool.{mostBytes, mostInLine, paddedName, unlines, volum
 use Rattle.rules.specs.RefusalNumbers.{Got, got, andThen}
 use Rattle.rules.specs.Values.{Known}
 use Rattle.rules.specs.Sets.{Set, isFirst}
-use Rattle.rules.specs.Machine.{Line, Env, State, top, file, drawing, layerNames, defines, symbol, hide, elements, figures, successive, texts, placing, skipping, ended, stepIn, accepted}
+use Rattle.rules.specs.Machine.{Line, Env, State, top, file, drawing, layerNames, defines, symbol, hide, elements, figures, successive, texts, placing}
+use Rattle.rules.specs.Machine.{skipping, ended}
+use Rattle.rules.specs.LineByLine.{stepIn, accepted}
 use Rattle.rules.specs.Answers.{numbered, fullClass, rewriteOutcome, written}
 use Rattle.leaves.specs.declared.Wrote.{Wrote}
 use Rattle.leaves.specs.declared.Wrote.the-variants as W

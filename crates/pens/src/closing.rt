@@ -7,18 +7,18 @@ use crate::noted::put_rows;
 use crate::places::at_block;
 use crate::places::by_home;
 use crate::swap::exchange;
-use account::CHAIN;
-use account::DEFINES;
-use account::DRAWING;
-use account::ELEMENTS;
-use account::FIGURES;
-use account::FILE;
-use account::HIDE;
-use account::LAYER_NAMES;
-use account::PLACED;
-use account::SYMBOL;
-use account::TEXT;
-use account::TOP;
+use account::BLOCK_CHAIN;
+use account::BLOCK_DEFINES;
+use account::BLOCK_DRAWING;
+use account::BLOCK_ELEMENTS;
+use account::BLOCK_FIGURES;
+use account::BLOCK_FILE;
+use account::BLOCK_HIDE;
+use account::BLOCK_LAYER_NAMES;
+use account::BLOCK_PLACED;
+use account::BLOCK_SYMBOL;
+use account::BLOCK_TEXT;
+use account::BLOCK_TOP;
 use leaves::Wrote;
 use prints::rows::put_plain;
 ghost use mathlib.Core.Path.{_≡_};
@@ -78,7 +78,7 @@ fn close_drawing(s: &[u8], pen: Pen, notes: &[u32], out: &mut [u8]) -> Drawn
         Wrote::Bytes(n) => {
             let to = middle + n;
             exchange(&mut out[from..to], middle - from);
-            shut(at_block(pen, n, DRAWING, 0), TOP, out)
+            shut(at_block(pen, n, BLOCK_DRAWING, 0), BLOCK_TOP, out)
         }
     }
 }
@@ -100,26 +100,26 @@ fn close_symbol(s: &[u8], pen: Pen, notes: &[u32], out: &mut [u8]) -> Drawn
     let Wrote::Bytes(m) = walled else {
         return Drawn::Full;
     };
-    shut(at_block(pen, n + m, SYMBOL, 0), DEFINES, out)
+    shut(at_block(pen, n + m, BLOCK_SYMBOL, 0), BLOCK_DEFINES, out)
 }
 
 // The block around one whose `}` is all that is written.
 fn around_block(pen: Pen) -> u8
     ensures { λ r. ⌜ r ≡ aroundBlock pen ⌝ }
 {
-    if pen.block == FIGURES {
-        return by_home(pen.layered, ELEMENTS, SYMBOL);
+    if pen.block == BLOCK_FIGURES {
+        return by_home(pen.layered, BLOCK_ELEMENTS, BLOCK_SYMBOL);
     }
-    if pen.block == CHAIN {
-        return FIGURES;
+    if pen.block == BLOCK_CHAIN {
+        return BLOCK_FIGURES;
     }
-    if pen.block == LAYER_NAMES {
-        return DRAWING;
+    if pen.block == BLOCK_LAYER_NAMES {
+        return BLOCK_DRAWING;
     }
-    if pen.block == HIDE {
-        return SYMBOL;
+    if pen.block == BLOCK_HIDE {
+        return BLOCK_SYMBOL;
     }
-    TOP
+    BLOCK_TOP
 }
 
 // An inner part of FILE_FORMAT or of a placed symbol closes: nothing is written.
@@ -129,20 +129,20 @@ fn in_part(pen: Pen) -> bool
     if pen.part == 0 {
         return false;
     }
-    if pen.block == FILE {
+    if pen.block == BLOCK_FILE {
         return true;
     }
-    pen.block == PLACED
+    pen.block == BLOCK_PLACED
 }
 
 fn part_closed(pen: Pen) -> Pen
     requires { ⌜ inPart pen ≡ true ⌝ }
     ensures { λ r. ⌜ r ≡ partClosed pen ⌝ }
 {
-    if pen.block == FILE {
-        return at_block(pen, 0, FILE, around(pen.part));
+    if pen.block == BLOCK_FILE {
+        return at_block(pen, 0, BLOCK_FILE, around(pen.part));
     }
-    at_block(pen, 0, PLACED, 0)
+    at_block(pen, 0, BLOCK_PLACED, 0)
 }
 
 pub(crate) fn on_close(s: &[u8], first: bool, pen: Pen, notes: &[u32], out: &mut [u8]) -> Drawn
@@ -152,19 +152,26 @@ pub(crate) fn on_close(s: &[u8], first: bool, pen: Pen, notes: &[u32], out: &mut
     if in_part(pen) {
         return Drawn::Go(part_closed(pen));
     }
-    if pen.block == TEXT {
-        return close_rows(by_home(pen.layered, 16, 17), s, pen, FIGURES, notes, out);
+    if pen.block == BLOCK_TEXT {
+        return close_rows(
+            by_home(pen.layered, 16, 17),
+            s,
+            pen,
+            BLOCK_FIGURES,
+            notes,
+            out,
+        );
     }
-    if pen.block == PLACED {
-        return close_rows(18, s, pen, FIGURES, notes, out);
+    if pen.block == BLOCK_PLACED {
+        return close_rows(18, s, pen, BLOCK_FIGURES, notes, out);
     }
-    if pen.block == FILE {
-        return close_rows(file_table(first, 0), s, pen, TOP, notes, out);
+    if pen.block == BLOCK_FILE {
+        return close_rows(file_table(first, 0), s, pen, BLOCK_TOP, notes, out);
     }
-    if pen.block == DRAWING {
+    if pen.block == BLOCK_DRAWING {
         return close_drawing(s, pen, notes, out);
     }
-    if pen.block == SYMBOL {
+    if pen.block == BLOCK_SYMBOL {
         return close_symbol(s, pen, notes, out);
     }
     shut(pen, around_block(pen), out)

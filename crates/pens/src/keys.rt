@@ -9,18 +9,18 @@ use crate::places::at_block;
 use crate::places::begun;
 use crate::places::by_home;
 use crate::places::forget;
-use account::CHAIN;
-use account::DEFINES;
-use account::DRAWING;
-use account::ELEMENTS;
-use account::FIGURES;
-use account::FILE;
-use account::HIDE;
-use account::LAYER_NAMES;
-use account::PLACED;
-use account::SYMBOL;
-use account::TEXT;
-use account::TOP;
+use account::BLOCK_CHAIN;
+use account::BLOCK_DEFINES;
+use account::BLOCK_DRAWING;
+use account::BLOCK_ELEMENTS;
+use account::BLOCK_FIGURES;
+use account::BLOCK_FILE;
+use account::BLOCK_HIDE;
+use account::BLOCK_LAYER_NAMES;
+use account::BLOCK_PLACED;
+use account::BLOCK_SYMBOL;
+use account::BLOCK_TEXT;
+use account::BLOCK_TOP;
 use entries::Rest;
 use entries::names::part;
 use leaves::Wrote;
@@ -100,34 +100,34 @@ fn placed_table(part: u8) -> u8
 fn table_of(first: bool, pen: Pen, rest: Rest) -> u8
     ensures { λ r. ⌜ r ≡ tableFor first pen (isBrace rest) ⌝ }
 {
-    if pen.block == FIGURES {
+    if pen.block == BLOCK_FIGURES {
         return figure_table(pen.layered, rest);
     }
-    if pen.block == CHAIN {
+    if pen.block == BLOCK_CHAIN {
         return by_home(pen.layered, 14, 15);
     }
-    if pen.block == TEXT {
+    if pen.block == BLOCK_TEXT {
         return by_home(pen.layered, 16, 17);
     }
-    if pen.block == PLACED {
+    if pen.block == BLOCK_PLACED {
         return placed_table(pen.part);
     }
-    if pen.block == TOP {
+    if pen.block == BLOCK_TOP {
         return 0;
     }
-    if pen.block == FILE {
+    if pen.block == BLOCK_FILE {
         return file_table(first, pen.part);
     }
-    if pen.block == DRAWING {
+    if pen.block == BLOCK_DRAWING {
         return 7;
     }
-    if pen.block == DEFINES {
+    if pen.block == BLOCK_DEFINES {
         return 8;
     }
-    if pen.block == SYMBOL {
+    if pen.block == BLOCK_SYMBOL {
         return 9;
     }
-    if pen.block == HIDE {
+    if pen.block == BLOCK_HIDE {
         return 15;
     }
     10
@@ -209,15 +209,15 @@ fn key_top(row: Row, s: &[u8], rest: Rest, pen: Pen, notes: &mut [u32], out: &mu
 {
     forget(notes);
     if row.number == 0 {
-        return put_at_once(0, row, s, rest, pen, FILE, out);
+        return put_at_once(0, row, s, rest, pen, BLOCK_FILE, out);
     }
     if row.number == 1 {
-        return put_begun(0, row, s, rest, pen, DRAWING, out);
+        return put_begun(0, row, s, rest, pen, BLOCK_DRAWING, out);
     }
     if row.number == 2 {
-        return put_at_once(0, row, s, rest, pen, DEFINES, out);
+        return put_at_once(0, row, s, rest, pen, BLOCK_DEFINES, out);
     }
-    put_at_once(0, row, s, rest, pen, ELEMENTS, out)
+    put_at_once(0, row, s, rest, pen, BLOCK_ELEMENTS, out)
 }
 
 fn key_file(
@@ -234,7 +234,7 @@ fn key_file(
 {
     note(table, row, rest, notes);
     if opens(s, row, rest) {
-        return Drawn::Go(at_block(pen, 0, FILE, row.inner));
+        return Drawn::Go(at_block(pen, 0, BLOCK_FILE, row.inner));
     }
     Drawn::Go(pen)
 }
@@ -244,7 +244,7 @@ fn key_drawing(row: Row, s: &[u8], rest: Rest, pen: Pen, notes: &mut [u32], out:
     ensures { λ r. ⌜ Kept (now (out .entry)) (now (out .exit)) r × (length (now (notes .exit)) ≡ length (now (notes .entry))) × RowDone 7 row (now (s .entry)) rest pen (now (notes .entry)) (now (notes .exit)) (now (out .entry)) (now (out .exit)) r ⌝ }
 {
     if row.number == 7 {
-        return put_at_once(7, row, s, rest, pen, LAYER_NAMES, out);
+        return put_at_once(7, row, s, rest, pen, BLOCK_LAYER_NAMES, out);
     }
     note(7, row, rest, notes);
     Drawn::Go(pen)
@@ -256,7 +256,7 @@ fn key_names(key: Span, s: &[u8], rest: Rest, pen: Pen, out: &mut [u8]) -> Drawn
 {
     let from = pen.at;
     match put_named(s, key, rest, &mut out[from..]) {
-        Wrote::Bytes(n) => Drawn::Go(at_block(pen, n, LAYER_NAMES, 0)),
+        Wrote::Bytes(n) => Drawn::Go(at_block(pen, n, BLOCK_LAYER_NAMES, 0)),
         Wrote::Full => Drawn::Full,
     }
 }
@@ -266,10 +266,10 @@ fn key_defines(row: Row, s: &[u8], rest: Rest, pen: Pen, notes: &mut [u32], out:
     ensures { λ r. ⌜ Kept (now (out .entry)) (now (out .exit)) r × (length (now (notes .exit)) ≡ length (now (notes .entry))) × RowDone 8 row (now (s .entry)) rest pen (now (notes .entry)) (now (notes .exit)) (now (out .entry)) (now (out .exit)) r ⌝ }
 {
     if row.number == 0 {
-        return put_at_once(8, row, s, rest, pen, DEFINES, out);
+        return put_at_once(8, row, s, rest, pen, BLOCK_DEFINES, out);
     }
     forget(notes);
-    put_begun(8, row, s, rest, pen, SYMBOL, out)
+    put_begun(8, row, s, rest, pen, BLOCK_SYMBOL, out)
 }
 
 fn key_symbol(row: Row, s: &[u8], rest: Rest, pen: Pen, notes: &mut [u32], out: &mut [u8]) -> Drawn
@@ -280,7 +280,7 @@ fn key_symbol(row: Row, s: &[u8], rest: Rest, pen: Pen, notes: &mut [u32], out: 
         return put_figures(9, row, s, rest, pen, false, out);
     }
     if row.number == 2 {
-        return put_at_once(9, row, s, rest, pen, HIDE, out);
+        return put_at_once(9, row, s, rest, pen, BLOCK_HIDE, out);
     }
     note(9, row, rest, notes);
     Drawn::Go(pen)
@@ -291,15 +291,15 @@ fn figure_block(row: Row) -> u8
     ensures { λ r. ⌜ r ≡ figureBlock (kindOf row) (innerOf (kindOf row)) ⌝ }
 {
     if row.kind != 8 {
-        return FIGURES;
+        return BLOCK_FIGURES;
     }
     if row.inner == 1 {
-        return CHAIN;
+        return BLOCK_CHAIN;
     }
     if row.inner == 2 {
-        return TEXT;
+        return BLOCK_TEXT;
     }
-    PLACED
+    BLOCK_PLACED
 }
 
 // A text or a placed symbol has no notes yet.
@@ -307,11 +307,11 @@ fn forget_for(block: u8, notes: &mut [u32])
     requires { ⌜ length (now notes) ≡ 28 ⌝ }
     ensures { λ _. ⌜ now (notes .exit) ≡ figureNotes block (now (notes .entry)) ⌝ }
 {
-    if block == PLACED {
+    if block == BLOCK_PLACED {
         forget(notes);
         return;
     }
-    if block != TEXT {
+    if block != BLOCK_TEXT {
         return;
     }
     notes[4] = 0;
@@ -349,7 +349,7 @@ fn key_placed(
 {
     note(table, row, rest, notes);
     if row.kind == 8 {
-        return Drawn::Go(at_block(pen, 0, PLACED, 1));
+        return Drawn::Go(at_block(pen, 0, BLOCK_PLACED, 1));
     }
     Drawn::Go(pen)
 }
@@ -367,36 +367,36 @@ fn row_line(
     requires { ⌜ Safe pen (now out) × (length (now notes) ≡ 28) × (table ≡ plainTableOf pen table) ⌝ }
     ensures { λ r. ⌜ Kept (now (out .entry)) (now (out .exit)) r × (length (now (notes .exit)) ≡ length (now (notes .entry))) × RowDone table row (now (s .entry)) rest pen (now (notes .entry)) (now (notes .exit)) (now (out .entry)) (now (out .exit)) r ⌝ }
 {
-    if pen.block == FIGURES {
+    if pen.block == BLOCK_FIGURES {
         return key_figures(table, row, s, rest, pen, notes, out);
     }
-    if pen.block == CHAIN {
-        return put_at_once(table, row, s, rest, pen, CHAIN, out);
+    if pen.block == BLOCK_CHAIN {
+        return put_at_once(table, row, s, rest, pen, BLOCK_CHAIN, out);
     }
-    if pen.block == TEXT {
+    if pen.block == BLOCK_TEXT {
         note(table, row, rest, notes);
         return Drawn::Go(pen);
     }
-    if pen.block == PLACED {
+    if pen.block == BLOCK_PLACED {
         return key_placed(table, row, s, rest, pen, notes, out);
     }
-    if pen.block == TOP {
+    if pen.block == BLOCK_TOP {
         return key_top(row, s, rest, pen, notes, out);
     }
-    if pen.block == FILE {
+    if pen.block == BLOCK_FILE {
         return key_file(table, row, s, rest, pen, notes, out);
     }
-    if pen.block == DRAWING {
+    if pen.block == BLOCK_DRAWING {
         return key_drawing(row, s, rest, pen, notes, out);
     }
-    if pen.block == DEFINES {
+    if pen.block == BLOCK_DEFINES {
         return key_defines(row, s, rest, pen, notes, out);
     }
-    if pen.block == SYMBOL {
+    if pen.block == BLOCK_SYMBOL {
         return key_symbol(row, s, rest, pen, notes, out);
     }
-    if pen.block == HIDE {
-        return put_at_once(table, row, s, rest, pen, HIDE, out);
+    if pen.block == BLOCK_HIDE {
+        return put_at_once(table, row, s, rest, pen, BLOCK_HIDE, out);
     }
     put_figures(table, row, s, rest, pen, true, out)
 }
@@ -413,7 +413,7 @@ pub(crate) fn on_key(
     requires { ⌜ Safe pen (now out) × (length (now notes) ≡ 28) ⌝ }
     ensures { λ r. ⌜ Kept (now (out .entry)) (now (out .exit)) r × (length (now (notes .exit)) ≡ 28) × KeyOrName (now (s .entry)) first key rest pen (now (notes .entry)) (now (notes .exit)) (now (out .entry)) (now (out .exit)) r ⌝ }
 {
-    if pen.block == LAYER_NAMES {
+    if pen.block == BLOCK_LAYER_NAMES {
         return key_names(key, s, rest, pen, out);
     }
     let table = table_of(first, pen, rest);

@@ -1,6 +1,6 @@
 // How the pen goes on.
 use crate::Pen;
-use account::FIGURES;
+use account::BLOCK_FIGURES;
 ghost use mathlib.Core.Path.{_≡_};
 ghost use mathlib.Core.Bool.{cond};
 ghost use Prim.Native.Nat.{_+_, _≤_};
@@ -40,7 +40,7 @@ pub(crate) fn among_figures(pen: Pen, n: usize, layered: bool) -> Pen
     ensures { λ r. ⌜ r ≡ amongFigures pen n layered ⌝ }
 {
     Pen {
-        block: FIGURES,
+        block: BLOCK_FIGURES,
         part: 0,
         layered: layered,
         start: pen.start,

@@ -4,7 +4,7 @@ use crate::Pen;
 use crate::closing::on_close;
 use crate::keys::on_key;
 use crate::places::at_block;
-use account::TOP;
+use account::BLOCK_TOP;
 use entries::Rest;
 use leaves::Wrote;
 use leaves::write::put;
@@ -32,7 +32,7 @@ fn on_eof(pen: Pen, out: &mut [u8]) -> Drawn
 {
     let from = pen.at;
     match put_plain(b"EOF", &mut out[from..]) {
-        Wrote::Bytes(n) => Drawn::Go(at_block(pen, n, TOP, 0)),
+        Wrote::Bytes(n) => Drawn::Go(at_block(pen, n, BLOCK_TOP, 0)),
         Wrote::Full => Drawn::Full,
     }
 }
@@ -72,7 +72,7 @@ fn put_body(s: &[u8], start: u32, end: u32, first: bool, notes: &mut [u32], out:
     ensures { λ r. ⌜ Within (now (out .entry)) (now (out .exit)) r × (length (now (notes .exit)) ≡ 28) × BodyPromise (now (s .entry)) start end first (now (out .entry)) (now (out .exit)) r ⌝ }
 {
     let mut pen = Pen {
-        block: TOP,
+        block: BLOCK_TOP,
         part: 0,
         layered: false,
         start: 0,

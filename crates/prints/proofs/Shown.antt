@@ -1,33 +1,32 @@
 -- What is written of a content that was read is its fixed form.
-use Prim.Native.Nat.{ℕ, zero, suc, _+_, _-_, _/_, _%_, _<_, _≤_}
+use Prim.Native.Nat.{ℕ, zero, suc, _+_, _-_, _/_, _%_, _≤_}
 use mathlib.Core.Path.{_≡_, refl, ap, sym, subst, _∙_}
 use mathlib.Core.Bool.{Bool, true, false, cond, _&&_, _||_, not}
 use mathlib.Core.List.{List, [], _∷_, _++_, map}
-use mathlib.Core.Option.{Option, none, some}
+use mathlib.Core.Option.{some}
 use native.Mathlib.Omega.{arith}
 use lib.Dec.{eqb, leb, ltb}
-use lib.IntN.{ℤ, pos}
+use lib.IntN.{pos}
 use lib.ListN.{length, getD}
-use borrow.Author.Tests.{eqb-true, eqb-false, eq-eqb, ne-eqb, leb-true, leb-false, le-leb, lt-leb, ltb-true, ltb-false, not-true}
+use borrow.Author.Tests.{eqb-true, eqb-false, eq-eqb, ne-eqb, le-leb, lt-leb, ltb-true, ltb-false, not-true}
 use Rattle.rules.specs.Base.{bytes, all, same, within, indexOf, split, join}
-use Rattle.rules.specs.RefusalNumbers.{Got, got, bad, unless, mapG, andThen, orBad, keep, consG}
+use Rattle.rules.specs.RefusalNumbers.{Got, got, bad, unless, mapG, andThen, orBad, keep}
 use Rattle.rules.specs.Numbers.{isDigit, digitRun, value, readCount, readFixed, isDay, isClock, readDecimal, fixedOnto, fixed, trim, showCount, showDecimal}
 use Rattle.rules.specs.Lines.{Rest, Shape, opener, noContent, content, opening, formless}
-use Rattle.rules.specs.Values.{Num, num, Value, empty, nums, chars, linked, Known, byteIn, lettersAndDigits, capital, isLayerId, inBound, Part, count, digit, kindOfLine, range, rangeOfSymbols, day, clock, decimal, symbolName, layerId, servedSymbols, natural, readPart, amount, showPart, readAll, showAll, agree, Kind, values, text, word, volumeName, sheet, ratio, serials, nothing, opens, headed, either, sheets, findSheet, showSheet, readRatio, showRatio, mostPartners, readSerials, linkedOf, showSerials, readKind, amountAt, showKind, showContent}
-use Rattle.rules.specs.Rows.{Rule, Act, stay, entry, begin, shut, refuse, orRefuse, readShape, fits, innerOf, isEither, notTwice, shapeFor, actRow}
+use Rattle.rules.specs.Values.{Num, num, Value, empty, nums, chars, Known, byteIn, lettersAndDigits, capital, isLayerId, inBound, Part, count, digit, typeDigits, range, rangeOfSymbols, day, clock, decimal, symbolName, layerId, servedSymbols, natural, readPart, amount, showPart, readAll, showAll, agree, Kind, values, text, word, volumeName, sheet, ratio, serials, nothing, opens, headed, either, sheets, findSheet, readRatio, mostPartners, readSerials, linkedOf, showSerials, readKind, amountAt, showContent}
+use Rattle.rules.specs.Rows.{Rule, Act, entry, begin, refuse, orRefuse, readShape, fits, innerOf, notTwice, shapeFor, actRow}
 use Rattle.rules.specs.RangeClass.{reaches}
 use Rattle.rules.specs.Lines.{hasForm}
 use Rattle.rules.specs.declared.Digits.{Digits}
 use Rattle.rules.specs.FixedForm.{behind}
-use Rattle.rules.proofs.Chains.{and-left, and-right, and-true, and-false, by-cond, clash, never, none-some, cond-some, same-refl, unless-got, map-got, then-got, keep-got, or-got, cons-got}
+use Rattle.rules.proofs.Chains.{and-true, and-false, by-cond, clash, never, cond-some, unless-got, map-got, then-got, keep-got, or-got, cons-got}
 use Rattle.promises.proofs.Numbers.{within-both, both-within, run-parts, fixed-same}
 use Rattle.promises.proofs.Values.{name-same}
 use Rattle.tables.specs.Rows.{boundOf, wholeOf, partOf, partsOf, acrossOf, kindOf, ruleOf, forLine}
 use Rattle.tables.specs.declared.Row.{Row}
 use Rattle.leaves.specs.Bytes.{bytesOf}
-use Rattle.leaves.specs.Drawing.{numberAt}
 use Rattle.entries.specs.Acts.{valueOf}
-use Rattle.prints.specs.Texts.{anew, pieceText, nextForms, pieceTexts, piecesText, sheetText, ratioText, contentText, behindText}
+use Rattle.prints.specs.Texts.{anew, pieceText, pieceTexts, piecesText, sheetText, ratioText, contentText, behindText}
 use Rattle.prints.specs.Reading.{Reads}
 
 -- ── counts: without needless zeros, whatever the width ──
@@ -73,7 +72,7 @@ count-text w c n h e =
 abbrev stands : Part → Bool
 stands count = false
 stands (digit lo hi) = true
-stands kindOfLine = true
+stands typeDigits = true
 stands (range lo hi) = true
 stands rangeOfSymbols = true
 stands day = true
@@ -96,7 +95,7 @@ name-stands m s us a e =
 part-stands : (k : Known) (p : Part) (s : List ℕ) (a : Num) → stands p ≡ true → readPart k p s ≡ got a → s ≡ showPart k p a
 part-stands k count s a t e = clash t refl
 part-stands k (digit lo hi) s a t e = digits-stand 1 11 (within lo hi) s a e
-part-stands k kindOfLine s a t e =
+part-stands k typeDigits s a t e =
     let (n, g, q) = map-got (λ n. num (pos n)) (orBad 10 (readFixed 4 s)) a e in
     rw (← q) (sym (fixed-same 4 n s (or-got 10 (readFixed 4 s) n g)))
 part-stands k (range lo hi) s a t e = digits-stand 3 12 (within lo hi) s a e

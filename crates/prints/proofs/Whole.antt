@@ -1,7 +1,7 @@
 -- Contents by their readings, and whole lines.
-use Prim.Native.Nat.{ℕ, zero, suc, _-_, _≤_}
+use Prim.Native.Nat.{ℕ, _-_}
 use mathlib.Core.Path.{_≡_, refl, ap, sym, subst, _∙_}
-use mathlib.Core.Bool.{Bool, true, cond, _&&_}
+use mathlib.Core.Bool.{Bool, cond, _&&_}
 use mathlib.Core.List.{List, [], _∷_, _++_, map, append-assoc}
 use mathlib.Core.Option.{Option, none, some}
 use native.Mathlib.Omega.{arith}
@@ -10,7 +10,7 @@ use lib.ListN.{length, getD, take, drop}
 use Rattle.rules.specs.Base.{all}
 use Rattle.rules.specs.RefusalNumbers.{Got, got, bad}
 use Rattle.rules.specs.Lines.{Rest, brace, equals, Shape, freeShapeOf, shapeOf}
-use Rattle.rules.specs.Values.{Num, Value, empty, chars, Known, capital, showSheet, showRatio, charsOf, byteIn, anyBytes, isFree}
+use Rattle.rules.specs.Values.{Num, Value, empty, chars, capital, showSheet, showRatio, charsOf, byteIn, anyBytes, isFree}
 use Rattle.rules.specs.Machine.{layerValue}
 use Rattle.rules.specs.Rows.{Rule, shapeFor}
 use Rattle.rules.specs.FixedForm.{behind, lineOf}
@@ -24,14 +24,14 @@ use Rattle.leaves.specs.declared.Scale.{Scale}
 use Rattle.leaves.specs.declared.Ratio.the-variants as R
 use Rattle.leaves.proofs.Scan.{rest-all}
 use Rattle.tables.specs.declared.Row.{Row}
-use Rattle.tables.specs.Rows.{kindOf, ruleOf, forLine}
+use Rattle.tables.specs.Rows.{ruleOf, forLine}
 use Rattle.tables.specs.Tables.{tableOf}
 use Rattle.entries.specs.Shapes.{shapeBy}
 use Rattle.entries.proofs.ByShape.{free-is}
 use Rattle.keywords.specs.Keys.{keyAt}
 use Rattle.prints.specs.Printing.{Prints, Within, Writes}
 use Rattle.prints.specs.Texts.{sheetText, ratioText, behindText, lineEnd}
-use Rattle.prints.specs.Reading.{Reads, PrintsRow, PrintsLayer}
+use Rattle.prints.specs.Reading.{PrintsRow, PrintsLayer}
 use Rattle.prints.proofs.Going.{then, at-front, front-within}
 use Rattle.prints.proofs.Shown.{behind-shown}
 

@@ -18,7 +18,8 @@ use Rattle.rules.specs.Base.{flat}
 use Rattle.rules.specs.Spool.{Volume, volumesOf}
 use Rattle.rules.specs.RangeClass.{classOf}
 use Rattle.rules.specs.Sets.{Set, nothingYet}
-use Rattle.rules.specs.Machine.{Line, Env, top, Outcome, refused, accepted, run}
+use Rattle.rules.specs.Machine.{Line, Env, top}
+use Rattle.rules.specs.LineByLine.{Outcome, refused, accepted, run}
 use Rattle.rules.specs.RecordTable.{recordsOf, tableOf, width}
 use Rattle.rules.specs.Answers.{Listed, listed, noLines, listVolumes, outcomeOfLines, outcomeOfVolumes, outcomeOf, outcomeAt, digitsOr, answerNumber, answerCount, refusal, readOutcome, recordsIn, answerWith, readRecords, readAnswer, readTable, namesIn, writtenIn, rewriteOutcome, written, fitOutput, rewriteAnswer, rewriteBytes, rewriteOutput}
 use Rattle.rules.proofs.Chains.{by-cond, cond-same}

@@ -14,7 +14,8 @@ use Rattle.rules.specs.Rows.{Rule, Held, partOf, numberOf}
 use Rattle.rules.specs.Blocks.{elementTable, elecTable}
 use Rattle.rules.specs.Figures.{layerTable}
 use Rattle.rules.specs.Sets.{Figure, LayerBlock, Set, withNow, withBlock, symbolRange, rangeOf, isSingle, knownOf, serialsOfBlock, serialsOfVolume, serialsIn, usedIn}
-use Rattle.rules.specs.Machine.{inLayer, elements, figures, stepIn}
+use Rattle.rules.specs.Machine.{inLayer, elements, figures}
+use Rattle.rules.specs.LineByLine.{stepIn}
 use Rattle.rules.specs.FixedForm.{Text, openLine, showFigures, showBlocks}
 use Rattle.rules.proofs.Chains.{and-left, and-right, clash, map-append, flat-append}
 use Rattle.rules.proofs.Runs.{head-file}

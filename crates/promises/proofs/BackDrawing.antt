@@ -13,10 +13,11 @@ use Rattle.rules.specs.Base.{bytes, among}
 use Rattle.rules.specs.RefusalNumbers.{got}
 use Rattle.rules.specs.RangeClass.{digitsOf}
 use Rattle.rules.specs.Values.{Value, Known, charsOf}
-use Rattle.rules.specs.Rows.{Rule, Slots, blank, marks}
+use Rattle.rules.specs.Rows.{Rule, Slots, blank, rowsThere}
 use Rattle.rules.specs.Blocks.{drawingTable, mostLayers}
 use Rattle.rules.specs.Sets.{Layer, Drawing, Set, arcOf, knownOf, withDrawing}
-use Rattle.rules.specs.Machine.{State, top, drawing, layerNames, stepIn}
+use Rattle.rules.specs.Machine.{State, top, drawing, layerNames}
+use Rattle.rules.specs.LineByLine.{stepIn}
 use Rattle.rules.specs.FixedForm.{Text, opensBlock, showValue, showLayers, showDrawing}
 use Rattle.rules.proofs.Chains.{and-left, and-right, map-append}
 use Rattle.rules.proofs.Rows.{Row, here, there, row-all, reaches-none}
@@ -81,7 +82,7 @@ module _ (next : List ℕ) (k : Known) (S : Set) (n : ℕ) (d : Drawing) (g : Go
       entered next k inDrawing r v (so u) (so (set u i (some (bareValue v)))) o
       (rw (
         line-any r (row-all (λ r. nameless (r .holds)) w (sound-plain drawingTable drawing-sound)) k (knownOf S) v,
-        act-entry (knownOf S) range drawingTable i r v w (h (knownOf S)) (sound-differ drawingTable drawing-sound) (marks u) (free-mark u i f) o,
+        act-entry (knownOf S) range drawingTable i r v w (h (knownOf S)) (sound-differ drawingTable drawing-sound) (rowsThere u) (free-mark u i f) o,
         still w u f v o 7,
       ))
 
@@ -93,7 +94,7 @@ module _ (next : List ℕ) (k : Known) (S : Set) (n : ℕ) (d : Drawing) (g : Go
       (opened next k inDrawing r v (drawing (retaken n S) (drawingOf u [])) (layerNames (retaken n S) (drawingOf x [])) (drawing (retaken (takenLayers n (d .layers)) S) (drawingOf x (map bareLayer (d .layers)))) o
       (rw (
         line-any r (row-all (λ r. nameless (r .holds)) w (sound-plain drawingTable drawing-sound)) k (knownOf S) v,
-        act-begin (knownOf S) range drawingTable 7 r v w (h (knownOf S)) (sound-differ drawingTable drawing-sound) (marks u) (free-mark u 7 f) o,
+        act-begin (knownOf S) range drawingTable 7 r v w (h (knownOf S)) (sound-differ drawingTable drawing-sound) (rowsThere u) (free-mark u 7 f) o,
       ))
       (read-layers next k S x n [] (d .layers) (g .layers) (let m = leb-true (length (d .layers)) mostLayers (g .most) in omega arith) (g .differ)
       and one-line next (bytes "}") (layerNames (retaken (takenLayers n (d .layers)) S) (drawingOf x (map bareLayer (d .layers)))) (drawing (retaken (takenLayers n (d .layers)) S) (drawingOf x (map bareLayer (d .layers)))) shut))

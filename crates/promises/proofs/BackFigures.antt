@@ -11,10 +11,11 @@ use Rattle.rules.specs.Base.{bytes, all}
 use Rattle.rules.specs.RefusalNumbers.{got}
 use Rattle.rules.specs.Lines.{formOf}
 use Rattle.rules.specs.Values.{Num, nums, Known}
-use Rattle.rules.specs.Rows.{Rule, Slots, blank, marks, isFull, fullAt, act, entry, complete}
+use Rattle.rules.specs.Rows.{Rule, Slots, blank, rowsThere, limitReached, rowsAtLimit, act, entry, complete}
 use Rattle.rules.specs.Figures.{layerTable, figureTable, mostPoints, pointTable, textTable}
 use Rattle.rules.specs.Sets.{Point, Figure, plain, chain, lettering, placed, Symbol, Set, rangeOf, isSingle, knownOf}
-use Rattle.rules.specs.Machine.{Home, inElement, inLayer, State, hide, figures, successive, texts, isLayer, homeTable, stepIn}
+use Rattle.rules.specs.Machine.{Home, inElement, inLayer, State, hide, figures, successive, texts, isLayer, homeTable}
+use Rattle.rules.specs.LineByLine.{stepIn}
 use Rattle.rules.specs.FixedForm.{opensBlock, lineOf, noInner, openLine, block, showSlots, showPoints}
 use Rattle.rules.specs.RecordTable.{ruleAt}
 use Rattle.rules.proofs.Rows.{Row, here, there, differ, row-all, reaches-none}
@@ -41,12 +42,12 @@ takenFigures n [] = n
 takenFigures n (f ∷ fs) = takenFigures (takenFigure n f) fs
 
 -- ── rows that may stand again and again ──
-full-at : (n : ℕ) {t : List Rule} {i : ℕ} {r : Rule} → Row t i r → getD (fullAt n t) i false ≡ isFull n (r .times)
+full-at : (n : ℕ) {t : List Rule} {i : ℕ} {r : Rule} → Row t i r → getD (rowsAtLimit n t) i false ≡ limitReached n (r .times)
 full-at n here = refl
 full-at n (there w) = full-at n w
 
 abbrev endless : List Rule → Bool
-endless t = all (λ r. not (isFull 0 (r .times))) t
+endless t = all (λ r. not (limitReached 0 (r .times))) t
 
 home-endless : (S : Set) (h : Home) → (endless (homeTable S h) ≡ true) × (differ (homeTable S h) ≡ true)
 unfolding figureTable layerTable
@@ -65,8 +66,8 @@ module _ (next : List ℕ) (S : Set) (n : ℕ) (h : Home) (fs : List Figure) whe
   pub plain-line : (j : ℕ) (v : List Num) (r : Rule) → Row table j r → GoodRow (knownOf S) (rangeOf S) r (nums v) → opensBlock (r .holds) (nums v) ≡ false
       → stepIn plainEnv (lineFor next false (lineOf (knownOf S) r (nums v))) (figures (retaken n S) h fs) ≡ got (figures (retaken (n + 1) S) h (fs ++ plain 0 j v ∷ []))
   plain-line j v r w g c =
-      rw (act-entry (knownOf S) (rangeOf S) table j r (nums v) w g (home-endless (retaken n S) h .1) (fullAt 0 table)
-      (full-at 0 w ∙ not-true (isFull 0 (r .times)) (row-all (λ r. not (isFull 0 (r .times))) w (home-endless (retaken n S) h .0))) c)
+      rw (act-entry (knownOf S) (rangeOf S) table j r (nums v) w g (home-endless (retaken n S) h .1) (rowsAtLimit 0 table)
+      (full-at 0 w ∙ not-true (limitReached 0 (r .times)) (row-all (λ r. not (limitReached 0 (r .times))) w (home-endless (retaken n S) h .0))) c)
 
 -- ── points ──
 point-sound : (b : Bool) → sound (pointTable b) ≡ true
@@ -75,12 +76,12 @@ point-sound true = refl
 point-sound false = refl
 
 point-act : (k k′ : Known) (b : Bool) (m : ℕ) (v : List Num) → Always none0 (ruleAt (pointTable b) 0) (nums v) → m < mostPoints
-    → act k (pointTable b) none0 (fullAt m (pointTable b)) (bareForm (formOf 0 (lineOf k′ (ruleAt (pointTable b) 0) (nums v)))) ≡ entry 0 (nums v)
+    → act k (pointTable b) none0 (rowsAtLimit m (pointTable b)) (bareForm (formOf 0 (lineOf k′ (ruleAt (pointTable b) 0) (nums v)))) ≡ entry 0 (nums v)
 unfolding pointTable
 point-act k k′ b m v g l =
     let w : Row (pointTable b) 0 (ruleAt (pointTable b) 0) = here in
-    ap (λ c. act k (pointTable b) none0 (fullAt m (pointTable b)) (bareForm (formOf 0 c))) (line-any (ruleAt (pointTable b) 0) (row-all (λ r. nameless (r .holds)) w (sound-plain (pointTable b) (point-sound b))) k′ k (nums v))
-    ∙ act-entry k none0 (pointTable b) 0 (ruleAt (pointTable b) 0) (nums v) w (g k) (sound-differ (pointTable b) (point-sound b)) (fullAt m (pointTable b)) (lt-leb mostPoints m l) refl
+    ap (λ c. act k (pointTable b) none0 (rowsAtLimit m (pointTable b)) (bareForm (formOf 0 c))) (line-any (ruleAt (pointTable b) 0) (row-all (λ r. nameless (r .holds)) w (sound-plain (pointTable b) (point-sound b))) k′ k (nums v))
+    ∙ act-entry k none0 (pointTable b) 0 (ruleAt (pointTable b) 0) (nums v) w (g k) (sound-differ (pointTable b) (point-sound b)) (rowsAtLimit m (pointTable b)) (lt-leb mostPoints m l) refl
 
 -- in a state that holds points
 read-points : (next : List ℕ) (k : Known) (b : Bool) (K : ℕ → List Point → State)
@@ -118,7 +119,7 @@ unfolding textTable
 text-sound true p q = (refl, refl)
 text-sound false p q = (refl, refl)
 
-point-complete : (b : Bool) (m : ℕ) → complete none0 (pointTable b) (fullAt m (pointTable b)) ≡ true
+point-complete : (b : Bool) (m : ℕ) → complete none0 (pointTable b) (rowsAtLimit m (pointTable b)) ≡ true
 unfolding pointTable
 point-complete b m = refl
 
@@ -139,6 +140,6 @@ module _ (next : List ℕ) (k : Known) (S : Set) (n : ℕ) (h : Home) (fs : List
       let d = text-sound (isLayer h) 4 12 in
       one-line next (openLine (bytes "text")) (figures (retaken n S) h fs) (texts (retaken (n + 1) S) h fs 0 (blank t)) (opens-text next S n h fs)
       and read-calm next k noInner (Always none0) (λ u. texts (retaken (n + 1) S) h fs 0 u) t o (d .1)
-      (λ i r v w g u f z. rw (line-any r (row-all (λ r. nameless (r .holds)) w (sound-plain t (d .0))) k (knownOf S) v, act-entry (knownOf S) none0 t i r v w (g (knownOf S)) (sound-differ t (d .0)) (marks u) (free-mark u i f) z)) (g .good)
+      (λ i r v w g u f z. rw (line-any r (row-all (λ r. nameless (r .holds)) w (sound-plain t (d .0))) k (knownOf S) v, act-entry (knownOf S) none0 t i r v w (g (knownOf S)) (sound-differ t (d .0)) (rowsThere u) (free-mark u i f) z)) (g .good)
       and one-line next (bytes "}") (texts (retaken (n + 1) S) h fs 0 (bareSlots o)) (figures (retaken (n + 1) S) h (fs ++ lettering 0 (bareSlots o) ∷ []))
       (rw (close-form, marks-bare o, g .all))

@@ -12,11 +12,12 @@ use Rattle.rules.specs.Base.{bytes, all}
 use Rattle.rules.specs.RefusalNumbers.{got}
 use Rattle.rules.specs.Lines.{formOf}
 use Rattle.rules.specs.Values.{Value, Known, either, amountAt}
-use Rattle.rules.specs.Rows.{Rule, Slots, blank, Held, partOf, marks, innerOf, complete}
+use Rattle.rules.specs.Rows.{Rule, Slots, blank, Held, partOf, rowsThere, innerOf, complete}
 use Rattle.rules.specs.Blocks.{fileTable, rangeTable, baseTable, elecTable, symTable, laterTable, fileTables, around, blankHeld}
 use Rattle.rules.specs.Sets.{Set, isFirst, knownOf, withNow}
 use Rattle.rules.specs.VolumesAndTotals.{chained, dated}
-use Rattle.rules.specs.Machine.{State, top, file, stepIn}
+use Rattle.rules.specs.Machine.{State, top, file}
+use Rattle.rules.specs.LineByLine.{stepIn}
 use Rattle.rules.specs.FixedForm.{Text, opensBlock, lineOf, noInner, showInner, showHeld, showSlots, showValue}
 use Rattle.rules.proofs.Chains.{and-left, and-right}
 use Rattle.rules.proofs.Rows.{Row, here, there, differ, row-all}
@@ -46,7 +47,7 @@ module _ (next : List ℕ) (k : Known) (S : Set) (t : List Rule) (p : ℕ) (H : 
         here-is,
         at u,
         line-any r (row-all (λ r. nameless (r .holds)) w plain) k (knownOf S) v,
-        act-entry (knownOf S) none0 t i r v w (g (knownOf S)) keys (marks u) (free-mark u i f) o,
+        act-entry (knownOf S) none0 t i r v w (g (knownOf S)) keys (rowsThere u) (free-mark u i f) o,
         put u (set u i (some (bareValue v))) (still w u f v o),
       )
 
@@ -57,11 +58,11 @@ module _ (next : List ℕ) (k : Known) (S : Set) (t : List Rule) (p : ℕ) (H : 
         here-is,
         at u,
         line-any r (row-all (λ r. nameless (r .holds)) w plain) k (knownOf S) v,
-        act-begin (knownOf S) none0 t i r v w (g (knownOf S)) keys (marks u) (free-mark u i f) o,
+        act-begin (knownOf S) none0 t i r v w (g (knownOf S)) keys (rowsThere u) (free-mark u i f) o,
       )
 
   -- the end of an inner part
-  shuts-part : (q : ℕ) → p ≡ suc q → (s : Slots) → complete none0 t (marks s) ≡ true
+  shuts-part : (q : ℕ) → p ≡ suc q → (s : Slots) → complete none0 t (rowsThere s) ≡ true
       → stepIn plainEnv (lineFor next false (bytes "}")) (file S 0 (H (bareSlots s)) p) ≡ got (file S 0 (H (bareSlots s)) (around p))
   unfolding formOf
   shuts-part q e s c = rw (here-is, at (bareSlots s), marks-bare s, c, e)
@@ -73,7 +74,7 @@ module _ (next : List ℕ) (k : Known) (S : Set) (t : List Rule) (p : ℕ) (H : 
       read-calm next k inner (Always none0) (λ u. file S 0 (H u) p) t s c (enters-file (λ u x o. put u x)) (g .good)
       and one-line next (bytes "}") (file S 0 (H (bareSlots s)) p) (file S 0 (H (bareSlots s)) (around p)) (shuts-part q e s (g .all))
 
-shuts-file : (next : List ℕ) (S : Set) (t : List Rule) (h : Held) → getD (fileTables (isFirst S)) 0 [] ≡ t → complete none0 t (marks (partOf h 0)) ≡ true
+shuts-file : (next : List ℕ) (S : Set) (t : List Rule) (h : Held) → getD (fileTables (isFirst S)) 0 [] ≡ t → complete none0 t (rowsThere (partOf h 0)) ≡ true
     → chained (isFirst S) next h ≡ true → dated S (isFirst S) h ≡ true
     → stepIn plainEnv (lineFor next false (bytes "}")) (file S 0 h 0) ≡ got (top (withNow (record { line = 0; file = h; blocks = [] }) S) (cond (isFirst S) 1 3))
 unfolding formOf

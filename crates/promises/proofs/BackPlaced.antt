@@ -13,11 +13,13 @@ use Rattle.rules.specs.RefusalNumbers.{Got, got, bad, unless, mapG, andThen, or
 use Rattle.rules.specs.Lines.{Rest, formOf, Shape, opener, noContent, content, opening, formless, hasForm}
 use Rattle.rules.specs.RangeClass.{digits, reaches, both}
 use Rattle.rules.specs.Values.{Num, Value, nums, chars, Known, Kind, values, text, word, volumeName, sheet, ratio, serials, nothing, opens, headed, either, lettersAndDigits, byteIn, capital, agree, range, readPart, readAll, readRatio, findSheet, sheets, readKind, serialsOf}
-use Rattle.rules.specs.Rows.{Rule, Slots, blank, Held, partOf, marks, slotValue, held, fits, shapeFor, Act, stay, entry, begin, shut, refuse, orRefuse, innerOf, readShape, notTwice, actRow}
+use Rattle.rules.specs.Rows.{Rule, Slots, blank, Held, partOf, rowsThere, slotValue, held, fits, shapeFor, Act, stay, entry, begin, shut, refuse, orRefuse, innerOf, readShape, notTwice, actRow}
 use Rattle.rules.specs.Blocks.{blankHeld}
 use Rattle.rules.specs.Figures.{layerTable, textTable, placedTable, placedTables}
 use Rattle.rules.specs.Sets.{Figure, plain, chain, lettering, placed, Set, rangeOf, isSingle, knownOf, ownSerial, figureSerial, serialsIn}
-use Rattle.rules.specs.Machine.{inLayer, State, figures, placing, noneOf, newSerial, stepIn}
+use Rattle.rules.specs.Machine.{inLayer, State, figures, placing}
+use Rattle.rules.specs.PlacedSymbol.{noneOf, newSerial}
+use Rattle.rules.specs.LineByLine.{stepIn}
 use Rattle.rules.specs.FixedForm.{Text, opensBlock, lineOf, noInner, openLine, showInner, showHeld, showSlots, showValue, showFigure, showFigures}
 use Rattle.rules.specs.Answers.{fullClass}
 use Rattle.rules.specs.RecordTable.{ruleAt}
@@ -157,7 +159,7 @@ module _ (next : List ℕ) (S : Set) (n m : ℕ) (fs : List Figure) (own inner :
       letters x =
           read-calm next (knownOf S) (showInner (knownOf S) placedTables (own ∷ inner ∷ []) noInner) (Always none0) (λ u. placing (retaken n S) m fs 0 (x ∷ u ∷ []) 1) lettersTable inner (text-sound true 16 24 .1)
           (λ i r v w g u f z. rw (
-            act-entry (knownOf S) none0 lettersTable i r v w (g (knownOf S)) (sound-differ lettersTable (text-sound true 16 24 .0)) (marks u) (free-mark u i f) z,
+            act-entry (knownOf S) none0 lettersTable i r v w (g (knownOf S)) (sound-differ lettersTable (text-sound true 16 24 .0)) (rowsThere u) (free-mark u i f) z,
             none-new (bareValue v) (row-serialless (knownOf S) none0 r v (g (knownOf S)) (not-true (isSerials (r .holds)) (row-all (λ r. not (isSerials (r .holds))) w (placed-sound .2)))),
           )) (c .good)
           and one-line next (bytes "}") (placing (retaken n S) m fs 0 (x ∷ bareSlots inner ∷ []) 1) (placing (retaken n S) m fs 0 (x ∷ bareSlots inner ∷ []) 0) (rw (close-form, marks-bare inner, c .all))

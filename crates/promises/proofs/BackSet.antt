@@ -16,7 +16,8 @@ use Rattle.rules.specs.Blocks.{topTable, fileTable, rangeTable, elecTable, symT
 use Rattle.rules.specs.Figures.{layerTable}
 use Rattle.rules.specs.Sets.{Contents, Set, noContents, nothingYet, withNow, withDrawing, withVolume, isFirst, headOr, firstContents, arcOf, symbolRange, rangeOf, defineRange, isSingle, knownOf, serialsOfVolume, elementsOf}
 use Rattle.rules.specs.VolumesAndTotals.{ownTable, countedHere, countedAll, layersUsed}
-use Rattle.rules.specs.Machine.{Line, top, file, drawing, defines, elements, accepted, stepIn, run}
+use Rattle.rules.specs.Machine.{Line, top, file, drawing, defines, elements}
+use Rattle.rules.specs.LineByLine.{accepted, stepIn, run}
 use Rattle.rules.specs.FixedForm.{Text, openLine, block, showHeld, showDrawing, showDefines, showBlocks, ending, laterLines, volumeLines}
 use Rattle.rules.proofs.Chains.{and-left, and-right, map-append, nil-snoc, flat-append}
 use Rattle.rules.proofs.Runs.{head-snoc}

@@ -12,9 +12,10 @@ use Rattle.rules.specs.RefusalNumbers.{got}
 use Rattle.rules.specs.Lines.{close, formOf}
 use Rattle.rules.specs.RangeClass.{reaches}
 use Rattle.rules.specs.Values.{Value, empty, nums, chars, linked, Known, Kind, values, text, word, volumeName, sheet, ratio, serials, nothing, opens, headed, either}
-use Rattle.rules.specs.Rows.{Rule, Slots, blank, marks, entry, begin, innerOf, act, present, complete}
+use Rattle.rules.specs.Rows.{Rule, Slots, blank, rowsThere, entry, begin, innerOf, act, present, complete}
 use Rattle.rules.specs.Sets.{Set}
-use Rattle.rules.specs.Machine.{Line, Env, State, stepIn, run}
+use Rattle.rules.specs.Machine.{Line, Env, State}
+use Rattle.rules.specs.LineByLine.{stepIn, run}
 use Rattle.rules.specs.FixedForm.{Text, opensBlock, lineOf, showValue, showSlots}
 use Rattle.rules.specs.Answers.{fullClass}
 use Rattle.rules.proofs.Chains.{and-left, and-right, clash}
@@ -80,7 +81,7 @@ Free [] i = ⊥
 Free (o ∷ u) zero = o ≡ none
 Free (o ∷ u) (suc i) = Free u i
 
-pub free-mark : (u : Slots) (i : ℕ) → Free u i → getD (marks u) i false ≡ false
+pub free-mark : (u : Slots) (i : ℕ) → Free u i → getD (rowsThere u) i false ≡ false
 free-mark [] i f = refl
 free-mark (o ∷ u) zero f = rw f
 free-mark (o ∷ u) (suc i) f = free-mark u i f
@@ -242,7 +243,7 @@ read-calm next k inner P K t s c a g =
     (λ i r v w e p u f. entered next k inner r v (K u) (K (set u i (some (bareValue v)))) (calm-row w c v) (a i r v w p u f (calm-row w c v)))
 
 -- what a closed block must have is there
-needed : (P : Rule → Value → Type 0) (d : Digits) {t : List Rule} {i : ℕ} {r : Rule} → Row t i r → (s : Slots) → GoodSlots P t s → complete d t (marks s) ≡ true
+needed : (P : Rule → Value → Type 0) (d : Digits) {t : List Rule} {i : ℕ} {r : Rule} → Row t i r → (s : Slots) → GoodSlots P t s → complete d t (rowsThere s) ≡ true
     → (r .must && reaches d (r .least)) ≡ true → isSome (getD s i none) ≡ true
 needed P d here [] g c e = absurd g
 needed P d (here {r = r}) (o ∷ s) g c e = go (r .must) (reaches d (r .least)) (isSome o) e (and-left (present d r (isSome o)) _ c)
@@ -256,7 +257,7 @@ needed P d (there {q = q} w) (none ∷ s) g c e = needed P d w s g (and-right (p
 needed P d (there {q = q} w) (some v ∷ s) g c e = needed P d w s (g .1) (and-right (present d q true) _ c) e
 
 -- so the inner block of a row that always opens one has been opened
-pub opens-needed : (P : Rule → Value → Type 0) (d : Digits) {t : List Rule} {i : ℕ} {r : Rule} → Row t i r → (s : Slots) → GoodSlots P t s → complete d t (marks s) ≡ true
+pub opens-needed : (P : Rule → Value → Type 0) (d : Digits) {t : List Rule} {i : ℕ} {r : Rule} → Row t i r → (s : Slots) → GoodSlots P t s → complete d t (rowsThere s) ≡ true
     → (r .must && reaches d (r .least)) ≡ true → ((v : Value) → opensBlock (r .holds) v ≡ true) → opensAt t (bareSlots s) i ≡ true
 opens-needed P d {i = i} {r = r} w s g c e always = opens-end P w s g ∙ go (getD s i none) (needed P d w s g c e)
   where

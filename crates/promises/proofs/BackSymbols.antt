@@ -12,11 +12,12 @@ use Rattle.rules.specs.RefusalNumbers.{got}
 use Rattle.rules.specs.Lines.{formOf}
 use Rattle.rules.specs.RangeClass.{digits, digitsOf, reaches}
 use Rattle.rules.specs.Values.{Value, nums, Known, charsOf}
-use Rattle.rules.specs.Rows.{Rule, Slots, blank, marks, slotValue, innerOf, present, complete}
+use Rattle.rules.specs.Rows.{Rule, Slots, blank, rowsThere, slotValue, innerOf, present, complete}
 use Rattle.rules.specs.Blocks.{definesTable, symbolTable}
 use Rattle.rules.specs.Figures.{figureTable, mostPoints, pointTable}
 use Rattle.rules.specs.Sets.{Point, Figure, plain, chain, lettering, placed, Symbol, Set, withSymbol, symbolOwn, symbolFigures, symbolHidden, symbolOrder, rangeOf, defineRange, symbolNameOf, knownOf}
-use Rattle.rules.specs.Machine.{inElement, top, defines, symbol, hide, figures, openSymbol, newName, stepIn}
+use Rattle.rules.specs.Machine.{inElement, top, defines, symbol, hide, figures, openSymbol, newName}
+use Rattle.rules.specs.LineByLine.{stepIn}
 use Rattle.rules.specs.FixedForm.{Text, opensBlock, lineOf, openLine, showSlots, showValue, showSlot, showFigure, showFigures, symbolInner, exchanged, showSymbol, showSymbols, showDefines}
 use Rattle.rules.specs.RecordTable.{ruleAt}
 use Rattle.rules.proofs.Chains.{and-left, and-right, or-true, clash, map-append, nil-map}
@@ -75,25 +76,25 @@ module _ (next : List ℕ) (k : Known) (S : Set) (Y : Symbol) (n : ℕ) (y : Sym
   abbrev inSymbol : ℕ → Text → Text
   inSymbol = symbolInner k Y
 
-  symbol-entry : (i : ℕ) → Row symbolTable i r → getD (marks (y .own)) i false ≡ false → opensBlock (r .holds) v ≡ false → newName S (having i) ≡ true
+  symbol-entry : (i : ℕ) → Row symbolTable i r → getD (rowsThere (y .own)) i false ≡ false → opensBlock (r .holds) v ≡ false → newName S (having i) ≡ true
       → Reads next (symbol (retaken n S) y) (showValue k r v inSymbol) (symbol (retaken n S) (having i))
   symbol-entry i w m o new =
       entered next k inSymbol r v (symbol (retaken n S) y) (symbol (retaken n S) (having i)) o
       (rw (
         line-any r (row-all (λ r. nameless (r .holds)) w (sound-plain symbolTable symbol-sound)) k (knownOf S) v,
-        act-entry (knownOf S) (digitsOf (defineRange S)) symbolTable i r v w (g (knownOf S)) (sound-differ symbolTable symbol-sound) (marks (y .own)) m o,
+        act-entry (knownOf S) (digitsOf (defineRange S)) symbolTable i r v w (g (knownOf S)) (sound-differ symbolTable symbol-sound) (rowsThere (y .own)) m o,
         new,
       ))
 
-  symbol-opens : (i : ℕ) → Row symbolTable i r → getD (marks (y .own)) i false ≡ false → opensBlock (r .holds) v ≡ true
+  symbol-opens : (i : ℕ) → Row symbolTable i r → getD (rowsThere (y .own)) i false ≡ false → opensBlock (r .holds) v ≡ true
       → stepIn plainEnv (lineFor next false (lineOf k r v)) (symbol (retaken n S) y) ≡ openSymbol (retaken n S) (having i) (innerOf (r .holds))
   symbol-opens i w m o =
       rw (
         line-any r (row-all (λ r. nameless (r .holds)) w (sound-plain symbolTable symbol-sound)) k (knownOf S) v,
-        act-begin (knownOf S) (digitsOf (defineRange S)) symbolTable i r v w (g (knownOf S)) (sound-differ symbolTable symbol-sound) (marks (y .own)) m o,
+        act-begin (knownOf S) (digitsOf (defineRange S)) symbolTable i r v w (g (knownOf S)) (sound-differ symbolTable symbol-sound) (rowsThere (y .own)) m o,
       )
 
-  symbol-element : Row symbolTable 1 r → getD (marks (y .own)) 1 false ≡ false → opensBlock (r .holds) v ≡ true → innerOf (r .holds) ≡ 1
+  symbol-element : Row symbolTable 1 r → getD (rowsThere (y .own)) 1 false ≡ false → opensBlock (r .holds) v ≡ true → innerOf (r .holds) ≡ 1
       → GoodShapes (rangeOf S) (Y .figures) → isNil (Y .figures) ≡ false
       → Reads next (symbol (retaken n S) y) (showValue k r v inSymbol) (symbol (retaken (takenFigures n (Y .figures)) S) (symbolFigures (map bareFigure (Y .figures)) (having 1)))
   symbol-element w m o i good some′ =
@@ -108,7 +109,7 @@ module _ (next : List ℕ) (k : Known) (S : Set) (Y : Symbol) (n : ℕ) (y : Sym
   abbrev ordered : Symbol
   ordered = symbolOrder (isNone (getD (having 2 .own) 1 none)) (having 2)
 
-  symbol-hide : Row symbolTable 2 r → getD (marks (y .own)) 2 false ≡ false → opensBlock (r .holds) v ≡ true → innerOf (r .holds) ≡ 2 → GoodPoints false (Y .hidden) → leb (length (Y .hidden)) mostPoints ≡ true
+  symbol-hide : Row symbolTable 2 r → getD (rowsThere (y .own)) 2 false ≡ false → opensBlock (r .holds) v ≡ true → innerOf (r .holds) ≡ 2 → GoodPoints false (Y .hidden) → leb (length (Y .hidden)) mostPoints ≡ true
       → Reads next (symbol (retaken n S) y) (showValue k r v inSymbol) (symbol (retaken (takenPoints n (Y .hidden)) S) (symbolHidden (map barePoint (Y .hidden)) ordered))
   symbol-hide w m o i good few =
       opened next k inSymbol r v (symbol (retaken n S) y) (hide (retaken n S) ordered []) (symbol (retaken (takenPoints n (Y .hidden)) S) (symbolHidden (map barePoint (Y .hidden)) ordered)) o
@@ -120,8 +121,8 @@ module _ (next : List ℕ) (k : Known) (S : Set) (Y : Symbol) (n : ℕ) (y : Sym
 
 -- ── a symbol: name, `element`, `hide` in the order written, `wall` ──
 -- a slot that must be there, and what stands behind it
-take-needed : (P : Rule → Value → Type 0) (d : Digits) (r : Rule) (t : List Rule) (s : Slots) → GoodSlots P (r ∷ t) s → complete d (r ∷ t) (marks s) ≡ true → (r .must && reaches d (r .least)) ≡ true
-    → (v : Value) × (u : Slots) × (s ≡ some v ∷ u) × P r v × GoodSlots P t u × (complete d t (marks u) ≡ true)
+take-needed : (P : Rule → Value → Type 0) (d : Digits) (r : Rule) (t : List Rule) (s : Slots) → GoodSlots P (r ∷ t) s → complete d (r ∷ t) (rowsThere s) ≡ true → (r .must && reaches d (r .least)) ≡ true
+    → (v : Value) × (u : Slots) × (s ≡ some v ∷ u) × P r v × GoodSlots P t u × (complete d t (rowsThere u) ≡ true)
 take-needed P d r t [] g c e = absurd g
 take-needed P d r t (none ∷ s) g c e = absurd (go (r .must) (reaches d (r .least)) e (and-left (present d r false) _ c))
   where
@@ -217,7 +218,7 @@ record SymbolSlots (P : Rule → Value → Type 0) (own : Slots) : Type 0 where
 four : (own s₀ s₁ s₂ : Slots) (a b c o : Option Value) → own ≡ a ∷ s₀ → s₀ ≡ b ∷ s₁ → s₁ ≡ c ∷ s₂ → s₂ ≡ o ∷ [] → own ≡ a ∷ b ∷ c ∷ o ∷ []
 four own s₀ s₁ s₂ a b c o e₀ e₁ e₂ e₃ = rw (e₀, e₁, e₂, e₃)
 
-symbol-slots : (P : Rule → Value → Type 0) (d : Digits) (own : Slots) → GoodSlots P symbolTable own → complete d symbolTable (marks own) ≡ true → SymbolSlots P own
+symbol-slots : (P : Rule → Value → Type 0) (d : Digits) (own : Slots) → GoodSlots P symbolTable own → complete d symbolTable (rowsThere own) ≡ true → SymbolSlots P own
 unfolding symbolTable
 symbol-slots P d own g c =
     let (v₀, s₀, e₀, g₀, h₀, c₀) = take-needed P d (ruleOf 0) (ruleOf 1 ∷ ruleOf 2 ∷ ruleOf 3 ∷ []) own g c (reaches-none d) in

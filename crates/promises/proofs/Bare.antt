@@ -10,7 +10,7 @@ use lib.ListN.{length, getD, set, length-map, List·getD-map}
 use Rattle.rules.specs.Base.{bytes, isNone, isSome, mapO, flat}
 use Rattle.rules.specs.RangeClass.{digitsOf}
 use Rattle.rules.specs.Values.{Value, empty, nums, chars, linked, Known, numsOf, charsOf, serialsOf, amountAt}
-use Rattle.rules.specs.Rows.{Rule, Found, absent, found, find, Slots, blank, Held, partOf, enter, marks, slotValue, heldAt, held, numberOf}
+use Rattle.rules.specs.Rows.{Rule, Found, absent, found, find, Slots, blank, Held, partOf, enter, rowsThere, slotValue, heldAt, held, numberOf}
 use Rattle.rules.specs.Blocks.{fileTable, rangeTable, elecTable, symTable, laterTable, symbolTable}
 use Rattle.rules.specs.Figures.{placedTable}
 use Rattle.rules.specs.Sets.{Figure, plain, chain, lettering, placed, Layer, Symbol, Contents, Set, headOr, firstContents, isFirst, arcOf, symbolRange, defineRange, rangeOf, isSingle, symbolNameOf, knownOf, ownSerial, figureSerial, serialsOfBlock, serialsOfVolume, serialsIn, elementsOf, usedIn}
@@ -48,7 +48,7 @@ pub some-bare : (o : Option Value) → isSome (mapO bareValue o) ≡ isSome o
 some-bare none = refl
 some-bare (some v) = refl
 
-pub marks-bare : (s : Slots) → marks (bareSlots s) ≡ marks s
+pub marks-bare : (s : Slots) → rowsThere (bareSlots s) ≡ rowsThere s
 marks-bare s = map-same isSome (mapO bareValue) some-bare s
 
 pub slot-bare : (o : Option Value) → slotValue (mapO bareValue o) ≡ bareValue (slotValue o)
@@ -75,7 +75,7 @@ blank-bare (r ∷ t) = ap (λ s. none ∷ s) (blank-bare t)
 pub part-bare : (h : Held) (p : ℕ) → partOf (bareHeld h) p ≡ bareSlots (partOf h p)
 part-bare h p = List·getD-map bareSlots h p []
 
-pub part-marks : (h : Held) (p : ℕ) → marks (partOf (bareHeld h) p) ≡ marks (partOf h p)
+pub part-marks : (h : Held) (p : ℕ) → rowsThere (partOf (bareHeld h) p) ≡ rowsThere (partOf h p)
 part-marks h p = rw (part-bare h p) (marks-bare (partOf h p))
 
 pub enter-bare : (h : Held) (p j : ℕ) (v : Value) → bareHeld (enter h p j v) ≡ enter (bareHeld h) p j (bareValue v)

@@ -1,6 +1,5 @@
 -- What a line does, places apart: its shape, its act, and what the act does.
 use Prim.Native.Nat.{ℕ}
-use Prim.Native.String as S
 use mathlib.Core.Bool.{Bool, false, cond}
 use mathlib.Core.List.{List, [], _∷_}
 use mathlib.Core.Option.{Option, none, some}

@@ -1,6 +1,5 @@
 -- The fixed form does not look at places.
 use Prim.Native.Nat.{ℕ, zero, suc}
-use Prim.Native.String as S
 use mathlib.Core.Bool.{Bool, true, false, cond}
 use mathlib.Core.List.{List, [], _∷_, map}
 use mathlib.Core.Option.{none, some}

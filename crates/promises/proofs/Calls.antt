@@ -9,7 +9,7 @@ use lib.Seq.{take-at, drop-at}
 use Rattle.rules.specs.declared.Answer.the-variants.{Accepted}
 use Rattle.rules.specs.Base.{flat}
 use Rattle.rules.specs.Sets.{Set, rangeOf}
-use Rattle.rules.specs.Machine.{Outcome, refused, accepted}
+use Rattle.rules.specs.LineByLine.{Outcome, refused, accepted}
 use Rattle.rules.specs.RecordTable.{width}
 use Rattle.rules.specs.Answers.{answerWith, readOutcome, readRecords, readAnswer, readTable}
 use Rattle.promises.specs.DemandOne.{Wide, noRecord, oneMore}

@@ -15,12 +15,14 @@ use Rattle.rules.specs.RefusalNumbers.{Got, got, bad, mapG, also}
 use Rattle.rules.specs.Lines.{Rest, Form, ignored, wrong, close, eof, keyed, freeShapeOf}
 use Rattle.rules.specs.RangeClass.{digits, digitsOf, reaches, exceeds, both, skipOf, mostDepth}
 use Rattle.rules.specs.Values.{Value, amountAt, numsOf, isLayerId}
-use Rattle.rules.specs.Rows.{Found, absent, found, find, Slots, Held, partOf, marks, fullAt, Act, shut, refuse, actRow, actUnknown, act, complete}
+use Rattle.rules.specs.Rows.{Found, absent, found, find, Slots, Held, partOf, rowsThere, rowsAtLimit, Act, shut, refuse, actRow, actUnknown, act, complete}
 use Rattle.rules.specs.Blocks.{topTable, fileTables, drawingTable, mostLayers, definesTable, symbolTable, elementTable}
 use Rattle.rules.specs.Figures.{pointTable, textTable, placedTable, placedTables, leastPoints}
 use Rattle.rules.specs.Sets.{Point, Figure, plain, chain, lettering, placed, Layer, Drawing, Symbol, LayerBlock, Contents, Set, nothingYet, withNow, withVolume, symbolOwn, isFirst, arcOf, rangeOf, defineRange, knownOf, usedIn}
 use Rattle.rules.specs.VolumesAndTotals.{chained, dated, countedHere, countedAll, layersUsed}
-use Rattle.rules.specs.Machine.{Line, Env, Home, inElement, inLayer, State, top, file, drawing, layerNames, defines, symbol, hide, elements, figures, successive, texts, placing, skipping, ended, byAct, roomFor, openTop, atEof, onTop, closeFile, onFile, onDrawing, layerValue, onLayerNames, newName, openSymbol, onSymbol, onDefines, pointAt, onHide, onElements, isLayer, homeTable, closeFigures, openPlaced, openFigure, onFigures, onSuccessive, onTexts, onUnknown, newSerial, onPlaced, onPlacedKey, onPlacedOwn, onPlacing, skipShut, onSkipping, stepIn, isIgnored, isClose, isEof, completes, nextVolume, step, accepted, thenRun, run}
+use Rattle.rules.specs.Machine.{Line, Env, Home, inElement, inLayer, State, top, file, drawing, layerNames, defines, symbol, hide, elements, figures, successive, texts, placing, skipping, ended, byAct, roomFor, openTop, atEof, onTop, closeFile, onFile, onDrawing, layerValue, onLayerNames, newName, openSymbol, onSymbol, onDefines, pointAt, onHide, onElements, isLayer, homeTable, closeFigures, openPlaced, openFigure, onFigures, onSuccessive, onTexts}
+use Rattle.rules.specs.PlacedSymbol.{onUnknown, newSerial, onPlaced, onPlacedKey, onPlacedOwn, onPlacing, skipShut, onSkipping}
+use Rattle.rules.specs.LineByLine.{stepIn, isIgnored, isClose, isEof, completes, nextVolume, step, accepted, thenRun, run}
 use Rattle.rules.specs.RecordTable.{recordsOf}
 use Rattle.rules.proofs.Chains.{and-left, and-false, or-left, clash, by-cond, cond-same, On, on-unless, on-cond, on-map, on-then, on-also, on-weaken, nil-snoc, map-append, flat-append}
 use Rattle.rules.proofs.Runs.{not-accepted, finish-ended}
@@ -161,9 +163,9 @@ module _ (e : Env) (l : Line) where
   inv-top s k close i = tt
   inv-top s k eof i = on-eof (Does (top s k)) s k λ q. inv-ended s k q i
   inv-top s k (keyed key c) i =
-      on-byAct (Does (top s k)) _ _ _ _ (act (knownOf s) topTable (digits 0 0) (fullAt 0 topTable) (keyed key c)) (still i refl (i .kept) refl) (λ j v. tt)
+      on-byAct (Does (top s k)) _ _ _ _ (act (knownOf s) topTable (digits 0 0) (rowsAtLimit 0 topTable) (keyed key c)) (still i refl (i .kept) refl) (λ j v. tt)
       (λ m j v b. on-unless (Does (top s k)) (eqb j k) 9 _ λ q.
-      let below = top-below (act-begin (knownOf s) topTable (digits 0 0) (fullAt 0 topTable) (keyed key c) b) in
+      let below = top-below (act-begin (knownOf s) topTable (digits 0 0) (rowsAtLimit 0 topTable) (keyed key c) b) in
       let same = eqb-true j k q in
       rw same (inv-open s k (rw same at below) i))
       tt
@@ -178,13 +180,13 @@ module _ (e : Env) (l : Line) where
 
   inv-file : (s : Set) (n : ℕ) (h : Held) (p : ℕ) (f : Form) → Inv e (file s n h p) → On (Does (file s n h p)) (onFile l s n h p f)
   inv-file s n h p f i =
-      on-byAct (Does (file s n h p)) _ _ _ _ (act (knownOf s) (getD (fileTables (isFirst s)) p []) (digits 0 0) (marks (partOf h p)) f) (still i refl (i .kept) refl)
+      on-byAct (Does (file s n h p)) _ _ _ _ (act (knownOf s) (getD (fileTables (isFirst s)) p []) (digits 0 0) (rowsThere (partOf h p)) f) (still i refl (i .kept) refl)
       (λ j v. still i refl (i .kept) refl) (λ m j v b. still i refl (i .kept) refl)
       (on-shut (Does (file s n h p)) p _ _ (inv-closed-file s n h p i) (λ q. still i refl (i .kept) refl))
 
   inv-drawing : (s : Set) (d : Drawing) (f : Form) → Inv e (drawing s d) → On (Does (drawing s d)) (onDrawing s d f)
   inv-drawing s d f i =
-      on-byAct (Does (drawing s d)) _ _ _ _ (act (knownOf s) drawingTable (digitsOf (arcOf s)) (marks (d .own)) f) (still i refl (i .kept) refl)
+      on-byAct (Does (drawing s d)) _ _ _ _ (act (knownOf s) drawingTable (digitsOf (arcOf s)) (rowsThere (d .own)) f) (still i refl (i .kept) refl)
       (λ j v. still i refl (i .kept) refl) (λ m j v b. still i refl (i .kept) refl) (still i refl (i .kept) refl)
 
   inv-layers : (s : Set) (d : Drawing) (f : Form) → Inv e (layerNames s d) → On (Does (layerNames s d)) (onLayerNames e l s d f)
@@ -226,10 +228,10 @@ module _ (e : Env) (l : Line) where
 
   inv-symbol : (s : Set) (y : Symbol) (f : Form) → Inv e (symbol s y) → On (Does (symbol s y)) (onSymbol s y f)
   inv-symbol s y f i =
-      on-byAct (Does (symbol s y)) _ _ _ _ (act (knownOf s) symbolTable (digitsOf (defineRange s)) (marks (y .own)) f) (still i refl (i .kept) refl)
+      on-byAct (Does (symbol s y)) _ _ _ _ (act (knownOf s) symbolTable (digitsOf (defineRange s)) (rowsThere (y .own)) f) (still i refl (i .kept) refl)
       (λ j v. on-unless (Does (symbol s y)) (newName s (symbolOwn (set (y .own) j (some v)) y)) 15 _ λ _. still i refl (i .kept .0, slotted-set j v (i .kept .1)) refl)
       (λ m j v b.
-      let w = symbol-begun (y .own) (act-begin (knownOf s) symbolTable (digitsOf (defineRange s)) (marks (y .own)) f b) in
+      let w = symbol-begun (y .own) (act-begin (knownOf s) symbolTable (digitsOf (defineRange s)) (rowsThere (y .own)) f b) in
       inv-open-symbol s y j v m (w .0) (w .1) i)
       (let x = headPlaces (number s) (s .now) ++ drawnPlaces (number s) (s .drawing) in
       still i (ap (λ z. x ++ z) (flat-snoc (symbolPlaces (number s)) (s .symbols) y) ∙ sym (append-assoc x (symbolsPlaces (number s) (s .symbols)) (symbolPlaces (number s) y))) (i .kept .0) refl)
@@ -239,7 +241,7 @@ module _ (e : Env) (l : Line) where
       let figs = figuresPlaces (number s) (y .figures) in
       let dots = pointPlaces (number s) ps in
       let new = place (number s) (l .line) ∷ [] in
-      on-byAct (Does (hide s y ps)) _ _ _ _ (act (knownOf s) (pointTable false) (digits 0 0) (fullAt (length ps) (pointTable false)) f) (still i refl (i .kept) refl)
+      on-byAct (Does (hide s y ps)) _ _ _ _ (act (knownOf s) (pointTable false) (digits 0 0) (rowsAtLimit (length ps) (pointTable false)) f) (still i refl (i .kept) refl)
       (λ j v. on-taking (Does (hide s y ps)) e 1 s _ λ r.
       took 1 r i
       (snoc-behind (front s) (place (number s) (y .line)) (figs ++ dots) new _ (ap (λ z. figs ++ z) (points-more (number s) ps (pointAt l v)) ∙ sym (append-assoc figs dots new)))
@@ -275,14 +277,14 @@ module _ (e : Env) (l : Line) where
 
   inv-figures : (s : Set) (h : Home) (fs : List Figure) (f : Form) → Inv e (figures s h fs) → On (Does (figures s h fs)) (onFigures e l s h fs f)
   inv-figures s h fs f i =
-      on-byAct (Does (figures s h fs)) _ _ _ _ (act (knownOf s) (homeTable s h) (rangeOf s) (fullAt 0 (homeTable s h)) f) (still i refl (i .kept) refl)
+      on-byAct (Does (figures s h fs)) _ _ _ _ (act (knownOf s) (homeTable s h) (rangeOf s) (rowsAtLimit 0 (homeTable s h)) f) (still i refl (i .kept) refl)
       (λ j v. on-taking (Does (figures s h fs)) e 1 s _ λ r. took 1 r i (figures-more s h fs (plain (l .line) j (numsOf v))) (i .kept) refl)
       (λ m j v b. inv-open-figure s h fs m i)
       (inv-closed-figures s h fs i)
 
   inv-successive : (s : Set) (h : Home) (fs : List Figure) (n : ℕ) (ps : List Point) (f : Form) → Inv e (successive s h fs n ps) → On (Does (successive s h fs n ps)) (onSuccessive e l s h fs n ps f)
   inv-successive s h fs n ps f i =
-      on-byAct (Does (successive s h fs n ps)) _ _ _ _ (act (knownOf s) (pointTable (isLayer h)) (digits 0 0) (fullAt (length ps) (pointTable (isLayer h))) f) (still i refl (i .kept) refl)
+      on-byAct (Does (successive s h fs n ps)) _ _ _ _ (act (knownOf s) (pointTable (isLayer h)) (digits 0 0) (rowsAtLimit (length ps) (pointTable (isLayer h))) f) (still i refl (i .kept) refl)
       (λ j v. on-taking (Does (successive s h fs n ps)) e 1 s _ λ r.
       took 1 r i (snoc-behind (inFigures s h fs) (place (number s) n) (pointPlaces (number s) ps) (place (number s) (l .line) ∷ []) _ (points-more (number s) ps (pointAt l v))) (i .kept) refl)
       (λ m j v b. tt)
@@ -290,7 +292,7 @@ module _ (e : Env) (l : Line) where
 
   inv-texts : (s : Set) (h : Home) (fs : List Figure) (n : ℕ) (o : Slots) (f : Form) → Inv e (texts s h fs n o) → On (Does (texts s h fs n o)) (onTexts s h fs n o f)
   inv-texts s h fs n o f i =
-      on-byAct (Does (texts s h fs n o)) _ _ _ _ (act (knownOf s) (textTable (isLayer h) 4 12) (digits 0 0) (marks o) f) (still i refl (i .kept) refl)
+      on-byAct (Does (texts s h fs n o)) _ _ _ _ (act (knownOf s) (textTable (isLayer h) 4 12) (digits 0 0) (rowsThere o) f) (still i refl (i .kept) refl)
       (λ j v. still i refl (i .kept) refl) (λ m j v b. tt) (still i (figures-more s h fs (lettering n o)) (i .kept) refl)
 
   -- a layer opens, and ELEMENT closes
@@ -305,7 +307,7 @@ module _ (e : Env) (l : Line) where
 
   inv-elements : (s : Set) (f : Form) → Inv e (elements s) → On (Does (elements s)) (onElements s f)
   inv-elements s f i =
-      on-byAct (Does (elements s)) _ _ _ _ (act (knownOf s) elementTable (digits 0 0) (fullAt 0 elementTable) f) (still i refl tt refl)
+      on-byAct (Does (elements s)) _ _ _ _ (act (knownOf s) elementTable (digits 0 0) (rowsAtLimit 0 elementTable) f) (still i refl tt refl)
       (λ j v. tt)
       (λ m j v b. on-unless (Does (elements s)) (not (hasNumber (amountAt v 0) (usedIn (s .now)))) 14 _ λ _. inv-layer s v i)
       (on-unless (Does (elements s)) (countedHere s) 17 _ λ _. inv-volume s i)
@@ -329,20 +331,20 @@ module _ (e : Env) (l : Line) where
   inv-placed-key s k fs n o key c absent i = inv-unknown s k fs n o key c i
   inv-placed-key s k fs n o key c (found j r) i =
       on-cond (Does (placing s k fs n o 0)) (reaches (e .class) (r .least)) _ _
-      (λ _. inv-placed s k fs n o 0 (actRow (knownOf s) (rangeOf s) (getD (marks (partOf o 0)) j false) j r c) i)
+      (λ _. inv-placed s k fs n o 0 (actRow (knownOf s) (rangeOf s) (getD (rowsThere (partOf o 0)) j false) j r c) i)
       (λ _. inv-unknown s k fs n o key c i)
 
   inv-placed-own : (s : Set) (k : ℕ) (fs : List Figure) (n : ℕ) (o : Held) (f : Form) → Inv e (placing s k fs n o 0) → On (Does (placing s k fs n o 0)) (onPlacedOwn e s k fs n o f)
   inv-placed-own s k fs n o ignored i = still i refl tt refl
   inv-placed-own s k fs n o (wrong m) i = tt
-  inv-placed-own s k fs n o close i = inv-placed s k fs n o 0 (act (knownOf s) placedTable (both (e .class) (rangeOf s)) (marks (partOf o 0)) close) i
+  inv-placed-own s k fs n o close i = inv-placed s k fs n o 0 (act (knownOf s) placedTable (both (e .class) (rangeOf s)) (rowsThere (partOf o 0)) close) i
   inv-placed-own s k fs n o eof i = tt
   inv-placed-own s k fs n o (keyed key c) i = inv-placed-key s k fs n o key c (find key placedTable) i
 
   inv-placing : (s : Set) (k : ℕ) (fs : List Figure) (n : ℕ) (o : Held) (p : ℕ) (f : Form) → Inv e (placing s k fs n o p) → On (Does (placing s k fs n o p)) (onPlacing e s k fs n o p f)
   inv-placing s k fs n o zero f i = inv-placed-own s k fs n o f i
   inv-placing s k fs n o (suc p) f i =
-      inv-placed s k fs n o (suc p) (act (knownOf s) (getD placedTables (suc p) []) (digits 0 0) (marks (partOf o (suc p))) f) i
+      inv-placed s k fs n o (suc p) (act (knownOf s) (getD placedTables (suc p) []) (digits 0 0) (rowsThere (partOf o (suc p))) f) i
 
   inv-skip-shut : (s : Set) (k : ℕ) (fs : List Figure) (n : ℕ) (o : Held) (d : ℕ) → Inv e (skipping s k fs n o d) → On (Does (skipping s k fs n o d)) (skipShut s k fs n o d)
   inv-skip-shut s k fs n o zero i = tt
@@ -387,7 +389,7 @@ module _ (e : Env) (l : Line) where
   inv-last-element s ignored q i = clash q refl
   inv-last-element s (wrong n) q i = clash q refl
   inv-last-element s close q i =
-      on-close (Ends (elements s)) _ _ _ _ (complete (digits 0 0) elementTable (fullAt 0 elementTable))
+      on-close (Ends (elements s)) _ _ _ _ (complete (digits 0 0) elementTable (rowsAtLimit 0 elementTable))
       (on-unless (Ends (elements s)) (countedHere s) 17 _ λ _.
       still i (volume-closes (s .drawing) (s .symbols) (s .volumes) (s .now)) (λ f. clash f (nil-snoc (s .volumes) (s .now))) (ap suc (one-more s)))
   inv-last-element s eof q i = clash q refl

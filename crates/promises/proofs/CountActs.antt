@@ -11,7 +11,8 @@ use Rattle.rules.specs.RangeClass.{Skip, passes, deeper, noForm}
 use Rattle.rules.specs.Values.{Value, empty, Known, readKind}
 use Rattle.rules.specs.Rows.{Rule, Found, absent, found, find, Act, stay, entry, begin, shut, refuse, orRefuse, innerOf, shapeFor, readShape, actRow, actFound, complete, act}
 use Rattle.rules.specs.Sets.{Set}
-use Rattle.rules.specs.Machine.{Env, State, byAct, roomFor, shutPart, bySkip}
+use Rattle.rules.specs.Machine.{Env, State, byAct, roomFor, shutPart}
+use Rattle.rules.specs.PlacedSymbol.{bySkip}
 use Rattle.rules.proofs.Chains.{clash, by-cond, never, unless-got, map-got, On, on-unless}
 use Rattle.rules.proofs.Rows.{Row, found-row, row-did}
 

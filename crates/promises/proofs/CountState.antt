@@ -10,7 +10,7 @@ use lib.Seq.{getD-set-same}
 use borrow.Author.Tests.{not-false}
 use Rattle.rules.specs.Base.{isNil, isNone, isSome}
 use Rattle.rules.specs.Values.{Value}
-use Rattle.rules.specs.Rows.{Slots, blank, marks, innerOf}
+use Rattle.rules.specs.Rows.{Slots, blank, rowsThere, innerOf}
 use Rattle.rules.specs.Blocks.{symbolTable}
 use Rattle.rules.specs.Sets.{Point, Figure, Drawing, Symbol, Contents, Set, isFirst}
 use Rattle.rules.specs.Machine.{Env, Home, inElement, inLayer, State, top, file, drawing, layerNames, defines, symbol, hide, elements, figures, successive, texts, placing, skipping, ended, roomFor}
@@ -271,7 +271,7 @@ symbol-opens (suc (suc (suc zero))) = tt
 symbol-opens (suc (suc (suc (suc j)))) = tt
 
 -- a block that opens in a symbol is that of its row, and the row's slot was free
-pub symbol-begun : (own : Slots) {i j : ℕ} → Begun symbolTable (marks own) i j → SymbolOpens i j × (isNone (getD own j none) ≡ true)
+pub symbol-begun : (own : Slots) {i j : ℕ} → Begun symbolTable (rowsThere own) i j → SymbolOpens i j × (isNone (getD own j none) ≡ true)
 symbol-begun own {i} {j} b =
     let r = b .rule in
     let at : ruleAt symbolTable j ≡ r = row-at (b .row) _ in

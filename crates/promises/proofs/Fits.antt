@@ -15,12 +15,14 @@ use Rattle.rules.specs.RefusalNumbers.{Got, got, bad, mapG, also}
 use Rattle.rules.specs.Lines.{Rest, brace, equals, Form, ignored, wrong, close, eof, keyed, freeShapeOf}
 use Rattle.rules.specs.RangeClass.{digits, digitsOf, reaches, exceeds, both, Skip, passes, deeper, noForm, skipOf, mostDepth}
 use Rattle.rules.specs.Values.{Value, Known, numsOf, amountAt, isLayerId}
-use Rattle.rules.specs.Rows.{Rule, Found, absent, found, find, Slots, Held, partOf, marks, fullAt, Act, stay, entry, begin, shut, refuse, actRow, actUnknown, act}
+use Rattle.rules.specs.Rows.{Rule, Found, absent, found, find, Slots, Held, partOf, rowsThere, rowsAtLimit, Act, stay, entry, begin, shut, refuse, actRow, actUnknown, act}
 use Rattle.rules.specs.Blocks.{topTable, fileTables, drawingTable, definesTable, symbolTable, elementTable, mostLayers, layerNameKind, around}
 use Rattle.rules.specs.Figures.{layerTable, figureTable, pointTable, textTable, placedTable, placedTables, leastPoints}
 use Rattle.rules.specs.Sets.{Point, Figure, plain, chain, lettering, placed, Drawing, Symbol, Set, nothingYet, isFirst, arcOf, defineRange, rangeOf, knownOf, usedIn, symbolOwn}
 use Rattle.rules.specs.VolumesAndTotals.{chained, dated, countedHere, countedAll, layersUsed}
-use Rattle.rules.specs.Machine.{Line, Env, Home, inElement, inLayer, State, top, file, drawing, layerNames, defines, symbol, hide, elements, figures, successive, texts, placing, skipping, ended, byAct, roomFor, openTop, onTop, closeFile, shutPart, onFile, onDrawing, layerValue, onLayerNames, onDefines, newName, openSymbol, onSymbol, onHide, onElements, isLayer, homeTable, closeFigures, openFigure, onFigures, onSuccessive, onTexts, bySkip, skipDeeper, onUnknown, newSerial, onPlaced, onPlacedKey, onPlacedOwn, onPlacing, onSkipping, stepIn, completes, nextVolume, step, Outcome, refused, accepted, thenRun, finish, run}
+use Rattle.rules.specs.Machine.{Line, Env, Home, inElement, inLayer, State, top, file, drawing, layerNames, defines, symbol, hide, elements, figures, successive, texts, placing, skipping, ended, byAct, roomFor, openTop, onTop, closeFile, shutPart, onFile, onDrawing, layerValue, onLayerNames, onDefines, newName, openSymbol, onSymbol, onHide, onElements, isLayer, homeTable, closeFigures, openFigure, onFigures, onSuccessive, onTexts}
+use Rattle.rules.specs.PlacedSymbol.{bySkip, skipDeeper, onUnknown, newSerial, onPlaced, onPlacedKey, onPlacedOwn, onPlacing, onSkipping}
+use Rattle.rules.specs.LineByLine.{stepIn, completes, nextVolume, step, Outcome, refused, accepted, thenRun, finish, run}
 use Rattle.rules.specs.RecordTable.{recordsOf}
 use Rattle.rules.proofs.Chains.{On, on-unless, on-cond, on-then, on-also, on-got}
 use Rattle.rules.proofs.Rows.{Row, found-row, row-below}
@@ -98,7 +100,7 @@ module _ (S : ℕ → List ℕ → Type 0) where
       on-unless FitState (eqb k 4 && (isNil (l .next) && l .last)) 9 _ λ _.
       on-unless FitState (layersUsed s) 14 _ λ _. on-unless FitState (countedAll s) 17 (got (ended s)) λ _. h .0
   onTop-fit e l s k (keyed key c) x h =
-      by-line (knownOf s) topTable (digits 0 0) (fullAt 0 topTable) (keyed key c) x (top s k) _ _ _ h (λ j v w. tt)
+      by-line (knownOf s) topTable (digits 0 0) (rowsAtLimit 0 topTable) (keyed key c) x (top s k) _ _ _ h (λ j v w. tt)
       (λ i j v w. on-unless FitState (eqb j k) 9 _ λ e′. let q = eqb-true j k e′ in rw q (openTop-fit e l s k h (rw q at (top-rows j v w)))) tt
 
   closeFile-fit : (l : Line) (s : Set) (n : ℕ) (h : Held) → FitState (file s n h 0) → On FitState (closeFile l s n h)
@@ -110,14 +112,14 @@ module _ (S : ℕ → List ℕ → Type 0) where
 
   onFile-fit : (l : Line) (s : Set) (n : ℕ) (h : Held) (p : ℕ) (f : Form) → FitForm S f → FitState (file s n h p) → On FitState (onFile l s n h p f)
   onFile-fit l s n h p f x g =
-      by-line (knownOf s) (getD (fileTables (isFirst s)) p []) (digits 0 0) (marks (partOf h p)) f x (file s n h p) _ _ _ g
+      by-line (knownOf s) (getD (fileTables (isFirst s)) p []) (digits 0 0) (rowsThere (partOf h p)) f x (file s n h p) _ _ _ g
       (λ j v w. (g .0, fit-enter S (fileTables (isFirst s)) h p (w .1) v (g .1) (w .2)))
       (λ i j v w. (g .0, fit-enter S (fileTables (isFirst s)) h p (w .1) v (g .1) (w .2)))
       (shutPart-fit p (closeFile l s n h) _ (closeFile-fit l s n h g) (λ q. g))
 
   onDrawing-fit : (s : Set) (d : Drawing) (f : Form) → FitForm S f → FitState (drawing s d) → On FitState (onDrawing s d f)
   onDrawing-fit s d f x g =
-      by-line (knownOf s) drawingTable (digitsOf (arcOf s)) (marks (d .own)) f x (drawing s d) _ _ _ g
+      by-line (knownOf s) drawingTable (digitsOf (arcOf s)) (rowsThere (d .own)) f x (drawing s d) _ _ _ g
       (λ j v w. (g .0, g .1, (fit-set S (w .1) (d .own) v (g .2 .0) (w .2), g .2 .1)))
       (λ i j v w. (g .0, g .1, (fit-set S (w .1) (d .own) v (g .2 .0) (w .2), g .2 .1)))
       ((g .2, g .0 .1, g .0 .2), λ a b. g .1)
@@ -155,19 +157,19 @@ module _ (S : ℕ → List ℕ → Type 0) where
 
   onSymbol-fit : (s : Set) (y : Symbol) (f : Form) → FitForm S f → FitState (symbol s y) → On FitState (onSymbol s y f)
   onSymbol-fit s y f x g =
-      by-line (knownOf s) symbolTable (digitsOf (defineRange s)) (marks (y .own)) f x (symbol s y) _ _ _ g
+      by-line (knownOf s) symbolTable (digitsOf (defineRange s)) (rowsThere (y .own)) f x (symbol s y) _ _ _ g
       (λ j v w. on-unless FitState (newName s (symbolOwn (set (y .own) j (some v)) y)) 15 _ λ _. (g .0, g .1, (fit-set S (w .1) (y .own) v (g .2 .0) (w .2), g .2 .1)))
       (λ i j v w. openSymbol-fit s (symbolOwn (set (y .own) j (some v)) y) i (g .0, g .1, (fit-set S (w .1) (y .own) v (g .2 .0) (w .2), g .2 .1)))
       ((g .0 .0, each-more (FitSymbol S) (s .symbols) y (g .0 .1) (g .2), g .0 .2), g .1)
 
   onHide-fit : (e : Env) (l : Line) (s : Set) (y : Symbol) (ps : List Point) (f : Form) → FitForm S f → FitState (hide s y ps) → On FitState (onHide e l s y ps f)
   onHide-fit e l s y ps f x g =
-      by-line (knownOf s) (pointTable false) (digits 0 0) (fullAt (length ps) (pointTable false)) f x (hide s y ps) _ _ _ g
+      by-line (knownOf s) (pointTable false) (digits 0 0) (rowsAtLimit (length ps) (pointTable false)) f x (hide s y ps) _ _ _ g
       (λ j v w. on-unless FitState (room e 1 s) 19 _ λ _. g) (λ i j v w. tt) g
 
   onElements-fit : (s : Set) (f : Form) → FitForm S f → FitState (elements s) → On FitState (onElements s f)
   onElements-fit s f x g =
-      by-line (knownOf s) elementTable (digits 0 0) (fullAt 0 elementTable) f x (elements s) _ _ _ g
+      by-line (knownOf s) elementTable (digits 0 0) (rowsAtLimit 0 elementTable) f x (elements s) _ _ _ g
       (λ j v w. tt)
       (λ i j v w. on-unless FitState (not (hasNumber (amountAt v 0) (usedIn (s .now)))) 14 _ λ _. (g .0, g .1, tt, tt))
       (on-unless FitState (countedHere s) 17 _ λ _. ((g .0 .0, g .0 .1, volume-more S (s .volumes) (s .now) (g .0 .2) (g .1)), λ a b. absurd (let z : 4 < 4 = b in omega arith)))
@@ -194,19 +196,19 @@ module _ (S : ℕ → List ℕ → Type 0) where
 
   onFigures-fit : (e : Env) (l : Line) (s : Set) (h : Home) (fs : List Figure) (f : Form) → FitForm S f → FitFigures s h fs → On FitState (onFigures e l s h fs f)
   onFigures-fit e l s h fs f x g =
-      by-line (knownOf s) (homeTable s h) (rangeOf s) (fullAt 0 (homeTable s h)) f x (figures s h fs) _ _ _ g
+      by-line (knownOf s) (homeTable s h) (rangeOf s) (rowsAtLimit 0 (homeTable s h)) f x (figures s h fs) _ _ _ g
       (λ j v w. on-unless FitState (room e 1 s) 19 _ λ _. more-figures s h fs (plain (l .line) j (numsOf v)) g (home-row s h (w .1)))
       (λ i j v w. openFigure-fit e l s h fs i g) (closeFigures-fit s h fs g)
 
   onSuccessive-fit : (e : Env) (l : Line) (s : Set) (h : Home) (fs : List Figure) (n : ℕ) (ps : List Point) (f : Form) → FitForm S f → FitFigures s h fs → On FitState (onSuccessive e l s h fs n ps f)
   onSuccessive-fit e l s h fs n ps f x g =
-      by-line (knownOf s) (pointTable (isLayer h)) (digits 0 0) (fullAt (length ps) (pointTable (isLayer h))) f x (successive s h fs n ps) _ _ _ g
+      by-line (knownOf s) (pointTable (isLayer h)) (digits 0 0) (rowsAtLimit (length ps) (pointTable (isLayer h))) f x (successive s h fs n ps) _ _ _ g
       (λ j v w. on-unless FitState (room e 1 s) 19 _ λ _. g) (λ i j v w. tt)
       (on-unless FitState (leb leastPoints (length ps)) 8 _ λ _. more-figures s h fs (chain n ps) g tt)
 
   onTexts-fit : (s : Set) (h : Home) (fs : List Figure) (n : ℕ) (o : Slots) (f : Form) → FitForm S f → FitState (texts s h fs n o) → On FitState (onTexts s h fs n o f)
   onTexts-fit s h fs n o f x g =
-      by-line (knownOf s) (textTable (isLayer h) 4 12) (digits 0 0) (marks o) f x (texts s h fs n o) _ _ _ g
+      by-line (knownOf s) (textTable (isLayer h) 4 12) (digits 0 0) (rowsThere o) f x (texts s h fs n o) _ _ _ g
       (λ j v w. (g .0, fit-set S (w .1) o v (g .1) (w .2))) (λ i j v w. tt) (more-figures s h fs (lettering n o) (g .0) (g .1))
 
   -- ── the placed symbol ──
@@ -232,8 +234,8 @@ module _ (S : ℕ → List ℕ → Type 0) where
   onPlacedOwn-fit e s i fs n o ignored x g = g
   onPlacedOwn-fit e s i fs n o (wrong m) x g = tt
   onPlacedOwn-fit e s i fs n o close x g =
-      onPlaced-fit s i fs n o 0 (act (knownOf s) placedTable (both (e .class) (rangeOf s)) (marks (partOf o 0)) close)
-      (act-fit S (knownOf s) placedTable (both (e .class) (rangeOf s)) (marks (partOf o 0)) close tt) g
+      onPlaced-fit s i fs n o 0 (act (knownOf s) placedTable (both (e .class) (rangeOf s)) (rowsThere (partOf o 0)) close)
+      (act-fit S (knownOf s) placedTable (both (e .class) (rangeOf s)) (rowsThere (partOf o 0)) close tt) g
   onPlacedOwn-fit e s i fs n o eof x g = tt
   onPlacedOwn-fit e s i fs n o (keyed k c) x g = go (find k placedTable) refl
     where
@@ -241,14 +243,14 @@ module _ (S : ℕ → List ℕ → Type 0) where
       go absent p = onUnknown-fit e s i fs n o k c g
       go (found j r) p =
           on-cond FitState (reaches (e .class) (r .least)) _ _
-          (λ _. onPlaced-fit s i fs n o 0 (actRow (knownOf s) (rangeOf s) (getD (marks (partOf o 0)) j false) j r c) (row-fit S (knownOf s) (rangeOf s) (getD (marks (partOf o 0)) j false) (found-row k placedTable j r p .0) c x) g)
+          (λ _. onPlaced-fit s i fs n o 0 (actRow (knownOf s) (rangeOf s) (getD (rowsThere (partOf o 0)) j false) j r c) (row-fit S (knownOf s) (rangeOf s) (getD (rowsThere (partOf o 0)) j false) (found-row k placedTable j r p .0) c x) g)
           (λ _. onUnknown-fit e s i fs n o k c g)
 
   onPlacing-fit : (e : Env) (s : Set) (i : ℕ) (fs : List Figure) (n : ℕ) (o : Held) (p : ℕ) (f : Form) → FitForm S f → FitPlacing s fs o → On FitState (onPlacing e s i fs n o p f)
   onPlacing-fit e s i fs n o zero f x g = onPlacedOwn-fit e s i fs n o f x g
   onPlacing-fit e s i fs n o (suc p) f x g =
-      onPlaced-fit s i fs n o (suc p) (act (knownOf s) (getD placedTables (suc p) []) (digits 0 0) (marks (partOf o (suc p))) f)
-      (act-fit S (knownOf s) (getD placedTables (suc p) []) (digits 0 0) (marks (partOf o (suc p))) f x) g
+      onPlaced-fit s i fs n o (suc p) (act (knownOf s) (getD placedTables (suc p) []) (digits 0 0) (rowsThere (partOf o (suc p))) f)
+      (act-fit S (knownOf s) (getD placedTables (suc p) []) (digits 0 0) (rowsThere (partOf o (suc p))) f x) g
 
   onSkipping-fit : (s : Set) (i : ℕ) (fs : List Figure) (n : ℕ) (o : Held) (d : ℕ) (f : Form) → FitPlacing s fs o → On FitState (onSkipping s i fs n o d f)
   onSkipping-fit s i fs n o d ignored g = g

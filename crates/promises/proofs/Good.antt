@@ -12,7 +12,7 @@ use Rattle.rules.specs.RefusalNumbers.{got}
 use Rattle.rules.specs.Lines.{allowed, Rest, brace, equals, keyed, formOf, freeShapeOf}
 use Rattle.rules.specs.RangeClass.{digits, digitsOf, reaches, both}
 use Rattle.rules.specs.Values.{Num, Value, nums, Known, isLayerId, charsOf, amountAt}
-use Rattle.rules.specs.Rows.{Rule, Slots, blank, Held, partOf, numberOf, marks, complete, Act, entry, begin, innerOf, actRow}
+use Rattle.rules.specs.Rows.{Rule, Slots, blank, Held, partOf, numberOf, rowsThere, complete, Act, entry, begin, innerOf, actRow}
 use Rattle.rules.specs.Blocks.{fileTable, rangeTable, baseTable, elecTable, symTable, laterTable, drawingTable, mostLayers, symbolTable}
 use Rattle.rules.specs.Figures.{layerTable, figureTable, mostPoints, leastPoints, pointTable, textTable, placedTable}
 use Rattle.rules.specs.Sets.{Point, Figure, plain, chain, lettering, placed, Layer, Drawing, Symbol, LayerBlock, Contents, Set, arcOf, rangeOf, defineRange, isSingle, symbolNameOf, knownOf, serialsOfVolume, elementsOf, usedIn}
@@ -69,7 +69,7 @@ InSlot P r (some v) = P r v
 -- a closed block of the table t: its slots are good, and nothing required at d is missing
 pub record Closed (P : Rule → Value → Type 0) (d : Digits) (t : List Rule) (s : Slots) : Type 0 where
   pub good : GoodSlots P t s
-  pub all : complete d t (marks s) ≡ true
+  pub all : complete d t (rowsThere s) ≡ true
 
 -- an inner part: closed where it was opened, blank where not
 abbrev pub GoodPart : Bool → (Rule → Value → Type 0) → Digits → List Rule → Slots → Type 0

@@ -12,7 +12,8 @@ use Rattle.rules.specs.Lines.{Form, ignored, wrong, close, eof, keyed}
 use Rattle.rules.specs.Blocks.{elementTable}
 use Rattle.rules.specs.Sets.{Contents, Set, nothingYet}
 use Rattle.rules.specs.VolumesAndTotals.{countedHere, countedAll, layersUsed}
-use Rattle.rules.specs.Machine.{Line, State, top, file, drawing, layerNames, defines, symbol, hide, elements, figures, successive, texts, placing, skipping, ended, stepIn, isIgnored, isClose, isEof, completes, nextVolume, Outcome, refused, accepted, thenRun, finish, run, onTop, onElements}
+use Rattle.rules.specs.Machine.{Line, State, top, file, drawing, layerNames, defines, symbol, hide, elements, figures, successive, texts, placing, skipping, ended, onTop, onElements}
+use Rattle.rules.specs.LineByLine.{stepIn, isIgnored, isClose, isEof, completes, nextVolume, Outcome, refused, accepted, thenRun, finish, run}
 use Rattle.rules.specs.Answers.{fullClass}
 use Rattle.rules.proofs.Chains.{or-true, clash, cond-same, On, on-unless, on-map, on-also, or-left}
 use Rattle.promises.proofs.Forms.{Tells}

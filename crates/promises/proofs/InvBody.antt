@@ -15,12 +15,13 @@ use Rattle.rules.specs.RefusalNumbers.{Got, got, bad, orBad}
 use Rattle.rules.specs.Lines.{Rest, Form, ignored, wrong, close, eof, keyed}
 use Rattle.rules.specs.RangeClass.{digits, reaches, exceeds, both, Skip, passes, deeper, noForm, skipOf, mostDepth}
 use Rattle.rules.specs.Values.{Num, num, Value, nums, Known, numsOf, amountAt, isLayerId, natural, readPart, layerId, headed, readKind, serialsOf}
-use Rattle.rules.specs.Rows.{Rule, Found, absent, found, find, Slots, Held, partOf, slotValue, held, marks, fullAt, shapeFor, Act, stay, entry, begin, shut, refuse, actRow, actUnknown, act, complete, innerOf}
+use Rattle.rules.specs.Rows.{Rule, Found, absent, found, find, Slots, Held, partOf, slotValue, held, rowsThere, rowsAtLimit, shapeFor, Act, stay, entry, begin, shut, refuse, actRow, actUnknown, act, complete, innerOf}
 use Rattle.rules.specs.Blocks.{elementTable}
 use Rattle.rules.specs.Figures.{layerTable, figureTable, leastPoints, pointTable, textTable, placedTable, placedTables}
 use Rattle.rules.specs.Sets.{Point, Figure, plain, chain, lettering, placed, LayerBlock, Contents, Set, withRecords, withVolume, withBlock, rangeOf, isSingle, knownOf, figureSerial, serialsOfBlock, serialsOfVolume, serialsIn, usedIn}
 use Rattle.rules.specs.VolumesAndTotals.{countedHere}
-use Rattle.rules.specs.Machine.{Line, Home, inElement, inLayer, State, elements, figures, successive, texts, placing, skipping, byAct, onElements, isLayer, homeTable, closeFigures, openFigure, onFigures, onSuccessive, onTexts, bySkip, onUnknown, noneOf, newSerial, onPlaced, onPlacedKey, onPlacedOwn, onPlacing, skipShut, onSkipping}
+use Rattle.rules.specs.Machine.{Line, Home, inElement, inLayer, State, elements, figures, successive, texts, placing, skipping, byAct, onElements, isLayer, homeTable, closeFigures, openFigure, onFigures, onSuccessive, onTexts}
+use Rattle.rules.specs.PlacedSymbol.{bySkip, onUnknown, noneOf, newSerial, onPlaced, onPlacedKey, onPlacedOwn, onPlacing, skipShut, onSkipping}
 use Rattle.rules.specs.Answers.{fullClass}
 use Rattle.rules.specs.RecordTable.{ruleAt}
 use Rattle.rules.proofs.Chains.{unless-got, map-got, or-got, map-append, On, on-unless, on-cond, or-left}
@@ -132,12 +133,12 @@ shape-rows : (all onlyNumbers figureTable ≡ true) × (allNameless figureTable 
 unfolding figureTable
 shape-rows = (refl, refl)
 
-plain-good : (s : Set) (h : Home) (m j : ℕ) (v : Value) → Took (knownOf s) (rangeOf s) (homeTable s h) (fullAt 0 (homeTable s h)) j v false (entry j v) → HomeGood s h (plain m j (numsOf v))
+plain-good : (s : Set) (h : Home) (m j : ℕ) (v : Value) → Took (knownOf s) (rangeOf s) (homeTable s h) (rowsAtLimit 0 (homeTable s h)) j v false (entry j v) → HomeGood s h (plain m j (numsOf v))
 plain-good s (inElement y) m j v w =
-    let e = entry-numbers (knownOf s) (rangeOf s) (getD (fullAt 0 figureTable) j false) j (w .rule) (w .rest) j v (row-all onlyNumbers (w .row) (shape-rows .0)) (w .from) in
+    let e = entry-numbers (knownOf s) (rangeOf s) (getD (rowsAtLimit 0 figureTable) j false) j (w .rule) (w .rest) j v (row-all onlyNumbers (w .row) (shape-rows .0)) (w .from) in
     record { rule = w .rule; row = w .row; good = rw e (w .always (row-all (λ r. nameless (r .holds)) (w .row) (shape-rows .1))); alone = rw e (w .opened-is) }
 plain-good s (inLayer n) m j v w =
-    let e = entry-numbers (knownOf s) (rangeOf s) (getD (fullAt 0 (layerTable (isSingle s))) j false) j (w .rule) (w .rest) j v (row-all onlyNumbers (w .row) (layer-numbers (isSingle s))) (w .from) in
+    let e = entry-numbers (knownOf s) (rangeOf s) (getD (rowsAtLimit 0 (layerTable (isSingle s))) j false) j (w .rule) (w .rest) j v (row-all onlyNumbers (w .row) (layer-numbers (isSingle s))) (w .from) in
     record { rule = w .rule; row = w .row; good = rw e (w .good); alone = rw e (w .opened-is) }
 
 -- a placed symbol's block opens at no single range, from 001 on
@@ -177,7 +178,7 @@ module _ (done fin : List (List ℕ)) (l : Line) (n : ℕ) (fit : n ≤ 512) whe
   pub on-elements : (s : Set) → Tells n (l .form) → J (elements s) → On J (onElements s (l .form))
   unfolding elementTable
   on-elements s t i =
-      on-act J (knownOf s) none0 elementTable (fullAt 0 elementTable) n (l .form) (table-keys true 0 0 .10) t fit _ _ _ _ i
+      on-act J (knownOf s) none0 elementTable (rowsAtLimit 0 elementTable) n (l .form) (table-keys true 0 0 .10) t fit _ _ _ _ i
       (λ j v w. tt)
       (λ i′ j v w. on-unless J (not (hasNumber (amountAt v 0) (usedIn (s .now)))) 14 _ λ e.
       (i, layer-open (s .now) w (not-true (hasNumber (amountAt v 0) (usedIn (s .now))) e), tt, rw (append-nil (serialsIn s)) (i .serials)))
@@ -188,7 +189,7 @@ module _ (done fin : List (List ℕ)) (l : Line) (n : ℕ) (fit : n ≤ 512) whe
   close-figures s (inLayer k) fs i = close-layer done (l .next) s k fs i
 
   open-figure : (s : Set) (h : Home) (fs : List Figure) (i j : ℕ) (v : Value) → J (figures s h fs)
-      → Took (knownOf s) (rangeOf s) (homeTable s h) (fullAt 0 (homeTable s h)) j v true (begin i j v) → On J (openFigure fullEnv l s h fs i)
+      → Took (knownOf s) (rangeOf s) (homeTable s h) (rowsAtLimit 0 (homeTable s h)) j v true (begin i j v) → On J (openFigure fullEnv l s h fs i)
   open-figure s h fs zero j v i w = tt
   open-figure s h fs (suc zero) j v i w = (records-taken done (l .next) s h fs 1 i, (tt, refl))
   open-figure s h fs (suc (suc zero)) j v i w = (records-taken done (l .next) s h fs 1 i, good-blank (Always none0) (textTable (isLayer h) 4 12))
@@ -198,7 +199,7 @@ module _ (done fin : List (List ℕ)) (l : Line) (n : ℕ) (fit : n ≤ 512) whe
 
   pub on-figures : (s : Set) (h : Home) (fs : List Figure) → Tells n (l .form) → J (figures s h fs) → On J (onFigures fullEnv l s h fs (l .form))
   on-figures s h fs t i =
-      on-act J (knownOf s) (rangeOf s) (homeTable s h) (fullAt 0 (homeTable s h)) n (l .form) (home-keys s h) t fit _ _ _ _ i
+      on-act J (knownOf s) (rangeOf s) (homeTable s h) (rowsAtLimit 0 (homeTable s h)) n (l .form) (home-keys s h) t fit _ _ _ _ i
       (λ j v w. records-taken done (l .next) s h (fs ++ plain (l .line) j (numsOf v) ∷ []) 1
       (add-figure done (l .next) s h fs (plain (l .line) j (numsOf v)) i (plain-good s h (l .line) j v w) refl))
       (λ i′ j v w. open-figure s h fs i′ j v i w)
@@ -207,7 +208,7 @@ module _ (done fin : List (List ℕ)) (l : Line) (n : ℕ) (fit : n ≤ 512) whe
   -- ── figures that are blocks ──
   pub on-successive : (s : Set) (h : Home) (fs : List Figure) (m : ℕ) (ps : List Point) → Tells n (l .form) → J (successive s h fs m ps) → On J (onSuccessive fullEnv l s h fs m ps (l .form))
   on-successive s h fs m ps t i =
-      on-act J (knownOf s) none0 (pointTable (isLayer h)) (fullAt (length ps) (pointTable (isLayer h))) n (l .form) (table-keys (isLayer h) 0 0 .13) t fit _ _ _ _ i
+      on-act J (knownOf s) none0 (pointTable (isLayer h)) (rowsAtLimit (length ps) (pointTable (isLayer h))) n (l .form) (table-keys (isLayer h) 0 0 .13) t fit _ _ _ _ i
       (λ j v w. (records-taken done (l .next) s h fs 1 (i .0), points-enter (isLayer h) l ps (i .1) w))
       (λ i′ j v w. tt)
       (λ e. on-unless J (leb leastPoints (length ps)) 8 _ λ c.
@@ -215,16 +216,16 @@ module _ (done fin : List (List ℕ)) (l : Line) (n : ℕ) (fit : n ≤ 512) whe
 
   pub on-texts : (s : Set) (h : Home) (fs : List Figure) (m : ℕ) (o : Slots) → Tells n (l .form) → J (texts s h fs m o) → On J (onTexts s h fs m o (l .form))
   on-texts s h fs m o t i =
-      on-act J (knownOf s) none0 (textTable (isLayer h) 4 12) (marks o) n (l .form) (table-keys (isLayer h) 4 12 .14) t fit _ _ _ _ i
+      on-act J (knownOf s) none0 (textTable (isLayer h) 4 12) (rowsThere o) n (l .form) (table-keys (isLayer h) 4 12 .14) t fit _ _ _ _ i
       (λ j v w. (i .0, took-set o none0 (texts-nameless (isLayer h)) w (i .1)))
       (λ i′ j v w. tt)
       (λ e. add-figure done (l .next) s h fs (lettering m o) (i .0) (text-home s h m o (record { good = i .1; all = e })) refl)
 
   -- ── the placed symbol ──
-  placed-act : (s : Set) (k : ℕ) (fs : List Figure) (m : ℕ) (o : Held) (a : Act) → ActTold (knownOf s) (rangeOf s) (both fullClass (rangeOf s)) placedTable (marks (partOf o 0)) a → J (placing s k fs m o 0)
+  placed-act : (s : Set) (k : ℕ) (fs : List Figure) (m : ℕ) (o : Held) (a : Act) → ActTold (knownOf s) (rangeOf s) (both fullClass (rangeOf s)) placedTable (rowsThere (partOf o 0)) a → J (placing s k fs m o 0)
       → On J (onPlaced s k fs m o 0 a)
   placed-act s k fs m o a told i =
-      on-byAct J (knownOf s) (rangeOf s) (both fullClass (rangeOf s)) placedTable (marks (partOf o 0)) _ _ _ _ a told i
+      on-byAct J (knownOf s) (rangeOf s) (both fullClass (rangeOf s)) placedTable (rowsThere (partOf o 0)) _ _ _ _ a told i
       (λ j v w. on-unless J (newSerial s fs v) 15 _ λ e. (i .0, placed-enter (serialsIn s ++ figureSerials fs) o (i .1) w e, i .2, i .3))
       (λ i′ j v w. (i .0, placed-begin (serialsIn s ++ figureSerials fs) o (i .1) w, i .2, i .3))
       (λ e. let (g, new) = placed-good (serialsIn s ++ figureSerials fs) o m (i .1) e in add-figure done (l .next) s (inLayer k) fs (placed m o) (i .0) (g, i .2, i .3) new)
@@ -252,23 +253,23 @@ module _ (done fin : List (List ℕ)) (l : Line) (n : ℕ) (fit : n ≤ 512) whe
   placed-key s k fs m o key c (found j r) e t i =
       let (w, q) = found-row key placedTable j r e in
       on-cond J (reaches fullClass (r .least)) _ _
-      (λ _. placed-act s k fs m o (actRow (knownOf s) (rangeOf s) (getD (marks (partOf o 0)) j false) j r c)
-      (row-told (knownOf s) (rangeOf s) (both fullClass (rangeOf s)) placedTable (marks (partOf o 0)) n key c j r w q (table-keys true 0 0 .15) t fit) i)
+      (λ _. placed-act s k fs m o (actRow (knownOf s) (rangeOf s) (getD (rowsThere (partOf o 0)) j false) j r c)
+      (row-told (knownOf s) (rangeOf s) (both fullClass (rangeOf s)) placedTable (rowsThere (partOf o 0)) n key c j r w q (table-keys true 0 0 .15) t fit) i)
       (λ _. on-unknown s k fs m o key c i)
 
   placed-own : (s : Set) (k : ℕ) (fs : List Figure) (m : ℕ) (o : Held) (f : Form) → Tells n f → J (placing s k fs m o 0) → On J (onPlacedOwn fullEnv s k fs m o f)
   placed-own s k fs m o ignored t i = i
   placed-own s k fs m o (wrong p) t i = tt
   placed-own s k fs m o close t i =
-      placed-act s k fs m o (act (knownOf s) placedTable (both fullClass (rangeOf s)) (marks (partOf o 0)) close)
-      (close-told (knownOf s) (rangeOf s) (both fullClass (rangeOf s)) placedTable (marks (partOf o 0))) i
+      placed-act s k fs m o (act (knownOf s) placedTable (both fullClass (rangeOf s)) (rowsThere (partOf o 0)) close)
+      (close-told (knownOf s) (rangeOf s) (both fullClass (rangeOf s)) placedTable (rowsThere (partOf o 0))) i
   placed-own s k fs m o eof t i = tt
   placed-own s k fs m o (keyed key c) t i = placed-key s k fs m o key c (find key placedTable) refl t i
 
   pub on-placing : (s : Set) (k : ℕ) (fs : List Figure) (m : ℕ) (o : Held) (p : ℕ) → Tells n (l .form) → J (placing s k fs m o p) → On J (onPlacing fullEnv s k fs m o p (l .form))
   on-placing s k fs m o zero t i = placed-own s k fs m o (l .form) t i
   on-placing s k fs m o (suc p) t i =
-      on-act J (knownOf s) none0 (getD placedTables (suc p) []) (marks (partOf o (suc p))) n (l .form) (text-keys p) t fit _ _ _ _ i
+      on-act J (knownOf s) none0 (getD placedTables (suc p) []) (rowsThere (partOf o (suc p))) n (l .form) (text-keys p) t fit _ _ _ _ i
       (λ j v w. on-unless J (newSerial s fs v) 15 _ λ e. (i .0, text-enter (serialsIn s ++ figureSerials fs) p o (i .1) w, i .2, i .3))
       (λ i′ j v w. absurd (text-opens p w))
       (λ e. (i .0, text-shut (serialsIn s ++ figureSerials fs) p o (i .1) e, i .2, i .3))

@@ -10,7 +10,7 @@ use lib.ListN.{getD, set}
 use borrow.Author.Tests.{eqb-true}
 use Rattle.rules.specs.Base.{all, isSome}
 use Rattle.rules.specs.Values.{Value, Known}
-use Rattle.rules.specs.Rows.{Rule, Slots, blank, Held, partOf, enter, marks, Act, begin, complete}
+use Rattle.rules.specs.Rows.{Rule, Slots, blank, Held, partOf, enter, rowsThere, Act, begin, complete}
 use Rattle.rules.specs.Blocks.{fileTable, rangeTable, baseTable, elecTable, symTable, laterTable, fileTables, around, blankHeld}
 use Rattle.rules.proofs.Chains.{clash}
 use Rattle.promises.proofs.Forms.{keysOk}
@@ -84,7 +84,7 @@ file-nameless false zero = refl
 file-nameless false (suc p) = refl
 
 parts-enter : {k : Known} {j : ℕ} {v : Value} {a : Act} (p : ℕ) (own range base elec sym : Slots) → Parts p own range base elec sym
-    → Took k none0 (partTable true p) (marks (partOf (own ∷ range ∷ base ∷ elec ∷ sym ∷ []) p)) j v false a → FirstInv p (enter (own ∷ range ∷ base ∷ elec ∷ sym ∷ []) p j v)
+    → Took k none0 (partTable true p) (rowsThere (partOf (own ∷ range ∷ base ∷ elec ∷ sym ∷ []) p)) j v false a → FirstInv p (enter (own ∷ range ∷ base ∷ elec ∷ sym ∷ []) p j v)
 unfolding fileTable rangeTable
 parts-enter {j = j} {v = v} zero own range base elec sym f w =
     first
@@ -139,7 +139,7 @@ parts-enter {j = j} {v = v} (suc (suc (suc (suc zero)))) own range base elec sym
 parts-enter (suc (suc (suc (suc (suc p))))) own range base elec sym f w = absurd (omega (arith, f .low))
 
 parts-begin : {k : Known} {i j : ℕ} {v : Value} (p : ℕ) (own range base elec sym : Slots) → Parts p own range base elec sym
-    → Took k none0 (partTable true p) (marks (partOf (own ∷ range ∷ base ∷ elec ∷ sym ∷ []) p)) j v true (begin i j v) → FirstInv i (enter (own ∷ range ∷ base ∷ elec ∷ sym ∷ []) p j v)
+    → Took k none0 (partTable true p) (rowsThere (partOf (own ∷ range ∷ base ∷ elec ∷ sym ∷ []) p)) j v true (begin i j v) → FirstInv i (enter (own ∷ range ∷ base ∷ elec ∷ sym ∷ []) p j v)
 unfolding fileTable rangeTable baseTable elecTable symTable
 parts-begin {k} {i} {j} {v} zero own range base elec sym f w =
     let z = eqb-true j 0 (open-at (λ j. eqb j 0) w refl) in
@@ -204,7 +204,7 @@ parts-begin (suc (suc (suc (suc zero)))) own range base elec sym f w = clash (op
 parts-begin (suc (suc (suc (suc (suc p))))) own range base elec sym f w = absurd (omega (arith, f .low))
 
 -- an inner part closes
-parts-shut : (p : ℕ) (own range base elec sym : Slots) → Parts (suc p) own range base elec sym → complete none0 (partTable true (suc p)) (marks (partOf (own ∷ range ∷ base ∷ elec ∷ sym ∷ []) (suc p))) ≡ true
+parts-shut : (p : ℕ) (own range base elec sym : Slots) → Parts (suc p) own range base elec sym → complete none0 (partTable true (suc p)) (rowsThere (partOf (own ∷ range ∷ base ∷ elec ∷ sym ∷ []) (suc p))) ≡ true
     → Parts (around (suc p)) own range base elec sym
 parts-shut zero own range base elec sym f e =
     record {
@@ -245,7 +245,7 @@ parts-shut (suc (suc (suc zero))) own range base elec sym f e =
 parts-shut (suc (suc (suc (suc p)))) own range base elec sym f e = absurd (omega (arith, f .low))
 
 -- all is closed
-parts-good : (own range base elec sym : Slots) → Parts 0 own range base elec sym → complete none0 fileTable (marks own) ≡ true → GoodFile (own ∷ range ∷ base ∷ elec ∷ sym ∷ [])
+parts-good : (own range base elec sym : Slots) → Parts 0 own range base elec sym → complete none0 fileTable (rowsThere own) ≡ true → GoodFile (own ∷ range ∷ base ∷ elec ∷ sym ∷ [])
 unfolding fileTable rangeTable
 parts-good own range base elec sym f e =
     let closed = part-closed (Always none0) rangeTable range (complete-at (Always none0) none0 fileTable 0 own (omega arith) (f .own-good) e) (f .range-good) in
@@ -265,16 +265,16 @@ parts-good own range base elec sym f e =
 
 -- ── FILE_FORMAT of any volume ──
 later-enter : {k : Known} {j : ℕ} {v : Value} {a : Act} (p : ℕ) (own : Slots) → p ≡ 0 → GoodSlots (Always none0) laterTable own
-    → Took k none0 (partTable false p) (marks (partOf (own ∷ []) p)) j v false a → LaterInv p (enter (own ∷ []) p j v)
+    → Took k none0 (partTable false p) (rowsThere (partOf (own ∷ []) p)) j v false a → LaterInv p (enter (own ∷ []) p j v)
 later-enter {j = j} {v = v} zero own z g w = record { own = set own j (some v); is = refl; low = refl; own-good = took-set own none0 (file-nameless false 0) w g }
 later-enter (suc p) own z g w = absurd (omega arith)
 
-pub file-enter : {k : Known} {j : ℕ} {v : Value} {a : Act} (b : Bool) (p : ℕ) (h : Held) → FileInv b p h → Took k none0 (partTable b p) (marks (partOf h p)) j v false a → FileInv b p (enter h p j v)
+pub file-enter : {k : Known} {j : ℕ} {v : Value} {a : Act} (b : Bool) (p : ℕ) (h : Held) → FileInv b p h → Took k none0 (partTable b p) (rowsThere (partOf h p)) j v false a → FileInv b p (enter h p j v)
 file-enter {k} {j} {v} {a} true p h f w =
-    (subst (λ (h : Held). Took k none0 (partTable true p) (marks (partOf h p)) j v false a → FirstInv p (enter h p j v)) (sym (f .is))
+    (subst (λ (h : Held). Took k none0 (partTable true p) (rowsThere (partOf h p)) j v false a → FirstInv p (enter h p j v)) (sym (f .is))
     (parts-enter p (f .own) (f .range) (f .base) (f .elec) (f .sym) (f .parts))) w
 file-enter {k} {j} {v} {a} false p h f w =
-    (subst (λ (h : Held). Took k none0 (partTable false p) (marks (partOf h p)) j v false a → LaterInv p (enter h p j v)) (sym (f .is))
+    (subst (λ (h : Held). Took k none0 (partTable false p) (rowsThere (partOf h p)) j v false a → LaterInv p (enter h p j v)) (sym (f .is))
     (later-enter p (f .own) (f .low) (f .own-good))) w
 
 later-shut : {k : Known} {j : ℕ} {v : Value} {a : Act} {full : List Bool} (p : ℕ) → p ≡ 0 → Took k none0 (partTable false p) full j v true a → ⊥
@@ -282,24 +282,24 @@ unfolding laterTable
 later-shut zero z w = true≢false (sym (open-at (λ j. false) w refl))
 later-shut (suc p) z w = omega arith
 
-pub file-begin : {k : Known} {i j : ℕ} {v : Value} (b : Bool) (p : ℕ) (h : Held) → FileInv b p h → Took k none0 (partTable b p) (marks (partOf h p)) j v true (begin i j v) → FileInv b i (enter h p j v)
+pub file-begin : {k : Known} {i j : ℕ} {v : Value} (b : Bool) (p : ℕ) (h : Held) → FileInv b p h → Took k none0 (partTable b p) (rowsThere (partOf h p)) j v true (begin i j v) → FileInv b i (enter h p j v)
 file-begin {k} {i} {j} {v} true p h f w =
-    (subst (λ (h : Held). Took k none0 (partTable true p) (marks (partOf h p)) j v true (begin i j v) → FirstInv i (enter h p j v)) (sym (f .is))
+    (subst (λ (h : Held). Took k none0 (partTable true p) (rowsThere (partOf h p)) j v true (begin i j v) → FirstInv i (enter h p j v)) (sym (f .is))
     (parts-begin p (f .own) (f .range) (f .base) (f .elec) (f .sym) (f .parts))) w
 file-begin false p h f w = absurd (later-shut p (f .low) w)
 
-pub file-shut-in : (b : Bool) (p : ℕ) (h : Held) → FileInv b (suc p) h → complete none0 (partTable b (suc p)) (marks (partOf h (suc p))) ≡ true → FileInv b (around (suc p)) h
+pub file-shut-in : (b : Bool) (p : ℕ) (h : Held) → FileInv b (suc p) h → complete none0 (partTable b (suc p)) (rowsThere (partOf h (suc p))) ≡ true → FileInv b (around (suc p)) h
 file-shut-in true p h f e =
-    (subst (λ (h : Held). complete none0 (partTable true (suc p)) (marks (partOf h (suc p))) ≡ true → FirstInv (around (suc p)) h) (sym (f .is))
+    (subst (λ (h : Held). complete none0 (partTable true (suc p)) (rowsThere (partOf h (suc p))) ≡ true → FirstInv (around (suc p)) h) (sym (f .is))
     (λ e. first (parts-shut p (f .own) (f .range) (f .base) (f .elec) (f .sym) (f .parts) e))) e
 file-shut-in false p h f e = absurd (omega (arith, f .low))
 
-pub file-shut : (b : Bool) (h : Held) → FileInv b 0 h → complete none0 (partTable b 0) (marks (partOf h 0)) ≡ true → FileGood b h
+pub file-shut : (b : Bool) (h : Held) → FileInv b 0 h → complete none0 (partTable b 0) (rowsThere (partOf h 0)) ≡ true → FileGood b h
 file-shut true h f e =
-    (subst (λ (h : Held). complete none0 fileTable (marks (partOf h 0)) ≡ true → GoodFile h) (sym (f .is)) (parts-good (f .own) (f .range) (f .base) (f .elec) (f .sym) (f .parts))) e
+    (subst (λ (h : Held). complete none0 fileTable (rowsThere (partOf h 0)) ≡ true → GoodFile h) (sym (f .is)) (parts-good (f .own) (f .range) (f .base) (f .elec) (f .sym) (f .parts))) e
 file-shut false h f e =
     record {
       own = f .own;
       is = f .is;
-      own-good = record { good = f .own-good; all = subst (λ (h : Held). complete none0 laterTable (marks (partOf h 0)) ≡ true) (f .is) e };
+      own-good = record { good = f .own-good; all = subst (λ (h : Held). complete none0 laterTable (rowsThere (partOf h 0)) ≡ true) (f .is) e };
     }

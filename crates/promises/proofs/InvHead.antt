@@ -15,7 +15,7 @@ use Rattle.rules.specs.RefusalNumbers.{bad, unless}
 use Rattle.rules.specs.Lines.{Rest, equals, Form, ignored, wrong, close, eof, keyed, shapeOf, freeShapeOf}
 use Rattle.rules.specs.RangeClass.{digitsOf, reaches}
 use Rattle.rules.specs.Values.{Value, empty, nums, chars, linked, Known, word, lettersAndDigits, charsOf, isLayerId, showContent}
-use Rattle.rules.specs.Rows.{Slots, Held, partOf, marks, fullAt, fits, Act, entry, begin, act, complete}
+use Rattle.rules.specs.Rows.{Slots, Held, partOf, rowsThere, rowsAtLimit, fits, Act, entry, begin, act, complete}
 use Rattle.rules.specs.Blocks.{topTable, drawingTable, mostLayers, definesTable, symbolTable}
 use Rattle.rules.specs.Figures.{pointTable}
 use Rattle.rules.specs.Sets.{Point, Layer, Drawing, Symbol, Contents, Set, headOr, withOwn, symbolOwn, isFirst, arcOf, rangeOf, defineRange, symbolNameOf, knownOf, serialsOfVolume}
@@ -115,14 +115,14 @@ unfolding pointTable
 point-nameless true = refl
 point-nameless false = refl
 
-pub points-enter : {k : Known} {j : ℕ} {v : Value} (b : Bool) (l : Line) (ps : List Point) → Points b ps → Took k none0 (pointTable b) (fullAt (length ps) (pointTable b)) j v false (entry j v)
+pub points-enter : {k : Known} {j : ℕ} {v : Value} (b : Bool) (l : Line) (ps : List Point) → Points b ps → Took k none0 (pointTable b) (rowsAtLimit (length ps) (pointTable b)) j v false (entry j v)
     → Points b (ps ++ pointAt l v ∷ [])
 unfolding pointTable
 points-enter {k} {j} {v} b l ps i w =
     let z = eqb-true j 0 (row-all-at (λ j r. eqb j 0) (w .row) refl) in
     let q : getD (pointTable b) 0 (w .rule) ≡ w .rule = subst (λ (j : ℕ). getD (pointTable b) j (w .rule) ≡ w .rule) z (row-at (w .row) (w .rule)) in
-    let few : leb 100 (length ps) ≡ false = subst (λ (j : ℕ). getD (fullAt (length ps) (pointTable b)) j false ≡ false) z (w .new) in
-    let v-is = entry-numbers k none0 (getD (fullAt (length ps) (pointTable b)) j false) j (w .rule) (w .rest) j v (row-all onlyNumbers (w .row) refl) (w .from) in
+    let few : leb 100 (length ps) ≡ false = subst (λ (j : ℕ). getD (rowsAtLimit (length ps) (pointTable b)) j false ≡ false) z (w .new) in
+    let v-is = entry-numbers k none0 (getD (rowsAtLimit (length ps) (pointTable b)) j false) j (w .rule) (w .rest) j v (row-all onlyNumbers (w .row) refl) (w .from) in
     let a : Always none0 (w .rule) v = w .always (row-all (λ r. nameless (r .holds)) (w .row) (point-nameless b)) in (
       points-more b ps (pointAt l v) (i .0) (rw (q, v-is) a),
       le-leb (length (ps ++ pointAt l v ∷ [])) 100 (omega (arith, length-append ps (pointAt l v ∷ []), leb-false 100 (length ps) few)),
@@ -134,7 +134,7 @@ unfolding symbolTable
 symbol-nameless = refl
 
 -- a row that opens a block is not the name's
-name-kept : {k : Known} {d : Digits} {i j : ℕ} {v : Value} (s : Set) (own : Slots) → Took k d symbolTable (marks own) j v true (begin i j v) → NewName s own → NewName s (set own j (some v))
+name-kept : {k : Known} {d : Digits} {i j : ℕ} {v : Value} (s : Set) (own : Slots) → Took k d symbolTable (rowsThere own) j v true (begin i j v) → NewName s own → NewName s (set own j (some v))
 unfolding symbolTable
 name-kept {j = j} {v = v} s own w e = rw (getD-set-other own j 0 (some v) none (λ z. true≢false (sym (opened-by w 0 (sym z))))) e
 
@@ -143,7 +143,7 @@ must-be : (d : Digits) (b : Bool) → (not (reaches d none0) || b) ≡ true → 
 must-be d b e = rw (le-leb 0 (d .middle) (omega arith), le-leb 0 (d .last) (omega arith)) at e
 
 -- a name that was read is not empty
-name-full : (d : Digits) (own : Slots) → GoodSlots (Always d) symbolTable own → complete d symbolTable (marks own) ≡ true → isNil (nameIn own) ≡ false
+name-full : (d : Digits) (own : Slots) → GoodSlots (Always d) symbolTable own → complete d symbolTable (rowsThere own) ≡ true → isNil (nameIn own) ≡ false
 unfolding symbolTable
 name-full d [] g e = absurd g
 name-full d (none ∷ own) g e = clash (must-be d false (and-left (not (reaches d none0) || false) _ e)) refl
@@ -185,10 +185,10 @@ module _ (done fin : List (List ℕ)) (l : Line) (n : ℕ) (fit : n ≤ 512) (fi
       rw (fin-is (and-right (isNil (l .next)) _ (and-right (eqb k 4) _ e))) (set-good (done ++ l .next ∷ []) s o used counted)
 
   top-key : (s : Set) (k : ℕ) (key : List ℕ) (c : Rest) → Tells n (keyed key c) → TopInv done (l .next) k (untaken s)
-      → On J (byAct (top s k) (λ j v. bad 5) (λ i j v. unless (eqb j k) 9 (openTop fullEnv l s j)) (λ _. bad 9) (act (knownOf s) topTable none0 (fullAt 0 topTable) (keyed key c)))
+      → On J (byAct (top s k) (λ j v. bad 5) (λ i j v. unless (eqb j k) 9 (openTop fullEnv l s j)) (λ _. bad 9) (act (knownOf s) topTable none0 (rowsAtLimit 0 topTable) (keyed key c)))
   unfolding topTable
   top-key s k key c t i =
-      on-act J (knownOf s) none0 topTable (fullAt 0 topTable) n (keyed key c) (table-keys true 0 0 .0) t fit _ _ _ _ i
+      on-act J (knownOf s) none0 topTable (rowsAtLimit 0 topTable) n (keyed key c) (table-keys true 0 0 .0) t fit _ _ _ _ i
       (λ j v w. tt)
       (λ i′ j v w. on-unless J (eqb j k) 9 _ λ e.
       open-top s j (row-all-at (λ j r. leb j 3) (w .row) refl) (subst (λ (k : ℕ). TopInv done (l .next) k (untaken s)) (sym (eqb-true j k e)) i))
@@ -204,12 +204,12 @@ module _ (done fin : List (List ℕ)) (l : Line) (n : ℕ) (fit : n ≤ 512) (fi
   -- ── FILE_FORMAT ──
   pub on-file : (s : Set) (m : ℕ) (h : Held) (p : ℕ) → Tells n (l .form) → J (file s m h p) → On J (onFile l s m h p (l .form))
   on-file s m h p t i =
-      on-act J (knownOf s) none0 (partTable (isFirst s) p) (marks (partOf h p)) n (l .form) (file-keys (isFirst s) p) t fit _ _ _ _ i
+      on-act J (knownOf s) none0 (partTable (isFirst s) p) (rowsThere (partOf h p)) n (l .form) (file-keys (isFirst s) p) t fit _ _ _ _ i
       (λ j v w. (i .0, file-enter (isFirst s) p h (i .1) w))
       (λ i′ j v w. (i .0, file-begin (isFirst s) p h (i .1) w))
       (shuts p (i .1))
     where
-      shuts : (p : ℕ) → FileInv (isFirst s) p h → complete none0 (partTable (isFirst s) p) (marks (partOf h p)) ≡ true → On J (shutPart p (closeFile l s m h) (λ q. file s m h q))
+      shuts : (p : ℕ) → FileInv (isFirst s) p h → complete none0 (partTable (isFirst s) p) (rowsThere (partOf h p)) ≡ true → On J (shutPart p (closeFile l s m h) (λ q. file s m h q))
       shuts zero f e =
           on-unless J (chained (isFirst s) (l .next) h && dated s (isFirst s) h) 16 _ λ c.
           close-file done (l .next) (s .drawing) (s .symbols) (s .volumes) (s .now) (record { line = m; file = h; blocks = [] }) (i .0) (file-shut (isFirst s) h f e)
@@ -221,14 +221,14 @@ module _ (done fin : List (List ℕ)) (l : Line) (n : ℕ) (fit : n ≤ 512) (fi
   unfolding drawingTable
   drawing-nameless = refl
 
-  drawing-set : {k : Known} {j : ℕ} {v : Value} {o : Bool} {a : Act} (arc : ℕ) (d : Drawing) → DrawingInv arc d → Took k (digitsOf arc) drawingTable (marks (d .own)) j v o a
+  drawing-set : {k : Known} {j : ℕ} {v : Value} {o : Bool} {a : Act} (arc : ℕ) (d : Drawing) → DrawingInv arc d → Took k (digitsOf arc) drawingTable (rowsThere (d .own)) j v o a
       → DrawingInv arc (withOwn (set (d .own) j (some v)) d)
   drawing-set arc d i w =
       record { own-good = took-set (d .own) (digitsOf arc) drawing-nameless w (i .own-good); layers = i .layers; most = i .most; differ = i .differ }
 
   pub on-drawing : (s : Set) (d : Drawing) → Tells n (l .form) → J (drawing s d) → On J (onDrawing s d (l .form))
   on-drawing s d t i =
-      on-act J (knownOf s) (digitsOf (arcOf s)) drawingTable (marks (d .own)) n (l .form) (table-keys true 0 0 .7) t fit _ _ _ _ i
+      on-act J (knownOf s) (digitsOf (arcOf s)) drawingTable (rowsThere (d .own)) n (l .form) (table-keys true 0 0 .7) t fit _ _ _ _ i
       (λ j v w. (i .0, i .1, drawing-set (arcOf s) d (i .2) w))
       (λ i′ j v w. (i .0, i .1, drawing-set (arcOf s) d (i .2) w))
       (λ e. (i .0, i .1, record { own-good = record { good = i .2 .own-good; all = e }; layers = i .2 .layers; most = i .2 .most; differ = i .2 .differ }))
@@ -268,12 +268,12 @@ module _ (done fin : List (List ℕ)) (l : Line) (n : ℕ) (fit : n ≤ 512) (fi
       (i, record { own-good = tt; hidden-good = tt; few-hidden = refl; level = level-by w 1 (eqb-true j 1 (open-at (λ j. eqb j 1) w refl)) }, refl, λ e. clash e refl))
       (λ e. on-unless J (non || not (isNil (s .symbols))) 8 _ λ e. open-elements done (l .next) s i)
 
-  making-set : {k : Known} {j : ℕ} {v : Value} {o : Bool} {a : Act} (se : ℕ) (own : Slots) (hidden : List Point) → Making se own hidden → Took k (digitsOf se) symbolTable (marks own) j v o a
+  making-set : {k : Known} {j : ℕ} {v : Value} {o : Bool} {a : Act} (se : ℕ) (own : Slots) (hidden : List Point) → Making se own hidden → Took k (digitsOf se) symbolTable (rowsThere own) j v o a
       → Making se (set own j (some v)) hidden
   making-set se own hidden m w =
       record { own-good = took-set own (digitsOf se) symbol-nameless w (m .own-good); hidden-good = m .hidden-good; few-hidden = m .few-hidden; level = m .level }
 
-  open-symbol : (s : Set) (y : Symbol) (i j : ℕ) (v : Value) → J (symbol s y) → Took (knownOf s) (digitsOf (defineRange s)) symbolTable (marks (y .own)) j v true (begin i j v)
+  open-symbol : (s : Set) (y : Symbol) (i j : ℕ) (v : Value) → J (symbol s y) → Took (knownOf s) (digitsOf (defineRange s)) symbolTable (rowsThere (y .own)) j v true (begin i j v)
       → On J (openSymbol s (symbolOwn (set (y .own) j (some v)) y) i)
   unfolding symbolTable
   open-symbol s y zero j v i w = tt
@@ -288,7 +288,7 @@ module _ (done fin : List (List ℕ)) (l : Line) (n : ℕ) (fit : n ≤ 512) (fi
     (tt, refl),
   )
 
-  symbol-good : (s : Set) (y : Symbol) → J (symbol s y) → complete (digitsOf (defineRange s)) symbolTable (marks (y .own)) ≡ true → GoodSymbol (defineRange s) (rangeOf s) y
+  symbol-good : (s : Set) (y : Symbol) → J (symbol s y) → complete (digitsOf (defineRange s)) symbolTable (rowsThere (y .own)) ≡ true → GoodSymbol (defineRange s) (rangeOf s) y
   unfolding symbolTable
   symbol-good s y i e =
       let d = digitsOf (defineRange s) in
@@ -316,7 +316,7 @@ module _ (done fin : List (List ℕ)) (l : Line) (n : ℕ) (fit : n ≤ 512) (fi
   pub on-symbol : (s : Set) (y : Symbol) → Tells n (l .form) → J (symbol s y) → On J (onSymbol s y (l .form))
   unfolding symbolTable
   on-symbol s y t i =
-      on-act J (knownOf s) (digitsOf (defineRange s)) symbolTable (marks (y .own)) n (l .form) (table-keys true 0 0 .9) t fit _ _ _ _ i
+      on-act J (knownOf s) (digitsOf (defineRange s)) symbolTable (rowsThere (y .own)) n (l .form) (table-keys true 0 0 .9) t fit _ _ _ _ i
       (λ j v w. on-unless J (newName s (symbolOwn (set (y .own) j (some v)) y)) 15 _ λ e.
       (i .0, making-set (defineRange s) (y .own) (y .hidden) (i .1) w, e, λ z. i .3 (other-kept isSome (y .own) j 1 v (λ q. true≢false (opened-by w 1 q)) ∙ z)))
       (λ i′ j v w. open-symbol s y i′ j v i w)
@@ -324,7 +324,7 @@ module _ (done fin : List (List ℕ)) (l : Line) (n : ℕ) (fit : n ≤ 512) (fi
 
   pub on-hide : (s : Set) (y : Symbol) (ps : List Point) → Tells n (l .form) → J (hide s y ps) → On J (onHide fullEnv l s y ps (l .form))
   on-hide s y ps t i =
-      on-act J (knownOf s) none0 (pointTable false) (fullAt (length ps) (pointTable false)) n (l .form) (table-keys false 0 0 .13) t fit _ _ _ _ i
+      on-act J (knownOf s) none0 (pointTable false) (rowsAtLimit (length ps) (pointTable false)) n (l .form) (table-keys false 0 0 .13) t fit _ _ _ _ i
       (λ j v w. (i .0, points-enter false l ps (i .1) w))
       (λ i′ j v w. tt)
       (λ e. (i .0 .0, record { own-good = i .0 .1 .own-good; hidden-good = i .1 .0; few-hidden = i .1 .1; level = i .0 .1 .level }, i .0 .2, i .0 .3))

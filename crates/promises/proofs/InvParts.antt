@@ -11,7 +11,7 @@ use borrow.Author.Tests.{eqb-true, eqb-false}
 use Rattle.rules.specs.declared.Digits.{Digits}
 use Rattle.rules.specs.Base.{all, isSome}
 use Rattle.rules.specs.Values.{Value, Known, amountAt}
-use Rattle.rules.specs.Rows.{Rule, Slots, blank, marks, Act, begin, complete, innerOf}
+use Rattle.rules.specs.Rows.{Rule, Slots, blank, rowsThere, Act, begin, complete, innerOf}
 use Rattle.rules.specs.FixedForm.{opensBlock}
 use Rattle.rules.specs.RecordTable.{ruleAt}
 use Rattle.rules.proofs.Chains.{clash}
@@ -28,7 +28,7 @@ HeldPart false seen P t s = GoodPart seen P none0 t s
 pub part-seen : (now : Bool) {a b : Bool} (P : Rule → Value → Type 0) (t : List Rule) (s : Slots) → a ≡ b → HeldPart now a P t s → HeldPart now b P t s
 part-seen now P t s e h = subst (λ (x : Bool). HeldPart now x P t s) e h
 
-pub part-shut : (seen : Bool) (P : Rule → Value → Type 0) (t : List Rule) (s : Slots) → HeldPart true seen P t s → complete none0 t (marks s) ≡ true → HeldPart false seen P t s
+pub part-shut : (seen : Bool) (P : Rule → Value → Type 0) (t : List Rule) (s : Slots) → HeldPart true seen P t s → complete none0 t (rowsThere s) ≡ true → HeldPart false seen P t s
 part-shut true P t s h e = record { good = h .0; all = e }
 part-shut false P t s h e = clash (h .1) refl
 
@@ -43,7 +43,7 @@ part-closed P t s e h = subst (λ (x : Bool). HeldPart false x P t s) e h
 abbrev pub allNameless : List Rule → Bool
 allNameless t = all (λ r. nameless (r .holds)) t
 
-pub took-set : {k : Known} {t : List Rule} {j : ℕ} {v : Value} {o : Bool} {a : Act} (s : Slots) (d : Digits) → allNameless t ≡ true → Took k d t (marks s) j v o a → GoodSlots (Always d) t s
+pub took-set : {k : Known} {t : List Rule} {j : ℕ} {v : Value} {o : Bool} {a : Act} (s : Slots) (d : Digits) → allNameless t ≡ true → Took k d t (rowsThere s) j v o a → GoodSlots (Always d) t s
     → GoodSlots (Always d) t (set s j (some v))
 took-set s d n w g = good-set (Always d) (w .row) s _ g (w .always (row-all (λ r. nameless (r .holds)) (w .row) n))
 
@@ -52,7 +52,7 @@ pub not-one : (o : Option Value) → isSome o ≡ false → isOne o ≡ false
 not-one none e = refl
 not-one (some v) e = clash refl e
 
-pub one-kept : {k : Known} {t : List Rule} {j : ℕ} {v : Value} {a : Act} (s : Slots) (q : ℕ) → Took k none0 t (marks s) j v false a → GoodSlots (Always none0) t s
+pub one-kept : {k : Known} {t : List Rule} {j : ℕ} {v : Value} {a : Act} (s : Slots) (q : ℕ) → Took k none0 t (rowsThere s) j v false a → GoodSlots (Always none0) t s
     → (j ≡ q → eqb (amountAt v 0) 1 ≡ false) → isOne (getD s q none) ≡ isOne (getD (set s j (some v)) q none)
 one-kept {j = j} {v = v} s q w g f = go (eqb j q) refl
   where
@@ -72,9 +72,9 @@ opened-by {t = t} {v = v} {o = o} w q e = subst (λ (q : ℕ). opensBlock (ruleA
 pub inner-by : {k : Known} {d : Digits} {t : List Rule} {full : List Bool} {i j : ℕ} {v : Value} {o : Bool} → Took k d t full j v o (begin i j v) → (q : ℕ) → j ≡ q → i ≡ innerOf (ruleAt t q .holds)
 inner-by {t = t} {i = i} w q e = subst (λ (q : ℕ). i ≡ innerOf (ruleAt t q .holds)) e (inner-at w)
 
-pub was-none : {k : Known} {d : Digits} {t : List Rule} {j : ℕ} {v : Value} {o : Bool} {a : Act} (s : Slots) → Took k d t (marks s) j v o a → (q : ℕ) → j ≡ q → isSome (getD s q none) ≡ false
+pub was-none : {k : Known} {d : Digits} {t : List Rule} {j : ℕ} {v : Value} {o : Bool} {a : Act} (s : Slots) → Took k d t (rowsThere s) j v o a → (q : ℕ) → j ≡ q → isSome (getD s q none) ≡ false
 was-none {j = j} s w q e = subst (λ (q : ℕ). isSome (getD s q none) ≡ false) e (unmarked s j (w .new))
 
-pub now-some : {k : Known} {d : Digits} {t : List Rule} {j : ℕ} {v : Value} {o : Bool} {a : Act} (P : Rule → Value → Type 0) (s : Slots) → Took k d t (marks s) j v o a → GoodSlots P t s → (q : ℕ) → j ≡ q
+pub now-some : {k : Known} {d : Digits} {t : List Rule} {j : ℕ} {v : Value} {o : Bool} {a : Act} (P : Rule → Value → Type 0) (s : Slots) → Took k d t (rowsThere s) j v o a → GoodSlots P t s → (q : ℕ) → j ≡ q
     → getD (set s j (some v)) q none ≡ some v
 now-some {j = j} {v = v} P s w g q e = subst (λ (q : ℕ). getD (set s j (some v)) q none ≡ some v) e (slot-set P (w .row) s (some v) g)

@@ -13,11 +13,11 @@ use Rattle.rules.specs.declared.Digits.{Digits}
 use Rattle.rules.specs.Base.{all, isSome}
 use Rattle.rules.specs.RangeClass.{both}
 use Rattle.rules.specs.Values.{Value, Known, serialsOf}
-use Rattle.rules.specs.Rows.{Rule, Slots, Held, partOf, enter, marks, slotValue, held, Act, begin, complete}
+use Rattle.rules.specs.Rows.{Rule, Slots, Held, partOf, enter, rowsThere, slotValue, held, Act, begin, complete}
 use Rattle.rules.specs.Blocks.{around, blankHeld}
 use Rattle.rules.specs.Figures.{placedTable, placedTables, textTable}
 use Rattle.rules.specs.Sets.{placed, ownSerial, figureSerial}
-use Rattle.rules.specs.Machine.{noneOf}
+use Rattle.rules.specs.PlacedSymbol.{noneOf}
 use Rattle.rules.specs.Answers.{fullClass}
 use Rattle.promises.proofs.Forms.{keysOk}
 use Rattle.promises.proofs.Good.{GoodRow, Always, GoodSlots, none0, GoodPlaced}
@@ -56,7 +56,7 @@ unfolding textTable
 text-nameless = refl
 
 -- the number that stands after a row took a value: that row's, or the one from before
-serial-set : {k : Known} {d : Digits} {j : ℕ} {v : Value} {o : Bool} {a : Act} (used : List ℕ) (own : Slots) → Took k d placedTable (marks own) j v o a → GoodSlots (GoodRow k d) placedTable own
+serial-set : {k : Known} {d : Digits} {j : ℕ} {v : Value} {o : Bool} {a : Act} (used : List ℕ) (own : Slots) → Took k d placedTable (rowsThere own) j v o a → GoodSlots (GoodRow k d) placedTable own
     → noneOf (serialIn own) used ≡ true → (j ≡ 5 → noneOf (ownSerial (serialsOf v)) used ≡ true) → noneOf (serialIn (set own j (some v))) used ≡ true
 unfolding placedTable
 serial-set {k} {d} {j} {v} used own w g e f = go (eqb j 5) refl
@@ -65,13 +65,13 @@ serial-set {k} {d} {j} {v} used own w g e f = go (eqb j 5) refl
     go true q = rw (now-some (GoodRow k d) own w g 5 (eqb-true j 5 q)) (f (eqb-true j 5 q))
     go false q = rw (getD-set-other own j 5 (some v) none (λ x. eqb-false j 5 q (sym x))) e
 
-pub placed-enter : {k : Known} {d : Digits} {j : ℕ} {v : Value} {a : Act} (used : List ℕ) (h : Held) → PlacedInv k d used 0 h → Took k d placedTable (marks (partOf h 0)) j v false a
+pub placed-enter : {k : Known} {d : Digits} {j : ℕ} {v : Value} {a : Act} (used : List ℕ) (h : Held) → PlacedInv k d used 0 h → Took k d placedTable (rowsThere (partOf h 0)) j v false a
     → noneOf (ownSerial (serialsOf v)) used ≡ true → PlacedInv k d used 0 (enter h 0 j v)
 unfolding placedTable
 placed-enter {k} {d} {j} {v} {a} used h f w n =
-    (subst (λ (h : Held). Took k d placedTable (marks (partOf h 0)) j v false a → PlacedInv k d used 0 (enter h 0 j v)) (sym (f .is)) (go (f .own) (f .text) (f .parts))) w
+    (subst (λ (h : Held). Took k d placedTable (rowsThere (partOf h 0)) j v false a → PlacedInv k d used 0 (enter h 0 j v)) (sym (f .is)) (go (f .own) (f .text) (f .parts))) w
   where
-    go : (own text : Slots) → Placing k d used 0 own text → Took k d placedTable (marks own) j v false a → PlacedInv k d used 0 (set own j (some v) ∷ text ∷ [])
+    go : (own text : Slots) → Placing k d used 0 own text → Took k d placedTable (rowsThere own) j v false a → PlacedInv k d used 0 (set own j (some v) ∷ text ∷ [])
     go own text f w =
         both-parts
         (record {
@@ -81,13 +81,13 @@ placed-enter {k} {d} {j} {v} {a} used h f w n =
           serial = serial-set used own w (f .own-good) (f .serial) (λ e. n);
         })
 
-pub placed-begin : {k : Known} {d : Digits} {i j : ℕ} {v : Value} (used : List ℕ) (h : Held) → PlacedInv k d used 0 h → Took k d placedTable (marks (partOf h 0)) j v true (begin i j v)
+pub placed-begin : {k : Known} {d : Digits} {i j : ℕ} {v : Value} (used : List ℕ) (h : Held) → PlacedInv k d used 0 h → Took k d placedTable (rowsThere (partOf h 0)) j v true (begin i j v)
     → PlacedInv k d used i (enter h 0 j v)
 unfolding placedTable
 placed-begin {k} {d} {i} {j} {v} used h f w =
-    (subst (λ (h : Held). Took k d placedTable (marks (partOf h 0)) j v true (begin i j v) → PlacedInv k d used i (enter h 0 j v)) (sym (f .is)) (go (f .own) (f .text) (f .parts))) w
+    (subst (λ (h : Held). Took k d placedTable (rowsThere (partOf h 0)) j v true (begin i j v) → PlacedInv k d used i (enter h 0 j v)) (sym (f .is)) (go (f .own) (f .text) (f .parts))) w
   where
-    go : (own text : Slots) → Placing k d used 0 own text → Took k d placedTable (marks own) j v true (begin i j v) → PlacedInv k d used i (set own j (some v) ∷ text ∷ [])
+    go : (own text : Slots) → Placing k d used 0 own text → Took k d placedTable (rowsThere own) j v true (begin i j v) → PlacedInv k d used i (set own j (some v) ∷ text ∷ [])
     go own text f w =
         let z = eqb-true j 1 (open-at (λ j. eqb j 1) w refl) in
         rw (inner-by w 1 z)
@@ -101,12 +101,12 @@ placed-begin {k} {d} {i} {j} {v} used h f w =
 
 -- in its text
 pub text-enter : {k k′ : Known} {d : Digits} {j : ℕ} {v : Value} {a : Act} (used : List ℕ) (p : ℕ) (h : Held) → PlacedInv k d used (suc p) h
-    → Took k′ none0 (getD placedTables (suc p) []) (marks (partOf h (suc p))) j v false a → PlacedInv k d used (suc p) (enter h (suc p) j v)
+    → Took k′ none0 (getD placedTables (suc p) []) (rowsThere (partOf h (suc p))) j v false a → PlacedInv k d used (suc p) (enter h (suc p) j v)
 text-enter {k} {k′} {d} {j} {v} {a} used p h f w =
-    (subst (λ (h : Held). Took k′ none0 (getD placedTables (suc p) []) (marks (partOf h (suc p))) j v false a → PlacedInv k d used (suc p) (enter h (suc p) j v)) (sym (f .is))
+    (subst (λ (h : Held). Took k′ none0 (getD placedTables (suc p) []) (rowsThere (partOf h (suc p))) j v false a → PlacedInv k d used (suc p) (enter h (suc p) j v)) (sym (f .is))
     (go p (f .own) (f .text) (f .parts))) w
   where
-    go : (p : ℕ) (own text : Slots) → Placing k d used (suc p) own text → Took k′ none0 (getD placedTables (suc p) []) (marks (partOf (own ∷ text ∷ []) (suc p))) j v false a
+    go : (p : ℕ) (own text : Slots) → Placing k d used (suc p) own text → Took k′ none0 (getD placedTables (suc p) []) (rowsThere (partOf (own ∷ text ∷ []) (suc p))) j v false a
         → PlacedInv k d used (suc p) (enter (own ∷ text ∷ []) (suc p) j v)
     go zero own text f w =
         both-parts
@@ -128,20 +128,20 @@ unfolding textTable
 text-opens zero w = true≢false (sym (open-at (λ j. false) w refl))
 text-opens (suc p) w = true≢false (sym (open-at (λ j. false) w refl))
 
-pub text-shut : {k : Known} {d : Digits} (used : List ℕ) (p : ℕ) (h : Held) → PlacedInv k d used (suc p) h → complete none0 (getD placedTables (suc p) []) (marks (partOf h (suc p))) ≡ true
+pub text-shut : {k : Known} {d : Digits} (used : List ℕ) (p : ℕ) (h : Held) → PlacedInv k d used (suc p) h → complete none0 (getD placedTables (suc p) []) (rowsThere (partOf h (suc p))) ≡ true
     → PlacedInv k d used (around (suc p)) h
 text-shut {k} {d} used p h f e =
-    (subst (λ (h : Held). complete none0 (getD placedTables (suc p) []) (marks (partOf h (suc p))) ≡ true → PlacedInv k d used (around (suc p)) h) (sym (f .is))
+    (subst (λ (h : Held). complete none0 (getD placedTables (suc p) []) (rowsThere (partOf h (suc p))) ≡ true → PlacedInv k d used (around (suc p)) h) (sym (f .is))
     (go p (f .own) (f .text) (f .parts))) e
   where
-    go : (p : ℕ) (own text : Slots) → Placing k d used (suc p) own text → complete none0 (getD placedTables (suc p) []) (marks (partOf (own ∷ text ∷ []) (suc p))) ≡ true
+    go : (p : ℕ) (own text : Slots) → Placing k d used (suc p) own text → complete none0 (getD placedTables (suc p) []) (rowsThere (partOf (own ∷ text ∷ []) (suc p))) ≡ true
         → PlacedInv k d used (around (suc p)) (own ∷ text ∷ [])
     go zero own text f e =
         both-parts (record { low = omega arith; own-good = f .own-good; text-good = part-shut (isSome (getD own 1 none)) (Always none0) placedText text (f .text-good) e; serial = f .serial })
     go (suc p) own text f e = absurd (omega (arith, f .low))
 
-pub placed-good : {k : Known} {d : Digits} (used : List ℕ) (h : Held) (n : ℕ) → PlacedInv k d used 0 h → complete (both fullClass d) placedTable (marks (partOf h 0)) ≡ true
+pub placed-good : {k : Known} {d : Digits} (used : List ℕ) (h : Held) (n : ℕ) → PlacedInv k d used 0 h → complete (both fullClass d) placedTable (rowsThere (partOf h 0)) ≡ true
     → GoodPlaced k d h × (noneOf (figureSerial (placed n h)) used ≡ true)
 placed-good {k} {d} used h n f e =
-    (subst (λ (h : Held). complete (both fullClass d) placedTable (marks (partOf h 0)) ≡ true → GoodPlaced k d h × (noneOf (figureSerial (placed n h)) used ≡ true)) (sym (f .is))
+    (subst (λ (h : Held). complete (both fullClass d) placedTable (rowsThere (partOf h 0)) ≡ true → GoodPlaced k d h × (noneOf (figureSerial (placed n h)) used ≡ true)) (sym (f .is))
     (λ e. (record { own = f .own; text = f .text; is = refl; own-good = record { good = f .parts .own-good; all = e }; text-good = f .parts .text-good }, f .parts .serial))) e

@@ -13,7 +13,7 @@ use Rattle.rules.specs.RefusalNumbers.{Got, got, bad, unless, keep}
 use Rattle.rules.specs.Lines.{Rest, Form, ignored, wrong, close, eof, keyed, Shape, opener, noContent, content, opening, formless, shapeOf, hasForm}
 use Rattle.rules.specs.RangeClass.{reaches}
 use Rattle.rules.specs.Values.{Value, nums, Known, Kind, values, text, word, volumeName, sheet, ratio, serials, nothing, opens, headed, either, readKind, readAll, agree, numsOf}
-use Rattle.rules.specs.Rows.{Rule, Found, absent, found, find, Slots, marks, fits, shapeFor, Act, stay, entry, begin, shut, refuse, orRefuse, innerOf, readShape, actRow, actUnknown, actFound, present, complete, act}
+use Rattle.rules.specs.Rows.{Rule, Found, absent, found, find, Slots, rowsThere, fits, shapeFor, Act, stay, entry, begin, shut, refuse, orRefuse, innerOf, readShape, actRow, actUnknown, actFound, present, complete, act}
 use Rattle.rules.specs.Machine.{State, byAct}
 use Rattle.rules.specs.FixedForm.{opensBlock}
 use Rattle.rules.specs.RecordTable.{ruleAt}
@@ -208,11 +208,11 @@ slot-set P (there w) (none ∷ s) o g = slot-set P w s o g
 slot-set P (there w) (some u ∷ s) o g = slot-set P w s o (g .1)
 
 -- a row that is not marked holds nothing
-pub unmarked : (s : Slots) (j : ℕ) → getD (marks s) j false ≡ false → isSome (getD s j none) ≡ false
+pub unmarked : (s : Slots) (j : ℕ) → getD (rowsThere s) j false ≡ false → isSome (getD s j none) ≡ false
 unmarked s j e = sym (List·getD-map isSome s j none) ∙ e
 
 -- a row of a complete block is there, where it must be
-pub complete-at : (P : Rule → Value → Type 0) (d : Digits) (t : List Rule) (j : ℕ) (s : Slots) → j < length t → GoodSlots P t s → complete d t (marks s) ≡ true
+pub complete-at : (P : Rule → Value → Type 0) (d : Digits) (t : List Rule) (j : ℕ) (s : Slots) → j < length t → GoodSlots P t s → complete d t (rowsThere s) ≡ true
     → present d (ruleAt t j) (isSome (getD s j none)) ≡ true
 complete-at P d [] j s l g e = absurd (omega arith)
 complete-at P d (r ∷ t) j [] l g e = absurd g

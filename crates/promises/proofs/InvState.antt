@@ -16,7 +16,8 @@ use Rattle.rules.specs.Blocks.{fileTable, rangeTable, elecTable, symTable, late
 use Rattle.rules.specs.Figures.{mostPoints, pointTable, textTable}
 use Rattle.rules.specs.Sets.{Point, Figure, chain, Layer, Drawing, Symbol, LayerBlock, Contents, Set, headOr, firstContents, isFirst, arcOf, rangeOf, defineRange, isSingle, symbolNameOf, knownOf, ownSerial, figureSerial, serialsOfVolume, serialsIn, usedIn}
 use Rattle.rules.specs.VolumesAndTotals.{chained}
-use Rattle.rules.specs.Machine.{Home, inElement, inLayer, State, top, file, drawing, layerNames, defines, symbol, hide, elements, figures, successive, texts, placing, skipping, ended, isLayer, noneOf}
+use Rattle.rules.specs.Machine.{Home, inElement, inLayer, State, top, file, drawing, layerNames, defines, symbol, hide, elements, figures, successive, texts, placing, skipping, ended, isLayer}
+use Rattle.rules.specs.PlacedSymbol.{noneOf}
 use Rattle.rules.specs.RecordTable.{ruleAt}
 use Rattle.rules.proofs.Chains.{and-left, and-right, and-true}
 use Rattle.promises.proofs.Good.{Always, GoodSlots, none0, GoodFile, GoodLater, GoodPoints, GoodFigure, GoodFigures, GoodShape, GoodShapes, fresh, freshNumbers, GoodLayer, GoodLayers, idsOf, GoodDrawing, GoodSymbol, GoodSymbols, GoodDefines, GoodBlock, GoodBlocks, GoodVolume, GoodSet}

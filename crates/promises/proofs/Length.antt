@@ -7,7 +7,8 @@ use Rattle.rules.specs.Base.{total}
 use Rattle.rules.specs.RefusalNumbers.{Got, got, bad, mapG, also}
 use Rattle.rules.specs.Values.{Known}
 use Rattle.rules.specs.Sets.{Set, nothingYet, knownOf}
-use Rattle.rules.specs.Machine.{Line, Env, State, top, file, drawing, layerNames, defines, symbol, hide, elements, figures, successive, texts, placing, skipping, ended, stepIn, completes, nextVolume, step, accepted, thenRun, run}
+use Rattle.rules.specs.Machine.{Line, Env, State, top, file, drawing, layerNames, defines, symbol, hide, elements, figures, successive, texts, placing, skipping, ended}
+use Rattle.rules.specs.LineByLine.{stepIn, completes, nextVolume, step, accepted, thenRun, run}
 use Rattle.rules.specs.FixedForm.{volumeLines}
 use Rattle.rules.proofs.Runs.{not-accepted, finish-ended}
 use Rattle.rules.proofs.Chains.{On, on-cond, on-map, on-also, on-weaken}

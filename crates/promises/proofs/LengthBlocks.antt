@@ -16,7 +16,7 @@ use Rattle.rules.specs.RangeClass.{digits, digitsOf}
 use Rattle.rules.specs.Values.{Value, nums, Known, isLayerId, opens, numsOf}
 use Rattle.rules.specs.RecordTable.{ruleAt}
 use Rattle.rules.specs.FixedForm.{lineOf}
-use Rattle.rules.specs.Rows.{Rule, row, blank, Held, partOf, marks, fullAt, innerOf, act}
+use Rattle.rules.specs.Rows.{Rule, row, blank, Held, partOf, rowsThere, rowsAtLimit, innerOf, act}
 use Rattle.rules.specs.Blocks.{topTable, fileTable, rangeTable, baseTable, elecTable, symTable, laterTable, fileTables, drawingTable, mostLayers, definesTable, symbolTable, blankHeld}
 use Rattle.rules.specs.Figures.{layerTable, figureTable, pointTable, textTable}
 use Rattle.rules.specs.Sets.{Point, Layer, Drawing, Symbol, Set, withNow, withDrawing, withRecords, withLayer, symbolOwn, isFirst, arcOf, defineRange, isSingle, knownOf}
@@ -138,7 +138,7 @@ module _ (K : Known) (n : ℕ) where
   -- ── FILE_FORMAT ──
   pub file-next : (l : Line) (s : Set) (m : ℕ) (h : Held) (p : ℕ) (f : Form) → Told n f → On (Next K (file s m h p) n) (onFile l s m h p f)
   file-next l s m h p f tells =
-      on-plain (Next K (file s m h p) n) _ _ _ _ (knownOf s) (digits 0 0) (getD (fileTables (isFirst s)) p []) (marks (partOf h p)) f (file-tables (isFirst s) p .0) tells
+      on-plain (Next K (file s m h p) n) _ _ _ _ (knownOf s) (digits 0 0) (getD (fileTables (isFirst s)) p []) (rowsThere (partOf h p)) f (file-tables (isFirst s) p .0) tells
       (tt, omega arith)
       (λ j r v w u. (tt, omega (arith, held-took (fileTables (isFirst s)) p w K h v n false u)))
       (λ j r v w u. (tt, omega (arith, held-took (fileTables (isFirst s)) p w K h v n true u, deeper-part p w (file-tables (isFirst s) p .1) K _ v n u)))
@@ -172,7 +172,7 @@ module _ (K : Known) (n : ℕ) where
       on-unless P (layersUsed s) 14 (unless (countedAll s) 17 (got (ended s))) λ _.
       on-unless P (countedAll s) 17 (got (ended s)) λ _. (tt, omega (arith, closed-least K s k))
   top-next e l s k (keyed key c) ok tells =
-      on-plain (Next K (top s k) n) _ _ _ _ (knownOf s) (digits 0 0) topTable (fullAt 0 topTable) (keyed key c) (plain-tables true 0 0 .0) tells
+      on-plain (Next K (top s k) n) _ _ _ _ (knownOf s) (digits 0 0) topTable (rowsAtLimit 0 topTable) (keyed key c) (plain-tables true 0 0 .0) tells
       (ok, omega arith)
       (λ j r v w u. tt)
       (λ j r v w u. on-unless (Next K (top s k) n) (eqb j k) 9 (openTop e l s j) λ q.
@@ -184,7 +184,7 @@ module _ (K : Known) (n : ℕ) where
   -- ── DRAWING_FORMAT ──
   pub drawing-next : (s : Set) (d : Drawing) (f : Form) → First s → Told n f → On (Next K (drawing s d) n) (onDrawing s d f)
   drawing-next s d f ok tells =
-      on-plain (Next K (drawing s d) n) _ _ _ _ (knownOf s) (digitsOf (arcOf s)) drawingTable (marks (d .own)) f (plain-tables true 0 0 .1) tells
+      on-plain (Next K (drawing s d) n) _ _ _ _ (knownOf s) (digitsOf (arcOf s)) drawingTable (rowsThere (d .own)) f (plain-tables true 0 0 .1) tells
       (ok, omega arith)
       (λ j r v w u. (ok, omega (arith, slots-took w K (d .own) v n false u)))
       (λ j r v w u. (ok, omega (arith, slots-took w K (d .own) v n true u)))
@@ -228,7 +228,7 @@ module _ (K : Known) (n : ℕ) where
       let P : State → Type 0 = Next K (symbol s y) n in
       let more : ℕ → Value → Symbol = λ j v. symbolOwn (set (y .own) j (some v)) y in
       let ok′ : (j : ℕ) (v : Value) → HomeOk s (inElement (more j v)) = λ j v. (ok .0, omega (arith, length-set (y .own) j (some v), ok .1)) in
-      on-plain P _ _ _ _ (knownOf s) (digitsOf (defineRange s)) symbolTable (marks (y .own)) f (plain-tables true 0 0 .3) tells
+      on-plain P _ _ _ _ (knownOf s) (digitsOf (defineRange s)) symbolTable (rowsThere (y .own)) f (plain-tables true 0 0 .3) tells
       (ok, omega arith)
       (λ j r v w u. on-unless P (newName s (more j v)) 15 (got (symbol s (more j v))) λ _. (ok′ j v, omega (arith, slots-took w K (y .own) v n false u)))
       (λ j r v w u. symbol-opens s y (more j v) (innerOf (r .holds)) (ok′ j v) (omega (arith, slots-took w K (y .own) v n true u)))
@@ -237,7 +237,7 @@ module _ (K : Known) (n : ℕ) where
   pub hide-next : (e : Env) (l : Line) (s : Set) (y : Symbol) (ps : List Point) (f : Form) → HomeOk s (inElement y) → Told n f → On (Next K (hide s y ps) n) (onHide e l s y ps f)
   hide-next e l s y ps f ok tells =
       let P : State → Type 0 = Next K (hide s y ps) n in
-      on-plain P _ _ _ _ (knownOf s) (digits 0 0) (pointTable false) (fullAt (length ps) (pointTable false)) f (plain-tables false 0 0 .5) tells
+      on-plain P _ _ _ _ (knownOf s) (digits 0 0) (pointTable false) (rowsAtLimit (length ps) (pointTable false)) f (plain-tables false 0 0 .5) tells
       (ok, omega arith)
       (λ j r v w u. on-taking P e 1 s (λ s′. hide s′ y (ps ++ pointAt l v ∷ [])) (ok, omega (arith, point-took false w K _ v n u ps l)))
       (λ j r v w u. tt)

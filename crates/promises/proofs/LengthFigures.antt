@@ -12,12 +12,13 @@ use Rattle.rules.specs.RefusalNumbers.{got, bad, unless}
 use Rattle.rules.specs.Lines.{Rest, Form, ignored, wrong, close, eof, keyed}
 use Rattle.rules.specs.RangeClass.{digits, reaches, exceeds, both, Skip, passes, deeper, noForm, skipOf, mostDepth}
 use Rattle.rules.specs.Values.{Value, empty, nums, chars, linked, Known, layerId, headed, numsOf, amountAt, showContent}
-use Rattle.rules.specs.Rows.{Rule, Found, absent, found, find, Slots, blank, Held, partOf, enter, marks, fullAt, begin, innerOf, actRow, act}
+use Rattle.rules.specs.Rows.{Rule, Found, absent, found, find, Slots, blank, Held, partOf, enter, rowsThere, rowsAtLimit, begin, innerOf, actRow, act}
 use Rattle.rules.specs.Blocks.{elementTable, blankHeld}
 use Rattle.rules.specs.Figures.{layerTable, figureTable, leastPoints, pointTable, textTable, placedTable, placedTables}
 use Rattle.rules.specs.Sets.{Point, Figure, plain, chain, lettering, placed, Symbol, Set, withVolume, withRecords, symbolFigures, rangeOf, isSingle, knownOf, usedIn}
 use Rattle.rules.specs.VolumesAndTotals.{countedHere}
-use Rattle.rules.specs.Machine.{Line, Env, Home, inElement, inLayer, State, top, symbol, elements, figures, successive, texts, placing, skipping, taking, onElements, isLayer, homeTable, pointAt, closeFigures, openFigure, onFigures, onSuccessive, onTexts, bySkip, skipDeeper, shutPart, onUnknown, newSerial, onPlaced, onPlacedKey, onPlacing, onSkipping}
+use Rattle.rules.specs.Machine.{Line, Env, Home, inElement, inLayer, State, top, symbol, elements, figures, successive, texts, placing, skipping, taking, onElements, isLayer, homeTable, pointAt, closeFigures, openFigure, onFigures, onSuccessive, onTexts, shutPart}
+use Rattle.rules.specs.PlacedSymbol.{bySkip, skipDeeper, onUnknown, newSerial, onPlaced, onPlacedKey, onPlacing, onSkipping}
 use Rattle.rules.specs.FixedForm.{openLine, lineOf}
 use Rattle.rules.proofs.Chains.{On, on-unless, on-cond, clash, same-eq, total-more}
 use Rattle.rules.proofs.Rows.{Row, found-row, row-all, row-at, row-below}
@@ -83,7 +84,7 @@ module _ (K : Known) (n : ℕ) where
   pub elements-next : (s : Set) (f : Form) → Told n f → On (Next K (elements s) n) (onElements s f)
   elements-next s f tells =
       let P : State → Type 0 = Next K (elements s) n in
-      on-act P _ _ _ _ (knownOf s) (knownOf s) (digits 0 0) n elementTable (fullAt 0 elementTable) f (table-keys true 0 0 .10) (λ j r w v. refl) tells
+      on-act P _ _ _ _ (knownOf s) (knownOf s) (digits 0 0) n elementTable (rowsAtLimit 0 elementTable) f (table-keys true 0 0 .10) (λ j r w v. refl) tells
       (tt, omega arith)
       (λ j r v w u. tt)
       (λ j r v w u x e. on-unless P (not (hasNumber (amountAt v 0) (usedIn (s .now)))) 14 (got (figures s (inLayer (amountAt v 0)) [])) λ _.
@@ -113,7 +114,7 @@ module _ (K : Known) (n : ℕ) where
   pub figures-next : (e : Env) (l : Line) (s : Set) (h : Home) (fs : List Figure) (f : Form) → HomeOk s h → Told n f → On (Next K (figures s h fs) n) (onFigures e l s h fs f)
   figures-next e l s h fs f ok tells =
       let P : State → Type 0 = Next K (figures s h fs) n in
-      on-act P _ _ _ _ (knownOf s) (homeKnown K s h) (rangeOf s) n (homeTable s h) (fullAt 0 (homeTable s h)) f (home-rows s h .0) (home-same K s h) tells
+      on-act P _ _ _ _ (knownOf s) (homeKnown K s h) (rangeOf s) n (homeTable s h) (rowsAtLimit 0 (homeTable s h)) f (home-rows s h .0) (home-same K s h) tells
       (ok, omega arith)
       (λ j r v w u. on-home P e s h (λ s′ h′. figures s′ h′ (fs ++ plain (l .line) j (numsOf v) ∷ [])) (λ y z. z) (λ k z. z)
       (ok, omega (arith, figure-more s h fs (plain (l .line) j (numsOf v)), nums-took w (home-rows s h .2) (homeKnown K s h) _ v n false u)))
@@ -124,7 +125,7 @@ module _ (K : Known) (n : ℕ) where
       → On (Next K (successive s h fs m ps) n) (onSuccessive e l s h fs m ps f)
   successive-next e l s h fs m ps f ok tells =
       let P : State → Type 0 = Next K (successive s h fs m ps) n in
-      on-plain (homeKnown K s h) n P _ _ _ _ (knownOf s) (digits 0 0) (pointTable (isLayer h)) (fullAt (length ps) (pointTable (isLayer h))) f (plain-tables (isLayer h) 0 0 .5) tells
+      on-plain (homeKnown K s h) n P _ _ _ _ (knownOf s) (digits 0 0) (pointTable (isLayer h)) (rowsAtLimit (length ps) (pointTable (isLayer h))) f (plain-tables (isLayer h) 0 0 .5) tells
       (ok, omega arith)
       (λ j r v w u. on-home P e s h (λ s′ h′. successive s′ h′ fs m (ps ++ pointAt l v ∷ [])) (λ y z. z) (λ k z. z) (ok, omega (arith, point-took (isLayer h) w (homeKnown K s h) _ v n u ps l)))
       (λ j r v w u. tt)
@@ -132,7 +133,7 @@ module _ (K : Known) (n : ℕ) where
 
   pub texts-next : (s : Set) (h : Home) (fs : List Figure) (m : ℕ) (o : Slots) (f : Form) → HomeOk s h → Told n f → On (Next K (texts s h fs m o) n) (onTexts s h fs m o f)
   texts-next s h fs m o f ok tells =
-      on-plain (homeKnown K s h) n (Next K (texts s h fs m o) n) _ _ _ _ (knownOf s) (digits 0 0) (textTable (isLayer h) 4 12) (marks o) f (plain-tables (isLayer h) 4 12 .6) tells
+      on-plain (homeKnown K s h) n (Next K (texts s h fs m o) n) _ _ _ _ (knownOf s) (digits 0 0) (textTable (isLayer h) 4 12) (rowsThere o) f (plain-tables (isLayer h) 4 12 .6) tells
       (ok, omega arith)
       (λ j r v w u. (ok, omega (arith, slots-took w (homeKnown K s h) o v n false u)))
       (λ j r v w u. tt)
@@ -140,13 +141,13 @@ module _ (K : Known) (n : ℕ) where
 
   -- ── the placed symbol ──
   module _ (s : Set) (h : ℕ) (fs : List Figure) (m : ℕ) (o : Held) where
-    placed-entry : (p j : ℕ) (r : Rule) (v : Value) → Row (getD placedTables p []) j r → Took (knownOf s) r (getD (marks (partOf o p)) j false) v n false
+    placed-entry : (p j : ℕ) (r : Rule) (v : Value) → Row (getD placedTables p []) j r → Took (knownOf s) r (getD (rowsThere (partOf o p)) j false) v n false
         → On (Next K (placing s h fs m o p) n) (unless (newSerial s fs v) 15 (got (placing s h fs m (enter o p j v) p)))
     placed-entry p j r v w u =
         on-unless (Next K (placing s h fs m o p) n) (newSerial s fs v) 15 (got (placing s h fs m (enter o p j v) p)) λ _.
         (tt, omega (arith, held-took placedTables p w (knownOf s) o v n false u))
 
-    placed-begin : (p j : ℕ) (r : Rule) (v : Value) → Row (getD placedTables p []) j r → Took (knownOf s) r (getD (marks (partOf o p)) j false) v n true
+    placed-begin : (p j : ℕ) (r : Rule) (v : Value) → Row (getD placedTables p []) j r → Took (knownOf s) r (getD (rowsThere (partOf o p)) j false) v n true
         → Next K (placing s h fs m o p) n (placing s h fs m (enter o p j v) (innerOf (r .holds)))
     placed-begin p j r v w u =
         (tt, omega (arith, held-took placedTables p w (knownOf s) o v n true u, deeper-part p w (placed-rows p .1) (knownOf s) _ v n u))
@@ -156,9 +157,9 @@ module _ (K : Known) (n : ℕ) where
     placed-shut (suc zero) one = (tt, omega arith)
     placed-shut (suc (suc p)) one = (tt, omega arith)
 
-    placed-act : (p : ℕ) (d : Digits) (f : Form) → Told n f → On (Next K (placing s h fs m o p) n) (onPlaced s h fs m o p (act (knownOf s) (getD placedTables p []) d (marks (partOf o p)) f))
+    placed-act : (p : ℕ) (d : Digits) (f : Form) → Told n f → On (Next K (placing s h fs m o p) n) (onPlaced s h fs m o p (act (knownOf s) (getD placedTables p []) d (rowsThere (partOf o p)) f))
     placed-act p d f tells =
-        on-act (Next K (placing s h fs m o p) n) _ _ _ _ (knownOf s) (knownOf s) d n (getD placedTables p []) (marks (partOf o p)) f (placed-rows p .0) (λ j r w v. refl) tells
+        on-act (Next K (placing s h fs m o p) n) _ _ _ _ (knownOf s) (knownOf s) d n (getD placedTables p []) (rowsThere (partOf o p)) f (placed-rows p .0) (λ j r w v. refl) tells
         (tt, omega arith) (placed-entry p) (λ j r v w u x e. placed-begin p j r v w u) (placed-shut p)
 
     skip-next : (d : ℕ) (z : Skip) → On (Next K (skipping s h fs m o d) n) (bySkip z (got (skipping s h fs m o d)) (skipDeeper d (skipping s h fs m o (suc d))))
@@ -191,7 +192,7 @@ module _ (K : Known) (n : ℕ) where
     key-next e k c tells (found j r) q =
         let (w, i) = found-row k placedTable j r q in
         on-cond (Next K (placing s h fs m o 0) n) (reaches (e .class) (r .least)) _ _
-        (λ _. on-row (Next K (placing s h fs m o 0) n) _ _ _ _ (knownOf s) (knownOf s) (rangeOf s) n (getD (marks (partOf o 0)) j false) j r c
+        (λ _. on-row (Next K (placing s h fs m o 0) n) _ _ _ _ (knownOf s) (knownOf s) (rangeOf s) n (getD (rowsThere (partOf o 0)) j false) j r c
         (row-all (λ r. keyOk (r .key)) w (placed-rows 0 .0)) (λ v. refl) (subst (λ (x : List ℕ). Told n (keyed x c)) (same-eq k (r .key) i) tells)
         (tt, omega arith) (λ v. placed-entry 0 j r v w) (λ v u e. placed-begin 0 j r v w u) (placed-shut 0))
         (λ _. unknown-next e k c)

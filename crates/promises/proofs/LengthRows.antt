@@ -13,7 +13,7 @@ use Rattle.rules.specs.Base.{bytes, all, same}
 use Rattle.rules.specs.RefusalNumbers.{Got, bad, unless}
 use Rattle.rules.specs.Lines.{Rest, brace, equals, Form, ignored, wrong, close, eof, keyed, Shape, opener, noContent, content, opening, formless, shapeOf, hasForm}
 use Rattle.rules.specs.Values.{Value, empty, nums, chars, linked, Known, Part, Kind, values, text, word, volumeName, sheet, ratio, serials, nothing, opens, headed, either, readPart, readKind, numsOf, showContent}
-use Rattle.rules.specs.Rows.{Rule, row, Found, absent, found, find, Slots, Held, partOf, enter, marks, shapeFor, Act, stay, entry, begin, shut, refuse, orRefuse, innerOf, readShape, actRow, actUnknown, actFound, act, complete}
+use Rattle.rules.specs.Rows.{Rule, row, Found, absent, found, find, Slots, Held, partOf, enter, rowsThere, shapeFor, Act, stay, entry, begin, shut, refuse, orRefuse, innerOf, readShape, actRow, actUnknown, actFound, act, complete}
 use Rattle.rules.specs.Machine.{State, byAct}
 use Rattle.rules.specs.RecordTable.{ruleAt}
 use Rattle.rules.specs.FixedForm.{openLine, opensBlock, behind, lineOf}
@@ -41,12 +41,12 @@ Took k r full v n b = (full ≡ false) × (opensBlock (r .holds) v ≡ b) × (le
 abbrev pub owes : Bool → ℕ
 owes b = cond b 3 0
 
-pub slots-took : {t : List Rule} {j : ℕ} {r : Rule} → Row t j r → (k : Known) (s : Slots) (v : Value) (n : ℕ) (b : Bool) → Took k r (getD (marks s) j false) v n b
+pub slots-took : {t : List Rule} {j : ℕ} {r : Rule} → Row t j r → (k : Known) (s : Slots) (v : Value) (n : ℕ) (b : Bool) → Took k r (getD (rowsThere s) j false) v n b
     → slotsCost k t (set s j (some v)) ≤ slotsCost k t s + (n + 2) + owes b
 slots-took w k s v n b (f, o, l, m) = omega (arith, set-cost w k s v f, ap owes o)
 
 pub held-took : (ts : List (List Rule)) (p : ℕ) {j : ℕ} {r : Rule} → Row (getD ts p []) j r → (k : Known) (h : Held) (v : Value) (n : ℕ) (b : Bool)
-    → Took k r (getD (marks (partOf h p)) j false) v n b → heldCost k ts (enter h p j v) ≤ heldCost k ts h + (n + 2) + owes b
+    → Took k r (getD (rowsThere (partOf h p)) j false) v n b → heldCost k ts (enter h p j v) ≤ heldCost k ts h + (n + 2) + owes b
 held-took ts p {j} w k h v n b u = omega (arith, set-held k ts h p (set (partOf h p) j (some v)), slots-took w k (partOf h p) v n b u)
 
 -- the opening lines of a table's inner blocks, by their numbers

@@ -14,10 +14,11 @@ use Rattle.rules.specs.RefusalNumbers.{Got, got, bad, unless, mapG}
 use Rattle.rules.specs.Lines.{Rest, Form, ignored, wrong, close, eof, keyed, shapeOf, hasForm}
 use Rattle.rules.specs.RangeClass.{digits, reaches, exceeds, both, hides, Skip, passes, deeper, noForm, skipOf}
 use Rattle.rules.specs.Values.{Value, text}
-use Rattle.rules.specs.Rows.{Rule, Found, absent, found, find, Slots, Held, partOf, enter, marks, shapeFor, Act, stay, entry, begin, shut, refuse, orRefuse, actRow, actUnknown, actFound, present, complete, act}
+use Rattle.rules.specs.Rows.{Rule, Found, absent, found, find, Slots, Held, partOf, enter, rowsThere, shapeFor, Act, stay, entry, begin, shut, refuse, orRefuse, actRow, actUnknown, actFound, present, complete, act}
 use Rattle.rules.specs.Figures.{placedTable, placedTables, textTable}
 use Rattle.rules.specs.Sets.{Figure, placed, Set, firstContents, rangeOf, knownOf}
-use Rattle.rules.specs.Machine.{Env, inLayer, State, figures, placing, skipping, byAct, bySkip, skipDeeper, onUnknown, newSerial, onPlaced, onPlacedKey, onPlacedOwn, onPlacing, skipShut, onSkipping}
+use Rattle.rules.specs.Machine.{Env, inLayer, State, figures, placing, skipping, byAct}
+use Rattle.rules.specs.PlacedSymbol.{bySkip, skipDeeper, onUnknown, newSerial, onPlaced, onPlacedKey, onPlacedOwn, onPlacing, skipShut, onSkipping}
 use Rattle.rules.proofs.Chains.{and-left, and-right, and-true, clash, never, unless-got, map-append}
 use Rattle.rules.proofs.Rows.{Row, found-row, row-all}
 use Rattle.promises.specs.DemandThree.{NotAbove}
@@ -48,8 +49,8 @@ row-present false a b h o f g e = refl
 row-present true false b h o f g e = refl
 row-present true true b h o f g e = rw (g refl) (rw (f refl) at e)
 
-complete-mask : (low high d : Digits) → NotAbove low high → (t : List Rule) (s : Slots) → complete (both high d) t (marks s) ≡ true
-    → complete (both low d) t (marks (maskSlots low d t s)) ≡ true
+complete-mask : (low high d : Digits) → NotAbove low high → (t : List Rule) (s : Slots) → complete (both high d) t (rowsThere s) ≡ true
+    → complete (both low d) t (rowsThere (maskSlots low d t s)) ≡ true
 complete-mask low high d le [] [] e = refl
 complete-mask low high d le [] (o ∷ s) e = refl
 complete-mask low high d le (r ∷ t) [] e = refl
@@ -157,7 +158,7 @@ module _ (low high : Digits) (le : NotAbove low high) (m : Option ℕ) (s : Set)
       text = row-all (λ r. opensText (r .holds) (r .least)) (w .0) text-rows
 
       full : Slots → Bool
-      full t = getD (marks t) j false
+      full t = getD (rowsThere t) j false
 
       same-marks : hides low d (r .least) ≡ false → full (partOf o′ 0) ≡ full (partOf o 0)
       same-marks h =
@@ -176,9 +177,9 @@ module _ (low high : Digits) (le : NotAbove low high) (m : Option ℕ) (s : Set)
       go false b false a e = sim-unknown key x s′ e
 
   sim-close : (s′ : State) → onPlacedOwn hi s k fs n o close ≡ got s′ → onPlacedOwn lo (lowerSet low s) k fs′ n o′ close ≡ got (lower low s′)
-  sim-close s′ e = go (complete (both high d) placedTable (marks (partOf o 0))) refl e
+  sim-close s′ e = go (complete (both high d) placedTable (rowsThere (partOf o 0))) refl e
     where
-      go : (b : Bool) → complete (both high d) placedTable (marks (partOf o 0)) ≡ b → onPlaced s k fs n o 0 (cond b shut (refuse 8)) ≡ got s′
+      go : (b : Bool) → complete (both high d) placedTable (rowsThere (partOf o 0)) ≡ b → onPlaced s k fs n o 0 (cond b shut (refuse 8)) ≡ got s′
           → onPlacedOwn lo (lowerSet low s) k fs′ n o′ close ≡ got (lower low s′)
       go true b e =
           rw (same-file, part-own low d o, complete-mask low high d le placedTable (partOf o 0) b)
@@ -218,7 +219,7 @@ module _ (low high : Digits) (le : NotAbove low high) (m : Option ℕ) (s : Set)
 
   -- what an act of a flat row leaves of what is held, where the text is left out
   sim-wiped : (p : ℕ) → hides low d textLeast ≡ true → (key : List ℕ) (x : Rest) (f : Found) → find key (getD placedTables (suc p) []) ≡ f → (s′ : State)
-      → onPlaced s k fs n o (suc p) (actFound (knownOf s) (digits 0 0) (marks (partOf o (suc p))) x f) ≡ got s′
+      → onPlaced s k fs n o (suc p) (actFound (knownOf s) (digits 0 0) (rowsThere (partOf o (suc p))) x f) ≡ got s′
       → onSkipping (lowerSet low s) k fs′ n o′ (depthIn (suc p)) (keyed key x) ≡ got (lower low s′)
   sim-wiped p h key x absent q s′ e = go (hasForm (shapeOf x)) e
     where
@@ -227,7 +228,7 @@ module _ (low high : Digits) (le : NotAbove low high) (m : Option ℕ) (s : Set)
       go false e = never e
   sim-wiped (suc p) h key x (found j r) q s′ e = absurd (let z : _≡_ {A = ℕ} 0 1 = cc in omega arith)
   sim-wiped zero h key x (found j r) q s′ e =
-      by (actRow (knownOf s) (digits 0 0) (getD (marks (partOf o 1)) j false) j r x) (row-act (knownOf s) (digits 0 0) (getD (marks (partOf o 1)) j false) j r x) e
+      by (actRow (knownOf s) (digits 0 0) (getD (rowsThere (partOf o 1)) j false) j r x) (row-act (knownOf s) (digits 0 0) (getD (rowsThere (partOf o 1)) j false) j r x) e
     where
       w : Row (textTable true 16 24) j r × (same key (r .key) ≡ true)
       w = found-row key (textTable true 16 24) j r q
@@ -259,14 +260,14 @@ module _ (low high : Digits) (le : NotAbove low high) (m : Option ℕ) (s : Set)
       left-out : got (lowerPlacing low s k fs n o (suc p)) ≡ got (lower low s′) → got (skipping (lowerSet low s) k fs′ n o′ (depthIn (suc p))) ≡ got (lower low s′)
       left-out q = rw h at q
   sim-skipped p h (wrong i) s′ e = never e
-  sim-skipped p h close s′ e = sim-closed p h (complete (digits 0 0) (getD placedTables (suc p) []) (marks (partOf o (suc p)))) s′ e
+  sim-skipped p h close s′ e = sim-closed p h (complete (digits 0 0) (getD placedTables (suc p) []) (rowsThere (partOf o (suc p)))) s′ e
   sim-skipped p h eof s′ e = never e
   sim-skipped p h (keyed key x) s′ e = sim-wiped p h key x (find key (getD placedTables (suc p) [])) refl s′ e
 
   sim-inner : (p : ℕ) → hides low d textLeast ≡ false → (f : Form) (s′ : State) → onPlacing hi s k fs n o (suc p) f ≡ got s′ → onPlacing lo (lowerSet low s) k fs′ n o′ (suc p) f ≡ got (lower low s′)
   sim-inner p h f s′ e =
-      ap (λ t. onPlaced (lowerSet low s) k fs′ n o′ (suc p) (act (knownOf s) (getD placedTables (suc p) []) (digits 0 0) (marks t) f)) (part-inner low d o p ∙ shown)
-      ∙ sim-shown p h (act (knownOf s) (getD placedTables (suc p) []) (digits 0 0) (marks (partOf o (suc p))) f) s′ e
+      ap (λ t. onPlaced (lowerSet low s) k fs′ n o′ (suc p) (act (knownOf s) (getD placedTables (suc p) []) (digits 0 0) (rowsThere t) f)) (part-inner low d o p ∙ shown)
+      ∙ sim-shown p h (act (knownOf s) (getD placedTables (suc p) []) (digits 0 0) (rowsThere (partOf o (suc p))) f) s′ e
     where
       shown : innerPart low d (partOf o (suc p)) ≡ partOf o (suc p)
       shown = rw h

@@ -15,7 +15,8 @@ use Rattle.rules.specs.RangeClass.{hides}
 use Rattle.rules.specs.Sets.{Figure, Set, rangeOf}
 use Rattle.rules.specs.VolumesAndTotals.{countedAll, layersUsed}
 use Rattle.rules.specs.Rows.{Held}
-use Rattle.rules.specs.Machine.{Line, Env, State, top, file, drawing, layerNames, defines, symbol, hide, elements, figures, successive, texts, placing, skipping, ended, atEof, onTop, stepIn, inElements, afterElements, isIgnored, isClose, isEof, completes, nextVolume, step, refused, accepted, thenRun, finish, run}
+use Rattle.rules.specs.Machine.{Line, Env, State, top, file, drawing, layerNames, defines, symbol, hide, elements, figures, successive, texts, placing, skipping, ended, atEof, onTop}
+use Rattle.rules.specs.LineByLine.{stepIn, inElements, afterElements, isIgnored, isClose, isEof, completes, nextVolume, step, refused, accepted, thenRun, finish, run}
 use Rattle.rules.proofs.Runs.{not-accepted}
 use Rattle.rules.proofs.Chains.{and-left, and-right, or-true, clash, by-cond, never, unless-got, map-got, also-got, cond-true}
 use Rattle.promises.specs.DemandThree.{NotAbove}

@@ -14,7 +14,7 @@ use Rattle.rules.specs.Values.{Value, serialsOf}
 use Rattle.rules.specs.Rows.{Rule, Found, absent, found, find, Slots, partOf, slotValue, heldAt}
 use Rattle.rules.specs.Figures.{placedTable}
 use Rattle.rules.specs.Sets.{Figure, plain, chain, lettering, placed, LayerBlock, Contents, Set, ownSerial, figureSerial, serialsOfBlock, serialsOfVolume, serialsIn}
-use Rattle.rules.specs.Machine.{noneOf, newSerial}
+use Rattle.rules.specs.PlacedSymbol.{noneOf, newSerial}
 use Rattle.rules.proofs.Chains.{and-left, and-right, and-true, or-true, clash, cond-same, map-compose}
 use Rattle.rules.proofs.Rows.{Row, here, there, found-row}
 use Rattle.promises.proofs.Lower.{maskSlots, lowerFigure, lowerFigures, lowerBlock, lowerContents, lowerIn, part-own}

@@ -12,7 +12,8 @@ use Rattle.rules.specs.Values.{Num}
 use Rattle.rules.specs.Rows.{Slots, Held}
 use Rattle.rules.specs.Sets.{Point, Figure, plain, chain, lettering, Drawing, Symbol, Contents, Set, withNow, withVolume, withBlock, rangeOf}
 use Rattle.rules.specs.VolumesAndTotals.{dated}
-use Rattle.rules.specs.Machine.{Line, Env, Home, inElement, inLayer, State, file, drawing, figures, openTop, atEof, onTop, closeFile, shutPart, onFile, onDrawing, onLayerNames, onDefines, openSymbol, onSymbol, onHide, onElements, homeTable, closeFigures, openFigure, onFigures, onSuccessive, onTexts, bySkip, skipShut, onSkipping}
+use Rattle.rules.specs.Machine.{Line, Env, Home, inElement, inLayer, State, file, drawing, figures, openTop, atEof, onTop, closeFile, shutPart, onFile, onDrawing, onLayerNames, onDefines, openSymbol, onSymbol, onHide, onElements, homeTable, closeFigures, openFigure, onFigures, onSuccessive, onTexts}
+use Rattle.rules.specs.PlacedSymbol.{bySkip, skipShut, onSkipping}
 use Rattle.rules.proofs.Chains.{map-append, nil-map, through}
 use Rattle.rules.proofs.Runs.{map-act, head-file, head-snoc}
 use Rattle.promises.proofs.Lower.{lowerHeld, lowerFigure, lowerFigures, lowerIn, lowerSet, lowerSoFar, lower, lower-blank, file-same, elements-same, totals-same, used-same, all-used-same}

@@ -7,7 +7,7 @@ use lib.IntN.{pos}
 use lib.ListN.{getD}
 use Rattle.rules.specs.Base.{all, split, join}
 use Rattle.rules.specs.RefusalNumbers.{mapG, keep}
-use Rattle.rules.specs.Values.{Num, num, Value, empty, nums, chars, linked, Known, Part, count, digit, kindOfLine, range, rangeOfSymbols, day, clock, decimal, symbolName, layerId, readPart, showPart, readAll, showAll, agree, Kind, values, text, word, volumeName, sheet, ratio, serials, nothing, opens, headed, either, readKind, numsOf, showKind, showContent}
+use Rattle.rules.specs.Values.{Num, num, Value, empty, nums, chars, linked, Known, Part, count, digit, typeDigits, range, rangeOfSymbols, day, clock, decimal, symbolName, layerId, readPart, showPart, readAll, showAll, agree, Kind, values, text, word, volumeName, sheet, ratio, serials, nothing, opens, headed, either, readKind, numsOf, showKind, showContent}
 use Rattle.rules.specs.declared.Digits.{Digits}
 use Rattle.rules.specs.Lines.{Rest, Shape, opener, noContent, content, opening, formless}
 use Rattle.rules.specs.Rows.{Rule, shapeFor, readShape, actRow}
@@ -19,7 +19,7 @@ use Rattle.rules.proofs.Chains.{and-left, and-right, clash}
 abbrev pub namelessPart : Part → Bool
 namelessPart count = true
 namelessPart (digit lo hi) = true
-namelessPart kindOfLine = true
+namelessPart typeDigits = true
 namelessPart (range lo hi) = true
 namelessPart rangeOfSymbols = true
 namelessPart day = true
@@ -44,7 +44,7 @@ nameless (either i) = true
 part-nameless : (p : Part) → namelessPart p ≡ true → (k k′ : Known) → ((s : List ℕ) → readPart k p s ≡ readPart k′ p s) × ((a : Num) → showPart k p a ≡ showPart k′ p a)
 part-nameless count e k k′ = (λ s. refl, λ a. refl)
 part-nameless (digit lo hi) e k k′ = (λ s. refl, λ a. refl)
-part-nameless kindOfLine e k k′ = (λ s. refl, λ a. refl)
+part-nameless typeDigits e k k′ = (λ s. refl, λ a. refl)
 part-nameless (range lo hi) e k k′ = (λ s. refl, λ a. refl)
 part-nameless rangeOfSymbols e k k′ = (λ s. refl, λ a. refl)
 part-nameless day e k k′ = (λ s. refl, λ a. refl)

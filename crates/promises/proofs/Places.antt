@@ -1,6 +1,5 @@
 -- The reading does not look at places.
 use Prim.Native.Nat.{ℕ, zero, suc}
-use Prim.Native.String as S
 use mathlib.Core.Bool.{Bool, false, cond}
 use mathlib.Core.List.{List, [], _∷_, map}
 use mathlib.Core.Option.{none, some}
@@ -13,11 +12,13 @@ use Rattle.rules.specs.RefusalNumbers.{Got, got, bad, unless, mapG}
 use Rattle.rules.specs.Lines.{Rest, Form, ignored, wrong, close, eof, keyed, Shape, opener, noContent, content, opening, formless, freeShapeOf}
 use Rattle.rules.specs.RangeClass.{digits, digitsOf, reaches, exceeds, both, Skip, passes, deeper, noForm}
 use Rattle.rules.specs.Values.{Value}
-use Rattle.rules.specs.Rows.{Found, absent, found, find, Slots, Held, partOf, marks, fullAt, Act, actRow, actUnknown, act}
+use Rattle.rules.specs.Rows.{Found, absent, found, find, Slots, Held, partOf, rowsThere, rowsAtLimit, Act, actRow, actUnknown, act}
 use Rattle.rules.specs.Blocks.{topTable, fileTables, drawingTable, definesTable, symbolTable, elementTable, layerNameKind, around}
 use Rattle.rules.specs.Figures.{layerTable, pointTable, textTable, placedTable, placedTables}
 use Rattle.rules.specs.Sets.{Point, Figure, Drawing, Symbol, Set, isFirst, arcOf, defineRange, rangeOf, knownOf, symbolOwn}
-use Rattle.rules.specs.Machine.{Line, Env, Home, inElement, inLayer, State, top, file, drawing, layerNames, defines, symbol, hide, elements, figures, successive, texts, placing, skipping, ended, openTop, atEof, onTop, closeFile, shutPart, onFile, onDrawing, layerValue, onLayerNames, onDefines, newName, openSymbol, onSymbol, onHide, onElements, isLayer, homeTable, closeFigures, openPlaced, openFigure, onFigures, onSuccessive, onTexts, bySkip, onUnknown, newSerial, onPlaced, onPlacedKey, onPlacedOwn, onPlacing, skipShut, onSkipping, stepIn, inElements, afterElements, isIgnored, isClose, isEof, completes, nextVolume, step, Outcome, refused, accepted, thenRun, finish, run}
+use Rattle.rules.specs.Machine.{Line, Env, Home, inElement, inLayer, State, top, file, drawing, layerNames, defines, symbol, hide, elements, figures, successive, texts, placing, skipping, ended, openTop, atEof, onTop, closeFile, shutPart, onFile, onDrawing, layerValue, onLayerNames, onDefines, newName, openSymbol, onSymbol, onHide, onElements, isLayer, homeTable, closeFigures, openPlaced, openFigure, onFigures, onSuccessive, onTexts}
+use Rattle.rules.specs.PlacedSymbol.{bySkip, onUnknown, newSerial, onPlaced, onPlacedKey, onPlacedOwn, onPlacing, skipShut, onSkipping}
+use Rattle.rules.specs.LineByLine.{stepIn, inElements, afterElements, isIgnored, isClose, isEof, completes, nextVolume, step, Outcome, refused, accepted, thenRun, finish, run}
 use Rattle.rules.proofs.Chains.{nil-map, map-cond, map-unless, through, map-append, map-set}
 use Rattle.promises.specs.PlacesApart.{bareValue, bareSlots, bareHeld, barePoint, bareFigure, bareLayer, bareDrawing, bareSymbol, bareSet, bareRest, bareForm, bareLine, bareAct, bareHome, bareState, bareOutcome}
 use Rattle.promises.proofs.Bare.{nums-bare, serials-bare, amount-bare, none-bare, marks-bare, at-bare, blank-bare, part-marks, enter-bare, held-blank, first-bare, arc-bare, sym-bare, define-bare, range-bare, single-bare, name-bare, names-bare, ids-bare, known-bare, figures-serials, set-serials, used-bare, chained-bare, dated-bare, here-bare, all-bare, layers-bare}
@@ -40,7 +41,7 @@ onTop-bare e l s k close = refl
 onTop-bare e l s k eof = atEof-bare l s k
 onTop-bare e l s k (keyed key c) =
     rw (known-bare s)
-    (by-line (knownOf s) topTable (digits 0 0) (fullAt 0 topTable) (keyed key c) (top s k) _ _ _ _ _ _ (λ j v. refl)
+    (by-line (knownOf s) topTable (digits 0 0) (rowsAtLimit 0 topTable) (keyed key c) (top s k) _ _ _ _ _ _ (λ j v. refl)
     (λ i j v. map-unless bareState (eqb j k) 9 (openTop e l s j) ∙ ap (unless (eqb j k) 9) (openTop-bare e l s j)) refl)
 
 closeFile-bare : (l : Line) (s : Set) (n : ℕ) (h : Held) → mapG bareState (closeFile l s n h) ≡ closeFile (bareLine l) (bareSet s) 0 (bareHeld h)
@@ -53,7 +54,7 @@ shutPart-bare (suc p) w w′ b b′ e h = ap got (h (around (suc p)))
 onFile-bare : (l : Line) (s : Set) (n : ℕ) (h : Held) (p : ℕ) (f : Form) → mapG bareState (onFile l s n h p f) ≡ onFile (bareLine l) (bareSet s) 0 (bareHeld h) p (bareForm f)
 onFile-bare l s n h p f =
     rw (known-bare s, part-marks h p, ap (λ b. getD (fileTables b) p []) (first-bare s))
-    (by-line (knownOf s) (getD (fileTables (isFirst s)) p []) (digits 0 0) (marks (partOf h p)) f (file s n h p) _ _ _ _ _ _
+    (by-line (knownOf s) (getD (fileTables (isFirst s)) p []) (digits 0 0) (rowsThere (partOf h p)) f (file s n h p) _ _ _ _ _ _
     (λ j v. ap (λ o. got (file (bareSet s) 0 o p)) (enter-bare h p j v))
     (λ i j v. ap (λ o. got (file (bareSet s) 0 o i)) (enter-bare h p j v))
     (shutPart-bare p (closeFile l s n h) (closeFile (bareLine l) (bareSet s) 0 (bareHeld h)) _ _ (closeFile-bare l s n h) (λ q. refl)))
@@ -64,7 +65,7 @@ own-bare s j v = map-set (mapO bareValue) s j (some v)
 onDrawing-bare : (s : Set) (d : Drawing) (f : Form) → mapG bareState (onDrawing s d f) ≡ onDrawing (bareSet s) (bareDrawing d) (bareForm f)
 onDrawing-bare s d f =
     rw (known-bare s, arc-bare s, marks-bare (d .own))
-    (by-line (knownOf s) drawingTable (digitsOf (arcOf s)) (marks (d .own)) f (drawing s d) _ _ _ _ _ _ (λ j v. simp own-bare) (λ i j v. simp own-bare) refl)
+    (by-line (knownOf s) drawingTable (digitsOf (arcOf s)) (rowsThere (d .own)) f (drawing s d) _ _ _ _ _ _ (λ j v. simp own-bare) (λ i j v. simp own-bare) refl)
 
 layerValue-bare : (k : List ℕ) (c : Shape) → layerValue k (bareShape c) ≡ mapG bareValue (layerValue k c)
 layerValue-bare k opener = refl
@@ -97,20 +98,20 @@ openSymbol-bare s y (suc (suc i)) = rw (at-bare (y .own) 1, none-bare (getD (y .
 onSymbol-bare : (s : Set) (y : Symbol) (f : Form) → mapG bareState (onSymbol s y f) ≡ onSymbol (bareSet s) (bareSymbol y) (bareForm f)
 onSymbol-bare s y f =
     rw (known-bare s, define-bare s, marks-bare (y .own))
-    (by-line (knownOf s) symbolTable (digitsOf (defineRange s)) (marks (y .own)) f (symbol s y) _ _ _ _ _ _
+    (by-line (knownOf s) symbolTable (digitsOf (defineRange s)) (rowsThere (y .own)) f (symbol s y) _ _ _ _ _ _
     (λ j v. rw (← (own-bare (y .own) j v), newName-bare s (symbolOwn (set (y .own) j (some v)) y)) (simp through))
     (λ i j v. rw (← (own-bare (y .own) j v)) (openSymbol-bare s (symbolOwn (set (y .own) j (some v)) y) i)) (simp map-append))
 
 onHide-bare : (e : Env) (l : Line) (s : Set) (y : Symbol) (ps : List Point) (f : Form) → mapG bareState (onHide e l s y ps f) ≡ onHide e (bareLine l) (bareSet s) (bareSymbol y) (map barePoint ps) (bareForm f)
 onHide-bare e l s y ps f =
     rw (known-bare s, length-map ps barePoint)
-    (by-line (knownOf s) (pointTable false) (digits 0 0) (fullAt (length ps) (pointTable false)) f (hide s y ps) _ _ _ _ _ _
+    (by-line (knownOf s) (pointTable false) (digits 0 0) (rowsAtLimit (length ps) (pointTable false)) f (hide s y ps) _ _ _ _ _ _
     (λ j v. simp (through, map-append, nums-bare)) (λ i j v. refl) refl)
 
 onElements-bare : (s : Set) (f : Form) → mapG bareState (onElements s f) ≡ onElements (bareSet s) (bareForm f)
 onElements-bare s f =
     rw (known-bare s, used-bare (s .now), here-bare s)
-    (by-line (knownOf s) elementTable (digits 0 0) (fullAt 0 elementTable) f (elements s) _ _ _ _ _ _ (λ j v. refl)
+    (by-line (knownOf s) elementTable (digits 0 0) (rowsAtLimit 0 elementTable) f (elements s) _ _ _ _ _ _ (λ j v. refl)
     (λ i j v. simp (through, amount-bare)) (simp (through, map-append)))
 
 -- ── figures ──
@@ -140,21 +141,21 @@ onFigures-bare : (e : Env) (l : Line) (s : Set) (h : Home) (fs : List Figure) (f
     → mapG bareState (onFigures e l s h fs f) ≡ onFigures e (bareLine l) (bareSet s) (bareHome h) (map bareFigure fs) (bareForm f)
 onFigures-bare e l s h fs f =
     rw (known-bare s, home-bare s h, range-bare s)
-    (by-line (knownOf s) (homeTable s h) (rangeOf s) (fullAt 0 (homeTable s h)) f (figures s h fs) _ _ _ _ _ _ (λ j v. simp (through, map-append, nums-bare))
+    (by-line (knownOf s) (homeTable s h) (rangeOf s) (rowsAtLimit 0 (homeTable s h)) f (figures s h fs) _ _ _ _ _ _ (λ j v. simp (through, map-append, nums-bare))
     (λ i j v. openFigure-bare e l s h fs i) (closeFigures-bare s h fs))
 
 onSuccessive-bare : (e : Env) (l : Line) (s : Set) (h : Home) (fs : List Figure) (n : ℕ) (ps : List Point) (f : Form)
     → mapG bareState (onSuccessive e l s h fs n ps f) ≡ onSuccessive e (bareLine l) (bareSet s) (bareHome h) (map bareFigure fs) 0 (map barePoint ps) (bareForm f)
 onSuccessive-bare e l s h fs n ps f =
     rw (known-bare s, layer-bare h, length-map ps barePoint)
-    (by-line (knownOf s) (pointTable (isLayer h)) (digits 0 0) (fullAt (length ps) (pointTable (isLayer h))) f (successive s h fs n ps) _ _ _ _ _ _
+    (by-line (knownOf s) (pointTable (isLayer h)) (digits 0 0) (rowsAtLimit (length ps) (pointTable (isLayer h))) f (successive s h fs n ps) _ _ _ _ _ _
     (λ j v. simp (through, map-append, nums-bare)) (λ i j v. refl) (simp (through, map-append)))
 
 onTexts-bare : (s : Set) (h : Home) (fs : List Figure) (n : ℕ) (o : Slots) (f : Form)
     → mapG bareState (onTexts s h fs n o f) ≡ onTexts (bareSet s) (bareHome h) (map bareFigure fs) 0 (bareSlots o) (bareForm f)
 onTexts-bare s h fs n o f =
     rw (known-bare s, layer-bare h, marks-bare o)
-    (by-line (knownOf s) (textTable (isLayer h) 4 12) (digits 0 0) (marks o) f (texts s h fs n o) _ _ _ _ _ _ (λ j v. simp own-bare) (λ i j v. refl) (simp map-append))
+    (by-line (knownOf s) (textTable (isLayer h) 4 12) (digits 0 0) (rowsThere o) f (texts s h fs n o) _ _ _ _ _ _ (λ j v. simp own-bare) (λ i j v. refl) (simp map-append))
 
 -- ── the placed symbol ──
 newSerial-bare : (s : Set) (fs : List Figure) (v : Value) → newSerial (bareSet s) (map bareFigure fs) (bareValue v) ≡ newSerial s fs v
@@ -187,8 +188,8 @@ onPlacedKey-bare e s h fs n o k c absent = onUnknown-bare e s h fs n o k c
 onPlacedKey-bare e s h fs n o k c (found j r) =
     map-cond bareState (reaches (e .class) (r .least)) _ _
     ∙ ap₂ (cond (reaches (e .class) (r .least)))
-    (rw (known-bare s, sym-bare s, part-marks o 0, row-bare (knownOf s) (rangeOf s) (getD (marks (partOf o 0)) j false) j r c)
-    (onPlaced-bare s h fs n o 0 (actRow (knownOf s) (rangeOf s) (getD (marks (partOf o 0)) j false) j r c)))
+    (rw (known-bare s, sym-bare s, part-marks o 0, row-bare (knownOf s) (rangeOf s) (getD (rowsThere (partOf o 0)) j false) j r c)
+    (onPlaced-bare s h fs n o 0 (actRow (knownOf s) (rangeOf s) (getD (rowsThere (partOf o 0)) j false) j r c)))
     (onUnknown-bare e s h fs n o k c)
 
 onPlacedOwn-bare : (e : Env) (s : Set) (h : ℕ) (fs : List Figure) (n : ℕ) (o : Held) (f : Form)
@@ -196,10 +197,10 @@ onPlacedOwn-bare : (e : Env) (s : Set) (h : ℕ) (fs : List Figure) (n : ℕ) (o
 onPlacedOwn-bare e s h fs n o ignored = refl
 onPlacedOwn-bare e s h fs n o (wrong m) = refl
 onPlacedOwn-bare e s h fs n o close =
-    let a : Form → Act = act (knownOf s) placedTable (both (e .class) (rangeOf s)) (marks (partOf o 0)) in
+    let a : Form → Act = act (knownOf s) placedTable (both (e .class) (rangeOf s)) (rowsThere (partOf o 0)) in
     rw (sym-bare s, part-marks o 0)
     (onPlaced-bare s h fs n o 0 (a close)
-    ∙ ap (onPlaced (bareSet s) h (map bareFigure fs) 0 (bareHeld o) 0) (sym (act-bare (knownOf s) placedTable (both (e .class) (rangeOf s)) (marks (partOf o 0)) close)))
+    ∙ ap (onPlaced (bareSet s) h (map bareFigure fs) 0 (bareHeld o) 0) (sym (act-bare (knownOf s) placedTable (both (e .class) (rangeOf s)) (rowsThere (partOf o 0)) close)))
 onPlacedOwn-bare e s h fs n o eof = refl
 onPlacedOwn-bare e s h fs n o (keyed k c) = onPlacedKey-bare e s h fs n o k c (find k placedTable)
 
@@ -207,8 +208,8 @@ onPlacing-bare : (e : Env) (s : Set) (h : ℕ) (fs : List Figure) (n : ℕ) (o :
     → mapG bareState (onPlacing e s h fs n o p f) ≡ onPlacing e (bareSet s) h (map bareFigure fs) 0 (bareHeld o) p (bareForm f)
 onPlacing-bare e s h fs n o zero f = onPlacedOwn-bare e s h fs n o f
 onPlacing-bare e s h fs n o (suc p) f =
-    rw (known-bare s, part-marks o (suc p), act-bare (knownOf s) (getD placedTables (suc p) []) (digits 0 0) (marks (partOf o (suc p))) f)
-    (onPlaced-bare s h fs n o (suc p) (act (knownOf s) (getD placedTables (suc p) []) (digits 0 0) (marks (partOf o (suc p))) f))
+    rw (known-bare s, part-marks o (suc p), act-bare (knownOf s) (getD placedTables (suc p) []) (digits 0 0) (rowsThere (partOf o (suc p))) f)
+    (onPlaced-bare s h fs n o (suc p) (act (knownOf s) (getD placedTables (suc p) []) (digits 0 0) (rowsThere (partOf o (suc p))) f))
 
 skipShut-bare : (s : Set) (h : ℕ) (fs : List Figure) (n : ℕ) (o : Held) (d : ℕ)
     → mapG bareState (skipShut s h fs n o d) ≡ skipShut (bareSet s) h (map bareFigure fs) 0 (bareHeld o) d

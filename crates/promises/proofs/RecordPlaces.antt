@@ -1,6 +1,5 @@
 -- Records differ in their places alone, where only rows of text hold text.
 use Prim.Native.Nat.{ℕ, zero, suc, _+_}
-use Prim.Native.String as S
 use mathlib.Core.Bool.{Bool, true, false, cond, _||_, not}
 use mathlib.Core.List.{List, [], _∷_, _++_, map}
 use mathlib.Core.Option.{Option, none, some}

@@ -13,11 +13,13 @@ use Rattle.rules.specs.Base.{choose, bytes, isNil, same}
 use Rattle.rules.specs.RefusalNumbers.{Got, got, bad}
 use Rattle.rules.specs.Lines.{Rest, Form, ignored, Scan, neither, atEqual, atBrace, withKey, formFrom, formOfRest, formOf, unindent, allowed, scan, brace, Shape, opener, noContent, content, opening, formless}
 use Rattle.rules.specs.RangeClass.{digits, both, Skip, passes, deeper, noForm}
-use Rattle.rules.specs.Rows.{Found, absent, found, find, Slots, Held, partOf, marks, fullAt, Act}
+use Rattle.rules.specs.Rows.{Found, absent, found, find, Slots, Held, partOf, rowsThere, rowsAtLimit, Act}
 use Rattle.rules.specs.Blocks.{topTable}
 use Rattle.rules.specs.Figures.{placedTable}
 use Rattle.rules.specs.Sets.{Point, Figure, Drawing, Symbol, Set, nothingYet, rangeOf, knownOf}
-use Rattle.rules.specs.Machine.{Line, Env, Home, inElement, inLayer, State, top, file, drawing, layerNames, defines, symbol, hide, elements, figures, successive, texts, placing, skipping, ended, openTop, onTop, shutPart, onFile, onDrawing, layerValue, onLayerNames, openSymbol, onSymbol, onDefines, onHide, onElements, closeFigures, openPlaced, openFigure, onFigures, onSuccessive, onTexts, bySkip, onUnknown, onPlaced, onPlacedKey, onPlacedOwn, onPlacing, skipShut, onSkipping, stepIn, step, Outcome, refused, accepted, thenRun, finish, run}
+use Rattle.rules.specs.Machine.{Line, Env, Home, inElement, inLayer, State, top, file, drawing, layerNames, defines, symbol, hide, elements, figures, successive, texts, placing, skipping, ended, openTop, onTop, shutPart, onFile, onDrawing, layerValue, onLayerNames, openSymbol, onSymbol, onDefines, onHide, onElements, closeFigures, openPlaced, openFigure, onFigures, onSuccessive, onTexts}
+use Rattle.rules.specs.PlacedSymbol.{bySkip, onUnknown, onPlaced, onPlacedKey, onPlacedOwn, onPlacing, skipShut, onSkipping}
+use Rattle.rules.specs.LineByLine.{stepIn, step, Outcome, refused, accepted, thenRun, finish, run}
 use Rattle.rules.specs.Spool.{Volume, volumesOf, linesOf, mostVolumes}
 use Rattle.rules.specs.Answers.{numbered, linesOfVolume, nextName, Listed, listed, noLines, ontoLines, listVolume, listVolumes, outcomeOfLines, outcomeOfVolumes, outcomeOf, outcomeAt}
 use Rattle.rules.proofs.Chains.{and-left, and-right, clash, by-cond}
@@ -52,7 +54,7 @@ module _ (e : Env) (l : Line) where
   fine-top s k (broken n h) = refuses n h
   fine-top s k closing = refuses 9 tt
   fine-top s k ending = search fines
-  fine-top s k (keying {k = key} {c = c}) = let w = fine-act (knownOf s) topTable (digits 0 0) (fullAt 0 topTable) (keying {k = key} {c = c}) in search (steps, fine-open)
+  fine-top s k (keying {k = key} {c = c}) = let w = fine-act (knownOf s) topTable (digits 0 0) (rowsAtLimit 0 topTable) (keying {k = key} {c = c}) in search (steps, fine-open)
 
   fine-file : (s : Set) (n : ℕ) (h : Held) (p : ℕ) {f : Form} → FineForm f → Fine (onFile l s n h p f)
   fine-file s n h p w = search steps
@@ -127,7 +129,7 @@ module _ (e : Env) (l : Line) where
   fine-own : (s : Set) (k : ℕ) (fs : List Figure) (n : ℕ) (o : Held) {f : Form} → FineForm f → Fine (onPlacedOwn e s k fs n o f)
   fine-own s k fs n o passed = answers
   fine-own s k fs n o (broken m h) = refuses m h
-  fine-own s k fs n o closing = fine-placed s k fs n o 0 (fine-act (knownOf s) placedTable (both (e .class) (rangeOf s)) (marks (partOf o 0)) closing)
+  fine-own s k fs n o closing = fine-placed s k fs n o 0 (fine-act (knownOf s) placedTable (both (e .class) (rangeOf s)) (rowsThere (partOf o 0)) closing)
   fine-own s k fs n o ending = refuses 9 tt
   fine-own s k fs n o (keying {k = key} {c = c}) = fine-key s k fs n o key c (find key placedTable)
 

@@ -11,7 +11,7 @@ use Rattle.rules.specs.declared.Answer.the-variants.{Accepted}
 use Rattle.rules.specs.Base.{mapO, flat}
 use Rattle.rules.specs.Spool.{namesOf, volumesOf}
 use Rattle.rules.specs.Sets.{Set}
-use Rattle.rules.specs.Machine.{Outcome, refused, accepted}
+use Rattle.rules.specs.LineByLine.{Outcome, refused, accepted}
 use Rattle.rules.specs.RecordTable.{width, recordsOf}
 use Rattle.rules.specs.Answers.{answerWith, readOutcome, readRecords, readAnswer, readTable, fullClass, rewriteOutcome, written, fitOutput, rewriteAnswer, rewriteOutput}
 use Rattle.promises.specs.DemandTwo.{RoundTrip}

@@ -12,7 +12,8 @@ use Rattle.rules.specs.declared.Answer.the-variants.{Accepted}
 use Rattle.rules.specs.Base.{mapO, isNil, all, total}
 use Rattle.rules.specs.Spool.{Volume, namesOf, volumesOf, unlines}
 use Rattle.rules.specs.Sets.{Contents, Set, nothingYet}
-use Rattle.rules.specs.Machine.{Line, Env, top, Outcome, refused, accepted, run}
+use Rattle.rules.specs.Machine.{Line, Env, top}
+use Rattle.rules.specs.LineByLine.{Outcome, refused, accepted, run}
 use Rattle.rules.specs.RecordTable.{width, recordsFrom, recordsOf}
 use Rattle.rules.specs.FixedForm.{Text, volumeLines, volumesBytes, fixedForm}
 use Rattle.rules.specs.Answers.{numbered, nextName, answerWith, refusal, readOutcome, readRecords, readAnswer, fullClass, namesIn, writtenIn, rewriteOutcome, written, fitOutput, rewriteAnswer}

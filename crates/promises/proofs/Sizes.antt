@@ -14,11 +14,12 @@ use Rattle.rules.specs.Spool.{Volume, linesOf, unlines, mostInLine}
 use Rattle.rules.specs.Lines.{Form, ignored, wrong, close, eof, keyed, formOf}
 use Rattle.rules.specs.RangeClass.{digits}
 use Rattle.rules.specs.Values.{amountAt}
-use Rattle.rules.specs.Rows.{complete, fullAt, shut, refuse}
+use Rattle.rules.specs.Rows.{complete, rowsAtLimit, shut, refuse}
 use Rattle.rules.specs.Blocks.{elementTable}
 use Rattle.rules.specs.Sets.{Set, withVolume, usedIn}
 use Rattle.rules.specs.VolumesAndTotals.{countedHere}
-use Rattle.rules.specs.Machine.{Line, Env, byAct, inLayer, State, top, file, drawing, layerNames, defines, symbol, hide, elements, figures, successive, texts, placing, skipping, ended, onTop, onElements, stepIn, inElements, afterElements, isIgnored, isClose, isEof, completes, nextVolume, step, accepted, thenRun, run}
+use Rattle.rules.specs.Machine.{Line, Env, byAct, inLayer, State, top, file, drawing, layerNames, defines, symbol, hide, elements, figures, successive, texts, placing, skipping, ended, onTop, onElements}
+use Rattle.rules.specs.LineByLine.{stepIn, inElements, afterElements, isIgnored, isClose, isEof, completes, nextVolume, step, accepted, thenRun, run}
 use Rattle.rules.specs.FixedForm.{Text}
 use Rattle.rules.specs.Answers.{numbered, linesOfVolume, nextName, Listed, listed, noLines, listVolume, listVolumes}
 use Rattle.rules.proofs.Runs.{not-accepted}
@@ -98,7 +99,7 @@ volume-ends e l s s′ p q h =
     at-elements : (s : Set) (u : State) (f : Form) → (isClose f || false) ≡ true → onElements s f ≡ got u → (t : Set) × (nextVolume u ≡ top t 0)
     at-elements s u ignored c d = clash c refl
     at-elements s u (wrong n) c d = clash c refl
-    at-elements s u close c d = closes (complete (digits 0 0) elementTable (fullAt 0 elementTable)) d
+    at-elements s u close c d = closes (complete (digits 0 0) elementTable (rowsAtLimit 0 elementTable)) d
       where
         closes : (b : Bool) → byAct (elements s) (λ j v. bad 5)
             (λ i j v. unless (not (hasNumber (amountAt v 0) (usedIn (s .now)))) 14 (got (figures s (inLayer (amountAt v 0)) [])))

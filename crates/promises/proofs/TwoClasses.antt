@@ -12,7 +12,8 @@ use Rattle.rules.specs.declared.Answer.the-variants.{Accepted, Refused}
 use Rattle.rules.specs.Spool.{Volume, volumesOf}
 use Rattle.rules.specs.RangeClass.{classOf}
 use Rattle.rules.specs.Sets.{Set, nothingYet, rangeOf}
-use Rattle.rules.specs.Machine.{Env, top, Outcome, refused, accepted}
+use Rattle.rules.specs.Machine.{Env, top}
+use Rattle.rules.specs.LineByLine.{Outcome, refused, accepted}
 use Rattle.rules.specs.RecordTable.{width, recordsOf}
 use Rattle.rules.specs.Answers.{Listed, listed, noLines, listVolumes, outcomeOfLines, outcomeOfVolumes, outcomeOf, answerWith, refusal, readOutcome, readRecords, readAnswer}
 use Rattle.rules.proofs.Runs.{not-accepted}

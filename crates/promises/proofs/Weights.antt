@@ -8,7 +8,7 @@ use native.Mathlib.Omega.{arith}
 use lib.ListN.{length, getD, set}
 use Rattle.rules.specs.Base.{bytes, isNil, total}
 use Rattle.rules.specs.Values.{Value, nums, Known, Part, Kind, values, text, word, volumeName, sheet, ratio, serials, nothing, opens, headed, either, charsOf}
-use Rattle.rules.specs.Rows.{Rule, Slots, blank, Held, partOf, marks}
+use Rattle.rules.specs.Rows.{Rule, Slots, blank, Held, partOf, rowsThere}
 use Rattle.rules.specs.Blocks.{fileTable, rangeTable, baseTable, elecTable, symTable, laterTable, fileTables, drawingTable, symbolTable, blankHeld}
 use Rattle.rules.specs.Figures.{layerTable, figureTable, pointTable, textTable, placedTable, placedTables}
 use Rattle.rules.specs.Sets.{Point, Figure, plain, chain, lettering, placed, Layer, Drawing, Symbol, LayerBlock, Contents, Set, isSingle, knownOf}
@@ -80,7 +80,7 @@ blank-cost k [] = refl
 blank-cost k (r ∷ t) = omega (arith, blank-cost k t)
 
 -- a line more, in a row that was blank
-pub set-cost : {t : List Rule} {j : ℕ} {r : Rule} → Row t j r → (k : Known) (s : Slots) (v : Value) → getD (marks s) j false ≡ false
+pub set-cost : {t : List Rule} {j : ℕ} {r : Rule} → Row t j r → (k : Known) (s : Slots) (v : Value) → getD (rowsThere s) j false ≡ false
     → slotsCost k t (set s j (some v)) ≤ slotsCost k t s + lineCost k r v
 set-cost here k [] v e = omega arith
 set-cost here k (none ∷ s) v e = omega arith

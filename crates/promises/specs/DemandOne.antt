@@ -13,7 +13,7 @@ use Rattle.rules.specs.declared.Answer.the-variants.{Accepted, Refused}
 use Rattle.rules.specs.Base.{flat, hasNumber}
 use Rattle.rules.specs.Spool.{mostVolumes}
 use Rattle.rules.specs.Sets.{Set}
-use Rattle.rules.specs.Machine.{accepted}
+use Rattle.rules.specs.LineByLine.{accepted}
 use Rattle.rules.specs.RecordTable.{width}
 use Rattle.rules.specs.Answers.{refusal, readRecords, readAnswer, readTable, rewriteOutcome, written, rewriteAnswer, rewriteOutput}
 

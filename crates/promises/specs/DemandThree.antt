@@ -1,21 +1,20 @@
 -- Demand 3, its words: of two front ends, one class not above the other in either digit, same spool, tables of equal length. "If the
 -- higher accepts, the lower accepts with the same records, except that attributes the file's range allows and the lower doesn't know
 -- are marked unread. If the lower refuses, the higher refuses too, at the same line or before it."
-use Prim.Native.Nat.{ℕ, _≤_, _<_}
+use Prim.Native.Nat.{ℕ, _≤_}
 use mathlib.Core.Bool.{Bool, true, false, cond, _&&_, _||_}
 use mathlib.Core.List.{List, [], _∷_, map}
-use mathlib.Core.Option.{Option, none, some}
+use mathlib.Core.Option.{some}
 use mathlib.Core.Path.{_≡_}
 use lib.Dec.{eqb, leb, ltb}
 use lib.IntN.{ℤ, pos, negsuc}
 use lib.ListN.{getD, set}
 use Rattle.rules.specs.declared.Digits.{Digits}
 use Rattle.rules.specs.declared.Refusal.{Refusal}
-use Rattle.rules.specs.declared.Answer.{Answer}
-use Rattle.rules.specs.declared.Answer.the-variants.{Accepted, Refused}
+use Rattle.rules.specs.declared.Answer.the-variants.{Refused}
 use Rattle.rules.specs.RangeClass.{digits, classOf, hides}
 use Rattle.rules.specs.Sets.{Set, rangeOf}
-use Rattle.rules.specs.Machine.{Outcome, accepted}
+use Rattle.rules.specs.LineByLine.{accepted}
 use Rattle.rules.specs.Answers.{readOutcome, readAnswer, readRecords}
 
 -- ── classes ──

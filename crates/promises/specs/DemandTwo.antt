@@ -8,7 +8,7 @@ use Rattle.rules.specs.declared.Answer.the-variants.{Accepted}
 use Rattle.rules.specs.Base.{mapO}
 use Rattle.rules.specs.Spool.{namesOf, volumesOf}
 use Rattle.rules.specs.Sets.{Set}
-use Rattle.rules.specs.Machine.{accepted}
+use Rattle.rules.specs.LineByLine.{accepted}
 use Rattle.rules.specs.RecordTable.{width}
 use Rattle.rules.specs.Answers.{readOutcome, readAnswer, readRecords, rewriteOutcome, written, rewriteAnswer}
 use Rattle.promises.specs.PlacesApart.{bareSet, placesApart}

@@ -10,7 +10,9 @@ use Rattle.rules.specs.Lines.{Rest, brace, equals, Form, ignored, wrong, close,
 use Rattle.rules.specs.Values.{Value, empty, nums, chars, linked}
 use Rattle.rules.specs.Rows.{Slots, Held, Act, stay, entry, begin, shut, refuse}
 use Rattle.rules.specs.Sets.{Point, Figure, plain, chain, lettering, placed, Layer, Drawing, Symbol, LayerBlock, Contents, Set}
-use Rattle.rules.specs.Machine.{Line, Home, inElement, inLayer, State, top, file, drawing, layerNames, defines, symbol, hide, elements, figures, successive, texts, placing, skipping, ended, Outcome, refused, accepted}
+use Rattle.rules.specs.Machine.{Line, Home, inElement, inLayer, State, top, file, drawing, layerNames, defines, symbol, hide, elements, figures, successive}
+use Rattle.rules.specs.Machine.{texts, placing, skipping, ended}
+use Rattle.rules.specs.LineByLine.{Outcome, refused, accepted}
 
 -- ── what is kept ──
 abbrev pub bareValue : Value → Value

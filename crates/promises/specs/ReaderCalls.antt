@@ -10,7 +10,7 @@ use Rattle.rules.specs.declared.Refusal.{Refusal}
 use Rattle.rules.specs.declared.Answer.{Answer}
 use Rattle.rules.specs.declared.Answer.the-variants.{Accepted, Refused}
 use Rattle.rules.specs.Sets.{Set, rangeOf}
-use Rattle.rules.specs.Machine.{accepted}
+use Rattle.rules.specs.LineByLine.{accepted}
 use Rattle.rules.specs.RecordTable.{width}
 use Rattle.rules.specs.Answers.{readOutcome, readAnswer, readTable}
 use Rattle.promises.specs.DemandThree.{Classes, unread, atOrBefore}

@@ -7,7 +7,8 @@ use Rattle.rules.specs.RefusalNumbers.{Got, mapG}
 use Rattle.rules.specs.Values.{Value}
 use Rattle.rules.specs.Rows.{Act, stay, entry, begin, shut, refuse}
 use Rattle.rules.specs.Sets.{Set, Contents, headOr}
-use Rattle.rules.specs.Machine.{State, top, file, drawing, layerNames, defines, symbol, hide, elements, figures, successive, texts, placing, skipping, ended, byAct, Outcome, refused, accepted, finish}
+use Rattle.rules.specs.Machine.{State, top, file, drawing, layerNames, defines, symbol, hide, elements, figures, successive, texts, placing, skipping, ended, byAct}
+use Rattle.rules.specs.LineByLine.{Outcome, refused, accepted, finish}
 
 -- a function moved through an act
 pub map-act : (g : State → State) (st : State) (en : ℕ → Value → Got State) (op : ℕ → ℕ → Value → Got State) (cl : Unit {0} → Got State) (a : Act)

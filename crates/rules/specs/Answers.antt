@@ -1,26 +1,27 @@
 -- Document 01, "What the base reads" and the last paragraph of "Refusal numbers": the answers of the reader, of the rewriter, of the
 -- host's check and of the program, and the lent memory on return.
-use Prim.Native.Nat.{ℕ, zero, suc, _+_, _*_, _-_, _/_}
-use mathlib.Core.Bool.{Bool, true, false, cond, _&&_, _||_, not}
+use Prim.Native.Nat.{ℕ, suc, _+_, _*_, _/_}
+use mathlib.Core.Bool.{true, cond}
 use mathlib.Core.List.{List, [], _∷_, _++_, map}
 use mathlib.Core.Option.{Option, none, some}
-use lib.Dec.{eqb, leb}
+use lib.Dec.{leb}
 use lib.IntN.{ℤ, pos, negsuc}
 use lib.ListN.{length, take, replicate}
 use Rattle.rules.specs.declared.Digits.{Digits}
-use Rattle.rules.specs.declared.Refusal.{Refusal}
 use Rattle.rules.specs.declared.Answer.{Answer}
 use Rattle.rules.specs.declared.Answer.the-variants.{Accepted, Refused}
 use Rattle.rules.specs.Base.{isNil, flat, join}
 use Rattle.rules.specs.Spool.{Volume, namesOf, volumesOf, linesOf}
-use Rattle.rules.specs.Lines.{Form, ignored, formOf}
+use Rattle.rules.specs.Lines.{ignored, formOf}
 use Rattle.rules.specs.RangeClass.{digits, classOf}
 use Rattle.rules.specs.Numbers.{fixedOnto, showCount}
-use Rattle.rules.specs.Blocks.{topTable, fileTable, rangeTable, baseTable, elecTable, symTable, laterTable, drawingTable, definesTable, symbolTable, elementTable}
+use Rattle.rules.specs.Blocks.{topTable, fileTable, rangeTable, baseTable, elecTable, symTable, laterTable, drawingTable, definesTable, symbolTable}
+use Rattle.rules.specs.Blocks.{elementTable}
 use Rattle.rules.specs.Figures.{layerTable, figureTable, pointTable, textTable, placedTable}
 use Rattle.rules.specs.Values.{sheets}
-use Rattle.rules.specs.Sets.{Set, nothingYet}
-use Rattle.rules.specs.Machine.{Line, Env, State, top, Outcome, refused, accepted, run}
+use Rattle.rules.specs.Sets.{nothingYet}
+use Rattle.rules.specs.Machine.{Line, Env, top}
+use Rattle.rules.specs.LineByLine.{Outcome, refused, accepted, run}
 use Rattle.rules.specs.RecordTable.{recordsOf, tableOf, width}
 use Rattle.rules.specs.FixedForm.{fixedForm}
 

@@ -1,9 +1,10 @@
 -- Document 01, "Blocks": the tables of keys of every block but the figures. A row: the key, what it holds, where it goes in the record.
 use Prim.Native.Nat.{ℕ, zero, suc, _+_}
-use mathlib.Core.Bool.{Bool, true, false, cond}
-use mathlib.Core.List.{List, [], _∷_, _++_, map}
-use Rattle.rules.specs.Values.{Part, count, digit, range, rangeOfSymbols, day, clock, decimal, anySign, notNegative, layerId, Kind, values, text, word, volumeName, sheet, ratio, nothing, opens, headed, either, anyBytes, ascii, lettersAndDigits, telephone, nothingMore}
-use Rattle.rules.specs.Rows.{Rule, row, mayBeEmpty, from, optional, repeated, stateAt, anyNumber, Slots, blank, Held}
+use mathlib.Core.Bool.{Bool, true, false}
+use mathlib.Core.List.{List, [], _∷_, map}
+use Rattle.rules.specs.Values.{Part, count, range, rangeOfSymbols, day, clock, decimal, anySign, notNegative, layerId, Kind, values, text, word}
+use Rattle.rules.specs.Values.{volumeName, sheet, ratio, nothing, opens, headed, either, anyBytes, ascii, lettersAndDigits, telephone, nothingMore}
+use Rattle.rules.specs.Rows.{Rule, row, mayBeEmpty, from, optional, repeated, stateAt, anyNumber, blank, Held}
 
 abbrev pub one : Part → Kind
 one p = values p [] nothingMore

@@ -1,8 +1,9 @@
 -- Document 01, "Figures": the tables of figures in layers and in symbols, of points, of texts and of the placed symbol.
-use Prim.Native.Nat.{ℕ, zero, suc, _+_}
-use mathlib.Core.Bool.{Bool, true, false, cond}
+use Prim.Native.Nat.{ℕ}
+use mathlib.Core.Bool.{Bool, true, false}
 use mathlib.Core.List.{List, [], _∷_, _++_}
-use Rattle.rules.specs.Values.{Part, digit, kindOfLine, decimal, Bound, anySign, notNegative, aboveZero, angle, symbolName, Kind, values, text, word, serials, opens, anyBytes, circuitBytes, nothingMore, endsDiffer, arcOfCircle, axesOfEllipse}
+use Rattle.rules.specs.Values.{Part, digit, typeDigits, decimal, anySign, notNegative, aboveZero, angle, symbolName, Kind, values, text, word, serials}
+use Rattle.rules.specs.Values.{opens, anyBytes, circuitBytes, nothingMore, endsDiffer, arcOfCircle, axesOfEllipse}
 use Rattle.rules.specs.Rows.{Rule, row, mayBeEmpty, from, optional, repeated, stateAt, upTo, anyNumber}
 
 -- "In layers no coordinate is negative but the two centres; in symbols any sign."
@@ -16,14 +17,14 @@ flag = digit 0 1
 
 -- the values of a point: type,x,y
 abbrev pub pointKind : Bool → Kind
-pointKind inLayer = values kindOfLine (coordinate inLayer ∷ coordinate inLayer ∷ []) nothingMore
+pointKind inLayer = values typeDigits (coordinate inLayer ∷ coordinate inLayer ∷ []) nothingMore
 
 -- the lines that are a figure each: type and values from place 4 of the record on
 abbrev pub plainRows : Bool → List Rule
 plainRows inLayer =
-    row "line" (values kindOfLine (coordinate inLayer ∷ coordinate inLayer ∷ coordinate inLayer ∷ coordinate inLayer ∷ []) endsDiffer) 4
-    ∷ row "circle" (values kindOfLine (decimal anySign ∷ decimal anySign ∷ decimal aboveZero ∷ decimal angle ∷ decimal angle ∷ flag ∷ []) arcOfCircle) 4
-    ∷ row "ellipse" (values kindOfLine (decimal anySign ∷ decimal anySign ∷ decimal aboveZero ∷ decimal aboveZero ∷ decimal angle ∷ decimal angle ∷ decimal angle ∷ flag ∷ []) axesOfEllipse) 4
+    row "line" (values typeDigits (coordinate inLayer ∷ coordinate inLayer ∷ coordinate inLayer ∷ coordinate inLayer ∷ []) endsDiffer) 4
+    ∷ row "circle" (values typeDigits (decimal anySign ∷ decimal anySign ∷ decimal aboveZero ∷ decimal angle ∷ decimal angle ∷ flag ∷ []) arcOfCircle) 4
+    ∷ row "ellipse" (values typeDigits (decimal anySign ∷ decimal anySign ∷ decimal aboveZero ∷ decimal aboveZero ∷ decimal angle ∷ decimal angle ∷ decimal angle ∷ flag ∷ []) axesOfEllipse) 4
     ∷ row "point" (pointKind inLayer) 4 ∷ []
 
 -- the figures that are blocks
@@ -67,7 +68,7 @@ pointTable inLayer = repeated (upTo mostPoints) (row "point" (pointKind inLayer)
 -- "text: block of `type` (type,x,y,width,height,gap,angle,upright) and `character` (1-200 bytes)": where its two lines go in the record
 unfoldable pub textTable : Bool → ℕ → ℕ → List Rule
 textTable inLayer p q =
-    row "type" (values kindOfLine (coordinate inLayer ∷ coordinate inLayer ∷ decimal aboveZero ∷ decimal aboveZero ∷ decimal notNegative ∷ decimal angle ∷ flag ∷ []) nothingMore) p
+    row "type" (values typeDigits (coordinate inLayer ∷ coordinate inLayer ∷ decimal aboveZero ∷ decimal aboveZero ∷ decimal notNegative ∷ decimal angle ∷ flag ∷ []) nothingMore) p
     ∷ row "character" (text 200 anyBytes) q ∷ []
 
 -- "Last digit 2 or more: `text`, may be missing; 3: `hight`, signed or empty; 4: `pos`, 1 to 5 or empty;

@@ -1,14 +1,15 @@
 -- Document 01, "Fixed form": a set written back, line by line. "no comments, blanks or empty lines; keys in the order above".
 -- Each function takes the lines that follow what it writes.
-use Prim.Native.Nat.{ℕ, zero, suc, _+_}
-use mathlib.Core.Bool.{Bool, true, false, cond, _&&_, _||_, not}
-use mathlib.Core.List.{List, [], _∷_, _++_, map}
+use Prim.Native.Nat.{ℕ, zero, suc}
+use mathlib.Core.Bool.{Bool, true, false, cond}
+use mathlib.Core.List.{List, [], _∷_, _++_}
 use mathlib.Core.Option.{Option, none, some}
-use lib.Dec.{eqb, leb}
-use lib.ListN.{length, getD}
-use Rattle.rules.specs.Base.{bytes, isNil, flat}
+use lib.Dec.{eqb}
+use lib.ListN.{getD}
+use Rattle.rules.specs.Base.{bytes, isNil}
 use Rattle.rules.specs.Spool.{unlines, volumeBytes}
-use Rattle.rules.specs.Values.{Num, Value, empty, nums, chars, linked, Known, Kind, values, text, word, volumeName, sheet, ratio, serials, nothing, opens, headed, either, showContent, charsOf, amountAt}
+use Rattle.rules.specs.Values.{Value, nums, Known, Kind, values, text, word, volumeName, sheet, ratio, serials, nothing, opens, headed, either}
+use Rattle.rules.specs.Values.{showContent, charsOf, amountAt}
 use Rattle.rules.specs.Rows.{Rule, Slots, Held, partOf}
 use Rattle.rules.specs.Blocks.{fileTables, drawingTable, symbolTable}
 use Rattle.rules.specs.Figures.{layerTable, figureTable, pointTable, textTable, placedTables}

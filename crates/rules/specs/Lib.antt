@@ -11,6 +11,8 @@ pub mod Figures
 pub mod Sets
 pub mod VolumesAndTotals
 pub mod Machine
+pub mod PlacedSymbol
+pub mod LineByLine
 pub mod RecordTable
 pub mod FixedForm
 pub mod Answers

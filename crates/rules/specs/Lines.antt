@@ -1,14 +1,11 @@
 -- Document 01, "Lines": comments, leading blanks, allowed bytes, the forms.
-use Prim.Native.Nat.{ℕ, zero, suc, _+_, _-_}
+use Prim.Native.Nat.{ℕ, _+_, _-_}
 use mathlib.Core.Bool.{Bool, true, false, cond, _&&_, _||_, not}
-use mathlib.Core.List.{List, [], _∷_, _++_}
+use mathlib.Core.List.{List, [], _∷_}
 use mathlib.Core.Option.{Option, none, some}
-use lib.Dec.{eqb, leb}
+use lib.Dec.{eqb}
 use lib.ListN.{length, take, drop}
 use Rattle.rules.specs.declared.Span.{Span}
-use Rattle.rules.specs.declared.Opener.{Opener}
-use Rattle.rules.specs.declared.Equation.{Equation}
-use Rattle.rules.specs.declared.Refusal.{Refusal}
 use Rattle.rules.specs.declared.LineForm.{LineForm}
 use Rattle.rules.specs.declared.LineForm.the-variants as L
 use Rattle.rules.specs.Base.{choose, bytes, mapO, isNil, same, within}

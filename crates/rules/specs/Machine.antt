@@ -1,20 +1,22 @@
 -- The reading of a set, line by line: which block is open, what it holds so far, and what a line does there.
-use Prim.Native.Nat.{ℕ, zero, suc, _+_, _-_}
+use Prim.Native.Nat.{ℕ, zero, suc, _+_}
 use mathlib.Core.Bool.{Bool, true, false, cond, _&&_, _||_, not}
 use mathlib.Core.List.{List, [], _∷_, _++_, map}
 use mathlib.Core.Option.{Option, none, some}
 use lib.Dec.{eqb, leb, ltb}
 use lib.ListN.{length, getD, set}
 use Rattle.rules.specs.declared.Digits.{Digits}
-use Rattle.rules.specs.Base.{isNil, isNone, same, among, hasNumber, flat}
-use Rattle.rules.specs.RefusalNumbers.{Got, got, bad, unless, mapG, andThen, also}
-use Rattle.rules.specs.Lines.{Rest, brace, equals, Form, ignored, wrong, close, eof, keyed, freeShapeOf, Shape, opener, noContent, content, opening, formless, shapeOf, hasForm}
-use Rattle.rules.specs.RangeClass.{digits, digitsOf, reaches, exceeds, both, Skip, passes, deeper, noForm, skipOf, mostDepth}
-use Rattle.rules.specs.Values.{Num, Value, empty, nums, chars, linked, Known, numsOf, charsOf, serialsOf, amountAt, isLayerId, readKind}
-use Rattle.rules.specs.Rows.{Rule, Found, absent, found, find, Slots, blank, Held, partOf, enter, marks, fullAt, Act, stay, entry, begin, shut, refuse, orRefuse, actRow, actUnknown, actFound, act, complete}
+use Rattle.rules.specs.Base.{isNil, isNone, among, hasNumber}
+use Rattle.rules.specs.RefusalNumbers.{Got, got, bad, unless, andThen}
+use Rattle.rules.specs.Lines.{Rest, Form, ignored, wrong, close, eof, keyed, freeShapeOf, Shape, opener, noContent, content, opening, formless}
+use Rattle.rules.specs.RangeClass.{digits, digitsOf}
+use Rattle.rules.specs.Values.{Value, empty, numsOf, amountAt, isLayerId, readKind}
+use Rattle.rules.specs.Rows.{Rule, Slots, blank, Held, partOf, enter, rowsThere, rowsAtLimit, Act, stay, entry, begin, shut, refuse, act}
 use Rattle.rules.specs.Blocks.{topTable, fileTables, around, blankHeld, drawingTable, mostLayers, layerNameKind, definesTable, symbolTable, elementTable}
-use Rattle.rules.specs.Figures.{layerTable, figureTable, mostPoints, leastPoints, pointTable, textTable, placedTable, placedTables}
-use Rattle.rules.specs.Sets.{Point, Figure, plain, chain, lettering, placed, Layer, Drawing, Symbol, LayerBlock, Contents, Set, nothingYet, withNow, withDrawing, withSymbol, withVolume, withRecords, withBlock, withLayer, withOwn, symbolOwn, symbolFigures, symbolHidden, symbolOrder, isFirst, arcOf, rangeOf, defineRange, isSingle, symbolNameOf, knownOf, ownSerial, figureSerial, serialsIn, usedIn}
+use Rattle.rules.specs.Figures.{layerTable, figureTable, leastPoints, pointTable, textTable, placedTables}
+use Rattle.rules.specs.Sets.{Point, Figure, plain, chain, lettering, Drawing, Symbol, Set, withNow, withDrawing, withSymbol, withVolume, withRecords}
+use Rattle.rules.specs.Sets.{withBlock, withLayer, withOwn, symbolOwn, symbolFigures, symbolHidden, symbolOrder, isFirst, arcOf, rangeOf, defineRange}
+use Rattle.rules.specs.Sets.{isSingle, symbolNameOf, knownOf, usedIn}
 use Rattle.rules.specs.VolumesAndTotals.{chained, dated, countedHere, countedAll, layersUsed}
 
 -- ── a line of the set, and what the reading knows from the start ──
@@ -89,7 +91,7 @@ onTop e l s k close = bad 9
 onTop e l s k eof = atEof l s k
 onTop e l s k (keyed key c) =
     byAct (top s k) (λ j v. bad 5) (λ i j v. unless (eqb j k) 9 (openTop e l s j)) (λ _. bad 9)
-    (act (knownOf s) topTable (digits 0 0) (fullAt 0 topTable) (keyed key c))
+    (act (knownOf s) topTable (digits 0 0) (rowsAtLimit 0 topTable) (keyed key c))
 
 -- ── FILE_FORMAT ──
 -- "16: volume chain, date or time unlike volume 1's, at FILE_FORMAT's close"
@@ -109,7 +111,7 @@ onFile l s n h p f =
     (λ j v. got (file s n (enter h p j v) p))
     (λ i j v. got (file s n (enter h p j v) i))
     (λ _. shutPart p (closeFile l s n h) (λ q. file s n h q))
-    (act (knownOf s) t (digits 0 0) (marks (partOf h p)) f)
+    (act (knownOf s) t (digits 0 0) (rowsThere (partOf h p)) f)
 
 -- ── DRAWING_FORMAT ──
 abbrev pub onDrawing : Set → Drawing → Form → Got State
@@ -118,7 +120,7 @@ onDrawing s d f =
     (λ j v. got (drawing s (withOwn (set (d .own) j (some v)) d)))
     (λ i j v. got (layerNames s (withOwn (set (d .own) j (some v)) d)))
     (λ _. got (top (withDrawing d s) 2))
-    (act (knownOf s) drawingTable (digitsOf (arcOf s)) (marks (d .own)) f)
+    (act (knownOf s) drawingTable (digitsOf (arcOf s)) (rowsThere (d .own)) f)
 
 -- a line in `layer_name`: every content there is a layer's name; "A misspelt id is 6"; one line too many is 11, a layer declared twice 14
 abbrev pub layerValue : List ℕ → Shape → Got Value
@@ -168,7 +170,7 @@ onSymbol s y f =
     (λ j v. let y′ = symbolOwn (set (y .own) j (some v)) y in unless (newName s y′) 15 (got (symbol s y′)))
     (λ i j v. openSymbol s (symbolOwn (set (y .own) j (some v)) y) i)
     (λ _. got (defines (withSymbol y s) false))
-    (act (knownOf s) symbolTable (digitsOf (defineRange s)) (marks (y .own)) f)
+    (act (knownOf s) symbolTable (digitsOf (defineRange s)) (rowsThere (y .own)) f)
 
 -- ── points ──
 abbrev pub pointAt : Line → Value → Point
@@ -180,7 +182,7 @@ onHide e l s y ps f =
     (λ j v. taking e 1 s λ s′. hide s′ y (ps ++ pointAt l v ∷ []))
     (λ i j v. bad 5)
     (λ _. got (symbol s (symbolHidden ps y)))
-    (act (knownOf s) (pointTable false) (digits 0 0) (fullAt (length ps) (pointTable false)) f)
+    (act (knownOf s) (pointTable false) (digits 0 0) (rowsAtLimit (length ps) (pointTable false)) f)
 
 -- ── ELEMENT ──
 -- "14: layer used twice"; "17: this_ele at ELEMENT's close"
@@ -190,7 +192,7 @@ onElements s f =
     (λ j v. bad 5)
     (λ i j v. unless (not (hasNumber (amountAt v 0) (usedIn (s .now)))) 14 (got (figures s (inLayer (amountAt v 0)) [])))
     (λ _. unless (countedHere s) 17 (got (top (withVolume s) 4)))
-    (act (knownOf s) elementTable (digits 0 0) (fullAt 0 elementTable) f)
+    (act (knownOf s) elementTable (digits 0 0) (rowsAtLimit 0 elementTable) f)
 
 -- ── figures ──
 abbrev pub isLayer : Home → Bool
@@ -223,7 +225,7 @@ onFigures e l s h fs f =
     (λ j v. taking e 1 s λ s′. figures s′ h (fs ++ plain (l .line) j (numsOf v) ∷ []))
     (λ i j v. openFigure e l s h fs i)
     (λ _. closeFigures s h fs)
-    (act (knownOf s) (homeTable s h) (rangeOf s) (fullAt 0 (homeTable s h)) f)
+    (act (knownOf s) (homeTable s h) (rangeOf s) (rowsAtLimit 0 (homeTable s h)) f)
 
 -- "successive: block of 3 to 100 point"
 abbrev pub onSuccessive : Env → Line → Set → Home → List Figure → ℕ → List Point → Form → Got State
@@ -232,7 +234,7 @@ onSuccessive e l s h fs n ps f =
     (λ j v. taking e 1 s λ s′. successive s′ h fs n (ps ++ pointAt l v ∷ []))
     (λ i j v. bad 5)
     (λ _. unless (leb leastPoints (length ps)) 8 (got (figures s h (fs ++ chain n ps ∷ []))))
-    (act (knownOf s) (pointTable (isLayer h)) (digits 0 0) (fullAt (length ps) (pointTable (isLayer h))) f)
+    (act (knownOf s) (pointTable (isLayer h)) (digits 0 0) (rowsAtLimit (length ps) (pointTable (isLayer h))) f)
 
 abbrev pub onTexts : Set → Home → List Figure → ℕ → Slots → Form → Got State
 onTexts s h fs n o f =
@@ -240,197 +242,4 @@ onTexts s h fs n o f =
     (λ j v. got (texts s h fs n (set o j (some v))))
     (λ i j v. bad 5)
     (λ _. got (figures s h (fs ++ lettering n o ∷ [])))
-    (act (knownOf s) (textTable (isLayer h) 4 12) (digits 0 0) (marks o) f)
-
--- ── the placed symbol ──
--- what the line of a key that the class doesn't know does: "skipped when a digit of E_sym exceeds the class's, and refused otherwise"
-abbrev pub bySkip : Skip → Got State → Got State → Got State
-bySkip passes here inside = here
-bySkip deeper here inside = inside
-bySkip noForm here inside = bad 5
-
-abbrev pub skipDeeper : ℕ → State → Got State
-skipDeeper d inside = unless (ltb d mostDepth) 18 (got inside)
-
-abbrev pub onUnknown : Env → Set → ℕ → List Figure → ℕ → Held → List ℕ → Rest → Got State
-onUnknown e s h fs n o k c =
-    cond (exceeds (rangeOf s) (e .class))
-    (bySkip (skipOf k c) (got (placing s h fs n o 0)) (skipDeeper 0 (skipping s h fs n o 1)))
-    (byAct (placing s h fs n o 0) (λ j v. bad 6) (λ i j v. bad 6) (λ _. bad 6) (actUnknown c))
-
--- "Own numbers differ as numbers over the set" (15)
-abbrev pub noneOf : List ℕ → List ℕ → Bool
-noneOf [] used = true
-noneOf (n ∷ ns) used = not (hasNumber n used) && noneOf ns used
-
-abbrev pub newSerial : Set → List Figure → Value → Bool
-newSerial s fs v = noneOf (ownSerial (serialsOf v)) (serialsIn s ++ flat (map figureSerial fs))
-
-abbrev pub onPlaced : Set → ℕ → List Figure → ℕ → Held → ℕ → Act → Got State
-onPlaced s h fs n o p a =
-    byAct (placing s h fs n o p)
-    (λ j v. unless (newSerial s fs v) 15 (got (placing s h fs n (enter o p j v) p)))
-    (λ i j v. got (placing s h fs n (enter o p j v) i))
-    (λ _. shutPart p (got (figures s (inLayer h) (fs ++ placed n o ∷ []))) (λ q. placing s h fs n o q))
-    a
-
--- a key that the class knows is judged as in any block, in a file of the range E_sym
-abbrev pub onPlacedKey : Env → Set → ℕ → List Figure → ℕ → Held → List ℕ → Rest → Found → Got State
-onPlacedKey e s h fs n o k c absent = onUnknown e s h fs n o k c
-onPlacedKey e s h fs n o k c (found j r) =
-    cond (reaches (e .class) (r .least))
-    (onPlaced s h fs n o 0 (actRow (knownOf s) (rangeOf s) (getD (marks (partOf o 0)) j false) j r c))
-    (onUnknown e s h fs n o k c)
-
--- what the file allows and the class knows is required
-abbrev pub onPlacedOwn : Env → Set → ℕ → List Figure → ℕ → Held → Form → Got State
-onPlacedOwn e s h fs n o ignored = got (placing s h fs n o 0)
-onPlacedOwn e s h fs n o (wrong m) = bad m
-onPlacedOwn e s h fs n o close =
-    onPlaced s h fs n o 0 (act (knownOf s) placedTable (both (e .class) (rangeOf s)) (marks (partOf o 0)) close)
-onPlacedOwn e s h fs n o eof = bad 9
-onPlacedOwn e s h fs n o (keyed k c) = onPlacedKey e s h fs n o k c (find k placedTable)
-
-abbrev pub onPlacing : Env → Set → ℕ → List Figure → ℕ → Held → ℕ → Form → Got State
-onPlacing e s h fs n o zero f = onPlacedOwn e s h fs n o f
-onPlacing e s h fs n o (suc p) f =
-    onPlaced s h fs n o (suc p) (act (knownOf s) (getD placedTables (suc p) []) (digits 0 0) (marks (partOf o (suc p))) f)
-
--- ── skipped blocks: "A skipped opener takes all lines to its own `}`" ──
-abbrev pub skipShut : Set → ℕ → List Figure → ℕ → Held → ℕ → Got State
-skipShut s h fs n o zero = bad 9
-skipShut s h fs n o (suc zero) = got (placing s h fs n o 0)
-skipShut s h fs n o (suc (suc d)) = got (skipping s h fs n o (suc d))
-
-abbrev pub onSkipping : Set → ℕ → List Figure → ℕ → Held → ℕ → Form → Got State
-onSkipping s h fs n o d ignored = got (skipping s h fs n o d)
-onSkipping s h fs n o d (wrong m) = bad m
-onSkipping s h fs n o d close = skipShut s h fs n o d
-onSkipping s h fs n o d eof = bad 9
-onSkipping s h fs n o d (keyed k c) =
-    bySkip (skipOf k c) (got (skipping s h fs n o d)) (skipDeeper d (skipping s h fs n o (suc d)))
-
--- ── one line ──
-abbrev pub stepIn : Env → Line → State → Got State
-stepIn e l (top s k) = onTop e l s k (l .form)
-stepIn e l (file s n h p) = onFile l s n h p (l .form)
-stepIn e l (drawing s d) = onDrawing s d (l .form)
-stepIn e l (layerNames s d) = onLayerNames e l s d (l .form)
-stepIn e l (defines s b) = onDefines e l s b (l .form)
-stepIn e l (symbol s y) = onSymbol s y (l .form)
-stepIn e l (hide s y ps) = onHide e l s y ps (l .form)
-stepIn e l (elements s) = onElements s (l .form)
-stepIn e l (figures s h fs) = onFigures e l s h fs (l .form)
-stepIn e l (successive s h fs n ps) = onSuccessive e l s h fs n ps (l .form)
-stepIn e l (texts s h fs n o) = onTexts s h fs n o (l .form)
-stepIn e l (placing s h fs n o p) = onPlacing e s h fs n o p (l .form)
-stepIn e l (skipping s h fs n o d) = onSkipping s h fs n o d (l .form)
-stepIn e l (ended s) = bad 9
-
--- ── the volume's last line: "volume ends early" is 9 there ──
--- how far the set is, as far as the end of a volume asks: between blocks, in ELEMENT with nothing open in it, in another block, ended
-pub data Stage : Type 0 where
-  between : Set → ℕ → Stage
-  withinElement : Stage
-  withinOther : Stage
-  atEnd : Set → Stage
-
-abbrev pub stageOf : State → Stage
-stageOf (top s k) = between s k
-stageOf (file s n h p) = withinOther
-stageOf (drawing s d) = withinOther
-stageOf (layerNames s d) = withinOther
-stageOf (defines s b) = withinOther
-stageOf (symbol s y) = withinOther
-stageOf (hide s y ps) = withinOther
-stageOf (elements s) = withinElement
-stageOf (figures s h fs) = withinOther
-stageOf (successive s h fs n ps) = withinOther
-stageOf (texts s h fs n o) = withinOther
-stageOf (placing s h fs n o p) = withinOther
-stageOf (skipping s h fs n o d) = withinOther
-stageOf (ended s) = atEnd s
-
-abbrev pub isWithinElement : Stage → Bool
-isWithinElement (between s k) = false
-isWithinElement withinElement = true
-isWithinElement withinOther = false
-isWithinElement (atEnd s) = false
-
-abbrev pub isAfterElement : Stage → Bool
-isAfterElement (between s k) = eqb k 4
-isAfterElement withinElement = false
-isAfterElement withinOther = false
-isAfterElement (atEnd s) = false
-
--- ELEMENT is open, and nothing in it
-abbrev pub inElements : State → Bool
-inElements s = isWithinElement (stageOf s)
-
--- ELEMENT is closed
-abbrev pub afterElements : State → Bool
-afterElements s = isAfterElement (stageOf s)
-
-abbrev pub isIgnored : Form → Bool
-isIgnored ignored = true
-isIgnored (wrong n) = false
-isIgnored close = false
-isIgnored eof = false
-isIgnored (keyed k c) = false
-
-abbrev pub isClose : Form → Bool
-isClose ignored = false
-isClose (wrong n) = false
-isClose close = true
-isClose eof = false
-isClose (keyed k c) = false
-
-abbrev pub isEof : Form → Bool
-isEof ignored = false
-isEof (wrong n) = false
-isEof close = false
-isEof eof = true
-isEof (keyed k c) = false
-
--- Is the volume complete after this line? By its structure: in the last volume EOF after ELEMENT, in others ELEMENT's end.
-abbrev pub completes : Line → State → Bool
-completes l s =
-    cond (isNil (l .next))
-    (afterElements s && isEof (l .form))
-    ((inElements s && isClose (l .form)) || (afterElements s && isIgnored (l .form)))
-
--- the next volume begins anew
-abbrev pub begunAnew : Stage → State → State
-begunAnew (between s k) st = top s 0
-begunAnew withinElement st = st
-begunAnew withinOther st = st
-begunAnew (atEnd s) st = st
-
-abbrev pub nextVolume : State → State
-nextVolume s = begunAnew (stageOf s) s
-
-abbrev pub step : Env → Line → State → Got State
-step e l s = cond (l .last) (mapG nextVolume (also (completes l s) 9 (stepIn e l s))) (stepIn e l s)
-
--- ── all lines ──
-pub data Outcome : Type 0 where
-  refused : ℕ → ℕ → ℕ → Outcome  -- number, volume, line
-  accepted : Set → Outcome
-
-abbrev pub thenRun : Got State → Line → (State → Outcome) → Outcome
-thenRun (got s) l f = f s
-thenRun (bad n) l f = refused n (l .volume) (l .line)
-
--- after the last line of the last volume the set has ended (no other state comes through that line)
-abbrev pub endedAs : Stage → Outcome
-endedAs (between s k) = refused 9 0 0
-endedAs withinElement = refused 9 0 0
-endedAs withinOther = refused 9 0 0
-endedAs (atEnd s) = accepted s
-
-abbrev pub finish : State → Outcome
-finish s = endedAs (stageOf s)
-
-abbrev pub run : Env → State → List Line → Outcome
-run e s [] = finish s
-run e s (l ∷ ls) = thenRun (step e l s) l (λ s′. run e s′ ls)
+    (act (knownOf s) (textTable (isLayer h) 4 12) (digits 0 0) (rowsThere o) f)

@@ -1,17 +1,18 @@
 -- Document 01, "Record table": the records of a set, 32 numbers each, in the order of their lines.
 use Prim.Native.Nat.{ℕ, zero, suc, _+_}
-use mathlib.Core.Bool.{Bool, true, false, cond, _&&_, _||_, not}
+use mathlib.Core.Bool.{Bool, true, false, cond}
 use mathlib.Core.List.{List, [], _∷_, _++_, map}
 use mathlib.Core.Option.{Option, none, some}
-use lib.Dec.{eqb, leb}
+use lib.Dec.{eqb}
 use lib.IntN.{ℤ, pos}
 use lib.ListN.{length, getD, set, take, drop, replicate}
 use lib.Seq.{sets}
 use Rattle.rules.specs.declared.Digits.{Digits}
-use Rattle.rules.specs.Base.{flat, isNil}
+use Rattle.rules.specs.Base.{flat}
 use Rattle.rules.specs.RangeClass.{digits, hides}
 use Rattle.rules.specs.Numbers.{value}
-use Rattle.rules.specs.Values.{Num, Value, empty, nums, chars, linked, valueAt, Kind, values, text, word, volumeName, sheet, ratio, serials, nothing, opens, headed, either}
+use Rattle.rules.specs.Values.{Num, Value, empty, nums, chars, linked, valueAt, Kind, values, text, word, volumeName, sheet, ratio, serials, nothing}
+use Rattle.rules.specs.Values.{opens, headed, either}
 use Rattle.rules.specs.Rows.{Rule, row, Slots, Held, partOf}
 use Rattle.rules.specs.Blocks.{fileTables, drawingTable, symbolTable}
 use Rattle.rules.specs.Figures.{layerTable, figureTable, pointTable, textTable, placedTable, placedTables}

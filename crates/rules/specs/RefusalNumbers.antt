@@ -1,7 +1,7 @@
 -- Document 01, "Refusal numbers": an answer, or the number of the first broken rule.
-use Prim.Native.Nat.{ℕ, zero, suc, min}
+use Prim.Native.Nat.{ℕ, min}
 use mathlib.Core.Bool.{Bool, true, false}
-use mathlib.Core.List.{List, [], _∷_}
+use mathlib.Core.List.{List, _∷_}
 use mathlib.Core.Option.{Option, none, some}
 
 pub data Got (A : Type 0) : Type 0 where

@@ -1,18 +1,20 @@
 -- A block's table of keys, what a block holds so far, and what one line does in a block.
 -- (Document 01, "Blocks": "Inside a block lines come in any order, each key once, all required, unless said.")
-use Prim.Native.Nat.{ℕ, zero, suc, _+_}
+use Prim.Native.Nat.{ℕ, suc}
 use Prim.Native.String as S
 use mathlib.Core.Bool.{Bool, true, false, cond, _&&_, _||_, not}
-use mathlib.Core.List.{List, [], _∷_, _++_, map}
+use mathlib.Core.List.{List, [], _∷_, map}
 use mathlib.Core.Option.{Option, none, some}
-use lib.Dec.{eqb, leb}
-use lib.ListN.{length, getD, set}
+use lib.Dec.{leb}
+use lib.ListN.{getD, set}
 use Rattle.rules.specs.declared.Digits.{Digits}
-use Rattle.rules.specs.Base.{bytes, isNil, isNone, isSome, same}
-use Rattle.rules.specs.RefusalNumbers.{Got, got, bad, unless, mapG, andThen, keep}
-use Rattle.rules.specs.Lines.{Rest, brace, equals, Form, ignored, wrong, close, eof, keyed, Shape, opener, noContent, content, opening, formless, shapeOf, freeShapeOf, hasForm}
+use Rattle.rules.specs.Base.{bytes, isSome, same}
+use Rattle.rules.specs.RefusalNumbers.{Got, got, bad, unless, mapG, andThen}
+use Rattle.rules.specs.Lines.{Rest, Form, ignored, wrong, close, eof, keyed, Shape, opener, noContent, content, opening, formless, shapeOf, freeShapeOf}
+use Rattle.rules.specs.Lines.{hasForm}
 use Rattle.rules.specs.RangeClass.{digits, reaches}
-use Rattle.rules.specs.Values.{Value, empty, nums, chars, linked, Known, Part, Kind, values, text, word, volumeName, sheet, ratio, serials, nothing, opens, headed, either, isFree, readKind, amountAt}
+use Rattle.rules.specs.Values.{Value, empty, nums, Known, Kind, values, text, word, volumeName, sheet, ratio, serials, nothing, opens, headed, either}
+use Rattle.rules.specs.Values.{isFree, readKind, amountAt}
 
 -- ── a row ──
 -- how often a key may stand in its block
@@ -89,17 +91,17 @@ abbrev pub enter : Held → ℕ → ℕ → Value → Held
 enter h p j v = set h p (set (partOf h p) j (some v))
 
 -- which rows have had all that they may have: of rows that stand once, the ones that are there ..
-abbrev pub marks : Slots → List Bool
-marks s = map isSome s
+abbrev pub rowsThere : Slots → List Bool
+rowsThere s = map isSome s
 
 -- .. and in a list of n items, the rows that stand no more than n times
-abbrev pub isFull : ℕ → Times → Bool
-isFull n once = false
-isFull n (upTo m) = leb m n
-isFull n anyNumber = false
+abbrev pub limitReached : ℕ → Times → Bool
+limitReached n once = false
+limitReached n (upTo m) = leb m n
+limitReached n anyNumber = false
 
-abbrev pub fullAt : ℕ → List Rule → List Bool
-fullAt n t = map (λ r. isFull n (r .times)) t
+abbrev pub rowsAtLimit : ℕ → List Rule → List Bool
+rowsAtLimit n t = map (λ r. limitReached n (r .times)) t
 
 abbrev pub slotValue : Option Value → Value
 slotValue none = empty

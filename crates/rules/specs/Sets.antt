@@ -1,17 +1,16 @@
 -- What is read: the set of volumes, block by block, in the order written.
 -- Lines and byte places are plain data, kept with what takes a record.
-use Prim.Native.Nat.{ℕ, zero, suc, _+_, _%_}
-use mathlib.Core.Bool.{Bool, true, false, cond, _&&_, _||_, not}
+use Prim.Native.Nat.{ℕ, _+_}
+use mathlib.Core.Bool.{Bool}
 use mathlib.Core.List.{List, [], _∷_, _++_, map}
-use mathlib.Core.Option.{Option, none, some}
-use lib.Dec.{eqb, leb}
-use lib.ListN.{length, getD, set}
+use lib.Dec.{eqb}
+use lib.ListN.{length}
 use Rattle.rules.specs.declared.Digits.{Digits}
-use Rattle.rules.specs.Base.{isNil, total, flat, hasNumber}
-use Rattle.rules.specs.RangeClass.{digits, digitsOf}
-use Rattle.rules.specs.Values.{Num, Value, empty, nums, chars, linked, Known, charsOf, serialsOf}
-use Rattle.rules.specs.Rows.{Rule, Slots, blank, Held, partOf, slotValue, held, numberOf}
-use Rattle.rules.specs.Blocks.{fileTable, rangeTable, elecTable, symTable, laterTable, fileTables, drawingTable, symbolTable}
+use Rattle.rules.specs.Base.{isNil, total, flat}
+use Rattle.rules.specs.RangeClass.{digitsOf}
+use Rattle.rules.specs.Values.{Num, Value, Known, charsOf, serialsOf}
+use Rattle.rules.specs.Rows.{Slots, Held, partOf, slotValue, held, numberOf}
+use Rattle.rules.specs.Blocks.{rangeTable, elecTable, symTable, symbolTable}
 use Rattle.rules.specs.Figures.{placedTable}
 
 -- ── figures ──

@@ -1,6 +1,6 @@
 -- What a key may hold: the values between commas, texts, words; how they are read, with the numbers 10 to 14, and written.
 -- (Document 01, "Lines", "Blocks" and "Figures"; the tables of keys in Blocks and Figures are made of these.)
-use Prim.Native.Nat.{ℕ, zero, suc, _+_, _-_, _/_, _%_}
+use Prim.Native.Nat.{ℕ, _+_, _-_}
 use mathlib.Core.Bool.{Bool, true, false, cond, _&&_, _||_, not}
 use mathlib.Core.List.{List, [], _∷_, _++_, map}
 use mathlib.Core.Option.{Option, none, some}
@@ -8,10 +8,9 @@ use lib.Dec.{eqb, leb, ltb}
 use lib.IntN.{ℤ, pos, negsuc}
 use lib.Signed.{ltZ, leZ}
 use lib.ListN.{length, getD, take, drop}
-use Rattle.rules.specs.Base.{bytes, mapO, isNil, isSome, all, same, indexOf, hasNumber, within, Cut, whole, parts, cut, split, join}
+use Rattle.rules.specs.Base.{bytes, all, same, indexOf, hasNumber, within, Cut, whole, parts, cut, split, join}
 use Rattle.rules.specs.RefusalNumbers.{Got, got, bad, unless, mapG, orBad, keep, consG}
 use Rattle.rules.specs.Numbers.{isDigit, digitRun, value, readCount, readFixed, isDay, isClock, readDecimal, fixedOnto, fixed, showCount, showDecimal}
-use Rattle.rules.specs.Lines.{Shape, opener, noContent, content, opening, formless}
 
 -- ── what is kept ──
 -- A number as read. (Wish 5 adds how many fraction digits were written.)
@@ -71,7 +70,7 @@ inBound angle z = leZ (pos 0) z && leZ z (pos 3600000)
 pub data Part : Type 0 where
   count : Part  -- 1 to 9 digits
   digit : ℕ → ℕ → Part  -- one digit, lo to hi (else 11): turn, upright, pos
-  kindOfLine : Part  -- a type: four digits
+  typeDigits : Part  -- a type: four digits
   range : ℕ → ℕ → Part  -- three digits, lo to hi (else 12)
   rangeOfSymbols : Part  -- E_sym: three digits, 000 to 005 or 011 to 015 (else 12)
   day clock : Part  -- a date, a time
@@ -88,7 +87,7 @@ natural g = mapG (λ n. num (pos n)) g
 abbrev pub readPart : Known → Part → List ℕ → Got Num
 readPart k count s = natural (orBad 10 (readCount 9 s))
 readPart k (digit lo hi) s = natural (keep 11 (within lo hi) (orBad 10 (readFixed 1 s)))
-readPart k kindOfLine s = natural (orBad 10 (readFixed 4 s))
+readPart k typeDigits s = natural (orBad 10 (readFixed 4 s))
 readPart k (range lo hi) s = natural (keep 12 (within lo hi) (orBad 10 (readFixed 3 s)))
 readPart k rangeOfSymbols s = natural (keep 12 servedSymbols (orBad 10 (readFixed 3 s)))
 readPart k day s = natural (keep 10 isDay (orBad 10 (readFixed 8 s)))
@@ -108,7 +107,7 @@ amount n = sizeOf (n .value)
 abbrev pub showPart : Known → Part → Num → List ℕ
 showPart k count n = showCount 9 (amount n)
 showPart k (digit lo hi) n = fixed 1 (amount n)
-showPart k kindOfLine n = fixed 4 (amount n)
+showPart k typeDigits n = fixed 4 (amount n)
 showPart k (range lo hi) n = fixed 3 (amount n)
 showPart k rangeOfSymbols n = fixed 3 (amount n)
 showPart k day n = fixed 8 (amount n)

@@ -1,14 +1,13 @@
 -- Document 01, "Volumes and totals": the chain of volumes, date and time, the counts of elements, the layers in use.
-use Prim.Native.Nat.{ℕ, zero, suc, _+_}
-use mathlib.Core.Bool.{Bool, true, false, cond, _&&_, _||_, not}
-use mathlib.Core.List.{List, [], _∷_, _++_, map}
-use lib.Dec.{eqb, leb}
-use lib.ListN.{length, getD}
-use Rattle.rules.specs.Base.{isNil, same, total, flat, hasNumber}
+use Prim.Native.Nat.{ℕ, suc}
+use mathlib.Core.Bool.{Bool, true, false, _&&_}
+use mathlib.Core.List.{List, [], _∷_, map}
+use lib.Dec.{eqb}
+use Rattle.rules.specs.Base.{same, total, flat, hasNumber}
 use Rattle.rules.specs.Values.{charsOf}
-use Rattle.rules.specs.Rows.{Slots, Held, partOf, slotValue, held, numberOf}
+use Rattle.rules.specs.Rows.{Held, partOf, slotValue, held, numberOf}
 use Rattle.rules.specs.Blocks.{fileTable, laterTable}
-use Rattle.rules.specs.Sets.{Contents, Set, isFirst, firstContents, elementsOf, usedIn}
+use Rattle.rules.specs.Sets.{Set, isFirst, firstContents, elementsOf, usedIn}
 
 -- FILE_FORMAT's own table: of the first volume, and of later ones
 abbrev pub ownTable : Bool → List Rattle.rules.specs.Rows.Rule

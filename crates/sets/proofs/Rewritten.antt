@@ -11,13 +11,12 @@ use Rattle.rules.specs.declared.Refusal.{Refusal}
 use Rattle.rules.specs.declared.Answer.{Answer}
 use Rattle.rules.specs.declared.Answer.the-variants as A
 use Rattle.rules.specs.Spool.{mostBytes}
-use Rattle.rules.specs.Machine.{Outcome, refused, accepted}
+use Rattle.rules.specs.LineByLine.{Outcome, accepted}
 use Rattle.rules.specs.Answers.{answerWith, refusal, rewriteOutcome, written, fitOutput, rewriteAnswer, rewriteOutput}
 use Rattle.promises.proofs.Answered.{demand-one}
 use Rattle.promises.proofs.Round.{written-back}
 use Rattle.leaves.specs.declared.Wrote.{Wrote}
 use Rattle.leaves.specs.declared.Wrote.the-variants as W
-use Rattle.leaves.specs.Writing.{putAnswer}
 use Rattle.lines.proofs.VolumePlaces.{volumes-laid}
 use Rattle.pens.specs.Volumes.{Fronts, SetPromise}
 use Rattle.prints.specs.Printing.{Within}

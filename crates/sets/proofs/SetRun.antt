@@ -17,7 +17,8 @@ use Rattle.rules.proofs.Chains.{clash}
 use Rattle.rules.specs.Spool as P
 use Rattle.rules.specs.Spool.{volumesOf}
 use Rattle.rules.specs.Sets.{Set, nothingYet}
-use Rattle.rules.specs.Machine.{Line, Env, top, ended, refused, accepted, run}
+use Rattle.rules.specs.Machine.{Line, Env, top, ended}
+use Rattle.rules.specs.LineByLine.{refused, accepted, run}
 use Rattle.rules.specs.RecordTable.{recordsFrom, recordsOf, tableOf}
 use Rattle.rules.specs.Answers.{nextName, linesOfVolume, outcomeOfLines, outcomeOfVolumes, outcomeOf}
 use Rattle.lines.specs.VolumePlaces.{noLayout, layoutOf}

@@ -11,7 +11,7 @@ use Rattle.rules.specs.declared.Refusal.{Refusal}
 use Rattle.rules.specs.declared.Answer.{Answer}
 use Rattle.rules.specs.declared.Answer.the-variants as A
 use Rattle.rules.specs.RangeClass.{classOf}
-use Rattle.rules.specs.Machine.{refused, accepted}
+use Rattle.rules.specs.LineByLine.{refused, accepted}
 use Rattle.rules.specs.RecordTable.{recordsOf, tableOf, width}
 use Rattle.rules.specs.Answers.{outcomeOf, outcomeAt, digitsOr, recordsIn, answerWith, refusal, readOutcome, readRecords, readAnswer, readTable}
 use Rattle.account.specs.declared.Class.the-variants as C

@@ -12,12 +12,14 @@ use Rattle.rules.specs.RefusalNumbers.{Got, got, bad, unless, also}
 use Rattle.rules.specs.Lines.{Rest, Form, ignored, wrong, close, eof, keyed, freeShapeOf}
 use Rattle.rules.specs.RangeClass.{Skip, passes, deeper, noForm, digits, digitsOf, reaches, exceeds, both, skipOf, mostDepth}
 use Rattle.rules.specs.Values.{Value, amountAt, isLayerId}
-use Rattle.rules.specs.Rows.{Found, absent, found, find, Slots, Held, partOf, marks, fullAt, Act, stay, entry, begin, shut, refuse, actRow, actUnknown, act}
+use Rattle.rules.specs.Rows.{Found, absent, found, find, Slots, Held, partOf, rowsThere, rowsAtLimit, Act, stay, entry, begin, shut, refuse, actRow, actUnknown, act}
 use Rattle.rules.specs.Blocks.{topTable, fileTables, drawingTable, mostLayers, definesTable, symbolTable, elementTable}
 use Rattle.rules.specs.Figures.{leastPoints, pointTable, textTable, placedTable, placedTables}
 use Rattle.rules.specs.Sets.{Point, Figure, Drawing, Symbol, Set, nothingYet, symbolOwn, isFirst, arcOf, rangeOf, defineRange, knownOf, usedIn}
 use Rattle.rules.specs.VolumesAndTotals.{chained, dated, countedHere, countedAll, layersUsed}
-use Rattle.rules.specs.Machine.{Line, Env, Home, inElement, inLayer, State, top, file, drawing, layerNames, defines, symbol, hide, elements, figures, successive, texts, placing, skipping, ended, byAct, roomFor, openTop, onTop, shutPart, onFile, onDrawing, layerValue, onLayerNames, newName, openSymbol, onSymbol, onDefines, onHide, onElements, isLayer, homeTable, closeFigures, openPlaced, openFigure, onFigures, onSuccessive, onTexts, bySkip, onUnknown, newSerial, onPlaced, onPlacedKey, onPlacing, skipShut, onSkipping, stepIn, completes, nextVolume, step, accepted, thenRun, run}
+use Rattle.rules.specs.Machine.{Line, Env, Home, inElement, inLayer, State, top, file, drawing, layerNames, defines, symbol, hide, elements, figures, successive, texts, placing, skipping, ended, byAct, roomFor, openTop, onTop, shutPart, onFile, onDrawing, layerValue, onLayerNames, newName, openSymbol, onSymbol, onDefines, onHide, onElements, isLayer, homeTable, closeFigures, openPlaced, openFigure, onFigures, onSuccessive, onTexts}
+use Rattle.rules.specs.PlacedSymbol.{bySkip, onUnknown, newSerial, onPlaced, onPlacedKey, onPlacing, skipShut, onSkipping}
+use Rattle.rules.specs.LineByLine.{stepIn, completes, nextVolume, step, accepted, thenRun, run}
 use Rattle.rules.proofs.Chains.{by-cond, On, on-unless, on-cond, on-map, on-then, on-also, on-weaken}
 use Rattle.rules.proofs.Runs.{not-accepted, finish-ended}
 use Rattle.standing.specs.Standing.{setOf}
@@ -69,15 +71,15 @@ module _ (e : Env) (l : Line) (s : Set) where
       on-unless Few (layersUsed s) 14 _ λ _.
       on-unless Few (countedAll s) 17 _ λ _. none-taken
   few-top k (keyed key c) =
-      on-act Few _ _ _ _ (act (knownOf s) topTable (digits 0 0) (fullAt 0 topTable) (keyed key c)) none-taken (λ j v. tt) (λ i j v. on-unless Few (eqb j k) 9 _ λ _. few-open j) tt
+      on-act Few _ _ _ _ (act (knownOf s) topTable (digits 0 0) (rowsAtLimit 0 topTable) (keyed key c)) none-taken (λ j v. tt) (λ i j v. on-unless Few (eqb j k) 9 _ λ _. few-open j) tt
 
   few-file : (n : ℕ) (h : Held) (p : ℕ) (f : Form) → On Few (onFile l s n h p f)
   few-file n h p f =
-      on-act Few _ _ _ _ (act (knownOf s) (getD (fileTables (isFirst s)) p []) (digits 0 0) (marks (partOf h p)) f) none-taken (λ j v. none-taken) (λ i j v. none-taken)
+      on-act Few _ _ _ _ (act (knownOf s) (getD (fileTables (isFirst s)) p []) (digits 0 0) (rowsThere (partOf h p)) f) none-taken (λ j v. none-taken) (λ i j v. none-taken)
       (on-shut Few p _ _ (on-unless Few (chained (isFirst s) (l .next) h && dated s (isFirst s) h) 16 _ λ _. none-taken) (λ q. none-taken))
 
   few-drawing : (d : Drawing) (f : Form) → On Few (onDrawing s d f)
-  few-drawing d f = on-act Few _ _ _ _ (act (knownOf s) drawingTable (digitsOf (arcOf s)) (marks (d .own)) f) none-taken (λ j v. none-taken) (λ i j v. none-taken) none-taken
+  few-drawing d f = on-act Few _ _ _ _ (act (knownOf s) drawingTable (digitsOf (arcOf s)) (rowsThere (d .own)) f) none-taken (λ j v. none-taken) (λ i j v. none-taken) none-taken
 
   few-layers : (d : Drawing) (f : Form) → On Few (onLayerNames e l s d f)
   few-layers d ignored = none-taken
@@ -104,18 +106,18 @@ module _ (e : Env) (l : Line) (s : Set) where
 
   few-symbol : (y : Symbol) (f : Form) → On Few (onSymbol s y f)
   few-symbol y f =
-      on-act Few _ _ _ _ (act (knownOf s) symbolTable (digitsOf (defineRange s)) (marks (y .own)) f) none-taken
+      on-act Few _ _ _ _ (act (knownOf s) symbolTable (digitsOf (defineRange s)) (rowsThere (y .own)) f) none-taken
       (λ j v. on-unless Few (newName s (symbolOwn (set (y .own) j (some v)) y)) 15 _ λ _. none-taken)
       (λ i j v. few-inner (symbolOwn (set (y .own) j (some v)) y) i)
       none-taken
 
   few-hide : (y : Symbol) (ps : List Point) (f : Form) → On Few (onHide e l s y ps f)
   few-hide y ps f =
-      on-act Few _ _ _ _ (act (knownOf s) (pointTable false) (digits 0 0) (fullAt (length ps) (pointTable false)) f) none-taken (λ j v. taken 1 _ (omega arith) refl) (λ i j v. tt) none-taken
+      on-act Few _ _ _ _ (act (knownOf s) (pointTable false) (digits 0 0) (rowsAtLimit (length ps) (pointTable false)) f) none-taken (λ j v. taken 1 _ (omega arith) refl) (λ i j v. tt) none-taken
 
   few-elements : (f : Form) → On Few (onElements s f)
   few-elements f =
-      on-act Few _ _ _ _ (act (knownOf s) elementTable (digits 0 0) (fullAt 0 elementTable) f) none-taken (λ j v. tt)
+      on-act Few _ _ _ _ (act (knownOf s) elementTable (digits 0 0) (rowsAtLimit 0 elementTable) f) none-taken (λ j v. tt)
       (λ i j v. on-unless Few (not (hasNumber (amountAt v 0) (usedIn (s .now)))) 14 _ λ _. none-taken)
       (on-unless Few (countedHere s) 17 _ λ _. none-taken)
 
@@ -135,15 +137,15 @@ module _ (e : Env) (l : Line) (s : Set) where
 
   few-figures : (h : Home) (fs : List Figure) (f : Form) → On Few (onFigures e l s h fs f)
   few-figures h fs f =
-      on-act Few _ _ _ _ (act (knownOf s) (homeTable s h) (rangeOf s) (fullAt 0 (homeTable s h)) f) none-taken (λ j v. taken 1 _ (omega arith) refl) (λ i j v. few-figure h fs i) (few-closed h fs)
+      on-act Few _ _ _ _ (act (knownOf s) (homeTable s h) (rangeOf s) (rowsAtLimit 0 (homeTable s h)) f) none-taken (λ j v. taken 1 _ (omega arith) refl) (λ i j v. few-figure h fs i) (few-closed h fs)
 
   few-chain : (h : Home) (fs : List Figure) (n : ℕ) (ps : List Point) (f : Form) → On Few (onSuccessive e l s h fs n ps f)
   few-chain h fs n ps f =
-      on-act Few _ _ _ _ (act (knownOf s) (pointTable (isLayer h)) (digits 0 0) (fullAt (length ps) (pointTable (isLayer h))) f) none-taken (λ j v. taken 1 _ (omega arith) refl) (λ i j v. tt)
+      on-act Few _ _ _ _ (act (knownOf s) (pointTable (isLayer h)) (digits 0 0) (rowsAtLimit (length ps) (pointTable (isLayer h))) f) none-taken (λ j v. taken 1 _ (omega arith) refl) (λ i j v. tt)
       (on-unless Few (leb leastPoints (length ps)) 8 _ λ _. none-taken)
 
   few-texts : (h : Home) (fs : List Figure) (n : ℕ) (o : Slots) (f : Form) → On Few (onTexts s h fs n o f)
-  few-texts h fs n o f = on-act Few _ _ _ _ (act (knownOf s) (textTable (isLayer h) 4 12) (digits 0 0) (marks o) f) none-taken (λ j v. none-taken) (λ i j v. tt) none-taken
+  few-texts h fs n o f = on-act Few _ _ _ _ (act (knownOf s) (textTable (isLayer h) 4 12) (digits 0 0) (rowsThere o) f) none-taken (λ j v. none-taken) (λ i j v. tt) none-taken
 
   few-placed : (k : ℕ) (fs : List Figure) (n : ℕ) (o : Held) (p : ℕ) (a : Act) → On Few (onPlaced s k fs n o p a)
   few-placed k fs n o p a =
@@ -159,16 +161,16 @@ module _ (e : Env) (l : Line) (s : Set) where
   few-key k fs n o key c absent = few-unknown k fs n o key c
   few-key k fs n o key c (found j r) =
       on-cond Few (reaches (e .class) (r .least)) _ _
-      (λ _. few-placed k fs n o 0 (actRow (knownOf s) (rangeOf s) (getD (marks (partOf o 0)) j false) j r c))
+      (λ _. few-placed k fs n o 0 (actRow (knownOf s) (rangeOf s) (getD (rowsThere (partOf o 0)) j false) j r c))
       (λ _. few-unknown k fs n o key c)
 
   few-own : (k : ℕ) (fs : List Figure) (n : ℕ) (o : Held) (p : ℕ) (f : Form) → On Few (onPlacing e s k fs n o p f)
   few-own k fs n o zero ignored = none-taken
   few-own k fs n o zero (wrong m) = tt
-  few-own k fs n o zero close = few-placed k fs n o 0 (act (knownOf s) placedTable (both (e .class) (rangeOf s)) (marks (partOf o 0)) close)
+  few-own k fs n o zero close = few-placed k fs n o 0 (act (knownOf s) placedTable (both (e .class) (rangeOf s)) (rowsThere (partOf o 0)) close)
   few-own k fs n o zero eof = tt
   few-own k fs n o zero (keyed key c) = few-key k fs n o key c (find key placedTable)
-  few-own k fs n o (suc p) f = few-placed k fs n o (suc p) (act (knownOf s) (getD placedTables (suc p) []) (digits 0 0) (marks (partOf o (suc p))) f)
+  few-own k fs n o (suc p) f = few-placed k fs n o (suc p) (act (knownOf s) (getD placedTables (suc p) []) (digits 0 0) (rowsThere (partOf o (suc p))) f)
 
   few-unskipped : (k : ℕ) (fs : List Figure) (n : ℕ) (o : Held) (d : ℕ) → On Few (skipShut s k fs n o d)
   few-unskipped k fs n o zero = tt

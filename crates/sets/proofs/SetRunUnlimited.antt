@@ -1,35 +1,36 @@
 -- A table of 65,536 records has room for all of any spool: the reading is that without a limit.
 use Prim.Native.Nat.{ℕ, zero, suc, _+_, _*_, _≤_}
-use mathlib.Core.Bool.{Bool, true, false, cond, _&&_, _||_, not}
-use mathlib.Core.List.{List, [], _∷_, _++_, map}
+use mathlib.Core.Bool.{Bool, true, false, cond}
+use mathlib.Core.List.{List, [], _∷_, _++_}
 use mathlib.Core.Option.{Option, none, some}
-use mathlib.Core.Path.{_≡_, refl, sym, _∙_, ap, subst}
+use mathlib.Core.Path.{_≡_, refl, sym, _∙_, ap}
 use native.Mathlib.Omega.{arith}
 use borrow.Author.Tests.{le-leb}
-use lib.Dec.{eqb, leb, ltb}
+use lib.Dec.{eqb}
 use lib.IntN.{ℤ}
 use lib.ListN.{length}
 use Rattle.rules.specs.declared.Digits.{Digits}
 use Rattle.rules.specs.declared.Answer.{Answer}
 use Rattle.rules.specs.declared.Answer.the-variants as A
-use Rattle.rules.specs.Base.{isNil, among}
-use Rattle.rules.specs.RefusalNumbers.{Got, got, bad, unless, also, mapG, andThen}
-use Rattle.rules.specs.Lines.{Rest, Form, ignored, wrong, close, eof, keyed, freeShapeOf}
-use Rattle.rules.specs.RangeClass.{digits, digitsOf}
-use Rattle.rules.specs.Values.{Value, numsOf, isLayerId}
-use Rattle.rules.specs.Rows.{Found, absent, found, find, fullAt, Act, stay, entry, begin, shut, refuse, act, Held}
-use Rattle.rules.specs.Blocks.{topTable, mostLayers, definesTable}
-use Rattle.rules.specs.Figures.{pointTable, placedTable}
-use Rattle.rules.specs.Sets.{Point, Figure, plain, Drawing, Symbol, Set, nothingYet, withRecords, withLayer, isFirst, defineRange, rangeOf, knownOf}
+use Rattle.rules.specs.RefusalNumbers.{Got, got, bad, unless, also, mapG}
+use Rattle.rules.specs.Lines.{Rest, Form, ignored, wrong, close, eof, keyed}
+use Rattle.rules.specs.RangeClass.{digits}
+use Rattle.rules.specs.Values.{Value, numsOf}
+use Rattle.rules.specs.Rows.{Found, absent, found, find, rowsAtLimit, Act, stay, entry, begin, shut, refuse, act, Held}
+use Rattle.rules.specs.Blocks.{topTable}
+use Rattle.rules.specs.Figures.{placedTable}
+use Rattle.rules.specs.Sets.{Point, Figure, plain, Drawing, Symbol, Set, nothingYet, isFirst, rangeOf, knownOf}
 use Rattle.rules.specs.Spool as P
 use Rattle.rules.specs.Spool.{volumesOf}
-use Rattle.rules.specs.Machine.{closeFigures, onPlacedKey, onPlacing, Line, Env, Home, inElement, inLayer, State, top, file, drawing, layerNames, defines, symbol, hide, elements, figures, successive, texts, placing, skipping, ended, byAct, roomFor, taking, openTop, onTop, layerValue, onLayerNames, onDefines, onHide, isLayer, homeTable, openPlaced, openFigure, onFigures, onSuccessive, stepIn, completes, nextVolume, step, Outcome, refused, thenRun, run}
+use Rattle.rules.specs.Machine.{closeFigures, Line, Env, Home, inElement, inLayer, State, top, file, drawing, layerNames, defines, symbol, hide, elements, figures, successive, texts, placing, skipping, ended, byAct, roomFor, taking, openTop, onTop, onLayerNames, onDefines, onHide, homeTable, openPlaced, openFigure, onFigures, onSuccessive}
+use Rattle.rules.specs.PlacedSymbol.{onPlacedKey, onPlacing}
+use Rattle.rules.specs.LineByLine.{stepIn, completes, nextVolume, step, thenRun, run}
 use Rattle.rules.specs.Answers.{fullClass, outcomeOfVolumes, outcomeOf, rewriteOutcome}
 use Rattle.rules.proofs.Chains.{On}
 use Rattle.lines.specs.VolumePlaces.{layoutOf}
 use Rattle.lines.specs.LineEnds.{firstUnsound}
 use Rattle.lines.proofs.VolumePlaces.{volumes-laid}
-use Rattle.lines.proofs.VolumesSeen.{AllLined, linesOver, sound-volumes}
+use Rattle.lines.proofs.VolumesSeen.{linesOver, sound-volumes}
 use Rattle.standing.specs.Standing.{setOf}
 use Rattle.sets.specs.SetReading.{envOf, SetOut, Judged}
 use Rattle.sets.proofs.SetRunTaken.{takenIn, Few, few-step}
@@ -76,7 +77,7 @@ module _ (c : Digits) (m : ℕ) where
     same-top k eof = refl
     same-top k (keyed key x) =
         by-same (top s k) (λ j v. bad 5) (λ j v. bad 5) (λ i j v. unless (eqb j k) 9 (openTop few l s j)) (λ i j v. unless (eqb j k) 9 (openTop free l s j)) (λ _. bad 9)
-        (act (knownOf s) topTable (digits 0 0) (fullAt 0 topTable) (keyed key x)) (λ j v. refl) (λ i j v. ap (unless (eqb j k) 9) (same-open j))
+        (act (knownOf s) topTable (digits 0 0) (rowsAtLimit 0 topTable) (keyed key x)) (λ j v. refl) (λ i j v. ap (unless (eqb j k) 9) (same-open j))
 
     same-layers : (d : Drawing) (f : Form) → onLayerNames few l s d f ≡ onLayerNames free l s d f
     same-layers d ignored = refl
@@ -105,7 +106,7 @@ module _ (c : Digits) (m : ℕ) where
     same-figures x fs f =
         by-same (figures s x fs) (λ j v. taking few 1 s λ s′. figures s′ x (fs ++ plain (l .line) j (numsOf v) ∷ [])) (λ j v. taking free 1 s λ s′. figures s′ x (fs ++ plain (l .line) j (numsOf v) ∷ []))
         (λ i j v. openFigure few l s x fs i) (λ i j v. openFigure free l s x fs i) (λ _. closeFigures s x fs)
-        (act (knownOf s) (homeTable s x) (rangeOf s) (fullAt 0 (homeTable s x)) f) (λ j v. rw room-1 refl) (λ i j v. same-figure x fs i)
+        (act (knownOf s) (homeTable s x) (rangeOf s) (rowsAtLimit 0 (homeTable s x)) f) (λ j v. rw room-1 refl) (λ i j v. same-figure x fs i)
 
     same-chain : (x : Home) (fs : List Figure) (n : ℕ) (ps : List Point) (f : Form) → onSuccessive few l s x fs n ps f ≡ onSuccessive free l s x fs n ps f
     same-chain x fs n ps f = rw room-1 refl

@@ -11,7 +11,8 @@ use Rattle.rules.specs.declared.Digits.{Digits}
 use Rattle.rules.specs.declared.Answer.{Answer}
 use Rattle.rules.specs.declared.Answer.the-variants as A
 use Rattle.rules.specs.Sets.{Set}
-use Rattle.rules.specs.Machine.{Env, refused, accepted}
+use Rattle.rules.specs.Machine.{Env}
+use Rattle.rules.specs.LineByLine.{refused, accepted}
 use Rattle.rules.specs.RecordTable.{recordsOf, tableOf, width}
 use Rattle.rules.specs.Answers.{outcomeOf, rewriteOutcome}
 use Rattle.lines.specs.VolumeNames.{nameAt}

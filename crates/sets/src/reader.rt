@@ -1,7 +1,7 @@
 // The reader.
+use account::BLOCK_TOP;
 use account::Class;
 use account::Now;
-use account::TOP;
 use account::Through;
 use account::Volume;
 use drawing::classes::class_of;
@@ -24,7 +24,7 @@ fn nothing_yet() -> Now
     ensures { λ r. ⌜ r ≡ nothingNow ⌝ }
 {
     Now {
-        block: TOP,
+        block: BLOCK_TOP,
         part: 0,
         layered: false,
         owner: 0,

@@ -8,7 +8,7 @@ use lib.IntN.{ℤ, pos}
 use lib.ListN.{length, set, take, replicate}
 use Rattle.rules.specs.declared.Digits.{Digits}
 use Rattle.rules.specs.Values.{Num, nums}
-use Rattle.rules.specs.Rows.{Rule, blank, partOf, marks}
+use Rattle.rules.specs.Rows.{Rule, blank, partOf, rowsThere}
 use Rattle.rules.specs.Blocks.{blankHeld}
 use Rattle.rules.specs.Figures.{textTable, placedTable, placedTables}
 use Rattle.rules.specs.Sets.{Figure, plain, placed, Set, withRecords, figureSerial}
@@ -84,7 +84,7 @@ pub empty-line : (r : Rule) → r .state ≡ 0 → putLine r 0 (nums []) zeros �
 empty-line r q = ap (λ (m : ℕ). putState m (pos 2) zeros) q
 
 -- ── marks ──
-pub two-unmarked : (b : Bool) (i : List Bool) → length i ≡ 2 → replicate (length i) false ≡ marks (blank (textTable b 4 12))
+pub two-unmarked : (b : Bool) (i : List Bool) → length i ≡ 2 → replicate (length i) false ≡ rowsThere (blank (textTable b 4 12))
 unfolding textTable
 two-unmarked b i q = ap (λ (m : ℕ). replicate m false) q
 
@@ -92,7 +92,7 @@ pub two-slots : (b : Bool) → length (blank (textTable b 4 12)) ≡ 2
 unfolding textTable
 two-slots b = refl
 
-pub unmarked : (ms : List Bool) → length ms ≡ 28 → take 6 (replicate (length ms) false) ≡ marks (partOf (blankHeld placedTables) 0)
+pub unmarked : (ms : List Bool) → length ms ≡ 28 → take 6 (replicate (length ms) false) ≡ rowsThere (partOf (blankHeld placedTables) 0)
 unfolding placedTable
 unmarked ms q = ap (λ (m : ℕ). take 6 (replicate m false)) q
 

@@ -16,7 +16,7 @@ use Rattle.rules.specs.RefusalNumbers.{got, unless}
 use Rattle.rules.specs.RangeClass.{digits}
 use Rattle.rules.specs.Lines.{formIn}
 use Rattle.rules.specs.Values.{Known, Num, valueAt, Value, nums}
-use Rattle.rules.specs.Rows.{Rule, Held, fullAt, Act, stay, entry, begin, shut, refuse, act}
+use Rattle.rules.specs.Rows.{Rule, Held, rowsAtLimit, Act, stay, entry, begin, shut, refuse, act}
 use Rattle.rules.specs.Figures.{pointTable, leastPoints}
 use Rattle.rules.specs.Sets.{Point, Figure, chain, Set, knownOf, withRecords}
 use Rattle.rules.specs.Machine.{Line, Env, Home, inElement, inLayer, isLayer, State, figures, successive, byAct, pointAt}
@@ -81,7 +81,7 @@ module _ (c : Digits) (spool : List ℕ) (k : ℕ) (FileHere : Desk → Set → 
   rows = pointTable (isLayer h)
 
   abbrev did : Act
-  did = act (knownOf s) rows (digits 0 0) (fullAt (length ps) rows) (l .form)
+  did = act (knownOf s) rows (digits 0 0) (rowsAtLimit (length ps) rows) (l .form)
 
   inc : InChain spool k (d .now) (d .marks) (d .inner) s h fs ps
   inc = z .block .1
@@ -93,11 +93,11 @@ module _ (c : Digits) (spool : List ℕ) (k : ℕ) (FileHere : Desk → Set → 
       let b : tableOf (pointTableOf (d .now .layered)) ≡ rows =
       ap (λ (y : Bool). tableOf (pointTableOf y)) (home-layered spool k (d .now) (d .marks) (d .inner) s h (inc .home)) ∙ point-rows (isLayer h) in
       ap (taking (hasRoom (d .now .free) (d .table)))
-      (ap (λ (m : Known). act m (tableOf (pointTableOf (d .now .layered))) (digits 0 0) (fullAt (d .now .points) (tableOf (pointTableOf (d .now .layered)))) (formIn spool form))
+      (ap (λ (m : Known). act m (tableOf (pointTableOf (d .now .layered))) (digits 0 0) (rowsAtLimit (d .now .points) (tableOf (pointTableOf (d .now .layered)))) (formIn spool form))
       (known c spool k FileHere d at to st st z refl)
-      ∙ ap (λ (t : List Rule). act (knownOf s) t (digits 0 0) (fullAt (d .now .points) t) (formIn spool form)) b
-      ∙ ap (λ (m : ℕ). act (knownOf s) rows (digits 0 0) (fullAt m rows) (formIn spool form)) (inc .points)
-      ∙ ap (act (knownOf s) rows (digits 0 0) (fullAt (length ps) rows)) (sym (x .is)))
+      ∙ ap (λ (t : List Rule). act (knownOf s) t (digits 0 0) (rowsAtLimit (d .now .points) t) (formIn spool form)) b
+      ∙ ap (λ (m : ℕ). act (knownOf s) rows (digits 0 0) (rowsAtLimit m rows) (formIn spool form)) (inc .points)
+      ∙ ap (act (knownOf s) rows (digits 0 0) (rowsAtLimit (length ps) rows)) (sym (x .is)))
 
   later : at ≤ to
   later = omega (arith, x .bytes)
@@ -161,7 +161,7 @@ module _ (c : Digits) (spool : List ℕ) (k : ℕ) (FileHere : Desk → Set → 
       on-full b = ap (byAct _ _ _ _) a ∙ ap (λ (y : Bool). unless y 19 (got st′)) (has-room c d e (s .taken) u (z .taken) ∙ b)
 
     on-begin : (i j : ℕ) (v : Value) → did ≡ begin i j v → (m : ℕ) → Out (S.Stop m)
-    on-begin i j v a m = clash (ap isBegin a) (no-begin (knownOf s) rows (digits 0 0) (fullAt (length ps) rows) (l .form) (plain-points (isLayer h)))
+    on-begin i j v a m = clash (ap isBegin a) (no-begin (knownOf s) rows (digits 0 0) (rowsAtLimit (length ps) rows) (l .form) (plain-points (isLayer h)))
 
     on-refuse : (m : ℕ) → did ≡ refuse m → Out (S.Stop m)
     on-refuse m a = ap (byAct _ _ _ _) a

@@ -17,10 +17,11 @@ use Rattle.rules.specs.RefusalNumbers.{got, unless}
 use Rattle.rules.specs.RangeClass.{digitsOf}
 use Rattle.rules.specs.Lines.{formIn}
 use Rattle.rules.specs.Values.{Known, Value}
-use Rattle.rules.specs.Rows.{Rule, Held, blank, marks, Act, stay, entry, begin, shut, refuse, act}
+use Rattle.rules.specs.Rows.{Rule, Held, blank, rowsThere, Act, stay, entry, begin, shut, refuse, act}
 use Rattle.rules.specs.Blocks.{definesTable, symbolTable}
 use Rattle.rules.specs.Sets.{Symbol, Contents, Set, knownOf, defineRange, withRecords}
-use Rattle.rules.specs.Machine.{Line, Env, State, top, defines, symbol, byAct, roomFor, newName, stepIn}
+use Rattle.rules.specs.Machine.{Line, Env, State, top, defines, symbol, byAct, roomFor, newName}
+use Rattle.rules.specs.LineByLine.{stepIn}
 use Rattle.rules.specs.RecordTable.{ruleAt, putSlots, start}
 use Rattle.rules.proofs.Chains.{clash}
 use Rattle.rules.proofs.Rows.{row-at, row-below}
@@ -65,7 +66,7 @@ blank-slots : length (blank symbolTable) ≡ 4
 unfolding symbolTable
 blank-slots = refl
 
-blank-marks : marks (blank symbolTable) ≡ replicate 4 false
+blank-marks : rowsThere (blank symbolTable) ≡ replicate 4 false
 unfolding symbolTable
 blank-marks = refl
 

@@ -14,7 +14,7 @@ use Rattle.rules.specs.Base.{all}
 use Rattle.rules.specs.RangeClass.{digitsOf}
 use Rattle.rules.specs.Lines.{formIn}
 use Rattle.rules.specs.Values.{Known, Value}
-use Rattle.rules.specs.Rows.{Rule, Slots, Held, marks, Act, stay, entry, begin, shut, refuse, act}
+use Rattle.rules.specs.Rows.{Rule, Slots, Held, rowsThere, Act, stay, entry, begin, shut, refuse, act}
 use Rattle.rules.specs.Blocks.{drawingTable}
 use Rattle.rules.specs.Sets.{Layer, Drawing, Set, withOwn, withDrawing, arcOf, symbolNameOf, knownOf}
 use Rattle.rules.specs.Machine.{Line, Env, State, top, drawing, layerNames, byAct}
@@ -63,7 +63,7 @@ drawing-length : (g : Drawing) → length (drawingRecord g) ≡ 32
 drawing-length g = length-slots drawingTable (g .own) (start 3 0 1 (g .line))
 
 -- one more line of it
-drawing-entry : (g : Drawing) (j : ℕ) (v : Value) → length (g .own) ≡ 8 → Taken drawingTable (marks (g .own)) j v
+drawing-entry : (g : Drawing) (j : ℕ) (v : Value) → length (g .own) ≡ 8 → Taken drawingTable (rowsThere (g .own)) j v
     → putLine (ruleAt drawingTable j) 0 v (drawingRecord g) ≡ drawingRecord (withOwn (set (g .own) j (some v)) g)
 drawing-entry g j v e k =
     own-line drawingTable (g .own) j v (start 3 0 1 (g .line)) (e ∙ sym eight-rows) (k .row) (mark-free (g .own) j (k .free)) (k .fill) clear-rows housed-rows
@@ -74,7 +74,7 @@ module _ (c : Digits) (spool : List ℕ) (k : ℕ) (FileHere : Desk → Set → 
   st = drawing s g
 
   abbrev did : Act
-  did = act (knownOf s) drawingTable (digitsOf (arcOf s)) (marks (g .own)) (l .form)
+  did = act (knownOf s) drawingTable (digitsOf (arcOf s)) (rowsThere (g .own)) (l .form)
 
   inw : InDrawing spool k (d .now) (d .marks) (d .inner) s g
   inw = z .block .1
@@ -97,7 +97,7 @@ module _ (c : Digits) (spool : List ℕ) (k : ℕ) (FileHere : Desk → Set → 
       ∙ ap (λ (t : List Rule). act (knownOf s) t (digitsOf (getD (d .tally) 0 0)) (take 8 (d .marks)) (formIn spool form)) drawing-table
       ∙ ap (λ (t : List ℕ). act (knownOf s) drawingTable (digitsOf (getD t 0 0)) (take 8 (d .marks)) (formIn spool form)) (z .tally)
       ∙ ap (λ (m : List Bool). act (knownOf s) drawingTable (digitsOf (arcOf s)) m (formIn spool form)) (inw .marked)
-      ∙ ap (act (knownOf s) drawingTable (digitsOf (arcOf s)) (marks (g .own))) (sym (x .is))
+      ∙ ap (act (knownOf s) drawingTable (digitsOf (arcOf s)) (rowsThere (g .own))) (sym (x .is))
 
   later : at ≤ to
   later = omega (arith, x .bytes)
@@ -129,7 +129,7 @@ module _ (c : Digits) (spool : List ℕ) (k : ℕ) (FileHere : Desk → Set → 
     on-stay a m q = (st, ap (byAct _ _ _ _) a, stands-still c spool k FileHere d at to st z later (d .tally) m₁ (d .inner) (d .header) t₁ refl m refl refl (with-back place rec₁ (d .table) q))
 
     -- one of its rows: j, with these numbers
-    module _ (j : ℕ) (v : Value) (it : Taken drawingTable (marks (g .own)) j v) (m : m₁ ≡ set (d .marks) j true) (q : rec₁ ≡ putLine (ruleAt (tableOf 7) j) 0 v (partAt place (d .table))) where
+    module _ (j : ℕ) (v : Value) (it : Taken drawingTable (rowsThere (g .own)) j v) (m : m₁ ≡ set (d .marks) j true) (q : rec₁ ≡ putLine (ruleAt (tableOf 7) j) 0 v (partAt place (d .table))) where
       abbrev g′ : Drawing
       g′ = withOwn (set (g .own) j (some v)) g
 
@@ -202,9 +202,9 @@ module _ (c : Digits) (spool : List ℕ) (k : ℕ) (FileHere : Desk → Set → 
     by-act : (y : Act) → did ≡ y → (r : Step) → Answered (drawingNow (d .now) y) ((m₁ ≡ drawingMarks (d .marks) y) × (rec₁ ≡ drawingPut (partAt place (d .table)) y)) r → Out r
     by-act stay a r h = subst Out (sym (h .answer)) (on-stay a (h .lent .0) (h .lent .1))
     by-act (entry j v) a r h =
-        subst Out (sym (h .answer)) (on-entry j v (entry-taken (knownOf s) drawingTable (digitsOf (arcOf s)) (marks (g .own)) (l .form) j v a) (h .lent .0) (h .lent .1) a)
+        subst Out (sym (h .answer)) (on-entry j v (entry-taken (knownOf s) drawingTable (digitsOf (arcOf s)) (rowsThere (g .own)) (l .form) j v a) (h .lent .0) (h .lent .1) a)
     by-act (begin i j v) a r h =
-        subst Out (sym (h .answer)) (on-begin j v (begin-taken (knownOf s) drawingTable (digitsOf (arcOf s)) (marks (g .own)) (l .form) i j v a) (h .lent .0) (h .lent .1) i a)
+        subst Out (sym (h .answer)) (on-begin j v (begin-taken (knownOf s) drawingTable (digitsOf (arcOf s)) (rowsThere (g .own)) (l .form) i j v a) (h .lent .0) (h .lent .1) i a)
     by-act shut a r h = subst Out (sym (h .answer)) (on-shut a (h .lent .0) (h .lent .1))
     by-act (refuse m) a r h = subst Out (sym (h .answer)) (on-refuse m a)
 

@@ -13,7 +13,7 @@ use Rattle.rules.specs.RefusalNumbers.{got, unless}
 use Rattle.rules.specs.RangeClass.{digits}
 use Rattle.rules.specs.Lines.{formIn}
 use Rattle.rules.specs.Values.{Known, Value, amountAt}
-use Rattle.rules.specs.Rows.{Rule, Held, fullAt, Act, stay, entry, begin, shut, refuse, act}
+use Rattle.rules.specs.Rows.{Rule, Held, rowsAtLimit, Act, stay, entry, begin, shut, refuse, act}
 use Rattle.rules.specs.Blocks.{elementTable}
 use Rattle.rules.specs.Sets.{Layer, Set, withVolume, knownOf, serialsIn, elementsOf, usedIn}
 use Rattle.rules.specs.VolumesAndTotals.{countedHere}
@@ -61,7 +61,7 @@ module _ (c : Digits) (spool : List ℕ) (k : ℕ) (FileHere : Desk → Set → 
   st = elements s
 
   abbrev did : Act
-  did = act (knownOf s) elementTable (digits 0 0) (fullAt 0 elementTable) (l .form)
+  did = act (knownOf s) elementTable (digits 0 0) (rowsAtLimit 0 elementTable) (l .form)
 
   -- is the definitions' act
   pub element-act : elementAct spool d form ≡ did
@@ -69,7 +69,7 @@ module _ (c : Digits) (spool : List ℕ) (k : ℕ) (FileHere : Desk → Set → 
       ap (λ (m : Known). act m (tableOf 10) (digits 0 0) (false ∷ []) (formIn spool form)) (known c spool k FileHere d at to st st z refl)
       ∙ ap (λ (t : List Rule). act (knownOf s) t (digits 0 0) (false ∷ []) (formIn spool form)) element-rows
       ∙ ap (λ (b : List Bool). act (knownOf s) elementTable (digits 0 0) b (formIn spool form)) element-full
-      ∙ ap (act (knownOf s) elementTable (digits 0 0) (fullAt 0 elementTable)) (sym (x .is))
+      ∙ ap (act (knownOf s) elementTable (digits 0 0) (rowsAtLimit 0 elementTable)) (sym (x .is))
 
   later : at ≤ to
   later = omega (arith, x .bytes)
@@ -93,7 +93,7 @@ module _ (c : Digits) (spool : List ℕ) (k : ℕ) (FileHere : Desk → Set → 
     st′ = figures s (inLayer m) []
 
     few : m < 64
-    few = omega (arith, layer-known (knownOf s) (digits 0 0) (fullAt 0 elementTable) (l .form) i j v a, names (s .drawing .layers), z .few-layers)
+    few = omega (arith, layer-known (knownOf s) (digits 0 0) (rowsAtLimit 0 elementTable) (l .form) i j v a, names (s .drawing .layers), z .few-layers)
       where
         names : (ls : List Layer) → length (map (λ (y : Layer). y .id) ls) ≡ length ls
         names [] = refl
@@ -203,7 +203,7 @@ module _ (c : Digits) (spool : List ℕ) (k : ℕ) (FileHere : Desk → Set → 
 
     by-act : (y : Act) → did ≡ y → ElementTally (d .tally) t₁ y → LayersInUse (d .used) (d .used) u₁ y → LayersInUse (d .used) (d .usedAll) a₁ y → Out (elementStep (d .now) (d .tally) (d .used) y)
     by-act stay a p q o = come-back (d .tally) (d .used) (d .usedAll) (S.Go (d .now)) p q o (on-stay a)
-    by-act (entry j v) a p q o = clash (ap isEntry a) (no-entry (knownOf s) elementTable (digits 0 0) (fullAt 0 elementTable) (l .form) element-opens)
+    by-act (entry j v) a p q o = clash (ap isEntry a) (no-entry (knownOf s) elementTable (digits 0 0) (rowsAtLimit 0 elementTable) (l .form) element-opens)
     by-act (begin i j v) a p q o = by-use i j v a (getD (d .used) (amountAt v 0) false) refl p q o
     by-act shut a p q o = by-count a (agrees (d .tally)) refl p q o
     by-act (refuse n) a p q o = ap (byAct _ _ _ _) a

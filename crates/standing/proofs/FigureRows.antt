@@ -14,7 +14,7 @@ use Rattle.rules.specs.declared.Digits.{Digits}
 use Rattle.rules.specs.Base.{all}
 use Rattle.rules.specs.RangeClass.{digits, digitsOf}
 use Rattle.rules.specs.Values.{Num, nums}
-use Rattle.rules.specs.Rows.{Rule, blank, fullAt, innerOf}
+use Rattle.rules.specs.Rows.{Rule, blank, rowsAtLimit, innerOf}
 use Rattle.rules.specs.Blocks.{blankHeld}
 use Rattle.rules.specs.Figures.{layerTable, figureTable, textTable, placedTable, placedTables}
 use Rattle.rules.specs.Sets.{Set, plain, symbolRange, rangeOf, isSingle}
@@ -43,7 +43,7 @@ home-rows s (inElement y) = refl
 home-rows s (inLayer m) = layer-rows (isSingle s)
 
 -- "any number": no row is ever full
-pub home-full : (s : Set) (h : Home) → replicate (homeRows (isLayer h)) false ≡ fullAt 0 (M.homeTable s h)
+pub home-full : (s : Set) (h : Home) → replicate (homeRows (isLayer h)) false ≡ rowsAtLimit 0 (M.homeTable s h)
 unfolding layerTable figureTable
 home-full s (inElement y) = refl
 home-full s (inLayer m) = refl

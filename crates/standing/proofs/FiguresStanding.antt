@@ -16,7 +16,7 @@ use Rattle.rules.specs.RefusalNumbers.{got, bad, unless}
 use Rattle.rules.specs.RangeClass.{digitsOf}
 use Rattle.rules.specs.Lines.{Rest, brace, formIn}
 use Rattle.rules.specs.Values.{Known, Value, nums, numsOf}
-use Rattle.rules.specs.Rows.{Rule, Held, blank, marks, fullAt, Act, stay, entry, begin, shut, refuse, act, innerOf}
+use Rattle.rules.specs.Rows.{Rule, Held, blank, rowsThere, rowsAtLimit, Act, stay, entry, begin, shut, refuse, act, innerOf}
 use Rattle.rules.specs.Blocks.{blankHeld}
 use Rattle.rules.specs.Figures.{textTable, placedTables}
 use Rattle.rules.specs.Sets.{Figure, plain, Symbol, Set, symbolRange, rangeOf, knownOf, withRecords, symbolFigures, usedIn}
@@ -87,7 +87,7 @@ module _ (c : Digits) (spool : List ℕ) (k : ℕ) (FileHere : Desk → Set → 
     rows = M.homeTable s h
 
     abbrev did : Act
-    did = act (knownOf s) rows (rangeOf s) (fullAt 0 rows) (l .form)
+    did = act (knownOf s) rows (rangeOf s) (rowsAtLimit 0 rows) (l .form)
 
     home : InHome spool k (d .now) (d .marks) (d .inner) s h
     home = z .block .1
@@ -110,7 +110,7 @@ module _ (c : Digits) (spool : List ℕ) (k : ℕ) (FileHere : Desk → Set → 
         ∙ ap (λ (m : ℕ). act (knownOf s) rows (digitsOf m) f (formIn spool form)) range-here
         ∙ ap (λ (y : Bool). act (knownOf s) rows (rangeOf s) (replicate (homeRows y) false) (formIn spool form)) layered
         ∙ ap (λ (y : List Bool). act (knownOf s) rows (rangeOf s) y (formIn spool form)) (home-full s h)
-        ∙ ap (act (knownOf s) rows (rangeOf s) (fullAt 0 rows)) (sym (x .is)))
+        ∙ ap (act (knownOf s) rows (rangeOf s) (rowsAtLimit 0 rows)) (sym (x .is)))
 
     module _ (m₁ i₁ : List Bool) (t₁ : List ℤ) where
       abbrev Out : Step → Type 0
@@ -156,20 +156,20 @@ module _ (c : Digits) (spool : List ℕ) (k : ℕ) (FileHere : Desk → Set → 
 
       -- ── a figure on one line ──
       module _ (j : ℕ) (v : Value) (a : did ≡ entry j v) where
-        from : From (knownOf s) rows (rangeOf s) (fullAt 0 rows) (l .form) j (entry j v)
-        from = entry-from (knownOf s) rows (rangeOf s) (fullAt 0 rows) (l .form) j v a
+        from : From (knownOf s) rows (rangeOf s) (rowsAtLimit 0 rows) (l .form) j (entry j v)
+        from = entry-from (knownOf s) rows (rangeOf s) (rowsAtLimit 0 rows) (l .form) j v a
 
         abbrev r : Rule
         r = from .rule
 
         has-values : valuesRow r ≡ true
         has-values =
-            or-left (valuesRow r) (blockRow (mostBlock h) r) (ap (λ (y : Bool). y && (leb 1 (innerOf (r .holds)) && leb (innerOf (r .holds)) (mostBlock h))) (entry-opens (knownOf s) rows (rangeOf s) (fullAt 0 rows) (l .form) j v from))
+            or-left (valuesRow r) (blockRow (mostBlock h) r) (ap (λ (y : Bool). y && (leb 1 (innerOf (r .holds)) && leb (innerOf (r .holds)) (mostBlock h))) (entry-opens (knownOf s) rows (rangeOf s) (rowsAtLimit 0 rows) (l .form) j v from))
             (and-right (eqb (r .state) 0) _ (row-all (figureRow (mostBlock h)) (from .row) (figure-rows s h)))
 
         is-nums : v ≡ nums (numsOf v)
         is-nums =
-            entry-nums (knownOf s) rows (rangeOf s) (fullAt 0 rows) (l .form) j v from (and-left (isValues (r .holds)) _ has-values) (not-true (r .may) (and-right (isValues (r .holds)) _ has-values))
+            entry-nums (knownOf s) rows (rangeOf s) (rowsAtLimit 0 rows) (l .form) j v from (and-left (isValues (r .holds)) _ has-values) (not-true (r .may) (and-right (isValues (r .holds)) _ has-values))
 
         abbrev now-plain : Figure
         now-plain = plain (l .line) j (numsOf v)
@@ -180,7 +180,7 @@ module _ (c : Digits) (spool : List ℕ) (k : ℕ) (FileHere : Desk → Set → 
         made-is : lineMade s h (l .line) j (numsOf v) ∷ [] ≡ homeFigure c s h now-plain
         made-is =
             line-record c s h (l .line) j (numsOf v) (subst (λ (y : Rule). isValues (y .holds) ≡ true) (sym (row-at (from .row) _)) (and-left (isValues (r .holds)) _ has-values))
-            (subst (λ (y : Value). fills (ruleAt rows j .holds) (numbers y) ≡ true) is-nums (entry-taken (knownOf s) rows (rangeOf s) (fullAt 0 rows) (l .form) j v a .fill))
+            (subst (λ (y : Value). fills (ruleAt rows j .holds) (numbers y) ≡ true) is-nums (entry-taken (knownOf s) rows (rangeOf s) (rowsAtLimit 0 rows) (l .form) j v a .fill))
 
         grown : soFar c st ++ lineMade s h (l .line) j (numsOf v) ∷ [] ≡ soFar c st′
         grown =
@@ -209,8 +209,8 @@ module _ (c : Digits) (spool : List ℕ) (k : ℕ) (FileHere : Desk → Set → 
 
       -- ── a figure that is a block ──
       module _ (i j : ℕ) (v : Value) (a : did ≡ begin i j v) where
-        opened : From (knownOf s) rows (rangeOf s) (fullAt 0 rows) (l .form) j (begin i j v)
-        opened = begin-from (knownOf s) rows (rangeOf s) (fullAt 0 rows) (l .form) i j v a
+        opened : From (knownOf s) rows (rangeOf s) (rowsAtLimit 0 rows) (l .form) j (begin i j v)
+        opened = begin-from (knownOf s) rows (rangeOf s) (rowsAtLimit 0 rows) (l .form) i j v a
 
         abbrev q : Rule
         q = opened .rule
@@ -220,11 +220,11 @@ module _ (c : Digits) (spool : List ℕ) (k : ℕ) (FileHere : Desk → Set → 
 
         is-block : blockRow (mostBlock h) q ≡ true
         is-block =
-            or-second (valuesRow q) (blockRow (mostBlock h) q) (ap (λ (y : Bool). y && not (q .may)) (begin-values (knownOf s) rows (rangeOf s) (fullAt 0 rows) (l .form) j i v opened))
+            or-second (valuesRow q) (blockRow (mostBlock h) q) (ap (λ (y : Bool). y && not (q .may)) (begin-values (knownOf s) rows (rangeOf s) (rowsAtLimit 0 rows) (l .form) j i v opened))
             (and-right (eqb (q .state) 0) _ in-rows)
 
         begun : (i ≡ innerOf (q .holds)) × (v ≡ nums []) × (opened .rest ≡ brace)
-        begun = begin-opens (knownOf s) rows (rangeOf s) (fullAt 0 rows) (l .form) j i v opened (and-left (isOpens (q .holds)) _ is-block)
+        begun = begin-opens (knownOf s) rows (rangeOf s) (rowsAtLimit 0 rows) (l .form) j i v opened (and-left (isOpens (q .holds)) _ is-block)
 
         from-one : 1 ≤ i
         from-one = omega (arith, begun .0, leb-true 1 (innerOf (q .holds)) (and-left (leb 1 (innerOf (q .holds))) _ (and-right (isOpens (q .holds)) _ is-block)))
@@ -276,7 +276,7 @@ module _ (c : Digits) (spool : List ℕ) (k : ℕ) (FileHere : Desk → Set → 
           let o = blank (textTable (isLayer h) 4 12) in
           let st′ : State = texts (withRecords 1 s) h fs (l .line) o in
           let made : List ℤ = start (15 + homeMore h) (homeOwner s h) (homeVolume s h) (l .line) in
-          let i : i₁ ≡ marks o = qi ∙ two-unmarked (isLayer h) (d .inner) (z .lengths .inner) in
+          let i : i₁ ≡ rowsThere o = qi ∙ two-unmarked (isLayer h) (d .inner) (z .lengths .inner) in
           subst (λ (y : List Bool). StepOut c spool k FileHere e l to st (deskWith d (d .now) y i₁ t₁) (S.Go n)) (sym qm) (
             st′,
             ap (byAct _ _ _ _) a ∙ fits-still b (λ s′. texts s′ h fs (l .line) o),
@@ -377,7 +377,7 @@ module _ (c : Digits) (spool : List ℕ) (k : ℕ) (FileHere : Desk → Set → 
         let st : State = figures s (inElement y) fs in
         let st′ : State = symbol s y′ in
         let i : InSymbol spool k (d .now) (d .marks) (d .inner) s y = z .block .1 .0 in
-        let f : formSize (l .form) ≡ 1 = ap formSize (shut-close (knownOf s) (rows (inElement y) z) (rangeOf s) (fullAt 0 (rows (inElement y) z)) (l .form) a .0) in
+        let f : formSize (l .form) ≡ 1 = ap formSize (shut-close (knownOf s) (rows (inElement y) z) (rangeOf s) (rowsAtLimit 0 (rows (inElement y) z)) (l .form) a .0) in
         let bytes : ℕ → Bool → ℕ = λ m b. cond (not b) m 0 in
         subst (λ (o : List Bool). StepOut c spool k FileHere e l to st (deskWith d (d .now) o i₁ t₁) (S.Go n)) (sym qm)
         (subst (λ (o : List Bool). StepOut c spool k FileHere e l to st (deskWith d (d .now) (d .marks) o t₁) (S.Go n)) (sym qi) (

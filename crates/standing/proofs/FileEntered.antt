@@ -13,7 +13,7 @@ use lib.Seq.{getD-set-same, getD-set-other}
 use Rattle.rules.specs.Base.{all}
 use Rattle.rules.specs.Lines.{span, bytesAt}
 use Rattle.rules.specs.Values.{Num, Value, nums, capital, day, clock, values, volumeName, nothingMore}
-use Rattle.rules.specs.Rows.{Rule, Slots, Held, partOf, enter, marks, numberOf}
+use Rattle.rules.specs.Rows.{Rule, Slots, Held, partOf, enter, rowsThere, numberOf}
 use Rattle.rules.specs.Blocks.{fileTable, rangeTable, baseTable, elecTable, symTable, laterTable, fileTables}
 use Rattle.rules.specs.Sets.{Set, isFirst}
 use Rattle.rules.specs.RecordTable.{numbers, columns, putHeld, ruleAt}
@@ -94,14 +94,14 @@ module _ (j : ℕ) (h : Held) (v : Value) (h₀ h₁ : List ℤ) (g : Header h�
   abbrev One : Type 0
   One = (n : Num) × (v ≡ nums (n ∷ []))
 
-  date-by : (first : Bool) (p : ℕ) → PartOpen first p → Shaped 0 (fileTables first) h → Taken (getD (fileTables first) p []) (marks (partOf h p)) j v
+  date-by : (first : Bool) (p : ℕ) → PartOpen first p → Shaped 0 (fileTables first) h → Taken (getD (fileTables first) p []) (rowsThere (partOf h p)) j v
       → h₁ ≡ keptIn first p j (putLine (ruleAt (getD (fileTables first) p []) j) 64 v h₀) → (first ≡ false → j ≡ 3 → One) → first ≡ false
       → countAt h₀ 68 ≡ numberOf "date" laterTable (partOf h 0) → countAt h₁ 68 ≡ numberOf "date" laterTable (partOf (enter h p j v) 0)
   date-by true p o sh tk e y f a = clash refl f
   date-by false zero o sh tk e y f a = date-on j h v h₀ h₁ sh tk g c e (y f) a
   date-by false (suc p) o sh tk e y f a = absurd (omega (arith, o .later refl))
 
-  time-by : (first : Bool) (p : ℕ) → PartOpen first p → Shaped 0 (fileTables first) h → Taken (getD (fileTables first) p []) (marks (partOf h p)) j v
+  time-by : (first : Bool) (p : ℕ) → PartOpen first p → Shaped 0 (fileTables first) h → Taken (getD (fileTables first) p []) (rowsThere (partOf h p)) j v
       → h₁ ≡ keptIn first p j (putLine (ruleAt (getD (fileTables first) p []) j) 64 v h₀) → (first ≡ false → j ≡ 4 → One) → first ≡ false
       → countAt h₀ 69 ≡ numberOf "time" laterTable (partOf h 0) → countAt h₁ 69 ≡ numberOf "time" laterTable (partOf (enter h p j v) 0)
   time-by true p o sh tk e y f a = clash refl f
@@ -138,7 +138,7 @@ module _ (spool : List ℕ) (k : ℕ) (d : Desk) (s : Set) (n : ℕ) (h : Held) 
   }
 
   -- with one more row
-  module _ (j : ℕ) (v : Value) (tk : Taken rows (marks (partOf h p)) j v) (c : all isCount (numbers v) ≡ true) (em : m₁ ≡ set (d .marks) (marksFrom p + j) true)
+  module _ (j : ℕ) (v : Value) (tk : Taken rows (rowsThere (partOf h p)) j v) (c : all isCount (numbers v) ≡ true) (em : m₁ ≡ set (d .marks) (marksFrom p + j) true)
       (eh : h₁ ≡ keptIn first p j (putLine (ruleAt rows j) 64 v (d .header))) (g : Header h₁) (name : p ≡ 0 → j ≡ nextRow first → NameHere spool v)
       (date : first ≡ false → j ≡ 3 → (i : Num) × (v ≡ nums (i ∷ []))) (time : first ≡ false → j ≡ 4 → (i : Num) × (v ≡ nums (i ∷ [])))
       (one : columns (ruleAt rows j .holds) ≡ 1 → isNumbers (some v) ≡ true) where
@@ -153,18 +153,18 @@ module _ (spool : List ℕ) (k : ℕ) (d : Desk) (s : Set) (n : ℕ) (h : Held) 
         ap (take (fileWidth first)) eh ∙ records-taken first p j (ruleAt rows j) v (d .header) ∙ ap (putValue (ruleAt rows j) v) (f .filled)
         ∙ sym (held-set (fileTables first) h p j v (fileHead first k n) (f .shaped) (part-number first p (f .parts)) (tk .row) (mark-free (partOf h p) j (tk .free)) (tk .fill) (clear-parts first))
 
-    put-marked : (q : ℕ) → q < length (fileTables first) → partMarks first q m₁ ≡ marks (partOf (enter h p j v) q)
+    put-marked : (q : ℕ) → q < length (fileTables first) → partMarks first q m₁ ≡ rowsThere (partOf (enter h p j v) q)
     put-marked q l = ap (partMarks first q) em ∙ go (eqb q p) refl
       where
-        go : (b : Bool) → eqb q p ≡ b → partMarks first q (set (d .marks) (marksFrom p + j) true) ≡ marks (partOf (enter h p j v) q)
+        go : (b : Bool) → eqb q p ≡ b → partMarks first q (set (d .marks) (marksFrom p + j) true) ≡ rowsThere (partOf (enter h p j v) q)
         go true e =
             let w = eqb-true q p e in
             ap (λ (i : ℕ). partMarks first i (set (d .marks) (marksFrom p + j) true)) w ∙ mark-own first p j (f .parts) (tk .row) (d .marks)
             ∙ ap (λ (o : List Bool). set o j true) (f .marked p (part-number first p (f .parts)))
-            ∙ sym (marks-set (partOf h p) j v) ∙ ap marks (sym (enter-own h p j v (there .0))) ∙ ap (λ (i : ℕ). marks (partOf (enter h p j v) i)) (sym w)
+            ∙ sym (marks-set (partOf h p) j v) ∙ ap rowsThere (sym (enter-own h p j v (there .0))) ∙ ap (λ (i : ℕ). rowsThere (partOf (enter h p j v) i)) (sym w)
         go false e =
             let w = eqb-false q p e in
-            mark-other first p j (f .parts) (tk .row) (d .marks) q (part-open first q l) w ∙ f .marked q l ∙ ap marks (sym (enter-other h p q j v w))
+            mark-other first p j (f .parts) (tk .row) (d .marks) q (part-open first q l) w ∙ f .marked q l ∙ ap rowsThere (sym (enter-other h p q j v w))
 
     put-counted : (q i : ℕ) → columns (ruleAt (getD (fileTables first) q []) i .holds) ≡ 1 → isNumbers (getD (partOf (enter h p j v) q) i none) ≡ true
     put-counted q i l = go (eqb q p) refl (eqb i j) refl

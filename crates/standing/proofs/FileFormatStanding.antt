@@ -14,10 +14,11 @@ use Rattle.rules.specs.RefusalNumbers.{got, unless}
 use Rattle.rules.specs.RangeClass.{digits}
 use Rattle.rules.specs.Lines.{formIn}
 use Rattle.rules.specs.Values.{Known, Value, day, clock, nothingMore}
-use Rattle.rules.specs.Rows.{Rule, Held, partOf, enter, marks, Act, stay, entry, begin, shut, refuse, act}
+use Rattle.rules.specs.Rows.{Rule, Held, partOf, enter, rowsThere, Act, stay, entry, begin, shut, refuse, act}
 use Rattle.rules.specs.Blocks.{around, fileTables}
 use Rattle.rules.specs.Sets.{Contents, Set, withNow, isFirst, knownOf}
-use Rattle.rules.specs.Machine.{Line, Env, State, top, file, byAct, closeFile, shutPart, stepIn}
+use Rattle.rules.specs.Machine.{Line, Env, State, top, file, byAct, closeFile, shutPart}
+use Rattle.rules.specs.LineByLine.{stepIn}
 use Rattle.rules.specs.RecordTable.{columns, ruleAt}
 use Rattle.rules.proofs.Chains.{clash}
 use Rattle.rules.proofs.Rows.{row-at}
@@ -59,7 +60,7 @@ module _ (c : Digits) (spool : List ℕ) (k : ℕ) (d : Desk) (at to : ℕ) (e :
   rows = getD (fileTables first) p []
 
   abbrev did : Act
-  did = act (knownOf s) rows (digits 0 0) (marks (partOf h p)) (l .form)
+  did = act (knownOf s) rows (digits 0 0) (rowsThere (partOf h p)) (l .form)
 
   f : InFile spool k d s n h p
   f = z .block .1
@@ -133,8 +134,8 @@ module _ (c : Digits) (spool : List ℕ) (k : ℕ) (d : Desk) (at to : ℕ) (e :
     -- ── a row ──
     module _ (j : ℕ) (v : Value) (a : did ≡ entry j v) (et : tally₁ ≡ d .tally) (em : m₁ ≡ set (d .marks) (marksFrom p + j) true)
         (eh : h₁ ≡ keptIn first p j (putLine (ruleAt (tableOf (fileTableOf first p)) j) 64 v (d .header))) (eq : t₁ ≡ d .table) where
-      from : From (knownOf s) rows (digits 0 0) (marks (partOf h p)) (l .form) j (entry j v)
-      from = entry-from (knownOf s) rows (digits 0 0) (marks (partOf h p)) (l .form) j v a
+      from : From (knownOf s) rows (digits 0 0) (rowsThere (partOf h p)) (l .form) j (entry j v)
+      from = entry-from (knownOf s) rows (digits 0 0) (rowsThere (partOf h p)) (l .form) j v a
 
       the-row : ruleAt rows j ≡ from .rule
       the-row = row-at (from .row) _
@@ -147,21 +148,21 @@ module _ (c : Digits) (spool : List ℕ) (k : ℕ) (d : Desk) (at to : ℕ) (e :
         file s n (enter h p j v) p,
         ap (byAct _ _ _ _) a,
         stays (d .now) (enter h p j v) p et eq (ap length em ∙ length-set (d .marks) (marksFrom p + j) true ∙ z .lengths .marks) (after .0 .long) refl (z .block .0)
-            (row-entered spool k d s n h p f tally₁ m₁ h₁ t₁ (d .now) j v (entry-taken (knownOf s) rows (digits 0 0) (marks (partOf h p)) (l .form) j v a) (subst Holds a holds) em
+            (row-entered spool k d s n h p f tally₁ m₁ h₁ t₁ (d .now) j v (entry-taken (knownOf s) rows (digits 0 0) (rowsThere (partOf h p)) (l .form) j v a) (subst Holds a holds) em
             (eh ∙ ap (λ (t : List Rule). keptIn first p j (putLine (ruleAt t j) 64 v (d .header))) table-is) (after .0)
-            (λ q r. name-value spool form (knownOf s) rows (digits 0 0) (marks (partOf h p)) (l .form) j v (x .is) from (ap (λ (y : Rule). y .holds) (sym the-row) ∙ name-kind first p j q r))
+            (λ q r. name-value spool form (knownOf s) rows (digits 0 0) (rowsThere (partOf h p)) (l .form) j v (x .is) from (ap (λ (y : Rule). y .holds) (sym the-row) ∙ name-kind first p j q r))
             (λ b r. let y = date-kind first p j b (f .parts) r in
-            one-number (knownOf s) rows (digits 0 0) (marks (partOf h p)) (l .form) j v day nothingMore from (ap (λ (y : Rule). y .holds) (sym the-row) ∙ y .0) (ap (λ (y : Rule). y .may) (sym the-row) ∙ y .1))
+            one-number (knownOf s) rows (digits 0 0) (rowsThere (partOf h p)) (l .form) j v day nothingMore from (ap (λ (y : Rule). y .holds) (sym the-row) ∙ y .0) (ap (λ (y : Rule). y .may) (sym the-row) ∙ y .1))
             (λ b r. let y = time-kind first p j b (f .parts) r in
-            one-number (knownOf s) rows (digits 0 0) (marks (partOf h p)) (l .form) j v clock nothingMore from (ap (λ (y : Rule). y .holds) (sym the-row) ∙ y .0) (ap (λ (y : Rule). y .may) (sym the-row) ∙ y .1))
-            (λ r. one-numbers (knownOf s) rows (digits 0 0) (marks (partOf h p)) (l .form) j (entry j v) from (ap (λ (y : Rule). columns (y .holds)) (sym the-row) ∙ r)) p (f .part) (f .parts)),
+            one-number (knownOf s) rows (digits 0 0) (rowsThere (partOf h p)) (l .form) j v clock nothingMore from (ap (λ (y : Rule). y .holds) (sym the-row) ∙ y .0) (ap (λ (y : Rule). y .may) (sym the-row) ∙ y .1))
+            (λ r. one-numbers (knownOf s) rows (digits 0 0) (rowsThere (partOf h p)) (l .form) j (entry j v) from (ap (λ (y : Rule). columns (y .holds)) (sym the-row) ∙ r)) p (f .part) (f .parts)),
       )
 
     -- ── a part opens ──
     module _ (i j : ℕ) (v : Value) (a : did ≡ begin i j v) (et : tally₁ ≡ d .tally) (em : m₁ ≡ set (d .marks) (marksFrom p + j) true)
         (eh : h₁ ≡ putLine (ruleAt (tableOf (fileTableOf first p)) j) 64 v (d .header)) (eq : t₁ ≡ d .table) where
-      opener : From (knownOf s) rows (digits 0 0) (marks (partOf h p)) (l .form) j (begin i j v)
-      opener = begin-from (knownOf s) rows (digits 0 0) (marks (partOf h p)) (l .form) i j v a
+      opener : From (knownOf s) rows (digits 0 0) (rowsThere (partOf h p)) (l .form) j (begin i j v)
+      opener = begin-from (knownOf s) rows (digits 0 0) (rowsThere (partOf h p)) (l .form) i j v a
 
       its-row : ruleAt rows j ≡ opener .rule
       its-row = row-at (opener .row) _
@@ -170,20 +171,20 @@ module _ (c : Digits) (spool : List ℕ) (k : ℕ) (d : Desk) (at to : ℕ) (e :
       opened = subst (Behind first p h₁) a (behind (subst (FileHeader first p (d .header) h₁) (sym a) eh))
 
       not-later : first ≡ false → ⊥
-      not-later b = clash (ap isBegin a) (no-begin (knownOf s) rows (digits 0 0) (marks (partOf h p)) (l .form) (plain-later first p b (f .parts)))
+      not-later b = clash (ap isBegin a) (no-begin (knownOf s) rows (digits 0 0) (rowsThere (partOf h p)) (l .form) (plain-later first p b (f .parts)))
 
       not-name : p ≡ 0 → j ≡ nextRow first → ⊥
-      not-name q r = name-closed (knownOf s) rows (digits 0 0) (marks (partOf h p)) (l .form) i j v opener (ap (λ (y : Rule). y .holds) (sym its-row) ∙ name-kind first p j q r)
+      not-name q r = name-closed (knownOf s) rows (digits 0 0) (rowsThere (partOf h p)) (l .form) i j v opener (ap (λ (y : Rule). y .holds) (sym its-row) ∙ name-kind first p j q r)
 
       on-begin : Out (S.Go (atBlock (d .now) 1 i))
       on-begin = (
         file s n (enter h p j v) i,
         ap (byAct _ _ _ _) a,
         stays (atBlock (d .now) 1 i) (enter h p j v) i et eq (ap length em ∙ length-set (d .marks) (marksFrom p + j) true ∙ z .lengths .marks) (opened .0 .long) refl refl
-            (row-entered spool k d s n h p f tally₁ m₁ h₁ t₁ (atBlock (d .now) 1 i) j v (begin-taken (knownOf s) rows (digits 0 0) (marks (partOf h p)) (l .form) i j v a) (subst Holds a holds .0) em
+            (row-entered spool k d s n h p f tally₁ m₁ h₁ t₁ (atBlock (d .now) 1 i) j v (begin-taken (knownOf s) rows (digits 0 0) (rowsThere (partOf h p)) (l .form) i j v a) (subst Holds a holds .0) em
             (eh ∙ ap (λ (t : List Rule). putLine (ruleAt t j) 64 v (d .header)) table-is ∙ sym (kept-open first p j (putLine (ruleAt rows j) 64 v (d .header)) not-later not-name)) (opened .0)
             (λ q r. absurd (not-name q r)) (λ b r. absurd (not-later b)) (λ b r. absurd (not-later b))
-            (λ r. one-numbers (knownOf s) rows (digits 0 0) (marks (partOf h p)) (l .form) j (begin i j v) opener (ap (λ (y : Rule). columns (y .holds)) (sym its-row) ∙ r)) i refl (opened .1)),
+            (λ r. one-numbers (knownOf s) rows (digits 0 0) (rowsThere (partOf h p)) (l .form) j (begin i j v) opener (ap (λ (y : Rule). columns (y .holds)) (sym its-row) ∙ r)) i refl (opened .1)),
       )
 
     -- ── an end ──

@@ -13,7 +13,7 @@ use lib.Seq.{sets, getD-set-same, getD-set-other, length-sets}
 use Rattle.rules.specs.Base.{all}
 use Rattle.rules.specs.Lines.{span, bytesAt}
 use Rattle.rules.specs.Values.{Num, Value, empty, nums, chars, linked, capital, charsOf, amountAt}
-use Rattle.rules.specs.Rows.{Slots, Held, partOf, enter, marks, slotValue, held, numberOf}
+use Rattle.rules.specs.Rows.{Slots, Held, partOf, enter, rowsThere, slotValue, held, numberOf}
 use Rattle.rules.specs.RecordTable.{numbers, ruleAt}
 use Rattle.rules.specs.Blocks.{fileTable, laterTable, fileTables}
 use Rattle.rules.specs.VolumesAndTotals.{ownTable}
@@ -71,7 +71,7 @@ unfolding laterTable
 time-put v h = refl
 
 -- ── after a line ──
-module _ (spool : List ℕ) (first : Bool) (p j : ℕ) (h : Held) (v : Value) (h₀ h₁ : List ℤ) (o : PartOpen first p) (sh : Shaped 0 (fileTables first) h) (tk : Taken (getD (fileTables first) p []) (marks (partOf h p)) j v)
+module _ (spool : List ℕ) (first : Bool) (p j : ℕ) (h : Held) (v : Value) (h₀ h₁ : List ℤ) (o : PartOpen first p) (sh : Shaped 0 (fileTables first) h) (tk : Taken (getD (fileTables first) p []) (rowsThere (partOf h p)) j v)
     (g : Header h₀) (e : h₁ ≡ keptIn first p j (putLine (ruleAt (getD (fileTables first) p []) j) 64 v h₀)) where
   abbrev put : List ℤ
   put = putLine (ruleAt (getD (fileTables first) p []) j) 64 v h₀
@@ -174,7 +174,7 @@ kept-number n h q l m c =
     ap natAbs (getD-set-same (set h 64 z) q (getD (set h 64 z) 64 (pos 0)) (pos 0) (omega (arith, l, m, length-set h 64 z)) ∙ getD-set-same h 64 z (pos 0) (omega (arith, l)))
     ∙ amount-back n c
 
-module _ (j : ℕ) (h : Held) (v : Value) (h₀ h₁ : List ℤ) (sh : Shaped 0 (fileTables false) h) (tk : Taken laterTable (marks (partOf h 0)) j v)
+module _ (j : ℕ) (h : Held) (v : Value) (h₀ h₁ : List ℤ) (sh : Shaped 0 (fileTables false) h) (tk : Taken laterTable (rowsThere (partOf h 0)) j v)
     (g : Header h₀) (c : all isCount (numbers v) ≡ true) (e : h₁ ≡ keptIn false 0 j (putLine (ruleAt laterTable j) 64 v h₀)) where
   later-same : (i q : ℕ) → (i ≡ j → ⊥) → (q ≡ 68 → j ≡ 3 → ⊥) → (q ≡ 69 → j ≡ 4 → ⊥) → 68 ≤ q → countAt h₀ q ≡ amountAt (slotValue (getD (partOf h 0) i none)) 0
       → countAt h₁ q ≡ amountAt (slotValue (getD (partOf (enter h 0 j v) 0) i none)) 0

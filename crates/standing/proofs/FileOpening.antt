@@ -11,7 +11,7 @@ use lib.ListN.{length, getD, take, replicate}
 use Rattle.rules.specs.Base.{all}
 use Rattle.rules.specs.Lines.{span, bytesAt}
 use Rattle.rules.specs.Values.{capital, charsOf}
-use Rattle.rules.specs.Rows.{Rule, blank, partOf, marks, slotValue, held, numberOf}
+use Rattle.rules.specs.Rows.{Rule, blank, partOf, rowsThere, slotValue, held, numberOf}
 use Rattle.rules.specs.Blocks.{fileTable, rangeTable, baseTable, elecTable, symTable, laterTable, fileTables, blankHeld}
 use Rattle.rules.specs.Sets.{Set, isFirst}
 use Rattle.rules.specs.VolumesAndTotals.{ownTable}
@@ -69,7 +69,7 @@ unfolding fileTable rangeTable baseTable elecTable symTable laterTable
 blank-shaped true = (omega arith, refl, (omega arith, refl, (omega arith, refl, (omega arith, refl, (omega arith, refl, tt)))))
 blank-shaped false = (omega arith, refl, tt)
 
-blank-marked : (first : Bool) (q : ℕ) → q < length (fileTables first) → partMarks first q (replicate 28 false) ≡ marks (partOf (blankHeld (fileTables first)) q)
+blank-marked : (first : Bool) (q : ℕ) → q < length (fileTables first) → partMarks first q (replicate 28 false) ≡ rowsThere (partOf (blankHeld (fileTables first)) q)
 unfolding fileTable rangeTable baseTable elecTable symTable laterTable
 blank-marked true zero l = refl
 blank-marked true (suc zero) l = refl

@@ -13,7 +13,7 @@ use Rattle.rules.specs.RefusalNumbers.{got, unless}
 use Rattle.rules.specs.RangeClass.{digits}
 use Rattle.rules.specs.Lines.{formIn}
 use Rattle.rules.specs.Values.{Known, Value}
-use Rattle.rules.specs.Rows.{Rule, Held, fullAt, Act, stay, entry, begin, shut, refuse, act}
+use Rattle.rules.specs.Rows.{Rule, Held, rowsAtLimit, Act, stay, entry, begin, shut, refuse, act}
 use Rattle.rules.specs.Figures.{pointTable}
 use Rattle.rules.specs.Sets.{Point, Symbol, Set, knownOf, withRecords, symbolHidden}
 use Rattle.rules.specs.Machine.{Line, Env, State, symbol, hide, byAct, pointAt}
@@ -46,7 +46,7 @@ module _ (c : Digits) (spool : List ℕ) (k : ℕ) (FileHere : Desk → Set → 
   rows = pointTable false
 
   abbrev did : Act
-  did = act (knownOf s) rows (digits 0 0) (fullAt (length ps) rows) (l .form)
+  did = act (knownOf s) rows (digits 0 0) (rowsAtLimit (length ps) rows) (l .form)
 
   inh : InHide spool k (d .now) (d .marks) (d .inner) s y ps
   inh = z .block .1
@@ -58,10 +58,10 @@ module _ (c : Digits) (spool : List ℕ) (k : ℕ) (FileHere : Desk → Set → 
   pub hide-act : pointAct 15 spool (take (getD (d .tally) 9 0) (d .symbols)) (take (getD (d .tally) 10 0) (d .layers)) (d .now) form (d .table) ≡ taking (hasRoom (d .now .free) (d .table)) did
   hide-act =
       ap (taking (hasRoom (d .now .free) (d .table)))
-      (ap (λ (m : Known). act m (tableOf 15) (digits 0 0) (fullAt (d .now .points) (tableOf 15)) (formIn spool form)) (known c spool k FileHere d at to st st z refl)
-      ∙ ap (λ (t : List Rule). act (knownOf s) t (digits 0 0) (fullAt (d .now .points) t) (formIn spool form)) (point-rows false)
-      ∙ ap (λ (m : ℕ). act (knownOf s) rows (digits 0 0) (fullAt m rows) (formIn spool form)) (inh .points)
-      ∙ ap (act (knownOf s) rows (digits 0 0) (fullAt (length ps) rows)) (sym (x .is)))
+      (ap (λ (m : Known). act m (tableOf 15) (digits 0 0) (rowsAtLimit (d .now .points) (tableOf 15)) (formIn spool form)) (known c spool k FileHere d at to st st z refl)
+      ∙ ap (λ (t : List Rule). act (knownOf s) t (digits 0 0) (rowsAtLimit (d .now .points) t) (formIn spool form)) (point-rows false)
+      ∙ ap (λ (m : ℕ). act (knownOf s) rows (digits 0 0) (rowsAtLimit m rows) (formIn spool form)) (inh .points)
+      ∙ ap (act (knownOf s) rows (digits 0 0) (rowsAtLimit (length ps) rows)) (sym (x .is)))
 
   later : at ≤ to
   later = omega (arith, x .bytes)
@@ -118,7 +118,7 @@ module _ (c : Digits) (spool : List ℕ) (k : ℕ) (FileHere : Desk → Set → 
       on-full b = ap (byAct _ _ _ _) a ∙ ap (λ (r : Bool). unless r 19 (got st′)) (has-room c d e (s .taken) u (z .taken) ∙ b)
 
     on-begin : (i j : ℕ) (v : Value) → did ≡ begin i j v → (m : ℕ) → Out (S.Stop m)
-    on-begin i j v a m = clash (ap isBegin a) (no-begin (knownOf s) rows (digits 0 0) (fullAt (length ps) rows) (l .form) (plain-points false))
+    on-begin i j v a m = clash (ap isBegin a) (no-begin (knownOf s) rows (digits 0 0) (rowsAtLimit (length ps) rows) (l .form) (plain-points false))
 
     on-refuse : (m : ℕ) → did ≡ refuse m → Out (S.Stop m)
     on-refuse m a = ap (byAct _ _ _ _) a
@@ -150,7 +150,7 @@ module _ (c : Digits) (spool : List ℕ) (k : ℕ) (FileHere : Desk → Set → 
 
     on-shut : did ≡ shut → t₁ ≡ d .table → Out (S.Go (atBlock (d .now) 5 0))
     on-shut a q =
-        let f : formSize (l .form) ≡ 1 = ap formSize (shut-close (knownOf s) rows (digits 0 0) (fullAt (length ps) rows) (l .form) a .0) in
+        let f : formSize (l .form) ≡ 1 = ap formSize (shut-close (knownOf s) rows (digits 0 0) (rowsAtLimit (length ps) rows) (l .form) a .0) in
         let bytes : ℕ → Bool → ℕ = λ m b. cond (not b) m 0 in (
           symbol s closed,
           ap (byAct _ _ _ _) a,

@@ -19,7 +19,8 @@ use Rattle.rules.specs.Values.{Value, isLayerId}
 use Rattle.rules.specs.Rows.{Held}
 use Rattle.rules.specs.Blocks.{mostLayers}
 use Rattle.rules.specs.Sets.{Layer, Drawing, Set, withLayer, withRecords}
-use Rattle.rules.specs.Machine.{Line, Env, State, drawing, layerNames, roomFor, layerValue, onLayerNames, stepIn}
+use Rattle.rules.specs.Machine.{Line, Env, State, drawing, layerNames, roomFor, layerValue, onLayerNames}
+use Rattle.rules.specs.LineByLine.{stepIn}
 use Rattle.rules.specs.RecordTable.{numbers, padded, start, layerRecord}
 use Rattle.rules.proofs.Chains.{unless-got, then-got, map-append}
 use Rattle.entries.specs.Names.{namesIn}

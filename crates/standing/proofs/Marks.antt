@@ -7,26 +7,26 @@ use mathlib.Core.Path.{_≡_, refl, ap, sym, _∙_}
 use lib.ListN.{length, getD, set}
 use Rattle.rules.specs.Base.{isSome}
 use Rattle.rules.specs.Values.{Value}
-use Rattle.rules.specs.Rows.{Rule, Slots, blank, marks}
+use Rattle.rules.specs.Rows.{Rule, Slots, blank, rowsThere}
 use Rattle.rules.specs.declared.Digits.{Digits}
 use Rattle.rules.specs.RangeClass.{digits, reaches}
 use Rattle.rules.proofs.Chains.{clash}
 use Rattle.rules.proofs.Rows.{reaches-none}
 
 -- a slot entered is a mark set
-pub marks-set : (o : Slots) (j : ℕ) (v : Value) → marks (set o j (some v)) ≡ set (marks o) j true
+pub marks-set : (o : Slots) (j : ℕ) (v : Value) → rowsThere (set o j (some v)) ≡ set (rowsThere o) j true
 marks-set [] j v = refl
 marks-set (x ∷ o) zero v = refl
 marks-set (x ∷ o) (suc j) v = ap (λ (s : List Bool). isSome x ∷ s) (marks-set o j v)
 
 -- a row without a mark has an empty slot
-pub mark-free : (o : Slots) (j : ℕ) → getD (marks o) j false ≡ false → getD o j none ≡ none
+pub mark-free : (o : Slots) (j : ℕ) → getD (rowsThere o) j false ≡ false → getD o j none ≡ none
 mark-free [] j e = refl
 mark-free (none ∷ o) zero e = refl
 mark-free (some v ∷ o) zero e = clash refl e
 mark-free (x ∷ o) (suc j) e = mark-free o j e
 
-pub marks-length : (o : Slots) → length (marks o) ≡ length o
+pub marks-length : (o : Slots) → length (rowsThere o) ≡ length o
 marks-length [] = refl
 marks-length (x ∷ o) = ap suc (marks-length o)
 

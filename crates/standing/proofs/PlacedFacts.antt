@@ -12,7 +12,7 @@ use Rattle.rules.specs.Base.{all, split, isSome}
 use Rattle.rules.specs.RefusalNumbers.{Got, got, bad, unless, mapG, keep, orBad}
 use Rattle.rules.specs.Lines.{Shape, opener, noContent, content, opening, formless}
 use Rattle.rules.specs.Values.{Num, Value, empty, nums, chars, linked, Known, byteIn, lettersAndDigits, capital, Kind, values, text, word, volumeName, sheet, ratio, serials, nothing, opens, headed, either, range, readPart, readAll, readRatio, findSheet, sheets, agree, readKind, serialsOf}
-use Rattle.rules.specs.Rows.{Rule, Slots, blank, Held, partOf, marks, slotValue, entry, begin, innerOf, readShape, complete}
+use Rattle.rules.specs.Rows.{Rule, Slots, blank, Held, partOf, rowsThere, slotValue, entry, begin, innerOf, readShape, complete}
 use Rattle.rules.specs.RangeClass.{digits, reaches}
 use Rattle.rules.specs.Figures.{placing, placedTable, textTable, placedTables}
 use Rattle.rules.specs.RecordTable.{ruleAt}
@@ -126,7 +126,7 @@ unfolding placedTable
 symbol-rule = (refl, refl, refl)
 
 -- a placed symbol that closes has it
-pub must-symbol : (g : Digits) (o : Slots) → length o ≡ 6 → complete g placedTable (marks o) ≡ true → isSome (getD o 0 none) ≡ true
+pub must-symbol : (g : Digits) (o : Slots) → length o ≡ 6 → complete g placedTable (rowsThere o) ≡ true → isSome (getD o 0 none) ≡ true
 unfolding placedTable
 must-symbol g [] h e = absurd (omega (arith, h))
 must-symbol g (a ∷ o) h e = must-row g a (and-left (not (reaches g (digits 0 0)) || isSome a) _ e)
@@ -161,7 +161,7 @@ pub begin-inner : innerOf (ruleAt placedTable 1 .holds) ≡ 1
 unfolding placedTable
 begin-inner = refl
 
-pub blank-marks : (n : ℕ) → n ≡ 2 → replicate n false ≡ marks (blank (textTable true 16 24))
+pub blank-marks : (n : ℕ) → n ≡ 2 → replicate n false ≡ rowsThere (blank (textTable true 16 24))
 unfolding textTable
 blank-marks n e = ap (λ (m : ℕ). replicate m false) e
 

@@ -18,10 +18,12 @@ use Rattle.rules.specs.RangeClass.{digitsOf}
 use Rattle.rules.specs.Lines.{Rest, keyed}
 use Rattle.rules.specs.Values.{Known, Value, linked, notNegative, aboveZero, angle, decimal, symbolName, nothingMore, Kind, serials, readKind}
 use Rattle.rules.specs.Values.{serialsOf as numbersOf}
-use Rattle.rules.specs.Rows.{Rule, found, find, Slots, Held, partOf, enter, marks, slotValue, shapeFor, innerOf, Act, stay, entry, begin, shut, refuse, actRow, actFound, act}
+use Rattle.rules.specs.Rows.{Rule, found, find, Slots, Held, partOf, enter, rowsThere, slotValue, shapeFor, innerOf, Act, stay, entry, begin, shut, refuse, actRow, actFound, act}
 use Rattle.rules.specs.Figures.{placedTable, placedTables}
 use Rattle.rules.specs.Sets.{Figure, ownSerial, Set, rangeOf, knownOf}
-use Rattle.rules.specs.Machine.{Line, Env, inLayer, State, placing, byAct, noneOf, newSerial, onPlaced, stepIn}
+use Rattle.rules.specs.Machine.{Line, Env, inLayer, State, placing, byAct}
+use Rattle.rules.specs.PlacedSymbol.{noneOf, newSerial, onPlaced}
+use Rattle.rules.specs.LineByLine.{stepIn}
 use Rattle.rules.specs.RecordTable.{ruleAt, putHeld}
 use Rattle.rules.proofs.Chains.{clash}
 use Rattle.rules.proofs.Rows.{found-row, row-at, row-below, row-did}
@@ -64,7 +66,7 @@ module _ (c : Digits) (spool : List ℕ) (k : ℕ) (FileHere : Desk → Set → 
   st = placing s m fs n o 0
 
   abbrev full : List Bool
-  full = marks (partOf o 0)
+  full = rowsThere (partOf o 0)
 
   inp : InPlaced spool k (d .now) (d .marks) (d .inner) s m fs o 0
   inp = z .block .1
@@ -82,9 +84,9 @@ module _ (c : Digits) (spool : List ℕ) (k : ℕ) (FileHere : Desk → Set → 
   six = inp .shaped .1 ∙ placed-rows-six
 
   -- ── what a row's line leaves ──
-  marked-more : (i : ℕ) (v : Value) → i < 6 → take 6 (set (d .marks) i true) ≡ marks (partOf (enter o 0 i v) 0)
+  marked-more : (i : ℕ) (v : Value) → i < 6 → take 6 (set (d .marks) i true) ≡ rowsThere (partOf (enter o 0 i v) 0)
   marked-more i v h =
-      take-set-lt 6 (d .marks) i true h ∙ ap (λ (b : List Bool). set b i true) (inp .marked) ∙ sym (marks-set (partOf o 0) i v) ∙ ap marks (sym (enter-own o 0 i v (inp .shaped .0)))
+      take-set-lt 6 (d .marks) i true h ∙ ap (λ (b : List Bool). set b i true) (inp .marked) ∙ sym (marks-set (partOf o 0) i v) ∙ ap rowsThere (sym (enter-own o 0 i v (inp .shaped .0)))
 
   -- the other rows stay
   other-slot : (i q : ℕ) (v : Value) → (q ≡ i → ⊥) → getD (partOf (enter o 0 i v) 0) q none ≡ getD (partOf o 0) q none
@@ -373,7 +375,7 @@ module _ (c : Digits) (spool : List ℕ) (k : ℕ) (FileHere : Desk → Set → 
                   parts = omega arith;
                   shaped = shaped-enter placedTables 0 o 0 j v (inp .shaped);
                   marked = marked-more j v below;
-                  inner = λ t. blank-marks (length (d .inner)) (z .lengths .inner) ∙ ap marks (sym (text-kept j v ∙ inp .unopened free));
+                  inner = λ t. blank-marks (length (d .inner)) (z .lengths .inner) ∙ ap rowsThere (sym (text-kept j v ∙ inp .unopened free));
                   unopened = λ t. clash t there;
                   opened = λ t. there;
                 })),

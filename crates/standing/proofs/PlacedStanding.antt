@@ -15,10 +15,12 @@ use Rattle.rules.specs.RefusalNumbers.{Got, got, bad, unless}
 use Rattle.rules.specs.RangeClass.{digitsOf, reaches, exceeds, both, Skip, passes, deeper, noForm, skipOf}
 use Rattle.rules.specs.Lines.{Rest, Form, ignored, wrong, close, eof, keyed, formIn, shapeOf, hasForm}
 use Rattle.rules.specs.Values.{Known}
-use Rattle.rules.specs.Rows.{Rule, Found, absent, found, find, Held, partOf, marks, shut, refuse, orRefuse, actRow, actUnknown, complete}
+use Rattle.rules.specs.Rows.{Rule, Found, absent, found, find, Held, partOf, rowsThere, shut, refuse, orRefuse, actRow, actUnknown, complete}
 use Rattle.rules.specs.Figures.{placedTable, placedTables}
 use Rattle.rules.specs.Sets.{Figure, placed, figureSerial, Set, rangeOf, knownOf, serialsIn}
-use Rattle.rules.specs.Machine.{Line, Env, inLayer, State, figures, placing, skipping, byAct, bySkip, skipDeeper, onUnknown, onPlaced, onPlacedKey, onPlacedOwn, stepIn}
+use Rattle.rules.specs.Machine.{Line, Env, inLayer, State, figures, placing, skipping, byAct}
+use Rattle.rules.specs.PlacedSymbol.{bySkip, skipDeeper, onUnknown, onPlaced, onPlacedKey, onPlacedOwn}
+use Rattle.rules.specs.LineByLine.{stepIn}
 use Rattle.rules.specs.RecordTable.{putHeld, markUnread, placedRecord}
 use Rattle.tables.specs.Tables.{tableOf}
 use Rattle.entries.specs.Names.{knownIn}
@@ -113,7 +115,7 @@ module _ (c : Digits) (spool : List ℕ) (k : ℕ) (FileHere : Desk → Set → 
     -- ── the closing line ──
     module _ (shut-so : l .form ≡ close) where
       abbrev there : Bool
-      there = complete (both (e .class) (rangeOf s)) placedTable (marks (partOf o 0))
+      there = complete (both (e .class) (rangeOf s)) placedTable (rowsThere (partOf o 0))
 
       whole : isWhole c range₀ (d .marks) ≡ there
       whole =
@@ -164,10 +166,10 @@ module _ (c : Digits) (spool : List ℕ) (k : ℕ) (FileHere : Desk → Set → 
       on-key key rest (found j q) a b v = go (reaches c (q .least)) refl v
         where
           reached : (i : Bool) → reaches c (q .least) ≡ i
-              → stepIn e l st ≡ cond i (onPlaced s m fs n o 0 (actRow (knownOf s) (rangeOf s) (getD (marks (partOf o 0)) j false) j q rest)) (onUnknown e s m fs n o key rest)
+              → stepIn e l st ≡ cond i (onPlaced s m fs n o 0 (actRow (knownOf s) (rangeOf s) (getD (rowsThere (partOf o 0)) j false) j q rest)) (onUnknown e s m fs n o key rest)
           reached i g =
               ap (onPlacedOwn e s m fs n o) a ∙ ap (onPlacedKey e s m fs n o key rest) b
-              ∙ ap (λ (t : Bool). cond t (onPlaced s m fs n o 0 (actRow (knownOf s) (rangeOf s) (getD (marks (partOf o 0)) j false) j q rest)) (onUnknown e s m fs n o key rest))
+              ∙ ap (λ (t : Bool). cond t (onPlaced s m fs n o 0 (actRow (knownOf s) (rangeOf s) (getD (rowsThere (partOf o 0)) j false) j q rest)) (onUnknown e s m fs n o key rest))
               (ap (λ (t : Digits). reaches t (q .least)) (u .class) ∙ g)
 
           go : (i : Bool) → reaches c (q .least) ≡ i → FoundLine known₀ c range₀ (d .now) (lentOf d) x₁ rec₀ rec₁ r (skippedAs (skipOf key rest)) rest j q i → Out r
@@ -178,9 +180,9 @@ module _ (c : Digits) (spool : List ℕ) (k : ℕ) (FileHere : Desk → Set → 
       on-form ignored a v = subst Out (sym (v .0)) (st, ap (onPlacedOwn e s m fs n o) a, as-before (v .1) (v .2))
       on-form (wrong i) a v = subst Out (sym v) (ap (onPlacedOwn e s m fs n o) a)
       on-form close a v =
-          let b : isWhole c range₀ (d .marks) ≡ complete (both (e .class) (rangeOf s)) placedTable (marks (partOf o 0)) = whole a in
+          let b : isWhole c range₀ (d .marks) ≡ complete (both (e .class) (rangeOf s)) placedTable (rowsThere (partOf o 0)) = whole a in
           subst Out (sym (v .0 .answer ∙ ap (λ (t : Bool). cond t (S.Go (figureDone (d .now))) (S.Stop 8)) b))
-          (on-close a (complete (both (e .class) (rangeOf s)) placedTable (marks (partOf o 0))) refl (v .1) (λ t. v .0 .rec (b ∙ t)))
+          (on-close a (complete (both (e .class) (rangeOf s)) placedTable (rowsThere (partOf o 0))) refl (v .1) (λ t. v .0 .rec (b ∙ t)))
       on-form eof a v = subst Out (sym v) (ap (onPlacedOwn e s m fs n o) a)
       on-form (keyed key rest) a v =
           on-key key rest (find key placedTable) a refl

@@ -12,7 +12,7 @@ use Rattle.rules.specs.Base.{all, flat}
 use Rattle.rules.specs.RangeClass.{digitsOf}
 use Rattle.rules.specs.Values.{Value}
 use Rattle.rules.specs.Values.{serialsOf as numbersOf}
-use Rattle.rules.specs.Rows.{Rule, Held, partOf, enter, marks, slotValue}
+use Rattle.rules.specs.Rows.{Rule, Held, partOf, enter, rowsThere, slotValue}
 use Rattle.rules.specs.Figures.{placedTables}
 use Rattle.rules.specs.Sets.{Figure, ownSerial, Set, rangeOf}
 use Rattle.rules.specs.Machine.{inLayer, State, placing}
@@ -81,7 +81,7 @@ module _ (c : Digits) (spool : List ℕ) (k : ℕ) (FileHere : Desk → Set → 
       (laid-change (d .table) fore (putHeld placedTables o begun) [] (d .now .free) place (z .laid) at-place long u′ h)
 
   -- a line of the part q entered
-  pub record-entered : (q j : ℕ) (v : Value) (u : List ℤ) → q < 2 → Taken (getD placedTables q []) (marks (partOf o q)) j v → all housed (getD placedTables q []) ≡ true
+  pub record-entered : (q j : ℕ) (v : Value) (u : List ℤ) → q < 2 → Taken (getD placedTables q []) (rowsThere (partOf o q)) j v → all housed (getD placedTables q []) ≡ true
       → u ≡ putLine (ruleAt (getD placedTables q []) j) 0 v (partAt place (d .table)) → u ≡ putHeld placedTables (enter o q j v) begun
   record-entered q j v u h w r e =
       let t : List Rule = getD placedTables q [] in

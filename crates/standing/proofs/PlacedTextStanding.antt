@@ -15,10 +15,11 @@ use Rattle.rules.specs.RefusalNumbers.{got, unless}
 use Rattle.rules.specs.RangeClass.{digits}
 use Rattle.rules.specs.Lines.{formIn}
 use Rattle.rules.specs.Values.{Known, Value, serialsOf}
-use Rattle.rules.specs.Rows.{Rule, Slots, Held, partOf, enter, marks, shapeFor, Act, stay, entry, begin, shut, refuse, act}
+use Rattle.rules.specs.Rows.{Rule, Slots, Held, partOf, enter, rowsThere, shapeFor, Act, stay, entry, begin, shut, refuse, act}
 use Rattle.rules.specs.Figures.{textTable, placedTables}
 use Rattle.rules.specs.Sets.{Figure, Set, knownOf, ownSerial}
-use Rattle.rules.specs.Machine.{Line, Env, inLayer, State, placing, byAct, noneOf}
+use Rattle.rules.specs.Machine.{Line, Env, inLayer, State, placing, byAct}
+use Rattle.rules.specs.PlacedSymbol.{noneOf}
 use Rattle.rules.specs.RecordTable.{ruleAt, putHeld}
 use Rattle.rules.proofs.Chains.{clash}
 use Rattle.rules.proofs.Rows.{row-all}
@@ -51,7 +52,7 @@ module _ (c : Digits) (spool : List ℕ) (k : ℕ) (FileHere : Desk → Set → 
   rows = textTable true 16 24
 
   abbrev did : Act
-  did = act (knownOf s) rows (digits 0 0) (marks (partOf o 1)) (l .form)
+  did = act (knownOf s) rows (digits 0 0) (rowsThere (partOf o 1)) (l .form)
 
   inp : InPlaced spool k (d .now) (d .marks) (d .inner) s m fs o 1
   inp = z .block .1
@@ -65,7 +66,7 @@ module _ (c : Digits) (spool : List ℕ) (k : ℕ) (FileHere : Desk → Set → 
       ap (λ (y : Known). act y (tableOf 19) (digits 0 0) (d .inner) (formIn spool form)) (known c spool k FileHere d at to st st z refl)
       ∙ ap (λ (y : List Rule). act (knownOf s) y (digits 0 0) (d .inner) (formIn spool form)) text-rows
       ∙ ap (λ (y : List Bool). act (knownOf s) rows (digits 0 0) y (formIn spool form)) (inp .inner refl)
-      ∙ ap (act (knownOf s) rows (digits 0 0) (marks (partOf o 1))) (sym (x .is))
+      ∙ ap (act (knownOf s) rows (digits 0 0) (rowsThere (partOf o 1))) (sym (x .is))
 
   later : at ≤ to
   later = omega (arith, x .bytes)
@@ -104,8 +105,8 @@ module _ (c : Digits) (spool : List ℕ) (k : ℕ) (FileHere : Desk → Set → 
     -- one of its two lines
     on-entry : (j : ℕ) (v : Value) → did ≡ entry j v → is ≡ set (d .inner) j true → rec₁ ≡ putLine (ruleAt (tableOf 19) j) 0 v rec₀ → Out (S.Go (d .now))
     on-entry j v a i q =
-        let taken : Taken rows (marks (partOf o 1)) j v = entry-taken (knownOf s) rows (digits 0 0) (marks (partOf o 1)) (l .form) j v a in
-        let f : From (knownOf s) rows (digits 0 0) (marks (partOf o 1)) (l .form) j (entry j v) = entry-from (knownOf s) rows (digits 0 0) (marks (partOf o 1)) (l .form) j v a in
+        let taken : Taken rows (rowsThere (partOf o 1)) j v = entry-taken (knownOf s) rows (digits 0 0) (rowsThere (partOf o 1)) (l .form) j v a in
+        let f : From (knownOf s) rows (digits 0 0) (rowsThere (partOf o 1)) (l .form) j (entry j v) = entry-from (knownOf s) rows (digits 0 0) (rowsThere (partOf o 1)) (l .form) j v a in
         let plain : serialsOf v ≡ [] =
         entry-plain (knownOf s) j j (f .rule) (shapeFor (f .rule) (f .rest)) v (not-true (isSerials (f .rule .holds)) (row-all (λ r. not (isSerials (r .holds))) (f .row) text-rule)) (f .did .read) in
         let o′ : Held = enter o 1 j v in
@@ -122,15 +123,15 @@ module _ (c : Digits) (spool : List ℕ) (k : ℕ) (FileHere : Desk → Set → 
                 part = inp .part;
                 parts = inp .parts;
                 shaped = shaped-enter placedTables 0 o 1 j v (inp .shaped);
-                marked = inp .marked ∙ ap marks (sym own);
-                inner = λ y. i ∙ ap (λ (b : List Bool). set b j true) (inp .inner refl) ∙ sym (marks-set (partOf o 1) j v) ∙ ap marks (sym (enter-own o 1 j v (inp .shaped .2 .0)));
+                marked = inp .marked ∙ ap rowsThere (sym own);
+                inner = λ y. i ∙ ap (λ (b : List Bool). set b j true) (inp .inner refl) ∙ sym (marks-set (partOf o 1) j v) ∙ ap rowsThere (sym (enter-own o 1 j v (inp .shaped .2 .0)));
                 unopened = λ y. clash (ap (λ (b : Slots). isNone (first b)) (sym own) ∙ y) (inp .opened refl);
                 opened = λ y. ap (λ (b : Slots). isNone (first b)) own ∙ inp .opened refl;
               }),
         )
 
     on-begin : (i j : ℕ) (v : Value) → did ≡ begin i j v → Out (S.Stop 5)
-    on-begin i j v a = clash (ap isBegin a) (no-begin (knownOf s) rows (digits 0 0) (marks (partOf o 1)) (l .form) plain-text)
+    on-begin i j v a = clash (ap isBegin a) (no-begin (knownOf s) rows (digits 0 0) (rowsThere (partOf o 1)) (l .form) plain-text)
 
     -- its end: the placed symbol is open again
     on-shut : did ≡ shut → is ≡ d .inner → rec₁ ≡ rec₀ → Out (S.Go (atBlock (d .now) 11 0))

@@ -14,7 +14,7 @@ use Rattle.rules.specs.Base.{all}
 use Rattle.rules.specs.RangeClass.{digits}
 use Rattle.rules.specs.Lines.{Form}
 use Rattle.rules.specs.Values.{Known, Value, nums, numsOf}
-use Rattle.rules.specs.Rows.{Rule, fullAt, entry, act}
+use Rattle.rules.specs.Rows.{Rule, rowsAtLimit, entry, act}
 use Rattle.rules.specs.Figures.{pointTable}
 use Rattle.rules.specs.RecordTable.{numbers, ruleAt, start, putSlot}
 use Rattle.rules.proofs.Rows.{row-at}
@@ -58,30 +58,30 @@ pub values-row : (b : Bool) → (isValues (ruleAt (pointTable b) 0 .holds) ≡ t
 unfolding pointTable
 values-row b = (refl, refl)
 
-pub full-row : (b : Bool) (n : ℕ) → getD (fullAt n (pointTable b)) 0 false ≡ leb 100 n
+pub full-row : (b : Bool) (n : ℕ) → getD (rowsAtLimit n (pointTable b)) 0 false ≡ leb 100 n
 unfolding pointTable
 full-row b n = refl
 
 -- ── a line ──
 -- count: how many points there are already
-module _ (b : Bool) (known : Known) (count : ℕ) (f : Form) (j : ℕ) (v : Value) (a : act known (pointTable b) (digits 0 0) (fullAt count (pointTable b)) f ≡ entry j v) where
+module _ (b : Bool) (known : Known) (count : ℕ) (f : Form) (j : ℕ) (v : Value) (a : act known (pointTable b) (digits 0 0) (rowsAtLimit count (pointTable b)) f ≡ entry j v) where
   abbrev rows : List Rule
   rows = pointTable b
 
-  point-taken : Taken rows (fullAt count rows) j v
-  point-taken = entry-taken known rows (digits 0 0) (fullAt count rows) f j v a
+  point-taken : Taken rows (rowsAtLimit count rows) j v
+  point-taken = entry-taken known rows (digits 0 0) (rowsAtLimit count rows) f j v a
 
   point-first : j ≡ 0
   point-first = omega (arith, point-taken .row, one-row b)
 
   pub point-few : count < 100
-  point-few = leb-false 100 count (sym (full-row b count) ∙ ap (λ (i : ℕ). getD (fullAt count rows) i false) (sym point-first) ∙ point-taken .free)
+  point-few = leb-false 100 count (sym (full-row b count) ∙ ap (λ (i : ℕ). getD (rowsAtLimit count rows) i false) (sym point-first) ∙ point-taken .free)
 
   point-nums : v ≡ nums (numsOf v)
   point-nums =
-      let g = entry-from known rows (digits 0 0) (fullAt count rows) f j v a in
+      let g = entry-from known rows (digits 0 0) (rowsAtLimit count rows) f j v a in
       let q : ruleAt rows 0 ≡ g .rule = ap (ruleAt rows) (sym point-first) ∙ row-at (g .row) _ in
-      entry-nums known rows (digits 0 0) (fullAt count rows) f j v g (subst (λ (r : Rule). isValues (r .holds) ≡ true) q (values-row b .0)) (subst (λ (r : Rule). r .may ≡ false) q (values-row b .1))
+      entry-nums known rows (digits 0 0) (rowsAtLimit count rows) f j v g (subst (λ (r : Rule). isValues (r .holds) ≡ true) q (values-row b .0)) (subst (λ (r : Rule). r .may ≡ false) q (values-row b .1))
 
   module _ (t : List ℤ) (rs : List (List ℤ)) (n : Now) (l : Laid t rs (n .free)) (room : n .free + 32 ≤ length t) (w : Where) (kind owner volume line : ℕ)
       (ow : n .owner ≡ owner) (vo : w .volume ≡ volume) (li : w .line ≡ line) where

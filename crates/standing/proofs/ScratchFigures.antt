@@ -13,7 +13,7 @@ use Rattle.rules.specs.declared.LineForm.{LineForm}
 use Rattle.rules.specs.Lines.{formIn}
 use Rattle.rules.specs.RangeClass.{digits, digitsOf}
 use Rattle.rules.specs.Values.{Value, amountAt}
-use Rattle.rules.specs.Rows.{Rule, fullAt, Act, stay, entry, begin, shut, refuse, act}
+use Rattle.rules.specs.Rows.{Rule, rowsAtLimit, Act, stay, entry, begin, shut, refuse, act}
 use Rattle.rules.specs.RecordTable.{ruleAt}
 use Rattle.rules.specs.Figures.{leastPoints}
 use Rattle.rules.proofs.Chains.{clash, and-false}
@@ -192,7 +192,7 @@ module _ (spool : List ℕ) (form : LineForm) (n : Now) (tally symbols layers : 
     chain-by false e (refuse k) y = chain-refuse k y
 
     abbrev chainAct : Act
-    chainAct = act (knownIn spool names ids) (tableOf (pointTableOf (n .layered))) (digits 0 0) (fullAt (n .points) (tableOf (pointTableOf (n .layered)))) (formIn spool form)
+    chainAct = act (knownIn spool names ids) (tableOf (pointTableOf (n .layered))) (digits 0 0) (rowsAtLimit (n .points) (tableOf (pointTableOf (n .layered)))) (formIn spool form)
 
     pub chain-moved : OnChain spool form n′ tally symbols layers 32 w t t₁ r → Moved (λ u x. OnChain spool form n tally symbols layers (chainPlace n) w table u x) (length table) t₁ (putBack n f r)
     chain-moved y = chain-by (hasRoom (n .free) table) refl chainAct (subst (λ (c : Bool). ChainLine (taking c chainAct) n′ 32 w t t₁ r) (room-same n f t table long room) y)
@@ -257,7 +257,7 @@ module _ (spool : List ℕ) (form : LineForm) (n : Now) (tally symbols layers : 
     hide-by false e (refuse k) y = hide-refuse k y
 
     abbrev hideAct : Act
-    hideAct = act (knownIn spool names ids) (tableOf 15) (digits 0 0) (fullAt (n .points) (tableOf 15)) (formIn spool form)
+    hideAct = act (knownIn spool names ids) (tableOf 15) (digits 0 0) (rowsAtLimit (n .points) (tableOf 15)) (formIn spool form)
 
     pub hide-moved : OnHide spool form n′ tally symbols layers w t t₁ r → Moved (λ u x. OnHide spool form n tally symbols layers w table u x) (length table) t₁ (putBack n f r)
     hide-moved y = hide-by (hasRoom (n .free) table) refl hideAct (subst (λ (c : Bool). HideLine (taking c hideAct) n′ w t t₁ r) (room-same n f t table long room) y)

@@ -15,7 +15,7 @@ use Rattle.rules.specs.Base.{all, flat, isSome}
 use Rattle.rules.specs.RangeClass.{digits, reaches}
 use Rattle.rules.specs.Lines.{span}
 use Rattle.rules.specs.Values.{Value, empty, nums, chars, linked, word, lettersAndDigits, charsOf}
-use Rattle.rules.specs.Rows.{Slots, marks, slotValue, innerOf, complete}
+use Rattle.rules.specs.Rows.{Slots, rowsThere, slotValue, innerOf, complete}
 use Rattle.rules.specs.Blocks.{symbolTable}
 use Rattle.rules.specs.Figures.{figureTable}
 use Rattle.rules.specs.Sets.{Symbol, symbolNameOf, symbolOrder}
@@ -131,7 +131,7 @@ named-below rec at len h a b =
     ap (λ (y : ℤ). isPlace y && isPlace (getD rec 6 (pos 0))) (h .0) ∙ ap (λ (y : ℤ). ltb at 65536 && isPlace y) (h .1) ∙ ap (λ (y : Bool). y && ltb len 65536) (lt-ltb at 65536 a) ∙ lt-ltb len 65536 b
 
 -- a symbol that closes has a name, `element` and `hide`
-pub must-hold : (g : Digits) (o : Slots) → length o ≡ 4 → complete g symbolTable (marks o) ≡ true
+pub must-hold : (g : Digits) (o : Slots) → length o ≡ 4 → complete g symbolTable (rowsThere o) ≡ true
     → (isSome (getD o 0 none) ≡ true) × (isSome (getD o 1 none) ≡ true) × (isSome (getD o 2 none) ≡ true)
 unfolding symbolTable
 must-hold g [] h e = absurd (omega (arith, h))

@@ -18,7 +18,7 @@ use Rattle.rules.specs.RefusalNumbers.{got, unless}
 use Rattle.rules.specs.RangeClass.{digitsOf}
 use Rattle.rules.specs.Lines.{close, span, bytesAt, formIn}
 use Rattle.rules.specs.Values.{Known, Value, chars, lettersAndDigits, charsOf}
-use Rattle.rules.specs.Rows.{Rule, Held, Slots, marks, slotValue, Act, stay, entry, begin, shut, refuse, complete, act}
+use Rattle.rules.specs.Rows.{Rule, Held, Slots, rowsThere, slotValue, Act, stay, entry, begin, shut, refuse, complete, act}
 use Rattle.rules.specs.Blocks.{symbolTable}
 use Rattle.rules.specs.Sets.{Symbol, Set, knownOf, defineRange, symbolNameOf, symbolOwn, symbolOrder, withSymbol}
 use Rattle.rules.specs.Machine.{Line, Env, inElement, State, defines, symbol, hide, figures, byAct, newName, openSymbol}
@@ -84,7 +84,7 @@ module _ (c : Digits) (spool : List ℕ) (short : length spool ≤ 61440) (k : �
   st = symbol s y
 
   abbrev full : List Bool
-  full = marks (y .own)
+  full = rowsThere (y .own)
 
   abbrev did : Act
   did = act (knownOf s) symbolTable (digitsOf (defineRange s)) full (l .form)
@@ -166,7 +166,7 @@ module _ (c : Digits) (spool : List ℕ) (short : length spool ≤ 61440) (k : �
           (laid-change (d .table) (frontRecords s) (ownRecord n y) (innerRecords n y) (d .now .free) (d .now .own) (z .laid) (sym (iny .own)) (length-slots symbolTable (y .own) base) (ownRecord n y′)
           (length-slots symbolTable own′ base))
 
-      marked′ : take 4 m₁ ≡ marks own′
+      marked′ : take 4 m₁ ≡ rowsThere own′
       marked′ = ap (take 4) qm ∙ take-set-lt 4 (d .marks) j true row ∙ ap (λ (b : List Bool). set b j true) (iny .marked) ∙ sym (marks-set (y .own) j v)
 
       long-marks : length m₁ ≡ 28

@@ -13,7 +13,7 @@ use Rattle.rules.specs.Base.{all, flat}
 use Rattle.rules.specs.RangeClass.{digits}
 use Rattle.rules.specs.Lines.{formIn}
 use Rattle.rules.specs.Values.{Known, Value}
-use Rattle.rules.specs.Rows.{Rule, Slots, Held, marks, Act, stay, entry, begin, shut, refuse, act}
+use Rattle.rules.specs.Rows.{Rule, Slots, Held, rowsThere, Act, stay, entry, begin, shut, refuse, act}
 use Rattle.rules.specs.Figures.{textTable}
 use Rattle.rules.specs.Sets.{Figure, lettering, Set, knownOf}
 use Rattle.rules.specs.Machine.{Line, Env, Home, inElement, inLayer, isLayer, State, figures, texts, byAct}
@@ -78,7 +78,7 @@ text-length : (more owner volume line : ℕ) (o : Slots) → length (textRecord 
 text-length more owner volume line o = length-slots (textRows true) o (start (15 + more) owner volume line)
 
 -- one more line of it
-text-entry : (b : Bool) (o : Slots) (j : ℕ) (v : Value) (more owner volume line : ℕ) → length o ≡ 2 → Taken (textRows b) (marks o) j v
+text-entry : (b : Bool) (o : Slots) (j : ℕ) (v : Value) (more owner volume line : ℕ) → length o ≡ 2 → Taken (textRows b) (rowsThere o) j v
     → putLine (ruleAt (textRows b) j) 0 v (textRecord more owner volume line o) ≡ textRecord more owner volume line (set o j (some v))
 text-entry b o j v more owner volume line e k =
     let f : List ℤ = start (15 + more) owner volume line in
@@ -104,7 +104,7 @@ module _ (c : Digits) (spool : List ℕ) (k : ℕ) (FileHere : Desk → Set → 
   rows = textRows (isLayer h)
 
   abbrev did : Act
-  did = act (knownOf s) rows (digits 0 0) (marks o) (l .form)
+  did = act (knownOf s) rows (digits 0 0) (rowsThere o) (l .form)
 
   abbrev codeRows : List Rule
   codeRows = tableOf (textTableOf (d .now .layered))
@@ -124,7 +124,7 @@ module _ (c : Digits) (spool : List ℕ) (k : ℕ) (FileHere : Desk → Set → 
       ap (λ (m : Known). act m codeRows (digits 0 0) (d .inner) (formIn spool form)) (known c spool k FileHere d at to st st z refl)
       ∙ ap (λ (t : List Rule). act (knownOf s) t (digits 0 0) (d .inner) (formIn spool form)) the-rows
       ∙ ap (λ (m : List Bool). act (knownOf s) rows (digits 0 0) m (formIn spool form)) (z .block .4)
-      ∙ ap (act (knownOf s) rows (digits 0 0) (marks o)) (sym (x .is))
+      ∙ ap (act (knownOf s) rows (digits 0 0) (rowsThere o)) (sym (x .is))
 
   later : at ≤ to
   later = omega (arith, x .bytes)
@@ -171,7 +171,7 @@ module _ (c : Digits) (spool : List ℕ) (k : ℕ) (FileHere : Desk → Set → 
     on-entry j v a m q =
         let o′ : Slots = set o j (some v) in
         let st′ : State = texts s h fs n o′ in
-        let got-it : Taken rows (marks o) j v = entry-taken (knownOf s) rows (digits 0 0) (marks o) (l .form) j v a in
+        let got-it : Taken rows (rowsThere o) j v = entry-taken (knownOf s) rows (digits 0 0) (rowsThere o) (l .form) j v a in
         let made : rec₁ ≡ recordWith o′ =
         q ∙ ap (λ (y : List ℤ). putLine (ruleAt codeRows j) 0 v y) part-now ∙ ap (λ (y : List Rule). putLine (ruleAt y j) 0 v (recordWith o)) the-rows
         ∙ text-entry (isLayer h) o j v (homeMore h) (homeOwner s h) (homeVolume s h) n (z .block .3) got-it in (
@@ -189,7 +189,7 @@ module _ (c : Digits) (spool : List ℕ) (k : ℕ) (FileHere : Desk → Set → 
         )
 
     on-begin : (i j : ℕ) (v : Value) → did ≡ begin i j v → Out (S.Stop 5)
-    on-begin i j v a = clash (ap isBegin a) (no-begin (knownOf s) rows (digits 0 0) (marks o) (l .form) (plain-rows (isLayer h)))
+    on-begin i j v a = clash (ap isBegin a) (no-begin (knownOf s) rows (digits 0 0) (rowsThere o) (l .form) (plain-rows (isLayer h)))
 
     on-refuse : (m : ℕ) → did ≡ refuse m → Out (S.Stop m)
     on-refuse m a = ap (byAct _ _ _ _) a

@@ -16,12 +16,13 @@ use Rattle.rules.specs.RefusalNumbers.{Got, got, bad, unless}
 use Rattle.rules.specs.RangeClass.{digits}
 use Rattle.rules.specs.Lines.{Rest, Form, ignored, wrong, close, eof, keyed, formIn}
 use Rattle.rules.specs.Values.{Known}
-use Rattle.rules.specs.Rows.{Rule, blank, marks, fullAt, Act, stay, entry, begin, shut, refuse, act}
+use Rattle.rules.specs.Rows.{Rule, blank, rowsThere, rowsAtLimit, Act, stay, entry, begin, shut, refuse, act}
 use Rattle.rules.specs.Blocks.{topTable, fileTables, blankHeld, drawingTable}
 use Rattle.rules.specs.Sets.{Layer, Drawing, Contents, LayerBlock, Set, isFirst, withRecords, knownOf, serialsIn, serialsOfBlock, usedIn, rangeOf, isSingle}
 use Rattle.rules.specs.VolumesAndTotals.{allUsed, layersUsed, countedAll}
 use Rattle.rules.specs.Figures.{layerTable}
-use Rattle.rules.specs.Machine.{Line, Env, State, top, file, drawing, defines, elements, ended, roomFor, byAct, openTop, onTop, stepIn}
+use Rattle.rules.specs.Machine.{Line, Env, State, top, file, drawing, defines, elements, ended, roomFor, byAct, openTop, onTop}
+use Rattle.rules.specs.LineByLine.{stepIn}
 use Rattle.rules.specs.RecordTable.{start, drawingRecord, symbolRecords, blockRecords}
 use Rattle.rules.proofs.Chains.{and-left}
 use Rattle.tables.specs.Tables.{tableOf}
@@ -49,7 +50,7 @@ top-table : tableOf 0 ≡ topTable
 unfolding tableOf
 top-table = refl
 
-none-full : replicate 4 false ≡ fullAt 0 topTable
+none-full : replicate 4 false ≡ rowsAtLimit 0 topTable
 unfolding topTable
 none-full = refl
 
@@ -62,7 +63,7 @@ begun-drawing : (line : ℕ) → drawingRecord (record { line = line; own = blan
 unfolding drawingTable
 begun-drawing line = refl
 
-blank-drawing : (length (blank drawingTable) ≡ 8) × (take 8 (replicate 28 false) ≡ marks (blank drawingTable))
+blank-drawing : (length (blank drawingTable) ≡ 8) × (take 8 (replicate 28 false) ≡ rowsThere (blank drawingTable))
 unfolding drawingTable
 blank-drawing = (refl, refl)
 
@@ -355,7 +356,7 @@ module _ (c : Digits) (spool : List ℕ) (k : ℕ) (d : Desk) (at to : ℕ) (e :
     -- ── a line with a key ──
     module _ (key : List ℕ) (rest : Rest) (a : l .form ≡ keyed key rest) where
       abbrev did : Act
-      did = act (knownOf s) topTable (digits 0 0) (fullAt 0 topTable) (keyed key rest)
+      did = act (knownOf s) topTable (digits 0 0) (rowsAtLimit 0 topTable) (keyed key rest)
 
       abbrev judged : Act → Got State
       judged y = byAct st (λ j v. bad 5) (λ i j v. unless (eqb j m) 9 (openTop e l s j)) (λ _. bad 9) y
@@ -364,7 +365,7 @@ module _ (c : Digits) (spool : List ℕ) (k : ℕ) (d : Desk) (at to : ℕ) (e :
       by-act stay q y v = subst Out (sym (v .answer)) (on-stay (ap (onTop e l s m) a ∙ ap judged q) (v .lent))
       by-act (entry j o) q y v = subst Out (sym (v .answer)) (ap (onTop e l s m) a ∙ ap judged q)
       by-act (begin i j o) q y v =
-          on-begin j (omega (arith, begin-taken (knownOf s) topTable (digits 0 0) (fullAt 0 topTable) (keyed key rest) i j o q .row, four-rows)) (ap (onTop e l s m) a ∙ ap judged q) y v
+          on-begin j (omega (arith, begin-taken (knownOf s) topTable (digits 0 0) (rowsAtLimit 0 topTable) (keyed key rest) i j o q .row, four-rows)) (ap (onTop e l s m) a ∙ ap judged q) y v
       by-act shut q y v = subst Out (sym (v .answer)) (ap (onTop e l s m) a ∙ ap judged q)
       by-act (refuse n) q y v = subst Out (sym (v .answer)) (ap (onTop e l s m) a ∙ ap judged q)
 
@@ -372,7 +373,7 @@ module _ (c : Digits) (spool : List ℕ) (k : ℕ) (d : Desk) (at to : ℕ) (e :
     abbrev pub codeKnown : Known
     codeKnown = knownIn spool (take (getD (d .tally) 9 0) (d .symbols)) (take (getD (d .tally) 10 0) (d .layers))
 
-    top-act : (f : Form) → topAct codeKnown f ≡ act (knownOf s) topTable (digits 0 0) (fullAt 0 topTable) f
+    top-act : (f : Form) → topAct codeKnown f ≡ act (knownOf s) topTable (digits 0 0) (rowsAtLimit 0 topTable) f
     top-act f =
         ap (λ (y : Known). topAct y f) (known c spool k (InFile spool k) d at to st st z refl)
         ∙ ap (λ (t : List Rule). act (knownOf s) t (digits 0 0) (replicate 4 false) f) top-table
@@ -385,7 +386,7 @@ module _ (c : Digits) (spool : List ℕ) (k : ℕ) (d : Desk) (at to : ℕ) (e :
     by-form close a y v = subst Out (sym (v .answer)) (ap (onTop e l s m) a)
     by-form eof a y v = on-eof a y v
     by-form (keyed key rest) a y v =
-        by-act key rest a (act (knownOf s) topTable (digits 0 0) (fullAt 0 topTable) (keyed key rest)) refl y
+        by-act key rest a (act (knownOf s) topTable (digits 0 0) (rowsAtLimit 0 topTable) (keyed key rest)) refl y
         (subst (λ (o : Act). Answered (keyNow first (d .now) (d .table) o) (b ≡ keyLent first (d .now) w (lentOf d) o) y) (top-act (keyed key rest)) v)
 
     pub top-line : (r : Step)

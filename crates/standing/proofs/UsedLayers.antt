@@ -15,7 +15,7 @@ use Rattle.rules.specs.Base.{all, hasNumber, indexOf, mapO, same}
 use Rattle.rules.specs.RefusalNumbers.{got, orBad}
 use Rattle.rules.specs.Lines.{Form, Shape, opener, noContent, content, opening, formless}
 use Rattle.rules.specs.Values.{Num, num, Value, nums, Known, Kind, layerId, headed, natural, isLayerId, readPart, readKind, amountAt}
-use Rattle.rules.specs.Rows.{Rule, fullAt, shapeFor, fits, begin, innerOf, readShape, act}
+use Rattle.rules.specs.Rows.{Rule, rowsAtLimit, shapeFor, fits, begin, innerOf, readShape, act}
 use Rattle.rules.specs.Blocks.{elementTable}
 use Rattle.rules.proofs.Chains.{clash, or-true, map-got, map-some, none-some, or-got, unless-got}
 use Rattle.rules.proofs.Rows.{Row, row-at, row-below}
@@ -29,7 +29,7 @@ unfolding tableOf
 element-rows = refl
 
 -- "at most once a volume for each layer" is judged by the layers in use
-pub element-full : false ∷ [] ≡ fullAt 0 elementTable
+pub element-full : false ∷ [] ≡ rowsAtLimit 0 elementTable
 unfolding elementTable
 element-full = refl
 

@@ -10,7 +10,7 @@ use Rattle.rules.specs.declared.Digits.{Digits}
 use Rattle.rules.specs.Base.{total, isNil, headOnto, split}
 use Rattle.rules.specs.RefusalNumbers.{got, keep}
 use Rattle.rules.specs.Lines.{Form}
-use Rattle.rules.specs.Values.{Num, Value, nums, Known, Part, count, digit, kindOfLine, range, rangeOfSymbols, day, clock, decimal, symbolName, layerId, Across, Kind, values, readPart, readAll, agree, readKind}
+use Rattle.rules.specs.Values.{Num, Value, nums, Known, Part, count, digit, typeDigits, range, rangeOfSymbols, day, clock, decimal, symbolName, layerId, Across, Kind, values, readPart, readAll, agree, readKind}
 use Rattle.rules.specs.Rows.{Rule, entry}
 use Rattle.rules.proofs.Chains.{clash, never, map-got, keep-got, cons-got}
 use Rattle.standing.specs.Standing.{restSize}
@@ -42,7 +42,7 @@ split-size c (b ∷ s) = go (eqb b c) (split c s) (split-some c s) (split-size c
 abbrev pub leastBytes : Part → ℕ
 leastBytes count = 0
 leastBytes (digit lo hi) = 0
-leastBytes kindOfLine = 0
+leastBytes typeDigits = 0
 leastBytes (range lo hi) = 0
 leastBytes rangeOfSymbols = 0
 leastBytes day = 0
@@ -54,7 +54,7 @@ leastBytes layerId = 0
 part-size : (k : Known) (p : Part) (s : List ℕ) (n : Num) → readPart k p s ≡ got n → leastBytes p ≤ length s
 part-size k count s n e = omega arith
 part-size k (digit lo hi) s n e = omega arith
-part-size k kindOfLine s n e = omega arith
+part-size k typeDigits s n e = omega arith
 part-size k (range lo hi) s n e = omega arith
 part-size k rangeOfSymbols s n e = omega arith
 part-size k day s n e = omega arith

@@ -8,7 +8,7 @@ use lib.IntN.{ℤ}
 use lib.ListN.{length, getD, take}
 use Rattle.rules.specs.Lines.{span, bytesAt}
 use Rattle.rules.specs.Values.{Value, empty, nums, chars, linked, charsOf, capital}
-use Rattle.rules.specs.Rows.{Held, partOf, marks, slotValue, held, numberOf}
+use Rattle.rules.specs.Rows.{Held, partOf, rowsThere, slotValue, held, numberOf}
 use Rattle.rules.specs.Blocks.{laterTable, fileTables}
 use Rattle.rules.specs.Sets.{Set, isFirst}
 use Rattle.rules.specs.VolumesAndTotals.{ownTable}
@@ -40,7 +40,7 @@ pub record InFile (spool : List ℕ) (k : ℕ) (d : Desk) (s : Set) (n : ℕ) (h
   pub header : Header (d .header)
   pub shaped : Shaped 0 (fileTables (isFirst s)) h
   pub filled : take (fileWidth (isFirst s)) (d .header) ≡ putHeld (fileTables (isFirst s)) h (fileHead (isFirst s) k n)
-  pub marked : (q : ℕ) → q < length (fileTables (isFirst s)) → partMarks (isFirst s) q (d .marks) ≡ marks (partOf h q)
+  pub marked : (q : ℕ) → q < length (fileTables (isFirst s)) → partMarks (isFirst s) q (d .marks) ≡ rowsThere (partOf h q)
   pub next : charsOf (slotValue (held "next_file" (ownTable (isFirst s)) (partOf h 0))) ≡ map capital (bytesAt spool (span (countAt (d .header) 66) (countAt (d .header) 67)))
   pub date : isFirst s ≡ false → countAt (d .header) 68 ≡ numberOf "date" laterTable (partOf h 0)
   pub time : isFirst s ≡ false → countAt (d .header) 69 ≡ numberOf "time" laterTable (partOf h 0)

@@ -3,19 +3,17 @@ use Prim.Native.Nat.{ℕ, _+_, _≤_, _<_}
 use mathlib.Core.Bool.{Bool, true, false, cond}
 use lib.Dec.{eqb}
 use mathlib.Core.Path.{_≡_}
-use mathlib.Core.List.{List, [], _∷_, _++_}
+use mathlib.Core.List.{List, _++_}
 use lib.IntN.{ℤ}
 use lib.ListN.{length, getD, set}
 use Rattle.rules.specs.declared.Digits.{Digits}
 use Rattle.rules.specs.declared.LineForm.{LineForm}
-use Rattle.rules.specs.declared.Refusal.{Refusal}
 use Rattle.rules.specs.Base.{isNil}
 use Rattle.rules.specs.Lines.{Rest, brace, equals, Form, ignored, wrong, close, eof, keyed}
-use Rattle.rules.specs.Rows.{Held}
 use Rattle.rules.specs.Sets.{Set}
-use Rattle.rules.specs.Machine.{Line, Env, State, top, ended, Outcome, refused, run}
+use Rattle.rules.specs.Machine.{Line, Env, State, top, ended}
+use Rattle.rules.specs.LineByLine.{refused, run}
 use Rattle.rules.specs.Answers.{linesOfVolume}
-use Rattle.account.specs.declared.Now.{Now}
 use Rattle.account.specs.declared.Where.{Where}
 use Rattle.account.specs.declared.Step.{Step}
 use Rattle.account.specs.declared.Step.the-variants as S

@@ -1,18 +1,19 @@
 -- The records taken so far, in any state of the reading: what the table holds between two lines.
 use Prim.Native.Nat.{ℕ, zero, suc, _+_}
-use mathlib.Core.Bool.{Bool, true, false, cond}
+use mathlib.Core.Bool.{Bool, true, false}
 use mathlib.Core.List.{List, [], _∷_, _++_, map}
 use lib.IntN.{ℤ, pos}
 use lib.ListN.{length, replicate}
 use Rattle.rules.specs.declared.Digits.{Digits}
 use Rattle.rules.specs.Base.{flat}
 use Rattle.rules.specs.RangeClass.{digits}
-use Rattle.rules.specs.Rows.{Rule}
 use Rattle.rules.specs.Blocks.{symbolTable}
 use Rattle.rules.specs.Figures.{layerTable, figureTable, placedTables}
-use Rattle.rules.specs.Sets.{Point, Figure, Drawing, Symbol, Set, isFirst, rangeOf, isSingle}
-use Rattle.rules.specs.Machine.{Home, inElement, inLayer, State, top, file, drawing, layerNames, defines, symbol, hide, elements, figures, successive, texts, placing, skipping, ended}
-use Rattle.rules.specs.RecordTable.{putSlots, putHeld, start, fileRecords, drawingRecord, layerRecords, pointRecords, textRecord, figureRecords, innerRecords, symbolRecords, bodyRecords, recordsFrom}
+use Rattle.rules.specs.Sets.{Figure, Drawing, Symbol, Set, isFirst, rangeOf, isSingle}
+use Rattle.rules.specs.Machine.{Home, inElement, inLayer, State, top, file, drawing, layerNames, defines, symbol, hide, elements, figures, successive, texts}
+use Rattle.rules.specs.Machine.{placing, skipping, ended}
+use Rattle.rules.specs.RecordTable.{putSlots, putHeld, start, fileRecords, drawingRecord, layerRecords, pointRecords, textRecord, figureRecords, innerRecords}
+use Rattle.rules.specs.RecordTable.{symbolRecords, bodyRecords, recordsFrom}
 
 -- the number of the volume at hand
 abbrev pub volumeOf : Set → ℕ

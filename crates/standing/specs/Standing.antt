@@ -9,15 +9,18 @@ use lib.IntN.{ℤ}
 use lib.ListN.{length, getD, take}
 use Rattle.rules.specs.declared.Digits.{Digits}
 use Rattle.rules.specs.Base.{flat, total, hasNumber, isNil, isNone, isSome}
-use Rattle.rules.specs.RefusalNumbers.{Got, got, bad}
+use Rattle.rules.specs.RefusalNumbers.{got, bad}
 use Rattle.rules.specs.Lines.{Rest, brace, equals, Form, ignored, wrong, close, eof, keyed, span, bytesAt, formIn}
 use Rattle.rules.specs.Values.{Value, empty, nums, chars, linked}
-use Rattle.rules.specs.Rows.{Rule, Slots, blank, Held, partOf, marks, numberOf}
-use Rattle.rules.specs.Blocks.{fileTable, fileTables}
+use Rattle.rules.specs.Rows.{blank, Held, partOf, rowsThere, numberOf}
+use Rattle.rules.specs.Blocks.{fileTable}
 use Rattle.rules.specs.Figures.{textTable, placedTables}
-use Rattle.rules.specs.Sets.{Point, Figure, placed, Layer, Drawing, Symbol, Contents, Set, isFirst, firstContents, arcOf, symbolRange, defineRange, symbolNameOf, figureSerial, serialsOfVolume, serialsIn, elementsOf, usedIn}
+use Rattle.rules.specs.Sets.{Point, Figure, placed, Layer, Drawing, Symbol, Set, isFirst, firstContents, arcOf, symbolRange, defineRange, symbolNameOf}
+use Rattle.rules.specs.Sets.{figureSerial, serialsOfVolume, serialsIn, elementsOf, usedIn}
 use Rattle.rules.specs.VolumesAndTotals.{ownTable}
-use Rattle.rules.specs.Machine.{Line, Env, Home, inElement, inLayer, State, top, file, drawing, layerNames, defines, symbol, hide, elements, figures, successive, texts, placing, skipping, ended, newName, stepIn}
+use Rattle.rules.specs.Machine.{Line, Env, Home, inElement, inLayer, State, top, file, drawing, layerNames, defines, symbol, hide, elements, figures}
+use Rattle.rules.specs.Machine.{successive, texts, placing, skipping, ended, newName}
+use Rattle.rules.specs.LineByLine.{stepIn}
 use Rattle.rules.specs.RecordTable.{fileRecords}
 use Rattle.entries.specs.Names.{namesIn}
 use Rattle.rules.specs.declared.LineForm.{LineForm}
@@ -348,7 +351,7 @@ module _ (spool : List ℕ) (k : ℕ) (n : Now) (ms is : List Bool) where
     pub owner : n .owner ≡ length (s .symbols)
     pub own : n .own ≡ length (flat (frontRecords s))
     pub slots : length (y .own) ≡ 4
-    pub marked : take 4 ms ≡ marks (y .own)
+    pub marked : take 4 ms ≡ rowsThere (y .own)
     pub fresh : newName s y ≡ true
     pub name : CharsHere spool (getD (y .own) 0 none)
     pub is-text : isText (getD (y .own) 0 none) ≡ true
@@ -365,7 +368,7 @@ module _ (spool : List ℕ) (k : ℕ) (n : Now) (ms is : List Bool) where
     pub bare : Bare s
     pub own : n .own ≡ length (flat (fileRecords true 1 (s .now)))
     pub slots : length (w .own) ≡ 8
-    pub marked : take 8 ms ≡ marks (w .own)
+    pub marked : take 8 ms ≡ rowsThere (w .own)
 
   pub record InChain (s : Set) (h : Home) (fs : List Figure) (ps : List Point) : Type 0 where
     pub home : InHome s h
@@ -388,8 +391,8 @@ module _ (spool : List ℕ) (k : ℕ) (n : Now) (ms is : List Bool) where
     pub part : n .part ≡ p
     pub parts : p ≤ 1
     pub shaped : Shaped 0 placedTables o
-    pub marked : take 6 ms ≡ marks (partOf o 0)
-    pub inner : p ≡ 1 → is ≡ marks (partOf o 1)
+    pub marked : take 6 ms ≡ rowsThere (partOf o 0)
+    pub inner : p ≡ 1 → is ≡ rowsThere (partOf o 1)
     pub unopened : isNone (getD (partOf o 0) 1 none) ≡ true → partOf o 1 ≡ blank (textTable true 16 24)
     pub opened : p ≡ 1 → isNone (getD (partOf o 0) 1 none) ≡ false
 
@@ -406,7 +409,7 @@ module _ (c : Digits) (spool : List ℕ) (k : ℕ) (d : Desk) where
   Inside FileHere (elements s) = (d .now .block ≡ 7) × (k ≡ volumeOf s)
   Inside FileHere (figures s h fs) = (d .now .block ≡ 8) × InHome spool k (d .now) (d .marks) (d .inner) s h × (d .now .figures ≡ length fs)
   Inside FileHere (successive s h fs n ps) = (d .now .block ≡ 9) × InChain spool k (d .now) (d .marks) (d .inner) s h fs ps
-  Inside FileHere (texts s h fs n o) = (d .now .block ≡ 10) × InHome spool k (d .now) (d .marks) (d .inner) s h × (d .now .figures ≡ length fs) × (length o ≡ 2) × (d .inner ≡ marks o)
+  Inside FileHere (texts s h fs n o) = (d .now .block ≡ 10) × InHome spool k (d .now) (d .marks) (d .inner) s h × (d .now .figures ≡ length fs) × (length o ≡ 2) × (d .inner ≡ rowsThere o)
   Inside FileHere (placing s m fs n o p) = (d .now .block ≡ 11) × InPlaced spool k (d .now) (d .marks) (d .inner) s m fs o p
   Inside FileHere (skipping s m fs n o q) = ⊥
   Inside FileHere (ended s) = d .now .block ≡ 12

@@ -1,13 +1,13 @@
 -- A line has at least the bytes that its form tells of.
-use Prim.Native.Nat.{ℕ, zero, suc, _+_, _-_, _≤_}
-use mathlib.Core.Bool.{Bool, true, false, cond, _||_, _&&_}
+use Prim.Native.Nat.{ℕ, suc, _+_, _-_, _≤_}
+use mathlib.Core.Bool.{Bool, true, false, _||_, _&&_}
 use mathlib.Core.List.{List, [], _∷_}
-use mathlib.Core.Path.{_≡_, refl, sym, _∙_, ap, subst}
+use mathlib.Core.Path.{_≡_, ap}
 use native.Mathlib.Omega.{arith}
 use lib.Dec.{eqb}
 use lib.ListN.{length}
 use Rattle.rules.specs.Base.{choose, bytes, same, isNil}
-use Rattle.rules.specs.Lines.{unindent, allowed, Scan, neither, atEqual, atBrace, keyOnto, afterColon, scan, Rest, brace, equals, Form, ignored, wrong, close, eof, keyed, withKey, formFrom, formOfRest, formOf}
+use Rattle.rules.specs.Lines.{unindent, allowed, Scan, neither, atEqual, atBrace, keyOnto, afterColon, scan, Rest, brace, equals, Form, ignored, withKey, formFrom, formOfRest, formOf}
 use Rattle.rules.proofs.Chains.{by-cond, same-eq}
 use Rattle.standing.specs.Standing.{restSize, formSize}
 

@@ -1,23 +1,23 @@
 -- A volume's last line: the set goes on with the next volume, or has ended.
-use Prim.Native.Nat.{ℕ, zero, suc, _+_, _*_, _≤_, _<_, min}
+use Prim.Native.Nat.{ℕ, _+_}
 use mathlib.Core.Bool.{Bool, true, false, cond, _&&_, _||_, not}
-use mathlib.Core.List.{List, [], _∷_, _++_}
+use mathlib.Core.List.{List, []}
 use mathlib.Core.Path.{_≡_, refl, sym, _∙_, ap, subst}
 use native.Mathlib.Omega.{arith}
 use borrow.Author.Tests.{eqb-true, eq-eqb}
 use lib.Dec.{eqb}
-use lib.ListN.{length}
 use Rattle.rules.specs.declared.Digits.{Digits}
 use Rattle.rules.specs.Base.{isNil, hasNumber}
 use Rattle.rules.specs.Values.{amountAt}
 use Rattle.rules.specs.RefusalNumbers.{Got, got, bad, mapG, also, unless}
 use Rattle.rules.specs.Lines.{Form, ignored, wrong, close, eof, keyed}
 use Rattle.rules.specs.RangeClass.{digits}
-use Rattle.rules.specs.Rows.{Held, fullAt, Act, stay, entry, begin, shut, refuse, complete, act}
+use Rattle.rules.specs.Rows.{Held, rowsAtLimit, shut, refuse, complete}
 use Rattle.rules.specs.Blocks.{elementTable}
-use Rattle.rules.specs.Sets.{Figure, Set, withVolume, knownOf, usedIn}
+use Rattle.rules.specs.Sets.{Set, withVolume, usedIn}
 use Rattle.rules.specs.VolumesAndTotals.{layersUsed, countedHere, countedAll}
-use Rattle.rules.specs.Machine.{Line, Env, State, top, file, drawing, layerNames, defines, symbol, hide, elements, figures, successive, texts, placing, skipping, ended, inLayer, byAct, onTop, onElements, stepIn, isIgnored, isClose, isEof, completes, nextVolume, step}
+use Rattle.rules.specs.Machine.{Line, Env, State, top, file, drawing, layerNames, defines, symbol, hide, elements, figures, successive, texts, placing, skipping, ended, inLayer, byAct, onTop, onElements}
+use Rattle.rules.specs.LineByLine.{stepIn, isIgnored, isClose, isEof, completes, nextVolume, step}
 use Rattle.rules.proofs.Chains.{clash, never, unless-got, and-left, and-right, or-left}
 use Rattle.account.specs.declared.Now.{Now}
 use Rattle.account.specs.declared.Step.{Step}
@@ -26,7 +26,7 @@ use Rattle.account.specs.Account.{atBlock}
 use Rattle.standing.specs.SoFar.{volumeOf}
 use Rattle.steps.specs.VolumeLines.{nextNow, lastStep}
 use Rattle.standing.specs.Reading.{nextNumber, nextState}
-use Rattle.standing.specs.Standing.{Desk, Inside, Stands, deskNow, StandsAt, StepOut}
+use Rattle.standing.specs.Standing.{Desk, Stands, deskNow, StepOut}
 
 -- ── a step that completes a volume ──
 -- in the last volume the set has ended, in others the next block would be a volume's first
@@ -77,7 +77,7 @@ module _ (e : Env) (l : Line) where
   element-ends : (s : Set) (st : State) (b : Bool) → isNil (l .next) ≡ b → cond b (false && isEof (l .form)) ((true && isClose (l .form)) || (false && isIgnored (l .form))) ≡ true
       → stepIn e l (elements s) ≡ got st → Ends b st
   element-ends s st true n h g = clash h refl
-  element-ends s st false n h g = go (complete (digits 0 0) elementTable (fullAt 0 elementTable)) refl
+  element-ends s st false n h g = go (complete (digits 0 0) elementTable (rowsAtLimit 0 elementTable)) refl
     where
       f : l .form ≡ close
       f = form-close (l .form) (or-left (isClose (l .form)) false refl h)
@@ -87,10 +87,10 @@ module _ (e : Env) (l : Line) where
           byAct (elements s) (λ j v. bad 5) (λ i j v. unless (not (hasNumber (amountAt v 0) (usedIn (s .now)))) 14 (got (figures s (inLayer (amountAt v 0)) [])))
           (λ u. unless (countedHere s) 17 (got (top (withVolume s) 4))) (cond x shut (refuse 8))
 
-      closed : closeBy (complete (digits 0 0) elementTable (fullAt 0 elementTable)) ≡ got st
+      closed : closeBy (complete (digits 0 0) elementTable (rowsAtLimit 0 elementTable)) ≡ got st
       closed = sym (ap (onElements s) f) ∙ g
 
-      go : (x : Bool) → complete (digits 0 0) elementTable (fullAt 0 elementTable) ≡ x → Ends false st
+      go : (x : Bool) → complete (digits 0 0) elementTable (rowsAtLimit 0 elementTable) ≡ x → Ends false st
       go true p = let (a₁, q₁) = unless-got (countedHere s) 17 (got (top (withVolume s) 4)) st (sym (ap closeBy p) ∙ closed) in (withVolume s, sym (got-same q₁))
       go false p = never (sym (ap closeBy p) ∙ closed)
 

@@ -1,8 +1,8 @@
 -- A volume read line by line: the loop's invariant, and what the code's answers make of it.
-use Prim.Native.Nat.{ℕ, zero, suc, _+_, _*_, _-_, _/_, _≤_, _<_}
-use mathlib.Core.Bool.{Bool, true, false, cond, _&&_}
+use Prim.Native.Nat.{ℕ, _+_, _/_, _≤_}
+use mathlib.Core.Bool.{Bool, true, false}
 use mathlib.Core.List.{List, [], _∷_, _++_}
-use mathlib.Core.Option.{Option, none, some}
+use mathlib.Core.Option.{some}
 use mathlib.Core.Path.{_≡_, refl, sym, _∙_, ap, subst}
 use native.Mathlib.Omega.{arith}
 use lib.IntN.{ℤ}
@@ -10,9 +10,10 @@ use lib.ListN.{length}
 use Rattle.rules.specs.declared.Digits.{Digits}
 use Rattle.rules.specs.declared.Refusal.{Refusal}
 use Rattle.rules.specs.Base.{isNil}
-use Rattle.rules.specs.RefusalNumbers.{Got, got, bad}
+use Rattle.rules.specs.RefusalNumbers.{Got}
 use Rattle.rules.specs.Sets.{Set}
-use Rattle.rules.specs.Machine.{Line, Env, State, top, Outcome, refused, thenRun, run}
+use Rattle.rules.specs.Machine.{Line, Env, State, top}
+use Rattle.rules.specs.LineByLine.{refused, thenRun, run}
 use Rattle.rules.specs.Answers.{linesOfVolume}
 use Rattle.rules.proofs.Chains.{clash}
 use Rattle.lines.specs.LineLook.{lookIn}
@@ -21,23 +22,21 @@ use Rattle.lines.specs.declared.Look.{Look}
 use Rattle.lines.specs.declared.Look.the-variants as K
 use Rattle.lines.proofs.LinesSeen.{look-none}
 use Rattle.account.specs.declared.Now.{Now}
-use Rattle.account.specs.declared.Where.{Where}
 use Rattle.account.specs.declared.Step.{Step}
 use Rattle.account.specs.declared.Step.the-variants as S
 use Rattle.account.specs.declared.Volume.{Volume}
 use Rattle.account.specs.declared.Pos.{Pos}
 use Rattle.account.specs.declared.Left.the-variants as L
-use Rattle.account.specs.declared.Through.{Through}
 use Rattle.account.specs.declared.Through.the-variants as T
 use Rattle.account.specs.Walk.{seenOr, seenFrom, At, todo, Next}
 use Rattle.account.specs.SkippedLines.{Low, SkipReady, SkipMet}
 use Rattle.steps.specs.VolumeLines.{completesOf, lastStep}
-use Rattle.standing.specs.Standing.{Desk, Stands, deskNow, deskTable, Under}
+use Rattle.standing.specs.Standing.{Desk, deskNow, deskTable, Under}
 use Rattle.account.specs.TableApart.{Seen}
 use Rattle.standing.specs.FileStanding.{InFile}
 use Rattle.standing.specs.Reading.{Standing, LineReady, LinePromise, startOf, nextNumber, nextState, stopOf, throughOf, VolumeReady, VolumeOut, VolumePromise}
 use Rattle.account.proofs.Walked.{next-seen}
-use Rattle.account.proofs.SeenLines.{past, seenLine, low-past, seen-forward}
+use Rattle.account.proofs.SeenLines.{past, seenLine, low-past}
 use Rattle.steps.proofs.VolumeEnds.{LastOut}
 use Rattle.steps.proofs.VolumeRun.{seen-long, table₁, last-seen, stands-later, stands-between, Gone, whereOf, line-here, line-formed, passed, todo-on, refused-at, gone-on, stopped, skipped-on, skip-stopped, last, to-more}
 

@@ -1,22 +1,21 @@
 -- A volume read line by line: how far the reading has come, and what one more line makes of it.
-use Prim.Native.Nat.{ℕ, zero, suc, _+_, _*_, _≤_, _<_}
+use Prim.Native.Nat.{ℕ, _+_, _≤_}
 use mathlib.Core.Bool.{Bool, true, false, cond, _&&_}
-use mathlib.Core.List.{List, [], _∷_, _++_}
+use mathlib.Core.List.{List, [], _∷_}
 use mathlib.Core.Path.{_≡_, refl, sym, _∙_, ap, subst}
 use native.Mathlib.Omega.{arith}
 use lib.IntN.{ℤ}
 use lib.ListN.{length}
 use lib.Dec.{eqb}
 use Rattle.rules.specs.declared.Digits.{Digits}
-use Rattle.rules.specs.declared.LineForm.{LineForm}
 use Rattle.rules.specs.declared.Refusal.{Refusal}
 use Rattle.rules.specs.Base.{isNil}
-use Rattle.rules.specs.RefusalNumbers.{Got, got, bad}
-use Rattle.rules.specs.Lines.{Form, formOf, formIn}
+use Rattle.rules.specs.RefusalNumbers.{Got, bad}
+use Rattle.rules.specs.Lines.{Form, formIn}
 use Rattle.rules.specs.Rows.{Held}
-use Rattle.rules.specs.Sets.{Figure, Set}
-use Rattle.rules.specs.Machine.{Line, Env, State, top, placing, skipping, stepIn, step, completes, Outcome, refused, thenRun, run}
-use Rattle.rules.specs.Answers.{linesOfVolume}
+use Rattle.rules.specs.Sets.{Set}
+use Rattle.rules.specs.Machine.{Line, Env, State, placing, skipping}
+use Rattle.rules.specs.LineByLine.{step, refused, thenRun, run}
 use Rattle.lines.specs.declared.Seen.{Seen as SeenLine}
 use Rattle.account.specs.declared.Now.{Now}
 use Rattle.account.specs.declared.Where.{Where}
@@ -26,13 +25,13 @@ use Rattle.account.specs.declared.Volume.{Volume}
 use Rattle.account.specs.declared.Pos.{Pos}
 use Rattle.account.specs.declared.Left.the-variants as L
 use Rattle.account.specs.Walk.{seenFrom, At, todo, Next}
-use Rattle.account.specs.SkippedLines.{Low, SkipMet}
+use Rattle.account.specs.SkippedLines.{SkipMet}
 use Rattle.steps.specs.VolumeLines.{completesOf, nextNow, lastStep}
-use Rattle.standing.specs.Standing.{Desk, Lengths, formSize, Inside, Stands, deskNow, deskTable, Under, LineHere, StepOut}
+use Rattle.standing.specs.Standing.{Desk, formSize, Inside, Stands, deskNow, deskTable, Under, LineHere, StepOut}
 use Rattle.account.specs.Account.{atBlock}
 use Rattle.account.specs.TableApart.{Seen, whole, apart, SeenBy}
 use Rattle.standing.specs.FileStanding.{InFile}
-use Rattle.standing.specs.Reading.{Standing, PlacedForm, LinePromise, startOf, nextNumber, nextState, VolumeReady}
+use Rattle.standing.specs.Reading.{Standing, PlacedForm, LinePromise, nextState}
 use Rattle.rules.proofs.Chains.{clash}
 use Rattle.account.proofs.RunSteps.{step-on, step-refused}
 use Rattle.account.proofs.Walked.{next-seen}

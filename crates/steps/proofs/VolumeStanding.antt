@@ -1,26 +1,20 @@
 -- From line to line of a volume: the step that the code made is the step of the reading.
-use Prim.Native.Nat.{ℕ, zero, suc, _+_, _*_, _≤_, _<_, min}
+use Prim.Native.Nat.{ℕ}
 use mathlib.Core.Bool.{Bool, true, false, cond, _&&_, _||_}
-use mathlib.Core.List.{List, [], _∷_, _++_}
-use mathlib.Core.Path.{_≡_, refl, sym, _∙_, ap, subst}
-use native.Mathlib.Omega.{arith}
+use mathlib.Core.List.{List}
+use mathlib.Core.Path.{_≡_, refl, sym, _∙_, ap}
 use lib.Dec.{eqb}
-use lib.ListN.{length}
 use Rattle.rules.specs.declared.Digits.{Digits}
 use Rattle.rules.specs.declared.LineForm.{LineForm}
 use Rattle.rules.specs.declared.LineForm.the-variants as L
 use Rattle.rules.specs.Base.{isNil}
-use Rattle.rules.specs.RefusalNumbers.{Got, got, bad, mapG, also}
-use Rattle.rules.specs.Lines.{Form, formIn}
+use Rattle.rules.specs.Lines.{formIn}
 use Rattle.rules.specs.Rows.{Held}
-use Rattle.rules.specs.Sets.{Figure, Set}
-use Rattle.rules.specs.Machine.{Line, Env, Home, State, top, file, drawing, layerNames, defines, symbol, hide, elements, figures, successive, texts, placing, skipping, ended, stepIn, isIgnored, isClose, isEof, completes, nextVolume, step, Outcome, refused, thenRun, run}
-use Rattle.account.specs.declared.Now.{Now}
-use Rattle.account.specs.declared.Step.{Step}
-use Rattle.account.specs.declared.Step.the-variants as S
-use Rattle.account.specs.Account.{atBlock}
-use Rattle.steps.specs.VolumeLines.{eofForm, closeForm, ignoredForm, afterElement, completesOf, nextNow, lastStep}
-use Rattle.standing.specs.Standing.{Desk, Inside, Stands, deskNow, StandsAt, StepOut}
+use Rattle.rules.specs.Sets.{Set}
+use Rattle.rules.specs.Machine.{Line, State, top, file, drawing, layerNames, defines, symbol, hide, elements, figures, successive, texts, placing, skipping, ended}
+use Rattle.rules.specs.LineByLine.{isIgnored, isClose, isEof, completes}
+use Rattle.steps.specs.VolumeLines.{eofForm, closeForm, ignoredForm, completesOf}
+use Rattle.standing.specs.Standing.{Desk, Inside}
 
 -- ── forms ──
 eof-in : (s : List ℕ) (f : LineForm) → isEof (formIn s f) ≡ eofForm f

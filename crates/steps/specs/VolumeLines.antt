@@ -1,5 +1,5 @@
 -- From line to line of a volume, as the code goes: whether a volume is complete, and what its last line does.
-use Prim.Native.Nat.{ℕ, min}
+use Prim.Native.Nat.{min}
 use mathlib.Core.Bool.{Bool, true, false, cond, _&&_}
 use lib.Dec.{eqb}
 use Rattle.rules.specs.declared.LineForm.{LineForm}

@@ -1,21 +1,21 @@
 // What one line does: a function for each block, and the way to it.
-use account::ARC;
-use account::CHAIN;
-use account::DEFINE_RANGE;
-use account::DEFINES;
-use account::DRAWING;
-use account::ELEMENTS;
-use account::FIGURES;
-use account::LAYER_NAMES;
-use account::LAYERS;
+use account::BLOCK_CHAIN;
+use account::BLOCK_DEFINES;
+use account::BLOCK_DRAWING;
+use account::BLOCK_ELEMENTS;
+use account::BLOCK_FIGURES;
+use account::BLOCK_LAYER_NAMES;
+use account::BLOCK_PLACED;
+use account::BLOCK_SYMBOL;
+use account::BLOCK_TEXT;
+use account::BLOCK_TOP;
 use account::Now;
-use account::PLACED;
-use account::SYMBOL;
-use account::SYMBOL_RANGE;
-use account::SYMBOLS;
 use account::Step;
-use account::TEXT;
-use account::TOP;
+use account::TALLY_ARC;
+use account::TALLY_DEFINE_RANGE;
+use account::TALLY_LAYERS;
+use account::TALLY_SYMBOL_RANGE;
+use account::TALLY_SYMBOLS;
 use account::Where;
 use drawing::drawing_format::on_drawing;
 use drawing::drawing_format::on_layer_names;
@@ -61,7 +61,7 @@ fn layer_counted(did: Step, tally: &mut [u32]) -> Step
 {
     match did {
         Step::Go(n) => {
-            if n.block == ELEMENTS {
+            if n.block == BLOCK_ELEMENTS {
                 count_layer(n, tally);
             }
             Step::Go(n)
@@ -78,7 +78,7 @@ fn name_kept(did: Step, tally: &mut [u32], symbols: &mut [u32], rec: &[i64]) -> 
 {
     match did {
         Step::Go(n) => {
-            if n.block == DEFINES {
+            if n.block == BLOCK_DEFINES {
                 keep_name(tally, symbols, rec);
             }
             Step::Go(n)
@@ -106,8 +106,8 @@ fn at_top(
     requires { ⌜ (length (now s) ≤ 61440) × Named (now tally) (now symbols) (now layers) × (getD (now tally) 10 0 ≤ length (now «used_all»)) × (length (now header) ≡ 70) ⌝ }
     ensures { λ r. ⌜ OnTop (now (s .entry)) form here (now (tally .entry)) (now (symbols .entry)) (now (layers .entry)) at (now («used_all» .entry)) (topLent (now (marks .entry)) (now (used .entry)) (now (header .entry)) (now (t .entry))) (topLent (now (marks .exit)) (now (used .exit)) (now (header .exit)) (now (t .exit))) r ⌝ }
 {
-    let ns = tally[SYMBOLS] as usize;
-    let nl = tally[LAYERS] as usize;
+    let ns = tally[TALLY_SYMBOLS] as usize;
+    let nl = tally[TALLY_LAYERS] as usize;
     let first = at.volume == 1;
     on_top(
         s,
@@ -142,8 +142,8 @@ fn in_file(
     requires { ⌜ (length (now s) ≤ 61440) × Named (now tally) (now symbols) (now layers) × FileReady (eqb (at .volume) 1) here (now tally) (now marks) (now header) (now t) ⌝ }
     ensures { λ r. ⌜ OnFile (now (s .entry)) form here (now (tally .entry)) (now (symbols .entry)) (now (layers .entry)) (now (following .entry)) at (now (tally .exit)) (now (marks .entry)) (now (marks .exit)) (now (header .entry)) (now (header .exit)) (now (t .entry)) (now (t .exit)) r ⌝ }
 {
-    let ns = tally[SYMBOLS] as usize;
-    let nl = tally[LAYERS] as usize;
+    let ns = tally[TALLY_SYMBOLS] as usize;
+    let nl = tally[TALLY_LAYERS] as usize;
     let first = at.volume == 1;
     on_file(
         s,
@@ -173,8 +173,8 @@ fn in_drawing(
     requires { ⌜ (length (now s) ≤ 61440) × Named (now tally) (now symbols) (now layers) × (length (now marks) ≡ 28) × (here .own + 32 ≤ length (now t)) ⌝ }
     ensures { λ r. ⌜ OnDrawing (now (s .entry)) form here (now (tally .entry)) (now (symbols .entry)) (now (layers .entry)) (now (marks .entry)) (now (marks .exit)) (now (t .entry)) (now (t .exit)) r ⌝ }
 {
-    let ns = tally[SYMBOLS] as usize;
-    let arc = tally[ARC];
+    let ns = tally[TALLY_SYMBOLS] as usize;
+    let arc = tally[TALLY_ARC];
     let from = here.own;
     let to = from + 32;
     on_drawing(
@@ -219,9 +219,9 @@ fn in_defines(
     requires { ⌜ (length (now s) ≤ 61440) × Named (now tally) (now symbols) (now layers) ⌝ }
     ensures { λ r. ⌜ OnDefines (now (s .entry)) form here (now (tally .entry)) (now (symbols .entry)) (now (layers .entry)) at (now (marks .entry)) (now (marks .exit)) (now (t .entry)) (now (t .exit)) r ⌝ }
 {
-    let ns = tally[SYMBOLS] as usize;
-    let nl = tally[LAYERS] as usize;
-    let define = tally[DEFINE_RANGE];
+    let ns = tally[TALLY_SYMBOLS] as usize;
+    let nl = tally[TALLY_LAYERS] as usize;
+    let define = tally[TALLY_DEFINE_RANGE];
     on_defines(
         s,
         &symbols[..ns],
@@ -248,9 +248,9 @@ fn in_symbol(
     requires { ⌜ (length (now s) ≤ 61440) × Named (now tally) (now symbols) (now layers) × (here .block ≡ 5) × SymbolReady (now s) form here (now tally) (now symbols) (now layers) (now marks) (now t) ⌝ }
     ensures { λ r. ⌜ OnSymbol (now (s .entry)) form here (now (tally .entry)) (now (symbols .entry)) (now (layers .entry)) (now (tally .exit)) (now (symbols .exit)) (now (marks .entry)) (now (marks .exit)) (now (t .entry)) (now (t .exit)) r ⌝ }
 {
-    let ns = tally[SYMBOLS] as usize;
-    let nl = tally[LAYERS] as usize;
-    let define = tally[DEFINE_RANGE];
+    let ns = tally[TALLY_SYMBOLS] as usize;
+    let nl = tally[TALLY_LAYERS] as usize;
+    let define = tally[TALLY_DEFINE_RANGE];
     let from = here.own;
     let to = from + 32;
     let r = on_symbol(
@@ -279,8 +279,8 @@ fn in_hide(
     requires { ⌜ (length (now s) ≤ 61440) × Named (now tally) (now symbols) (now layers) × (here .points < 4294967295) ⌝ }
     ensures { λ r. ⌜ OnHide (now (s .entry)) form here (now (tally .entry)) (now (symbols .entry)) (now (layers .entry)) at (now (t .entry)) (now (t .exit)) r ⌝ }
 {
-    let ns = tally[SYMBOLS] as usize;
-    let nl = tally[LAYERS] as usize;
+    let ns = tally[TALLY_SYMBOLS] as usize;
+    let nl = tally[TALLY_LAYERS] as usize;
     on_hide(s, &symbols[..ns], &layers[..nl], here, form, at, t)
 }
 
@@ -297,8 +297,8 @@ fn in_elements(
     requires { ⌜ (length (now s) ≤ 61440) × Named (now tally) (now symbols) (now layers) × (getD (now tally) 8 0 + getD (now tally) 7 0 ≤ 4294967295) × (length (now used) ≡ 64) × (length (now «used_all») ≡ 64) ⌝ }
     ensures { λ r. ⌜ OnElements (now (s .entry)) form here (now (tally .entry)) (now (symbols .entry)) (now (layers .entry)) (now (tally .exit)) (now (used .entry)) (now (used .exit)) (now («used_all» .entry)) (now («used_all» .exit)) r ⌝ }
 {
-    let ns = tally[SYMBOLS] as usize;
-    let nl = tally[LAYERS] as usize;
+    let ns = tally[TALLY_SYMBOLS] as usize;
+    let nl = tally[TALLY_LAYERS] as usize;
     on_elements(
         s,
         &symbols[..ns],
@@ -326,9 +326,9 @@ fn in_figures(
     requires { ⌜ (length (now s) ≤ 61440) × Named (now tally) (now symbols) (now layers) × (getD (now tally) 7 0 + here .figures < 4294967295) ⌝ }
     ensures { λ r. ⌜ OnFigures (now (s .entry)) form here (now (tally .entry)) (now (symbols .entry)) (now (layers .entry)) at (now (tally .exit)) (now (marks .entry)) (now (marks .exit)) (now (inner .entry)) (now (inner .exit)) (now (t .entry)) (now (t .exit)) r ⌝ }
 {
-    let ns = tally[SYMBOLS] as usize;
-    let nl = tally[LAYERS] as usize;
-    let range = tally[SYMBOL_RANGE];
+    let ns = tally[TALLY_SYMBOLS] as usize;
+    let nl = tally[TALLY_LAYERS] as usize;
+    let range = tally[TALLY_SYMBOL_RANGE];
     let r = on_figures(
         s,
         &symbols[..ns],
@@ -358,8 +358,8 @@ fn in_chain(
     requires { ⌜ (length (now s) ≤ 61440) × Named (now tally) (now symbols) (now layers) × (here .figures < 4294967295) × (here .points < 4294967295) × (leastPoints ≤ here .points → own + 64 ≤ length (now t)) ⌝ }
     ensures { λ r. ⌜ OnChain (now (s .entry)) form here (now (tally .entry)) (now (symbols .entry)) (now (layers .entry)) own at (now (t .entry)) (now (t .exit)) r ⌝ }
 {
-    let ns = tally[SYMBOLS] as usize;
-    let nl = tally[LAYERS] as usize;
+    let ns = tally[TALLY_SYMBOLS] as usize;
+    let nl = tally[TALLY_LAYERS] as usize;
     on_chain(s, &symbols[..ns], &layers[..nl], here, own, form, at, t)
 }
 
@@ -376,8 +376,8 @@ fn in_text(
     requires { ⌜ (length (now s) ≤ 61440) × Named (now tally) (now symbols) (now layers) × (here .figures < 4294967295) × (length (now inner) ≡ 2) × (32 ≤ here .free) × (here .free ≤ length (now t)) ⌝ }
     ensures { λ r. ⌜ OnText (now (s .entry)) form here (now (tally .entry)) (now (symbols .entry)) (now (layers .entry)) (now (inner .entry)) (now (inner .exit)) (now (t .entry)) (now (t .exit)) r ⌝ }
 {
-    let ns = tally[SYMBOLS] as usize;
-    let nl = tally[LAYERS] as usize;
+    let ns = tally[TALLY_SYMBOLS] as usize;
+    let nl = tally[TALLY_LAYERS] as usize;
     let to = here.free;
     let from = to - 32;
     on_text(
@@ -407,9 +407,9 @@ fn in_placed(
     requires { ⌜ (length (now s) ≤ 61440) × Named (now tally) (now symbols) (now layers) × (32 ≤ here .free) × (here .free ≤ length (now t)) × LentReady (lent (now tally) (now serials) (now marks) (now inner)) (partAt (here .free - 32) (now t)) × (here .figures < 4294967295) ⌝ }
     ensures { λ r. ⌜ OnPlaced (now (s .entry)) form here (now (tally .entry)) (now (symbols .entry)) (now (layers .entry)) class (lent (now (tally .entry)) (now (serials .entry)) (now (marks .entry)) (now (inner .entry))) (lent (now (tally .exit)) (now (serials .exit)) (now (marks .exit)) (now (inner .exit))) (now (t .entry)) (now (t .exit)) r ⌝ }
 {
-    let ns = tally[SYMBOLS] as usize;
-    let nl = tally[LAYERS] as usize;
-    let range = tally[SYMBOL_RANGE];
+    let ns = tally[TALLY_SYMBOLS] as usize;
+    let nl = tally[TALLY_LAYERS] as usize;
+    let range = tally[TALLY_SYMBOL_RANGE];
     let to = here.free;
     let from = to - 32;
     on_placed(
@@ -451,7 +451,7 @@ fn head_line(
     requires { ⌜ LineFits (now s) form at own (desk here (now tally) (now symbols) (now layers) (now serials) (now used) (now «used_all») (now marks) (now inner) (now header) (now t)) × (here .block < 2) ⌝ }
     ensures { λ r. ⌜ Done class (now (s .entry)) (now (following .entry)) form at own (desk here (now (tally .entry)) (now (symbols .entry)) (now (layers .entry)) (now (serials .entry)) (now (used .entry)) (now («used_all» .entry)) (now (marks .entry)) (now (inner .entry)) (now (header .entry)) (now (t .entry))) (desk here (now (tally .exit)) (now (symbols .entry)) (now (layers .entry)) (now (serials .entry)) (now (used .exit)) (now («used_all» .entry)) (now (marks .exit)) (now (inner .entry)) (now (header .exit)) (now (t .exit))) r ⌝ }
 {
-    if here.block == TOP {
+    if here.block == BLOCK_TOP {
         return at_top(
             s,
             here,
@@ -505,16 +505,16 @@ fn sheet_line(
     requires { ⌜ LineFits (now s) form at own (desk here (now tally) (now symbols) (now layers) (now serials) (now used) (now «used_all») (now marks) (now inner) (now header) (now t)) × (2 ≤ here .block) × (here .block < 7) ⌝ }
     ensures { λ r. ⌜ Done class (now (s .entry)) (now (following .entry)) form at own (desk here (now (tally .entry)) (now (symbols .entry)) (now (layers .entry)) (now (serials .entry)) (now (used .entry)) (now («used_all» .entry)) (now (marks .entry)) (now (inner .entry)) (now (header .entry)) (now (t .entry))) (desk here (now (tally .exit)) (now (symbols .exit)) (now (layers .exit)) (now (serials .entry)) (now (used .entry)) (now («used_all» .entry)) (now (marks .exit)) (now (inner .entry)) (now (header .entry)) (now (t .exit))) r ⌝ }
 {
-    if here.block == DRAWING {
+    if here.block == BLOCK_DRAWING {
         return in_drawing(s, here, form, tally, symbols, layers, marks, t);
     }
-    if here.block == LAYER_NAMES {
+    if here.block == BLOCK_LAYER_NAMES {
         return in_layer_names(s, here, form, at, tally, symbols, layers, t);
     }
-    if here.block == DEFINES {
+    if here.block == BLOCK_DEFINES {
         return in_defines(s, here, form, at, tally, symbols, layers, marks, t);
     }
-    if here.block == SYMBOL {
+    if here.block == BLOCK_SYMBOL {
         return in_symbol(s, here, form, tally, symbols, layers, marks, t);
     }
     in_hide(s, here, form, at, tally, symbols, layers, t)
@@ -543,16 +543,16 @@ fn figure_line(
     requires { ⌜ LineFits (now s) form at own (desk here (now tally) (now symbols) (now layers) (now serials) (now used) (now «used_all») (now marks) (now inner) (now header) (now t)) × (8 ≤ here .block) ⌝ }
     ensures { λ r. ⌜ Done class (now (s .entry)) (now (following .entry)) form at own (desk here (now (tally .entry)) (now (symbols .entry)) (now (layers .entry)) (now (serials .entry)) (now (used .entry)) (now («used_all» .entry)) (now (marks .entry)) (now (inner .entry)) (now (header .entry)) (now (t .entry))) (desk here (now (tally .exit)) (now (symbols .entry)) (now (layers .entry)) (now (serials .exit)) (now (used .entry)) (now («used_all» .entry)) (now (marks .exit)) (now (inner .exit)) (now (header .entry)) (now (t .exit))) r ⌝ }
 {
-    if here.block == FIGURES {
+    if here.block == BLOCK_FIGURES {
         return in_figures(s, here, form, at, tally, symbols, layers, marks, inner, t);
     }
-    if here.block == CHAIN {
+    if here.block == BLOCK_CHAIN {
         return in_chain(s, here, form, at, own, tally, symbols, layers, t);
     }
-    if here.block == TEXT {
+    if here.block == BLOCK_TEXT {
         return in_text(s, here, form, tally, symbols, layers, inner, t);
     }
-    if here.block == PLACED {
+    if here.block == BLOCK_PLACED {
         return in_placed(
             s,
             class,
@@ -597,11 +597,11 @@ pub(crate) fn step(
     let inside = lent_now(whole, here, limit);
     let own = chain_at(whole, here);
     make_fresh(whole, here, t);
-    if here.block == ELEMENTS {
+    if here.block == BLOCK_ELEMENTS {
         let did = in_elements(s, inside, form, tally, symbols, layers, used, used_all);
         return back_step(whole, here, inside.free, did);
     }
-    if here.block > ELEMENTS {
+    if here.block > BLOCK_ELEMENTS {
         let did = figure_line(
             s,
             following,
@@ -623,7 +623,7 @@ pub(crate) fn step(
         );
         return back_step(whole, here, inside.free, did);
     }
-    if here.block < DRAWING {
+    if here.block < BLOCK_DRAWING {
         let did = head_line(
             s,
             following,

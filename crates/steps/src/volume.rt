@@ -1,11 +1,11 @@
 // The lines of a volume, one after the other.
 use crate::line::step;
-use account::ELEMENTS;
+use account::BLOCK_ELEMENTS;
+use account::BLOCK_TOP;
 use account::Left;
 use account::Now;
 use account::Pos;
 use account::Step;
-use account::TOP;
 use account::Through;
 use account::Volume;
 use account::Where;
@@ -63,7 +63,7 @@ fn is_ignored(form: LineForm) -> bool
 fn after_element(here: Now) -> bool
     ensures { λ r. ⌜ r ≡ afterElement here ⌝ }
 {
-    if here.block != TOP {
+    if here.block != BLOCK_TOP {
         return false;
     }
     here.part == 4
@@ -79,7 +79,7 @@ fn completes(here: Now, form: LineForm, last: bool) -> bool
         }
         return is_eof(form);
     }
-    if here.block == ELEMENTS {
+    if here.block == BLOCK_ELEMENTS {
         return is_close(form);
     }
     if !after_element(here) {
@@ -92,10 +92,10 @@ fn completes(here: Now, form: LineForm, last: bool) -> bool
 fn next_volume(here: Now) -> Now
     ensures { λ r. ⌜ r ≡ nextNow here ⌝ }
 {
-    if here.block != TOP {
+    if here.block != BLOCK_TOP {
         return here;
     }
-    at_block(here, TOP, 0)
+    at_block(here, BLOCK_TOP, 0)
 }
 
 // The last line of a volume: 9 where it is not complete, or the line's own number where that is smaller.

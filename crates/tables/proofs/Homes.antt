@@ -2,17 +2,16 @@
 use Prim.Native.Nat.{ℕ, zero, suc}
 use mathlib.Core.Bool.{Bool, true, false, cond}
 use mathlib.Core.List.{List, [], _∷_}
-use mathlib.Core.Path.{_≡_, refl, ap}
-use native.Mathlib.Omega.{arith}
+use mathlib.Core.Path.{_≡_, refl}
 use Rattle.rules.specs.Base.{bytes, same}
-use Rattle.rules.specs.Rows.{Rule, Found, absent, found, row, repeated, anyNumber, upTo, find}
-use Rattle.rules.specs.Values.{values, kindOfLine, endsDiffer, nothingMore, decimal, aboveZero, notNegative, angle}
-use Rattle.rules.specs.Figures.{coordinate, flag, pointKind, placedRow, anyOf, mostPoints}
-use Rattle.tables.specs.Rows.{partsOf, ruleOf, forLine, foundForLine, timesRow, severalRow, fromRow, innerRow}
+use Rattle.rules.specs.Rows.{absent, found, row, repeated, anyNumber, upTo, find}
+use Rattle.rules.specs.Values.{values, typeDigits, endsDiffer, nothingMore, decimal, aboveZero, notNegative, angle}
+use Rattle.rules.specs.Figures.{coordinate, flag, pointKind, anyOf, mostPoints}
+use Rattle.tables.specs.Rows.{partsOf, ruleOf, forLine, foundForLine, timesRow, severalRow, fromRow}
 use Rattle.tables.specs.Tables.{placedRows, behindSix}
 
 pub line-home : (b : Bool) →
-    forLine (repeated anyNumber (row "line" (values kindOfLine (coordinate b ∷ coordinate b ∷ coordinate b ∷ coordinate b ∷ []) endsDiffer) 4))
+    forLine (repeated anyNumber (row "line" (values typeDigits (coordinate b ∷ coordinate b ∷ coordinate b ∷ coordinate b ∷ []) endsDiffer) 4))
     ≡ ruleOf (timesRow 255 (severalRow 0 (cond b 2121212117 2020202017) 4 1 4))
 unfolding partsOf
 line-home true = refl
@@ -29,7 +28,7 @@ points-home true = refl
 points-home false = refl
 
 pub lettering-home : (b : Bool) (p : ℕ) →
-    forLine (row "type" (values kindOfLine (coordinate b ∷ coordinate b ∷ decimal aboveZero ∷ decimal aboveZero ∷ decimal notNegative ∷ decimal angle ∷ flag ∷ []) nothingMore) p)
+    forLine (row "type" (values typeDigits (coordinate b ∷ coordinate b ∷ decimal aboveZero ∷ decimal aboveZero ∷ decimal notNegative ∷ decimal angle ∷ flag ∷ []) nothingMore) p)
     ≡ ruleOf (severalRow 0 (cond b 523212222212117 523212222202017) 7 0 p)
 unfolding partsOf
 lettering-home true p = refl

@@ -1,11 +1,12 @@
 -- What the numbers of a row in the code stand for.
-use Prim.Native.Nat.{ℕ, zero, suc, _+_, _/_, _%_}
-use mathlib.Core.Bool.{Bool, true, false, cond}
+use Prim.Native.Nat.{ℕ, zero, suc, _/_, _%_}
+use mathlib.Core.Bool.{true, false, cond}
 use mathlib.Core.List.{List, [], _∷_}
 use lib.Dec.{eqb, ltb}
-use Rattle.rules.specs.declared.Digits.{Digits}
 use Rattle.rules.specs.RangeClass.{digits}
-use Rattle.rules.specs.Values.{Part, count, digit, kindOfLine, range, rangeOfSymbols, day, clock, decimal, Bound, anySign, notNegative, aboveZero, angle, symbolName, layerId, Across, nothingMore, endsDiffer, arcOfCircle, axesOfEllipse, Kind, values, text, word, volumeName, sheet, ratio, serials, nothing, opens, headed, either}
+use Rattle.rules.specs.Values.{Part, count, digit, typeDigits, range, rangeOfSymbols, day, clock, decimal, Bound, anySign, notNegative, aboveZero, angle}
+use Rattle.rules.specs.Values.{symbolName, layerId, Across, nothingMore, endsDiffer, arcOfCircle, axesOfEllipse, Kind, values, text, word, volumeName, sheet}
+use Rattle.rules.specs.Values.{ratio, serials, nothing, opens, headed, either}
 use Rattle.rules.specs.Rows.{Times, once, upTo, anyNumber, Rule, Found, absent, found}
 use lib.ListN.{getD}
 use Rattle.leaves.specs.Bytes.{bytesOf}
@@ -32,7 +33,7 @@ wholeOf n =
     (cond (eqb n 13) (range 1 1)
     (cond (eqb n 14) rangeOfSymbols
     (cond (eqb n 15) symbolName
-    (cond (eqb n 16) layerId kindOfLine)))))))))))
+    (cond (eqb n 16) layerId typeDigits)))))))))))
 
 -- one value between commas, by its number
 abbrev pub partOf : ℕ → Part

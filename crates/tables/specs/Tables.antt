@@ -5,7 +5,8 @@ use mathlib.Core.List.{List, [], _∷_, _++_}
 use lib.Dec.{eqb}
 use lib.ListN.{drop}
 use Rattle.rules.specs.Rows.{Rule, Found, further}
-use Rattle.rules.specs.Blocks.{topTable, fileTable, rangeTable, baseTable, elecTable, symTable, laterTable, drawingTable, definesTable, symbolTable, elementTable}
+use Rattle.rules.specs.Blocks.{topTable, fileTable, rangeTable, baseTable, elecTable, symTable, laterTable, drawingTable, definesTable, symbolTable}
+use Rattle.rules.specs.Blocks.{elementTable}
 use Rattle.rules.specs.Figures.{plainRows, blockRows, placedRow, anyOf, layerTable, figureTable, pointTable, textTable, placedTable}
 
 -- what may stand among figures besides them: nothing, a placed symbol's block, a placed symbol on one line

@@ -4,9 +4,6 @@ use lib.Seq.{length-take-le}
 use borrow.Author.Needs.{needs}
 use Rattle.accfix.proofs.write_front.Statement.{statement}
 use Rattle.accfix.proofs.write_front.Tie as tie
-use Rattle.accfix.proofs.write_front.Reads as reads
-use Rattle.accfix.proofs.write_front.Lts as lts
-use Rattle.io.proofs.write_all.Reads as write-all-reads
 
 returns : tie.Need-returns
 returns c = search needs

@@ -4,13 +4,6 @@ use lib.Seq.{length-take-le}
 use borrow.Author.Needs.{needs}
 use Rattle.compared.proofs.answered.Statement.{statement}
 use Rattle.compared.proofs.answered.Tie as tie
-use Rattle.compared.proofs.answered.Reads as reads
-use Rattle.compared.proofs.answered.Lts as lts
-use Rattle.compared.proofs.got_spool.Reads as got-spool-reads
-use Rattle.compared.proofs.next_number.Reads as next-number-reads
-use Rattle.compared.proofs.show_line.Reads as show-line-reads
-use Rattle.compared.proofs.wide.Reads as wide-reads
-use Rattle.io.proofs.read_full.Reads as read-full-reads
 
 slice-aggregate-read-full : tie.Need-slice-aggregate-read-full
 slice-aggregate-read-full c = search needs

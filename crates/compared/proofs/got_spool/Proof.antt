@@ -4,9 +4,6 @@ use lib.Seq.{length-take-le}
 use borrow.Author.Needs.{needs}
 use Rattle.compared.proofs.got_spool.Statement.{statement}
 use Rattle.compared.proofs.got_spool.Tie as tie
-use Rattle.compared.proofs.got_spool.Reads as reads
-use Rattle.compared.proofs.got_spool.Lts as lts
-use Rattle.io.proofs.read_full.Reads as read-full-reads
 
 returns : tie.Need-returns
 returns c = search needs

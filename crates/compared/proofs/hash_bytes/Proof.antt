@@ -3,10 +3,6 @@ use Prim.Native.Nat.{_≤_, _-_}
 use lib.ListN.{length}
 use Rattle.compared.proofs.hash_bytes.Statement.{statement}
 use Rattle.compared.proofs.hash_bytes.Tie as tie
-use Rattle.compared.proofs.hash_bytes.Reads as reads
-use Rattle.compared.proofs.hash_bytes.Lts as lts
-use Rattle.compared.proofs.wide.Reads as wide-reads
-use Rattle.compared.proofs.with_byte.Reads as with-byte-reads
 
 abbrev Inv-loop : tie.InvT-loop
 Inv-loop bytes h₀ i₀ h i = i ≤ length bytes

@@ -3,10 +3,6 @@ use Prim.Native.Nat.{_≤_, _-_}
 use lib.ListN.{length}
 use Rattle.compared.proofs.hash_table.Statement.{statement}
 use Rattle.compared.proofs.hash_table.Tie as tie
-use Rattle.compared.proofs.hash_table.Reads as reads
-use Rattle.compared.proofs.hash_table.Lts as lts
-use Rattle.compared.proofs.bits.Reads as bits-reads
-use Rattle.compared.proofs.with_number.Reads as with-number-reads
 
 abbrev Inv-loop : tie.InvT-loop
 Inv-loop table h₀ i₀ h i = i ≤ length table

@@ -6,9 +6,6 @@ use mathlib.Core.Path.{_≡_, sym}
 use lib.ListN.{length, replicate, length-replicate}
 use Rattle.compared.proofs.main.Statement.{statement}
 use Rattle.compared.proofs.main.Tie as tie
-use Rattle.compared.proofs.main.Reads as reads
-use Rattle.compared.proofs.main.Lts as lts
-use Rattle.compared.proofs.answered.Reads as answered-reads
 
 -- The length of a room, by a law: counted, a million zeros are too many.
 zeros : (n : ℕ) → n ≡ length (replicate {A = ℕ} n 0)

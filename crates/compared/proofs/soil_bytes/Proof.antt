@@ -5,8 +5,6 @@ use lib.ListN.{length, length-set}
 use mathlib.Core.Path.{_≡_}
 use Rattle.compared.proofs.soil_bytes.Statement.{statement}
 use Rattle.compared.proofs.soil_bytes.Tie as tie
-use Rattle.compared.proofs.soil_bytes.Reads as reads
-use Rattle.compared.proofs.soil_bytes.Lts as lts
 
 abbrev Inv-loop : tie.InvT-loop
 Inv-loop out₀ i₀ out i = (i ≤ length out₀) × (length out ≡ length out₀)

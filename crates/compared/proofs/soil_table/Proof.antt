@@ -5,8 +5,6 @@ use lib.ListN.{length, length-set}
 use mathlib.Core.Path.{_≡_}
 use Rattle.compared.proofs.soil_table.Statement.{statement}
 use Rattle.compared.proofs.soil_table.Tie as tie
-use Rattle.compared.proofs.soil_table.Reads as reads
-use Rattle.compared.proofs.soil_table.Lts as lts
 
 abbrev Inv-loop : tie.InvT-loop
 Inv-loop table₀ i₀ table i = (i ≤ length table₀) × (length table ≡ length table₀)

@@ -2,9 +2,6 @@ use borrow.Author.Needs.{needs}
 use Prim.Native.Nat.{_≤_, _-_}
 use Rattle.compared.proofs.with_number.Statement.{statement}
 use Rattle.compared.proofs.with_number.Tie as tie
-use Rattle.compared.proofs.with_number.Reads as reads
-use Rattle.compared.proofs.with_number.Lts as lts
-use Rattle.compared.proofs.with_byte.Reads as with-byte-reads
 
 abbrev Inv-loop : tie.InvT-loop
 Inv-loop before n h₀ rest₀ i₀ h rest i = i ≤ 8

@@ -3,8 +3,6 @@ use Rattle.rules.specs.Answers.{packed}
 use borrow.Author.Needs.{needs}
 use Rattle.host.proofs.pack.Statement.{statement}
 use Rattle.host.proofs.pack.Tie as tie
-use Rattle.host.proofs.pack.Reads as reads
-use Rattle.host.proofs.pack.Lts as lts
 
 enum-told : tie.Need-enum-told
 enum-told c = search needs

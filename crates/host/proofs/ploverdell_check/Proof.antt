@@ -1,12 +1,8 @@
-use mathlib.Core.Path.{_∙_, sym, ap}
+use mathlib.Core.Path.{_∙_, ap}
 use Rattle.rules.specs.Answers.{packed, checkAnswer}
 use borrow.Author.Needs.{needs}
 use Rattle.host.proofs.ploverdell_check.Statement.{statement}
 use Rattle.host.proofs.ploverdell_check.Tie as tie
-use Rattle.host.proofs.ploverdell_check.Reads as reads
-use Rattle.host.proofs.ploverdell_check.Lts as lts
-use Rattle.host.proofs.pack.Reads as pack-reads
-use Rattle.sets.proofs.read.Reads as read-reads
 
 slice-aggregate-read : tie.Need-slice-aggregate-read
 slice-aggregate-read c = search needs

@@ -1,13 +1,8 @@
-use mathlib.Core.Path.{_∙_, sym, ap}
+use mathlib.Core.Path.{_∙_, ap}
 use Rattle.rules.specs.Answers.{packed, answerCount}
 use borrow.Author.Needs.{needs}
 use Rattle.host.proofs.ploverdell_read.Statement.{statement}
 use Rattle.host.proofs.ploverdell_read.Tie as tie
-use Rattle.host.proofs.ploverdell_read.Reads as reads
-use Rattle.host.proofs.ploverdell_read.Lts as lts
-use Rattle.host.proofs.count_of.Reads as count-of-reads
-use Rattle.host.proofs.pack.Reads as pack-reads
-use Rattle.sets.proofs.read.Reads as read-reads
 
 read-requires : tie.Need-read-requires
 read-requires c κs = search needs

@@ -1,13 +1,8 @@
-use mathlib.Core.Path.{_∙_, sym, ap}
+use mathlib.Core.Path.{_∙_, ap}
 use Rattle.rules.specs.Answers.{packed, answerCount}
 use borrow.Author.Needs.{needs}
 use Rattle.host.proofs.ploverdell_rewrite.Statement.{statement}
 use Rattle.host.proofs.ploverdell_rewrite.Tie as tie
-use Rattle.host.proofs.ploverdell_rewrite.Reads as reads
-use Rattle.host.proofs.ploverdell_rewrite.Lts as lts
-use Rattle.host.proofs.count_of.Reads as count-of-reads
-use Rattle.host.proofs.pack.Reads as pack-reads
-use Rattle.sets.proofs.rewrite.Reads as rewrite-reads
 
 rewrite-requires : tie.Need-rewrite-requires
 rewrite-requires c κs = search needs

@@ -6,9 +6,6 @@ use mathlib.Core.Bool.{true}
 use borrow.Author.Needs.{needs}
 use Rattle.keywords.proofs.point_key.Statement.{statement}
 use Rattle.keywords.proofs.point_key.Tie as tie
-use Rattle.keywords.proofs.point_key.Reads as reads
-use Rattle.keywords.proofs.point_key.Lts as lts
-use Rattle.leaves.proofs.write.put.Reads as put-reads
 
 slice-aggregate-put : tie.Need-slice-aggregate-put
 slice-aggregate-put c = refl

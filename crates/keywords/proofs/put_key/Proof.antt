@@ -1,6 +1,5 @@
 use native.Mathlib.Nat.{le-refl}
 use Prim.Native.Nat.{zero-le}
-use mathlib.Core.Bool.{false}
 use mathlib.Core.List.{[]}
 use borrow.Author.Tests.{ne-eqb}
 use Rattle.rules.specs.Figures.{layerTable, figureTable, pointTable, textTable}
@@ -9,23 +8,6 @@ use Rattle.keywords.proofs.KeyTexts.{key-none, figure-same}
 use borrow.Author.Needs.{needs}
 use Rattle.keywords.proofs.put_key.Statement.{statement}
 use Rattle.keywords.proofs.put_key.Tie as tie
-use Rattle.keywords.proofs.put_key.Reads as reads
-use Rattle.keywords.proofs.put_key.Lts as lts
-use Rattle.keywords.proofs.base_key.Reads as base-key-reads
-use Rattle.keywords.proofs.defines_key.Reads as defines-key-reads
-use Rattle.keywords.proofs.drawing_key.Reads as drawing-key-reads
-use Rattle.keywords.proofs.elec_key.Reads as elec-key-reads
-use Rattle.keywords.proofs.element_key.Reads as element-key-reads
-use Rattle.keywords.proofs.figure_key.Reads as figure-key-reads
-use Rattle.keywords.proofs.file_key.Reads as file-key-reads
-use Rattle.keywords.proofs.later_key.Reads as later-key-reads
-use Rattle.keywords.proofs.lettering_key.Reads as lettering-key-reads
-use Rattle.keywords.proofs.placed_key.Reads as placed-key-reads
-use Rattle.keywords.proofs.point_key.Reads as point-key-reads
-use Rattle.keywords.proofs.range_key.Reads as range-key-reads
-use Rattle.keywords.proofs.sym_key.Reads as sym-key-reads
-use Rattle.keywords.proofs.symbol_key.Reads as symbol-key-reads
-use Rattle.keywords.proofs.top_key.Reads as top-key-reads
 
 top-key-requires : tie.Need-top-key-requires
 top-key-requires c κs = tt

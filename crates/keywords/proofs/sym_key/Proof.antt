@@ -5,9 +5,6 @@ use Rattle.keywords.proofs.KeyTexts.{past, key-none}
 use borrow.Author.Needs.{needs}
 use Rattle.keywords.proofs.sym_key.Statement.{statement}
 use Rattle.keywords.proofs.sym_key.Tie as tie
-use Rattle.keywords.proofs.sym_key.Reads as reads
-use Rattle.keywords.proofs.sym_key.Lts as lts
-use Rattle.leaves.proofs.write.put.Reads as put-reads
 
 slice-aggregate-put : tie.Need-slice-aggregate-put
 slice-aggregate-put c = refl

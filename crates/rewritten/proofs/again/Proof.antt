@@ -4,11 +4,6 @@ use lib.Seq.{length-take-le}
 use borrow.Author.Needs.{needs}
 use Rattle.rewritten.proofs.again.Statement.{statement}
 use Rattle.rewritten.proofs.again.Tie as tie
-use Rattle.rewritten.proofs.again.Reads as reads
-use Rattle.rewritten.proofs.again.Lts as lts
-use Rattle.io.proofs.write_all.Reads as write-all-reads
-use Rattle.rewritten.proofs.read_back.Reads as read-back-reads
-use Rattle.rewritten.proofs.written_bytes.Reads as written-bytes-reads
 
 write-all-requires : tie.Need-write-all-requires
 write-all-requires c κs = search needs

@@ -4,9 +4,6 @@ use lib.Seq.{length-take-le}
 use borrow.Author.Needs.{needs}
 use Rattle.rewritten.proofs.ask.Statement.{statement}
 use Rattle.rewritten.proofs.ask.Tie as tie
-use Rattle.rewritten.proofs.ask.Reads as reads
-use Rattle.rewritten.proofs.ask.Lts as lts
-use Rattle.rewritten.proofs.first.Reads as first-reads
 
 slice-aggregate-out : tie.Need-slice-aggregate-out
 slice-aggregate-out c = search needs

@@ -4,10 +4,6 @@ use lib.Seq.{length-take-le}
 use borrow.Author.Needs.{needs}
 use Rattle.rewritten.proofs.first.Statement.{statement}
 use Rattle.rewritten.proofs.first.Tie as tie
-use Rattle.rewritten.proofs.first.Reads as reads
-use Rattle.rewritten.proofs.first.Lts as lts
-use Rattle.rewritten.proofs.rewrite_again.Reads as rewrite-again-reads
-use Rattle.rewritten.proofs.written_bytes.Reads as written-bytes-reads
 
 written-bytes-requires : tie.Need-written-bytes-requires
 written-bytes-requires c κs = search needs

@@ -4,9 +4,6 @@ use lib.ListN.{length}
 use borrow.Author.Needs.{needs}
 use Rattle.rewritten.proofs.main.Statement.{statement}
 use Rattle.rewritten.proofs.main.Tie as tie
-use Rattle.rewritten.proofs.main.Reads as reads
-use Rattle.rewritten.proofs.main.Lts as lts
-use Rattle.rewritten.proofs.question.Reads as question-reads
 
 abbrev Inv-loop : tie.InvT-loop
 Inv-loop spool₀ asked₀ spool asked = (asked ≤ 65536) × (61441 ≡ length spool)

@@ -4,9 +4,6 @@ use mathlib.Core.Path.{_≡_}
 use lib.ListN.{length}
 use Rattle.rewritten.proofs.places_apart.Statement.{statement}
 use Rattle.rewritten.proofs.places_apart.Tie as tie
-use Rattle.rewritten.proofs.places_apart.Reads as reads
-use Rattle.rewritten.proofs.places_apart.Lts as lts
-use Rattle.rewritten.proofs.without_places.Reads as without-places-reads
 
 abbrev Inv-loop : tie.InvT-loop
 Inv-loop table₀ i₀ table i = (i ≤ 256) × (length table ≡ length table₀)

@@ -1,12 +1,6 @@
 use borrow.Author.Needs.{needs}
 use Rattle.rewritten.proofs.read_back.Statement.{statement}
 use Rattle.rewritten.proofs.read_back.Tie as tie
-use Rattle.rewritten.proofs.read_back.Reads as reads
-use Rattle.rewritten.proofs.read_back.Lts as lts
-use Rattle.rewritten.proofs.places_apart.Reads as places-apart-reads
-use Rattle.sets.proofs.read.Reads as read-reads
-use Rattle.shows.proofs.answer_line.Reads as answer-line-reads
-use Rattle.shows.proofs.records.Reads as records-reads
 
 slice-aggregate-read : tie.Need-slice-aggregate-read
 slice-aggregate-read c = search needs

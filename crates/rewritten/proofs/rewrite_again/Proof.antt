@@ -1,9 +1,6 @@
 use borrow.Author.Needs.{needs}
 use Rattle.rewritten.proofs.rewrite_again.Statement.{statement}
 use Rattle.rewritten.proofs.rewrite_again.Tie as tie
-use Rattle.rewritten.proofs.rewrite_again.Reads as reads
-use Rattle.rewritten.proofs.rewrite_again.Lts as lts
-use Rattle.rewritten.proofs.again.Reads as again-reads
 
 slice-aggregate-again : tie.Need-slice-aggregate-again
 slice-aggregate-again c = search needs

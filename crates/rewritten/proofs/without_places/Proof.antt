@@ -4,9 +4,6 @@ use mathlib.Core.Path.{_≡_}
 use lib.ListN.{length}
 use Rattle.rewritten.proofs.without_places.Statement.{statement}
 use Rattle.rewritten.proofs.without_places.Tie as tie
-use Rattle.rewritten.proofs.without_places.Reads as reads
-use Rattle.rewritten.proofs.without_places.Lts as lts
-use Rattle.rewritten.proofs.apart.Reads as apart-reads
 
 abbrev Inv-loop : tie.InvT-loop
 Inv-loop rec₀ i₀ rec i = (i ≤ length rec₀) × (length rec ≡ length rec₀)

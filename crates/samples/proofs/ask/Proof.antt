@@ -4,9 +4,6 @@ use lib.Seq.{length-take-le}
 use borrow.Author.Needs.{needs}
 use Rattle.samples.proofs.ask.Statement.{statement}
 use Rattle.samples.proofs.ask.Tie as tie
-use Rattle.samples.proofs.ask.Reads as reads
-use Rattle.samples.proofs.ask.Lts as lts
-use Rattle.samples.proofs.answer.Reads as answer-reads
 
 returns : tie.Need-returns
 returns c = search needs

@@ -4,9 +4,6 @@ use mathlib.Core.Path.{_≡_}
 use lib.ListN.{length}
 use Rattle.samples.proofs.main.Statement.{statement}
 use Rattle.samples.proofs.main.Tie as tie
-use Rattle.samples.proofs.main.Reads as reads
-use Rattle.samples.proofs.main.Lts as lts
-use Rattle.samples.proofs.question.Reads as question-reads
 
 abbrev Inv-loop : tie.InvT-loop
 Inv-loop spool₀ len₀ asked₀ spool len asked = (asked ≤ 65536) × (61441 ≡ length spool)

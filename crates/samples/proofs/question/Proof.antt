@@ -4,12 +4,6 @@ use lib.Seq.{length-take-le}
 use borrow.Author.Needs.{needs}
 use Rattle.samples.proofs.question.Statement.{statement}
 use Rattle.samples.proofs.question.Tie as tie
-use Rattle.samples.proofs.question.Reads as reads
-use Rattle.samples.proofs.question.Lts as lts
-use Rattle.io.proofs.read_full.Reads as read-full-reads
-use Rattle.samples.proofs.ask.Reads as ask-reads
-use Rattle.samples.proofs.spool_length.Reads as spool-length-reads
-use Rattle.shows.proofs.questions.pair.Reads as pair-reads
 
 slice-aggregate-read-full : tie.Need-slice-aggregate-read-full
 slice-aggregate-read-full c = search needs

@@ -3,9 +3,6 @@ use Prim.Native.Nat.{_≤_, _-_}
 use lib.ListN.{length}
 use Rattle.samples.proofs.show_leavings.Statement.{statement}
 use Rattle.samples.proofs.show_leavings.Tie as tie
-use Rattle.samples.proofs.show_leavings.Reads as reads
-use Rattle.samples.proofs.show_leavings.Lts as lts
-use Rattle.io.proofs.write_all.Reads as write-all-reads
 
 abbrev Inv-loop : tie.InvT-loop
 Inv-loop from table i₀ t4 i = i ≤ length table

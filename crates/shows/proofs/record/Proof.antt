@@ -3,11 +3,6 @@ use Prim.Native.Nat.{_≤_, _-_}
 use lib.ListN.{length}
 use Rattle.shows.proofs.record.Statement.{statement}
 use Rattle.shows.proofs.record.Tie as tie
-use Rattle.shows.proofs.record.Reads as reads
-use Rattle.shows.proofs.record.Lts as lts
-use Rattle.shows.proofs.newline.Reads as newline-reads
-use Rattle.shows.proofs.signed.Reads as signed-reads
-use Rattle.shows.proofs.space.Reads as space-reads
 
 abbrev Inv-loop : tie.InvT-loop
 Inv-loop rec i₀ i = i ≤ length rec

@@ -2,9 +2,6 @@ use Prim.Native.Nat.{_≤_, _-_}
 use borrow.Author.Needs.{needs}
 use Rattle.shows.proofs.records.Statement.{statement}
 use Rattle.shows.proofs.records.Tie as tie
-use Rattle.shows.proofs.records.Reads as reads
-use Rattle.shows.proofs.records.Lts as lts
-use Rattle.shows.proofs.record.Reads as record-reads
 
 abbrev Inv-loop : tie.InvT-loop
 Inv-loop count table i₀ i = i ≤ 256

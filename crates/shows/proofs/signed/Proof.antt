@@ -6,10 +6,6 @@ use Rattle.leaves.proofs.Ints.{below, more-fits, turned-fits, turned-back, not-
 use borrow.Author.Needs.{needs}
 use Rattle.shows.proofs.signed.Statement.{statement}
 use Rattle.shows.proofs.signed.Tie as tie
-use Rattle.shows.proofs.signed.Reads as reads
-use Rattle.shows.proofs.signed.Lts as lts
-use Rattle.shows.proofs.show.Reads as show-reads
-use Rattle.io.proofs.write_all.Reads as write-all-reads
 
 slice-aggregate-write-all : tie.Need-slice-aggregate-write-all
 slice-aggregate-write-all c = search needs

@@ -5,12 +5,6 @@ use Rattle.tables.specs.Tables.{tableOf}
 use borrow.Author.Needs.{needs}
 use Rattle.worked.proofs.in_text.Statement.{statement}
 use Rattle.worked.proofs.in_text.Tie as tie
-use Rattle.worked.proofs.in_text.Reads as reads
-use Rattle.worked.proofs.in_text.Lts as lts
-use Rattle.entries.proofs.acts.act.Reads as act-reads
-use Rattle.lines.proofs.forms.look.Reads as look-reads
-use Rattle.worked.proofs.show_next.Reads as show-next-reads
-use Rattle.worked.proofs.show_text.Reads as show-text-reads
 
 cast-look : tie.Need-cast-look
 cast-look c = search needs

@@ -3,9 +3,6 @@ use lib.Seq.{length-take-le}
 use borrow.Author.Needs.{needs}
 use Rattle.worked.proofs.show_written.Statement.{statement}
 use Rattle.worked.proofs.show_written.Tie as tie
-use Rattle.worked.proofs.show_written.Reads as reads
-use Rattle.worked.proofs.show_written.Lts as lts
-use Rattle.io.proofs.write_all.Reads as write-all-reads
 
 enum-known-w : tie.Need-enum-known-w
 enum-known-w c = search needs

@@ -9,11 +9,6 @@ use Rattle.account.proofs.Lent.{roomless-acts, lent-acts, lent-room}
 use borrow.Author.Needs.{needs}
 use Rattle.drawing.proofs.blocks.act_at.Statement.{statement}
 use Rattle.drawing.proofs.blocks.act_at.Tie as tie
-use Rattle.drawing.proofs.blocks.act_at.Reads as reads
-use Rattle.drawing.proofs.blocks.act_at.Lts as lts
-use Rattle.entries.proofs.acts.act.Reads as act-reads
-use Rattle.drawing.proofs.blocks.has_room.Reads as has-room-reads
-use Rattle.drawing.proofs.blocks.no_room.Reads as no-room-reads
 
 has-room-requires : tie.Need-has-room-requires
 has-room-requires c κs = search needs

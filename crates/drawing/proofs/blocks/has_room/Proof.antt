@@ -7,8 +7,6 @@ use Rattle.account.proofs.Lent.{room-left}
 use borrow.Author.Needs.{needs}
 use Rattle.drawing.proofs.blocks.has_room.Statement.{statement}
 use Rattle.drawing.proofs.blocks.has_room.Tie as tie
-use Rattle.drawing.proofs.blocks.has_room.Reads as reads
-use Rattle.drawing.proofs.blocks.has_room.Lts as lts
 
 returns : tie.Need-returns
 returns c = sym (lt-leb (c .before .args .w + 32) (length (c .before .args .t .now)) (omega (arith, c .if1 .taken)))

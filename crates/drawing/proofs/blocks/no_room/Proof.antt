@@ -3,8 +3,6 @@ use Rattle.account.specs.Account.{roomlessNext}
 use borrow.Author.Needs.{needs}
 use Rattle.drawing.proofs.blocks.no_room.Statement.{statement}
 use Rattle.drawing.proofs.blocks.no_room.Tie as tie
-use Rattle.drawing.proofs.blocks.no_room.Reads as reads
-use Rattle.drawing.proofs.blocks.no_room.Lts as lts
 
 enum-told : tie.Need-enum-told
 enum-told c = search needs

@@ -9,8 +9,6 @@ use mathlib.Core.Bool.{false}
 use lib.Seq.{paste, paste-suc, take-all}
 use Rattle.drawing.proofs.blocks.unmark.Statement.{statement}
 use Rattle.drawing.proofs.blocks.unmark.Tie as tie
-use Rattle.drawing.proofs.blocks.unmark.Reads as reads
-use Rattle.drawing.proofs.blocks.unmark.Lts as lts
 
 abbrev Inv-loop : tie.InvT-loop
 Inv-loop marks₀ i₀ marks i =

@@ -1,12 +1,6 @@
-use mathlib.Core.Path.{sym, _∙_}
-use native.Mathlib.Omega.{arith}
-use borrow.Author.Tests.{lt-ltb, le-ltb, lt-leb, le-leb, not-true, not-false}
 use borrow.Author.Needs.{needs}
 use Rattle.drawing.proofs.classes.both.Statement.{statement}
 use Rattle.drawing.proofs.classes.both.Tie as tie
-use Rattle.drawing.proofs.classes.both.Reads as reads
-use Rattle.drawing.proofs.classes.both.Lts as lts
-use Rattle.drawing.proofs.classes.less.Reads as less-reads
 
 less-requires : tie.Need-less-requires
 less-requires c κs = search needs

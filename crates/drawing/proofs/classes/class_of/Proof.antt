@@ -1,13 +1,9 @@
 use Rattle.drawing.proofs.ClassDigits.{within-is, class-low, class-high, class-none}
 use mathlib.Core.Path.{sym, _∙_}
 use native.Mathlib.Omega.{arith}
-use borrow.Author.Tests.{lt-ltb, le-ltb, lt-leb, le-leb, not-true, not-false}
 use borrow.Author.Needs.{needs}
 use Rattle.drawing.proofs.classes.class_of.Statement.{statement}
 use Rattle.drawing.proofs.classes.class_of.Tie as tie
-use Rattle.drawing.proofs.classes.class_of.Reads as reads
-use Rattle.drawing.proofs.classes.class_of.Lts as lts
-use Rattle.leaves.proofs.bytes.within.Reads as within-reads
 
 within-requires : tie.Need-within-requires
 within-requires c κs = search needs

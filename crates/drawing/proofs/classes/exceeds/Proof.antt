@@ -1,10 +1,7 @@
-use mathlib.Core.Path.{sym, _∙_}
-use native.Mathlib.Omega.{arith}
-use borrow.Author.Tests.{lt-ltb, le-ltb, lt-leb, le-leb, not-true, not-false}
+use mathlib.Core.Path.{sym}
+use borrow.Author.Tests.{lt-ltb, le-ltb}
 use Rattle.drawing.proofs.classes.exceeds.Statement.{statement}
 use Rattle.drawing.proofs.classes.exceeds.Tie as tie
-use Rattle.drawing.proofs.classes.exceeds.Reads as reads
-use Rattle.drawing.proofs.classes.exceeds.Lts as lts
 
 returns : tie.Need-returns
 returns c = sym (rw (lt-ltb _ _ (c .if1 .taken)))

@@ -1,12 +1,8 @@
 use mathlib.Core.Path.{sym, _∙_}
-use native.Mathlib.Omega.{arith}
-use borrow.Author.Tests.{lt-ltb, le-ltb, lt-leb, le-leb, not-true, not-false}
+use borrow.Author.Tests.{not-true, not-false}
 use borrow.Author.Needs.{needs}
 use Rattle.drawing.proofs.classes.hides.Statement.{statement}
 use Rattle.drawing.proofs.classes.hides.Tie as tie
-use Rattle.drawing.proofs.classes.hides.Reads as reads
-use Rattle.drawing.proofs.classes.hides.Lts as lts
-use Rattle.drawing.proofs.classes.reaches.Reads as reaches-reads
 
 reaches-requires : tie.Need-reaches-requires
 reaches-requires c κs = search needs

@@ -7,9 +7,6 @@ use Rattle.drawing.proofs.DrawingSteps.{id-parts, digits-are, digits-no
 use borrow.Author.Needs.{needs}
 use Rattle.drawing.proofs.drawing_format.layer_digits.Statement.{statement}
 use Rattle.drawing.proofs.drawing_format.layer_digits.Tie as tie
-use Rattle.drawing.proofs.drawing_format.layer_digits.Reads as reads
-use Rattle.drawing.proofs.drawing_format.layer_digits.Lts as lts
-use Rattle.leaves.proofs.numbers.fixed.Reads as fixed-reads
 
 sub-fixed : tie.Need-sub-fixed
 sub-fixed c = omega (arith, id-parts (c .before .args .id .now) (c .before .pre) .0)

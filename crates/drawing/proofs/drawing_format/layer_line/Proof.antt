@@ -13,13 +13,6 @@ use Rattle.drawing.proofs.DrawingSteps.{layer-misspelt, layer-unnamed, 
 use borrow.Author.Needs.{needs}
 use Rattle.drawing.proofs.drawing_format.layer_line.Statement.{statement}
 use Rattle.drawing.proofs.drawing_format.layer_line.Tie as tie
-use Rattle.drawing.proofs.drawing_format.layer_line.Reads as reads
-use Rattle.drawing.proofs.drawing_format.layer_line.Lts as lts
-use Rattle.entries.proofs.names.index_of.Reads as index-of-reads
-use Rattle.entries.proofs.names.part.Reads as part-reads
-use Rattle.leaves.proofs.bytes.is_layer_id.Reads as is-layer-id-reads
-use Rattle.drawing.proofs.drawing_format.layer_name.Reads as layer-name-reads
-use Rattle.drawing.proofs.drawing_format.take_layer.Reads as take-layer-reads
 
 part-requires : tie.Need-part-requires
 part-requires c κs = search needs

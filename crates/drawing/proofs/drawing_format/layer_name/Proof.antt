@@ -8,11 +8,6 @@ use Rattle.drawing.proofs.DrawingSteps.{name-is, name-long, name-short,
 use borrow.Author.Needs.{needs}
 use Rattle.drawing.proofs.drawing_format.layer_name.Statement.{statement}
 use Rattle.drawing.proofs.drawing_format.layer_name.Tie as tie
-use Rattle.drawing.proofs.drawing_format.layer_name.Reads as reads
-use Rattle.drawing.proofs.drawing_format.layer_name.Lts as lts
-use Rattle.entries.proofs.names.part.Reads as part-reads
-use Rattle.entries.proofs.shapes.shape_for.Reads as shape-for-reads
-use Rattle.leaves.proofs.texts.fits.Reads as fits-reads
 
 shape-for-requires : tie.Need-shape-for-requires
 shape-for-requires c κs = search needs

@@ -13,11 +13,6 @@ use Rattle.drawing.proofs.DrawingSteps.{drawing-rows, drawing-room, by-
 use borrow.Author.Needs.{needs}
 use Rattle.drawing.proofs.drawing_format.on_drawing.Statement.{statement}
 use Rattle.drawing.proofs.drawing_format.on_drawing.Tie as tie
-use Rattle.drawing.proofs.drawing_format.on_drawing.Reads as reads
-use Rattle.drawing.proofs.drawing_format.on_drawing.Lts as lts
-use Rattle.entries.proofs.acts.act.Reads as act-reads
-use Rattle.drawing.proofs.blocks.at_block.Reads as at-block-reads
-use Rattle.drawing.proofs.blocks.digits_of.Reads as digits-of-reads
 
 digits-of-requires : tie.Need-digits-of-requires
 digits-of-requires c κs = search needs

@@ -4,10 +4,6 @@ use Rattle.drawing.proofs.DrawingSteps.{names-ignored, names-close, nam
 use borrow.Author.Needs.{needs}
 use Rattle.drawing.proofs.drawing_format.on_layer_names.Statement.{statement}
 use Rattle.drawing.proofs.drawing_format.on_layer_names.Tie as tie
-use Rattle.drawing.proofs.drawing_format.on_layer_names.Reads as reads
-use Rattle.drawing.proofs.drawing_format.on_layer_names.Lts as lts
-use Rattle.drawing.proofs.blocks.at_block.Reads as at-block-reads
-use Rattle.drawing.proofs.drawing_format.layer_line.Reads as layer-line-reads
 
 enum-told : tie.Need-enum-told
 enum-told c = search needs

@@ -7,10 +7,6 @@ use Rattle.drawing.proofs.DrawingSteps.{id-parts, letter-fits, digits-f
 use borrow.Author.Needs.{needs}
 use Rattle.drawing.proofs.drawing_format.put_layer.Statement.{statement}
 use Rattle.drawing.proofs.drawing_format.put_layer.Tie as tie
-use Rattle.drawing.proofs.drawing_format.put_layer.Reads as reads
-use Rattle.drawing.proofs.drawing_format.put_layer.Lts as lts
-use Rattle.drawing.proofs.drawing_format.layer_digits.Reads as layer-digits-reads
-use Rattle.drawing.proofs.table.head.Reads as head-reads
 
 head-requires : tie.Need-head-requires
 head-requires c κs = search needs

@@ -8,12 +8,6 @@ use Rattle.drawing.proofs.DrawingSteps.{id-place, no-record, a-record, 
 use borrow.Author.Needs.{needs}
 use Rattle.drawing.proofs.drawing_format.take_layer.Statement.{statement}
 use Rattle.drawing.proofs.drawing_format.take_layer.Tie as tie
-use Rattle.drawing.proofs.drawing_format.take_layer.Reads as reads
-use Rattle.drawing.proofs.drawing_format.take_layer.Lts as lts
-use Rattle.entries.proofs.names.part.Reads as part-reads
-use Rattle.drawing.proofs.blocks.has_room.Reads as has-room-reads
-use Rattle.drawing.proofs.drawing_format.layer_taken.Reads as layer-taken-reads
-use Rattle.drawing.proofs.drawing_format.put_layer.Reads as put-layer-reads
 
 has-room-requires : tie.Need-has-room-requires
 has-room-requires c κs = search needs

@@ -5,9 +5,6 @@ use Rattle.account.specs.declared.Step.the-variants as S
 use borrow.Author.Needs.{needs}
 use Rattle.drawing.proofs.element.close_element.Statement.{statement}
 use Rattle.drawing.proofs.element.close_element.Tie as tie
-use Rattle.drawing.proofs.element.close_element.Reads as reads
-use Rattle.drawing.proofs.element.close_element.Lts as lts
-use Rattle.drawing.proofs.blocks.at_block.Reads as at-block-reads
 
 slice-read-if1 : tie.Need-slice-read-if1
 slice-read-if1 c = search needs

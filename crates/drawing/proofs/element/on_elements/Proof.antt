@@ -9,12 +9,6 @@ use Rattle.drawing.proofs.ElementActs.{element-long, element-room, know
 use borrow.Author.Needs.{needs}
 use Rattle.drawing.proofs.element.on_elements.Statement.{statement}
 use Rattle.drawing.proofs.element.on_elements.Tie as tie
-use Rattle.drawing.proofs.element.on_elements.Reads as reads
-use Rattle.drawing.proofs.element.on_elements.Lts as lts
-use Rattle.entries.proofs.acts.act.Reads as act-reads
-use Rattle.drawing.proofs.blocks.no_digits.Reads as no-digits-reads
-use Rattle.drawing.proofs.element.close_element.Reads as close-element-reads
-use Rattle.drawing.proofs.element.open_layer.Reads as open-layer-reads
 
 no-digits-requires : tie.Need-no-digits-requires
 no-digits-requires c κs = search needs

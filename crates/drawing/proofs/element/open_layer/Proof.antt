@@ -3,8 +3,6 @@ use Rattle.rules.proofs.Chains.{clash}
 use borrow.Author.Needs.{needs}
 use Rattle.drawing.proofs.element.open_layer.Statement.{statement}
 use Rattle.drawing.proofs.element.open_layer.Tie as tie
-use Rattle.drawing.proofs.element.open_layer.Reads as reads
-use Rattle.drawing.proofs.element.open_layer.Lts as lts
 
 slice-read-if1 : tie.Need-slice-read-if1
 slice-read-if1 c = search needs

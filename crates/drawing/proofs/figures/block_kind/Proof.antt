@@ -2,8 +2,6 @@ use mathlib.Core.Path.{sym}
 use borrow.Author.Needs.{needs}
 use Rattle.drawing.proofs.figures.block_kind.Statement.{statement}
 use Rattle.drawing.proofs.figures.block_kind.Tie as tie
-use Rattle.drawing.proofs.figures.block_kind.Reads as reads
-use Rattle.drawing.proofs.figures.block_kind.Lts as lts
 
 add-result : tie.Need-add-result
 add-result c = search needs

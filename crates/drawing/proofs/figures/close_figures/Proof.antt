@@ -4,9 +4,6 @@ use Rattle.account.specs.declared.Step.the-variants as S
 use borrow.Author.Needs.{needs}
 use Rattle.drawing.proofs.figures.close_figures.Statement.{statement}
 use Rattle.drawing.proofs.figures.close_figures.Tie as tie
-use Rattle.drawing.proofs.figures.close_figures.Reads as reads
-use Rattle.drawing.proofs.figures.close_figures.Lts as lts
-use Rattle.drawing.proofs.blocks.at_block.Reads as at-block-reads
 
 at-block-requires : tie.Need-at-block-requires
 at-block-requires c κs = search needs

@@ -2,8 +2,6 @@ use borrow.Author.Tests.{eq-eqb, ne-eqb, not-true, not-false}
 use mathlib.Core.Path.{sym}
 use Rattle.drawing.proofs.figures.home_table.Statement.{statement}
 use Rattle.drawing.proofs.figures.home_table.Tie as tie
-use Rattle.drawing.proofs.figures.home_table.Reads as reads
-use Rattle.drawing.proofs.figures.home_table.Lts as lts
 
 returns : tie.Need-returns
 returns c = sym (rw (not-true (c .before .args .layered) (c .if1 .taken)))

@@ -14,19 +14,6 @@ use Rattle.drawing.proofs.FigureActs.{home-rows-most, home-lent, home-l
 use borrow.Author.Needs.{needs}
 use Rattle.drawing.proofs.figures.on_figures.Statement.{statement}
 use Rattle.drawing.proofs.figures.on_figures.Tie as tie
-use Rattle.drawing.proofs.figures.on_figures.Reads as reads
-use Rattle.drawing.proofs.figures.on_figures.Lts as lts
-use Rattle.drawing.proofs.blocks.act_at.Reads as act-at-reads
-use Rattle.drawing.proofs.blocks.digits_of.Reads as digits-of-reads
-use Rattle.drawing.proofs.figures.block_kind.Reads as block-kind-reads
-use Rattle.drawing.proofs.figures.close_figures.Reads as close-figures-reads
-use Rattle.drawing.proofs.figures.figure_opened.Reads as figure-opened-reads
-use Rattle.drawing.proofs.figures.home_rows.Reads as home-rows-reads
-use Rattle.drawing.proofs.figures.home_table.Reads as home-table-reads
-use Rattle.drawing.proofs.figures.line_kind.Reads as line-kind-reads
-use Rattle.drawing.proofs.figures.more_figures.Reads as more-figures-reads
-use Rattle.drawing.proofs.figures.unmark_if.Reads as unmark-if-reads
-use Rattle.drawing.proofs.table.head.Reads as head-reads
 
 home-rows-requires : tie.Need-home-rows-requires
 home-rows-requires c κs = search needs

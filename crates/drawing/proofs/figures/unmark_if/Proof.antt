@@ -2,9 +2,6 @@ use mathlib.Core.Path.{sym, _∙_}
 use borrow.Author.Needs.{needs}
 use Rattle.drawing.proofs.figures.unmark_if.Statement.{statement}
 use Rattle.drawing.proofs.figures.unmark_if.Tie as tie
-use Rattle.drawing.proofs.figures.unmark_if.Reads as reads
-use Rattle.drawing.proofs.figures.unmark_if.Lts as lts
-use Rattle.drawing.proofs.blocks.unmark.Reads as unmark-reads
 
 unmark-requires : tie.Need-unmark-requires
 unmark-requires c κs = search needs

@@ -2,8 +2,6 @@ use Rattle.account.proofs.FileParts.{around-inner}
 use borrow.Author.Needs.{needs}
 use Rattle.drawing.proofs.file_format.around.Statement.{statement}
 use Rattle.drawing.proofs.file_format.around.Tie as tie
-use Rattle.drawing.proofs.file_format.around.Reads as reads
-use Rattle.drawing.proofs.file_format.around.Lts as lts
 
 returns : tie.Need-returns
 returns c = search needs

@@ -6,15 +6,6 @@ use Rattle.drawing.proofs.FileCloses.{chained-is, unchained, undated, c
 use borrow.Author.Needs.{needs}
 use Rattle.drawing.proofs.file_format.close_file.Statement.{statement}
 use Rattle.drawing.proofs.file_format.close_file.Tie as tie
-use Rattle.drawing.proofs.file_format.close_file.Reads as reads
-use Rattle.drawing.proofs.file_format.close_file.Lts as lts
-use Rattle.entries.proofs.names.part.Reads as part-reads
-use Rattle.drawing.proofs.blocks.at_block.Reads as at-block-reads
-use Rattle.drawing.proofs.file_format.copy_record.Reads as copy-record-reads
-use Rattle.drawing.proofs.file_format.dated.Reads as dated-reads
-use Rattle.drawing.proofs.file_format.first_tally.Reads as first-tally-reads
-use Rattle.drawing.proofs.file_format.later_tally.Reads as later-tally-reads
-use Rattle.drawing.proofs.file_format.names.Reads as names-reads
 
 shared-slice-copy-out-t10 : tie.Need-shared-slice-copy-out-t10
 shared-slice-copy-out-t10 c = search needs

@@ -11,8 +11,6 @@ use lib.ListN.{length, length-set}
 use lib.Seq.{paste, paste-zero}
 use Rattle.drawing.proofs.file_format.copy_record.Statement.{statement}
 use Rattle.drawing.proofs.file_format.copy_record.Tie as tie
-use Rattle.drawing.proofs.file_format.copy_record.Reads as reads
-use Rattle.drawing.proofs.file_format.copy_record.Lts as lts
 
 abbrev Inv-loop : tie.InvT-loop
 Inv-loop header n w t₀ i₀ t i = (i ≤ n) × (length t ≡ length t₀) × (t ≡ paste t₀ w header i)

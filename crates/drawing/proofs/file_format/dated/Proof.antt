@@ -2,8 +2,6 @@ use Rattle.account.proofs.FileCounts.{header-cast, dated-not, dated-so}
 use borrow.Author.Needs.{needs}
 use Rattle.drawing.proofs.file_format.dated.Statement.{statement}
 use Rattle.drawing.proofs.file_format.dated.Tie as tie
-use Rattle.drawing.proofs.file_format.dated.Reads as reads
-use Rattle.drawing.proofs.file_format.dated.Lts as lts
 
 shared-slice-copy-out-if1 : tie.Need-shared-slice-copy-out-if1
 shared-slice-copy-out-if1 c = search needs

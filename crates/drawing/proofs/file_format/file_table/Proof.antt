@@ -1,8 +1,6 @@
 use borrow.Author.Needs.{needs}
 use Rattle.drawing.proofs.file_format.file_table.Statement.{statement}
 use Rattle.drawing.proofs.file_format.file_table.Tie as tie
-use Rattle.drawing.proofs.file_format.file_table.Reads as reads
-use Rattle.drawing.proofs.file_format.file_table.Lts as lts
 
 add-result : tie.Need-add-result
 add-result c = search needs

@@ -6,11 +6,6 @@ use Rattle.account.specs.FileLines.{hereTally, setTally}
 use borrow.Author.Needs.{needs}
 use Rattle.drawing.proofs.file_format.first_tally.Statement.{statement}
 use Rattle.drawing.proofs.file_format.first_tally.Tie as tie
-use Rattle.drawing.proofs.file_format.first_tally.Reads as reads
-use Rattle.drawing.proofs.file_format.first_tally.Lts as lts
-use Rattle.drawing.proofs.file_format.here_tally.Reads as here-tally-reads
-use Rattle.drawing.proofs.file_format.ranges_tally.Reads as ranges-tally-reads
-use Rattle.drawing.proofs.file_format.set_tally.Reads as set-tally-reads
 
 ranges-tally-requires : tie.Need-ranges-tally-requires
 ranges-tally-requires c κs = search needs

@@ -1,10 +1,6 @@
 use borrow.Author.Needs.{needs}
 use Rattle.drawing.proofs.file_format.keep.Statement.{statement}
 use Rattle.drawing.proofs.file_format.keep.Tie as tie
-use Rattle.drawing.proofs.file_format.keep.Reads as reads
-use Rattle.drawing.proofs.file_format.keep.Lts as lts
-use Rattle.drawing.proofs.file_format.keep_first.Reads as keep-first-reads
-use Rattle.drawing.proofs.file_format.keep_later.Reads as keep-later-reads
 
 keep-first-requires : tie.Need-keep-first-requires
 keep-first-requires c κs = search needs

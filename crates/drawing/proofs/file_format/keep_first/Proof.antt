@@ -3,9 +3,6 @@ use Rattle.account.proofs.FileParts.{first-other, first-name}
 use borrow.Author.Needs.{needs}
 use Rattle.drawing.proofs.file_format.keep_first.Statement.{statement}
 use Rattle.drawing.proofs.file_format.keep_first.Tie as tie
-use Rattle.drawing.proofs.file_format.keep_first.Reads as reads
-use Rattle.drawing.proofs.file_format.keep_first.Lts as lts
-use Rattle.drawing.proofs.file_format.keep_name.Reads as keep-name-reads
 
 returns : tie.Need-returns
 returns c = first-other _ _ (c .if1 .taken)

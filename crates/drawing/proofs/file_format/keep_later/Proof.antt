@@ -7,9 +7,6 @@ use Rattle.account.proofs.FileParts.{later-name, later-date, later-time, later-
 use borrow.Author.Needs.{needs}
 use Rattle.drawing.proofs.file_format.keep_later.Statement.{statement}
 use Rattle.drawing.proofs.file_format.keep_later.Tie as tie
-use Rattle.drawing.proofs.file_format.keep_later.Reads as reads
-use Rattle.drawing.proofs.file_format.keep_later.Lts as lts
-use Rattle.drawing.proofs.file_format.keep_name.Reads as keep-name-reads
 
 keep-name-requires : tie.Need-keep-name-requires
 keep-name-requires c κs = search needs

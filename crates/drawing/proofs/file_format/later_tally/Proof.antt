@@ -5,9 +5,6 @@ use Rattle.account.specs.FileLines.{hereTally}
 use borrow.Author.Needs.{needs}
 use Rattle.drawing.proofs.file_format.later_tally.Statement.{statement}
 use Rattle.drawing.proofs.file_format.later_tally.Tie as tie
-use Rattle.drawing.proofs.file_format.later_tally.Reads as reads
-use Rattle.drawing.proofs.file_format.later_tally.Lts as lts
-use Rattle.drawing.proofs.file_format.here_tally.Reads as here-tally-reads
 
 shared-slice-copy-out-here-tally : tie.Need-shared-slice-copy-out-here-tally
 shared-slice-copy-out-here-tally c = search needs

@@ -2,8 +2,6 @@ use Rattle.account.proofs.FileParts.{from-last}
 use borrow.Author.Needs.{needs}
 use Rattle.drawing.proofs.file_format.marks_from.Statement.{statement}
 use Rattle.drawing.proofs.file_format.marks_from.Tie as tie
-use Rattle.drawing.proofs.file_format.marks_from.Reads as reads
-use Rattle.drawing.proofs.file_format.marks_from.Lts as lts
 
 returns : tie.Need-returns
 returns c = search needs

@@ -2,9 +2,6 @@ use Rattle.account.proofs.FileParts.{to-last}
 use borrow.Author.Needs.{needs}
 use Rattle.drawing.proofs.file_format.marks_to.Statement.{statement}
 use Rattle.drawing.proofs.file_format.marks_to.Tie as tie
-use Rattle.drawing.proofs.file_format.marks_to.Reads as reads
-use Rattle.drawing.proofs.file_format.marks_to.Lts as lts
-use Rattle.drawing.proofs.file_format.own_marks.Reads as own-marks-reads
 
 own-marks-requires : tie.Need-own-marks-requires
 own-marks-requires c κs = search needs

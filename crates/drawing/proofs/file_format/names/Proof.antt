@@ -9,9 +9,6 @@ use Rattle.rules.specs.Values.{capital}
 use Rattle.account.proofs.FileParts.{name-long, name-step, name-not, name-end}
 use Rattle.drawing.proofs.file_format.names.Statement.{statement}
 use Rattle.drawing.proofs.file_format.names.Tie as tie
-use Rattle.drawing.proofs.file_format.names.Reads as reads
-use Rattle.drawing.proofs.file_format.names.Lts as lts
-use Rattle.leaves.proofs.bytes.capital.Reads as capital-reads
 
 abbrev Inv-loop : tie.InvT-loop
 Inv-loop c name i₀ i = (i ≤ length c) × (length c ≡ length name) × (same (map capital c) name ≡ same (map capital (drop i c)) (drop i name))

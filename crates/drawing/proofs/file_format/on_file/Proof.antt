@@ -7,17 +7,6 @@ use Rattle.drawing.proofs.FileActs.{header-room, kept-own, kept-inner, 
 use borrow.Author.Needs.{needs}
 use Rattle.drawing.proofs.file_format.on_file.Statement.{statement}
 use Rattle.drawing.proofs.file_format.on_file.Tie as tie
-use Rattle.drawing.proofs.file_format.on_file.Reads as reads
-use Rattle.drawing.proofs.file_format.on_file.Lts as lts
-use Rattle.entries.proofs.acts.act.Reads as act-reads
-use Rattle.drawing.proofs.blocks.at_block.Reads as at-block-reads
-use Rattle.drawing.proofs.blocks.no_digits.Reads as no-digits-reads
-use Rattle.drawing.proofs.file_format.around.Reads as around-reads
-use Rattle.drawing.proofs.file_format.close_file.Reads as close-file-reads
-use Rattle.drawing.proofs.file_format.file_table.Reads as file-table-reads
-use Rattle.drawing.proofs.file_format.keep.Reads as keep-reads
-use Rattle.drawing.proofs.file_format.marks_from.Reads as marks-from-reads
-use Rattle.drawing.proofs.file_format.marks_to.Reads as marks-to-reads
 
 marks-from-requires : tie.Need-marks-from-requires
 marks-from-requires c κs = search needs

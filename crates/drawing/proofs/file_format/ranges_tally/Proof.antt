@@ -2,8 +2,6 @@ use Rattle.account.proofs.FileCounts.{header-cast}
 use borrow.Author.Needs.{needs}
 use Rattle.drawing.proofs.file_format.ranges_tally.Statement.{statement}
 use Rattle.drawing.proofs.file_format.ranges_tally.Tie as tie
-use Rattle.drawing.proofs.file_format.ranges_tally.Reads as reads
-use Rattle.drawing.proofs.file_format.ranges_tally.Lts as lts
 
 shared-slice-copy-out-tally : tie.Need-shared-slice-copy-out-tally
 shared-slice-copy-out-tally c = search needs

@@ -5,12 +5,6 @@ use Rattle.account.proofs.PlacedLaws.{placed-six, close-short, close-whole}
 use borrow.Author.Needs.{needs}
 use Rattle.drawing.proofs.placed.close_placed.Statement.{statement}
 use Rattle.drawing.proofs.placed.close_placed.Tie as tie
-use Rattle.drawing.proofs.placed.close_placed.Reads as reads
-use Rattle.drawing.proofs.placed.close_placed.Lts as lts
-use Rattle.entries.proofs.acts.complete.Reads as complete-reads
-use Rattle.drawing.proofs.blocks.figure_done.Reads as figure-done-reads
-use Rattle.drawing.proofs.classes.both.Reads as both-reads
-use Rattle.drawing.proofs.placed.mark_unread.Reads as mark-unread-reads
 
 both-requires : tie.Need-both-requires
 both-requires c κs = search needs

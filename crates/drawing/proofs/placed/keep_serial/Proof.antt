@@ -8,9 +8,6 @@ use Rattle.account.proofs.PlacedLaws.{own-back, own-cast, serial-used, serial-f
 use borrow.Author.Needs.{needs}
 use Rattle.drawing.proofs.placed.keep_serial.Statement.{statement}
 use Rattle.drawing.proofs.placed.keep_serial.Tie as tie
-use Rattle.drawing.proofs.placed.keep_serial.Reads as reads
-use Rattle.drawing.proofs.placed.keep_serial.Lts as lts
-use Rattle.drawing.proofs.serials.has.Reads as has-reads
 
 shared-slice-copy-out-own : tie.Need-shared-slice-copy-out-own
 shared-slice-copy-out-own c = search needs

@@ -4,9 +4,6 @@ use Rattle.account.specs.PlacedLines.{hiddenAt}
 use borrow.Author.Needs.{needs}
 use Rattle.drawing.proofs.placed.mark_hidden.Statement.{statement}
 use Rattle.drawing.proofs.placed.mark_hidden.Tie as tie
-use Rattle.drawing.proofs.placed.mark_hidden.Reads as reads
-use Rattle.drawing.proofs.placed.mark_hidden.Lts as lts
-use Rattle.drawing.proofs.classes.hides.Reads as hides-reads
 
 hides-requires : tie.Need-hides-requires
 hides-requires c κs = search needs

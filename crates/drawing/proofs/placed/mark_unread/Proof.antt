@@ -2,9 +2,6 @@ use Rattle.account.proofs.PlacedLaws.{hidden-all}
 use borrow.Author.Needs.{needs}
 use Rattle.drawing.proofs.placed.mark_unread.Statement.{statement}
 use Rattle.drawing.proofs.placed.mark_unread.Tie as tie
-use Rattle.drawing.proofs.placed.mark_unread.Reads as reads
-use Rattle.drawing.proofs.placed.mark_unread.Lts as lts
-use Rattle.drawing.proofs.placed.mark_hidden.Reads as mark-hidden-reads
 
 mark-hidden-requires : tie.Need-mark-hidden-requires
 mark-hidden-requires c κs = search needs

@@ -14,14 +14,6 @@ use Rattle.account.proofs.PlacedLaws.{placed-room, found-ready, row-number, key
 use borrow.Author.Needs.{needs}
 use Rattle.drawing.proofs.placed.on_key.Statement.{statement}
 use Rattle.drawing.proofs.placed.on_key.Tie as tie
-use Rattle.drawing.proofs.placed.on_key.Reads as reads
-use Rattle.drawing.proofs.placed.on_key.Lts as lts
-use Rattle.entries.proofs.names.part.Reads as part-reads
-use Rattle.entries.proofs.row_lines.act_row.Reads as act-row-reads
-use Rattle.entries.proofs.row_lines.reaches.Reads as reaches-reads
-use Rattle.drawing.proofs.placed.on_unknown.Reads as on-unknown-reads
-use Rattle.drawing.proofs.placed.placed_done.Reads as placed-done-reads
-use Rattle.tables.proofs.lookup.row_of.Reads as row-of-reads
 
 part-requires : tie.Need-part-requires
 part-requires c κs = search needs

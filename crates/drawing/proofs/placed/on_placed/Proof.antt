@@ -8,11 +8,6 @@ use Rattle.account.specs.PlacedLines.{lent, OwnLine}
 use borrow.Author.Needs.{needs}
 use Rattle.drawing.proofs.placed.on_placed.Statement.{statement}
 use Rattle.drawing.proofs.placed.on_placed.Tie as tie
-use Rattle.drawing.proofs.placed.on_placed.Reads as reads
-use Rattle.drawing.proofs.placed.on_placed.Lts as lts
-use Rattle.drawing.proofs.blocks.digits_of.Reads as digits-of-reads
-use Rattle.drawing.proofs.placed.on_placed_own.Reads as on-placed-own-reads
-use Rattle.drawing.proofs.placed.on_placed_text.Reads as on-placed-text-reads
 
 on-placed-text-requires : tie.Need-on-placed-text-requires
 on-placed-text-requires c κs = search needs

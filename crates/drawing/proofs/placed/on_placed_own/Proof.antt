@@ -4,12 +4,6 @@ use borrow.Author.Needs.{needs}
 use Rattle.drawing.proofs.KeyedLines.{opens-line, equals-line}
 use Rattle.drawing.proofs.placed.on_placed_own.Statement.{statement}
 use Rattle.drawing.proofs.placed.on_placed_own.Tie as tie
-use Rattle.drawing.proofs.placed.on_placed_own.Reads as reads
-use Rattle.drawing.proofs.placed.on_placed_own.Lts as lts
-use Rattle.drawing.proofs.placed.close_placed.Reads as close-placed-reads
-use Rattle.drawing.proofs.placed.on_key.Reads as on-key-reads
-use Rattle.entries.proofs.shapes.key_of.Reads as key-of-reads
-use Rattle.entries.proofs.shapes.rest_of.Reads as rest-of-reads
 
 enum-told : tie.Need-enum-told
 enum-told c = search needs

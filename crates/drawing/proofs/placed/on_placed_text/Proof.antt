@@ -7,11 +7,6 @@ use Rattle.account.proofs.PlacedLaws.{text-two, text-room, text-row, text-stay,
 use borrow.Author.Needs.{needs}
 use Rattle.drawing.proofs.placed.on_placed_text.Statement.{statement}
 use Rattle.drawing.proofs.placed.on_placed_text.Tie as tie
-use Rattle.drawing.proofs.placed.on_placed_text.Reads as reads
-use Rattle.drawing.proofs.placed.on_placed_text.Lts as lts
-use Rattle.entries.proofs.acts.act.Reads as act-reads
-use Rattle.drawing.proofs.blocks.at_block.Reads as at-block-reads
-use Rattle.drawing.proofs.blocks.no_digits.Reads as no-digits-reads
 
 no-digits-requires : tie.Need-no-digits-requires
 no-digits-requires c κs = search needs

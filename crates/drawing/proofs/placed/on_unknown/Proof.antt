@@ -11,12 +11,6 @@ use Rattle.account.proofs.PlacedLaws.{unknown-skipped, unknown-refused}
 use borrow.Author.Needs.{needs}
 use Rattle.drawing.proofs.placed.on_unknown.Statement.{statement}
 use Rattle.drawing.proofs.placed.on_unknown.Tie as tie
-use Rattle.drawing.proofs.placed.on_unknown.Reads as reads
-use Rattle.drawing.proofs.placed.on_unknown.Lts as lts
-use Rattle.entries.proofs.shapes.shape_for.Reads as shape-for-reads
-use Rattle.entries.proofs.shapes.sort_of.Reads as sort-of-reads
-use Rattle.drawing.proofs.classes.exceeds.Reads as exceeds-reads
-use Rattle.drawing.proofs.skip.skip_line.Reads as skip-line-reads
 
 exceeds-requires : tie.Need-exceeds-requires
 exceeds-requires c κs = search needs

@@ -9,11 +9,6 @@ use Rattle.account.proofs.PlacedLaws.{entry-done}
 use borrow.Author.Needs.{needs}
 use Rattle.drawing.proofs.placed.placed_done.Statement.{statement}
 use Rattle.drawing.proofs.placed.placed_done.Tie as tie
-use Rattle.drawing.proofs.placed.placed_done.Reads as reads
-use Rattle.drawing.proofs.placed.placed_done.Lts as lts
-use Rattle.drawing.proofs.blocks.at_block.Reads as at-block-reads
-use Rattle.drawing.proofs.blocks.unmark.Reads as unmark-reads
-use Rattle.drawing.proofs.placed.placed_entry.Reads as placed-entry-reads
 
 enum-told : tie.Need-enum-told
 enum-told c = search needs

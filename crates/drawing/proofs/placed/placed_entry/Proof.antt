@@ -4,9 +4,6 @@ use Rattle.account.proofs.PlacedLaws.{entry-serial, entry-other}
 use borrow.Author.Needs.{needs}
 use Rattle.drawing.proofs.placed.placed_entry.Statement.{statement}
 use Rattle.drawing.proofs.placed.placed_entry.Tie as tie
-use Rattle.drawing.proofs.placed.placed_entry.Reads as reads
-use Rattle.drawing.proofs.placed.placed_entry.Lts as lts
-use Rattle.drawing.proofs.placed.keep_serial.Reads as keep-serial-reads
 
 slice-write-marks : tie.Need-slice-write-marks
 slice-write-marks c = search needs

@@ -6,15 +6,6 @@ use Rattle.drawing.proofs.PointsLines.{points-one, points-room, point-a
 use borrow.Author.Needs.{needs}
 use Rattle.drawing.proofs.points.on_chain.Statement.{statement}
 use Rattle.drawing.proofs.points.on_chain.Tie as tie
-use Rattle.drawing.proofs.points.on_chain.Reads as reads
-use Rattle.drawing.proofs.points.on_chain.Lts as lts
-use Rattle.drawing.proofs.blocks.act_at.Reads as act-at-reads
-use Rattle.drawing.proofs.blocks.no_digits.Reads as no-digits-reads
-use Rattle.drawing.proofs.points.chain_point_kind.Reads as chain-point-kind-reads
-use Rattle.drawing.proofs.points.close_chain.Reads as close-chain-reads
-use Rattle.drawing.proofs.points.more_points.Reads as more-points-reads
-use Rattle.drawing.proofs.points.point_table.Reads as point-table-reads
-use Rattle.drawing.proofs.table.head.Reads as head-reads
 
 point-table-requires : tie.Need-point-table-requires
 point-table-requires c κs = search needs

@@ -8,13 +8,6 @@ use Rattle.drawing.proofs.PointsLines.{points-one, points-room, point-a
 use borrow.Author.Needs.{needs}
 use Rattle.drawing.proofs.points.on_hide.Statement.{statement}
 use Rattle.drawing.proofs.points.on_hide.Tie as tie
-use Rattle.drawing.proofs.points.on_hide.Reads as reads
-use Rattle.drawing.proofs.points.on_hide.Lts as lts
-use Rattle.drawing.proofs.blocks.act_at.Reads as act-at-reads
-use Rattle.drawing.proofs.blocks.at_block.Reads as at-block-reads
-use Rattle.drawing.proofs.blocks.no_digits.Reads as no-digits-reads
-use Rattle.drawing.proofs.points.more_points.Reads as more-points-reads
-use Rattle.drawing.proofs.table.head.Reads as head-reads
 
 no-digits-requires : tie.Need-no-digits-requires
 no-digits-requires c κs = search needs

@@ -1,4 +1,3 @@
-use native.Mathlib.Omega.{arith}
 use borrow.Author.Tests.{not-true, not-false}
 use Rattle.drawing.proofs.ScratchCode.{chain-apart, chain-none, chain-whole}
 use borrow.Author.Needs.{needs}

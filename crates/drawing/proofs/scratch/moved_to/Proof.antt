@@ -1,5 +1,4 @@
 use mathlib.Core.Path.{refl}
-use borrow.Author.Needs.{needs}
 use Rattle.drawing.proofs.scratch.moved_to.Statement.{statement}
 use Rattle.drawing.proofs.scratch.moved_to.Tie as tie
 

@@ -1,5 +1,4 @@
 use Rattle.drawing.proofs.ScratchCode.{opens-top, opens-else}
-use borrow.Author.Needs.{needs}
 use Rattle.drawing.proofs.scratch.opens_own.Statement.{statement}
 use Rattle.drawing.proofs.scratch.opens_own.Tie as tie
 

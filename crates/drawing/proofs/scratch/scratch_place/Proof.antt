@@ -1,7 +1,6 @@
 use mathlib.Core.Path.{sym, ap}
 use Rattle.account.specs.TableApart.{scratchPlace}
 use Rattle.drawing.proofs.ScratchCode.{place-other}
-use borrow.Author.Needs.{needs}
 use Rattle.drawing.proofs.scratch.scratch_place.Statement.{statement}
 use Rattle.drawing.proofs.scratch.scratch_place.Tie as tie
 

@@ -3,12 +3,10 @@ use mathlib.Core.Path.{_≡_, refl, sym, _∙_}
 use native.Mathlib.Omega.{arith}
 use lib.ListN.{length, drop}
 use borrow.Author.Tests.{not-true, not-false}
-use Rattle.rules.specs.Base.{hasNumber, all}
-use Rattle.drawing.proofs.MarkScan.{number-hit, number-miss, number-end, mark-hit, mark-miss, mark-end}
+use Rattle.rules.specs.Base.{all}
+use Rattle.drawing.proofs.MarkScan.{mark-hit, mark-miss, mark-end}
 use Rattle.drawing.proofs.serials.all_marked.Statement.{statement}
 use Rattle.drawing.proofs.serials.all_marked.Tie as tie
-use Rattle.drawing.proofs.serials.all_marked.Reads as reads
-use Rattle.drawing.proofs.serials.all_marked.Lts as lts
 
 abbrev Inv-loop : tie.InvT-loop
 Inv-loop marks i₀ i = (i ≤ length marks) × (all (λ b. b) marks ≡ all (λ b. b) (drop i marks))

@@ -7,10 +7,6 @@ use Rattle.rules.specs.Base.{hasNumber}
 use Rattle.drawing.proofs.MarkScan.{eight-hit, eight-miss}
 use Rattle.drawing.proofs.serials.has.Statement.{statement}
 use Rattle.drawing.proofs.serials.has.Tie as tie
-use Rattle.drawing.proofs.serials.has.Reads as reads
-use Rattle.drawing.proofs.serials.has.Lts as lts
-use Rattle.drawing.proofs.serials.has_from.Reads as has-from-reads
-use Rattle.drawing.proofs.serials.in_eight.Reads as in-eight-reads
 
 abbrev Inv-loop : tie.InvT-loop
 Inv-loop serials n i₀ i = (i ≤ length serials) × (hasNumber n serials ≡ hasNumber n (drop i serials))

@@ -7,8 +7,6 @@ use Rattle.rules.specs.Base.{hasNumber}
 use Rattle.drawing.proofs.MarkScan.{number-hit, number-miss, number-end}
 use Rattle.drawing.proofs.serials.has_from.Statement.{statement}
 use Rattle.drawing.proofs.serials.has_from.Tie as tie
-use Rattle.drawing.proofs.serials.has_from.Reads as reads
-use Rattle.drawing.proofs.serials.has_from.Lts as lts
 
 abbrev Inv-loop : tie.InvT-loop
 Inv-loop serials start n i₀ i = hasNumber n (drop start serials) ≡ hasNumber n (drop i serials)

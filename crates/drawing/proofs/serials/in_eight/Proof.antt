@@ -3,10 +3,6 @@ use Rattle.drawing.proofs.MarkScan.{eight-numbers}
 use borrow.Author.Needs.{needs}
 use Rattle.drawing.proofs.serials.in_eight.Statement.{statement}
 use Rattle.drawing.proofs.serials.in_eight.Tie as tie
-use Rattle.drawing.proofs.serials.in_eight.Reads as reads
-use Rattle.drawing.proofs.serials.in_eight.Lts as lts
-use Rattle.leaves.proofs.truth.either.Reads as either-reads
-use Rattle.drawing.proofs.serials.in_four.Reads as in-four-reads
 
 in-four-requires : tie.Need-in-four-requires
 in-four-requires c κs = search needs

@@ -3,10 +3,6 @@ use Rattle.drawing.proofs.MarkScan.{four-numbers}
 use borrow.Author.Needs.{needs}
 use Rattle.drawing.proofs.serials.in_four.Statement.{statement}
 use Rattle.drawing.proofs.serials.in_four.Tie as tie
-use Rattle.drawing.proofs.serials.in_four.Reads as reads
-use Rattle.drawing.proofs.serials.in_four.Lts as lts
-use Rattle.leaves.proofs.truth.either.Reads as either-reads
-use Rattle.drawing.proofs.serials.is_at.Reads as is-at-reads
 
 is-at-requires : tie.Need-is-at-requires
 is-at-requires c κs = search needs

@@ -2,10 +2,6 @@ use Rattle.drawing.proofs.SymbolSteps.{close-none, close-some}
 use borrow.Author.Needs.{needs}
 use Rattle.drawing.proofs.symbol_define.close_defines.Statement.{statement}
 use Rattle.drawing.proofs.symbol_define.close_defines.Tie as tie
-use Rattle.drawing.proofs.symbol_define.close_defines.Reads as reads
-use Rattle.drawing.proofs.symbol_define.close_defines.Lts as lts
-use Rattle.drawing.proofs.blocks.at_block.Reads as at-block-reads
-use Rattle.drawing.proofs.symbol_define.defined.Reads as defined-reads
 
 defined-requires : tie.Need-defined-requires
 defined-requires c κs = search needs

@@ -1,8 +1,6 @@
 use borrow.Author.Tests.{ne-eqb}
 use Rattle.drawing.proofs.symbol_define.defined.Statement.{statement}
 use Rattle.drawing.proofs.symbol_define.defined.Tie as tie
-use Rattle.drawing.proofs.symbol_define.defined.Reads as reads
-use Rattle.drawing.proofs.symbol_define.defined.Lts as lts
 
 returns : tie.Need-returns
 returns c = rw (ne-eqb (c .before .before .args .here .part) 0 (c .if1 .taken))

@@ -7,10 +7,6 @@ use Rattle.drawing.proofs.SymbolNames.{index-old, index-new}
 use borrow.Author.Needs.{needs}
 use Rattle.drawing.proofs.symbol_define.is_new.Statement.{statement}
 use Rattle.drawing.proofs.symbol_define.is_new.Tie as tie
-use Rattle.drawing.proofs.symbol_define.is_new.Reads as reads
-use Rattle.drawing.proofs.symbol_define.is_new.Lts as lts
-use Rattle.entries.proofs.names.index_of.Reads as index-of-reads
-use Rattle.entries.proofs.names.part.Reads as part-reads
 
 part-requires : tie.Need-part-requires
 part-requires c κs = search needs

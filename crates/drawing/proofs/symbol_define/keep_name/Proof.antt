@@ -8,9 +8,6 @@ use Rattle.drawing.proofs.SymbolNames.{named-at, named-len, place-small
 use borrow.Author.Needs.{needs}
 use Rattle.drawing.proofs.symbol_define.keep_name.Statement.{statement}
 use Rattle.drawing.proofs.symbol_define.keep_name.Tie as tie
-use Rattle.drawing.proofs.symbol_define.keep_name.Reads as reads
-use Rattle.drawing.proofs.symbol_define.keep_name.Lts as lts
-use Rattle.drawing.proofs.symbol_define.name_in.Reads as name-in-reads
 
 name-in-requires : tie.Need-name-in-requires
 name-in-requires c κs = (omega (arith, c .before .before .pre .3), c .before .before .pre .4)

@@ -4,8 +4,6 @@ use Rattle.drawing.proofs.SymbolNames.{place-cast, named-at, named-len,
 use borrow.Author.Needs.{needs}
 use Rattle.drawing.proofs.symbol_define.name_in.Statement.{statement}
 use Rattle.drawing.proofs.symbol_define.name_in.Tie as tie
-use Rattle.drawing.proofs.symbol_define.name_in.Reads as reads
-use Rattle.drawing.proofs.symbol_define.name_in.Lts as lts
 
 shared-slice-copy-out-t3 : tie.Need-shared-slice-copy-out-t3
 shared-slice-copy-out-t3 c = search needs

@@ -2,9 +2,6 @@ use borrow.Author.Tests.{ne-eqb}
 use borrow.Author.Needs.{needs}
 use Rattle.drawing.proofs.symbol_define.non_read.Statement.{statement}
 use Rattle.drawing.proofs.symbol_define.non_read.Tie as tie
-use Rattle.drawing.proofs.symbol_define.non_read.Reads as reads
-use Rattle.drawing.proofs.symbol_define.non_read.Lts as lts
-use Rattle.drawing.proofs.blocks.at_block.Reads as at-block-reads
 
 returns : tie.Need-returns
 returns c = rw (ne-eqb (c .before .args .count) 0 (c .if1 .taken))

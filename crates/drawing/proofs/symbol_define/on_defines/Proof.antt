@@ -4,13 +4,6 @@ use Rattle.drawing.proofs.SymbolSteps.{defines-two, defines-room, defin
 use borrow.Author.Needs.{needs}
 use Rattle.drawing.proofs.symbol_define.on_defines.Statement.{statement}
 use Rattle.drawing.proofs.symbol_define.on_defines.Tie as tie
-use Rattle.drawing.proofs.symbol_define.on_defines.Reads as reads
-use Rattle.drawing.proofs.symbol_define.on_defines.Lts as lts
-use Rattle.entries.proofs.acts.act.Reads as act-reads
-use Rattle.drawing.proofs.blocks.digits_of.Reads as digits-of-reads
-use Rattle.drawing.proofs.symbol_define.close_defines.Reads as close-defines-reads
-use Rattle.drawing.proofs.symbol_define.non_read.Reads as non-read-reads
-use Rattle.drawing.proofs.symbol_define.open_symbol.Reads as open-symbol-reads
 
 digits-of-requires : tie.Need-digits-of-requires
 digits-of-requires c κs = search needs

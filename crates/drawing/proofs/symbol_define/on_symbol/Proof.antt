@@ -10,13 +10,6 @@ use Rattle.drawing.proofs.SymbolSteps.{symbol-four, symbol-room, four-t
 use borrow.Author.Needs.{needs}
 use Rattle.drawing.proofs.symbol_define.on_symbol.Statement.{statement}
 use Rattle.drawing.proofs.symbol_define.on_symbol.Tie as tie
-use Rattle.drawing.proofs.symbol_define.on_symbol.Reads as reads
-use Rattle.drawing.proofs.symbol_define.on_symbol.Lts as lts
-use Rattle.entries.proofs.acts.act.Reads as act-reads
-use Rattle.drawing.proofs.blocks.at_block.Reads as at-block-reads
-use Rattle.drawing.proofs.blocks.digits_of.Reads as digits-of-reads
-use Rattle.drawing.proofs.symbol_define.symbol_entry.Reads as symbol-entry-reads
-use Rattle.drawing.proofs.symbol_define.symbol_part.Reads as symbol-part-reads
 
 digits-of-requires : tie.Need-digits-of-requires
 digits-of-requires c κs = search needs

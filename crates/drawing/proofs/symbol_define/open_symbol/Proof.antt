@@ -5,12 +5,6 @@ use Rattle.drawing.proofs.SymbolSteps.{open-non, open-full, open-go, ro
 use borrow.Author.Needs.{needs}
 use Rattle.drawing.proofs.symbol_define.open_symbol.Statement.{statement}
 use Rattle.drawing.proofs.symbol_define.open_symbol.Tie as tie
-use Rattle.drawing.proofs.symbol_define.open_symbol.Reads as reads
-use Rattle.drawing.proofs.symbol_define.open_symbol.Lts as lts
-use Rattle.drawing.proofs.blocks.has_room.Reads as has-room-reads
-use Rattle.drawing.proofs.blocks.unmark.Reads as unmark-reads
-use Rattle.drawing.proofs.symbol_define.symbol_opened.Reads as symbol-opened-reads
-use Rattle.drawing.proofs.table.head.Reads as head-reads
 
 returns : tie.Need-returns
 returns c = open-non (c .before .before .before .args .here) (c .before .before .before .args .count) _ _ (c .if1 .taken)

@@ -4,10 +4,6 @@ use borrow.Author.Tests.{ne-eqb}
 use borrow.Author.Needs.{needs}
 use Rattle.drawing.proofs.symbol_define.symbol_entry.Statement.{statement}
 use Rattle.drawing.proofs.symbol_define.symbol_entry.Tie as tie
-use Rattle.drawing.proofs.symbol_define.symbol_entry.Reads as reads
-use Rattle.drawing.proofs.symbol_define.symbol_entry.Lts as lts
-use Rattle.drawing.proofs.symbol_define.is_new.Reads as is-new-reads
-use Rattle.drawing.proofs.symbol_define.name_in.Reads as name-in-reads
 
 slice-write-marks : tie.Need-slice-write-marks
 slice-write-marks c = search needs

@@ -1,8 +1,6 @@
 use borrow.Author.Tests.{ne-eqb}
 use Rattle.drawing.proofs.symbol_define.symbol_part.Statement.{statement}
 use Rattle.drawing.proofs.symbol_define.symbol_part.Tie as tie
-use Rattle.drawing.proofs.symbol_define.symbol_part.Reads as reads
-use Rattle.drawing.proofs.symbol_define.symbol_part.Lts as lts
 
 returns : tie.Need-returns
 returns c = rw (c .if1 .taken)

@@ -1,24 +1,18 @@
 use lib.ListN.{set}
 use native.Mathlib.Nat.{zero-add}
-use mir.Facts.{toZ-ofZ}
-use mir.Syntax.{w64}
 use native.Mathlib.Numerals.{add-one}
 use lib.ListN.{length-replicate, getD-replicate, drop-of-length-le}
 use lib.Seq.{take-all}
-use mathlib.Core.List.{append-nil, _++_}
+use mathlib.Core.List.{append-nil}
 use borrow.Author.Needs.{scaled-fits}
-use Prim.Native.Nat.{ℕ, _≤_, _<_, _-_, _+_}
-use mathlib.Core.Path.{_≡_, refl, ap, sym, subst, _∙_}
+use Prim.Native.Nat.{_≤_, _<_, _-_, _+_}
+use mathlib.Core.Path.{_≡_, refl, ap, sym, _∙_}
 use native.Mathlib.Omega.{arith}
-use lib.ListN.{length, getD, take, drop, length-set, replicate}
-use lib.IntN.{ℤ, pos}
-use lib.Seq.{paste, paste-zero, paste-suc, length-paste}
-use borrow.Author.Needs.{needs}
-use borrow.Author.Fill.{fill-none, fill-more}
+use lib.ListN.{length, getD, length-set, replicate}
+use lib.IntN.{pos}
+use lib.Seq.{paste, paste-suc}
 use Rattle.drawing.proofs.table.clear.Statement.{statement}
 use Rattle.drawing.proofs.table.clear.Tie as tie
-use Rattle.drawing.proofs.table.clear.Reads as reads
-use Rattle.drawing.proofs.table.clear.Lts as lts
 
 abbrev Inv-loop : tie.InvT-loop
 Inv-loop t₀ i₀ t i =

@@ -4,8 +4,6 @@ use lib.IntN.{pos}
 use borrow.Author.Needs.{needs}
 use Rattle.drawing.proofs.table.head.Statement.{statement}
 use Rattle.drawing.proofs.table.head.Tie as tie
-use Rattle.drawing.proofs.table.head.Reads as reads
-use Rattle.drawing.proofs.table.head.Lts as lts
 
 cast-t : tie.Need-cast-t
 cast-t c = search needs

@@ -6,12 +6,6 @@ use Rattle.drawing.proofs.TextsLines.{text-two, text-room, text-acts, t
 use borrow.Author.Needs.{needs}
 use Rattle.drawing.proofs.texts.on_text.Statement.{statement}
 use Rattle.drawing.proofs.texts.on_text.Tie as tie
-use Rattle.drawing.proofs.texts.on_text.Reads as reads
-use Rattle.drawing.proofs.texts.on_text.Lts as lts
-use Rattle.entries.proofs.acts.act.Reads as act-reads
-use Rattle.drawing.proofs.blocks.figure_done.Reads as figure-done-reads
-use Rattle.drawing.proofs.blocks.no_digits.Reads as no-digits-reads
-use Rattle.drawing.proofs.texts.text_table.Reads as text-table-reads
 
 text-table-requires : tie.Need-text-table-requires
 text-table-requires c κs = search needs

@@ -7,10 +7,6 @@ use Rattle.drawing.proofs.TopSteps.{eof-part, eof-early, eof-unused, eo
 use borrow.Author.Needs.{needs}
 use Rattle.drawing.proofs.top.at_eof.Statement.{statement}
 use Rattle.drawing.proofs.top.at_eof.Tie as tie
-use Rattle.drawing.proofs.top.at_eof.Reads as reads
-use Rattle.drawing.proofs.top.at_eof.Lts as lts
-use Rattle.drawing.proofs.blocks.at_block.Reads as at-block-reads
-use Rattle.drawing.proofs.serials.all_marked.Reads as all-marked-reads
 
 returns : tie.Need-returns
 returns c = eof-part (c .before .before .before .before .args .here) (c .before .before .before .before .args .at) (c .before .before .before .before .args .tally .now) (c .before .before .before .before .args .used-all .now) (c .if1 .taken)

@@ -5,10 +5,6 @@ use Rattle.account.specs.Account.{headAt}
 use borrow.Author.Needs.{needs}
 use Rattle.drawing.proofs.top.begin_header.Statement.{statement}
 use Rattle.drawing.proofs.top.begin_header.Tie as tie
-use Rattle.drawing.proofs.top.begin_header.Reads as reads
-use Rattle.drawing.proofs.top.begin_header.Lts as lts
-use Rattle.drawing.proofs.table.clear.Reads as clear-reads
-use Rattle.drawing.proofs.table.head.Reads as head-reads
 
 clear-requires : tie.Need-clear-requires
 clear-requires c κs = search needs

@@ -6,10 +6,6 @@ use Rattle.drawing.proofs.TopSteps.{top-ignored, top-refused, top-eof, 
 use borrow.Author.Needs.{needs}
 use Rattle.drawing.proofs.top.on_top.Statement.{statement}
 use Rattle.drawing.proofs.top.on_top.Tie as tie
-use Rattle.drawing.proofs.top.on_top.Reads as reads
-use Rattle.drawing.proofs.top.on_top.Lts as lts
-use Rattle.drawing.proofs.top.at_eof.Reads as at-eof-reads
-use Rattle.drawing.proofs.top.top_key.Reads as top-key-reads
 
 enum-told : tie.Need-enum-told
 enum-told c = search needs

@@ -2,12 +2,6 @@ use Rattle.drawing.proofs.TopSteps.{refused-line, block-other, block-fi
 use borrow.Author.Needs.{needs}
 use Rattle.drawing.proofs.top.open_block.Statement.{statement}
 use Rattle.drawing.proofs.top.open_block.Tie as tie
-use Rattle.drawing.proofs.top.open_block.Reads as reads
-use Rattle.drawing.proofs.top.open_block.Lts as lts
-use Rattle.drawing.proofs.blocks.at_block.Reads as at-block-reads
-use Rattle.drawing.proofs.blocks.unmark.Reads as unmark-reads
-use Rattle.drawing.proofs.top.open_drawing.Reads as open-drawing-reads
-use Rattle.drawing.proofs.top.open_file.Reads as open-file-reads
 
 returns : tie.Need-returns
 returns c = refused-line _ 9 _ (block-other (c .before .before .before .before .args .first) (c .before .before .before .before .args .here) (c .before .before .before .before .args .t .now) (c .before .before .before .before .args .block) (c .if1 .taken))

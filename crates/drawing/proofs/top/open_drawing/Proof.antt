@@ -7,12 +7,6 @@ use Rattle.drawing.proofs.TopSteps.{refused-line, going-line, none-take
 use borrow.Author.Needs.{needs}
 use Rattle.drawing.proofs.top.open_drawing.Statement.{statement}
 use Rattle.drawing.proofs.top.open_drawing.Tie as tie
-use Rattle.drawing.proofs.top.open_drawing.Reads as reads
-use Rattle.drawing.proofs.top.open_drawing.Lts as lts
-use Rattle.drawing.proofs.blocks.has_room.Reads as has-room-reads
-use Rattle.drawing.proofs.blocks.unmark.Reads as unmark-reads
-use Rattle.drawing.proofs.table.head.Reads as head-reads
-use Rattle.drawing.proofs.top.record_taken.Reads as record-taken-reads
 
 has-room-requires : tie.Need-has-room-requires
 has-room-requires c κs = search needs

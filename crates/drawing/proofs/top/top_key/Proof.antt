@@ -9,11 +9,6 @@ use Rattle.drawing.proofs.TopSteps.{top-rows, top-room, digitless, key-
 use borrow.Author.Needs.{needs}
 use Rattle.drawing.proofs.top.top_key.Statement.{statement}
 use Rattle.drawing.proofs.top.top_key.Tie as tie
-use Rattle.drawing.proofs.top.top_key.Reads as reads
-use Rattle.drawing.proofs.top.top_key.Lts as lts
-use Rattle.entries.proofs.acts.act.Reads as act-reads
-use Rattle.drawing.proofs.blocks.no_digits.Reads as no-digits-reads
-use Rattle.drawing.proofs.top.open_block.Reads as open-block-reads
 
 no-digits-requires : tie.Need-no-digits-requires
 no-digits-requires c κs = search needs

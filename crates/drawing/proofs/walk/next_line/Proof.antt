@@ -3,9 +3,6 @@ use Rattle.account.proofs.Walked.{seen-end, seen-line}
 use borrow.Author.Needs.{needs}
 use Rattle.drawing.proofs.walk.next_line.Statement.{statement}
 use Rattle.drawing.proofs.walk.next_line.Tie as tie
-use Rattle.drawing.proofs.walk.next_line.Reads as reads
-use Rattle.drawing.proofs.walk.next_line.Lts as lts
-use Rattle.lines.proofs.forms.look.Reads as look-reads
 
 add-look : tie.Need-add-look
 add-look c = search needs

@@ -9,12 +9,6 @@ use Rattle.entries.specs.Shapes.{keyOf, restOf, restIn}
 use Rattle.entries.proofs.TableActs.{closed-acts, opens-keyed, equals-keyed}
 use Rattle.entries.proofs.acts.act.Statement.{statement}
 use Rattle.entries.proofs.acts.act.Tie as tie
-use Rattle.entries.proofs.acts.act.Reads as reads
-use Rattle.entries.proofs.acts.act.Lts as lts
-use Rattle.entries.proofs.acts.act_key.Reads as act-key-reads
-use Rattle.entries.proofs.acts.close.Reads as close-reads
-use Rattle.entries.proofs.shapes.key_of.Reads as key-of-reads
-use Rattle.entries.proofs.shapes.rest_of.Reads as rest-of-reads
 
 enum-told : tie.Need-enum-told
 enum-told c = search needs

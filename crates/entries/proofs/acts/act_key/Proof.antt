@@ -9,13 +9,6 @@ use Rattle.entries.proofs.TableActs.{no-row, unknown-acts, row-room, ro
 use borrow.Author.Needs.{needs}
 use Rattle.entries.proofs.acts.act_key.Statement.{statement}
 use Rattle.entries.proofs.acts.act_key.Tie as tie
-use Rattle.entries.proofs.acts.act_key.Reads as reads
-use Rattle.entries.proofs.acts.act_key.Lts as lts
-use Rattle.entries.proofs.acts.mark.Reads as mark-reads
-use Rattle.entries.proofs.acts.unknown.Reads as unknown-reads
-use Rattle.entries.proofs.row_lines.act_row.Reads as act-row-reads
-use Rattle.entries.proofs.names.part.Reads as part-reads
-use Rattle.tables.proofs.lookup.row_of.Reads as row-of-reads
 
 part-requires : tie.Need-part-requires
 part-requires c κs = search needs

@@ -2,9 +2,6 @@ use mathlib.Core.Path.{sym, _∙_}
 use borrow.Author.Needs.{needs}
 use Rattle.entries.proofs.acts.close.Statement.{statement}
 use Rattle.entries.proofs.acts.close.Tie as tie
-use Rattle.entries.proofs.acts.close.Reads as reads
-use Rattle.entries.proofs.acts.close.Lts as lts
-use Rattle.entries.proofs.acts.complete.Reads as complete-reads
 
 complete-requires : tie.Need-complete-requires
 complete-requires c κs = search needs

@@ -9,9 +9,6 @@ use Rattle.tables.specs.Tables.{tableOf}
 use Rattle.entries.proofs.TableActs.{complete-step, complete-not, complete-end}
 use Rattle.entries.proofs.acts.complete.Statement.{statement}
 use Rattle.entries.proofs.acts.complete.Tie as tie
-use Rattle.entries.proofs.acts.complete.Reads as reads
-use Rattle.entries.proofs.acts.complete.Lts as lts
-use Rattle.entries.proofs.acts.there.Reads as there-reads
 
 abbrev Inv-loop : tie.InvT-loop
 Inv-loop table d full i₀ i = (i ≤ length full) × (completeOf d (tableOf table) full ≡ completeOf d (drop i (tableOf table)) (drop i full))

@@ -2,8 +2,6 @@ use Rattle.entries.proofs.TableActs.{no-mark}
 use borrow.Author.Needs.{needs}
 use Rattle.entries.proofs.acts.mark.Statement.{statement}
 use Rattle.entries.proofs.acts.mark.Tie as tie
-use Rattle.entries.proofs.acts.mark.Reads as reads
-use Rattle.entries.proofs.acts.mark.Lts as lts
 
 shared-slice-read-result : tie.Need-shared-slice-read-result
 shared-slice-read-result c = search needs

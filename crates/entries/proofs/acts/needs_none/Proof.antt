@@ -2,8 +2,6 @@ use mathlib.Core.Path.{sym}
 use borrow.Author.Tests.{ne-eqb, le-leb, lt-leb}
 use Rattle.entries.proofs.acts.needs_none.Statement.{statement}
 use Rattle.entries.proofs.acts.needs_none.Tie as tie
-use Rattle.entries.proofs.acts.needs_none.Reads as reads
-use Rattle.entries.proofs.acts.needs_none.Lts as lts
 
 returns : tie.Need-returns
 returns c = rw (c .if1 .taken)

@@ -4,9 +4,6 @@ use Rattle.entries.proofs.TableActs.{placed-first, placed-other}
 use borrow.Author.Needs.{needs}
 use Rattle.entries.proofs.acts.placed_wants.Statement.{statement}
 use Rattle.entries.proofs.acts.placed_wants.Tie as tie
-use Rattle.entries.proofs.acts.placed_wants.Reads as reads
-use Rattle.entries.proofs.acts.placed_wants.Lts as lts
-use Rattle.entries.proofs.row_lines.reaches.Reads as reaches-reads
 
 returns : tie.Need-returns
 returns c = placed-first (c .before .args .d) (c .before .args .row) (c .if1 .taken)

@@ -4,9 +4,6 @@ use Rattle.entries.proofs.TableActs.{symbol-wanted}
 use borrow.Author.Needs.{needs}
 use Rattle.entries.proofs.acts.symbol_wants.Statement.{statement}
 use Rattle.entries.proofs.acts.symbol_wants.Tie as tie
-use Rattle.entries.proofs.acts.symbol_wants.Reads as reads
-use Rattle.entries.proofs.acts.symbol_wants.Lts as lts
-use Rattle.entries.proofs.row_lines.reaches.Reads as reaches-reads
 
 reaches-requires : tie.Need-reaches-requires
 reaches-requires c κs = search needs

@@ -6,9 +6,6 @@ use Rattle.entries.proofs.TableActs.{there-full, there-not}
 use borrow.Author.Needs.{needs}
 use Rattle.entries.proofs.acts.there.Statement.{statement}
 use Rattle.entries.proofs.acts.there.Tie as tie
-use Rattle.entries.proofs.acts.there.Reads as reads
-use Rattle.entries.proofs.acts.there.Lts as lts
-use Rattle.entries.proofs.acts.wants.Reads as wants-reads
 
 returns : tie.Need-returns
 returns c = there-full (c .before .args .d) (ruleAt (tableOf (c .before .args .table)) (c .before .args .row)) (c .before .args .full) (c .if1 .taken)

@@ -8,10 +8,6 @@ use Rattle.entries.proofs.ByShape.{form-by}
 use borrow.Author.Needs.{needs}
 use Rattle.entries.proofs.acts.unknown.Statement.{statement}
 use Rattle.entries.proofs.acts.unknown.Tie as tie
-use Rattle.entries.proofs.acts.unknown.Reads as reads
-use Rattle.entries.proofs.acts.unknown.Lts as lts
-use Rattle.entries.proofs.shapes.shape_for.Reads as shape-for-reads
-use Rattle.entries.proofs.shapes.sort_of.Reads as sort-of-reads
 
 shape-for-requires : tie.Need-shape-for-requires
 shape-for-requires c κs = search needs

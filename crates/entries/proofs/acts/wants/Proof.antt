@@ -6,12 +6,6 @@ use Rattle.entries.proofs.TableActs.{none-wanted, plain-wanted, range-w
 use borrow.Author.Needs.{needs}
 use Rattle.entries.proofs.acts.wants.Statement.{statement}
 use Rattle.entries.proofs.acts.wants.Tie as tie
-use Rattle.entries.proofs.acts.wants.Reads as reads
-use Rattle.entries.proofs.acts.wants.Lts as lts
-use Rattle.entries.proofs.acts.drawing_wants.Reads as drawing-wants-reads
-use Rattle.entries.proofs.acts.needs_none.Reads as needs-none-reads
-use Rattle.entries.proofs.acts.placed_wants.Reads as placed-wants-reads
-use Rattle.entries.proofs.acts.symbol_wants.Reads as symbol-wants-reads
 
 needs-none-requires : tie.Need-needs-none-requires
 needs-none-requires c κs = search needs

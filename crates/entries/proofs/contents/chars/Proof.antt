@@ -10,10 +10,6 @@ use Rattle.entries.proofs.ByKind.{unless-done, unless-bad}
 use borrow.Author.Needs.{needs}
 use Rattle.entries.proofs.contents.chars.Statement.{statement}
 use Rattle.entries.proofs.contents.chars.Tie as tie
-use Rattle.entries.proofs.contents.chars.Reads as reads
-use Rattle.entries.proofs.contents.chars.Lts as lts
-use Rattle.entries.proofs.contents.put_two.Reads as put-two-reads
-use Rattle.leaves.proofs.texts.fits.Reads as fits-reads
 
 fits-requires : tie.Need-fits-requires
 fits-requires c κs = search needs

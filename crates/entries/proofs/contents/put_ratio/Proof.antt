@@ -3,10 +3,6 @@ use Rattle.entries.proofs.ByKind.{ratio-done, ratio-bad}
 use borrow.Author.Needs.{needs}
 use Rattle.entries.proofs.contents.put_ratio.Statement.{statement}
 use Rattle.entries.proofs.contents.put_ratio.Tie as tie
-use Rattle.entries.proofs.contents.put_ratio.Reads as reads
-use Rattle.entries.proofs.contents.put_ratio.Lts as lts
-use Rattle.entries.proofs.contents.put_two.Reads as put-two-reads
-use Rattle.leaves.proofs.sheets.ratio.Reads as ratio-reads
 
 ratio-requires : tie.Need-ratio-requires
 ratio-requires c κs = search needs

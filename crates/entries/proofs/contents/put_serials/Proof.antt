@@ -8,12 +8,6 @@ use Rattle.entries.proofs.ByKind.{linked-ten, linked-own, linked-eleven
 use borrow.Author.Needs.{needs}
 use Rattle.entries.proofs.contents.put_serials.Statement.{statement}
 use Rattle.entries.proofs.contents.put_serials.Tie as tie
-use Rattle.entries.proofs.contents.put_serials.Reads as reads
-use Rattle.entries.proofs.contents.put_serials.Lts as lts
-use Rattle.entries.proofs.contents.put_two.Reads as put-two-reads
-use Rattle.entries.proofs.contents.serial_count.Reads as serial-count-reads
-use Rattle.leaves.proofs.bytes.find.Reads as find-reads
-use Rattle.leaves.proofs.numbers.serial.Reads as serial-reads
 
 serial-count-requires : tie.Need-serial-count-requires
 serial-count-requires c κs = search needs

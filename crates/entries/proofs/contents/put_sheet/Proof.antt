@@ -4,10 +4,6 @@ use Rattle.entries.proofs.ByKind.{sheet-done, sheet-bad}
 use borrow.Author.Needs.{needs}
 use Rattle.entries.proofs.contents.put_sheet.Statement.{statement}
 use Rattle.entries.proofs.contents.put_sheet.Tie as tie
-use Rattle.entries.proofs.contents.put_sheet.Reads as reads
-use Rattle.entries.proofs.contents.put_sheet.Lts as lts
-use Rattle.entries.proofs.contents.put_two.Reads as put-two-reads
-use Rattle.leaves.proofs.sheets.sheet.Reads as sheet-reads
 
 sheet-requires : tie.Need-sheet-requires
 sheet-requires c κs = search needs

@@ -6,8 +6,6 @@ use Rattle.entries.proofs.ByKind.{two-put}
 use borrow.Author.Needs.{needs}
 use Rattle.entries.proofs.contents.put_two.Statement.{statement}
 use Rattle.entries.proofs.contents.put_two.Tie as tie
-use Rattle.entries.proofs.contents.put_two.Reads as reads
-use Rattle.entries.proofs.contents.put_two.Lts as lts
 
 cast-rec : tie.Need-cast-rec
 cast-rec c = search needs

@@ -7,16 +7,6 @@ use Rattle.entries.proofs.ByKind.{one-put, room-values, settled-values,
 use borrow.Author.Needs.{needs}
 use Rattle.entries.proofs.contents.read_kind.Statement.{statement}
 use Rattle.entries.proofs.contents.read_kind.Tie as tie
-use Rattle.entries.proofs.contents.read_kind.Reads as reads
-use Rattle.entries.proofs.contents.read_kind.Lts as lts
-use Rattle.entries.proofs.contents.chars.Reads as chars-reads
-use Rattle.entries.proofs.contents.put_ratio.Reads as put-ratio-reads
-use Rattle.entries.proofs.contents.put_serials.Reads as put-serials-reads
-use Rattle.entries.proofs.contents.put_sheet.Reads as put-sheet-reads
-use Rattle.entries.proofs.contents.volume_name.Reads as volume-name-reads
-use Rattle.entries.proofs.parts.single.Reads as single-reads
-use Rattle.entries.proofs.values.put_value.Reads as put-value-reads
-use Rattle.entries.proofs.values.values.Reads as values-reads
 
 chars-requires : tie.Need-chars-requires
 chars-requires c κs = (c .before .before .before .before .before .before .before .pre .2, rw (c .before .if1 .taken) at (c .before .before .before .before .before .before .before .pre .3))

@@ -12,10 +12,6 @@ use Rattle.entries.specs.Entering.{serialsIn}
 use Rattle.entries.proofs.ByKind.{addTo, add-none, count-more, count-not, count-end, count-last}
 use Rattle.entries.proofs.contents.serial_count.Statement.{statement}
 use Rattle.entries.proofs.contents.serial_count.Tie as tie
-use Rattle.entries.proofs.contents.serial_count.Reads as reads
-use Rattle.entries.proofs.contents.serial_count.Lts as lts
-use Rattle.leaves.proofs.bytes.find.Reads as find-reads
-use Rattle.leaves.proofs.numbers.serial.Reads as serial-reads
 
 abbrev Inv-loop : tie.InvT-loop
 Inv-loop c i₀ n₀ e₀ i n e = (i ≤ length c) × (n ≤ i) × (e ≡ i + length (upTo 44 (drop i c))) × (serialsIn c ≡ addTo n (serialsIn (drop i c)))

@@ -7,10 +7,6 @@ use Rattle.entries.proofs.ByKind.{unless-done, unless-bad, name-put}
 use borrow.Author.Needs.{needs}
 use Rattle.entries.proofs.contents.volume_name.Statement.{statement}
 use Rattle.entries.proofs.contents.volume_name.Tie as tie
-use Rattle.entries.proofs.contents.volume_name.Reads as reads
-use Rattle.entries.proofs.contents.volume_name.Lts as lts
-use Rattle.entries.proofs.contents.put_two.Reads as put-two-reads
-use Rattle.leaves.proofs.bytes.all_in.Reads as all-in-reads
 
 all-in-requires : tie.Need-all-in-requires
 all-in-requires c κs = search needs

@@ -11,10 +11,6 @@ use Rattle.entries.specs.Names.{namesIn, indexFrom}
 use Rattle.entries.proofs.NameScan.{name-hit, name-miss, name-end}
 use Rattle.entries.proofs.names.index_of.Statement.{statement}
 use Rattle.entries.proofs.names.index_of.Tie as tie
-use Rattle.entries.proofs.names.index_of.Reads as reads
-use Rattle.entries.proofs.names.index_of.Lts as lts
-use Rattle.leaves.proofs.bytes.same.Reads as same-reads
-use Rattle.entries.proofs.names.name_at.Reads as name-at-reads
 
 abbrev Inv-loop : tie.InvT-loop
 Inv-loop s names key i₀ i = (i ≤ length names) × (indexFrom 0 key (namesIn s names) ≡ indexFrom i key (namesIn s (drop i names)))

@@ -5,8 +5,6 @@ use Rattle.entries.proofs.NameScan.{part-none, part-short, part-whole}
 use borrow.Author.Needs.{needs}
 use Rattle.entries.proofs.names.part.Statement.{statement}
 use Rattle.entries.proofs.names.part.Tie as tie
-use Rattle.entries.proofs.names.part.Reads as reads
-use Rattle.entries.proofs.names.part.Lts as lts
 
 cast-from : tie.Need-cast-from
 cast-from c = search needs

@@ -8,9 +8,6 @@ use Rattle.entries.proofs.OneValue.{reading-is, reading-bad}
 use borrow.Author.Needs.{needs}
 use Rattle.entries.proofs.parts.bounded.Statement.{statement}
 use Rattle.entries.proofs.parts.bounded.Tie as tie
-use Rattle.entries.proofs.parts.bounded.Reads as reads
-use Rattle.entries.proofs.parts.bounded.Lts as lts
-use Rattle.entries.proofs.parts.in_bound.Reads as in-bound-reads
 
 enum-known-r : tie.Need-enum-known-r
 enum-known-r c = search needs

@@ -5,8 +5,6 @@ use mir.Syntax.{w64}
 use mir.Val.{SFits}
 use Rattle.entries.proofs.parts.in_bound.Statement.{statement}
 use Rattle.entries.proofs.parts.in_bound.Tie as tie
-use Rattle.entries.proofs.parts.in_bound.Reads as reads
-use Rattle.entries.proofs.parts.in_bound.Lts as lts
 
 returns : tie.Need-returns
 returns c = rw (c .if1 .taken)

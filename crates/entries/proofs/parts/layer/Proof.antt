@@ -6,11 +6,6 @@ use Rattle.entries.proofs.OneValue.{index-val}
 use borrow.Author.Needs.{needs}
 use Rattle.entries.proofs.parts.layer.Statement.{statement}
 use Rattle.entries.proofs.parts.layer.Tie as tie
-use Rattle.entries.proofs.parts.layer.Reads as reads
-use Rattle.entries.proofs.parts.layer.Lts as lts
-use Rattle.entries.proofs.names.index_of.Reads as index-of-reads
-use Rattle.entries.proofs.parts.numbered.Reads as numbered-reads
-use Rattle.leaves.proofs.bytes.is_layer_id.Reads as is-layer-id-reads
 
 is-layer-id-requires : tie.Need-is-layer-id-requires
 is-layer-id-requires c κs = search needs

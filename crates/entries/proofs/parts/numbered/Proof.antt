@@ -3,8 +3,6 @@ use Rattle.entries.proofs.OneValue.{numbered-is}
 use borrow.Author.Needs.{needs}
 use Rattle.entries.proofs.parts.numbered.Statement.{statement}
 use Rattle.entries.proofs.parts.numbered.Tie as tie
-use Rattle.entries.proofs.parts.numbered.Reads as reads
-use Rattle.entries.proofs.parts.numbered.Lts as lts
 
 enum-known-i : tie.Need-enum-known-i
 enum-known-i c = search needs

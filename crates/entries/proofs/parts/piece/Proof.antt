@@ -7,12 +7,6 @@ use Rattle.entries.proofs.OneValue.{decimal-told, whole-told}
 use borrow.Author.Needs.{needs}
 use Rattle.entries.proofs.parts.piece.Statement.{statement}
 use Rattle.entries.proofs.parts.piece.Tie as tie
-use Rattle.entries.proofs.parts.piece.Reads as reads
-use Rattle.entries.proofs.parts.piece.Lts as lts
-use Rattle.entries.proofs.parts.bounded.Reads as bounded-reads
-use Rattle.entries.proofs.parts.whole.Reads as whole-reads
-use Rattle.leaves.proofs.bytes.find.Reads as find-reads
-use Rattle.leaves.proofs.pieces.decimal_piece.Reads as decimal-piece-reads
 
 decimal-piece-requires : tie.Need-decimal-piece-requires
 decimal-piece-requires c κs = search needs

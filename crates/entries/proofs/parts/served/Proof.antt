@@ -6,9 +6,6 @@ use Rattle.entries.proofs.OneValue.{within-below, count-is, count-bad, 
 use borrow.Author.Needs.{needs}
 use Rattle.entries.proofs.parts.served.Statement.{statement}
 use Rattle.entries.proofs.parts.served.Tie as tie
-use Rattle.entries.proofs.parts.served.Reads as reads
-use Rattle.entries.proofs.parts.served.Lts as lts
-use Rattle.leaves.proofs.bytes.within.Reads as within-reads
 
 enum-known-n : tie.Need-enum-known-n
 enum-known-n c = search needs

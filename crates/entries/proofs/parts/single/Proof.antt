@@ -8,11 +8,6 @@ use Rattle.entries.proofs.OneValue.{reading-val}
 use borrow.Author.Needs.{needs}
 use Rattle.entries.proofs.parts.single.Statement.{statement}
 use Rattle.entries.proofs.parts.single.Tie as tie
-use Rattle.entries.proofs.parts.single.Reads as reads
-use Rattle.entries.proofs.parts.single.Lts as lts
-use Rattle.entries.proofs.parts.bounded.Reads as bounded-reads
-use Rattle.entries.proofs.parts.whole.Reads as whole-reads
-use Rattle.leaves.proofs.numbers.decimal.Reads as decimal-reads
 
 decimal-requires : tie.Need-decimal-requires
 decimal-requires c κs = search needs

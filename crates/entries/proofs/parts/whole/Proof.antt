@@ -10,17 +10,6 @@ use Rattle.entries.proofs.OneValue.{kept-val, count-val, kind-val, day-
 use borrow.Author.Needs.{needs}
 use Rattle.entries.proofs.parts.whole.Statement.{statement}
 use Rattle.entries.proofs.parts.whole.Tie as tie
-use Rattle.entries.proofs.parts.whole.Reads as reads
-use Rattle.entries.proofs.parts.whole.Lts as lts
-use Rattle.entries.proofs.names.index_of.Reads as index-of-reads
-use Rattle.entries.proofs.parts.layer.Reads as layer-reads
-use Rattle.entries.proofs.parts.limited.Reads as limited-reads
-use Rattle.entries.proofs.parts.numbered.Reads as numbered-reads
-use Rattle.entries.proofs.parts.served.Reads as served-reads
-use Rattle.leaves.proofs.numbers.clock.Reads as clock-reads
-use Rattle.leaves.proofs.numbers.count.Reads as count-reads
-use Rattle.leaves.proofs.numbers.day.Reads as day-reads
-use Rattle.leaves.proofs.numbers.fixed.Reads as fixed-reads
 
 fixed-requires : tie.Need-fixed-requires
 fixed-requires c κs = search needs

@@ -1,11 +1,6 @@
 use borrow.Author.Needs.{needs}
 use Rattle.entries.proofs.row_lines.act_row.Statement.{statement}
 use Rattle.entries.proofs.row_lines.act_row.Tie as tie
-use Rattle.entries.proofs.row_lines.act_row.Reads as reads
-use Rattle.entries.proofs.row_lines.act_row.Lts as lts
-use Rattle.entries.proofs.row_lines.act_shape.Reads as act-shape-reads
-use Rattle.entries.proofs.shapes.is_free.Reads as is-free-reads
-use Rattle.entries.proofs.shapes.shape_for.Reads as shape-for-reads
 
 is-free-requires : tie.Need-is-free-requires
 is-free-requires c κs = search needs

@@ -14,14 +14,6 @@ use Rattle.entries.proofs.LineActs.{line-entered, line-refused}
 use borrow.Author.Needs.{needs}
 use Rattle.entries.proofs.row_lines.act_shape.Statement.{statement}
 use Rattle.entries.proofs.row_lines.act_shape.Tie as tie
-use Rattle.entries.proofs.row_lines.act_shape.Reads as reads
-use Rattle.entries.proofs.row_lines.act_shape.Lts as lts
-use Rattle.entries.proofs.row_lines.entered.Reads as entered-reads
-use Rattle.entries.proofs.row_lines.put_shape.Reads as put-shape-reads
-use Rattle.entries.proofs.row_lines.reaches.Reads as reaches-reads
-use Rattle.entries.proofs.row_lines.twice.Reads as twice-reads
-use Rattle.entries.proofs.shapes.fits.Reads as fits-reads
-use Rattle.entries.proofs.shapes.sort_of.Reads as sort-of-reads
 
 sort-of-requires : tie.Need-sort-of-requires
 sort-of-requires c κs = search needs

@@ -2,9 +2,6 @@ use borrow.Author.Tests.{ne-eqb}
 use borrow.Author.Needs.{needs}
 use Rattle.entries.proofs.row_lines.entered.Statement.{statement}
 use Rattle.entries.proofs.row_lines.entered.Tie as tie
-use Rattle.entries.proofs.row_lines.entered.Reads as reads
-use Rattle.entries.proofs.row_lines.entered.Lts as lts
-use Rattle.entries.proofs.shapes.inner_of.Reads as inner-of-reads
 
 returns : tie.Need-returns
 returns c = search needs

@@ -2,8 +2,6 @@ use Rattle.entries.proofs.LineActs.{place-some}
 use borrow.Author.Needs.{needs}
 use Rattle.entries.proofs.row_lines.place_of.Statement.{statement}
 use Rattle.entries.proofs.row_lines.place_of.Tie as tie
-use Rattle.entries.proofs.row_lines.place_of.Reads as reads
-use Rattle.entries.proofs.row_lines.place_of.Lts as lts
 
 returns : tie.Need-returns
 returns c = search needs

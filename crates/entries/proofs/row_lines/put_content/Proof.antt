@@ -8,12 +8,6 @@ use Rattle.entries.proofs.LineActs.{room-place, room-state, room-settle
 use borrow.Author.Needs.{needs}
 use Rattle.entries.proofs.row_lines.put_content.Statement.{statement}
 use Rattle.entries.proofs.row_lines.put_content.Tie as tie
-use Rattle.entries.proofs.row_lines.put_content.Reads as reads
-use Rattle.entries.proofs.row_lines.put_content.Lts as lts
-use Rattle.entries.proofs.contents.read_kind.Reads as read-kind-reads
-use Rattle.entries.proofs.row_lines.place_of.Reads as place-of-reads
-use Rattle.entries.proofs.row_lines.put_state.Reads as put-state-reads
-use Rattle.entries.proofs.names.part.Reads as part-reads
 
 part-requires : tie.Need-part-requires
 part-requires c κs = search needs

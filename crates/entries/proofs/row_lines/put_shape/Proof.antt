@@ -6,12 +6,6 @@ use Rattle.entries.specs.Names.{knownIn}
 use Rattle.entries.proofs.LineActs.{room-state, opener-puts, empty-puts, formless-puts, content-puts}
 use Rattle.entries.proofs.row_lines.put_shape.Statement.{statement}
 use Rattle.entries.proofs.row_lines.put_shape.Tie as tie
-use Rattle.entries.proofs.row_lines.put_shape.Reads as reads
-use Rattle.entries.proofs.row_lines.put_shape.Lts as lts
-use Rattle.entries.proofs.row_lines.put_content.Reads as put-content-reads
-use Rattle.entries.proofs.row_lines.put_state.Reads as put-state-reads
-use Rattle.entries.proofs.shapes.sort_of.Reads as sort-of-reads
-use Rattle.entries.proofs.shapes.span_of.Reads as span-of-reads
 
 sort-of-requires : tie.Need-sort-of-requires
 sort-of-requires c κs = search needs

@@ -5,8 +5,6 @@ use Rattle.entries.proofs.LineActs.{state-some}
 use borrow.Author.Needs.{needs}
 use Rattle.entries.proofs.row_lines.put_state.Statement.{statement}
 use Rattle.entries.proofs.row_lines.put_state.Tie as tie
-use Rattle.entries.proofs.row_lines.put_state.Reads as reads
-use Rattle.entries.proofs.row_lines.put_state.Lts as lts
 
 returns : tie.Need-returns
 returns c = search needs

@@ -2,8 +2,6 @@ use mathlib.Core.Path.{sym}
 use borrow.Author.Tests.{le-leb, lt-leb}
 use Rattle.entries.proofs.row_lines.reaches.Statement.{statement}
 use Rattle.entries.proofs.row_lines.reaches.Tie as tie
-use Rattle.entries.proofs.row_lines.reaches.Reads as reads
-use Rattle.entries.proofs.row_lines.reaches.Lts as lts
 
 returns : tie.Need-returns
 returns c = sym (rw (le-leb (c .before .before .before .before .before .args .least .middle) (c .before .before .before .before .before .args .d .middle) (c .before .before .if1 .taken)))

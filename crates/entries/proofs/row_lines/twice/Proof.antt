@@ -2,8 +2,6 @@ use Rattle.entries.proofs.LineActs.{not-once}
 use borrow.Author.Needs.{needs}
 use Rattle.entries.proofs.row_lines.twice.Statement.{statement}
 use Rattle.entries.proofs.row_lines.twice.Tie as tie
-use Rattle.entries.proofs.row_lines.twice.Reads as reads
-use Rattle.entries.proofs.row_lines.twice.Lts as lts
 
 returns : tie.Need-returns
 returns c = search needs

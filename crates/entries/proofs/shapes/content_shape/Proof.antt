@@ -9,10 +9,6 @@ use Rattle.entries.proofs.ByShape.{shape-none, shape-free, shape-plain,
 use borrow.Author.Needs.{needs}
 use Rattle.entries.proofs.shapes.content_shape.Statement.{statement}
 use Rattle.entries.proofs.shapes.content_shape.Tie as tie
-use Rattle.entries.proofs.shapes.content_shape.Reads as reads
-use Rattle.entries.proofs.shapes.content_shape.Lts as lts
-use Rattle.entries.proofs.names.part.Reads as part-reads
-use Rattle.entries.proofs.shapes.ends_open.Reads as ends-open-reads
 
 part-requires : tie.Need-part-requires
 part-requires c κs = search needs

@@ -2,8 +2,6 @@ use Rattle.entries.proofs.ByShape.{ends-short, ends-colon, ends-other}
 use borrow.Author.Needs.{needs}
 use Rattle.entries.proofs.shapes.ends_open.Statement.{statement}
 use Rattle.entries.proofs.shapes.ends_open.Tie as tie
-use Rattle.entries.proofs.shapes.ends_open.Reads as reads
-use Rattle.entries.proofs.shapes.ends_open.Lts as lts
 
 returns : tie.Need-returns
 returns c = ends-short (c .before .args .c .now) (c .if1 .taken)

@@ -7,10 +7,6 @@ use Rattle.entries.proofs.ByShape.{fits-plain, opener-by, empty-by, con
 use borrow.Author.Needs.{needs}
 use Rattle.entries.proofs.shapes.fits.Statement.{statement}
 use Rattle.entries.proofs.shapes.fits.Tie as tie
-use Rattle.entries.proofs.shapes.fits.Reads as reads
-use Rattle.entries.proofs.shapes.fits.Lts as lts
-use Rattle.entries.proofs.shapes.is_either.Reads as is-either-reads
-use Rattle.entries.proofs.shapes.sort_of.Reads as sort-of-reads
 
 sort-of-requires : tie.Need-sort-of-requires
 sort-of-requires c κs = search needs

@@ -1,8 +1,6 @@
 use Rattle.entries.proofs.ByShape.{inner-none}
 use Rattle.entries.proofs.shapes.inner_of.Statement.{statement}
 use Rattle.entries.proofs.shapes.inner_of.Tie as tie
-use Rattle.entries.proofs.shapes.inner_of.Reads as reads
-use Rattle.entries.proofs.shapes.inner_of.Lts as lts
 
 returns : tie.Need-returns
 returns c = rw (c .if1 .taken)

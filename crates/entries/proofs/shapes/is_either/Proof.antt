@@ -6,10 +6,6 @@ use Rattle.rules.specs.Base.{same, bytes}
 use borrow.Author.Needs.{needs}
 use Rattle.entries.proofs.shapes.is_either.Statement.{statement}
 use Rattle.entries.proofs.shapes.is_either.Tie as tie
-use Rattle.entries.proofs.shapes.is_either.Reads as reads
-use Rattle.entries.proofs.shapes.is_either.Lts as lts
-use Rattle.entries.proofs.names.part.Reads as part-reads
-use Rattle.leaves.proofs.bytes.same.Reads as same-reads
 
 enum-told : tie.Need-enum-told
 enum-told c = search needs

@@ -1,8 +1,6 @@
 use Rattle.entries.proofs.ByShape.{free-is}
 use Rattle.entries.proofs.shapes.is_free.Statement.{statement}
 use Rattle.entries.proofs.shapes.is_free.Tie as tie
-use Rattle.entries.proofs.shapes.is_free.Reads as reads
-use Rattle.entries.proofs.shapes.is_free.Lts as lts
 
 returns : tie.Need-returns
 returns c = free-is (c .before .args .row)

@@ -2,8 +2,6 @@ use mathlib.Core.Path.{sym}
 use borrow.Author.Needs.{needs}
 use Rattle.entries.proofs.shapes.rest_of.Statement.{statement}
 use Rattle.entries.proofs.shapes.rest_of.Tie as tie
-use Rattle.entries.proofs.shapes.rest_of.Reads as reads
-use Rattle.entries.proofs.shapes.rest_of.Lts as lts
 
 enum-told : tie.Need-enum-told
 enum-told c = search needs

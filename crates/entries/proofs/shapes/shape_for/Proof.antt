@@ -4,9 +4,6 @@ use Rattle.rules.proofs.Chains.{cond-same}
 use borrow.Author.Needs.{needs}
 use Rattle.entries.proofs.shapes.shape_for.Statement.{statement}
 use Rattle.entries.proofs.shapes.shape_for.Tie as tie
-use Rattle.entries.proofs.shapes.shape_for.Reads as reads
-use Rattle.entries.proofs.shapes.shape_for.Lts as lts
-use Rattle.entries.proofs.shapes.content_shape.Reads as content-shape-reads
 
 enum-told : tie.Need-enum-told
 enum-told c = search needs

@@ -4,10 +4,6 @@ use borrow.Author.Tests.{ne-eqb}
 use borrow.Author.Needs.{needs}
 use Rattle.entries.proofs.values.agree.Statement.{statement}
 use Rattle.entries.proofs.values.agree.Tie as tie
-use Rattle.entries.proofs.values.agree.Reads as reads
-use Rattle.entries.proofs.values.agree.Lts as lts
-use Rattle.entries.proofs.values.equal_at.Reads as equal-at-reads
-use Rattle.entries.proofs.values.less_at.Reads as less-at-reads
 
 add-equal-at : tie.Need-add-equal-at
 add-equal-at c = search needs

@@ -5,11 +5,6 @@ use Rattle.entries.specs.Names.{knownIn}
 use Rattle.entries.proofs.EachValue.{Going, going-start, piece-within, going-few, going-many, going-last, going-more}
 use Rattle.entries.proofs.values.each.Statement.{statement}
 use Rattle.entries.proofs.values.each.Tie as tie
-use Rattle.entries.proofs.values.each.Reads as reads
-use Rattle.entries.proofs.values.each.Lts as lts
-use Rattle.entries.proofs.parts.piece.Reads as piece-reads
-use Rattle.entries.proofs.values.least.Reads as least-reads
-use Rattle.entries.proofs.values.put_value.Reads as put-value-reads
 
 abbrev Inv-loop : tie.InvT-loop
 Inv-loop parts more s symbols layers c p rec₀ codes₀ left₀ to₀ at₀ worst₀ rec codes left to at worst = Going (knownIn s symbols layers) parts more c p rec₀ codes left to at worst rec

@@ -6,8 +6,6 @@ use lib.ListN.{getD}
 use borrow.Author.Needs.{needs}
 use Rattle.entries.proofs.values.equal_at.Statement.{statement}
 use Rattle.entries.proofs.values.equal_at.Tie as tie
-use Rattle.entries.proofs.values.equal_at.Reads as reads
-use Rattle.entries.proofs.values.equal_at.Lts as lts
 
 mul-a : tie.Need-mul-a
 mul-a c = search needs

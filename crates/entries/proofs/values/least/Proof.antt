@@ -4,8 +4,6 @@ use native.Mathlib.Omega.{arith}
 use borrow.Author.Needs.{needs}
 use Rattle.entries.proofs.values.least.Statement.{statement}
 use Rattle.entries.proofs.values.least.Tie as tie
-use Rattle.entries.proofs.values.least.Reads as reads
-use Rattle.entries.proofs.values.least.Lts as lts
 
 enum-known-a : tie.Need-enum-known-a
 enum-known-a c = search needs

@@ -5,8 +5,6 @@ use mir.Val.{SFits}
 use borrow.Author.Needs.{needs}
 use Rattle.entries.proofs.values.put_value.Statement.{statement}
 use Rattle.entries.proofs.values.put_value.Tie as tie
-use Rattle.entries.proofs.values.put_value.Reads as reads
-use Rattle.entries.proofs.values.put_value.Lts as lts
 
 enum-known-v : tie.Need-enum-known-v
 enum-known-v c = search needs

@@ -8,10 +8,6 @@ use Rattle.entries.proofs.EachValue.{across-refused, across-told}
 use borrow.Author.Needs.{needs}
 use Rattle.entries.proofs.values.values.Statement.{statement}
 use Rattle.entries.proofs.values.values.Tie as tie
-use Rattle.entries.proofs.values.values.Reads as reads
-use Rattle.entries.proofs.values.values.Lts as lts
-use Rattle.entries.proofs.values.agree.Reads as agree-reads
-use Rattle.entries.proofs.values.each.Reads as each-reads
 
 each-requires : tie.Need-each-requires
 each-requires c κs = search needs

@@ -3,8 +3,6 @@ use Rattle.leaves.proofs.Capitals.{capital-low, capital-high, capital-s
 use borrow.Author.Needs.{needs}
 use Rattle.leaves.proofs.bytes.capital.Statement.{statement}
 use Rattle.leaves.proofs.bytes.capital.Tie as tie
-use Rattle.leaves.proofs.bytes.capital.Reads as reads
-use Rattle.leaves.proofs.bytes.capital.Lts as lts
 
 returns : tie.Need-returns
 returns c = capital-low _ (c .if1 .taken)

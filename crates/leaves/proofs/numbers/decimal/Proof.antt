@@ -10,9 +10,6 @@ use Rattle.leaves.proofs.Bounds.{piece-reading, piece-end}
 use borrow.Author.Needs.{needs}
 use Rattle.leaves.proofs.numbers.decimal.Statement.{statement}
 use Rattle.leaves.proofs.numbers.decimal.Tie as tie
-use Rattle.leaves.proofs.numbers.decimal.Reads as reads
-use Rattle.leaves.proofs.numbers.decimal.Lts as lts
-use Rattle.leaves.proofs.pieces.decimal_piece.Reads as decimal-piece-reads
 
 decimal-piece-requires : tie.Need-decimal-piece-requires
 decimal-piece-requires c κs = search needs

@@ -2,8 +2,6 @@ use Rattle.leaves.proofs.Commas.{sign-none, sign-minus, sign-other}
 use borrow.Author.Needs.{needs}
 use Rattle.leaves.proofs.pieces.behind_sign.Statement.{statement}
 use Rattle.leaves.proofs.pieces.behind_sign.Tie as tie
-use Rattle.leaves.proofs.pieces.behind_sign.Reads as reads
-use Rattle.leaves.proofs.pieces.behind_sign.Lts as lts
 
 returns : tie.Need-returns
 returns c = sign-none (c .before .args .s .now) (c .if1 .taken)

@@ -6,11 +6,6 @@ use Rattle.leaves.proofs.Commas.{pieceAt, sign-within, size-some, size-
 use borrow.Author.Needs.{needs}
 use Rattle.leaves.proofs.pieces.decimal_piece.Statement.{statement}
 use Rattle.leaves.proofs.pieces.decimal_piece.Tie as tie
-use Rattle.leaves.proofs.pieces.decimal_piece.Reads as reads
-use Rattle.leaves.proofs.pieces.decimal_piece.Lts as lts
-use Rattle.leaves.proofs.bytes.find.Reads as find-reads
-use Rattle.leaves.proofs.pieces.behind_sign.Reads as behind-sign-reads
-use Rattle.leaves.proofs.pieces.size_piece.Reads as size-piece-reads
 
 behind-sign-requires : tie.Need-behind-sign-requires
 behind-sign-requires c κs = search needs

@@ -4,8 +4,6 @@ use Rattle.leaves.proofs.Commas.{ends-at}
 use borrow.Author.Needs.{needs}
 use Rattle.leaves.proofs.pieces.ends.Statement.{statement}
 use Rattle.leaves.proofs.pieces.ends.Tie as tie
-use Rattle.leaves.proofs.pieces.ends.Reads as reads
-use Rattle.leaves.proofs.pieces.ends.Lts as lts
 
 returns : tie.Need-returns
 returns c = sym (rw (upTo-end 44 _ _ (c .if1 .taken)))

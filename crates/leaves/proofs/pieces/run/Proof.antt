@@ -8,10 +8,6 @@ use Rattle.leaves.proofs.Digits.{digit-bounds}
 use Rattle.leaves.proofs.Commas.{run-start, run-next, run-small, run-stops, run-full}
 use Rattle.leaves.proofs.pieces.run.Statement.{statement}
 use Rattle.leaves.proofs.pieces.run.Tie as tie
-use Rattle.leaves.proofs.pieces.run.Reads as reads
-use Rattle.leaves.proofs.pieces.run.Lts as lts
-use Rattle.leaves.proofs.bytes.digit.Reads as digit-reads
-use Rattle.leaves.proofs.pieces.latest.Reads as latest-reads
 
 abbrev Inv-loop : tie.InvT-loop
 Inv-loop s at most last v₀ i₀ v i = (i ≤ last) × (last ≤ length s) × (last ≤ at + most) × (last < at + most → length s ≤ last) × DigitsRead s at most (record { value = v; end = i })

@@ -7,11 +7,6 @@ use Rattle.leaves.proofs.Commas.{run-small, no-digit-first, whole-alone
 use borrow.Author.Needs.{needs}
 use Rattle.leaves.proofs.pieces.size_piece.Statement.{statement}
 use Rattle.leaves.proofs.pieces.size_piece.Tie as tie
-use Rattle.leaves.proofs.pieces.size_piece.Reads as reads
-use Rattle.leaves.proofs.pieces.size_piece.Lts as lts
-use Rattle.leaves.proofs.pieces.unit.Reads as unit-reads
-use Rattle.leaves.proofs.pieces.ends.Reads as ends-reads
-use Rattle.leaves.proofs.pieces.run.Reads as run-reads
 
 run-requires : tie.Need-run-requires
 run-requires c κs = search needs

@@ -2,8 +2,6 @@ use Rattle.leaves.proofs.Drawings.{number-one, number-not-one, number-n
 use borrow.Author.Needs.{needs}
 use Rattle.leaves.proofs.sheets.is_number.Statement.{statement}
 use Rattle.leaves.proofs.sheets.is_number.Tie as tie
-use Rattle.leaves.proofs.sheets.is_number.Reads as reads
-use Rattle.leaves.proofs.sheets.is_number.Lts as lts
 
 add-tens : tie.Need-add-tens
 add-tens c = search needs

@@ -6,9 +6,6 @@ use Rattle.leaves.specs.Drawing.{largeSheet}
 use borrow.Author.Needs.{needs}
 use Rattle.leaves.proofs.sheets.large.Statement.{statement}
 use Rattle.leaves.proofs.sheets.large.Tie as tie
-use Rattle.leaves.proofs.sheets.large.Reads as reads
-use Rattle.leaves.proofs.sheets.large.Lts as lts
-use Rattle.leaves.proofs.bytes.within.Reads as within-reads
 
 returns : tie.Need-returns
 unfolding largeSheet

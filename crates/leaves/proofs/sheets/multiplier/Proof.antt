@@ -7,9 +7,6 @@ use Rattle.leaves.specs.Drawing.{multiplierIn}
 use Rattle.leaves.proofs.Drawings.{multiplier-hit, multiplier-miss, multiplier-end}
 use Rattle.leaves.proofs.sheets.multiplier.Statement.{statement}
 use Rattle.leaves.proofs.sheets.multiplier.Tie as tie
-use Rattle.leaves.proofs.sheets.multiplier.Reads as reads
-use Rattle.leaves.proofs.sheets.multiplier.Lts as lts
-use Rattle.leaves.proofs.sheets.is_number.Reads as is-number-reads
 
 abbrev Inv-loop : tie.InvT-loop
 Inv-loop s table i₀ i = (i ≤ 8) × (multiplierIn s multipliers ≡ multiplierIn s (drop i multipliers))

@@ -7,9 +7,6 @@ use Rattle.leaves.specs.Drawing.{oneCount}
 use borrow.Author.Needs.{needs}
 use Rattle.leaves.proofs.sheets.one_count.Statement.{statement}
 use Rattle.leaves.proofs.sheets.one_count.Tie as tie
-use Rattle.leaves.proofs.sheets.one_count.Reads as reads
-use Rattle.leaves.proofs.sheets.one_count.Lts as lts
-use Rattle.leaves.proofs.bytes.within.Reads as within-reads
 
 enum-known-a : tie.Need-enum-known-a
 enum-known-a c = search needs

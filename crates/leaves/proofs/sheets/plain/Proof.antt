@@ -6,9 +6,6 @@ use Rattle.leaves.specs.Drawing.{plainSheet}
 use borrow.Author.Needs.{needs}
 use Rattle.leaves.proofs.sheets.plain.Statement.{statement}
 use Rattle.leaves.proofs.sheets.plain.Tie as tie
-use Rattle.leaves.proofs.sheets.plain.Reads as reads
-use Rattle.leaves.proofs.sheets.plain.Lts as lts
-use Rattle.leaves.proofs.bytes.within.Reads as within-reads
 
 within-requires : tie.Need-within-requires
 within-requires c κs = search needs

@@ -10,12 +10,6 @@ use Rattle.leaves.proofs.Drawings.{ratio-one, ratio-two}
 use borrow.Author.Needs.{needs}
 use Rattle.leaves.proofs.sheets.ratio.Statement.{statement}
 use Rattle.leaves.proofs.sheets.ratio.Tie as tie
-use Rattle.leaves.proofs.sheets.ratio.Reads as reads
-use Rattle.leaves.proofs.sheets.ratio.Lts as lts
-use Rattle.leaves.proofs.bytes.find.Reads as find-reads
-use Rattle.leaves.proofs.numbers.count.Reads as count-reads
-use Rattle.leaves.proofs.sheets.one_count.Reads as one-count-reads
-use Rattle.leaves.proofs.sheets.two_counts.Reads as two-counts-reads
 
 find-requires : tie.Need-find-requires
 find-requires c κs = search needs

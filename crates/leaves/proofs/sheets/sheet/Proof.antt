@@ -8,11 +8,6 @@ use Rattle.leaves.proofs.Drawings.{sheet-short, sheet-other, sheet-alon
 use borrow.Author.Needs.{needs}
 use Rattle.leaves.proofs.sheets.sheet.Statement.{statement}
 use Rattle.leaves.proofs.sheets.sheet.Tie as tie
-use Rattle.leaves.proofs.sheets.sheet.Reads as reads
-use Rattle.leaves.proofs.sheets.sheet.Lts as lts
-use Rattle.leaves.proofs.sheets.large.Reads as large-reads
-use Rattle.leaves.proofs.sheets.multiplier.Reads as multiplier-reads
-use Rattle.leaves.proofs.sheets.plain.Reads as plain-reads
 
 returns : tie.Need-returns
 returns c = sym (ap sheetOf (sheet-short (c .before .before .args .s .now) (c .if1 .taken)))

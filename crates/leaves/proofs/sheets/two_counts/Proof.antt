@@ -7,9 +7,6 @@ use Rattle.leaves.specs.Drawing.{twoCounts}
 use borrow.Author.Needs.{needs}
 use Rattle.leaves.proofs.sheets.two_counts.Statement.{statement}
 use Rattle.leaves.proofs.sheets.two_counts.Tie as tie
-use Rattle.leaves.proofs.sheets.two_counts.Reads as reads
-use Rattle.leaves.proofs.sheets.two_counts.Lts as lts
-use Rattle.leaves.proofs.bytes.within.Reads as within-reads
 
 enum-known-a : tie.Need-enum-known-a
 enum-known-a c = search needs

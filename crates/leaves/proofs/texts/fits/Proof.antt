@@ -7,9 +7,6 @@ use Rattle.leaves.proofs.FreeTexts.{and-comm}
 use borrow.Author.Needs.{needs}
 use Rattle.leaves.proofs.texts.fits.Statement.{statement}
 use Rattle.leaves.proofs.texts.fits.Tie as tie
-use Rattle.leaves.proofs.texts.fits.Reads as reads
-use Rattle.leaves.proofs.texts.fits.Lts as lts
-use Rattle.leaves.proofs.bytes.all_in.Reads as all-in-reads
 
 returns : tie.Need-returns
 returns c = sym (and-comm (all (byteIn (bytesOf (c .before .before .args .set))) (c .before .before .args .c .now)) _ ∙ rw (lt-leb _ _ (c .if1 .taken)))

@@ -5,8 +5,6 @@ use Rattle.leaves.proofs.FreeTexts.{by-columns}
 use borrow.Author.Needs.{needs}
 use Rattle.leaves.proofs.texts.text_rule.Statement.{statement}
 use Rattle.leaves.proofs.texts.text_rule.Tie as tie
-use Rattle.leaves.proofs.texts.text_rule.Reads as reads
-use Rattle.leaves.proofs.texts.text_rule.Lts as lts
 
 returns : tie.Need-returns
 unfolding textRules

@@ -2,8 +2,6 @@ use mathlib.Core.Path.{sym}
 use borrow.Author.Tests.{le-leb, lt-leb}
 use Rattle.leaves.proofs.write.at_most_eight.Statement.{statement}
 use Rattle.leaves.proofs.write.at_most_eight.Tie as tie
-use Rattle.leaves.proofs.write.at_most_eight.Reads as reads
-use Rattle.leaves.proofs.write.at_most_eight.Lts as lts
 
 returns : tie.Need-returns
 returns c = sym (rw (lt-leb _ _ (c .if1 .taken)))

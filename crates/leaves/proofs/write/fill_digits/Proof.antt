@@ -1,5 +1,5 @@
 use lib.Seq.{drop-length}
-use Prim.Native.Nat.{ℕ, _≤_, _<_, _-_, _+_}
+use Prim.Native.Nat.{_≤_}
 use mathlib.Core.Path.{_≡_, refl, sym, _∙_}
 use native.Mathlib.Omega.{arith}
 use lib.ListN.{length, drop, length-set}
@@ -7,8 +7,6 @@ use Rattle.rules.specs.Numbers.{fixed, fixedOnto}
 use Rattle.leaves.proofs.Written.{digit-more, fixed-end}
 use Rattle.leaves.proofs.write.fill_digits.Statement.{statement}
 use Rattle.leaves.proofs.write.fill_digits.Tie as tie
-use Rattle.leaves.proofs.write.fill_digits.Reads as reads
-use Rattle.leaves.proofs.write.fill_digits.Lts as lts
 
 abbrev Inv-loop : tie.InvT-loop
 Inv-loop n out₀ left₀ i₀ out left i = (i ≤ length out₀) × (length out ≡ length out₀) × (fixed (length out₀) n ≡ fixedOnto i left (drop i out))

@@ -2,9 +2,6 @@ use Rattle.leaves.proofs.Written.{half-long, lay-done}
 use borrow.Author.Needs.{needs}
 use Rattle.leaves.proofs.write.lay_size.Statement.{statement}
 use Rattle.leaves.proofs.write.lay_size.Tie as tie
-use Rattle.leaves.proofs.write.lay_size.Reads as reads
-use Rattle.leaves.proofs.write.lay_size.Lts as lts
-use Rattle.leaves.proofs.write.fill_digits.Reads as fill-digits-reads
 
 array-write-text : tie.Need-array-write-text
 array-write-text c = search needs

@@ -1,5 +1,5 @@
-use Prim.Native.Nat.{ℕ, suc, _≤_, _<_, _-_, _+_}
-use mathlib.Core.Path.{_≡_, refl, ap, sym, _∙_}
+use Prim.Native.Nat.{suc, _≤_, _-_}
+use mathlib.Core.Path.{_≡_, ap, sym, _∙_}
 use native.Mathlib.Omega.{arith}
 use lib.ListN.{length, take}
 use lib.Seq.{take-length}
@@ -7,8 +7,6 @@ use Rattle.rules.specs.Numbers.{trimEnd}
 use Rattle.leaves.proofs.Written.{needed-zero, needed-stop}
 use Rattle.leaves.proofs.write.needed.Statement.{statement}
 use Rattle.leaves.proofs.write.needed.Tie as tie
-use Rattle.leaves.proofs.write.needed.Reads as reads
-use Rattle.leaves.proofs.write.needed.Lts as lts
 
 abbrev Inv-loop : tie.InvT-loop
 Inv-loop s i₀ i = (i ≤ length s) × (trimEnd (take i s) ≡ trimEnd s)

@@ -1,4 +1,4 @@
-use Prim.Native.Nat.{ℕ, _≤_, _<_, _-_, _+_}
+use Prim.Native.Nat.{_≤_, _-_}
 use mathlib.Core.Path.{_≡_, refl, sym, _∙_}
 use native.Mathlib.Omega.{arith}
 use lib.ListN.{length, drop}
@@ -6,8 +6,6 @@ use Rattle.rules.specs.Numbers.{trim}
 use Rattle.leaves.proofs.Written.{trim-zero, trim-stop, trim-end}
 use Rattle.leaves.proofs.write.needless.Statement.{statement}
 use Rattle.leaves.proofs.write.needless.Tie as tie
-use Rattle.leaves.proofs.write.needless.Reads as reads
-use Rattle.leaves.proofs.write.needless.Lts as lts
 
 abbrev Inv-loop : tie.InvT-loop
 Inv-loop s i₀ i = (i ≤ length s) × (trim (drop i s) ≡ trim s)

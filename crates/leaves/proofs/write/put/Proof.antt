@@ -1,4 +1,4 @@
-use Prim.Native.Nat.{ℕ, _≤_, _<_, _-_, _+_}
+use Prim.Native.Nat.{_≤_, _-_}
 use mathlib.Core.Path.{_≡_, refl, sym, _∙_}
 use native.Mathlib.Omega.{arith}
 use lib.ListN.{length, length-set}
@@ -6,8 +6,6 @@ use lib.Seq.{paste}
 use Rattle.leaves.proofs.Written.{fits, full, copy-more, copy-all}
 use Rattle.leaves.proofs.write.put.Statement.{statement}
 use Rattle.leaves.proofs.write.put.Tie as tie
-use Rattle.leaves.proofs.write.put.Reads as reads
-use Rattle.leaves.proofs.write.put.Lts as lts
 
 abbrev Inv-loop : tie.InvT-loop
 Inv-loop text out₀ i₀ out i = (i ≤ length text) × (length text ≤ length out₀) × (length out ≡ length out₀) × (out ≡ paste out₀ 0 text i)

@@ -6,9 +6,6 @@ use Rattle.leaves.proofs.Written.{full, both-full, both-room, both-byte
 use borrow.Author.Needs.{needs}
 use Rattle.leaves.proofs.write.put_both.Statement.{statement}
 use Rattle.leaves.proofs.write.put_both.Tie as tie
-use Rattle.leaves.proofs.write.put_both.Reads as reads
-use Rattle.leaves.proofs.write.put_both.Lts as lts
-use Rattle.leaves.proofs.write.put.Reads as put-reads
 
 returns : tie.Need-returns
 returns c =

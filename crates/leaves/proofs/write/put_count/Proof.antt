@@ -1,10 +1,6 @@
 use borrow.Author.Needs.{needs}
 use Rattle.leaves.proofs.write.put_count.Statement.{statement}
 use Rattle.leaves.proofs.write.put_count.Tie as tie
-use Rattle.leaves.proofs.write.put_count.Reads as reads
-use Rattle.leaves.proofs.write.put_count.Lts as lts
-use Rattle.leaves.proofs.write.fill_digits.Reads as fill-digits-reads
-use Rattle.leaves.proofs.write.put_trimmed.Reads as put-trimmed-reads
 
 slice-aggregate-fill-digits : tie.Need-slice-aggregate-fill-digits
 slice-aggregate-fill-digits c = search needs

@@ -1,21 +1,12 @@
-use Prim.Native.Nat.{_+_}
-use mathlib.Core.Path.{_≡_, ap, sym, _∙_}
-use mathlib.Core.Bool.{true, false}
 use native.Mathlib.Omega.{arith}
 use native.Mathlib.Numerals.{add-one}
-use lib.IntN.{ℤ, pos, natAbs}
-use lib.Signed.{mag, ltZ}
 use mir.Syntax.{w64}
-use mir.Val.{SFits, toZ, ofZ}
+use mir.Val.{SFits}
 use mir.Facts.{toZ-ofZ}
-use Rattle.leaves.proofs.Ints.{Below, below, more-fits, turned-fits, turned-back, NotBelow, not-below, not-below-back}
+use Rattle.leaves.proofs.Ints.{below, more-fits, turned-fits, turned-back, not-below, not-below-back}
 use borrow.Author.Needs.{needs}
 use Rattle.leaves.proofs.write.put_decimal.Statement.{statement}
 use Rattle.leaves.proofs.write.put_decimal.Tie as tie
-use Rattle.leaves.proofs.write.put_decimal.Reads as reads
-use Rattle.leaves.proofs.write.put_decimal.Lts as lts
-use Rattle.leaves.proofs.write.put_minus.Reads as put-minus-reads
-use Rattle.leaves.proofs.write.put_size.Reads as put-size-reads
 
 add-put-minus : tie.Need-add-put-minus
 add-put-minus c =

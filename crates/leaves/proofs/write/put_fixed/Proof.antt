@@ -1,4 +1,4 @@
-use mathlib.Core.Path.{_≡_, sym, ap, _∙_}
+use mathlib.Core.Path.{sym, ap, _∙_}
 use mathlib.Core.List.{List, _++_}
 use Prim.Native.Nat.{ℕ}
 use lib.ListN.{drop}
@@ -9,10 +9,6 @@ use Rattle.leaves.proofs.Written.{fits, full, fixed-length}
 use borrow.Author.Needs.{needs}
 use Rattle.leaves.proofs.write.put_fixed.Statement.{statement}
 use Rattle.leaves.proofs.write.put_fixed.Tie as tie
-use Rattle.leaves.proofs.write.put_fixed.Reads as reads
-use Rattle.leaves.proofs.write.put_fixed.Lts as lts
-use Rattle.leaves.proofs.write.at_most_eight.Reads as at-most-eight-reads
-use Rattle.leaves.proofs.write.fill_digits.Reads as fill-digits-reads
 
 at-most-eight-requires : tie.Need-at-most-eight-requires
 at-most-eight-requires c κs = search needs

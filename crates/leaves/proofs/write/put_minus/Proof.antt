@@ -8,9 +8,6 @@ use Rattle.leaves.proofs.Written.{full, behind-full, behind-room, behin
 use borrow.Author.Needs.{needs}
 use Rattle.leaves.proofs.write.put_minus.Statement.{statement}
 use Rattle.leaves.proofs.write.put_minus.Tie as tie
-use Rattle.leaves.proofs.write.put_minus.Reads as reads
-use Rattle.leaves.proofs.write.put_minus.Lts as lts
-use Rattle.leaves.proofs.write.put_size.Reads as put-size-reads
 
 returns : tie.Need-returns
 returns c = full (45 ∷ showSize (c .before .before .args .m)) (c .before .before .args .out .now) (suc (length (showSize (c .before .before .args .m)))) refl (omega (arith, c .if1 .taken))

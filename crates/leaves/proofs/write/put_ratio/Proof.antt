@@ -2,12 +2,6 @@ use Rattle.leaves.proofs.Written.{ratio-alone, tail-length, slash-lengt
 use borrow.Author.Needs.{needs}
 use Rattle.leaves.proofs.write.put_ratio.Statement.{statement}
 use Rattle.leaves.proofs.write.put_ratio.Tie as tie
-use Rattle.leaves.proofs.write.put_ratio.Reads as reads
-use Rattle.leaves.proofs.write.put_ratio.Lts as lts
-use Rattle.leaves.proofs.write.fill_digits.Reads as fill-digits-reads
-use Rattle.leaves.proofs.write.needless.Reads as needless-reads
-use Rattle.leaves.proofs.write.put_both.Reads as put-both-reads
-use Rattle.leaves.proofs.write.put_trimmed.Reads as put-trimmed-reads
 
 slice-aggregate-fill-digits : tie.Need-slice-aggregate-fill-digits
 slice-aggregate-fill-digits c = search needs

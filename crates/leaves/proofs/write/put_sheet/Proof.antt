@@ -2,12 +2,6 @@ use Rattle.leaves.proofs.Written.{name-length, sheet-plain, sheet-large
 use borrow.Author.Needs.{needs}
 use Rattle.leaves.proofs.write.put_sheet.Statement.{statement}
 use Rattle.leaves.proofs.write.put_sheet.Tie as tie
-use Rattle.leaves.proofs.write.put_sheet.Reads as reads
-use Rattle.leaves.proofs.write.put_sheet.Lts as lts
-use Rattle.leaves.proofs.write.fill_digits.Reads as fill-digits-reads
-use Rattle.leaves.proofs.write.needless.Reads as needless-reads
-use Rattle.leaves.proofs.write.put.Reads as put-reads
-use Rattle.leaves.proofs.write.put_both.Reads as put-both-reads
 
 sub-fill-digits : tie.Need-sub-fill-digits
 sub-fill-digits c = search needs

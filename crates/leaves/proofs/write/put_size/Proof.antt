@@ -4,12 +4,6 @@ use Rattle.leaves.proofs.Written.{fixed-length, whole-part, fraction-pa
 use borrow.Author.Needs.{needs}
 use Rattle.leaves.proofs.write.put_size.Statement.{statement}
 use Rattle.leaves.proofs.write.put_size.Tie as tie
-use Rattle.leaves.proofs.write.put_size.Reads as reads
-use Rattle.leaves.proofs.write.put_size.Lts as lts
-use Rattle.leaves.proofs.write.lay_size.Reads as lay-size-reads
-use Rattle.leaves.proofs.write.needed.Reads as needed-reads
-use Rattle.leaves.proofs.write.needless.Reads as needless-reads
-use Rattle.leaves.proofs.write.put.Reads as put-reads
 
 lay-size-requires : tie.Need-lay-size-requires
 lay-size-requires c κs = search needs

@@ -2,10 +2,6 @@ use Rattle.leaves.proofs.Scan.{rest-all}
 use borrow.Author.Needs.{needs}
 use Rattle.leaves.proofs.write.put_trimmed.Statement.{statement}
 use Rattle.leaves.proofs.write.put_trimmed.Tie as tie
-use Rattle.leaves.proofs.write.put_trimmed.Reads as reads
-use Rattle.leaves.proofs.write.put_trimmed.Lts as lts
-use Rattle.leaves.proofs.write.needless.Reads as needless-reads
-use Rattle.leaves.proofs.write.put.Reads as put-reads
 
 needless-requires : tie.Need-needless-requires
 needless-requires c κs = search needs

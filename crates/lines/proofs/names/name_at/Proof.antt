@@ -1,4 +1,3 @@
-use Prim.Native.Nat.{_-_}
 use native.Mathlib.Omega.{arith}
 use Rattle.lines.proofs.VolumeNames as laws
 use Rattle.lines.proofs.names.name_at.Statement.{statement}

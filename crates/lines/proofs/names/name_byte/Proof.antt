@@ -1,4 +1,3 @@
-use Prim.Native.Nat.{_-_}
 use mathlib.Core.Path.{sym, _∙_}
 use Rattle.rules.specs.Base.{within}
 use borrow.Author.Needs.{needs}

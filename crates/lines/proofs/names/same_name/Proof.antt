@@ -1,4 +1,3 @@
-use Prim.Native.Nat.{_-_}
 use mathlib.Core.Path.{ap, _∙_}
 use Rattle.rules.specs.Base.{same}
 use Rattle.lines.specs.VolumeNames.{rawName}

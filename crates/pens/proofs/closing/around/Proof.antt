@@ -2,8 +2,6 @@ use Rattle.pens.proofs.KeyRows.{around-other}
 use borrow.Author.Needs.{needs}
 use Rattle.pens.proofs.closing.around.Statement.{statement}
 use Rattle.pens.proofs.closing.around.Tie as tie
-use Rattle.pens.proofs.closing.around.Reads as reads
-use Rattle.pens.proofs.closing.around.Lts as lts
 
 returns : tie.Need-returns
 returns c = search needs

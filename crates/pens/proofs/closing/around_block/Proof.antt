@@ -2,9 +2,6 @@ use borrow.Author.Tests.{ne-eqb}
 use borrow.Author.Needs.{needs}
 use Rattle.pens.proofs.closing.around_block.Statement.{statement}
 use Rattle.pens.proofs.closing.around_block.Tie as tie
-use Rattle.pens.proofs.closing.around_block.Reads as reads
-use Rattle.pens.proofs.closing.around_block.Lts as lts
-use Rattle.pens.proofs.places.by_home.Reads as by-home-reads
 
 by-home-requires : tie.Need-by-home-requires
 by-home-requires c κs = search needs

@@ -1,6 +1,6 @@
 use mathlib.Core.Path.{refl}
 use native.Mathlib.Omega.{arith}
-use Prim.Native.Nat.{_+_, _-_}
+use Prim.Native.Nat.{_+_}
 use mathlib.Core.List.{[], _∷_}
 use lib.ListN.{length}
 use Rattle.pens.specs.Closing.{shutBytes, drawingRows}
@@ -9,12 +9,6 @@ use Rattle.pens.proofs.Closings.{shut-at, safe-there, tables-some, draw
 use borrow.Author.Needs.{needs}
 use Rattle.pens.proofs.closing.close_drawing.Statement.{statement}
 use Rattle.pens.proofs.closing.close_drawing.Tie as tie
-use Rattle.pens.proofs.closing.close_drawing.Reads as reads
-use Rattle.pens.proofs.closing.close_drawing.Lts as lts
-use Rattle.pens.proofs.closing.shut.Reads as shut-reads
-use Rattle.pens.proofs.noted.put_rows.Reads as put-rows-reads
-use Rattle.pens.proofs.places.at_block.Reads as at-block-reads
-use Rattle.pens.proofs.swap.exchange.Reads as exchange-reads
 
 sub-put-rows : tie.Need-sub-put-rows
 sub-put-rows c = search needs

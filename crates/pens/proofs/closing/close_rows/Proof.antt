@@ -2,7 +2,6 @@ use Rattle.pens.specs.Texts.{lineBytes}
 use Rattle.pens.specs.Noting.{tablesOf, showDepth}
 use mathlib.Core.Path.{refl, _∙_}
 use native.Mathlib.Omega.{arith}
-use Prim.Native.Nat.{_+_, _-_}
 use mathlib.Core.List.{[], _++_}
 use lib.ListN.{length, length-append}
 use Rattle.pens.specs.Closing.{shutBytes}
@@ -11,11 +10,6 @@ use Rattle.pens.proofs.Closings.{shut-at, shut-none, safe-there, tables
 use borrow.Author.Needs.{needs}
 use Rattle.pens.proofs.closing.close_rows.Statement.{statement}
 use Rattle.pens.proofs.closing.close_rows.Tie as tie
-use Rattle.pens.proofs.closing.close_rows.Reads as reads
-use Rattle.pens.proofs.closing.close_rows.Lts as lts
-use Rattle.pens.proofs.closing.shut.Reads as shut-reads
-use Rattle.pens.proofs.noted.put_rows.Reads as put-rows-reads
-use Rattle.pens.proofs.places.at_block.Reads as at-block-reads
 
 sub-put-rows : tie.Need-sub-put-rows
 sub-put-rows c = search needs

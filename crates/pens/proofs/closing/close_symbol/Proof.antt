@@ -2,7 +2,7 @@ use Rattle.rules.specs.Blocks.{symbolTable}
 use Rattle.rules.specs.RecordTable.{ruleAt}
 use Rattle.pens.specs.Closing.{rowBytes, shutBytes}
 use native.Mathlib.Omega.{arith}
-use Prim.Native.Nat.{_+_, _-_}
+use Prim.Native.Nat.{_+_}
 use mathlib.Core.List.{_++_}
 use lib.ListN.{length}
 use Rattle.pens.proofs.Writers.{room-left, kept-long, kept-full, kept-then, lays, no-room, drawn-then, inserted, inserted-none, turned-room, last-same, last-room, last-full, last-lays, last-none}
@@ -10,12 +10,6 @@ use Rattle.pens.proofs.Closings.{shut-at, shut-none, safe-there, name-r
 use borrow.Author.Needs.{needs}
 use Rattle.pens.proofs.closing.close_symbol.Statement.{statement}
 use Rattle.pens.proofs.closing.close_symbol.Tie as tie
-use Rattle.pens.proofs.closing.close_symbol.Reads as reads
-use Rattle.pens.proofs.closing.close_symbol.Lts as lts
-use Rattle.pens.proofs.closing.shut.Reads as shut-reads
-use Rattle.pens.proofs.noted.put_noted.Reads as put-noted-reads
-use Rattle.pens.proofs.places.at_block.Reads as at-block-reads
-use Rattle.pens.proofs.swap.exchange.Reads as exchange-reads
 
 shared-slice-read-put-noted : tie.Need-shared-slice-read-put-noted
 shared-slice-read-put-noted c = search needs

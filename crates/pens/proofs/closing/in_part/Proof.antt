@@ -1,8 +1,6 @@
 use borrow.Author.Tests.{ne-eqb}
 use Rattle.pens.proofs.closing.in_part.Statement.{statement}
 use Rattle.pens.proofs.closing.in_part.Tie as tie
-use Rattle.pens.proofs.closing.in_part.Reads as reads
-use Rattle.pens.proofs.closing.in_part.Lts as lts
 
 returns : tie.Need-returns
 returns c = rw (c .if1 .taken)

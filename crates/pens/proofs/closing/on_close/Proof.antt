@@ -3,17 +3,6 @@ use Rattle.pens.proofs.Closings.{part-kept, done-part, text-base, file-
 use borrow.Author.Needs.{needs}
 use Rattle.pens.proofs.closing.on_close.Statement.{statement}
 use Rattle.pens.proofs.closing.on_close.Tie as tie
-use Rattle.pens.proofs.closing.on_close.Reads as reads
-use Rattle.pens.proofs.closing.on_close.Lts as lts
-use Rattle.pens.proofs.closing.around_block.Reads as around-block-reads
-use Rattle.pens.proofs.closing.close_drawing.Reads as close-drawing-reads
-use Rattle.pens.proofs.closing.close_rows.Reads as close-rows-reads
-use Rattle.pens.proofs.closing.close_symbol.Reads as close-symbol-reads
-use Rattle.pens.proofs.keys.file_table.Reads as file-table-reads
-use Rattle.pens.proofs.closing.in_part.Reads as in-part-reads
-use Rattle.pens.proofs.closing.part_closed.Reads as part-closed-reads
-use Rattle.pens.proofs.closing.shut.Reads as shut-reads
-use Rattle.pens.proofs.places.by_home.Reads as by-home-reads
 
 in-part-requires : tie.Need-in-part-requires
 in-part-requires c κs = search needs

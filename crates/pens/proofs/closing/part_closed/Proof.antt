@@ -4,10 +4,6 @@ use mathlib.Core.Path.{sym, _∙_}
 use borrow.Author.Needs.{needs}
 use Rattle.pens.proofs.closing.part_closed.Statement.{statement}
 use Rattle.pens.proofs.closing.part_closed.Tie as tie
-use Rattle.pens.proofs.closing.part_closed.Reads as reads
-use Rattle.pens.proofs.closing.part_closed.Lts as lts
-use Rattle.pens.proofs.closing.around.Reads as around-reads
-use Rattle.pens.proofs.places.at_block.Reads as at-block-reads
 
 around-requires : tie.Need-around-requires
 around-requires c κs = part-open (c .before .before .args .pen) (c .before .before .pre)

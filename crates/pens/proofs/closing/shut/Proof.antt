@@ -6,10 +6,6 @@ use Rattle.pens.specs.Moves.{moved, begun}
 use borrow.Author.Needs.{needs}
 use Rattle.pens.proofs.closing.shut.Statement.{statement}
 use Rattle.pens.proofs.closing.shut.Tie as tie
-use Rattle.pens.proofs.closing.shut.Reads as reads
-use Rattle.pens.proofs.closing.shut.Lts as lts
-use Rattle.pens.proofs.places.at_block.Reads as at-block-reads
-use Rattle.prints.proofs.rows.put_plain.Reads as put-plain-reads
 
 slice-aggregate-put-plain : tie.Need-slice-aggregate-put-plain
 slice-aggregate-put-plain c = search needs

@@ -2,8 +2,6 @@ use Rattle.pens.proofs.KeyRows.{line-block}
 use borrow.Author.Tests.{ne-eqb}
 use Rattle.pens.proofs.keys.figure_block.Statement.{statement}
 use Rattle.pens.proofs.keys.figure_block.Tie as tie
-use Rattle.pens.proofs.keys.figure_block.Reads as reads
-use Rattle.pens.proofs.keys.figure_block.Lts as lts
 
 returns : tie.Need-returns
 returns c = line-block (c .before .before .args .row) (c .if1 .taken)

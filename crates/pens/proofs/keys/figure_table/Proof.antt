@@ -3,9 +3,6 @@ use mathlib.Core.Path.{sym, _∙_}
 use borrow.Author.Needs.{needs}
 use Rattle.pens.proofs.keys.figure_table.Statement.{statement}
 use Rattle.pens.proofs.keys.figure_table.Tie as tie
-use Rattle.pens.proofs.keys.figure_table.Reads as reads
-use Rattle.pens.proofs.keys.figure_table.Lts as lts
-use Rattle.pens.proofs.keys.is_brace.Reads as is-brace-reads
 
 returns : tie.Need-returns
 returns c = rw (not-true (c .before .args .layered) (c .if1 .taken))

@@ -1,8 +1,6 @@
 use borrow.Author.Tests.{ne-eqb, not-true, not-false}
 use Rattle.pens.proofs.keys.file_table.Statement.{statement}
 use Rattle.pens.proofs.keys.file_table.Tie as tie
-use Rattle.pens.proofs.keys.file_table.Reads as reads
-use Rattle.pens.proofs.keys.file_table.Lts as lts
 
 returns : tie.Need-returns
 returns c = rw (not-true (c .before .args .first) (c .if1 .taken))

@@ -3,9 +3,6 @@ use mathlib.Core.Path.{sym}
 use borrow.Author.Needs.{needs}
 use Rattle.pens.proofs.keys.forget_for.Statement.{statement}
 use Rattle.pens.proofs.keys.forget_for.Tie as tie
-use Rattle.pens.proofs.keys.forget_for.Reads as reads
-use Rattle.pens.proofs.keys.forget_for.Lts as lts
-use Rattle.pens.proofs.places.forget.Reads as forget-reads
 
 forget-requires : tie.Need-forget-requires
 forget-requires c κs = search needs

@@ -8,11 +8,6 @@ use Rattle.pens.specs.Moves.{moved, begun}
 use borrow.Author.Needs.{needs}
 use Rattle.pens.proofs.keys.key_defines.Statement.{statement}
 use Rattle.pens.proofs.keys.key_defines.Tie as tie
-use Rattle.pens.proofs.keys.key_defines.Reads as reads
-use Rattle.pens.proofs.keys.key_defines.Lts as lts
-use Rattle.pens.proofs.keys.put_at_once.Reads as put-at-once-reads
-use Rattle.pens.proofs.keys.put_begun.Reads as put-begun-reads
-use Rattle.pens.proofs.places.forget.Reads as forget-reads
 
 put-at-once-requires : tie.Need-put-at-once-requires
 put-at-once-requires c κs = search needs

@@ -8,10 +8,6 @@ use Rattle.pens.specs.Moves.{moved}
 use borrow.Author.Needs.{needs}
 use Rattle.pens.proofs.keys.key_drawing.Statement.{statement}
 use Rattle.pens.proofs.keys.key_drawing.Tie as tie
-use Rattle.pens.proofs.keys.key_drawing.Reads as reads
-use Rattle.pens.proofs.keys.key_drawing.Lts as lts
-use Rattle.pens.proofs.keys.note.Reads as note-reads
-use Rattle.pens.proofs.keys.put_at_once.Reads as put-at-once-reads
 
 put-at-once-requires : tie.Need-put-at-once-requires
 put-at-once-requires c κs = search needs

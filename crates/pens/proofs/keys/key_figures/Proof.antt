@@ -11,11 +11,6 @@ use Rattle.pens.specs.Moves.{moved}
 use borrow.Author.Needs.{needs}
 use Rattle.pens.proofs.keys.key_figures.Statement.{statement}
 use Rattle.pens.proofs.keys.key_figures.Tie as tie
-use Rattle.pens.proofs.keys.key_figures.Reads as reads
-use Rattle.pens.proofs.keys.key_figures.Lts as lts
-use Rattle.pens.proofs.keys.figure_block.Reads as figure-block-reads
-use Rattle.pens.proofs.keys.forget_for.Reads as forget-for-reads
-use Rattle.pens.proofs.keys.put_at_once.Reads as put-at-once-reads
 
 figure-block-requires : tie.Need-figure-block-requires
 figure-block-requires c κs = search needs

@@ -10,11 +10,6 @@ use Rattle.pens.proofs.Writers.{kept-still, kept-moved}
 use borrow.Author.Needs.{needs}
 use Rattle.pens.proofs.keys.key_file.Statement.{statement}
 use Rattle.pens.proofs.keys.key_file.Tie as tie
-use Rattle.pens.proofs.keys.key_file.Reads as reads
-use Rattle.pens.proofs.keys.key_file.Lts as lts
-use Rattle.pens.proofs.keys.note.Reads as note-reads
-use Rattle.pens.proofs.noted.opens.Reads as opens-reads
-use Rattle.pens.proofs.places.at_block.Reads as at-block-reads
 
 note-requires : tie.Need-note-requires
 note-requires c κs = search needs

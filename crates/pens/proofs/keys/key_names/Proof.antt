@@ -6,10 +6,6 @@ use Rattle.pens.specs.Moves.{moved, begun}
 use borrow.Author.Needs.{needs}
 use Rattle.pens.proofs.keys.key_names.Statement.{statement}
 use Rattle.pens.proofs.keys.key_names.Tie as tie
-use Rattle.pens.proofs.keys.key_names.Reads as reads
-use Rattle.pens.proofs.keys.key_names.Lts as lts
-use Rattle.pens.proofs.places.at_block.Reads as at-block-reads
-use Rattle.prints.proofs.rows.put_named.Reads as put-named-reads
 
 sub-put-named : tie.Need-sub-put-named
 sub-put-named c = search needs

@@ -11,10 +11,6 @@ use Rattle.pens.proofs.Writers.{kept-still, kept-moved}
 use borrow.Author.Needs.{needs}
 use Rattle.pens.proofs.keys.key_placed.Statement.{statement}
 use Rattle.pens.proofs.keys.key_placed.Tie as tie
-use Rattle.pens.proofs.keys.key_placed.Reads as reads
-use Rattle.pens.proofs.keys.key_placed.Lts as lts
-use Rattle.pens.proofs.keys.note.Reads as note-reads
-use Rattle.pens.proofs.places.at_block.Reads as at-block-reads
 
 note-requires : tie.Need-note-requires
 note-requires c κs = search needs

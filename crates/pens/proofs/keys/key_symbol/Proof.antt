@@ -9,11 +9,6 @@ use Rattle.pens.specs.Moves.{moved, amongFigures}
 use borrow.Author.Needs.{needs}
 use Rattle.pens.proofs.keys.key_symbol.Statement.{statement}
 use Rattle.pens.proofs.keys.key_symbol.Tie as tie
-use Rattle.pens.proofs.keys.key_symbol.Reads as reads
-use Rattle.pens.proofs.keys.key_symbol.Lts as lts
-use Rattle.pens.proofs.keys.note.Reads as note-reads
-use Rattle.pens.proofs.keys.put_at_once.Reads as put-at-once-reads
-use Rattle.pens.proofs.keys.put_figures.Reads as put-figures-reads
 
 put-figures-requires : tie.Need-put-figures-requires
 put-figures-requires c κs = search needs

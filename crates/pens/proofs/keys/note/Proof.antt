@@ -4,10 +4,6 @@ use Rattle.pens.proofs.KeyRows.{set-beyond, notes-few}
 use borrow.Author.Needs.{needs}
 use Rattle.pens.proofs.keys.note.Statement.{statement}
 use Rattle.pens.proofs.keys.note.Tie as tie
-use Rattle.pens.proofs.keys.note.Reads as reads
-use Rattle.pens.proofs.keys.note.Lts as lts
-use Rattle.pens.proofs.noted.note_of.Reads as note-of-reads
-use Rattle.pens.proofs.noted.notes_from.Reads as notes-from-reads
 
 notes-from-requires : tie.Need-notes-from-requires
 notes-from-requires c κs = search needs

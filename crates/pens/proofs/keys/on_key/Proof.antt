@@ -5,13 +5,6 @@ use Rattle.pens.proofs.Writers.{kept-still}
 use borrow.Author.Needs.{needs}
 use Rattle.pens.proofs.keys.on_key.Statement.{statement}
 use Rattle.pens.proofs.keys.on_key.Tie as tie
-use Rattle.pens.proofs.keys.on_key.Reads as reads
-use Rattle.pens.proofs.keys.on_key.Lts as lts
-use Rattle.entries.proofs.names.part.Reads as part-reads
-use Rattle.pens.proofs.keys.key_names.Reads as key-names-reads
-use Rattle.pens.proofs.keys.row_line.Reads as row-line-reads
-use Rattle.pens.proofs.keys.table_of.Reads as table-of-reads
-use Rattle.tables.proofs.lookup.row_of.Reads as row-of-reads
 
 key-names-requires : tie.Need-key-names-requires
 key-names-requires c κs = search needs

@@ -1,8 +1,6 @@
 use borrow.Author.Tests.{ne-eqb}
 use Rattle.pens.proofs.keys.placed_table.Statement.{statement}
 use Rattle.pens.proofs.keys.placed_table.Tie as tie
-use Rattle.pens.proofs.keys.placed_table.Reads as reads
-use Rattle.pens.proofs.keys.placed_table.Lts as lts
 
 returns : tie.Need-returns
 returns c = rw (c .if1 .taken)

@@ -6,10 +6,6 @@ use Rattle.pens.specs.Moves.{moved, begun}
 use borrow.Author.Needs.{needs}
 use Rattle.pens.proofs.keys.put_at_once.Statement.{statement}
 use Rattle.pens.proofs.keys.put_at_once.Tie as tie
-use Rattle.pens.proofs.keys.put_at_once.Reads as reads
-use Rattle.pens.proofs.keys.put_at_once.Lts as lts
-use Rattle.pens.proofs.places.at_block.Reads as at-block-reads
-use Rattle.prints.proofs.rows.put_row.Reads as put-row-reads
 
 sub-put-row : tie.Need-sub-put-row
 sub-put-row c = search needs

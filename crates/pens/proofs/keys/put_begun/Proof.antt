@@ -6,10 +6,6 @@ use Rattle.pens.specs.Moves.{begun}
 use borrow.Author.Needs.{needs}
 use Rattle.pens.proofs.keys.put_begun.Statement.{statement}
 use Rattle.pens.proofs.keys.put_begun.Tie as tie
-use Rattle.pens.proofs.keys.put_begun.Reads as reads
-use Rattle.pens.proofs.keys.put_begun.Lts as lts
-use Rattle.pens.proofs.places.begun.Reads as begun-reads
-use Rattle.prints.proofs.rows.put_row.Reads as put-row-reads
 
 sub-put-row : tie.Need-sub-put-row
 sub-put-row c = search needs

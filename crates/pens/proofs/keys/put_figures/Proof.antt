@@ -6,10 +6,6 @@ use Rattle.pens.specs.Moves.{begun, amongFigures}
 use borrow.Author.Needs.{needs}
 use Rattle.pens.proofs.keys.put_figures.Statement.{statement}
 use Rattle.pens.proofs.keys.put_figures.Tie as tie
-use Rattle.pens.proofs.keys.put_figures.Reads as reads
-use Rattle.pens.proofs.keys.put_figures.Lts as lts
-use Rattle.pens.proofs.places.among_figures.Reads as among-figures-reads
-use Rattle.prints.proofs.rows.put_row.Reads as put-row-reads
 
 sub-put-row : tie.Need-sub-put-row
 sub-put-row c = search needs

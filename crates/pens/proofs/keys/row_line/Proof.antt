@@ -9,18 +9,6 @@ use Rattle.pens.specs.Moves.{moved, amongFigures}
 use borrow.Author.Needs.{needs}
 use Rattle.pens.proofs.keys.row_line.Statement.{statement}
 use Rattle.pens.proofs.keys.row_line.Tie as tie
-use Rattle.pens.proofs.keys.row_line.Reads as reads
-use Rattle.pens.proofs.keys.row_line.Lts as lts
-use Rattle.pens.proofs.keys.key_defines.Reads as key-defines-reads
-use Rattle.pens.proofs.keys.key_drawing.Reads as key-drawing-reads
-use Rattle.pens.proofs.keys.key_figures.Reads as key-figures-reads
-use Rattle.pens.proofs.keys.key_file.Reads as key-file-reads
-use Rattle.pens.proofs.keys.key_placed.Reads as key-placed-reads
-use Rattle.pens.proofs.keys.key_symbol.Reads as key-symbol-reads
-use Rattle.pens.proofs.keys.key_top.Reads as key-top-reads
-use Rattle.pens.proofs.keys.note.Reads as note-reads
-use Rattle.pens.proofs.keys.put_at_once.Reads as put-at-once-reads
-use Rattle.pens.proofs.keys.put_figures.Reads as put-figures-reads
 
 key-figures-requires : tie.Need-key-figures-requires
 key-figures-requires c κs = search needs

@@ -2,12 +2,6 @@ use borrow.Author.Tests.{ne-eqb}
 use borrow.Author.Needs.{needs}
 use Rattle.pens.proofs.keys.table_of.Statement.{statement}
 use Rattle.pens.proofs.keys.table_of.Tie as tie
-use Rattle.pens.proofs.keys.table_of.Reads as reads
-use Rattle.pens.proofs.keys.table_of.Lts as lts
-use Rattle.pens.proofs.places.by_home.Reads as by-home-reads
-use Rattle.pens.proofs.keys.figure_table.Reads as figure-table-reads
-use Rattle.pens.proofs.keys.file_table.Reads as file-table-reads
-use Rattle.pens.proofs.keys.placed_table.Reads as placed-table-reads
 
 figure-table-requires : tie.Need-figure-table-requires
 figure-table-requires c κs = search needs

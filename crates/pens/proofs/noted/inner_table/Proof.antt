@@ -2,12 +2,6 @@ use Rattle.pens.proofs.RowsNoted.{inner-none, inner-absent, inner-shut,
 use borrow.Author.Needs.{needs}
 use Rattle.pens.proofs.noted.inner_table.Statement.{statement}
 use Rattle.pens.proofs.noted.inner_table.Tie as tie
-use Rattle.pens.proofs.noted.inner_table.Reads as reads
-use Rattle.pens.proofs.noted.inner_table.Lts as lts
-use Rattle.pens.proofs.noted.opens.Reads as opens-reads
-use Rattle.pens.proofs.noted.part_table.Reads as part-table-reads
-use Rattle.pens.proofs.noted.rest_of.Reads as rest-of-reads
-use Rattle.pens.proofs.noted.row_at.Reads as row-at-reads
 
 returns : tie.Need-returns
 returns c = inner-none _ _ _ _ _ _ (c .if1 .taken)

@@ -3,8 +3,6 @@ use lib.ListN.{List·getD-eq-default}
 use borrow.Author.Needs.{needs}
 use Rattle.pens.proofs.noted.note_at.Statement.{statement}
 use Rattle.pens.proofs.noted.note_at.Tie as tie
-use Rattle.pens.proofs.noted.note_at.Reads as reads
-use Rattle.pens.proofs.noted.note_at.Lts as lts
 
 returns : tie.Need-returns
 returns c = sym (List·getD-eq-default (c .before .args .notes .now) 0 (c .if1 .taken))

@@ -2,8 +2,6 @@ use Rattle.pens.proofs.RowsNoted.{note-far, note-long, note-both}
 use borrow.Author.Needs.{needs}
 use Rattle.pens.proofs.noted.note_of.Statement.{statement}
 use Rattle.pens.proofs.noted.note_of.Tie as tie
-use Rattle.pens.proofs.noted.note_of.Reads as reads
-use Rattle.pens.proofs.noted.note_of.Lts as lts
 
 enum-told : tie.Need-enum-told
 enum-told c = search needs

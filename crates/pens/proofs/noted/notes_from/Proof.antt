@@ -2,8 +2,6 @@ use mathlib.Core.Path.{sym}
 use borrow.Author.Tests.{ne-eqb}
 use Rattle.pens.proofs.noted.notes_from.Statement.{statement}
 use Rattle.pens.proofs.noted.notes_from.Tie as tie
-use Rattle.pens.proofs.noted.notes_from.Reads as reads
-use Rattle.pens.proofs.noted.notes_from.Lts as lts
 
 returns : tie.Need-returns
 returns c = sym (rw (c .if1 .taken))

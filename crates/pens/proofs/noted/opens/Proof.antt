@@ -4,10 +4,6 @@ use Rattle.pens.proofs.RowsNoted.{opens-so}
 use borrow.Author.Needs.{needs}
 use Rattle.pens.proofs.noted.opens.Statement.{statement}
 use Rattle.pens.proofs.noted.opens.Tie as tie
-use Rattle.pens.proofs.noted.opens.Reads as reads
-use Rattle.pens.proofs.noted.opens.Lts as lts
-use Rattle.entries.proofs.shapes.shape_for.Reads as shape-for-reads
-use Rattle.entries.proofs.shapes.sort_of.Reads as sort-of-reads
 
 shape-for-requires : tie.Need-shape-for-requires
 shape-for-requires c κs = search needs

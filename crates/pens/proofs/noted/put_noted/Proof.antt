@@ -3,11 +3,6 @@ use Rattle.pens.proofs.RowsNoted.{noted-none, noted-absent, noted-line}
 use borrow.Author.Needs.{needs}
 use Rattle.pens.proofs.noted.put_noted.Statement.{statement}
 use Rattle.pens.proofs.noted.put_noted.Tie as tie
-use Rattle.pens.proofs.noted.put_noted.Reads as reads
-use Rattle.pens.proofs.noted.put_noted.Lts as lts
-use Rattle.pens.proofs.noted.rest_of.Reads as rest-of-reads
-use Rattle.pens.proofs.noted.row_at.Reads as row-at-reads
-use Rattle.prints.proofs.rows.put_row.Reads as put-row-reads
 
 returns : tie.Need-returns
 returns c = (within-none _, noted-none _ _ _ _ _ (c .if1 .taken))

@@ -2,8 +2,6 @@ use mathlib.Core.Path.{sym}
 use Rattle.pens.proofs.RowsNoted.{kind-closed}
 use Rattle.pens.proofs.noted.rest_of.Statement.{statement}
 use Rattle.pens.proofs.noted.rest_of.Tie as tie
-use Rattle.pens.proofs.noted.rest_of.Reads as reads
-use Rattle.pens.proofs.noted.rest_of.Lts as lts
 
 returns : tie.Need-returns
 returns c = λ s. sym (rw (c .if1 .taken))

@@ -4,10 +4,6 @@ use Rattle.pens.proofs.RowsNoted.{row-full, key-room, row-there}
 use borrow.Author.Needs.{needs}
 use Rattle.pens.proofs.noted.row_at.Statement.{statement}
 use Rattle.pens.proofs.noted.row_at.Tie as tie
-use Rattle.pens.proofs.noted.row_at.Reads as reads
-use Rattle.pens.proofs.noted.row_at.Lts as lts
-use Rattle.keywords.proofs.put_key.Reads as put-key-reads
-use Rattle.tables.proofs.lookup.row_of.Reads as row-of-reads
 
 put-key-requires : tie.Need-put-key-requires
 put-key-requires c κs = search needs

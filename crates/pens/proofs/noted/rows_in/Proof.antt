@@ -2,8 +2,6 @@ use mathlib.Core.Path.{sym}
 use borrow.Author.Tests.{ne-eqb}
 use Rattle.pens.proofs.noted.rows_in.Statement.{statement}
 use Rattle.pens.proofs.noted.rows_in.Tie as tie
-use Rattle.pens.proofs.noted.rows_in.Reads as reads
-use Rattle.pens.proofs.noted.rows_in.Lts as lts
 
 returns : tie.Need-returns
 returns c = sym (rw (c .if1 .taken))

@@ -8,8 +8,6 @@ use lib.ListN.{length, getD, set, replicate, length-set, length-replicate, getD-
 use lib.Seq.{paste, paste-suc, take-all}
 use Rattle.pens.proofs.places.forget.Statement.{statement}
 use Rattle.pens.proofs.places.forget.Tie as tie
-use Rattle.pens.proofs.places.forget.Reads as reads
-use Rattle.pens.proofs.places.forget.Lts as lts
 
 abbrev Inv-loop : tie.InvT-loop
 Inv-loop notes₀ i₀ notes i =

@@ -4,9 +4,6 @@ use Rattle.pens.proofs.Turning.{exchange-done}
 use borrow.Author.Needs.{needs}
 use Rattle.pens.proofs.swap.exchange.Statement.{statement}
 use Rattle.pens.proofs.swap.exchange.Tie as tie
-use Rattle.pens.proofs.swap.exchange.Reads as reads
-use Rattle.pens.proofs.swap.exchange.Lts as lts
-use Rattle.pens.proofs.swap.turn.Reads as turn-reads
 
 slice-relend-prefix-turn : tie.Need-slice-relend-prefix-turn
 slice-relend-prefix-turn c = search needs

@@ -1,12 +1,10 @@
-use Prim.Native.Nat.{ℕ, _+_, _-_, _≤_, _<_}
-use mathlib.Core.Path.{_≡_, refl, sym, _∙_, ap}
+use Prim.Native.Nat.{_+_, _-_, _≤_}
+use mathlib.Core.Path.{_≡_, refl, _∙_}
 use native.Mathlib.Omega.{arith}
 use lib.ListN.{length, getD, length-set}
 use Rattle.pens.proofs.Turning.{Turning, begun, turned, done, same-size}
 use Rattle.pens.proofs.swap.turn.Statement.{statement}
 use Rattle.pens.proofs.swap.turn.Tie as tie
-use Rattle.pens.proofs.swap.turn.Reads as reads
-use Rattle.pens.proofs.swap.turn.Lts as lts
 
 abbrev Inv-loop : tie.InvT-loop
 Inv-loop t₀ i₀ j₀ t i j = Turning t₀ i j t × (i + j ≡ length t₀) × (i ≤ j)

@@ -5,10 +5,6 @@ use Rattle.pens.proofs.LentOutput.{lent-room, line-wrote, line-full}
 use borrow.Author.Needs.{needs}
 use Rattle.pens.proofs.volumes.on_eof.Statement.{statement}
 use Rattle.pens.proofs.volumes.on_eof.Tie as tie
-use Rattle.pens.proofs.volumes.on_eof.Reads as reads
-use Rattle.pens.proofs.volumes.on_eof.Lts as lts
-use Rattle.pens.proofs.places.at_block.Reads as at-block-reads
-use Rattle.prints.proofs.rows.put_plain.Reads as put-plain-reads
 
 slice-aggregate-put-plain : tie.Need-slice-aggregate-put-plain
 slice-aggregate-put-plain c = search needs

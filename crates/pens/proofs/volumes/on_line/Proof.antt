@@ -5,11 +5,6 @@ use Rattle.pens.proofs.LineLaws.{line-same}
 use borrow.Author.Needs.{needs}
 use Rattle.pens.proofs.volumes.on_line.Statement.{statement}
 use Rattle.pens.proofs.volumes.on_line.Tie as tie
-use Rattle.pens.proofs.volumes.on_line.Reads as reads
-use Rattle.pens.proofs.volumes.on_line.Lts as lts
-use Rattle.pens.proofs.closing.on_close.Reads as on-close-reads
-use Rattle.pens.proofs.keys.on_key.Reads as on-key-reads
-use Rattle.pens.proofs.volumes.on_eof.Reads as on-eof-reads
 
 enum-told : tie.Need-enum-told
 enum-told c = search needs

@@ -9,11 +9,6 @@ use Rattle.pens.proofs.VolumeWalk.{Walk, walk-begins, walk-ends, walk-o
 use Rattle.pens.proofs.VolumeEnd.{body-promise, body-short, body-wrote, body-unwrote}
 use Rattle.pens.proofs.volumes.put_body.Statement.{statement}
 use Rattle.pens.proofs.volumes.put_body.Tie as tie
-use Rattle.pens.proofs.volumes.put_body.Reads as reads
-use Rattle.pens.proofs.volumes.put_body.Lts as lts
-use Rattle.leaves.proofs.write.put.Reads as put-reads
-use Rattle.lines.proofs.forms.look.Reads as look-reads
-use Rattle.pens.proofs.volumes.on_line.Reads as on-line-reads
 
 abbrev Inv-loop : tie.InvT-loop
 Inv-loop s start end first notes₀ out₀ pen₀ at₀ going₀ t15 notes out pen at going = Walk s start end first out₀ pen at going notes out

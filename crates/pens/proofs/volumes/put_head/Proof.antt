@@ -2,9 +2,6 @@ use Rattle.pens.proofs.Heads.{head-put}
 use borrow.Author.Needs.{needs}
 use Rattle.pens.proofs.volumes.put_head.Statement.{statement}
 use Rattle.pens.proofs.volumes.put_head.Tie as tie
-use Rattle.pens.proofs.volumes.put_head.Reads as reads
-use Rattle.pens.proofs.volumes.put_head.Lts as lts
-use Rattle.leaves.proofs.write.put.Reads as put-reads
 
 slice-aggregate-put : tie.Need-slice-aggregate-put
 slice-aggregate-put c = search needs

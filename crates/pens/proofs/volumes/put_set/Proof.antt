@@ -1,4 +1,4 @@
-use Prim.Native.Nat.{_+_, _-_}
+use Prim.Native.Nat.{_-_}
 use mathlib.Core.Path.{refl, _∙_}
 use native.Mathlib.Omega.{arith}
 use borrow.Author.Needs.{needs}
@@ -6,10 +6,6 @@ use Rattle.pens.proofs.LentOutput.{within-long, lent-room}
 use Rattle.pens.proofs.SetLoop.{Going, placed, begins, goes-on, no-room, ends}
 use Rattle.pens.proofs.volumes.put_set.Statement.{statement}
 use Rattle.pens.proofs.volumes.put_set.Tie as tie
-use Rattle.pens.proofs.volumes.put_set.Reads as reads
-use Rattle.pens.proofs.volumes.put_set.Lts as lts
-use Rattle.lines.proofs.spool.volumes.Reads as volumes-reads
-use Rattle.pens.proofs.volumes.put_volume.Reads as put-volume-reads
 
 abbrev Inv-loop : tie.InvT-loop
 Inv-loop s out₀ count places lengths notes₀ at₀ i₀ out notes at i = Going s out₀ out notes at i

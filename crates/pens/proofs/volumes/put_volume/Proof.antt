@@ -7,11 +7,6 @@ use Rattle.pens.proofs.Heads.{name-short, volume-narrow, volume-full, v
 use borrow.Author.Needs.{needs}
 use Rattle.pens.proofs.volumes.put_volume.Statement.{statement}
 use Rattle.pens.proofs.volumes.put_volume.Tie as tie
-use Rattle.pens.proofs.volumes.put_volume.Reads as reads
-use Rattle.pens.proofs.volumes.put_volume.Lts as lts
-use Rattle.lines.proofs.spool.volume_name.Reads as volume-name-reads
-use Rattle.pens.proofs.volumes.put_body.Reads as put-body-reads
-use Rattle.pens.proofs.volumes.put_head.Reads as put-head-reads
 
 returns : tie.Need-returns
 returns c = (within-full _ _ refl, c .before .before .before .before .pre, λ K e v next ls s st k no-limit a b g. volume-narrow K _ _ (name-short (c .before .before .before .before .args .s .now) (c .before .before .before .before .args .start)) st _ _ (c .if1 .taken))

@@ -4,15 +4,6 @@ use Rattle.prints.specs.Texts.{contentText}
 use borrow.Author.Needs.{needs}
 use Rattle.prints.proofs.contents.content.Statement.{statement}
 use Rattle.prints.proofs.contents.content.Tie as tie
-use Rattle.prints.proofs.contents.content.Reads as reads
-use Rattle.prints.proofs.contents.content.Lts as lts
-use Rattle.prints.proofs.contents.capitals.Reads as capitals-reads
-use Rattle.prints.proofs.contents.size.Reads as size-reads
-use Rattle.prints.proofs.contents.scale.Reads as scale-reads
-use Rattle.prints.proofs.contents.stands.Reads as stands-reads
-use Rattle.prints.proofs.pieces.piece.Reads as piece-reads
-use Rattle.prints.proofs.pieces.pieces.Reads as pieces-reads
-use Rattle.prints.proofs.texts.text.Reads as text-reads
 
 capitals-requires : tie.Need-capitals-requires
 capitals-requires c κs = tt

@@ -4,11 +4,6 @@ use Rattle.prints.proofs.Whole.{ratio-anew, ratio-stands}
 use borrow.Author.Needs.{needs}
 use Rattle.prints.proofs.contents.scale.Statement.{statement}
 use Rattle.prints.proofs.contents.scale.Tie as tie
-use Rattle.prints.proofs.contents.scale.Reads as reads
-use Rattle.prints.proofs.contents.scale.Lts as lts
-use Rattle.leaves.proofs.sheets.ratio.Reads as ratio-reads
-use Rattle.prints.proofs.texts.scale.Reads as scale-reads
-use Rattle.prints.proofs.texts.text.Reads as text-reads
 
 ratio-requires : tie.Need-ratio-requires
 ratio-requires c κs = search needs

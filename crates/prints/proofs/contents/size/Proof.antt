@@ -4,11 +4,6 @@ use Rattle.prints.proofs.Whole.{sheet-anew, sheet-stands}
 use borrow.Author.Needs.{needs}
 use Rattle.prints.proofs.contents.size.Statement.{statement}
 use Rattle.prints.proofs.contents.size.Tie as tie
-use Rattle.prints.proofs.contents.size.Reads as reads
-use Rattle.prints.proofs.contents.size.Lts as lts
-use Rattle.leaves.proofs.sheets.sheet.Reads as sheets-sheet-reads
-use Rattle.prints.proofs.texts.sheet.Reads as texts-sheet-reads
-use Rattle.prints.proofs.texts.text.Reads as text-reads
 
 sheet-requires : tie.Need-sheet-requires
 sheet-requires c κs = search needs

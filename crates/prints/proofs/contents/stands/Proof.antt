@@ -2,8 +2,6 @@ use mathlib.Core.Path.{sym}
 use borrow.Author.Tests.{lt-ltb, le-ltb}
 use Rattle.prints.proofs.contents.stands.Statement.{statement}
 use Rattle.prints.proofs.contents.stands.Tie as tie
-use Rattle.prints.proofs.contents.stands.Reads as reads
-use Rattle.prints.proofs.contents.stands.Lts as lts
 
 returns : tie.Need-returns
 returns c = sym (rw (lt-ltb 0 (c .before .args .kind) (c .if1 .taken)))

@@ -2,8 +2,6 @@ use mathlib.Core.Path.{sym}
 use borrow.Author.Needs.{needs}
 use Rattle.prints.proofs.pieces.behind_first.Statement.{statement}
 use Rattle.prints.proofs.pieces.behind_first.Tie as tie
-use Rattle.prints.proofs.pieces.behind_first.Reads as reads
-use Rattle.prints.proofs.pieces.behind_first.Lts as lts
 
 returns : tie.Need-returns
 returns c = search needs

@@ -4,11 +4,6 @@ use Rattle.prints.proofs.Commas.{count-anew, count-stands}
 use borrow.Author.Needs.{needs}
 use Rattle.prints.proofs.pieces.count.Statement.{statement}
 use Rattle.prints.proofs.pieces.count.Tie as tie
-use Rattle.prints.proofs.pieces.count.Reads as reads
-use Rattle.prints.proofs.pieces.count.Lts as lts
-use Rattle.leaves.proofs.numbers.serial.Reads as serial-reads
-use Rattle.prints.proofs.texts.number.Reads as number-reads
-use Rattle.prints.proofs.texts.text.Reads as text-reads
 
 serial-requires : tie.Need-serial-requires
 serial-requires c κs = search needs

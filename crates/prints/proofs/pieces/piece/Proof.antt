@@ -2,11 +2,6 @@ use borrow.Author.Tests.{le-leb, lt-leb, ne-eqb}
 use borrow.Author.Needs.{needs}
 use Rattle.prints.proofs.pieces.piece.Statement.{statement}
 use Rattle.prints.proofs.pieces.piece.Tie as tie
-use Rattle.prints.proofs.pieces.piece.Reads as reads
-use Rattle.prints.proofs.pieces.piece.Lts as lts
-use Rattle.prints.proofs.pieces.count.Reads as count-reads
-use Rattle.prints.proofs.pieces.size.Reads as size-reads
-use Rattle.prints.proofs.texts.text.Reads as text-reads
 
 size-requires : tie.Need-size-requires
 size-requires c κs = search needs

@@ -7,11 +7,6 @@ use Rattle.prints.proofs.Commas.{reading-anew, reading-stands}
 use borrow.Author.Needs.{needs}
 use Rattle.prints.proofs.pieces.size.Statement.{statement}
 use Rattle.prints.proofs.pieces.size.Tie as tie
-use Rattle.prints.proofs.pieces.size.Reads as reads
-use Rattle.prints.proofs.pieces.size.Lts as lts
-use Rattle.leaves.proofs.numbers.decimal.Reads as numbers-decimal-reads
-use Rattle.prints.proofs.texts.decimal.Reads as texts-decimal-reads
-use Rattle.prints.proofs.texts.text.Reads as text-reads
 
 decimal-requires : tie.Need-decimal-requires
 decimal-requires c κs = search needs

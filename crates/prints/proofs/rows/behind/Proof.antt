@@ -6,11 +6,6 @@ use Rattle.prints.proofs.Going.{then}
 use borrow.Author.Needs.{needs}
 use Rattle.prints.proofs.rows.behind.Statement.{statement}
 use Rattle.prints.proofs.rows.behind.Tie as tie
-use Rattle.prints.proofs.rows.behind.Reads as reads
-use Rattle.prints.proofs.rows.behind.Lts as lts
-use Rattle.entries.proofs.names.part.Reads as part-reads
-use Rattle.prints.proofs.contents.content.Reads as content-reads
-use Rattle.prints.proofs.texts.text.Reads as text-reads
 
 enum-told : tie.Need-enum-told
 enum-told c = search needs

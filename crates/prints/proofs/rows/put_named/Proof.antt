@@ -5,11 +5,6 @@ use Rattle.prints.proofs.Whole.{unnamed, layer-line}
 use borrow.Author.Needs.{needs}
 use Rattle.prints.proofs.rows.put_named.Statement.{statement}
 use Rattle.prints.proofs.rows.put_named.Tie as tie
-use Rattle.prints.proofs.rows.put_named.Reads as reads
-use Rattle.prints.proofs.rows.put_named.Lts as lts
-use Rattle.entries.proofs.names.part.Reads as part-reads
-use Rattle.prints.proofs.rows.end.Reads as end-reads
-use Rattle.prints.proofs.texts.text.Reads as text-reads
 
 part-requires : tie.Need-part-requires
 part-requires c κs = search needs

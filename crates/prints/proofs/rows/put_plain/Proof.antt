@@ -2,10 +2,6 @@ use Rattle.prints.proofs.Whole.{plain-line}
 use borrow.Author.Needs.{needs}
 use Rattle.prints.proofs.rows.put_plain.Statement.{statement}
 use Rattle.prints.proofs.rows.put_plain.Tie as tie
-use Rattle.prints.proofs.rows.put_plain.Reads as reads
-use Rattle.prints.proofs.rows.put_plain.Lts as lts
-use Rattle.prints.proofs.rows.end.Reads as end-reads
-use Rattle.prints.proofs.texts.text.Reads as text-reads
 
 text-requires : tie.Need-text-requires
 text-requires c κs = search needs

@@ -6,12 +6,6 @@ use Rattle.prints.proofs.Whole.{row-line}
 use borrow.Author.Needs.{needs}
 use Rattle.prints.proofs.rows.put_row.Statement.{statement}
 use Rattle.prints.proofs.rows.put_row.Tie as tie
-use Rattle.prints.proofs.rows.put_row.Reads as reads
-use Rattle.prints.proofs.rows.put_row.Lts as lts
-use Rattle.entries.proofs.shapes.shape_for.Reads as shape-for-reads
-use Rattle.keywords.proofs.put_key.Reads as put-key-reads
-use Rattle.prints.proofs.rows.behind.Reads as behind-reads
-use Rattle.prints.proofs.rows.end.Reads as end-reads
 
 shape-for-requires : tie.Need-shape-for-requires
 shape-for-requires c κs = tt

@@ -7,9 +7,6 @@ use Rattle.prints.proofs.Going.{none-left, beyond, placed-full, placed-
 use borrow.Author.Needs.{needs}
 use Rattle.prints.proofs.texts.decimal.Statement.{statement}
 use Rattle.prints.proofs.texts.decimal.Tie as tie
-use Rattle.prints.proofs.texts.decimal.Reads as reads
-use Rattle.prints.proofs.texts.decimal.Lts as lts
-use Rattle.leaves.proofs.write.put_decimal.Reads as put-decimal-reads
 
 enum-known-at : tie.Need-enum-known-at
 enum-known-at c = search needs

@@ -4,9 +4,6 @@ use Rattle.prints.proofs.Going.{none-left, beyond, placed-full, placed-
 use borrow.Author.Needs.{needs}
 use Rattle.prints.proofs.texts.number.Statement.{statement}
 use Rattle.prints.proofs.texts.number.Tie as tie
-use Rattle.prints.proofs.texts.number.Reads as reads
-use Rattle.prints.proofs.texts.number.Lts as lts
-use Rattle.leaves.proofs.write.put_count.Reads as put-count-reads
 
 enum-known-at : tie.Need-enum-known-at
 enum-known-at c = search needs

@@ -4,9 +4,6 @@ use Rattle.prints.proofs.Going.{none-left, beyond, placed-full, placed-
 use borrow.Author.Needs.{needs}
 use Rattle.prints.proofs.texts.scale.Statement.{statement}
 use Rattle.prints.proofs.texts.scale.Tie as tie
-use Rattle.prints.proofs.texts.scale.Reads as reads
-use Rattle.prints.proofs.texts.scale.Lts as lts
-use Rattle.leaves.proofs.write.put_ratio.Reads as put-ratio-reads
 
 enum-known-at : tie.Need-enum-known-at
 enum-known-at c = search needs

@@ -4,9 +4,6 @@ use Rattle.prints.proofs.Going.{none-left, beyond, placed-full, placed-
 use borrow.Author.Needs.{needs}
 use Rattle.prints.proofs.texts.sheet.Statement.{statement}
 use Rattle.prints.proofs.texts.sheet.Tie as tie
-use Rattle.prints.proofs.texts.sheet.Reads as reads
-use Rattle.prints.proofs.texts.sheet.Lts as lts
-use Rattle.leaves.proofs.write.put_sheet.Reads as put-sheet-reads
 
 enum-known-at : tie.Need-enum-known-at
 enum-known-at c = search needs

@@ -3,9 +3,6 @@ use Rattle.prints.proofs.Going.{none-left, beyond, placed-full, placed-
 use borrow.Author.Needs.{needs}
 use Rattle.prints.proofs.texts.text.Statement.{statement}
 use Rattle.prints.proofs.texts.text.Tie as tie
-use Rattle.prints.proofs.texts.text.Reads as reads
-use Rattle.prints.proofs.texts.text.Lts as lts
-use Rattle.leaves.proofs.write.put.Reads as put-reads
 
 enum-known-at : tie.Need-enum-known-at
 enum-known-at c = search needs

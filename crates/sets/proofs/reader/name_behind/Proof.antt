@@ -3,9 +3,6 @@ use borrow.Author.Tests.{lt-ltb, le-ltb}
 use borrow.Author.Needs.{needs}
 use Rattle.sets.proofs.reader.name_behind.Statement.{statement}
 use Rattle.sets.proofs.reader.name_behind.Tie as tie
-use Rattle.sets.proofs.reader.name_behind.Reads as reads
-use Rattle.sets.proofs.reader.name_behind.Lts as lts
-use Rattle.lines.proofs.spool.volume_name.Reads as volume-name-reads
 
 add-if1 : tie.Need-add-if1
 add-if1 c = search needs

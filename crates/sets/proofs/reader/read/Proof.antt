@@ -5,11 +5,6 @@ use Rattle.sets.specs.SetReading.{SetOut}
 use Rattle.sets.proofs.SetRunAnswer.{all-zeros, reads-none, reads-refused, reads-accepted}
 use Rattle.sets.proofs.reader.read.Statement.{statement}
 use Rattle.sets.proofs.reader.read.Tie as tie
-use Rattle.sets.proofs.reader.read.Reads as reads
-use Rattle.sets.proofs.reader.read.Lts as lts
-use Rattle.drawing.proofs.classes.class_of.Reads as class-of-reads
-use Rattle.sets.proofs.reader.read_set.Reads as read-set-reads
-use Rattle.drawing.proofs.table.clear.Reads as clear-reads
 
 clear-requires : tie.Need-clear-requires
 clear-requires c κs = search needs

@@ -10,13 +10,6 @@ use Rattle.sets.proofs.SetRunStart.{none-used}
 use Rattle.sets.proofs.SetRun.{Came, came-none, came-unsound, came-first, count-few, tally-long, end-few, volume-ready, stops, goes, accepts, counts-records, lays-records, few-records}
 use Rattle.sets.proofs.reader.read_set.Statement.{statement}
 use Rattle.sets.proofs.reader.read_set.Tie as tie
-use Rattle.sets.proofs.reader.read_set.Reads as reads
-use Rattle.sets.proofs.reader.read_set.Lts as lts
-use Rattle.lines.proofs.ends.first_unsound.Reads as first-unsound-reads
-use Rattle.lines.proofs.spool.volumes.Reads as volumes-reads
-use Rattle.sets.proofs.reader.name_behind.Reads as name-behind-reads
-use Rattle.sets.proofs.reader.nothing_yet.Reads as nothing-yet-reads
-use Rattle.steps.proofs.read_volume.Reads as read-volume-reads
 
 abbrev Inv-loop : tie.InvT-loop
 Inv-loop s class limit t₀ count unsound tally₀ symbols₀ layers₀ serials₀ used₀ used-all₀ marks₀ inner₀ header₀ places lengths here₀ i₀ t tally symbols layers serials used used-all marks inner header here i =

@@ -5,11 +5,6 @@ use Rattle.sets.proofs.Rewritten.{rewrites-refused}
 use borrow.Author.Needs.{needs}
 use Rattle.sets.proofs.rewriter.rewrite.Statement.{statement}
 use Rattle.sets.proofs.rewriter.rewrite.Tie as tie
-use Rattle.sets.proofs.rewriter.rewrite.Reads as reads
-use Rattle.sets.proofs.rewriter.rewrite.Lts as lts
-use Rattle.sets.proofs.reader.judge.Reads as judge-reads
-use Rattle.sets.proofs.rewriter.clear.Reads as clear-reads
-use Rattle.sets.proofs.rewriter.write_set.Reads as write-set-reads
 
 judge-requires : tie.Need-judge-requires
 judge-requires c κs = search needs

@@ -3,10 +3,6 @@ use Rattle.sets.proofs.Rewritten.{wrote-inside, wrote-few, rewrites-acc
 use borrow.Author.Needs.{needs}
 use Rattle.sets.proofs.rewriter.write_set.Statement.{statement}
 use Rattle.sets.proofs.rewriter.write_set.Tie as tie
-use Rattle.sets.proofs.rewriter.write_set.Reads as reads
-use Rattle.sets.proofs.rewriter.write_set.Lts as lts
-use Rattle.pens.proofs.volumes.put_set.Reads as put-set-reads
-use Rattle.sets.proofs.rewriter.clear.Reads as clear-reads
 
 put-set-requires : tie.Need-put-set-requires
 put-set-requires c κs = search needs

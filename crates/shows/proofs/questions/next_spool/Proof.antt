@@ -4,9 +4,6 @@ use lib.Seq.{length-take-le}
 use borrow.Author.Needs.{needs}
 use Rattle.shows.proofs.questions.next_spool.Statement.{statement}
 use Rattle.shows.proofs.questions.next_spool.Tie as tie
-use Rattle.shows.proofs.questions.next_spool.Reads as reads
-use Rattle.shows.proofs.questions.next_spool.Lts as lts
-use Rattle.io.proofs.read_full.Reads as read-full-reads
 
 returns : tie.Need-returns
 returns c = search needs

@@ -9,16 +9,6 @@ use Rattle.steps.proofs.VolumeLoop.{Through-to, SameLengths}
 use Rattle.steps.proofs.VolumeLoopTurns.{none-following, same-lengths, skipped-further, begins, turn-empty, turn-ready, turn-go, turn-block, turn-skip, turn-left, turn-stop, turn-last}
 use Rattle.steps.proofs.volume.read_volume.Statement.{statement}
 use Rattle.steps.proofs.volume.read_volume.Tie as tie
-use Rattle.steps.proofs.volume.read_volume.Reads as reads
-use Rattle.steps.proofs.volume.read_volume.Lts as lts
-use Rattle.steps.proofs.volume.at_last.Reads as at-last-reads
-use Rattle.leaves.proofs.truth.both.Reads as both-reads
-use Rattle.steps.proofs.volume.closed.Reads as closed-reads
-use Rattle.steps.proofs.volume.completes.Reads as completes-reads
-use Rattle.steps.proofs.volume.refused.Reads as refused-reads
-use Rattle.steps.proofs.line.step.Reads as step-reads
-use Rattle.drawing.proofs.skip.skip_block.Reads as skip-block-reads
-use Rattle.drawing.proofs.walk.next_line.Reads as next-line-reads
 
 abbrev Inv-loop : tie.InvT-loop
 Inv-loop s following class v start tally₀ symbols₀ layers₀ serials₀ used₀ used-all₀ marks₀ inner₀ header₀ limit t₀ here₀ at₀ line₀ last-volume tally symbols layers serials used used-all marks inner header t here at line =

@@ -4,10 +4,6 @@ use Rattle.rules.specs.Blocks.{baseTable}
 use borrow.Author.Needs.{needs}
 use Rattle.tables.proofs.blocks.base_row.Statement.{statement}
 use Rattle.tables.proofs.blocks.base_row.Tie as tie
-use Rattle.tables.proofs.blocks.base_row.Reads as reads
-use Rattle.tables.proofs.blocks.base_row.Lts as lts
-use Rattle.tables.proofs.keys.is_b_sym.Reads as is-b-sym-reads
-use Rattle.tables.proofs.rows.several.Reads as several-reads
 
 is-b-sym-requires : tie.Need-is-b-sym-requires
 is-b-sym-requires c κs = search needs

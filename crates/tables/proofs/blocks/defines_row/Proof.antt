@@ -4,14 +4,6 @@ use Rattle.rules.specs.Blocks.{definesTable}
 use borrow.Author.Needs.{needs}
 use Rattle.tables.proofs.blocks.defines_row.Statement.{statement}
 use Rattle.tables.proofs.blocks.defines_row.Tie as tie
-use Rattle.tables.proofs.blocks.defines_row.Reads as reads
-use Rattle.tables.proofs.blocks.defines_row.Lts as lts
-use Rattle.tables.proofs.keys.is_e_symbol.Reads as is-e-symbol-reads
-use Rattle.tables.proofs.keys.is_non.Reads as is-non-reads
-use Rattle.tables.proofs.rows.from.Reads as from-reads
-use Rattle.tables.proofs.rows.inner.Reads as inner-reads
-use Rattle.tables.proofs.rows.plain.Reads as plain-reads
-use Rattle.tables.proofs.rows.times.Reads as times-reads
 
 is-non-requires : tie.Need-is-non-requires
 is-non-requires c κs = search needs

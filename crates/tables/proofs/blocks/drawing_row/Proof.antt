@@ -5,23 +5,6 @@ use Rattle.rules.specs.Blocks.{drawingTable}
 use borrow.Author.Needs.{needs}
 use Rattle.tables.proofs.blocks.drawing_row.Statement.{statement}
 use Rattle.tables.proofs.blocks.drawing_row.Tie as tie
-use Rattle.tables.proofs.blocks.drawing_row.Reads as reads
-use Rattle.tables.proofs.blocks.drawing_row.Lts as lts
-use Rattle.tables.proofs.keys.is_date.Reads as is-date-reads
-use Rattle.tables.proofs.keys.is_drawer.Reads as is-drawer-reads
-use Rattle.tables.proofs.keys.is_drawname.Reads as is-drawname-reads
-use Rattle.tables.proofs.keys.is_floor_height.Reads as is-floor-height-reads
-use Rattle.tables.proofs.keys.is_layer_name.Reads as is-layer-name-reads
-use Rattle.tables.proofs.keys.is_project.Reads as is-project-reads
-use Rattle.tables.proofs.keys.is_scale.Reads as is-scale-reads
-use Rattle.tables.proofs.keys.is_size.Reads as is-size-reads
-use Rattle.tables.proofs.rows.from.Reads as from-reads
-use Rattle.tables.proofs.rows.inner.Reads as inner-reads
-use Rattle.tables.proofs.rows.may_be_empty.Reads as may-be-empty-reads
-use Rattle.tables.proofs.rows.plain.Reads as plain-reads
-use Rattle.tables.proofs.rows.several.Reads as several-reads
-use Rattle.tables.proofs.rows.free_text.Reads as free-text-reads
-use Rattle.tables.proofs.rows.with_state.Reads as with-state-reads
 
 is-size-requires : tie.Need-is-size-requires
 is-size-requires c κs = search needs

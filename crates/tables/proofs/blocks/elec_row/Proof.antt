@@ -4,12 +4,6 @@ use Rattle.rules.specs.Blocks.{elecTable}
 use borrow.Author.Needs.{needs}
 use Rattle.tables.proofs.blocks.elec_row.Statement.{statement}
 use Rattle.tables.proofs.blocks.elec_row.Tie as tie
-use Rattle.tables.proofs.blocks.elec_row.Reads as reads
-use Rattle.tables.proofs.blocks.elec_row.Lts as lts
-use Rattle.tables.proofs.keys.is_e_cirno.Reads as is-e-cirno-reads
-use Rattle.tables.proofs.keys.is_e_sym.Reads as is-e-sym-reads
-use Rattle.tables.proofs.keys.is_e_wire.Reads as is-e-wire-reads
-use Rattle.tables.proofs.rows.several.Reads as several-reads
 
 is-e-sym-requires : tie.Need-is-e-sym-requires
 is-e-sym-requires c κs = search needs

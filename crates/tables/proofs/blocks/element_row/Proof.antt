@@ -4,11 +4,6 @@ use Rattle.rules.specs.Blocks.{elementTable}
 use borrow.Author.Needs.{needs}
 use Rattle.tables.proofs.blocks.element_row.Statement.{statement}
 use Rattle.tables.proofs.blocks.element_row.Tie as tie
-use Rattle.tables.proofs.blocks.element_row.Reads as reads
-use Rattle.tables.proofs.blocks.element_row.Lts as lts
-use Rattle.tables.proofs.keys.is_layer.Reads as is-layer-reads
-use Rattle.tables.proofs.rows.inner.Reads as inner-reads
-use Rattle.tables.proofs.rows.times.Reads as times-reads
 
 is-layer-requires : tie.Need-is-layer-requires
 is-layer-requires c κs = search needs

@@ -1,25 +1,9 @@
 use mathlib.Core.Path.{sym, _∙_}
-use borrow.Author.Tests.{not-true}
 use Rattle.tables.specs.Rows.{partsOf}
 use Rattle.rules.specs.Blocks.{fileTable}
 use borrow.Author.Needs.{needs}
 use Rattle.tables.proofs.blocks.file_row.Statement.{statement}
 use Rattle.tables.proofs.blocks.file_row.Tie as tie
-use Rattle.tables.proofs.blocks.file_row.Reads as reads
-use Rattle.tables.proofs.blocks.file_row.Lts as lts
-use Rattle.tables.proofs.blocks.header_text_row.Reads as header-text-row-reads
-use Rattle.tables.proofs.keys.is_all_ele.Reads as is-all-ele-reads
-use Rattle.tables.proofs.keys.is_all_line.Reads as is-all-line-reads
-use Rattle.tables.proofs.keys.is_date.Reads as is-date-reads
-use Rattle.tables.proofs.keys.is_next_file.Reads as is-next-file-reads
-use Rattle.tables.proofs.keys.is_range.Reads as is-range-reads
-use Rattle.tables.proofs.keys.is_this_ele.Reads as is-this-ele-reads
-use Rattle.tables.proofs.keys.is_this_line.Reads as is-this-line-reads
-use Rattle.tables.proofs.keys.is_time.Reads as is-time-reads
-use Rattle.tables.proofs.rows.inner.Reads as inner-reads
-use Rattle.tables.proofs.rows.may_be_empty.Reads as may-be-empty-reads
-use Rattle.tables.proofs.rows.plain.Reads as plain-reads
-use Rattle.tables.proofs.rows.several.Reads as several-reads
 
 is-range-requires : tie.Need-is-range-requires
 is-range-requires c κs = search needs

@@ -1,23 +1,10 @@
 use Rattle.leaves.specs.Texts.{textRules}
 use mathlib.Core.Path.{sym, _∙_}
-use borrow.Author.Tests.{not-true}
 use Rattle.tables.specs.Rows.{partsOf}
 use Rattle.rules.specs.Blocks.{fileTable}
 use borrow.Author.Needs.{needs}
 use Rattle.tables.proofs.blocks.header_text_row.Statement.{statement}
 use Rattle.tables.proofs.blocks.header_text_row.Tie as tie
-use Rattle.tables.proofs.blocks.header_text_row.Reads as reads
-use Rattle.tables.proofs.blocks.header_text_row.Lts as lts
-use Rattle.tables.proofs.keys.is_cad.Reads as is-cad-reads
-use Rattle.tables.proofs.keys.is_corp.Reads as is-corp-reads
-use Rattle.tables.proofs.keys.is_hard.Reads as is-hard-reads
-use Rattle.tables.proofs.keys.is_make.Reads as is-make-reads
-use Rattle.tables.proofs.keys.is_name.Reads as is-name-reads
-use Rattle.tables.proofs.keys.is_os.Reads as is-os-reads
-use Rattle.tables.proofs.keys.is_tel.Reads as is-tel-reads
-use Rattle.tables.proofs.keys.is_ver.Reads as is-ver-reads
-use Rattle.tables.proofs.rows.may_be_empty.Reads as may-be-empty-reads
-use Rattle.tables.proofs.rows.free_text.Reads as free-text-reads
 
 is-cad-requires : tie.Need-is-cad-requires
 is-cad-requires c κs = search needs

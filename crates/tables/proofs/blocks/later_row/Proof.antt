@@ -4,16 +4,6 @@ use Rattle.rules.specs.Blocks.{laterTable}
 use borrow.Author.Needs.{needs}
 use Rattle.tables.proofs.blocks.later_row.Statement.{statement}
 use Rattle.tables.proofs.blocks.later_row.Tie as tie
-use Rattle.tables.proofs.blocks.later_row.Reads as reads
-use Rattle.tables.proofs.blocks.later_row.Lts as lts
-use Rattle.tables.proofs.keys.is_date.Reads as is-date-reads
-use Rattle.tables.proofs.keys.is_next_file.Reads as is-next-file-reads
-use Rattle.tables.proofs.keys.is_this_ele.Reads as is-this-ele-reads
-use Rattle.tables.proofs.keys.is_this_line.Reads as is-this-line-reads
-use Rattle.tables.proofs.keys.is_time.Reads as is-time-reads
-use Rattle.tables.proofs.rows.may_be_empty.Reads as may-be-empty-reads
-use Rattle.tables.proofs.rows.plain.Reads as plain-reads
-use Rattle.tables.proofs.rows.several.Reads as several-reads
 
 is-this-line-requires : tie.Need-is-this-line-requires
 is-this-line-requires c κs = search needs

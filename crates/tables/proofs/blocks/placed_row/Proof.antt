@@ -4,21 +4,6 @@ use Rattle.rules.specs.Figures.{placedTable}
 use borrow.Author.Needs.{needs}
 use Rattle.tables.proofs.blocks.placed_row.Statement.{statement}
 use Rattle.tables.proofs.blocks.placed_row.Tie as tie
-use Rattle.tables.proofs.blocks.placed_row.Reads as reads
-use Rattle.tables.proofs.blocks.placed_row.Lts as lts
-use Rattle.tables.proofs.keys.is_circuit.Reads as is-circuit-reads
-use Rattle.tables.proofs.keys.is_hight.Reads as is-hight-reads
-use Rattle.tables.proofs.keys.is_pos.Reads as is-pos-reads
-use Rattle.tables.proofs.keys.is_serial.Reads as is-serial-reads
-use Rattle.tables.proofs.keys.is_symbol.Reads as is-symbol-reads
-use Rattle.tables.proofs.keys.is_text.Reads as is-text-reads
-use Rattle.tables.proofs.rows.from.Reads as from-reads
-use Rattle.tables.proofs.rows.inner.Reads as inner-reads
-use Rattle.tables.proofs.rows.may_be_empty.Reads as may-be-empty-reads
-use Rattle.tables.proofs.rows.plain.Reads as plain-reads
-use Rattle.tables.proofs.rows.several.Reads as several-reads
-use Rattle.tables.proofs.rows.text.Reads as text-reads
-use Rattle.tables.proofs.rows.with_state.Reads as with-state-reads
 
 is-symbol-requires : tie.Need-is-symbol-requires
 is-symbol-requires c κs = search needs

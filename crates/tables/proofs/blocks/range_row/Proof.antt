@@ -4,16 +4,6 @@ use Rattle.rules.specs.Blocks.{rangeTable}
 use borrow.Author.Needs.{needs}
 use Rattle.tables.proofs.blocks.range_row.Statement.{statement}
 use Rattle.tables.proofs.blocks.range_row.Tie as tie
-use Rattle.tables.proofs.blocks.range_row.Reads as reads
-use Rattle.tables.proofs.blocks.range_row.Lts as lts
-use Rattle.tables.proofs.keys.is_air.Reads as is-air-reads
-use Rattle.tables.proofs.keys.is_arc.Reads as is-arc-reads
-use Rattle.tables.proofs.keys.is_base.Reads as is-base-reads
-use Rattle.tables.proofs.keys.is_elec.Reads as is-elec-reads
-use Rattle.tables.proofs.keys.is_pipe.Reads as is-pipe-reads
-use Rattle.tables.proofs.keys.is_sym.Reads as is-sym-reads
-use Rattle.tables.proofs.rows.inner.Reads as inner-reads
-use Rattle.tables.proofs.rows.several.Reads as several-reads
 
 is-base-requires : tie.Need-is-base-requires
 is-base-requires c κs = search needs

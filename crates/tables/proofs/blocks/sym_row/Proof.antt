@@ -4,11 +4,6 @@ use Rattle.rules.specs.Blocks.{symTable}
 use borrow.Author.Needs.{needs}
 use Rattle.tables.proofs.blocks.sym_row.Statement.{statement}
 use Rattle.tables.proofs.blocks.sym_row.Tie as tie
-use Rattle.tables.proofs.blocks.sym_row.Reads as reads
-use Rattle.tables.proofs.blocks.sym_row.Lts as lts
-use Rattle.tables.proofs.keys.is_s_base.Reads as is-s-base-reads
-use Rattle.tables.proofs.keys.is_s_elec.Reads as is-s-elec-reads
-use Rattle.tables.proofs.rows.several.Reads as several-reads
 
 is-s-base-requires : tie.Need-is-s-base-requires
 is-s-base-requires c κs = search needs

@@ -4,18 +4,6 @@ use Rattle.rules.specs.Blocks.{symbolTable}
 use borrow.Author.Needs.{needs}
 use Rattle.tables.proofs.blocks.symbol_row.Statement.{statement}
 use Rattle.tables.proofs.blocks.symbol_row.Tie as tie
-use Rattle.tables.proofs.blocks.symbol_row.Reads as reads
-use Rattle.tables.proofs.blocks.symbol_row.Lts as lts
-use Rattle.tables.proofs.keys.is_element.Reads as is-element-reads
-use Rattle.tables.proofs.keys.is_hide.Reads as is-hide-reads
-use Rattle.tables.proofs.keys.is_name.Reads as is-name-reads
-use Rattle.tables.proofs.keys.is_wall.Reads as is-wall-reads
-use Rattle.tables.proofs.rows.from.Reads as from-reads
-use Rattle.tables.proofs.rows.inner.Reads as inner-reads
-use Rattle.tables.proofs.rows.may_be_empty.Reads as may-be-empty-reads
-use Rattle.tables.proofs.rows.several.Reads as several-reads
-use Rattle.tables.proofs.rows.text.Reads as text-reads
-use Rattle.tables.proofs.rows.with_state.Reads as with-state-reads
 
 is-name-requires : tie.Need-is-name-requires
 is-name-requires c κs = search needs

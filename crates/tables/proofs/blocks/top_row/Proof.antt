@@ -4,14 +4,6 @@ use Rattle.rules.specs.Blocks.{topTable}
 use borrow.Author.Needs.{needs}
 use Rattle.tables.proofs.blocks.top_row.Statement.{statement}
 use Rattle.tables.proofs.blocks.top_row.Tie as tie
-use Rattle.tables.proofs.blocks.top_row.Reads as reads
-use Rattle.tables.proofs.blocks.top_row.Lts as lts
-use Rattle.tables.proofs.keys.is_drawing_format.Reads as is-drawing-format-reads
-use Rattle.tables.proofs.keys.is_element_block.Reads as is-element-block-reads
-use Rattle.tables.proofs.keys.is_file_format.Reads as is-file-format-reads
-use Rattle.tables.proofs.keys.is_symbol_define.Reads as is-symbol-define-reads
-use Rattle.tables.proofs.rows.inner.Reads as inner-reads
-use Rattle.tables.proofs.rows.times.Reads as times-reads
 
 is-file-format-requires : tie.Need-is-file-format-requires
 is-file-format-requires c κs = search needs

@@ -5,19 +5,6 @@ use Rattle.rules.specs.Rows.{found}
 use borrow.Author.Needs.{needs}
 use Rattle.tables.proofs.figures.figure_row.Statement.{statement}
 use Rattle.tables.proofs.figures.figure_row.Tie as tie
-use Rattle.tables.proofs.figures.figure_row.Reads as reads
-use Rattle.tables.proofs.figures.figure_row.Lts as lts
-use Rattle.tables.proofs.figures.by_home.Reads as by-home-reads
-use Rattle.tables.proofs.figures.placing_row.Reads as placing-row-reads
-use Rattle.tables.proofs.keys.is_circle.Reads as is-circle-reads
-use Rattle.tables.proofs.keys.is_ellipse.Reads as is-ellipse-reads
-use Rattle.tables.proofs.keys.is_line.Reads as is-line-reads
-use Rattle.tables.proofs.keys.is_point.Reads as is-point-reads
-use Rattle.tables.proofs.keys.is_successive.Reads as is-successive-reads
-use Rattle.tables.proofs.keys.is_text.Reads as is-text-reads
-use Rattle.tables.proofs.rows.inner.Reads as inner-reads
-use Rattle.tables.proofs.rows.several.Reads as several-reads
-use Rattle.tables.proofs.rows.times.Reads as times-reads
 
 is-line-requires : tie.Need-is-line-requires
 is-line-requires c κs = search needs

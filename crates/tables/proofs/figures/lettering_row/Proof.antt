@@ -7,13 +7,6 @@ use Rattle.rules.specs.Figures.{textTable}
 use borrow.Author.Needs.{needs}
 use Rattle.tables.proofs.figures.lettering_row.Statement.{statement}
 use Rattle.tables.proofs.figures.lettering_row.Tie as tie
-use Rattle.tables.proofs.figures.lettering_row.Reads as reads
-use Rattle.tables.proofs.figures.lettering_row.Lts as lts
-use Rattle.tables.proofs.figures.by_home.Reads as by-home-reads
-use Rattle.tables.proofs.keys.is_character.Reads as is-character-reads
-use Rattle.tables.proofs.keys.is_type.Reads as is-type-reads
-use Rattle.tables.proofs.rows.several.Reads as several-reads
-use Rattle.tables.proofs.rows.free_text.Reads as free-text-reads
 
 is-type-requires : tie.Need-is-type-requires
 is-type-requires c κs = search needs

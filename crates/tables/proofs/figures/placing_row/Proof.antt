@@ -1,17 +1,10 @@
-use mathlib.Core.Path.{sym, _∙_, ap}
+use mathlib.Core.Path.{sym, _∙_}
 use Rattle.tables.specs.Rows.{partsOf}
 use Rattle.tables.proofs.Homes.{no-placing, one-line}
 use borrow.Author.Tests.{not-true, not-false}
 use borrow.Author.Needs.{needs}
 use Rattle.tables.proofs.figures.placing_row.Statement.{statement}
 use Rattle.tables.proofs.figures.placing_row.Tie as tie
-use Rattle.tables.proofs.figures.placing_row.Reads as reads
-use Rattle.tables.proofs.figures.placing_row.Lts as lts
-use Rattle.tables.proofs.keys.is_e_symbol.Reads as is-e-symbol-reads
-use Rattle.tables.proofs.rows.from.Reads as from-reads
-use Rattle.tables.proofs.rows.inner.Reads as inner-reads
-use Rattle.tables.proofs.rows.several.Reads as several-reads
-use Rattle.tables.proofs.rows.times.Reads as times-reads
 
 returns : tie.Need-returns
 returns c = rw (c .if1 .taken)

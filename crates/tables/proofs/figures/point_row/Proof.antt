@@ -6,12 +6,6 @@ use Rattle.rules.specs.Figures.{pointTable}
 use borrow.Author.Needs.{needs}
 use Rattle.tables.proofs.figures.point_row.Statement.{statement}
 use Rattle.tables.proofs.figures.point_row.Tie as tie
-use Rattle.tables.proofs.figures.point_row.Reads as reads
-use Rattle.tables.proofs.figures.point_row.Lts as lts
-use Rattle.tables.proofs.figures.by_home.Reads as by-home-reads
-use Rattle.tables.proofs.keys.is_point.Reads as is-point-reads
-use Rattle.tables.proofs.rows.several.Reads as several-reads
-use Rattle.tables.proofs.rows.times.Reads as times-reads
 
 is-point-requires : tie.Need-is-point-requires
 is-point-requires c κs = search needs

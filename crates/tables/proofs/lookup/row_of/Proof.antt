@@ -4,23 +4,6 @@ use Rattle.tables.specs.Tables.{tableOf}
 use borrow.Author.Needs.{needs}
 use Rattle.tables.proofs.lookup.row_of.Statement.{statement}
 use Rattle.tables.proofs.lookup.row_of.Tie as tie
-use Rattle.tables.proofs.lookup.row_of.Reads as reads
-use Rattle.tables.proofs.lookup.row_of.Lts as lts
-use Rattle.tables.proofs.blocks.base_row.Reads as base-row-reads
-use Rattle.tables.proofs.blocks.defines_row.Reads as defines-row-reads
-use Rattle.tables.proofs.blocks.drawing_row.Reads as drawing-row-reads
-use Rattle.tables.proofs.blocks.elec_row.Reads as elec-row-reads
-use Rattle.tables.proofs.blocks.element_row.Reads as element-row-reads
-use Rattle.tables.proofs.blocks.file_row.Reads as file-row-reads
-use Rattle.tables.proofs.blocks.later_row.Reads as later-row-reads
-use Rattle.tables.proofs.blocks.placed_row.Reads as placed-row-reads
-use Rattle.tables.proofs.blocks.range_row.Reads as range-row-reads
-use Rattle.tables.proofs.blocks.sym_row.Reads as sym-row-reads
-use Rattle.tables.proofs.blocks.symbol_row.Reads as symbol-row-reads
-use Rattle.tables.proofs.blocks.top_row.Reads as top-row-reads
-use Rattle.tables.proofs.figures.figure_row.Reads as figure-row-reads
-use Rattle.tables.proofs.figures.lettering_row.Reads as lettering-row-reads
-use Rattle.tables.proofs.figures.point_row.Reads as point-row-reads
 
 top-row-requires : tie.Need-top-row-requires
 top-row-requires c κs = search needs

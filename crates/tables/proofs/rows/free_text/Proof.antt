@@ -2,10 +2,6 @@ use mathlib.Core.Path.{_∙_}
 use borrow.Author.Needs.{needs}
 use Rattle.tables.proofs.rows.free_text.Statement.{statement}
 use Rattle.tables.proofs.rows.free_text.Tie as tie
-use Rattle.tables.proofs.rows.free_text.Reads as reads
-use Rattle.tables.proofs.rows.free_text.Lts as lts
-use Rattle.leaves.proofs.texts.text_rule.Reads as text-rule-reads
-use Rattle.tables.proofs.rows.text.Reads as text-reads
 
 text-rule-requires : tie.Need-text-rule-requires
 text-rule-requires c κs = search needs
