@@ -12,14 +12,35 @@ use Rattle.entries.specs.declared.Next.the-variants as N
 use Rattle.account.specs.declared.Now.{Now}
 use Rattle.account.specs.declared.Where.{Where}
 use Rattle.account.specs.Records.{hasRoom, partAt, withPart}
+use Rattle.account.specs.Numbering.{blockFigures}
 
 -- ── the place in the set ──
 abbrev pub atBlock : Now → ℕ → ℕ → Now
-atBlock n block part = record { block = block; part = part; layered = n .layered; owner = n .owner; own = n .own; free = n .free; figures = n .figures; points = n .points }
+atBlock n block part =
+    record {
+      block = block;
+      part = part;
+      layered = n .layered;
+      owner = n .owner;
+      own = n .own;
+      free = n .free;
+      figures = n .figures;
+      points = n .points;
+    }
 
 -- one more figure, and the block around it is open again
 abbrev pub figureDone : Now → Now
-figureDone n = record { block = 8; part = 0; layered = n .layered; owner = n .owner; own = n .own; free = n .free; figures = n .figures + 1; points = 0 }
+figureDone n =
+    record {
+      block = blockFigures;
+      part = 0;
+      layered = n .layered;
+      owner = n .owner;
+      own = n .own;
+      free = n .free;
+      figures = n .figures + 1;
+      points = 0;
+    }
 
 -- ── a line that takes a record ──
 -- "19: record doesn't fit the table"

@@ -29,18 +29,21 @@ use Rattle.account.specs.declared.Step.the-variants as S
 use Rattle.account.specs.Records.{hasRoom}
 use Rattle.account.specs.Account.{atBlock, headAt}
 use Rattle.account.specs.TopLines.{layersOf}
+use Rattle.tables.specs.Numbering.{tableDrawing}
+use Rattle.account.specs.Numbering.{blockTop, blockDrawing, blockLayerNames, tallyLayers}
+use Rattle.rules.specs.RecordTable.{width, kindLayer}
 
 -- ── DRAWING_FORMAT ──
 -- "`floor_height`, exactly when arc is 001": the range of this table is arc; the marks are those of its eight rows
 abbrev pub drawingAct : Known → ℕ → List Bool → Form → Act
-drawingAct k arc marks f = act k (tableOf 7) (digitsOf arc) (take 8 marks) f
+drawingAct k arc marks f = act k (tableOf tableDrawing) (digitsOf arc) (take 8 marks) f
 
 -- SYMBOL_DEFINE comes next
 abbrev pub drawingNow : Now → Act → Got Now
 drawingNow n stay = got n
 drawingNow n (entry j v) = got n
-drawingNow n (begin i j v) = got (atBlock n 3 0)
-drawingNow n shut = got (atBlock n 0 2)
+drawingNow n (begin i j v) = got (atBlock n blockLayerNames 0)
+drawingNow n shut = got (atBlock n blockTop 2)
 drawingNow n (refuse k) = bad k
 
 -- the marks and the record on return
@@ -53,8 +56,8 @@ drawingMarks marks (refuse k) = marks
 
 abbrev pub drawingPut : List ℤ → Act → List ℤ
 drawingPut rec stay = rec
-drawingPut rec (entry j v) = putLine (ruleAt (tableOf 7) j) 0 v rec
-drawingPut rec (begin i j v) = putLine (ruleAt (tableOf 7) j) 0 v rec
+drawingPut rec (entry j v) = putLine (ruleAt (tableOf tableDrawing) j) 0 v rec
+drawingPut rec (begin i j v) = putLine (ruleAt (tableOf tableDrawing) j) 0 v rec
 drawingPut rec shut = rec
 drawingPut rec (refuse k) = rec
 
@@ -69,15 +72,25 @@ nameOf (bad k) = N.Bad k
 
 -- ── a layer's line ──
 abbrev pub layerTaken : Now → Now
-layerTaken n = record { block = n .block; part = n .part; layered = n .layered; owner = n .owner; own = n .own; free = n .free + 32; figures = n .figures; points = n .points }
+layerTaken n =
+    record {
+      block = n .block;
+      part = n .part;
+      layered = n .layered;
+      owner = n .owner;
+      own = n .own;
+      free = n .free + width;
+      figures = n .figures;
+      points = n .points;
+    }
 
 -- "5 layer: letter's byte, number, name", with the name's two numbers
 abbrev pub layerPut : ℕ → ℕ → Where → List ℕ → List ℤ → List ℤ → List ℤ
-layerPut w n at id name t = sets (headAt w 5 n at t) (w + 5) (pos (getD id 0 0) ∷ pos (value (drop 2 id)) ∷ name)
+layerPut w n at id name t = sets (headAt w kindLayer n at t) (w + 5) (pos (getD id 0 0) ∷ pos (value (drop 2 id)) ∷ name)
 
 -- on return: one more layer, its name behind the others, its record
 pub record LayerIn (s : List ℕ) (w : ℕ) (at : Where) (id : List ℕ) (name : List ℤ) (tally₀ tally₁ layers₀ layers₁ : List ℕ) (t₀ t₁ : List ℤ) : Type 0 where
-  pub tally : tally₁ ≡ set tally₀ 10 (layersOf tally₀ + 1)
+  pub tally : tally₁ ≡ set tally₀ tallyLayers (layersOf tally₀ + 1)
   pub names : namesIn s (take (layersOf tally₀ + 1) layers₁) ≡ namesIn s (take (layersOf tally₀) layers₀) ++ (id ∷ [])
   pub table : t₁ ≡ layerPut w (layersOf tally₀) at id name t₀
 
@@ -100,7 +113,8 @@ abbrev pub LayerOn : List ℕ → ℕ → Where → List ℕ → List ℕ → Li
 LayerOn s w at id tally₀ tally₁ layers₀ layers₁ t₀ t₁ (got v) = LayerIn s w at id (padded 2 (numbers v)) tally₀ tally₁ layers₀ layers₁ t₀ t₁
 LayerOn s w at id tally₀ tally₁ layers₀ layers₁ t₀ t₁ (bad k) = Unit {0}
 
-pub record LayerLine (s : List ℕ) (n : Now) (at : Where) (id : List ℕ) (tally₀ tally₁ layers₀ layers₁ : List ℕ) (t₀ t₁ : List ℤ) (g : Got Value) (r : Step) : Type 0 where
+pub record LayerLine (s : List ℕ) (n : Now) (at : Where) (id : List ℕ) (tally₀ tally₁ layers₀ layers₁ : List ℕ) (t₀ t₁ : List ℤ) (g : Got Value)
+    (r : Step) : Type 0 where
   pub answer : r ≡ layerStep n g
   pub lent : LayerOn s (n .free) at id tally₀ tally₁ layers₀ layers₁ t₀ t₁ g
 
@@ -108,7 +122,7 @@ pub record LayerLine (s : List ℕ) (n : Now) (at : Where) (id : List ℕ) (tall
 abbrev pub namesStep : List ℕ → Now → List ℕ → List ℕ → List ℤ → Form → Step
 namesStep s n tally layers t ignored = S.Go n
 namesStep s n tally layers t (wrong m) = S.Stop m
-namesStep s n tally layers t close = S.Go (atBlock n 2 0)
+namesStep s n tally layers t close = S.Go (atBlock n blockDrawing 0)
 namesStep s n tally layers t eof = S.Stop 9
 namesStep s n tally layers t (keyed k c) = layerStep n (layerGot s tally layers (n .free) t k c)
 

@@ -11,11 +11,12 @@ use Rattle.account.specs.declared.Now.{Now}
 use Rattle.account.specs.declared.Step.{Step}
 use Rattle.account.specs.declared.Step.the-variants as S
 use Rattle.account.specs.Account.{atBlock}
+use Rattle.account.specs.Numbering.{blockTop, blockFigures, tallyHere, tallyElementsHere, tallyTotal}
 
 -- ── a layer opens ──
 -- it has no figures yet
 abbrev pub layerOpened : Now → ℕ → Now
-layerOpened n layer = record { block = 8; part = 0; layered = true; owner = layer; own = n .own; free = n .free; figures = 0; points = 0 }
+layerOpened n layer = record { block = blockFigures; part = 0; layered = true; owner = layer; own = n .own; free = n .free; figures = 0; points = 0 }
 
 -- "14: layer used twice"
 abbrev pub openLayer : Now → ℕ → List Bool → Step
@@ -28,20 +29,19 @@ pub record LayerOpens (n : Now) (layer : ℕ) (used₀ used₁ all₀ all₁ : L
   pub all : getD used₀ layer false ≡ false → all₁ ≡ set all₀ layer true
 
 -- ── a layer's figures, and ELEMENT's close ──
--- the tally has this_ele at 6, the figures of this volume's closed layers at 7, those of the closed volumes at 8
 abbrev pub tallied : List ℕ → ℕ → List ℕ
-tallied tally figures = set tally 7 (getD tally 7 0 + figures)
+tallied tally figures = set tally tallyElementsHere (getD tally tallyElementsHere 0 + figures)
 
 abbrev pub agrees : List ℕ → Bool
-agrees tally = eqb (getD tally 6 0) (getD tally 7 0)
+agrees tally = eqb (getD tally tallyHere 0) (getD tally tallyElementsHere 0)
 
 -- "17: this_ele at ELEMENT's close"
 abbrev pub elementClosed : Now → List ℕ → Step
-elementClosed n tally = cond (agrees tally) (S.Go (atBlock n 0 4)) (S.Stop 17)
+elementClosed n tally = cond (agrees tally) (S.Go (atBlock n blockTop 4)) (S.Stop 17)
 
 pub record ElementCloses (n : Now) (t₀ t₁ : List ℕ) (r : Step) : Type 0 where
   pub answer : r ≡ elementClosed n t₀
-  pub tally : agrees t₀ ≡ true → t₁ ≡ set t₀ 8 (getD t₀ 8 0 + getD t₀ 7 0)
+  pub tally : agrees t₀ ≡ true → t₁ ≡ set t₀ tallyTotal (getD t₀ tallyTotal 0 + getD t₀ tallyElementsHere 0)
 
 -- ── the line ──
 -- `LAYER=id:{` has the layer's number; nothing stands in ELEMENT but layers
@@ -56,7 +56,7 @@ abbrev pub ElementTally : List ℕ → List ℕ → Act → Type 0
 ElementTally t₀ t₁ stay = t₁ ≡ t₀
 ElementTally t₀ t₁ (entry j v) = t₁ ≡ t₀
 ElementTally t₀ t₁ (begin i j v) = t₁ ≡ t₀
-ElementTally t₀ t₁ shut = agrees t₀ ≡ true → t₁ ≡ set t₀ 8 (getD t₀ 8 0 + getD t₀ 7 0)
+ElementTally t₀ t₁ shut = agrees t₀ ≡ true → t₁ ≡ set t₀ tallyTotal (getD t₀ tallyTotal 0 + getD t₀ tallyElementsHere 0)
 ElementTally t₀ t₁ (refuse k) = t₁ ≡ t₀
 
 -- the layers in use, where those of the volume tell whether the layer is used twice

@@ -16,11 +16,14 @@ use Rattle.account.specs.declared.Step.{Step}
 use Rattle.account.specs.declared.Step.the-variants as S
 use Rattle.account.specs.Records.{partAt, withPart}
 use Rattle.account.specs.Account.{atBlock, headAt}
+use Rattle.tables.specs.Numbering.{tableLayer, tableSingleLayer, tableFigures}
+use Rattle.account.specs.Numbering.{blockSymbol, blockElements, blockFigures}
+use Rattle.rules.specs.RecordTable.{width, kindLine, inSymbol}
 
 -- ── the table ──
 -- the figures that may stand here: "E_symbol: placed symbol, in layers only", "At range 001 it is `E_symbol=`"
 abbrev pub homeTable : Bool → ℕ → ℕ
-homeTable layered range = cond layered (cond (eqb range 1) 12 11) 13
+homeTable layered range = cond layered (cond (eqb range 1) tableSingleLayer tableLayer) tableFigures
 
 abbrev pub homeRows : Bool → ℕ
 homeRows layered = cond layered 7 6
@@ -31,7 +34,7 @@ homeRule layered range j = ruleAt (tableOf (homeTable layered range)) j
 -- ── the record ──
 -- "10 line, 11 circle, 12 ellipse, 13 point", "16 placed symbol": 10 and the row; "plus 20 inside a symbol"
 abbrev pub lineKind : Bool → ℕ → ℕ
-lineKind layered row = cond layered (10 + row) (30 + row)
+lineKind layered row = cond layered (kindLine + row) (kindLine + inSymbol + row)
 
 -- "14 successive", "15 text", "16 placed symbol": the figure's block is 1, 2 or 3; "plus 20 inside a symbol"
 abbrev pub blockKind : Bool → ℕ → ℕ
@@ -43,15 +46,35 @@ figureAt n at kind r v t = headAt (n .free) kind (n .owner) at (withPart (n .fre
 
 -- ── what is open ──
 abbrev pub moreFigures : Now → Now
-moreFigures n = record { block = n .block; part = n .part; layered = n .layered; owner = n .owner; own = n .own; free = n .free + 32; figures = n .figures + 1; points = n .points }
+moreFigures n =
+    record {
+      block = n .block;
+      part = n .part;
+      layered = n .layered;
+      owner = n .owner;
+      own = n .own;
+      free = n .free + width;
+      figures = n .figures + 1;
+      points = n .points;
+    }
 
 -- a figure that is a block: 9 `successive`, 10 text, 11 a placed symbol
 abbrev pub figureOpened : Now → ℕ → Now
-figureOpened n i = record { block = 8 + i; part = 0; layered = n .layered; owner = n .owner; own = n .own; free = n .free + 32; figures = n .figures; points = 0 }
+figureOpened n i =
+    record {
+      block = blockFigures + i;
+      part = 0;
+      layered = n .layered;
+      owner = n .owner;
+      own = n .own;
+      free = n .free + width;
+      figures = n .figures;
+      points = 0;
+    }
 
 -- "`element` (one or more figures)"; a layer may have none
 abbrev pub figuresClosed : Now → Step
-figuresClosed n = cond (n .layered) (S.Go (atBlock n 7 0)) (cond (eqb (n .figures) 0) (S.Stop 8) (S.Go (atBlock n 5 0)))
+figuresClosed n = cond (n .layered) (S.Go (atBlock n blockElements 0)) (cond (eqb (n .figures) 0) (S.Stop 8) (S.Go (atBlock n blockSymbol 0)))
 
 -- ── the line ──
 abbrev pub figureStep : Now → Act → Step

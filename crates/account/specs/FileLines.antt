@@ -19,6 +19,9 @@ use Rattle.account.specs.declared.Now.{Now}
 use Rattle.account.specs.declared.Step.{Step}
 use Rattle.account.specs.declared.Step.the-variants as S
 use Rattle.account.specs.Account.{atBlock}
+use Rattle.tables.specs.Numbering.{tableFile, tableLater}
+use Rattle.account.specs.Numbering.{blockTop, blockFile, tallyArc, tallyDate, tallyTime, tallyHere, tallyLength, mostRows, headerLength}
+use Rattle.rules.specs.RecordTable.{width}
 
 -- ── the parts ──
 -- FILE_FORMAT's own part is 0; `range`, `base`, `elec` and `sym` are 1 to 4. A later volume has the first alone.
@@ -28,8 +31,8 @@ pub record PartOpen (first : Bool) (p : ℕ) : Type 0 where
 
 -- the table of a part, by number
 abbrev pub fileTableOf : Bool → ℕ → ℕ
-fileTableOf true p = p + 1
-fileTableOf false p = 6
+fileTableOf true p = p + tableFile
+fileTableOf false p = tableLater
 
 -- where the marks of a part's rows begin and end: those of the five parts stand one behind the other
 abbrev pub marksFrom : ℕ → ℕ
@@ -50,7 +53,7 @@ abbrev pub partMarks : Bool → ℕ → List Bool → List Bool
 partMarks first p marks = take (marksTo first p - marksFrom p) (drop (marksFrom p) marks)
 
 -- ── the header kept apart ──
--- Seventy numbers: the records of the first volume (64) or of a later one (32), at 64 and 65 what a row without a place left last,
+-- `headerLength` numbers: the records of the first volume (64) or of a later one (32), at 64 and 65 what a row without a place left last,
 -- at 66 and 67 next_file's place and length, at 68 and 69 a later volume's date and time. All are counts.
 abbrev pub isCount : ℤ → Bool
 isCount (pos n) = ltb n 4294967296
@@ -63,7 +66,7 @@ abbrev pub countAt : List ℤ → ℕ → ℕ
 countAt h i = asCount (getD h i (pos 0))
 
 pub record Header (h : List ℤ) : Type 0 where
-  pub long : length h ≡ 70
+  pub long : length h ≡ headerLength
   pub counts : all isCount h ≡ true
 
 -- what is kept behind a row without a place: next_file, and in a later volume date and time
@@ -95,25 +98,25 @@ chainedTo s following h = same (map capital (bytesAt s (span (countAt h 66) (cou
 
 -- "date and time agree over the set"
 abbrev pub datedAs : List ℕ → List ℤ → Bool
-datedAs tally h = eqb (countAt h 68) (getD tally 3 0) && eqb (countAt h 69) (getD tally 4 0)
+datedAs tally h = eqb (countAt h 68) (getD tally tallyDate 0) && eqb (countAt h 69) (getD tally tallyTime 0)
 
 abbrev pub agrees : List ℕ → List ℕ → Bool → List ℕ → List ℤ → Bool
 agrees s following first tally h = chainedTo s following h && (first || datedAs tally h)
 
 -- "16: volume chain, date or time unlike volume 1's, at FILE_FORMAT's close"
 abbrev pub closedFile : List ℕ → List ℕ → Bool → Now → List ℕ → List ℤ → Step
-closedFile s following first n tally h = cond (agrees s following first tally h) (S.Go (atBlock n 0 (cond first 1 3))) (S.Stop 16)
+closedFile s following first n tally h = cond (agrees s following first tally h) (S.Go (atBlock n blockTop (cond first 1 3))) (S.Stop 16)
 
 -- what the header says of the set: the ranges arc, E_sym, S_elec; date, time, all_ele
 abbrev pub rangesTally : List ℤ → List ℕ → List ℕ
-rangesTally h tally = sets tally 0 (countAt h 6 ∷ countAt h 8 ∷ countAt h 11 ∷ [])
+rangesTally h tally = sets tally tallyArc (countAt h 6 ∷ countAt h 8 ∷ countAt h 11 ∷ [])
 
 abbrev pub setTally : List ℤ → List ℕ → List ℕ
-setTally h tally = sets tally 3 (countAt h 14 ∷ countAt h 15 ∷ countAt h 13 ∷ [])
+setTally h tally = sets tally tallyDate (countAt h 14 ∷ countAt h 15 ∷ countAt h 13 ∷ [])
 
 -- and of the volume at hand: this_ele, of which none is counted yet
 abbrev pub hereTally : ℕ → List ℕ → List ℕ
-hereTally this tally = sets tally 6 (this ∷ 0 ∷ [])
+hereTally this tally = sets tally tallyHere (this ∷ 0 ∷ [])
 
 abbrev pub firstTally : List ℤ → List ℕ → List ℕ
 firstTally h tally = hereTally (countAt h 38) (setTally h (rangesTally h tally))
@@ -127,8 +130,8 @@ closedTally false h tally = laterTally h tally
 
 -- "1 header", and "2 volume: this_line, this_ele; after the header": they were taken at the opening line
 abbrev pub fileWidth : Bool → ℕ
-fileWidth true = 64
-fileWidth false = 32
+fileWidth true = width + width
+fileWidth false = width
 
 abbrev pub closedTable : Bool → Now → List ℤ → List ℤ → List ℤ
 closedTable first n h t = paste t (n .free - fileWidth first) h (fileWidth first)
@@ -141,12 +144,12 @@ pub record FileClosed (s following : List ℕ) (first : Bool) (n : Now) (h : Lis
 -- ── a line ──
 abbrev pub shutFile : ℕ → Step → Now → Step
 shutFile zero whole n = whole
-shutFile (suc p) whole n = S.Go (atBlock n 1 (around (suc p)))
+shutFile (suc p) whole n = S.Go (atBlock n blockFile (around (suc p)))
 
 abbrev pub fileStep : List ℕ → List ℕ → Bool → Now → List ℕ → List ℤ → Act → Step
 fileStep s following first n tally h stay = S.Go n
 fileStep s following first n tally h (entry j v) = S.Go n
-fileStep s following first n tally h (begin i j v) = S.Go (atBlock n 1 i)
+fileStep s following first n tally h (begin i j v) = S.Go (atBlock n blockFile i)
 fileStep s following first n tally h shut = shutFile (n .part) (closedFile s following first n tally h) n
 fileStep s following first n tally h (refuse k) = S.Stop k
 
@@ -177,7 +180,8 @@ AtShut p b x₀ x₁ x (begin i j v) = x₁ ≡ x₀
 AtShut p b x₀ x₁ x shut = Shut p b x₀ x₁ x
 AtShut p b x₀ x₁ x (refuse k) = Unit {0}
 
-pub record FileLine (a : Act) (s following : List ℕ) (first : Bool) (n : Now) (tally₀ tally₁ : List ℕ) (m₀ m₁ : List Bool) (h₀ h₁ t₀ t₁ : List ℤ) (r : Step) : Type 0 where
+pub record FileLine (a : Act) (s following : List ℕ) (first : Bool) (n : Now) (tally₀ tally₁ : List ℕ) (m₀ m₁ : List Bool) (h₀ h₁ t₀ t₁ : List ℤ)
+    (r : Step) : Type 0 where
   pub answer : r ≡ fileStep s following first n tally₀ h₀ a
   pub tally : AtShut (n .part) (agrees s following first tally₀ h₀) tally₀ tally₁ (closedTally first h₀ tally₀) a
   pub marks : FileMarks (n .part) m₀ m₁ a
@@ -187,8 +191,8 @@ pub record FileLine (a : Act) (s following : List ℕ) (first : Bool) (n : Now) 
 -- what a line finds
 pub record FileReady (first : Bool) (n : Now) (tally : List ℕ) (m : List Bool) (h t : List ℤ) : Type 0 where
   pub part : PartOpen first (n .part)
-  pub twelve : length tally ≡ 12
-  pub marks : length m ≡ 28
+  pub twelve : length tally ≡ tallyLength
+  pub marks : length m ≡ mostRows
   pub header : Header h
   pub taken : fileWidth first ≤ n .free
   pub inside : n .free ≤ length t

@@ -26,6 +26,9 @@ use Rattle.account.specs.declared.Skipped.{Skipped}
 use Rattle.account.specs.declared.Skipped.the-variants as K
 use Rattle.account.specs.Account.{atBlock, figureDone}
 use Rattle.account.specs.SkippedLines.{skippedAs}
+use Rattle.tables.specs.Numbering.{tablePlaced, tablePlacedText}
+use Rattle.account.specs.Numbering.{blockPlaced, tallySerials, tallyLength, mostRows}
+use Rattle.rules.specs.RecordTable.{width}
 
 -- what the reading lends to a line of a placed symbol, besides its record: the tally and the own numbers in use, which rows of the
 -- placed symbol have been, and which of its text
@@ -41,7 +44,7 @@ lent tally serials marks inner = record { tally = tally; serials = serials; mark
 -- ── own numbers ──
 -- the tally's last number tells how many there are
 abbrev pub serialCount : List ℕ → ℕ
-serialCount tally = getD tally 11 0
+serialCount tally = getD tally tallySerials 0
 
 -- the own number in a record: the first of the row `serial`'s two numbers. The record's numbers are signed
 abbrev pub ownNumber : List ℤ → ℕ
@@ -57,7 +60,7 @@ inUse tally serials n = hasNumber n (take (serialCount tally) serials)
 -- "Own numbers differ as numbers over the set" (15): what `keep_serial` promises
 pub record SerialLine (now : Now) (n : ℕ) (tally₀ tally₁ serials₀ serials₁ : List ℕ) (r : Step) : Type 0 where
   pub answer : r ≡ cond (inUse tally₀ serials₀ n) (S.Stop 15) (S.Go now)
-  pub tally : inUse tally₀ serials₀ n ≡ false → tally₁ ≡ set tally₀ 11 (serialCount tally₀ + 1)
+  pub tally : inUse tally₀ serials₀ n ≡ false → tally₁ ≡ set tally₀ tallySerials (serialCount tally₀ + 1)
   pub serials : inUse tally₀ serials₀ n ≡ false → serials₁ ≡ set serials₀ (serialCount tally₀) n
 
 -- ── a line of a key that the class knows ──
@@ -72,7 +75,7 @@ clashes x j n = eqb j serialRow && inUse (x .tally) (x .serials) n
 -- what is lent after it, where the number is free: the row is marked, and the number of a row `serial` is in use
 abbrev pub lentAfter : Lent → ℕ → ℕ → Lent
 lentAfter x j n = record {
-  tally = cond (eqb j serialRow) (set (x .tally) 11 (serialCount (x .tally) + 1)) (x .tally);
+  tally = cond (eqb j serialRow) (set (x .tally) tallySerials (serialCount (x .tally) + 1)) (x .tally);
   serials = cond (eqb j serialRow) (set (x .serials) (serialCount (x .tally)) n) (x .serials);
   marks = set (x .marks) j true;
   inner = x .inner;
@@ -91,7 +94,7 @@ lentInside x j = record {
 abbrev pub placedStep : Now → Lent → ℕ → Next → Step
 placedStep now x n N.Stay = S.Go now
 placedStep now x n (N.Entry j) = cond (clashes x j n) (S.Stop 15) (S.Go now)
-placedStep now x n (N.Begin b) = S.Go (atBlock now 11 1)
+placedStep now x n (N.Begin b) = S.Go (atBlock now blockPlaced 1)
 placedStep now x n N.Shut = S.Stop 8
 placedStep now x n (N.Refuse k) = S.Stop k
 
@@ -119,7 +122,7 @@ RowReady rec (N.Refuse k) = Unit {0}
 
 -- the line of a row, from the act on: the record is as the act leaves it
 pub record RowLine (now : Now) (x₀ x₁ : Lent) (rec₀ rec₁ : List ℤ) (r : Step) (a : Act) : Type 0 where
-  pub entered : Entered (ruleAt (tableOf 18)) 0 rec₀ a rec₁
+  pub entered : Entered (ruleAt (tableOf tablePlaced)) 0 rec₀ a rec₁
   pub did : PlacedDone now x₀ x₁ (ownNumber rec₁) (nextOf a) r
 
 -- ── a line of a key that the class doesn't know ──
@@ -157,7 +160,7 @@ hiddenAt q hidden rec = cond hidden (set rec q (pos 3)) rec
 
 -- "8: something required missing, at the closing line": what the file allows and the class knows is required
 abbrev pub isWhole : Digits → Digits → List Bool → Bool
-isWhole class range marks = complete (both class range) (tableOf 18) (take 6 marks)
+isWhole class range marks = complete (both class range) (tableOf tablePlaced) (take 6 marks)
 
 pub record CloseLine (class range : Digits) (now : Now) (marks : List Bool) (rec₀ rec₁ : List ℤ) (r : Step) : Type 0 where
   pub answer : r ≡ cond (isWhole class range marks) (S.Go (figureDone now)) (S.Stop 8)
@@ -170,14 +173,14 @@ module _ (known : Known) (class range : Digits) (now : Now) (x₀ x₁ : Lent) (
   OwnLine (wrong n) = r ≡ S.Stop n
   OwnLine close = CloseLine class range now (x₀ .marks) rec₀ rec₁ r × (x₁ ≡ x₀)
   OwnLine eof = r ≡ S.Stop 9
-  OwnLine (keyed k c) = KeyLine known class range now x₀ x₁ rec₀ rec₁ r (skippedAs (skipOf k c)) c (find k (tableOf 18))
+  OwnLine (keyed k c) = KeyLine known class range now x₀ x₁ rec₀ rec₁ r (skippedAs (skipOf k c)) c (find k (tableOf tablePlaced))
 
 -- ── a line in its text ──
 abbrev pub placedTextStep : Now → Act → Step
 placedTextStep now stay = S.Go now
 placedTextStep now (entry j v) = S.Go now
 placedTextStep now (begin i j v) = S.Stop 5
-placedTextStep now shut = S.Go (atBlock now 11 0)
+placedTextStep now shut = S.Go (atBlock now blockPlaced 0)
 placedTextStep now (refuse k) = S.Stop k
 
 abbrev pub PlacedTextMarks : List Bool → List Bool → Act → Type 0
@@ -190,7 +193,7 @@ PlacedTextMarks m₀ m₁ (refuse k) = Unit {0}
 pub record PlacedTextLine (a : Act) (now : Now) (inner₀ inner₁ : List Bool) (rec₀ rec₁ : List ℤ) (r : Step) : Type 0 where
   pub answer : r ≡ placedTextStep now a
   pub inner : PlacedTextMarks inner₀ inner₁ a
-  pub rec : Entered (ruleAt (tableOf 19)) 0 rec₀ a rec₁
+  pub rec : Entered (ruleAt (tableOf tablePlacedText)) 0 rec₀ a rec₁
 
 -- ── a line in a placed symbol: in its text, or directly in it ──
 -- a text's line leaves all but the text's marks and the record
@@ -199,15 +202,16 @@ withInner m x = lent (x .tally) (x .serials) (x .marks) m
 
 module _ (known : Known) (class range : Digits) (now : Now) (x₀ x₁ : Lent) (rec₀ rec₁ : List ℤ) (r : Step) where
   abbrev pub PlacedLine : Bool → Form → Type 0
-  PlacedLine true f = PlacedTextLine (act known (tableOf 19) (digits 0 0) (x₀ .inner) f) now (x₀ .inner) (x₁ .inner) rec₀ rec₁ r × (x₁ ≡ withInner (x₁ .inner) x₀)
+  PlacedLine true f =
+      PlacedTextLine (act known (tableOf tablePlacedText) (digits 0 0) (x₀ .inner) f) now (x₀ .inner) (x₁ .inner) rec₀ rec₁ r × (x₁ ≡ withInner (x₁ .inner) x₀)
   PlacedLine false f = OwnLine known class range now x₀ x₁ rec₀ rec₁ r f
 
 -- ── what the code needs ──
 -- lengths of what is lent, and room for another own number
 pub record LentReady (x : Lent) (t : List ℤ) : Type 0 where
-  pub tally : length (x .tally) ≡ 12
+  pub tally : length (x .tally) ≡ tallyLength
   pub serials : serialCount (x .tally) < length (x .serials)
   pub count : serialCount (x .tally) < 4294967295
-  pub marks : length (x .marks) ≡ 28
+  pub marks : length (x .marks) ≡ mostRows
   pub inner : length (x .inner) ≡ 2
-  pub rec : length t ≡ 32
+  pub rec : length t ≡ width

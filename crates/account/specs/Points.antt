@@ -22,16 +22,19 @@ use Rattle.account.specs.declared.Step.{Step}
 use Rattle.account.specs.declared.Step.the-variants as S
 use Rattle.account.specs.Records.{hasRoom, partAt, withPart}
 use Rattle.account.specs.Account.{atBlock, figureDone, taking, headAt}
+use Rattle.tables.specs.Numbering.{tableLayerPoints, tableSymbolPoints}
+use Rattle.account.specs.Numbering.{blockSymbol}
+use Rattle.rules.specs.RecordTable.{width, kindPoint, inSymbol, kindHidden}
 
 -- "In layers no coordinate is negative but the two centres; in symbols any sign."
 abbrev pub pointTableOf : Bool → ℕ
-pointTableOf true = 14
-pointTableOf false = 15
+pointTableOf true = tableLayerPoints
+pointTableOf false = tableSymbolPoints
 
 -- "17 a successive's points", "plus 20 inside a symbol"
 abbrev pub chainKind : Bool → ℕ
-chainKind true = 17
-chainKind false = 37
+chainKind true = kindPoint
+chainKind false = kindPoint + inSymbol
 
 -- ── a point ──
 -- what a line does in a block of points, 19 where its record doesn't fit the table
@@ -41,7 +44,17 @@ pointAct table s symbols layers n form t =
     (act (knownIn s symbols layers) (tableOf table) (digits 0 0) (rowsAtLimit (n .points) (tableOf table)) (formIn s form))
 
 abbrev pub morePoints : Now → Now
-morePoints n = record { block = n .block; part = n .part; layered = n .layered; owner = n .owner; own = n .own; free = n .free + 32; figures = n .figures; points = n .points + 1 }
+morePoints n =
+    record {
+      block = n .block;
+      part = n .part;
+      layered = n .layered;
+      owner = n .owner;
+      own = n .own;
+      free = n .free + width;
+      figures = n .figures;
+      points = n .points + 1;
+    }
 
 -- its record, the next one of the table
 abbrev pub pointPut : Now → ℕ → ℕ → Where → ℕ → Value → List ℤ → List ℤ
@@ -51,7 +64,7 @@ pointPut n kind table at j v t =
 -- ── a `successive` ──
 -- in a table of records its own stands before those of its points
 abbrev pub chainPlace : Now → ℕ
-chainPlace n = n .free - 32 * (n .points + 1)
+chainPlace n = n .free - width * (n .points + 1)
 
 -- "14 successive (first point's type, point count)"
 abbrev pub chainClosed : Now → ℕ → List ℤ → List ℤ
@@ -86,12 +99,12 @@ abbrev pub hideStep : Now → Act → Step
 hideStep n stay = S.Go n
 hideStep n (entry j v) = S.Go (morePoints n)
 hideStep n (begin i j v) = S.Stop 5
-hideStep n shut = S.Go (atBlock n 5 0)
+hideStep n shut = S.Go (atBlock n blockSymbol 0)
 hideStep n (refuse k) = S.Stop k
 
 abbrev pub HideTable : Now → Where → List ℤ → List ℤ → Act → Type 0
 HideTable n at t₀ t₁ stay = t₁ ≡ t₀
-HideTable n at t₀ t₁ (entry j v) = t₁ ≡ pointPut n 43 15 at j v t₀
+HideTable n at t₀ t₁ (entry j v) = t₁ ≡ pointPut n kindHidden tableSymbolPoints at j v t₀
 HideTable n at t₀ t₁ (begin i j v) = Unit {0}
 HideTable n at t₀ t₁ shut = t₁ ≡ t₀
 HideTable n at t₀ t₁ (refuse k) = Unit {0}

@@ -21,6 +21,9 @@ use Rattle.account.specs.declared.Step.the-variants as S
 use Rattle.account.specs.declared.Where.{Where}
 use Rattle.account.specs.Records.{hasRoom}
 use Rattle.account.specs.Account.{atBlock, headAt}
+use Rattle.tables.specs.Numbering.{tableSymbol}
+use Rattle.account.specs.Numbering.{blockTop, blockDefines, blockSymbol, blockHide, blockFigures}
+use Rattle.rules.specs.RecordTable.{width, kindSymbol}
 
 -- ── SYMBOL_DEFINE ──
 -- `NON=` was read
@@ -29,11 +32,11 @@ nonIn n = not (eqb (n .part) 0)
 
 -- "NON and a symbol together" is 6: so many symbols stand before this line
 abbrev pub nonRead : Now → ℕ → Step
-nonRead n count = cond (eqb count 0) (S.Go (atBlock n 4 1)) (S.Stop 6)
+nonRead n count = cond (eqb count 0) (S.Go (atBlock n blockDefines 1)) (S.Stop 6)
 
 -- a symbol is begun: its record, and nothing in it
 abbrev pub symbolOpened : Now → ℕ → Now
-symbolOpened n count = record { block = 5; part = 0; layered = false; owner = count; own = n .free; free = n .free + 32; figures = 0; points = 0 }
+symbolOpened n count = record { block = blockSymbol; part = 0; layered = false; owner = count; own = n .free; free = n .free + width; figures = 0; points = 0 }
 
 -- 6 where `NON=` was read; "19: record doesn't fit the table"
 abbrev pub openSymbol : Now → ℕ → Bool → Step
@@ -44,7 +47,7 @@ abbrev pub definedIn : Now → ℕ → Bool
 definedIn n count = nonIn n || not (eqb count 0)
 
 abbrev pub closeDefines : Now → ℕ → Step
-closeDefines n count = cond (definedIn n count) (S.Go (atBlock n 0 3)) (S.Stop 8)
+closeDefines n count = cond (definedIn n count) (S.Go (atBlock n blockTop 3)) (S.Stop 8)
 
 abbrev pub definesStep : Now → ℕ → Bool → Act → Step
 definesStep n count room stay = S.Go n
@@ -56,7 +59,7 @@ definesStep n count room (refuse k) = S.Stop k
 -- the marks and the table after the opening of a symbol that was not refused: "4 symbol"; nothing of it has been
 pub record SymbolBegun (n : Now) (count : ℕ) (at : Where) (m₀ m₁ : List Bool) (t₀ t₁ : List ℤ) : Type 0 where
   pub marks : m₁ ≡ replicate (length m₀) false
-  pub table : t₁ ≡ headAt (n .free) 4 count at t₀
+  pub table : t₁ ≡ headAt (n .free) kindSymbol count at t₀
 
 pub record Untouched (m₀ m₁ : List Bool) (t₀ t₁ : List ℤ) : Type 0 where
   pub marks : m₁ ≡ m₀
@@ -114,18 +117,18 @@ symbolEntry s symbols n j rec = cond (eqb j 0 && not (isNew s symbols (nameOf re
 -- `element` is open, or `hide`
 abbrev pub symbolPart : Now → ℕ → Now
 symbolPart n i =
-    cond (eqb i 1) (record { block = 8; part = 0; layered = false; owner = n .owner; own = n .own; free = n .free; figures = 0; points = 0 })
-    (record { block = 6; part = 0; layered = false; owner = n .owner; own = n .own; free = n .free; figures = n .figures; points = 0 })
+    cond (eqb i 1) (record { block = blockFigures; part = 0; layered = false; owner = n .owner; own = n .own; free = n .free; figures = 0; points = 0 })
+    (record { block = blockHide; part = 0; layered = false; owner = n .owner; own = n .own; free = n .free; figures = n .figures; points = 0 })
 
 -- the record after the line of row j
 abbrev pub symbolPut : List ℤ → ℕ → Value → List ℤ
-symbolPut rec j v = putLine (ruleAt (tableOf 9) j) 0 v rec
+symbolPut rec j v = putLine (ruleAt (tableOf tableSymbol) j) 0 v rec
 
 abbrev pub symbolStep : List ℕ → List ℕ → Now → List ℤ → Act → Step
 symbolStep s symbols n rec stay = S.Go n
 symbolStep s symbols n rec (entry j v) = symbolEntry s symbols n j (symbolPut rec j v)
 symbolStep s symbols n rec (begin i j v) = S.Go (symbolPart n i)
-symbolStep s symbols n rec shut = S.Go (atBlock n 4 0)
+symbolStep s symbols n rec shut = S.Go (atBlock n blockDefines 0)
 symbolStep s symbols n rec (refuse k) = S.Stop k
 
 -- what was read is marked
@@ -139,7 +142,7 @@ SymbolMarks m₀ m₁ (refuse k) = Unit {0}
 pub record SymbolLine (a : Act) (s symbols : List ℕ) (n : Now) (m₀ m₁ : List Bool) (rec₀ rec₁ : List ℤ) (r : Step) : Type 0 where
   pub answer : r ≡ symbolStep s symbols n rec₀ a
   pub marks : SymbolMarks m₀ m₁ a
-  pub put : Entered (ruleAt (tableOf 9)) 0 rec₀ a rec₁
+  pub put : Entered (ruleAt (tableOf tableSymbol)) 0 rec₀ a rec₁
 
 -- ── a closed symbol's name ──
 -- in one number, as the names are kept

@@ -12,26 +12,30 @@ use Rattle.account.specs.declared.Step.{Step}
 use Rattle.account.specs.declared.Step.the-variants as S
 use Rattle.account.specs.Records.{partAt}
 use Rattle.account.specs.Points.{chainPlace}
+use Rattle.account.specs.Numbering.{blockTop, blockFile, blockDefines, blockSymbol, blockHide, blockFigures, blockChain, blockText, blockPlaced}
+use Rattle.account.specs.Numbering.{scratchLength}
+use Rattle.rules.specs.RecordTable.{width}
 
 -- ── what is seen of the table ──
 -- a symbol is open: itself, its `hide`, its figures
 abbrev pub symbolIn : ℕ → Bool → Bool
-symbolIn block layered = eqb block 5 || (eqb block 6 || ((eqb block 8 || (eqb block 9 || eqb block 10)) && not layered))
+symbolIn block layered =
+    eqb block blockSymbol || (eqb block blockHide || ((eqb block blockFigures || (eqb block blockChain || eqb block blockText)) && not layered))
 
 abbrev pub symbolOpen : Now → Bool
 symbolOpen n = symbolIn (n .block) (n .layered)
 
 -- The symbol's own record, whose name is kept when it closes, is the first of the scratch. It stands before the symbol's other records.
 pub record OwnSeen (n : Now) (t table : List ℤ) : Type 0 where
-  pub rec : take 32 t ≡ partAt (n .own) table
-  pub fore : n .own + 32 ≤ n .free
-  pub fore-chain : n .block ≡ 9 → n .own + 32 ≤ chainPlace n
-  pub fore-text : n .block ≡ 10 → n .own + 64 ≤ n .free
+  pub rec : take width t ≡ partAt (n .own) table
+  pub fore : n .own + width ≤ n .free
+  pub fore-chain : n .block ≡ blockChain → n .own + width ≤ chainPlace n
+  pub fore-text : n .block ≡ blockText → n .own + 64 ≤ n .free
 
 -- so many numbers has the table; no other number of it is read again
 pub data Seen (n : Now) (t : List ℤ) (limit : ℕ) (table : List ℤ) : Type 0 where
   whole : t ≡ table → limit ≡ length table → Seen n t limit table
-  apart : length t ≡ 96 → limit ≡ length table → 96 < limit → (symbolOpen n ≡ true → OwnSeen n t table) → Seen n t limit table
+  apart : length t ≡ scratchLength → limit ≡ length table → scratchLength < limit → (symbolOpen n ≡ true → OwnSeen n t table) → Seen n t limit table
 
 -- behind a line; after a refusal nothing is said of the numbers
 abbrev pub SeenBy : Step → List ℤ → ℕ → List ℤ → Type 0
@@ -42,17 +46,28 @@ SeenBy (S.Stop k) t limit table = Unit {0}
 -- ── a line on the scratch ──
 -- The place of the next record there: behind the own record of the drawing or symbol, and behind that of a figure. FILE_FORMAT has two.
 abbrev pub scratchPlace : ℕ → ℕ
-scratchPlace block = cond (eqb block 4) 0 (cond (eqb block 1 || (eqb block 9 || (eqb block 10 || eqb block 11))) 64 32)
+scratchPlace block =
+    cond (eqb block blockDefines) 0 (cond (eqb block blockFile || (eqb block blockChain || (eqb block blockText || eqb block blockPlaced))) 64 32)
 
 -- where the table has no room for another record, the scratch has none; the first FILE_FORMAT takes two
 abbrev pub scratchFree : Now → ℕ → ℕ
 scratchFree n limit =
-    cond (ltb (limit - n .free) 32) 96
-    (cond (eqb (n .block) 0) (cond (ltb (limit - n .free) 64) 64 0)
+    cond (ltb (limit - n .free) width) scratchLength
+    (cond (eqb (n .block) blockTop) (cond (ltb (limit - n .free) 64) 64 0)
     (scratchPlace (n .block)))
 
 abbrev pub movedTo : Now → ℕ → ℕ → Now
-movedTo n own free = record { block = n .block; part = n .part; layered = n .layered; owner = n .owner; own = own; free = free; figures = n .figures; points = n .points }
+movedTo n own free =
+    record {
+      block = n .block;
+      part = n .part;
+      layered = n .layered;
+      owner = n .owner;
+      own = own;
+      free = free;
+      figures = n .figures;
+      points = n .points;
+    }
 
 abbrev pub lentNow : Bool → Now → ℕ → Now
 lentNow true n limit = n
@@ -60,18 +75,18 @@ lentNow false n limit = movedTo n 0 (scratchFree n limit)
 
 -- the place of the record of an open `successive`
 abbrev pub chainAt : Bool → Now → ℕ
-chainAt true n = cond (eqb (n .block) 9) (chainPlace n) 0
+chainAt true n = cond (eqb (n .block) blockChain) (chainPlace n) 0
 chainAt false n = 32
 
 -- a symbol begins with a record of zeros
 abbrev pub freshFor : Bool → Now → List ℤ → List ℤ
 freshFor true n t = t
-freshFor false n t = cond (eqb (n .block) 4) (replicate (length t) (pos 0)) t
+freshFor false n t = cond (eqb (n .block) blockDefines) (replicate (length t) (pos 0)) t
 
 -- ── its answer, in the table's places ──
 -- at the top level and in SYMBOL_DEFINE a record that is taken is what opens
 abbrev pub opensOwn : ℕ → Bool
-opensOwn block = eqb block 0 || eqb block 4
+opensOwn block = eqb block blockTop || eqb block blockDefines
 
 -- m: behind the line; free: before it on the scratch
 abbrev pub backNow : Now → ℕ → Now → Now

@@ -13,11 +13,12 @@ use Rattle.account.specs.declared.Now.{Now}
 use Rattle.account.specs.declared.Step.{Step}
 use Rattle.account.specs.declared.Step.the-variants as S
 use Rattle.account.specs.Account.{figureDone}
+use Rattle.tables.specs.Numbering.{tableLayerText, tableSymbolText}
 
 -- "In layers no coordinate is negative but the two centres; in symbols any sign."
 abbrev pub textTableOf : Bool → ℕ
-textTableOf true = 16
-textTableOf false = 17
+textTableOf true = tableLayerText
+textTableOf false = tableSymbolText
 
 abbrev pub textStep : Now → Act → Step
 textStep n stay = S.Go n

@@ -18,6 +18,9 @@ use Rattle.account.specs.declared.Where.{Where}
 use Rattle.account.specs.declared.Step.{Step}
 use Rattle.account.specs.declared.Step.the-variants as S
 use Rattle.account.specs.Account.{atBlock, headAt}
+use Rattle.tables.specs.Numbering.{tableTop}
+use Rattle.account.specs.Numbering.{blockFile, blockDrawing, blockDefines, blockElements, blockEnded, tallyAll, tallyTotal, tallyLayers}
+use Rattle.rules.specs.RecordTable.{width, kindHeader, kindVolume, kindDrawing}
 
 -- ── the answer ──
 -- what is open now, or the refusal
@@ -38,14 +41,14 @@ pub record Answered (g : Got Now) (P : Type 0) (r : Step) : Type 0 where
 -- ── the tally ──
 -- all_ele, and the figures in the closed volumes
 abbrev pub allOf : List ℕ → ℕ
-allOf tally = getD tally 5 0
+allOf tally = getD tally tallyAll 0
 
 abbrev pub totalOf : List ℕ → ℕ
-totalOf tally = getD tally 8 0
+totalOf tally = getD tally tallyTotal 0
 
 -- how many layers have names
 abbrev pub layersOf : List ℕ → ℕ
-layersOf tally = getD tally 10 0
+layersOf tally = getD tally tallyLayers 0
 
 -- ── EOF ──
 -- "9 (EOF misplaced, at EOF's line, also if any line follows it)", then "14 (unused, at EOF)", then "17 (all_ele at EOF)"
@@ -54,7 +57,7 @@ eofNow n at tally used =
     unless (eqb (n .part) 4 && at .ends) 9
     (unless (all (λ b. b) (take (layersOf tally) used)) 14
     (unless (eqb (allOf tally) (totalOf tally)) 17
-    (got (atBlock n 12 0))))
+    (got (atBlock n blockEnded 0))))
 
 -- ── a block opens ──
 -- what the line of a block's opening may change
@@ -76,27 +79,27 @@ unmarked marks = replicate (length marks) false
 
 -- "1 header", and "2 volume: this_line, this_ele; after the header"
 abbrev pub headerBegun : Bool → Where → List ℤ → List ℤ
-headerBegun true at h = headAt 32 2 0 at (headAt 0 1 0 at (replicate (length h) (pos 0)))
-headerBegun false at h = headAt 0 2 0 at (replicate (length h) (pos 0))
+headerBegun true at h = headAt width kindVolume 0 at (headAt 0 kindHeader 0 at (replicate (length h) (pos 0)))
+headerBegun false at h = headAt 0 kindVolume 0 at (replicate (length h) (pos 0))
 
 -- FILE_FORMAT takes two records in the first volume, and one in others
 abbrev pub fileSize : Bool → ℕ
-fileSize true = 64
-fileSize false = 32
+fileSize true = width + width
+fileSize false = width
 
 abbrev pub takingNow : Now → ℕ → ℕ → List ℤ → Got Now
 takingNow n block size t = unless (leb (n .free + size) (length t)) 19 (got (recordTaken n block size))
 
 -- the blocks by the rows of the table: FILE_FORMAT, DRAWING_FORMAT, SYMBOL_DEFINE, ELEMENT
 abbrev pub openedNow : Bool → Now → List ℤ → ℕ → Got Now
-openedNow first n t zero = takingNow n 1 (fileSize first) t
-openedNow first n t (suc zero) = takingNow n 2 32 t
-openedNow first n t (suc (suc zero)) = got (atBlock n 4 0)
-openedNow first n t (suc (suc (suc j))) = got (atBlock n 7 0)
+openedNow first n t zero = takingNow n blockFile (fileSize first) t
+openedNow first n t (suc zero) = takingNow n blockDrawing width t
+openedNow first n t (suc (suc zero)) = got (atBlock n blockDefines 0)
+openedNow first n t (suc (suc (suc j))) = got (atBlock n blockElements 0)
 
 abbrev pub openedLent : Bool → Now → Where → ℕ → TopLent → TopLent
 openedLent first n at zero l = topLent (unmarked (l .marks)) (l .used) (headerBegun first at (l .header)) (l .table)
-openedLent first n at (suc zero) l = topLent (unmarked (l .marks)) (l .used) (l .header) (headAt (n .free) 3 0 at (l .table))
+openedLent first n at (suc zero) l = topLent (unmarked (l .marks)) (l .used) (l .header) (headAt (n .free) kindDrawing 0 at (l .table))
 openedLent first n at (suc (suc zero)) l = l
 openedLent first n at (suc (suc (suc j))) l = topLent (l .marks) (unmarked (l .used)) (l .header) (l .table)
 
@@ -122,7 +125,7 @@ keyLent first n at l (refuse k) = l
 
 -- no row stands once: a block that comes twice is out of its order
 abbrev pub topAct : Known → Form → Act
-topAct k f = act k (tableOf 0) (digits 0 0) (replicate 4 false) f
+topAct k f = act k (tableOf tableTop) (digits 0 0) (replicate 4 false) f
 
 -- with any form
 abbrev pub topNow : Known → Bool → Now → Where → List ℕ → List Bool → List ℤ → Form → Got Now

@@ -22,7 +22,7 @@ pub struct Where {
     pub ends: bool,
 }
 
-// Which block is open.
+// Which block is open. (These numbers and the following have the same names in specs/Numbering.)
 pub const BLOCK_TOP: u8 = 0;
 
 pub const BLOCK_FILE: u8 = 1;
@@ -93,6 +93,24 @@ pub const TALLY_SYMBOLS: usize = 9;
 pub const TALLY_LAYERS: usize = 10;
 
 pub const TALLY_SERIALS: usize = 11;
+
+// How many numbers of each are lent down: the tally;
+pub const TALLY_LENGTH: usize = 12;
+
+// the rows that are marked at once: FILE_FORMAT's and its inner parts';
+pub const MOST_ROWS: usize = 28;
+
+// FILE_FORMAT's numbers;
+pub const HEADER_LENGTH: usize = 70;
+
+// the scratch of three records;
+pub const SCRATCH_LENGTH: usize = 96;
+
+// the symbols' names, no spool has more;
+pub const MOST_SYMBOLS: usize = 1280;
+
+// the serial numbers, no spool has more.
+pub const MOST_SERIALS: usize = 1464;
 
 // What a line made of it, or its refusal; a line that opens a block to be skipped has that read first.
 pub enum Step {

@@ -5,6 +5,7 @@ use entries::Next;
 use entries::acts::act;
 use rules::Digits;
 use rules::LineForm;
+use rules::WIDTH;
 ghost use mathlib.Core.Path.{_≡_};
 ghost use mathlib.Core.Bool.{true, false};
 ghost use Prim.Native.Nat.{_≤_, _<_};
@@ -19,6 +20,7 @@ ghost use Rattle.entries.specs.Names.{knownIn};
 ghost use Rattle.entries.specs.Acts.{roomy};
 ghost use Rattle.account.specs.Records.{hasRoom};
 ghost use Rattle.account.specs.Account.{atBlock, figureDone, roomlessNext, ActsAt};
+ghost use Rattle.rules.specs.RecordTable.{width};
 
 // A three-digit value as its middle and last digit.
 pub(crate) fn digits_of(n: u32) -> Digits
@@ -44,7 +46,7 @@ pub(crate) fn has_room(t: &[i64], w: usize) -> bool
     if t.len() < w {
         return false;
     }
-    32 <= t.len() - w
+    WIDTH <= t.len() - w
 }
 
 // The record that a line takes doesn't fit the table: 19.
@@ -72,15 +74,15 @@ pub(crate) fn act_at(
     w: usize,
     t: &mut [i64],
 ) -> Next
-    requires { ⌜ (length (now s) ≤ 61440) × (length (now symbols) ≤ 65536) × (length (now layers) ≤ 65536) × (length (now full) ≡ length (tableOf table)) × (all (roomy 0 32) (tableOf table) ≡ true) ⌝ }
+    requires { ⌜ (length (now s) ≤ 61440) × (length (now symbols) ≤ 65536) × (length (now layers) ≤ 65536) × (length (now full) ≡ length (tableOf table)) × (all (roomy 0 width) (tableOf table) ≡ true) ⌝ }
     ensures { λ r. ⌜ ActsAt (ruleAt (tableOf table)) w (now (t .entry)) (act (knownIn (now (s .entry)) (now (symbols .entry)) (now (layers .entry))) (tableOf table) d (now (full .entry)) (formIn (now (s .entry)) form)) (now (t .exit)) r ⌝ }
 {
     if !has_room(t, w) {
-        let mut apart = [0i64; 32];
+        let mut apart = [0i64; WIDTH];
         let next = act(table, s, symbols, layers, d, full, form, 0, &mut apart);
         return no_room(next);
     }
-    let to = w + 32;
+    let to = w + WIDTH;
     act(table, s, symbols, layers, d, full, form, 0, &mut t[w..to])
 }
 

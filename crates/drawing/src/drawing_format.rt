@@ -23,8 +23,11 @@ use leaves::Count;
 use leaves::bytes::is_layer_id;
 use leaves::numbers::fixed;
 use leaves::texts::fits;
+use rules::KIND_LAYER;
 use rules::LineForm;
 use rules::Span;
+use rules::WIDTH;
+use tables::TABLE_DRAWING;
 ghost use mathlib.Core.Path.{_≡_};
 ghost use mathlib.Core.Bool.{true};
 ghost use mathlib.Core.List.{[], _∷_};
@@ -41,6 +44,8 @@ ghost use Rattle.entries.specs.Shapes.{restIn};
 ghost use Rattle.account.specs.Records.{hasRoom};
 ghost use Rattle.account.specs.TopLines.{Answered, layersOf};
 ghost use Rattle.account.specs.DrawingLines.{drawingAct, drawingNow, drawingMarks, drawingPut, nameOf, layerTaken, layerPut, LayerIn, layerGot, LayerLine, NamesLine};
+ghost use Rattle.account.specs.Numbering.{tallyLength, mostRows};
+ghost use Rattle.rules.specs.RecordTable.{width};
 
 // A line in DRAWING_FORMAT.
 pub fn on_drawing(
@@ -53,11 +58,11 @@ pub fn on_drawing(
     marks: &mut [bool],
     rec: &mut [i64],
 ) -> Step
-    requires { ⌜ (length (now s) ≤ 61440) × (length (now symbols) ≤ 65536) × (length (now layers) ≤ 65536) × (length (now marks) ≡ 28) × (length (now rec) ≡ 32) ⌝ }
+    requires { ⌜ (length (now s) ≤ 61440) × (length (now symbols) ≤ 65536) × (length (now layers) ≤ 65536) × (length (now marks) ≡ mostRows) × (length (now rec) ≡ width) ⌝ }
     ensures { λ r. ⌜ Answered (drawingNow here (drawingAct (knownIn (now (s .entry)) (now (symbols .entry)) (now (layers .entry))) arc (now (marks .entry)) (formIn (now (s .entry)) form))) ((now (marks .exit) ≡ drawingMarks (now (marks .entry)) (drawingAct (knownIn (now (s .entry)) (now (symbols .entry)) (now (layers .entry))) arc (now (marks .entry)) (formIn (now (s .entry)) form))) × (now (rec .exit) ≡ drawingPut (now (rec .entry)) (drawingAct (knownIn (now (s .entry)) (now (symbols .entry)) (now (layers .entry))) arc (now (marks .entry)) (formIn (now (s .entry)) form)))) r ⌝ }
 {
     let next = act(
-        7,
+        TABLE_DRAWING,
         s,
         symbols,
         layers,
@@ -118,7 +123,7 @@ fn layer_digits(id: &[u8]) -> u64
 }
 
 fn layer_taken(here: Now) -> Now
-    requires { ⌜ here .free + 32 ≤ 18446744073709551615 ⌝ }
+    requires { ⌜ here .free + width ≤ 18446744073709551615 ⌝ }
     ensures { λ r. ⌜ r ≡ layerTaken here ⌝ }
 {
     Now {
@@ -127,7 +132,7 @@ fn layer_taken(here: Now) -> Now
         layered: here.layered,
         owner: here.owner,
         own: here.own,
-        free: here.free + 32,
+        free: here.free + WIDTH,
         figures: here.figures,
         points: here.points,
     }
@@ -135,10 +140,10 @@ fn layer_taken(here: Now) -> Now
 
 // "5 layer: letter's byte, number, name"
 fn put_layer(number: u32, id: &[u8], name: Span, at: Where, w: usize, t: &mut [i64])
-    requires { ⌜ (isLayerId (now id) ≡ true) × (w + 32 ≤ length (now t)) ⌝ }
+    requires { ⌜ (isLayerId (now id) ≡ true) × (w + width ≤ length (now t)) ⌝ }
     ensures { λ _. ⌜ now (t .exit) ≡ layerPut w number at (now (id .entry)) (pos (name .at) ∷ pos (name .len) ∷ []) (now (t .entry)) ⌝ }
 {
-    head(t, w, 5, number, at.volume, at.line);
+    head(t, w, KIND_LAYER, number, at.volume, at.line);
     t[w + 5] = id[0] as i64;
     t[w + 6] = layer_digits(id) as i64;
     t[w + 7] = name.at as i64;
@@ -155,7 +160,7 @@ fn take_layer(
     at: Where,
     t: &mut [i64],
 ) -> Step
-    requires { ⌜ (length (now s) ≤ 61440) × (length (now tally) ≡ 12) × (length (now layers) ≡ 64) × (layersOf (now tally) < 64) × (isLayerId (bytesAt (now s) key) ≡ true) ⌝ }
+    requires { ⌜ (length (now s) ≤ 61440) × (length (now tally) ≡ tallyLength) × (length (now layers) ≡ 64) × (layersOf (now tally) < 64) × (isLayerId (bytesAt (now s) key) ≡ true) ⌝ }
     ensures { λ r. ⌜ Answered (unless (hasRoom (here .free) (now (t .entry))) 19 (got (layerTaken here))) (LayerIn (now (s .entry)) (here .free) at (bytesAt (now (s .entry)) key) (pos (name .at) ∷ pos (name .len) ∷ []) (now (tally .entry)) (now (tally .exit)) (now (layers .entry)) (now (layers .exit)) (now (t .entry)) (now (t .exit))) r ⌝ }
 {
     let w = here.free;
@@ -181,7 +186,7 @@ fn layer_line(
     at: Where,
     t: &mut [i64],
 ) -> Step
-    requires { ⌜ (length (now s) ≤ 61440) × (length (now tally) ≡ 12) × (length (now layers) ≡ 64) × (layersOf (now tally) ≤ 64) ⌝ }
+    requires { ⌜ (length (now s) ≤ 61440) × (length (now tally) ≡ tallyLength) × (length (now layers) ≡ 64) × (layersOf (now tally) ≤ 64) ⌝ }
     ensures { λ r. ⌜ LayerLine (now (s .entry)) here at (bytesAt (now (s .entry)) key) (now (tally .entry)) (now (tally .exit)) (now (layers .entry)) (now (layers .exit)) (now (t .entry)) (now (t .exit)) (layerGot (now (s .entry)) (now (tally .entry)) (now (layers .entry)) (here .free) (now (t .entry)) (bytesAt (now (s .entry)) key) (restIn (now (s .entry)) rest)) r ⌝ }
 {
     if !is_layer_id(part(s, key)) {
@@ -214,7 +219,7 @@ pub fn on_layer_names(
     at: Where,
     t: &mut [i64],
 ) -> Step
-    requires { ⌜ (length (now s) ≤ 61440) × (length (now tally) ≡ 12) × (length (now layers) ≡ 64) × (layersOf (now tally) ≤ 64) ⌝ }
+    requires { ⌜ (length (now s) ≤ 61440) × (length (now tally) ≡ tallyLength) × (length (now layers) ≡ 64) × (layersOf (now tally) ≤ 64) ⌝ }
     ensures { λ r. ⌜ NamesLine (now (s .entry)) here at (formIn (now (s .entry)) form) (now (tally .entry)) (now (tally .exit)) (now (layers .entry)) (now (layers .exit)) (now (t .entry)) (now (t .exit)) r ⌝ }
 {
     match form {

@@ -11,6 +11,7 @@ use account::TALLY_TOTAL;
 use entries::Next;
 use entries::acts::act;
 use rules::LineForm;
+use tables::TABLE_ELEMENT;
 ghost use mathlib.Core.Path.{_≡_};
 ghost use mathlib.Core.Bool.{false};
 ghost use mathlib.Core.List.{[], _∷_};
@@ -22,6 +23,8 @@ ghost use Rattle.rules.specs.Rows.{act};
 ghost use Rattle.tables.specs.Tables.{tableOf};
 ghost use Rattle.entries.specs.Names.{knownIn};
 ghost use Rattle.account.specs.ElementLines.{LayerOpens, tallied, ElementCloses, ElementLine};
+ghost use Rattle.tables.specs.Numbering.{tableElement};
+ghost use Rattle.account.specs.Numbering.{tallyElementsHere, tallyTotal, tallyLength};
 
 // "14: layer used twice"
 fn open_layer(was: Now, layer: u32, used: &mut [bool], used_all: &mut [bool]) -> Step
@@ -48,7 +51,7 @@ fn open_layer(was: Now, layer: u32, used: &mut [bool], used_all: &mut [bool]) ->
 
 // "17: this_ele at ELEMENT's close"
 fn close_element(was: Now, tally: &mut [u32]) -> Step
-    requires { ⌜ (length (now tally) ≡ 12) × (getD (now tally) 8 0 + getD (now tally) 7 0 ≤ 4294967295) ⌝ }
+    requires { ⌜ (length (now tally) ≡ tallyLength) × (getD (now tally) tallyTotal 0 + getD (now tally) tallyElementsHere 0 ≤ 4294967295) ⌝ }
     ensures { λ r. ⌜ ElementCloses was (now (tally .entry)) (now (tally .exit)) r ⌝ }
 {
     if tally[TALLY_HERE] != tally[TALLY_ELEMENTS_HERE] {
@@ -69,13 +72,13 @@ pub fn on_elements(
     used: &mut [bool],
     used_all: &mut [bool],
 ) -> Step
-    requires { ⌜ (length (now s) ≤ 61440) × (length (now symbols) ≤ 65536) × (length (now layers) ≤ 64) × (length (now tally) ≡ 12) × (getD (now tally) 8 0 + getD (now tally) 7 0 ≤ 4294967295) × (length (now used) ≡ 64) × (length (now «used_all») ≡ 64) ⌝ }
-    ensures { λ r. ⌜ ElementLine (act (knownIn (now (s .entry)) (now (symbols .entry)) (now (layers .entry))) (tableOf 10) (digits 0 0) (false ∷ []) (formIn (now (s .entry)) form)) was (now (tally .entry)) (now (tally .exit)) (now (used .entry)) (now (used .exit)) (now («used_all» .entry)) (now («used_all» .exit)) r ⌝ }
+    requires { ⌜ (length (now s) ≤ 61440) × (length (now symbols) ≤ 65536) × (length (now layers) ≤ 64) × (length (now tally) ≡ tallyLength) × (getD (now tally) tallyTotal 0 + getD (now tally) tallyElementsHere 0 ≤ 4294967295) × (length (now used) ≡ 64) × (length (now «used_all») ≡ 64) ⌝ }
+    ensures { λ r. ⌜ ElementLine (act (knownIn (now (s .entry)) (now (symbols .entry)) (now (layers .entry))) (tableOf tableElement) (digits 0 0) (false ∷ []) (formIn (now (s .entry)) form)) was (now (tally .entry)) (now (tally .exit)) (now (used .entry)) (now (used .exit)) (now («used_all» .entry)) (now («used_all» .exit)) r ⌝ }
 {
     let full = [false];
     let mut layer = [0i64; 1];
     let next = act(
-        10,
+        TABLE_ELEMENT,
         s,
         symbols,
         layers,
@@ -96,7 +99,7 @@ pub fn on_elements(
 
 // A closed layer's figures are counted.
 pub fn count_layer(was: Now, tally: &mut [u32])
-    requires { ⌜ (length (now tally) ≡ 12) × (getD (now tally) 7 0 + was .figures ≤ 4294967295) ⌝ }
+    requires { ⌜ (length (now tally) ≡ tallyLength) × (getD (now tally) tallyElementsHere 0 + was .figures ≤ 4294967295) ⌝ }
     ensures { λ _. ⌜ now (tally .exit) ≡ tallied (now (tally .entry)) (was .figures) ⌝ }
 {
     tally[TALLY_ELEMENTS_HERE] = tally[TALLY_ELEMENTS_HERE] + was.figures;

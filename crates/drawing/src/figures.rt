@@ -11,7 +11,13 @@ use account::Now;
 use account::Step;
 use account::Where;
 use entries::Next;
+use rules::IN_SYMBOL;
+use rules::KIND_LINE;
 use rules::LineForm;
+use rules::WIDTH;
+use tables::TABLE_FIGURES;
+use tables::TABLE_LAYER;
+use tables::TABLE_SINGLE_LAYER;
 ghost use mathlib.Core.Path.{_≡_};
 ghost use mathlib.Core.Bool.{false};
 ghost use Prim.Native.Nat.{_+_, _≤_, _<_};
@@ -24,18 +30,22 @@ ghost use Rattle.entries.specs.Names.{knownIn};
 ghost use Rattle.account.specs.Records.{hasRoom};
 ghost use Rattle.account.specs.Account.{taking};
 ghost use Rattle.account.specs.FigureLines.{homeTable, homeRows, lineKind, blockKind, moreFigures, figureOpened, figuresClosed, unmarkedIf, FigureLine};
+ghost use Rattle.rules.specs.RecordTable.{width};
+
+// "plus 20 inside a symbol"
+const KIND_LINE_IN_SYMBOL: u8 = KIND_LINE + IN_SYMBOL;
 
 // The table of the figures that may stand here: "E_symbol: placed symbol, in layers only", "At range 001 it is `E_symbol=`".
 fn home_table(layered: bool, range: u32) -> u8
     ensures { λ r. ⌜ r ≡ homeTable layered range ⌝ }
 {
     if !layered {
-        return 13;
+        return TABLE_FIGURES;
     }
     if range == 1 {
-        return 12;
+        return TABLE_SINGLE_LAYER;
     }
-    11
+    TABLE_LAYER
 }
 
 fn home_rows(layered: bool) -> usize
@@ -53,9 +63,9 @@ fn line_kind(layered: bool, row: u8) -> u8
     ensures { λ r. ⌜ r ≡ lineKind layered row ⌝ }
 {
     if layered {
-        return 10 + row;
+        return KIND_LINE + row;
     }
-    30 + row
+    KIND_LINE_IN_SYMBOL + row
 }
 
 // "14 successive", "15 text", "16 placed symbol"; "plus 20 inside a symbol"
@@ -70,7 +80,7 @@ fn block_kind(layered: bool, block: u8) -> u8
 }
 
 fn more_figures(now: Now) -> Now
-    requires { ⌜ (now .free + 32 ≤ 18446744073709551615) × (now .figures < 4294967295) ⌝ }
+    requires { ⌜ (now .free + width ≤ 18446744073709551615) × (now .figures < 4294967295) ⌝ }
     ensures { λ r. ⌜ r ≡ moreFigures now ⌝ }
 {
     Now {
@@ -79,7 +89,7 @@ fn more_figures(now: Now) -> Now
         layered: now.layered,
         owner: now.owner,
         own: now.own,
-        free: now.free + 32,
+        free: now.free + WIDTH,
         figures: now.figures + 1,
         points: now.points,
     }
@@ -87,7 +97,7 @@ fn more_figures(now: Now) -> Now
 
 // A figure that is a block: 9 `successive`, 10 text, 11 a placed symbol.
 fn figure_opened(now: Now, block: u8) -> Now
-    requires { ⌜ (block ≤ 3) × (now .free + 32 ≤ 18446744073709551615) ⌝ }
+    requires { ⌜ (block ≤ 3) × (now .free + width ≤ 18446744073709551615) ⌝ }
     ensures { λ r. ⌜ r ≡ figureOpened now block ⌝ }
 {
     Now {
@@ -96,7 +106,7 @@ fn figure_opened(now: Now, block: u8) -> Now
         layered: now.layered,
         owner: now.owner,
         own: now.own,
-        free: now.free + 32,
+        free: now.free + WIDTH,
         figures: now.figures,
         points: 0,
     }

@@ -3,6 +3,7 @@ use crate::blocks::at_block;
 use crate::blocks::no_digits;
 use account::BLOCK_FILE;
 use account::BLOCK_TOP;
+use account::MOST_ROWS;
 use account::Now;
 use account::Step;
 use account::TALLY_ALL;
@@ -19,6 +20,9 @@ use entries::names::part;
 use leaves::bytes::capital;
 use rules::LineForm;
 use rules::Span;
+use rules::WIDTH;
+use tables::TABLE_FILE;
+use tables::TABLE_LATER;
 ghost use mathlib.Core.Path.{_≡_};
 ghost use mathlib.Core.List.{map};
 ghost use Prim.Native.Nat.{_+_, _≤_};
@@ -33,6 +37,7 @@ ghost use Rattle.rules.specs.Blocks.{around};
 ghost use Rattle.tables.specs.Tables.{tableOf};
 ghost use Rattle.entries.specs.Names.{knownIn};
 ghost use Rattle.account.specs.FileLines.{fileTableOf, marksFrom, marksTo, partMarks, Header, keptName, keptFirst, keptLater, kept, datedAs, rangesTally, setTally, hereTally, firstTally, laterTally, fileWidth, FileClosed, FileReady, FileLine};
+ghost use Rattle.account.specs.Numbering.{tallyLength, headerLength};
 
 // Where the marks of a part's rows begin and end: FILE_FORMAT's own, `range`, `base`, `elec`, `sym`.
 fn marks_from(part: u8) -> usize
@@ -77,7 +82,7 @@ fn marks_to(first: bool, part: u8) -> usize
     if part == 3 {
         return 26;
     }
-    28
+    MOST_ROWS
 }
 
 fn file_table(first: bool, part: u8) -> u8
@@ -85,9 +90,9 @@ fn file_table(first: bool, part: u8) -> u8
     ensures { λ r. ⌜ r ≡ fileTableOf first part ⌝ }
 {
     if first {
-        return part + 1;
+        return part + TABLE_FILE;
     }
-    6
+    TABLE_LATER
 }
 
 // The part around an inner part: FILE_FORMAT around `range`, `range` around the others.
@@ -103,7 +108,7 @@ fn around(part: u8) -> u8
 
 // What a row without a place in the record left behind it is kept: next_file at 66 and 67, and in a later volume date at 68, time at 69.
 fn keep_name(header: &mut [i64])
-    requires { ⌜ length (now header) ≡ 70 ⌝ }
+    requires { ⌜ length (now header) ≡ headerLength ⌝ }
     ensures { λ _. ⌜ now (header .exit) ≡ keptName (now (header .entry)) ⌝ }
 {
     let at = header[64];
@@ -113,7 +118,7 @@ fn keep_name(header: &mut [i64])
 }
 
 fn keep_first(row: u8, header: &mut [i64])
-    requires { ⌜ length (now header) ≡ 70 ⌝ }
+    requires { ⌜ length (now header) ≡ headerLength ⌝ }
     ensures { λ _. ⌜ now (header .exit) ≡ keptFirst row (now (header .entry)) ⌝ }
 {
     if row != 5 {
@@ -123,7 +128,7 @@ fn keep_first(row: u8, header: &mut [i64])
 }
 
 fn keep_later(row: u8, header: &mut [i64])
-    requires { ⌜ length (now header) ≡ 70 ⌝ }
+    requires { ⌜ length (now header) ≡ headerLength ⌝ }
     ensures { λ _. ⌜ now (header .exit) ≡ keptLater row (now (header .entry)) ⌝ }
 {
     if row == 2 {
@@ -141,7 +146,7 @@ fn keep_later(row: u8, header: &mut [i64])
 }
 
 fn keep(first: bool, row: u8, header: &mut [i64])
-    requires { ⌜ length (now header) ≡ 70 ⌝ }
+    requires { ⌜ length (now header) ≡ headerLength ⌝ }
     ensures { λ _. ⌜ now (header .exit) ≡ kept first row (now (header .entry)) ⌝ }
 {
     if first {
@@ -181,7 +186,7 @@ fn copy_record(header: &[i64], n: usize, w: usize, t: &mut [i64])
 
 // What the first volume's header says of the set: the ranges; date, time and all_ele.
 fn ranges_tally(header: &[i64], tally: &mut [u32])
-    requires { ⌜ Header (now header) × (length (now tally) ≡ 12) ⌝ }
+    requires { ⌜ Header (now header) × (length (now tally) ≡ tallyLength) ⌝ }
     ensures { λ _. ⌜ now (tally .exit) ≡ rangesTally (now (header .entry)) (now (tally .entry)) ⌝ }
 {
     tally[TALLY_ARC] = header[6] as u32;
@@ -190,7 +195,7 @@ fn ranges_tally(header: &[i64], tally: &mut [u32])
 }
 
 fn set_tally(header: &[i64], tally: &mut [u32])
-    requires { ⌜ Header (now header) × (length (now tally) ≡ 12) ⌝ }
+    requires { ⌜ Header (now header) × (length (now tally) ≡ tallyLength) ⌝ }
     ensures { λ _. ⌜ now (tally .exit) ≡ setTally (now (header .entry)) (now (tally .entry)) ⌝ }
 {
     tally[TALLY_DATE] = header[14] as u32;
@@ -200,7 +205,7 @@ fn set_tally(header: &[i64], tally: &mut [u32])
 
 // What a header says of its volume: this_ele, of which none is counted yet.
 fn here_tally(this: u32, tally: &mut [u32])
-    requires { ⌜ length (now tally) ≡ 12 ⌝ }
+    requires { ⌜ length (now tally) ≡ tallyLength ⌝ }
     ensures { λ _. ⌜ now (tally .exit) ≡ hereTally this (now (tally .entry)) ⌝ }
 {
     tally[TALLY_HERE] = this;
@@ -208,7 +213,7 @@ fn here_tally(this: u32, tally: &mut [u32])
 }
 
 fn first_tally(header: &[i64], tally: &mut [u32])
-    requires { ⌜ Header (now header) × (length (now tally) ≡ 12) ⌝ }
+    requires { ⌜ Header (now header) × (length (now tally) ≡ tallyLength) ⌝ }
     ensures { λ _. ⌜ now (tally .exit) ≡ firstTally (now (header .entry)) (now (tally .entry)) ⌝ }
 {
     ranges_tally(header, tally);
@@ -217,7 +222,7 @@ fn first_tally(header: &[i64], tally: &mut [u32])
 }
 
 fn later_tally(header: &[i64], tally: &mut [u32])
-    requires { ⌜ Header (now header) × (length (now tally) ≡ 12) ⌝ }
+    requires { ⌜ Header (now header) × (length (now tally) ≡ tallyLength) ⌝ }
     ensures { λ _. ⌜ now (tally .exit) ≡ laterTally (now (header .entry)) (now (tally .entry)) ⌝ }
 {
     here_tally(header[6] as u32, tally);
@@ -225,7 +230,7 @@ fn later_tally(header: &[i64], tally: &mut [u32])
 
 // "date and time agree over the set"
 fn dated(header: &[i64], tally: &[u32]) -> bool
-    requires { ⌜ Header (now header) × (length (now tally) ≡ 12) ⌝ }
+    requires { ⌜ Header (now header) × (length (now tally) ≡ tallyLength) ⌝ }
     ensures { λ r. ⌜ r ≡ datedAs (now (tally .entry)) (now (header .entry)) ⌝ }
 {
     if header[68] as u32 != tally[TALLY_DATE] {
@@ -244,7 +249,7 @@ fn close_file(
     header: &[i64],
     t: &mut [i64],
 ) -> Step
-    requires { ⌜ Header (now header) × (length (now tally) ≡ 12) × (fileWidth first ≤ here .free) × (here .free ≤ length (now t)) ⌝ }
+    requires { ⌜ Header (now header) × (length (now tally) ≡ tallyLength) × (fileWidth first ≤ here .free) × (here .free ≤ length (now t)) ⌝ }
     ensures { λ r. ⌜ FileClosed (now (s .entry)) (now (following .entry)) first here (now (header .entry)) (now (tally .entry)) (now (tally .exit)) (now (t .entry)) (now (t .exit)) r ⌝ }
 {
     let name = Span {
@@ -262,7 +267,7 @@ fn close_file(
     if !dated(header, tally) {
         return Step::Stop(16);
     }
-    copy_record(header, 32, here.free - 32, t);
+    copy_record(header, WIDTH, here.free - WIDTH, t);
     later_tally(header, tally);
     Step::Go(at_block(here, BLOCK_TOP, 3))
 }

@@ -29,6 +29,7 @@ use rules::Digits;
 use rules::LineForm;
 use rules::Span;
 use tables::Found;
+use tables::TABLE_PLACED_TEXT;
 use tables::lookup::row_of;
 ghost use mathlib.Core.Path.{_≡_};
 ghost use mathlib.Core.List.{[]};
@@ -46,6 +47,9 @@ ghost use Rattle.entries.specs.Shapes.{restIn};
 ghost use Rattle.entries.specs.declared.Next.the-variants as N;
 ghost use Rattle.account.specs.SkippedLines.{skippedBy};
 ghost use Rattle.account.specs.PlacedLines.{lent, serialCount, ownNumber, SerialLine, PlacedDone, RowReady, OwnGiven, serialRow, unknownStep, KeyLine, hiddenAt, CloseLine, OwnLine, PlacedTextLine, PlacedLine, LentReady};
+ghost use Rattle.tables.specs.Numbering.{tablePlaced, tablePlacedText};
+ghost use Rattle.account.specs.Numbering.{tallyLength, mostRows};
+ghost use Rattle.rules.specs.RecordTable.{width};
 
 // "skipped when a digit of E_sym exceeds the class's, and refused otherwise": 6, and 5 where the line has no form.
 fn on_unknown(s: &[u8], class: Digits, range: Digits, here: Now, form: LineForm, rest: Rest) -> Step
@@ -67,7 +71,7 @@ fn on_unknown(s: &[u8], class: Digits, range: Digits, here: Now, form: LineForm,
 
 // "Own numbers differ as numbers over the set" (15)
 fn keep_serial(here: Now, tally: &mut [u32], serials: &mut [u64], rec: &[i64]) -> Step
-    requires { ⌜ (length (now tally) ≡ 12) × (serialCount (now tally) < length (now serials)) × (serialCount (now tally) < 4294967295) × (length (now rec) ≡ 32) × OwnGiven (now rec) ⌝ }
+    requires { ⌜ (length (now tally) ≡ tallyLength) × (serialCount (now tally) < length (now serials)) × (serialCount (now tally) < 4294967295) × (length (now rec) ≡ width) × OwnGiven (now rec) ⌝ }
     ensures { λ r. ⌜ SerialLine here (ownNumber (now (rec .entry))) (now (tally .entry)) (now (tally .exit)) (now (serials .entry)) (now (serials .exit)) r ⌝ }
 {
     let own = rec[14] as u64;
@@ -88,7 +92,7 @@ fn placed_entry(
     marks: &mut [bool],
     rec: &[i64],
 ) -> Step
-    requires { ⌜ (length (now tally) ≡ 12) × (serialCount (now tally) < length (now serials)) × (serialCount (now tally) < 4294967295) × (length (now rec) ≡ 32) × (row < length (now marks)) × (row ≡ serialRow → OwnGiven (now rec)) ⌝ }
+    requires { ⌜ (length (now tally) ≡ tallyLength) × (serialCount (now tally) < length (now serials)) × (serialCount (now tally) < 4294967295) × (length (now rec) ≡ width) × (row < length (now marks)) × (row ≡ serialRow → OwnGiven (now rec)) ⌝ }
     ensures { λ r. ⌜ PlacedDone here (lent (now (tally .entry)) (now (serials .entry)) (now (marks .entry)) []) (lent (now (tally .exit)) (now (serials .exit)) (now (marks .exit)) []) (ownNumber (now (rec .entry))) (N.Entry row) r ⌝ }
 {
     marks[row as usize] = true;
@@ -109,7 +113,7 @@ fn mark_hidden(class: Digits, d: Digits, least: Digits, state: usize, rec: &mut 
 }
 
 fn mark_unread(class: Digits, d: Digits, rec: &mut [i64])
-    requires { ⌜ length (now rec) ≡ 32 ⌝ }
+    requires { ⌜ length (now rec) ≡ width ⌝ }
     ensures { λ _. ⌜ now (rec .exit) ≡ markUnread class d placedTable (now (rec .entry)) ⌝ }
 {
     mark_hidden(class, d, Digits { middle: 1, last: 0 }, 30, rec);
@@ -163,7 +167,7 @@ fn on_key(
     rec: &mut [i64],
 ) -> Step
     requires { ⌜ (length (now s) ≤ 61440) × (length (now symbols) ≤ 65536) × (length (now layers) ≤ 65536) × LentReady (lent (now tally) (now serials) (now marks) (now inner)) (now rec) ⌝ }
-    ensures { λ r. ⌜ KeyLine (knownIn (now (s .entry)) (now (symbols .entry)) (now (layers .entry))) class range here (lent (now (tally .entry)) (now (serials .entry)) (now (marks .entry)) (now (inner .entry))) (lent (now (tally .exit)) (now (serials .exit)) (now (marks .exit)) (now (inner .exit))) (now (rec .entry)) (now (rec .exit)) r (skippedBy (formIn (now (s .entry)) form)) (restIn (now (s .entry)) rest) (find (bytesAt (now (s .entry)) key) (tableOf 18)) ⌝ }
+    ensures { λ r. ⌜ KeyLine (knownIn (now (s .entry)) (now (symbols .entry)) (now (layers .entry))) class range here (lent (now (tally .entry)) (now (serials .entry)) (now (marks .entry)) (now (inner .entry))) (lent (now (tally .exit)) (now (serials .exit)) (now (marks .exit)) (now (inner .exit))) (now (rec .entry)) (now (rec .exit)) r (skippedBy (formIn (now (s .entry)) form)) (restIn (now (s .entry)) rest) (find (bytesAt (now (s .entry)) key) (tableOf tablePlaced)) ⌝ }
 {
     match row_of(18, part(s, key)) {
         Found::Absent => on_unknown(s, class, range, here, form, rest),
@@ -189,10 +193,20 @@ fn on_placed_text(
     inner: &mut [bool],
     rec: &mut [i64],
 ) -> Step
-    requires { ⌜ (length (now s) ≤ 61440) × (length (now symbols) ≤ 65536) × (length (now layers) ≤ 65536) × (length (now inner) ≡ 2) × (length (now rec) ≡ 32) ⌝ }
-    ensures { λ r. ⌜ PlacedTextLine (act (knownIn (now (s .entry)) (now (symbols .entry)) (now (layers .entry))) (tableOf 19) (digits 0 0) (now (inner .entry)) (formIn (now (s .entry)) form)) here (now (inner .entry)) (now (inner .exit)) (now (rec .entry)) (now (rec .exit)) r ⌝ }
+    requires { ⌜ (length (now s) ≤ 61440) × (length (now symbols) ≤ 65536) × (length (now layers) ≤ 65536) × (length (now inner) ≡ 2) × (length (now rec) ≡ width) ⌝ }
+    ensures { λ r. ⌜ PlacedTextLine (act (knownIn (now (s .entry)) (now (symbols .entry)) (now (layers .entry))) (tableOf tablePlacedText) (digits 0 0) (now (inner .entry)) (formIn (now (s .entry)) form)) here (now (inner .entry)) (now (inner .exit)) (now (rec .entry)) (now (rec .exit)) r ⌝ }
 {
-    let next = act(19, s, symbols, layers, no_digits(), inner, form, 0, rec);
+    let next = act(
+        TABLE_PLACED_TEXT,
+        s,
+        symbols,
+        layers,
+        no_digits(),
+        inner,
+        form,
+        0,
+        rec,
+    );
     match next {
         Next::Stay => Step::Go(here),
         Next::Entry(row) => {
@@ -207,7 +221,7 @@ fn on_placed_text(
 
 // The closing line: what the file allows and the class knows is required.
 fn close_placed(class: Digits, range: Digits, here: Now, marks: &[bool], rec: &mut [i64]) -> Step
-    requires { ⌜ (length (now marks) ≡ 28) × (length (now rec) ≡ 32) × (here .figures < 4294967295) ⌝ }
+    requires { ⌜ (length (now marks) ≡ mostRows) × (length (now rec) ≡ width) × (here .figures < 4294967295) ⌝ }
     ensures { λ r. ⌜ CloseLine class range here (now (marks .entry)) (now (rec .entry)) (now (rec .exit)) r ⌝ }
 {
     if !complete(18, both(class, range), &marks[..6]) {

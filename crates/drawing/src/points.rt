@@ -9,7 +9,13 @@ use account::Now;
 use account::Step;
 use account::Where;
 use entries::Next;
+use rules::IN_SYMBOL;
+use rules::KIND_HIDDEN;
+use rules::KIND_POINT;
 use rules::LineForm;
+use rules::WIDTH;
+use tables::TABLE_LAYER_POINTS;
+use tables::TABLE_SYMBOL_POINTS;
 ghost use mathlib.Core.Path.{_≡_};
 ghost use mathlib.Core.Bool.{false};
 ghost use Prim.Native.Nat.{_+_, _≤_, _<_};
@@ -17,15 +23,20 @@ ghost use lib.Dec.{ltb};
 ghost use lib.ListN.{length};
 ghost use Rattle.rules.specs.Figures.{leastPoints};
 ghost use Rattle.account.specs.Points.{pointTableOf, chainKind, pointAct, morePoints, chainEnd, chainClosed, ChainLine, HideLine};
+ghost use Rattle.tables.specs.Numbering.{tableSymbolPoints};
+ghost use Rattle.rules.specs.RecordTable.{width};
+
+// "plus 20 inside a symbol"
+const KIND_POINT_IN_SYMBOL: u8 = KIND_POINT + IN_SYMBOL;
 
 // "In layers no coordinate is negative but the two centres; in symbols any sign."
 fn point_table(layered: bool) -> u8
     ensures { λ r. ⌜ r ≡ pointTableOf layered ⌝ }
 {
     if layered {
-        return 14;
+        return TABLE_LAYER_POINTS;
     }
-    15
+    TABLE_SYMBOL_POINTS
 }
 
 // "17 a successive's points", "plus 20 inside a symbol"
@@ -33,14 +44,14 @@ fn chain_point_kind(layered: bool) -> u8
     ensures { λ r. ⌜ r ≡ chainKind layered ⌝ }
 {
     if layered {
-        return 17;
+        return KIND_POINT;
     }
-    37
+    KIND_POINT_IN_SYMBOL
 }
 
 // One more point.
 fn more_points(now: Now) -> Now
-    requires { ⌜ (now .free + 32 ≤ 18446744073709551615) × (now .points < 4294967295) ⌝ }
+    requires { ⌜ (now .free + width ≤ 18446744073709551615) × (now .points < 4294967295) ⌝ }
     ensures { λ r. ⌜ r ≡ morePoints now ⌝ }
 {
     Now {
@@ -49,7 +60,7 @@ fn more_points(now: Now) -> Now
         layered: now.layered,
         owner: now.owner,
         own: now.own,
-        free: now.free + 32,
+        free: now.free + WIDTH,
         figures: now.figures,
         points: now.points + 1,
     }
@@ -125,15 +136,25 @@ pub fn on_hide(
     t: &mut [i64],
 ) -> Step
     requires { ⌜ (length (now s) ≤ 61440) × (length (now symbols) ≤ 65536) × (length (now layers) ≤ 65536) × (here .points < 4294967295) ⌝ }
-    ensures { λ r. ⌜ HideLine (pointAct 15 (now (s .entry)) (now (symbols .entry)) (now (layers .entry)) here form (now (t .entry))) here at (now (t .entry)) (now (t .exit)) r ⌝ }
+    ensures { λ r. ⌜ HideLine (pointAct tableSymbolPoints (now (s .entry)) (now (symbols .entry)) (now (layers .entry)) here form (now (t .entry))) here at (now (t .entry)) (now (t .exit)) r ⌝ }
 {
     let full = [100 <= here.points];
     let w = here.free;
-    let next = act_at(15, s, symbols, layers, no_digits(), &full, form, w, t);
+    let next = act_at(
+        TABLE_SYMBOL_POINTS,
+        s,
+        symbols,
+        layers,
+        no_digits(),
+        &full,
+        form,
+        w,
+        t,
+    );
     match next {
         Next::Stay => Step::Go(here),
         Next::Entry(_) => {
-            head(t, w, 43, here.owner, at.volume, at.line);
+            head(t, w, KIND_HIDDEN, here.owner, at.volume, at.line);
             Step::Go(more_points(here))
         }
         Next::Begin(_) => Step::Stop(5),

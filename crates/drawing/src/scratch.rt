@@ -8,11 +8,15 @@ use account::BLOCK_PLACED;
 use account::BLOCK_TEXT;
 use account::BLOCK_TOP;
 use account::Now;
+use account::SCRATCH_LENGTH;
 use account::Step;
+use rules::WIDTH;
 ghost use mathlib.Core.Path.{_≡_};
 ghost use mathlib.Core.Bool.{false};
 ghost use Prim.Native.Nat.{_+_, _*_, _-_, _≤_};
 ghost use Rattle.account.specs.TableApart.{scratchPlace, scratchFree, movedTo, lentNow, chainAt, freshFor, opensOwn, backNow, backStep, Grows};
+ghost use Rattle.account.specs.Numbering.{blockChain};
+ghost use Rattle.rules.specs.RecordTable.{width};
 
 // The place of the next record on the scratch.
 fn scratch_place(block: u8) -> usize
@@ -33,7 +37,7 @@ fn scratch_place(block: u8) -> usize
     if block == BLOCK_PLACED {
         return 64;
     }
-    32
+    WIDTH
 }
 
 // Where the table has no room for another record, the scratch has none; the first FILE_FORMAT takes two.
@@ -42,8 +46,8 @@ fn scratch_free(here: Now, limit: usize) -> usize
     ensures { λ r. ⌜ r ≡ scratchFree here limit ⌝ }
 {
     let left = limit - here.free;
-    if left < 32 {
-        return 96;
+    if left < WIDTH {
+        return SCRATCH_LENGTH;
     }
     if here.block != BLOCK_TOP {
         return scratch_place(here.block);
@@ -82,16 +86,16 @@ pub fn lent_now(whole: bool, here: Now, limit: usize) -> Now
 
 // The place of the own record of an open `successive`: in the table it stands before those of its points.
 pub fn chain_at(whole: bool, here: Now) -> usize
-    requires { ⌜ (here .block ≡ 9 → 32 * (here .points + 1) ≤ here .free) ⌝ }
+    requires { ⌜ (here .block ≡ blockChain → width * (here .points + 1) ≤ here .free) ⌝ }
     ensures { λ r. ⌜ r ≡ chainAt whole here ⌝ }
 {
     if !whole {
-        return 32;
+        return WIDTH;
     }
     if here.block != BLOCK_CHAIN {
         return 0;
     }
-    here.free - 32 * (here.points as usize + 1)
+    here.free - WIDTH * (here.points as usize + 1)
 }
 
 // A symbol begins with a record of zeros.

@@ -18,8 +18,12 @@ use entries::Next;
 use entries::acts::act;
 use entries::names::index_of;
 use entries::names::part;
+use rules::KIND_SYMBOL;
 use rules::LineForm;
 use rules::Span;
+use rules::WIDTH;
+use tables::TABLE_DEFINES;
+use tables::TABLE_SYMBOL;
 ghost use mathlib.Core.Path.{_≡_};
 ghost use mathlib.Core.Bool.{true, false};
 ghost use mathlib.Core.List.{[], _∷_};
@@ -32,6 +36,9 @@ ghost use Rattle.tables.specs.Tables.{tableOf};
 ghost use Rattle.entries.specs.Names.{knownIn};
 ghost use Rattle.account.specs.Records.{hasRoom};
 ghost use Rattle.account.specs.SymbolLines.{nonIn, nonRead, symbolOpened, openSymbol, SymbolBegun, OpenedOr, definedIn, closeDefines, DefinesLine, nameOf, isNamed, ContentPlaced, isNew, symbolEntry, symbolPart, SymbolLine, nameNumber};
+ghost use Rattle.tables.specs.Numbering.{tableDefines, tableSymbol};
+ghost use Rattle.account.specs.Numbering.{tallySymbols, tallyLength, mostRows};
+ghost use Rattle.rules.specs.RecordTable.{width};
 
 // "NON and a symbol together" is 6
 fn non_read(here: Now, count: usize) -> Step
@@ -45,7 +52,7 @@ fn non_read(here: Now, count: usize) -> Step
 
 // A symbol is begun: its record, and nothing in it.
 fn symbol_opened(here: Now, count: u32) -> Now
-    requires { ⌜ here .free + 32 ≤ 18446744073709551615 ⌝ }
+    requires { ⌜ here .free + width ≤ 18446744073709551615 ⌝ }
     ensures { λ r. ⌜ r ≡ symbolOpened here count ⌝ }
 {
     Now {
@@ -54,7 +61,7 @@ fn symbol_opened(here: Now, count: u32) -> Now
         layered: false,
         owner: count,
         own: here.free,
-        free: here.free + 32,
+        free: here.free + WIDTH,
         figures: 0,
         points: 0,
     }
@@ -71,7 +78,7 @@ fn open_symbol(here: Now, count: usize, at: Where, marks: &mut [bool], t: &mut [
     if !has_room(t, w) {
         return Step::Stop(19);
     }
-    head(t, w, 4, count as u32, at.volume, at.line);
+    head(t, w, KIND_SYMBOL, count as u32, at.volume, at.line);
     unmark(marks);
     Step::Go(symbol_opened(here, count as u32))
 }
@@ -109,13 +116,13 @@ pub fn on_defines(
     t: &mut [i64],
 ) -> Step
     requires { ⌜ (length (now s) ≤ 61440) × (length (now symbols) ≤ 65536) × (length (now layers) ≤ 65536) ⌝ }
-    ensures { λ r. ⌜ DefinesLine (act (knownIn (now (s .entry)) (now (symbols .entry)) (now (layers .entry))) (tableOf 8) (digitsOf range) (nonIn here ∷ false ∷ []) (formIn (now (s .entry)) form)) here (length (now (symbols .entry))) at (now (marks .entry)) (now (marks .exit)) (now (t .entry)) (now (t .exit)) r ⌝ }
+    ensures { λ r. ⌜ DefinesLine (act (knownIn (now (s .entry)) (now (symbols .entry)) (now (layers .entry))) (tableOf tableDefines) (digitsOf range) (nonIn here ∷ false ∷ []) (formIn (now (s .entry)) form)) here (length (now (symbols .entry))) at (now (marks .entry)) (now (marks .exit)) (now (t .entry)) (now (t .exit)) r ⌝ }
 {
     let full = [here.part != 0, false];
     let count = symbols.len();
     let mut nothing = [0i64; 1];
     let next = act(
-        8,
+        TABLE_DEFINES,
         s,
         symbols,
         layers,
@@ -215,11 +222,11 @@ pub fn on_symbol(
     marks: &mut [bool],
     rec: &mut [i64],
 ) -> Step
-    requires { ⌜ (length (now s) ≤ 61440) × (length (now symbols) ≤ 65536) × (length (now layers) ≤ 65536) × (length (now marks) ≡ 28) × (length (now rec) ≡ 32) × ContentPlaced (formIn (now s) form) ⌝ }
-    ensures { λ r. ⌜ SymbolLine (act (knownIn (now (s .entry)) (now (symbols .entry)) (now (layers .entry))) (tableOf 9) (digitsOf range) (take 4 (now (marks .entry))) (formIn (now (s .entry)) form)) (now (s .entry)) (now (symbols .entry)) here (now (marks .entry)) (now (marks .exit)) (now (rec .entry)) (now (rec .exit)) r ⌝ }
+    requires { ⌜ (length (now s) ≤ 61440) × (length (now symbols) ≤ 65536) × (length (now layers) ≤ 65536) × (length (now marks) ≡ mostRows) × (length (now rec) ≡ width) × ContentPlaced (formIn (now s) form) ⌝ }
+    ensures { λ r. ⌜ SymbolLine (act (knownIn (now (s .entry)) (now (symbols .entry)) (now (layers .entry))) (tableOf tableSymbol) (digitsOf range) (take 4 (now (marks .entry))) (formIn (now (s .entry)) form)) (now (s .entry)) (now (symbols .entry)) here (now (marks .entry)) (now (marks .exit)) (now (rec .entry)) (now (rec .exit)) r ⌝ }
 {
     let next = act(
-        9,
+        TABLE_SYMBOL,
         s,
         symbols,
         layers,
@@ -243,8 +250,8 @@ pub fn on_symbol(
 
 // A closed symbol's name joins the others.
 pub fn keep_name(tally: &mut [u32], symbols: &mut [u32], rec: &[i64])
-    requires { ⌜ (length (now tally) ≡ 12) × (getD (now tally) 9 0 < length (now symbols)) × (length (now symbols) ≤ 65536) × (length (now rec) ≡ 32) × (isNamed (now rec) ≡ true) ⌝ }
-    ensures { λ _. ⌜ (now (symbols .exit) ≡ set (now (symbols .entry)) (getD (now (tally .entry)) 9 0) (nameNumber (nameOf (now (rec .entry))))) × (now (tally .exit) ≡ set (now (tally .entry)) 9 (getD (now (tally .entry)) 9 0 + 1)) ⌝ }
+    requires { ⌜ (length (now tally) ≡ tallyLength) × (getD (now tally) tallySymbols 0 < length (now symbols)) × (length (now symbols) ≤ 65536) × (length (now rec) ≡ width) × (isNamed (now rec) ≡ true) ⌝ }
+    ensures { λ _. ⌜ (now (symbols .exit) ≡ set (now (symbols .entry)) (getD (now (tally .entry)) tallySymbols 0) (nameNumber (nameOf (now (rec .entry))))) × (now (tally .exit) ≡ set (now (tally .entry)) tallySymbols (getD (now (tally .entry)) tallySymbols 0 + 1)) ⌝ }
 {
     let name = name_in(rec);
     let i = tally[TALLY_SYMBOLS] as usize;

@@ -19,7 +19,12 @@ use account::TALLY_TOTAL;
 use account::Where;
 use entries::Next;
 use entries::acts::act;
+use rules::KIND_DRAWING;
+use rules::KIND_HEADER;
+use rules::KIND_VOLUME;
 use rules::LineForm;
+use rules::WIDTH;
+use tables::TABLE_TOP;
 ghost use mathlib.Core.Path.{_≡_};
 ghost use Prim.Native.Nat.{_+_, _≤_};
 ghost use lib.ListN.{length};
@@ -27,10 +32,12 @@ ghost use Rattle.rules.specs.Lines.{formIn};
 ghost use Rattle.entries.specs.Names.{knownIn};
 ghost use Rattle.account.specs.Account.{headAt};
 ghost use Rattle.account.specs.TopLines.{stepOf, layersOf, eofNow, topLent, recordTaken, headerBegun, topAct, Answered, takingNow, fileSize, unmarked, blockNow, openedLent, keyNow, keyLent, topNow, topLentBy};
+ghost use Rattle.account.specs.Numbering.{blockFile, blockDrawing, tallyLength, headerLength};
+ghost use Rattle.rules.specs.RecordTable.{width, kindDrawing};
 
 // EOF: 9 where it is misplaced, then 14 for a layer that is not used, then 17 for all_ele.
 fn at_eof(here: Now, at: Where, tally: &[u32], used_all: &[bool]) -> Step
-    requires { ⌜ (length (now tally) ≡ 12) × (layersOf (now tally) ≤ length (now «used_all»)) ⌝ }
+    requires { ⌜ (length (now tally) ≡ tallyLength) × (layersOf (now tally) ≤ length (now «used_all»)) ⌝ }
     ensures { λ r. ⌜ r ≡ stepOf (eofNow here at (now (tally .entry)) (now («used_all» .entry))) ⌝ }
 {
     if here.part != 4 {
@@ -67,16 +74,16 @@ fn record_taken(here: Now, block: u8, size: usize) -> Now
 
 // The header's record and the volume's are begun, apart from the table.
 fn begin_header(first: bool, at: Where, header: &mut [i64])
-    requires { ⌜ length (now header) ≡ 70 ⌝ }
+    requires { ⌜ length (now header) ≡ headerLength ⌝ }
     ensures { λ _. ⌜ now (header .exit) ≡ headerBegun first at (now (header .entry)) ⌝ }
 {
     clear(header);
     if first {
-        head(header, 0, 1, 0, at.volume, at.line);
-        head(header, 32, 2, 0, at.volume, at.line);
+        head(header, 0, KIND_HEADER, 0, at.volume, at.line);
+        head(header, WIDTH, KIND_VOLUME, 0, at.volume, at.line);
         return;
     }
-    head(header, 0, 2, 0, at.volume, at.line);
+    head(header, 0, KIND_VOLUME, 0, at.volume, at.line);
 }
 
 // FILE_FORMAT takes two records in the first volume, the header's and the volume's, and one in others.
@@ -88,8 +95,8 @@ fn open_file(
     header: &mut [i64],
     t: &[i64],
 ) -> Step
-    requires { ⌜ length (now header) ≡ 70 ⌝ }
-    ensures { λ r. ⌜ Answered (takingNow here 1 (fileSize first) (now (t .entry))) ((now (marks .exit) ≡ unmarked (now (marks .entry))) × (now (header .exit) ≡ headerBegun first at (now (header .entry)))) r ⌝ }
+    requires { ⌜ length (now header) ≡ headerLength ⌝ }
+    ensures { λ r. ⌜ Answered (takingNow here blockFile (fileSize first) (now (t .entry))) ((now (marks .exit) ≡ unmarked (now (marks .entry))) × (now (header .exit) ≡ headerBegun first at (now (header .entry)))) r ⌝ }
 {
     let w = here.free;
     if !has_room(t, w) {
@@ -98,24 +105,24 @@ fn open_file(
     unmark(marks);
     begin_header(first, at, header);
     if !first {
-        return Step::Go(record_taken(here, BLOCK_FILE, 32));
+        return Step::Go(record_taken(here, BLOCK_FILE, WIDTH));
     }
-    if !has_room(t, w + 32) {
+    if !has_room(t, w + WIDTH) {
         return Step::Stop(19);
     }
     Step::Go(record_taken(here, BLOCK_FILE, 64))
 }
 
 fn open_drawing(here: Now, at: Where, marks: &mut [bool], t: &mut [i64]) -> Step
-    ensures { λ r. ⌜ Answered (takingNow here 2 32 (now (t .entry))) ((now (marks .exit) ≡ unmarked (now (marks .entry))) × (now (t .exit) ≡ headAt (here .free) 3 0 at (now (t .entry)))) r ⌝ }
+    ensures { λ r. ⌜ Answered (takingNow here blockDrawing width (now (t .entry))) ((now (marks .exit) ≡ unmarked (now (marks .entry))) × (now (t .exit) ≡ headAt (here .free) kindDrawing 0 at (now (t .entry)))) r ⌝ }
 {
     let w = here.free;
     if !has_room(t, w) {
         return Step::Stop(19);
     }
-    head(t, w, 3, 0, at.volume, at.line);
+    head(t, w, KIND_DRAWING, 0, at.volume, at.line);
     unmark(marks);
-    Step::Go(record_taken(here, BLOCK_DRAWING, 32))
+    Step::Go(record_taken(here, BLOCK_DRAWING, WIDTH))
 }
 
 // "FILE_FORMAT, DRAWING_FORMAT, SYMBOL_DEFINE, ELEMENT, each once in this order"
@@ -129,7 +136,7 @@ fn open_block(
     header: &mut [i64],
     t: &mut [i64],
 ) -> Step
-    requires { ⌜ length (now header) ≡ 70 ⌝ }
+    requires { ⌜ length (now header) ≡ headerLength ⌝ }
     ensures { λ r. ⌜ Answered (blockNow first here (now (t .entry)) block) ((topLent (now (marks .exit)) (now (used .exit)) (now (header .exit)) (now (t .exit))) ≡ openedLent first here at block (topLent (now (marks .entry)) (now (used .entry)) (now (header .entry)) (now (t .entry)))) r ⌝ }
 {
     if block != here.part {
@@ -164,7 +171,7 @@ pub fn on_top(
     header: &mut [i64],
     t: &mut [i64],
 ) -> Step
-    requires { ⌜ (length (now s) ≤ 61440) × (length (now symbols) ≤ 65536) × (length (now layers) ≤ 65536) × (length (now tally) ≡ 12) × (layersOf (now tally) ≤ length (now «used_all»)) × (length (now header) ≡ 70) ⌝ }
+    requires { ⌜ (length (now s) ≤ 61440) × (length (now symbols) ≤ 65536) × (length (now layers) ≤ 65536) × (length (now tally) ≡ tallyLength) × (layersOf (now tally) ≤ length (now «used_all»)) × (length (now header) ≡ headerLength) ⌝ }
     ensures { λ r. ⌜ Answered (topNow (knownIn (now (s .entry)) (now (symbols .entry)) (now (layers .entry))) first here at (now (tally .entry)) (now («used_all» .entry)) (now (t .entry)) (formIn (now (s .entry)) form)) ((topLent (now (marks .exit)) (now (used .exit)) (now (header .exit)) (now (t .exit))) ≡ topLentBy (knownIn (now (s .entry)) (now (symbols .entry)) (now (layers .entry))) first here at (topLent (now (marks .entry)) (now (used .entry)) (now (header .entry)) (now (t .entry))) (formIn (now (s .entry)) form)) r ⌝ }
 {
     match form {
@@ -214,13 +221,13 @@ fn top_key(
     header: &mut [i64],
     t: &mut [i64],
 ) -> Step
-    requires { ⌜ (length (now s) ≤ 61440) × (length (now symbols) ≤ 65536) × (length (now layers) ≤ 65536) × (length (now header) ≡ 70) ⌝ }
+    requires { ⌜ (length (now s) ≤ 61440) × (length (now symbols) ≤ 65536) × (length (now layers) ≤ 65536) × (length (now header) ≡ headerLength) ⌝ }
     ensures { λ r. ⌜ Answered (keyNow first here (now (t .entry)) (topAct (knownIn (now (s .entry)) (now (symbols .entry)) (now (layers .entry))) (formIn (now (s .entry)) form))) ((topLent (now (marks .exit)) (now (used .exit)) (now (header .exit)) (now (t .exit))) ≡ keyLent first here at (topLent (now (marks .entry)) (now (used .entry)) (now (header .entry)) (now (t .entry))) (topAct (knownIn (now (s .entry)) (now (symbols .entry)) (now (layers .entry))) (formIn (now (s .entry)) form))) r ⌝ }
 {
     let full = [false; 4];
     let mut nothing = [0i64; 1];
     let next = act(
-        0,
+        TABLE_TOP,
         s,
         symbols,
         layers,

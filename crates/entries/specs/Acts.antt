@@ -16,6 +16,8 @@ use Rattle.rules.specs.RecordTable.{numbers, given, columns, putState}
 use Rattle.entries.specs.Entering.{settled}
 use Rattle.entries.specs.declared.Next.{Next}
 use Rattle.entries.specs.declared.Next.the-variants as N
+use Rattle.tables.specs.Numbering.{tableTop, tableDefines, tableElement, tableSymbolPoints}
+use Rattle.entries.specs.Shapes.{sortOpener, sortOpening}
 
 -- ── the places ──
 -- a row without a place of its own goes to another one
@@ -70,7 +72,7 @@ actShape k d full j r s =
 
 -- what a line that was entered does, by which of the five shapes it has
 abbrev pub nextFor : Bool → ℕ → ℕ → ℕ → Next
-nextFor full j i n = cond full (N.Refuse 11) (cond (eqb n 0 || eqb n 3) (N.Begin (record { block = i; row = j })) (N.Entry j))
+nextFor full j i n = cond full (N.Refuse 11) (cond (eqb n sortOpener || eqb n sortOpening) (N.Begin (record { block = i; row = j })) (N.Entry j))
 
 -- ── what a block must have ──
 abbrev pub wanted : Digits → Rule → Bool
@@ -78,4 +80,4 @@ wanted d r = r .must && reaches d (r .least)
 
 -- the tables of which no row is required, by number
 abbrev pub needsNone : ℕ → Bool
-needsNone n = eqb n 0 || (eqb n 8 || (leb 10 n && leb n 15))
+needsNone n = eqb n tableTop || (eqb n tableDefines || (leb tableElement n && leb n tableSymbolPoints))

@@ -44,13 +44,28 @@ shapeIn s (P.Content p) = content (p .at) (bytesAt s p)
 shapeIn s (P.Opening p) = opening (p .at) (bytesAt s p)
 shapeIn s P.Formless = formless
 
--- which of the five, in their order
+-- which of the five, in their order, under the code's names
+abbrev pub sortOpener : ℕ
+sortOpener = 0
+
+abbrev pub sortNoContent : ℕ
+sortNoContent = 1
+
+abbrev pub sortContent : ℕ
+sortContent = 2
+
+abbrev pub sortOpening : ℕ
+sortOpening = 3
+
+abbrev pub sortFormless : ℕ
+sortFormless = 4
+
 abbrev pub sortOf : Placed → ℕ
-sortOf P.Opener = 0
-sortOf P.NoContent = 1
-sortOf (P.Content p) = 2
-sortOf (P.Opening p) = 3
-sortOf P.Formless = 4
+sortOf P.Opener = sortOpener
+sortOf P.NoContent = sortNoContent
+sortOf (P.Content p) = sortContent
+sortOf (P.Opening p) = sortOpening
+sortOf P.Formless = sortFormless
 
 -- where its content stands; of a shape without content it does not matter where
 abbrev pub spanOf : Placed → Span

@@ -12,6 +12,14 @@ use rules::Digits;
 use rules::LineForm;
 use rules::Span;
 use tables::Found;
+use tables::TABLE_DEFINES;
+use tables::TABLE_DRAWING;
+use tables::TABLE_ELEMENT;
+use tables::TABLE_PLACED;
+use tables::TABLE_RANGE;
+use tables::TABLE_SYMBOL;
+use tables::TABLE_SYMBOL_POINTS;
+use tables::TABLE_TOP;
 use tables::lookup::row_of;
 ghost use mathlib.Core.Path.{_≡_};
 ghost use mathlib.Core.Bool.{true, false, cond};
@@ -25,11 +33,12 @@ ghost use Rattle.tables.specs.Tables.{tableOf};
 ghost use Rattle.entries.specs.Names.{knownIn};
 ghost use Rattle.entries.specs.Shapes.{restIn};
 ghost use Rattle.entries.specs.Acts.{roomy, nextOf, Acts, wanted, needsNone};
+ghost use Rattle.tables.specs.Numbering.{tableDrawing, tableSymbol, tablePlaced};
 
 // DRAWING_FORMAT's rows: floor_height from 001 on.
 fn drawing_wants(row: usize, d: Digits) -> bool
     requires { ⌜ row < 8 ⌝ }
-    ensures { λ r. ⌜ r ≡ wanted d (ruleAt (tableOf 7) row) ⌝ }
+    ensures { λ r. ⌜ r ≡ wanted d (ruleAt (tableOf tableDrawing) row) ⌝ }
 {
     if row == 6 {
         return reaches(d, Digits { middle: 0, last: 1 });
@@ -40,7 +49,7 @@ fn drawing_wants(row: usize, d: Digits) -> bool
 // A symbol's rows: wall from 002 on.
 fn symbol_wants(row: usize, d: Digits) -> bool
     requires { ⌜ row < 4 ⌝ }
-    ensures { λ r. ⌜ r ≡ wanted d (ruleAt (tableOf 9) row) ⌝ }
+    ensures { λ r. ⌜ r ≡ wanted d (ruleAt (tableOf tableSymbol) row) ⌝ }
 {
     if row == 3 {
         return reaches(d, Digits { middle: 0, last: 2 });
@@ -51,7 +60,7 @@ fn symbol_wants(row: usize, d: Digits) -> bool
 // A placed symbol's rows, by the digits from which on each is required.
 fn placed_wants(row: usize, d: Digits) -> bool
     requires { ⌜ row < 6 ⌝ }
-    ensures { λ r. ⌜ r ≡ wanted d (ruleAt (tableOf 18) row) ⌝ }
+    ensures { λ r. ⌜ r ≡ wanted d (ruleAt (tableOf tablePlaced) row) ⌝ }
 {
     if row == 0 {
         return true;
@@ -75,14 +84,14 @@ fn placed_wants(row: usize, d: Digits) -> bool
 fn needs_none(table: u8) -> bool
     ensures { λ r. ⌜ r ≡ needsNone table ⌝ }
 {
-    if table == 0 {
+    if table == TABLE_TOP {
         return true;
     }
-    if table == 8 {
+    if table == TABLE_DEFINES {
         return true;
     }
-    if 10 <= table {
-        return table <= 15;
+    if TABLE_ELEMENT <= table {
+        return table <= TABLE_SYMBOL_POINTS;
     }
     false
 }
@@ -95,16 +104,16 @@ fn wants(table: u8, row: usize, d: Digits) -> bool
     if needs_none(table) {
         return false;
     }
-    if table == 2 {
+    if table == TABLE_RANGE {
         return row == 0;
     }
-    if table == 18 {
+    if table == TABLE_PLACED {
         return placed_wants(row, d);
     }
-    if table == 7 {
+    if table == TABLE_DRAWING {
         return drawing_wants(row, d);
     }
-    if table == 9 {
+    if table == TABLE_SYMBOL {
         return symbol_wants(row, d);
     }
     true

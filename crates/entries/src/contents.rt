@@ -12,6 +12,17 @@ use leaves::numbers::serial;
 use leaves::sheets::ratio;
 use leaves::sheets::sheet;
 use leaves::texts::fits;
+use tables::HOLDS_BLOCK;
+use tables::HOLDS_EITHER;
+use tables::HOLDS_HEADED;
+use tables::HOLDS_NOTHING;
+use tables::HOLDS_RATIO;
+use tables::HOLDS_SERIALS;
+use tables::HOLDS_SHEET;
+use tables::HOLDS_TEXT;
+use tables::HOLDS_VOLUME_NAME;
+use tables::HOLDS_WORD;
+use tables::PART_RANGE_0_1;
 use tables::Row;
 ghost use mathlib.Core.Path.{_≡_};
 ghost use mathlib.Core.Bool.{true};
@@ -139,35 +150,35 @@ pub(crate) fn read_kind(
     requires { ⌜ (length (now symbols) ≤ 65536) × (length (now layers) ≤ 65536) × (length (now c) ≤ 61440) × (p + columns (kindOf row) ≤ length (now rec)) × (settled (kindOf row) ≡ true) ⌝ }
     ensures { λ r. ⌜ Puts (readKind (knownIn (now (s .entry)) (now (symbols .entry)) (now (layers .entry))) (kindOf row) at (now (c .entry))) (λ v. sets (now (rec .entry)) p (numbers v)) (now (rec .exit)) r ⌝ }
 {
-    if row.kind == 1 {
+    if row.kind == HOLDS_TEXT {
         return chars(row.most, row.set, at, c, p, rec);
     }
-    if row.kind == 2 {
+    if row.kind == HOLDS_WORD {
         return chars(row.most, row.set, at, c, p, rec);
     }
-    if row.kind == 3 {
+    if row.kind == HOLDS_VOLUME_NAME {
         return volume_name(at, c, p, rec);
     }
-    if row.kind == 4 {
+    if row.kind == HOLDS_SHEET {
         return put_sheet(c, p, rec);
     }
-    if row.kind == 5 {
+    if row.kind == HOLDS_RATIO {
         return put_ratio(c, p, rec);
     }
-    if row.kind == 6 {
+    if row.kind == HOLDS_SERIALS {
         return put_serials(c, p, rec);
     }
-    if row.kind == 7 {
+    if row.kind == HOLDS_NOTHING {
         return Put::Refused(5);
     }
-    if row.kind == 8 {
+    if row.kind == HOLDS_BLOCK {
         return Put::Refused(5);
     }
-    if row.kind == 9 {
+    if row.kind == HOLDS_HEADED {
         return put_value(single(row.parts, s, symbols, layers, c), p, rec);
     }
-    if row.kind == 10 {
-        return put_value(single(11, s, symbols, layers, c), p, rec);
+    if row.kind == HOLDS_EITHER {
+        return put_value(single(PART_RANGE_0_1, s, symbols, layers, c), p, rec);
     }
     values(row, s, symbols, layers, c, p, rec)
 }

@@ -39,6 +39,17 @@ pub enum Rest {
     Equals(Span),
 }
 
+// Which of the five a shape is, in their order.
+pub const SORT_OPENER: u8 = 0;
+
+pub const SORT_NO_CONTENT: u8 = 1;
+
+pub const SORT_CONTENT: u8 = 2;
+
+pub const SORT_OPENING: u8 = 3;
+
+pub const SORT_FORMLESS: u8 = 4;
+
 // What a line with a key is, by the places of its content.
 pub enum Shape {
     Opener,

@@ -14,6 +14,21 @@ use leaves::numbers::day;
 use leaves::numbers::decimal;
 use leaves::numbers::fixed;
 use leaves::pieces::decimal_piece;
+use tables::PART_ABOVE_ZERO;
+use tables::PART_ANY_SIGN;
+use tables::PART_CLOCK;
+use tables::PART_COUNT;
+use tables::PART_DAY;
+use tables::PART_FLAG;
+use tables::PART_LAYER_ID;
+use tables::PART_NOT_NEGATIVE;
+use tables::PART_POSITION;
+use tables::PART_RANGE_0;
+use tables::PART_RANGE_0_1;
+use tables::PART_RANGE_0_2;
+use tables::PART_RANGE_1;
+use tables::PART_SYMBOL_NAME;
+use tables::PART_SYMBOL_RANGE;
 ghost use mathlib.Core.Path.{_≡_};
 ghost use mathlib.Core.List.{[]};
 ghost use Prim.Native.Nat.{_<_, _≤_};
@@ -54,17 +69,17 @@ fn served(n: Count) -> Val
     Val::Bad(12)
 }
 
-// The sign and limit of a decimal: 20 any sign, 21 not negative, 22 above zero, else an angle.
+// The sign and limit of a decimal.
 fn in_bound(bound: u64, z: i64) -> bool
     ensures { λ r. ⌜ r ≡ inBound (boundOf bound) z ⌝ }
 {
-    if bound == 20 {
+    if bound == PART_ANY_SIGN {
         return true;
     }
-    if bound == 21 {
+    if bound == PART_NOT_NEGATIVE {
         return 0 <= z;
     }
-    if bound == 22 {
+    if bound == PART_ABOVE_ZERO {
         return 0 < z;
     }
     if 0 <= z {
@@ -110,40 +125,40 @@ fn whole(code: u64, s: &[u8], symbols: &[u32], layers: &[u32], c: &[u8]) -> Val
     requires { ⌜ (length (now symbols) ≤ 65536) × (length (now layers) ≤ 65536) ⌝ }
     ensures { λ r. ⌜ r ≡ valOf (readPart (knownIn (now (s .entry)) (now (symbols .entry)) (now (layers .entry))) (wholeOf code) (now (c .entry))) ⌝ }
 {
-    if code == 5 {
+    if code == PART_FLAG {
         return limited(fixed(c, 1), 0, 1, 11);
     }
-    if code == 6 {
+    if code == PART_POSITION {
         return limited(fixed(c, 1), 1, 5, 11);
     }
-    if code == 7 {
+    if code == PART_COUNT {
         return limited(count(c), 0, 999999999, 10);
     }
-    if code == 8 {
+    if code == PART_DAY {
         return limited(day(c), 0, 99999999, 10);
     }
-    if code == 9 {
+    if code == PART_CLOCK {
         return limited(clock(c), 0, 999999, 10);
     }
-    if code == 10 {
+    if code == PART_RANGE_0 {
         return limited(fixed(c, 3), 0, 0, 12);
     }
-    if code == 11 {
+    if code == PART_RANGE_0_1 {
         return limited(fixed(c, 3), 0, 1, 12);
     }
-    if code == 12 {
+    if code == PART_RANGE_0_2 {
         return limited(fixed(c, 3), 0, 2, 12);
     }
-    if code == 13 {
+    if code == PART_RANGE_1 {
         return limited(fixed(c, 3), 1, 1, 12);
     }
-    if code == 14 {
+    if code == PART_SYMBOL_RANGE {
         return served(fixed(c, 3));
     }
-    if code == 15 {
+    if code == PART_SYMBOL_NAME {
         return numbered(index_of(s, symbols, c), 13);
     }
-    if code == 16 {
+    if code == PART_LAYER_ID {
         return layer(s, layers, c);
     }
     limited(fixed(c, 4), 0, 9999, 10)
@@ -154,7 +169,7 @@ pub(crate) fn single(code: u64, s: &[u8], symbols: &[u32], layers: &[u32], c: &[
     requires { ⌜ (length (now symbols) ≤ 65536) × (length (now layers) ≤ 65536) ⌝ }
     ensures { λ r. ⌜ r ≡ valOf (readPart (knownIn (now (s .entry)) (now (symbols .entry)) (now (layers .entry))) (partOf code) (now (c .entry))) ⌝ }
 {
-    if 20 <= code {
+    if PART_ANY_SIGN <= code {
         return bounded(code, decimal(c));
     }
     whole(code, s, symbols, layers, c)
@@ -165,7 +180,7 @@ pub(crate) fn piece(code: u64, s: &[u8], symbols: &[u32], layers: &[u32], c: &[u
     requires { ⌜ (length (now symbols) ≤ 65536) × (length (now layers) ≤ 65536) ⌝ }
     ensures { λ r. ⌜ PieceIs (knownIn (now (s .entry)) (now (symbols .entry)) (now (layers .entry))) code (now (c .entry)) r ⌝ }
 {
-    if 20 <= code {
+    if PART_ANY_SIGN <= code {
         let d = decimal_piece(c);
         let reading = d.reading;
         return Piece {

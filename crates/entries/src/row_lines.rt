@@ -3,6 +3,10 @@ use crate::Inner;
 use crate::Next;
 use crate::Put;
 use crate::Rest;
+use crate::SORT_FORMLESS;
+use crate::SORT_NO_CONTENT;
+use crate::SORT_OPENER;
+use crate::SORT_OPENING;
 use crate::Shape;
 use crate::contents::read_kind;
 use crate::names::part;
@@ -94,14 +98,14 @@ fn put_shape(
     ensures { λ r. ⌜ Puts (readShape (knownIn (now (s .entry)) (now (symbols .entry)) (now (layers .entry))) (row .number) (ruleOf row) (shapeIn (now (s .entry)) shape)) (λ a. putLine (ruleOf row) dump (valueOf a) (now (rec .entry))) (now (rec .exit)) r ⌝ }
 {
     let sort = sort_of(shape);
-    if sort == 4 {
+    if sort == SORT_FORMLESS {
         return Put::Refused(5);
     }
-    if sort == 0 {
+    if sort == SORT_OPENER {
         put_state(row.state, 2, rec);
         return Put::Done;
     }
-    if sort == 1 {
+    if sort == SORT_NO_CONTENT {
         put_state(row.state, 1, rec);
         return Put::Done;
     }
@@ -138,10 +142,10 @@ fn entered(row: Row, full: bool, sort: u8) -> Next
         block: inner_of(row),
         row: row.number,
     };
-    if sort == 0 {
+    if sort == SORT_OPENER {
         return Next::Begin(inner);
     }
-    if sort == 3 {
+    if sort == SORT_OPENING {
         return Next::Begin(inner);
     }
     Next::Entry(row.number)
@@ -162,7 +166,7 @@ fn act_shape(
     ensures { λ r. ⌜ Acts (λ _. ruleOf row) dump (now (rec .entry)) (actShape (knownIn (now (s .entry)) (now (symbols .entry)) (now (layers .entry))) d full (row .number) (ruleOf row) (shapeIn (now (s .entry)) shape)) (now (rec .exit)) r ⌝ }
 {
     let sort = sort_of(shape);
-    if sort == 4 {
+    if sort == SORT_FORMLESS {
         return Next::Refuse(5);
     }
     if !reaches(d, row.least) {

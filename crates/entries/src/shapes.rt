@@ -1,10 +1,20 @@
 // What a line with a key is, and the form that its key asks for.
 use crate::Rest;
+use crate::SORT_CONTENT;
+use crate::SORT_FORMLESS;
+use crate::SORT_NO_CONTENT;
+use crate::SORT_OPENER;
+use crate::SORT_OPENING;
 use crate::Shape;
 use crate::names::part;
 use leaves::bytes::same;
 use rules::LineForm;
 use rules::Span;
+use tables::HOLDS_BLOCK;
+use tables::HOLDS_EITHER;
+use tables::HOLDS_HEADED;
+use tables::HOLDS_NOTHING;
+use tables::HOLDS_TEXT;
 use tables::Row;
 ghost use mathlib.Core.Path.{_≡_};
 ghost use Rattle.rules.specs.Lines.{equals, bytesAt};
@@ -97,16 +107,16 @@ pub fn shape_for(s: &[u8], free: bool, rest: Rest) -> Shape
     }
 }
 
-// Which of the five a shape is, in their order: 0 an opener, 1 no content, 2 content, 3 content that opens, 4 none of these.
+// Which of the five a shape is.
 pub fn sort_of(shape: Shape) -> u8
     ensures { λ r. ⌜ r ≡ sortOf shape ⌝ }
 {
     match shape {
-        Shape::Opener => 0,
-        Shape::NoContent => 1,
-        Shape::Content(_) => 2,
-        Shape::Opening(_) => 3,
-        Shape::Formless => 4,
+        Shape::Opener => SORT_OPENER,
+        Shape::NoContent => SORT_NO_CONTENT,
+        Shape::Content(_) => SORT_CONTENT,
+        Shape::Opening(_) => SORT_OPENING,
+        Shape::Formless => SORT_FORMLESS,
     }
 }
 
@@ -141,23 +151,23 @@ pub(crate) fn fits(row: Row, s: &[u8], shape: Shape) -> bool
     ensures { λ r. ⌜ r ≡ fits (kindOf row) (row .may) (shapeIn (now (s .entry)) shape) ⌝ }
 {
     let sort = sort_of(shape);
-    if row.kind == 7 {
-        return sort == 1;
+    if row.kind == HOLDS_NOTHING {
+        return sort == SORT_NO_CONTENT;
     }
-    if row.kind == 8 {
-        return sort == 0;
+    if row.kind == HOLDS_BLOCK {
+        return sort == SORT_OPENER;
     }
-    if row.kind == 9 {
-        return sort == 3;
+    if row.kind == HOLDS_HEADED {
+        return sort == SORT_OPENING;
     }
-    if row.kind == 10 {
+    if row.kind == HOLDS_EITHER {
         return is_either(s, shape);
     }
-    if sort == 2 {
+    if sort == SORT_CONTENT {
         return true;
     }
     if row.may {
-        return sort == 1;
+        return sort == SORT_NO_CONTENT;
     }
     false
 }
@@ -165,20 +175,20 @@ pub(crate) fn fits(row: Row, s: &[u8], shape: Shape) -> bool
 pub(crate) fn is_free(row: Row) -> bool
     ensures { λ r. ⌜ r ≡ isFree (kindOf row) ⌝ }
 {
-    row.kind == 1
+    row.kind == HOLDS_TEXT
 }
 
 // The number of the inner block that a row opens.
 pub(crate) fn inner_of(row: Row) -> u8
     ensures { λ r. ⌜ r ≡ innerOf (kindOf row) ⌝ }
 {
-    if row.kind == 8 {
+    if row.kind == HOLDS_BLOCK {
         return row.inner;
     }
-    if row.kind == 9 {
+    if row.kind == HOLDS_HEADED {
         return row.inner;
     }
-    if row.kind == 10 {
+    if row.kind == HOLDS_EITHER {
         return row.inner;
     }
     0

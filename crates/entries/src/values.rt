@@ -2,6 +2,9 @@
 use crate::Put;
 use crate::Val;
 use crate::parts::piece;
+use tables::ACROSS_ARC;
+use tables::ACROSS_AXES;
+use tables::ACROSS_ENDS;
 use tables::Row;
 ghost use mathlib.Core.Path.{_≡_};
 ghost use mathlib.Core.List.{_∷_};
@@ -108,21 +111,21 @@ fn less_at(rec: &[i64], i: usize, j: usize) -> bool
     rec[i] < rec[j]
 }
 
-// The rules across the values of a line: 1 of a line's ends, 2 of a circle's arc, 3 of an ellipse.
+// The rules across the values of a line.
 fn agree(across: u8, rec: &[i64], p: usize) -> bool
     requires { ⌜ p + lastOf (acrossOf across) < length (now rec) ⌝ }
     ensures { λ r. ⌜ r ≡ agreeFrom (acrossOf across) p (now (rec .entry)) ⌝ }
 {
-    if across == 1 {
+    if across == ACROSS_ENDS {
         if equal_at(rec, p + 1, p + 3) {
             return !equal_at(rec, p + 2, p + 4);
         }
         return true;
     }
-    if across == 2 {
+    if across == ACROSS_ARC {
         return !equal_at(rec, p + 4, p + 5);
     }
-    if across == 3 {
+    if across == ACROSS_AXES {
         if less_at(rec, p + 4, p + 3) {
             return !equal_at(rec, p + 5, p + 6);
         }

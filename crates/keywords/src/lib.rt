@@ -1,6 +1,26 @@
 // The keys of document 01, written: each from the byte string that it is compared with.
 use leaves::Wrote;
 use leaves::write::put;
+use tables::TABLE_BASE;
+use tables::TABLE_DEFINES;
+use tables::TABLE_DRAWING;
+use tables::TABLE_ELEC;
+use tables::TABLE_ELEMENT;
+use tables::TABLE_FIGURES;
+use tables::TABLE_FILE;
+use tables::TABLE_LATER;
+use tables::TABLE_LAYER;
+use tables::TABLE_LAYER_POINTS;
+use tables::TABLE_LAYER_TEXT;
+use tables::TABLE_PLACED;
+use tables::TABLE_PLACED_TEXT;
+use tables::TABLE_RANGE;
+use tables::TABLE_SINGLE_LAYER;
+use tables::TABLE_SYM;
+use tables::TABLE_SYMBOL;
+use tables::TABLE_SYMBOL_POINTS;
+use tables::TABLE_SYMBOL_TEXT;
+use tables::TABLE_TOP;
 use tables::keys::AIR;
 use tables::keys::ALL_ELE;
 use tables::keys::ALL_LINE;
@@ -379,67 +399,67 @@ fn placed_key(row: u8, out: &mut [u8]) -> Wrote
 pub fn put_key(table: u8, row: u8, out: &mut [u8]) -> Wrote
     ensures { λ r. ⌜ Puts (keyAt (tableOf table) row) (now (out .entry)) (now (out .exit)) r ⌝ }
 {
-    if table == 0 {
+    if table == TABLE_TOP {
         return top_key(row, out);
     }
-    if table == 1 {
+    if table == TABLE_FILE {
         return file_key(row, out);
     }
-    if table == 2 {
+    if table == TABLE_RANGE {
         return range_key(row, out);
     }
-    if table == 3 {
+    if table == TABLE_BASE {
         return base_key(row, out);
     }
-    if table == 4 {
+    if table == TABLE_ELEC {
         return elec_key(row, out);
     }
-    if table == 5 {
+    if table == TABLE_SYM {
         return sym_key(row, out);
     }
-    if table == 6 {
+    if table == TABLE_LATER {
         return later_key(row, out);
     }
-    if table == 7 {
+    if table == TABLE_DRAWING {
         return drawing_key(row, out);
     }
-    if table == 8 {
+    if table == TABLE_DEFINES {
         return defines_key(row, out);
     }
-    if table == 9 {
+    if table == TABLE_SYMBOL {
         return symbol_key(row, out);
     }
-    if table == 10 {
+    if table == TABLE_ELEMENT {
         return element_key(row, out);
     }
-    if table == 11 {
+    if table == TABLE_LAYER {
         return figure_key(row, out);
     }
-    if table == 12 {
+    if table == TABLE_SINGLE_LAYER {
         return figure_key(row, out);
     }
-    if table == 13 {
+    if table == TABLE_FIGURES {
         if row == 6 {
             return Wrote::Bytes(0);
         }
         return figure_key(row, out);
     }
-    if table == 14 {
+    if table == TABLE_LAYER_POINTS {
         return point_key(row, out);
     }
-    if table == 15 {
+    if table == TABLE_SYMBOL_POINTS {
         return point_key(row, out);
     }
-    if table == 16 {
+    if table == TABLE_LAYER_TEXT {
         return lettering_key(row, out);
     }
-    if table == 17 {
+    if table == TABLE_SYMBOL_TEXT {
         return lettering_key(row, out);
     }
-    if table == 18 {
+    if table == TABLE_PLACED {
         return placed_key(row, out);
     }
-    if table == 19 {
+    if table == TABLE_PLACED_TEXT {
         return lettering_key(row, out);
     }
     Wrote::Bytes(0)

@@ -30,7 +30,8 @@ lookFrom volume line at end t = foundAt (lineFormOf volume line at (upTo 13 t)) 
 
 -- the line that starts at a place of a volume, which runs to end; places that are none of the spool are those of no line
 unfoldable pub lookIn : ℕ → ℕ → ℕ → ℕ → List ℕ → Look
-lookIn volume line at end s = cond (leb (length s) mostBytes && (leb end (length s) && leb at end)) (lookFrom volume line at end (take (end - at) (drop at s))) End
+lookIn volume line at end s =
+    cond (leb (length s) mostBytes && (leb end (length s) && leb at end)) (lookFrom volume line at end (take (end - at) (drop at s))) End
 
 -- the lines of the spool from one place to another, whatever their length
 abbrev pub linesIn : List ℕ → ℕ → ℕ → Option (List (List ℕ))

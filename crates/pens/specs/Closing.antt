@@ -18,6 +18,9 @@ use Rattle.pens.specs.declared.Drawn.the-variants as D
 use Rattle.pens.specs.Texts.{ended, lineBytes, Draws, Inserts}
 use Rattle.pens.specs.Moves.{moved}
 use Rattle.pens.specs.Noting.{Noted, NotedRows, tablesOf, NotedParts, showDepth}
+use Rattle.tables.specs.Numbering.{tableFile, tableLater, tableLayerText, tableSymbolText, tablePlaced}
+use Rattle.account.specs.Numbering.{blockTop, blockFile, blockDrawing, blockLayerNames, blockDefines, blockSymbol, blockHide, blockElements, blockFigures}
+use Rattle.account.specs.Numbering.{blockChain, blockText, blockPlaced}
 
 abbrev pub shutBytes : List ℕ
 shutBytes = ended (bytes "}")
@@ -45,7 +48,7 @@ drawingRows k s = lineBytes (showSlots k (take 7 drawingTable) s noInner [])
 abbrev pub ShutsDrawing : List ℕ → Pen → List ℕ → List ℕ → List ℕ → Drawn → Type 0
 ShutsDrawing spool p ns before after d =
     (k : Known) (s : Slots) → NotedRows spool k (take 7 drawingTable) 0 ns s
-    → Inserts (drawingRows k s) shutBytes (p .start) (p .at) (moved p (length (drawingRows k s) + 3) 0 0) before after d
+    → Inserts (drawingRows k s) shutBytes (p .start) (p .at) (moved p (length (drawingRows k s) + 3) blockTop 0) before after d
 
 -- a symbol: its name comes before its `element` and `hide`, `wall` behind them
 abbrev pub rowBytes : Known → Rule → Option Value → List ℕ
@@ -56,31 +59,33 @@ abbrev pub ShutsSymbol : List ℕ → Pen → List ℕ → List ℕ → List ℕ
 ShutsSymbol spool p ns before after d =
     (k : Known) (a b : Option Value) → Noted spool k (ruleAt symbolTable 0) (getD ns 0 0) a → Noted spool k (ruleAt symbolTable 3) (getD ns 3 0) b
     → Inserts (rowBytes k (ruleAt symbolTable 0) a) (rowBytes k (ruleAt symbolTable 3) b ++ shutBytes) (p .start) (p .at)
-    (moved p (length (rowBytes k (ruleAt symbolTable 0) a) + (length (rowBytes k (ruleAt symbolTable 3) b) + 3)) 4 0) before after d
+    (moved p (length (rowBytes k (ruleAt symbolTable 0) a) + (length (rowBytes k (ruleAt symbolTable 3) b) + 3)) blockDefines 0) before after d
 
 -- the block around one whose `}` is all that is written
 abbrev pub aroundBlock : Pen → ℕ
-aroundBlock p = cond (eqb (p .block) 8) (cond (p .layered) 7 5) (cond (eqb (p .block) 9) 8 (cond (eqb (p .block) 3) 2 (cond (eqb (p .block) 6) 5 0)))
+aroundBlock p =
+    cond (eqb (p .block) blockFigures) (cond (p .layered) blockElements blockSymbol)
+    (cond (eqb (p .block) blockChain) blockFigures (cond (eqb (p .block) blockLayerNames) blockDrawing (cond (eqb (p .block) blockHide) blockSymbol blockTop)))
 
 -- an inner part of FILE_FORMAT or of a placed symbol is open
 abbrev pub inPart : Pen → Bool
-inPart p = not (eqb (p .part) 0) && (eqb (p .block) 1 || eqb (p .block) 11)
+inPart p = not (eqb (p .part) 0) && (eqb (p .block) blockFile || eqb (p .block) blockPlaced)
 
 abbrev pub partClosed : Pen → Pen
-partClosed p = cond (eqb (p .block) 1) (moved p 0 1 (around (p .part))) (moved p 0 11 0)
+partClosed p = cond (eqb (p .block) blockFile) (moved p 0 blockFile (around (p .part))) (moved p 0 blockPlaced 0)
 
 -- by the block that is open
 pub record CloseDone (spool : List ℕ) (first : Bool) (p : Pen) (ns before after : List ℕ) (d : Drawn) : Type 0 where
-  pub figures : p .block ≡ 8 → Shuts p (cond (p .layered) 7 5) before after d
-  pub chain : p .block ≡ 9 → Shuts p 8 before after d
-  pub text : p .block ≡ 10 → ShutsRows spool (cond (p .layered) 16 17) p 8 ns before after d
-  pub placed : p .block ≡ 11 → p .part ≡ 0 → ShutsRows spool 18 p 8 ns before after d
-  pub placed-text : p .block ≡ 11 → (i : ℕ) → p .part ≡ suc i → ShutsPart p 11 0 before after d
-  pub file : p .block ≡ 1 → p .part ≡ 0 → ShutsRows spool (cond first 1 6) p 0 ns before after d
-  pub file-part : p .block ≡ 1 → (i : ℕ) → p .part ≡ suc i → ShutsPart p 1 (around (suc i)) before after d
-  pub drawing : p .block ≡ 2 → ShutsDrawing spool p ns before after d
-  pub names : p .block ≡ 3 → Shuts p 2 before after d
-  pub defines : p .block ≡ 4 → Shuts p 0 before after d
-  pub symbol : p .block ≡ 5 → ShutsSymbol spool p ns before after d
-  pub hide : p .block ≡ 6 → Shuts p 5 before after d
-  pub elements : p .block ≡ 7 → Shuts p 0 before after d
+  pub figures : p .block ≡ blockFigures → Shuts p (cond (p .layered) blockElements blockSymbol) before after d
+  pub chain : p .block ≡ blockChain → Shuts p blockFigures before after d
+  pub text : p .block ≡ blockText → ShutsRows spool (cond (p .layered) tableLayerText tableSymbolText) p blockFigures ns before after d
+  pub placed : p .block ≡ blockPlaced → p .part ≡ 0 → ShutsRows spool tablePlaced p blockFigures ns before after d
+  pub placed-text : p .block ≡ blockPlaced → (i : ℕ) → p .part ≡ suc i → ShutsPart p blockPlaced 0 before after d
+  pub file : p .block ≡ blockFile → p .part ≡ 0 → ShutsRows spool (cond first tableFile tableLater) p blockTop ns before after d
+  pub file-part : p .block ≡ blockFile → (i : ℕ) → p .part ≡ suc i → ShutsPart p blockFile (around (suc i)) before after d
+  pub drawing : p .block ≡ blockDrawing → ShutsDrawing spool p ns before after d
+  pub names : p .block ≡ blockLayerNames → Shuts p blockDrawing before after d
+  pub defines : p .block ≡ blockDefines → Shuts p blockTop before after d
+  pub symbol : p .block ≡ blockSymbol → ShutsSymbol spool p ns before after d
+  pub hide : p .block ≡ blockHide → Shuts p blockSymbol before after d
+  pub elements : p .block ≡ blockElements → Shuts p blockTop before after d

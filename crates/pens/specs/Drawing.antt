@@ -37,5 +37,6 @@ LineOut K spool first st ns out D.Full = length out < length (lineBytes (shown K
 -- at class 15 and with no limit of records, as the rewriter reads
 abbrev pub DrawPromise : List ℕ → Bool → LineForm → Pen → List ℕ → List ℕ → List ℕ → List ℕ → Drawn → Type 0
 DrawPromise spool first form p ns₀ ns₁ before after d =
-    (K : Known) (e : Env) (l : Line) (st st′ : State) → e .class ≡ fullClass → e .limit ≡ none → l .form ≡ formIn spool form → PlacedCode form → FormFits (l .form)
+    (K : Known) (e : Env) (l : Line) (st st′ : State) → e .class ≡ fullClass → e .limit ≡ none → l .form ≡ formIn spool form → PlacedCode form
+    → FormFits (l .form)
     → Pens K spool first p ns₀ before st → stepIn e l st ≡ got st′ → LineOut K spool first st′ ns₁ after d

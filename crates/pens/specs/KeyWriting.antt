@@ -18,6 +18,8 @@ use Rattle.pens.specs.declared.Drawn.{Drawn}
 use Rattle.pens.specs.Texts.{ended, Draws, SafeAfter}
 use Rattle.pens.specs.Writing.{IsRow}
 use Rattle.pens.specs.Keys.{KeyDone, KeyLine, NamedLine}
+use Rattle.tables.specs.Numbering.{tableTop, tableDrawing, tableDefines, tableSymbol}
+use Rattle.account.specs.Numbering.{blockTop, blockDrawing, blockLayerNames, blockDefines, blockSymbol}
 
 -- in any case: the pen within the output, which is as long as before
 pub record Kept (before after : List ℕ) (d : Drawn) : Type 0 where
@@ -39,9 +41,10 @@ RowDone table row spool rest p ns₀ ns₁ before after d =
 -- the table of a block that has one alone, of others what it is
 abbrev pub plainTableOf : Pen → ℕ → ℕ
 plainTableOf p t =
-    cond (eqb (p .block) 0) 0 (cond (eqb (p .block) 2) 7 (cond (eqb (p .block) 4) 8 (cond (eqb (p .block) 5) 9 t)))
+    cond (eqb (p .block) blockTop) tableTop
+    (cond (eqb (p .block) blockDrawing) tableDrawing (cond (eqb (p .block) blockDefines) tableDefines (cond (eqb (p .block) blockSymbol) tableSymbol t)))
 
 -- in `layer_name` a name, elsewhere a row
 pub record KeyOrName (spool : List ℕ) (first : Bool) (key : Span) (rest : Rest) (p : Pen) (ns₀ ns₁ before after : List ℕ) (d : Drawn) : Type 0 where
-  pub name : p .block ≡ 3 → NamedLine spool key rest p before after d × (ns₁ ≡ ns₀)
-  pub row : (p .block ≡ 3 → ⊥) → KeyLine spool first key rest p ns₀ ns₁ before after d
+  pub name : p .block ≡ blockLayerNames → NamedLine spool key rest p before after d × (ns₁ ≡ ns₀)
+  pub row : (p .block ≡ blockLayerNames → ⊥) → KeyLine spool first key rest p ns₀ ns₁ before after d

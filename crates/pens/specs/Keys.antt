@@ -24,6 +24,7 @@ use Rattle.pens.specs.declared.Drawn.{Drawn}
 use Rattle.pens.specs.Texts.{ended, Draws}
 use Rattle.pens.specs.Moves.{moved, atOnce, keyPen, tableFor}
 use Rattle.pens.specs.Noting.{noteOf, keyNotes}
+use Rattle.account.specs.Numbering.{blockTop, blockLayerNames}
 
 abbrev pub isBrace : Rest → Bool
 isBrace R.Brace = true
@@ -35,13 +36,16 @@ keyText p j l = cond (atOnce (p .block) j) (ended l) []
 
 -- t: the number of the block's table
 pub record KeyDone (t : ℕ) (p : Pen) (rest : Rest) (k : Known) (j : ℕ) (r : Rule) (v : Value) (ns₀ ns₁ before after : List ℕ) (d : Drawn) : Type 0 where
-  pub draws : Draws (keyText p j (lineOf k r v)) (p .at) (keyPen p j (r .holds) (opensBlock (r .holds) v) (innerOf (r .holds)) (length (keyText p j (lineOf k r v)))) before after d
+  pub draws :
+      Draws (keyText p j (lineOf k r v)) (p .at)
+      (keyPen p j (r .holds) (opensBlock (r .holds) v) (innerOf (r .holds)) (length (keyText p j (lineOf k r v)))) before after d
   pub notes : ns₁ ≡ keyNotes p t j (r .holds) (innerOf (r .holds)) (noteOf rest) ns₀
 
 -- for any row of the table that has the key, and any value that the line reads as; in any block but `layer_name`
 abbrev pub KeyLine : List ℕ → Bool → Span → Rest → Pen → List ℕ → List ℕ → List ℕ → List ℕ → Drawn → Type 0
 KeyLine spool first key rest p ns₀ ns₁ before after d =
-    (k : Known) (j : ℕ) (r : Rule) (v : Value) → find (bytesAt spool key) (tableOf (tableFor first p (isBrace rest))) ≡ found j r → Reads k r (restIn spool rest) v
+    (k : Known) (j : ℕ) (r : Rule) (v : Value) → find (bytesAt spool key) (tableOf (tableFor first p (isBrace rest))) ≡ found j r
+    → Reads k r (restIn spool rest) v
     → KeyDone (tableFor first p (isBrace rest)) p rest k j r v ns₀ ns₁ before after d
 
 -- in `layer_name`: the id and the name
@@ -51,11 +55,11 @@ namedText id v = ended (id ++ 61 ∷ charsOf v)
 abbrev pub NamedLine : List ℕ → Span → Rest → Pen → List ℕ → List ℕ → Drawn → Type 0
 NamedLine spool key rest p before after d =
     (v : Value) → layerValue (bytesAt spool key) (freeShapeOf (restIn spool rest)) ≡ got v
-    → Draws (namedText (bytesAt spool key) v) (p .at) (moved p (length (namedText (bytesAt spool key) v)) 3 0) before after d
+    → Draws (namedText (bytesAt spool key) v) (p .at) (moved p (length (namedText (bytesAt spool key) v)) blockLayerNames 0) before after d
 
 -- "The last line of the last volume is `EOF`"
 abbrev pub EofLine : Pen → List ℕ → List ℕ → Drawn → Type 0
-EofLine p before after d = Draws (ended (bytes "EOF")) (p .at) (moved p 5 0 0) before after d
+EofLine p before after d = Draws (ended (bytes "EOF")) (p .at) (moved p 5 blockTop 0) before after d
 
 -- the places of a line are those of a spool
 abbrev pub PlacedRest : Rest → Type 0

@@ -4,6 +4,11 @@ use mathlib.Core.Bool.{Bool, true, false, cond, _||_, not}
 use lib.Dec.{eqb}
 use Rattle.rules.specs.Values.{Kind, values, text, word, volumeName, sheet, ratio, serials, nothing, opens, headed, either}
 use Rattle.pens.specs.declared.Pen.{Pen}
+use Rattle.tables.specs.Numbering.{tableTop, tableFile, tableRange, tableBase, tableElec, tableSym, tableLater, tableDrawing, tableDefines, tableSymbol}
+use Rattle.tables.specs.Numbering.{tableElement, tableLayer, tableSingleLayer, tableFigures, tableLayerPoints, tableSymbolPoints, tableLayerText}
+use Rattle.tables.specs.Numbering.{tableSymbolText, tablePlaced, tablePlacedText}
+use Rattle.account.specs.Numbering.{blockTop, blockFile, blockDrawing, blockLayerNames, blockDefines, blockSymbol, blockHide, blockElements, blockFigures}
+use Rattle.account.specs.Numbering.{blockChain, blockText, blockPlaced}
 
 -- n more bytes, and another block is open
 abbrev pub moved : Pen → ℕ → ℕ → ℕ → Pen
@@ -14,7 +19,7 @@ abbrev pub begun : Pen → ℕ → ℕ → Pen
 begun p n block = record { block = block; part = 0; layered = p .layered; start = p .at + n; at = p .at + n }
 
 abbrev pub amongFigures : Pen → ℕ → Bool → Pen
-amongFigures p n layered = record { block = 8; part = 0; layered = layered; start = p .start; at = p .at + n }
+amongFigures p n layered = record { block = blockFigures; part = 0; layered = layered; start = p .start; at = p .at + n }
 
 -- does a row hold an opener alone?
 abbrev pub isOpener : Kind → Bool
@@ -42,67 +47,70 @@ isPart j = eqb j 1 || eqb j 2
 -- by the block that is open and the row's number
 abbrev pub atOnce : ℕ → ℕ → Bool
 atOnce b j =
-    cond (eqb b 2) (isNames j)
-    (cond (eqb b 5) (isPart j)
-    (not (eqb b 1 || (eqb b 10 || eqb b 11))))
+    cond (eqb b blockDrawing) (isNames j)
+    (cond (eqb b blockSymbol) (isPart j)
+    (not (eqb b blockFile || (eqb b blockText || eqb b blockPlaced))))
 
 -- ── the block that is open behind a line with a key ──
 abbrev pub topPen : Pen → ℕ → ℕ → Pen
-topPen p j n = cond (eqb j 0) (moved p n 1 0) (cond (eqb j 1) (begun p n 2) (cond (eqb j 2) (moved p n 4 0) (moved p n 7 0)))
+topPen p j n =
+    cond (eqb j 0) (moved p n blockFile 0) (cond (eqb j 1) (begun p n blockDrawing) (cond (eqb j 2) (moved p n blockDefines 0) (moved p n blockElements 0)))
 
 abbrev pub filePen : Pen → Bool → ℕ → Pen
-filePen p opened inner = cond opened (moved p 0 1 inner) p
+filePen p opened inner = cond opened (moved p 0 blockFile inner) p
 
 abbrev pub drawingPen : Pen → ℕ → ℕ → Pen
-drawingPen p j n = cond (isNames j) (moved p n 3 0) p
+drawingPen p j n = cond (isNames j) (moved p n blockLayerNames 0) p
 
 abbrev pub definesPen : Pen → ℕ → ℕ → Pen
-definesPen p j n = cond (eqb j 0) (moved p n 4 0) (begun p n 5)
+definesPen p j n = cond (eqb j 0) (moved p n blockDefines 0) (begun p n blockSymbol)
 
 abbrev pub symbolPen : Pen → ℕ → ℕ → Pen
-symbolPen p j n = cond (eqb j 1) (amongFigures p n false) (cond (eqb j 2) (moved p n 6 0) p)
+symbolPen p j n = cond (eqb j 1) (amongFigures p n false) (cond (eqb j 2) (moved p n blockHide 0) p)
 
--- a figure that is a block: 9 `successive`, 10 text, 11 a placed symbol
+-- a figure that is a block, by its number in the table: `successive`, text, a placed symbol
 abbrev pub figureBlock : Kind → ℕ → ℕ
-figureBlock d inner = cond (isOpener d) (cond (eqb inner 1) 9 (cond (eqb inner 2) 10 11)) 8
+figureBlock d inner = cond (isOpener d) (cond (eqb inner 1) blockChain (cond (eqb inner 2) blockText blockPlaced)) blockFigures
 
 abbrev pub placedPen : Pen → Kind → Pen
-placedPen p d = cond (isOpener d) (moved p 0 11 1) p
+placedPen p d = cond (isOpener d) (moved p 0 blockPlaced 1) p
 
 -- d: what the row holds; opened: whether the line opens the inner block of that number; n: how many bytes were written
 abbrev pub keyPen : Pen → ℕ → Kind → Bool → ℕ → ℕ → Pen
 keyPen p j d opened inner n =
-    cond (eqb (p .block) 8) (moved p n (figureBlock d inner) 0)
-    (cond (eqb (p .block) 9) (moved p n 9 0)
-    (cond (eqb (p .block) 10) p
-    (cond (eqb (p .block) 11) (placedPen p d)
-    (cond (eqb (p .block) 0) (topPen p j n)
-    (cond (eqb (p .block) 1) (filePen p opened inner)
-    (cond (eqb (p .block) 2) (drawingPen p j n)
-    (cond (eqb (p .block) 4) (definesPen p j n)
-    (cond (eqb (p .block) 5) (symbolPen p j n)
-    (cond (eqb (p .block) 6) (moved p n 6 0)
+    cond (eqb (p .block) blockFigures) (moved p n (figureBlock d inner) 0)
+    (cond (eqb (p .block) blockChain) (moved p n blockChain 0)
+    (cond (eqb (p .block) blockText) p
+    (cond (eqb (p .block) blockPlaced) (placedPen p d)
+    (cond (eqb (p .block) blockTop) (topPen p j n)
+    (cond (eqb (p .block) blockFile) (filePen p opened inner)
+    (cond (eqb (p .block) blockDrawing) (drawingPen p j n)
+    (cond (eqb (p .block) blockDefines) (definesPen p j n)
+    (cond (eqb (p .block) blockSymbol) (symbolPen p j n)
+    (cond (eqb (p .block) blockHide) (moved p n blockHide 0)
     (amongFigures p n true))))))))))
 
 -- ── tables ──
 -- of FILE_FORMAT's part
 abbrev pub fileTableOf : Bool → ℕ → ℕ
-fileTableOf first part = cond first (cond (eqb part 0) 1 (cond (eqb part 1) 2 (cond (eqb part 2) 3 (cond (eqb part 3) 4 5)))) 6
+fileTableOf first part =
+    cond first
+    (cond (eqb part 0) tableFile (cond (eqb part 1) tableRange (cond (eqb part 2) tableBase (cond (eqb part 3) tableElec tableSym)))) tableLater
 
 -- of the figures in a layer: a placed symbol is a block there, or one line
 abbrev pub figureTableOf : Bool → Bool → ℕ
-figureTableOf layered brace = cond layered (cond brace 11 12) 13
+figureTableOf layered brace = cond layered (cond brace tableLayer tableSingleLayer) tableFigures
 
 -- of the block that is open; brace: the line has `:{` behind its key
 abbrev pub tableFor : Bool → Pen → Bool → ℕ
 tableFor first p brace =
-    cond (eqb (p .block) 8) (figureTableOf (p .layered) brace)
-    (cond (eqb (p .block) 9) (cond (p .layered) 14 15)
-    (cond (eqb (p .block) 10) (cond (p .layered) 16 17)
-    (cond (eqb (p .block) 11) (cond (eqb (p .part) 0) 18 19)
-    (cond (eqb (p .block) 0) 0
-    (cond (eqb (p .block) 1) (fileTableOf first (p .part))
-    (cond (eqb (p .block) 2) 7
-    (cond (eqb (p .block) 4) 8
-    (cond (eqb (p .block) 5) 9
-    (cond (eqb (p .block) 6) 15 10)))))))))
+    cond (eqb (p .block) blockFigures) (figureTableOf (p .layered) brace)
+    (cond (eqb (p .block) blockChain) (cond (p .layered) tableLayerPoints tableSymbolPoints)
+    (cond (eqb (p .block) blockText) (cond (p .layered) tableLayerText tableSymbolText)
+    (cond (eqb (p .block) blockPlaced) (cond (eqb (p .part) 0) tablePlaced tablePlacedText)
+    (cond (eqb (p .block) blockTop) tableTop
+    (cond (eqb (p .block) blockFile) (fileTableOf first (p .part))
+    (cond (eqb (p .block) blockDrawing) tableDrawing
+    (cond (eqb (p .block) blockDefines) tableDefines
+    (cond (eqb (p .block) blockSymbol) tableSymbol
+    (cond (eqb (p .block) blockHide) tableSymbolPoints tableElement)))))))))

@@ -18,6 +18,9 @@ use Rattle.entries.specs.declared.Rest.the-variants as R
 use Rattle.prints.specs.Reading.{Reads}
 use Rattle.pens.specs.declared.Pen.{Pen}
 use Rattle.pens.specs.Moves.{isOpener, atOnce, figureBlock}
+use Rattle.tables.specs.Numbering.{tableFile, tableRange, tableBase, tableElec, tableSym, tableLater, tableDrawing, tableLayerText, tableSymbolText}
+use Rattle.tables.specs.Numbering.{tablePlaced, tablePlacedText}
+use Rattle.account.specs.Numbering.{blockTop, blockDefines, blockFigures, blockText, blockPlaced}
 
 -- ── a note: what follows a line's key, in one number that is never 0 ──
 abbrev pub noteOf : CodeRest → ℕ
@@ -30,25 +33,25 @@ restOf spool d n = cond (isOpener d) brace (equals (n % 65536) (bytesAt spool (s
 -- ── where the notes of a table's rows stand ──
 abbrev pub notesFrom : ℕ → ℕ
 notesFrom t =
-    cond (eqb t 2) 16
-    (cond (eqb t 3) 22
-    (cond (eqb t 4) 23
-    (cond (eqb t 5) 26
-    (cond (eqb t 16) 4
-    (cond (eqb t 17) 4
-    (cond (eqb t 19) 6 0))))))
+    cond (eqb t tableRange) 16
+    (cond (eqb t tableBase) 22
+    (cond (eqb t tableElec) 23
+    (cond (eqb t tableSym) 26
+    (cond (eqb t tableLayerText) 4
+    (cond (eqb t tableSymbolText) 4
+    (cond (eqb t tablePlacedText) 6 0))))))
 
 -- how many rows are noted
 abbrev pub rowsIn : ℕ → ℕ
 rowsIn t =
-    cond (eqb t 1) 16
-    (cond (eqb t 2) 6
-    (cond (eqb t 3) 1
-    (cond (eqb t 4) 3
-    (cond (eqb t 5) 2
-    (cond (eqb t 6) 5
-    (cond (eqb t 7) 7
-    (cond (eqb t 18) 6 2)))))))
+    cond (eqb t tableFile) 16
+    (cond (eqb t tableRange) 6
+    (cond (eqb t tableBase) 1
+    (cond (eqb t tableElec) 3
+    (cond (eqb t tableSym) 2
+    (cond (eqb t tableLater) 5
+    (cond (eqb t tableDrawing) 7
+    (cond (eqb t tablePlaced) 6 2)))))))
 
 -- ── the notes behind a line with a key ──
 abbrev pub forgotten : List ℕ → List ℕ
@@ -58,14 +61,14 @@ abbrev pub textForgotten : List ℕ → List ℕ
 textForgotten ns = set (set ns 4 0) 5 0
 
 abbrev pub figureNotes : ℕ → List ℕ → List ℕ
-figureNotes block ns = cond (eqb block 10) (textForgotten ns) (cond (eqb block 11) (forgotten ns) ns)
+figureNotes block ns = cond (eqb block blockText) (textForgotten ns) (cond (eqb block blockPlaced) (forgotten ns) ns)
 
 -- t: the number of the block's table; j: the row's number in it, d: what it holds
 abbrev pub keyNotes : Pen → ℕ → ℕ → Kind → ℕ → ℕ → List ℕ → List ℕ
 keyNotes p t j d inner n ns =
-    cond (eqb (p .block) 8) (figureNotes (figureBlock d inner) ns)
-    (cond (eqb (p .block) 0) (forgotten ns)
-    (cond (eqb (p .block) 4) (cond (eqb j 0) ns (forgotten ns))
+    cond (eqb (p .block) blockFigures) (figureNotes (figureBlock d inner) ns)
+    (cond (eqb (p .block) blockTop) (forgotten ns)
+    (cond (eqb (p .block) blockDefines) (cond (eqb j 0) ns (forgotten ns))
     (cond (atOnce (p .block) j) ns (set ns (notesFrom t + j) n))))
 
 -- ── what notes stand for ──
@@ -85,15 +88,17 @@ module _ (spool : List ℕ) (k : Known) where
 -- a text's, a placed symbol's
 abbrev pub tablesOf : ℕ → List (List Rule)
 tablesOf b =
-    cond (eqb b 1) (fileTables true)
-    (cond (eqb b 6) (fileTables false)
-    (cond (eqb b 7) (take 7 drawingTable ∷ [])
-    (cond (eqb b 16) (textTable true 4 12 ∷ [])
-    (cond (eqb b 17) (textTable false 4 12 ∷ []) placedTables))))
+    cond (eqb b tableFile) (fileTables true)
+    (cond (eqb b tableLater) (fileTables false)
+    (cond (eqb b tableDrawing) (take 7 drawingTable ∷ [])
+    (cond (eqb b tableLayerText) (textTable true 4 12 ∷ [])
+    (cond (eqb b tableSymbolText) (textTable false 4 12 ∷ []) placedTables))))
 
 -- the number of a part's table
 abbrev pub partTable : ℕ → ℕ → ℕ
-partTable b p = cond (eqb p 0) b (cond (eqb b 1) (cond (eqb p 1) 2 (cond (eqb p 2) 3 (cond (eqb p 3) 4 5))) 19)
+partTable b p =
+    cond (eqb p 0) b
+    (cond (eqb b tableFile) (cond (eqb p 1) tableRange (cond (eqb p 2) tableBase (cond (eqb p 3) tableElec tableSym))) tablePlacedText)
 
 -- all parts' rows are noted
 pub record NotedParts (spool : List ℕ) (k : Known) (b : ℕ) (ns : List ℕ) (h : Held) : Type 0 where

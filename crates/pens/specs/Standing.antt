@@ -18,6 +18,9 @@ use Rattle.pens.specs.declared.Pen.{Pen}
 use Rattle.pens.specs.Texts.{lineBytes}
 use Rattle.pens.specs.Noting.{Noted, NotedRows, NotedParts}
 use Rattle.pens.specs.Shown.{drawingBegun, symbolBegun, homeKnown, shown}
+use Rattle.tables.specs.Numbering.{tableFile, tableLater, tablePlaced}
+use Rattle.account.specs.Numbering.{blockTop, blockFile, blockDrawing, blockLayerNames, blockDefines, blockSymbol, blockHide, blockElements, blockFigures}
+use Rattle.account.specs.Numbering.{blockChain, blockText, blockPlaced, mostRows}
 
 -- E_sym is one that is served, so at class 15 nothing is skipped
 abbrev pub Served : Set → Type 0
@@ -49,7 +52,7 @@ module _ (K : Known) (spool : List ℕ) (first : Bool) (p : Pen) (ns : List ℕ)
     pub bare : first ≡ true → s .symbols ≡ []
     pub later : first ≡ false → Served s
     pub open-part : i < length (fileTables first)
-    pub noted : NotedParts spool K (cond first 1 6) ns h
+    pub noted : NotedParts spool K (cond first tableFile tableLater) ns h
 
   -- DRAWING_FORMAT: its rows before `layer_name` are noted; before that is read there are no layers
   pub record InDrawing (s : Set) (d : Drawing) : Type 0 where
@@ -88,21 +91,21 @@ module _ (K : Known) (spool : List ℕ) (first : Bool) (p : Pen) (ns : List ℕ)
     pub home : InHome s (inLayer m)
     pub part : p .part ≡ i
     pub open-part : i < 2
-    pub noted : NotedParts spool (knownOf s) 18 ns o
+    pub noted : NotedParts spool (knownOf s) tablePlaced ns o
 
   abbrev pub Here : State → Type 0
-  Here (top s k) = (p .block ≡ 0) × TopHere s k
-  Here (file s n h i) = (p .block ≡ 1) × InFile s h i
-  Here (drawing s d) = (p .block ≡ 2) × InDrawing s d
-  Here (layerNames s d) = (p .block ≡ 3) × InDrawing s d × (isSome (getD (d .own) 7 none) ≡ true)
-  Here (defines s b) = (p .block ≡ 4) × Front first s × (b ≡ true → s .symbols ≡ [])
-  Here (symbol s y) = (p .block ≡ 5) × InSymbol s y
-  Here (hide s y ps) = (p .block ≡ 6) × InHide s y
-  Here (elements s) = (p .block ≡ 7) × Body first s
-  Here (figures s h fs) = (p .block ≡ 8) × InHome s h
-  Here (successive s h fs n ps) = (p .block ≡ 9) × InHome s h
-  Here (texts s h fs n o) = (p .block ≡ 10) × InHome s h × NotedRows spool (homeKnown K s h) (textTable (isLayer h) 4 12) 4 ns o
-  Here (placing s m fs n o i) = (p .block ≡ 11) × InPlaced s m o i
+  Here (top s k) = (p .block ≡ blockTop) × TopHere s k
+  Here (file s n h i) = (p .block ≡ blockFile) × InFile s h i
+  Here (drawing s d) = (p .block ≡ blockDrawing) × InDrawing s d
+  Here (layerNames s d) = (p .block ≡ blockLayerNames) × InDrawing s d × (isSome (getD (d .own) 7 none) ≡ true)
+  Here (defines s b) = (p .block ≡ blockDefines) × Front first s × (b ≡ true → s .symbols ≡ [])
+  Here (symbol s y) = (p .block ≡ blockSymbol) × InSymbol s y
+  Here (hide s y ps) = (p .block ≡ blockHide) × InHide s y
+  Here (elements s) = (p .block ≡ blockElements) × Body first s
+  Here (figures s h fs) = (p .block ≡ blockFigures) × InHome s h
+  Here (successive s h fs n ps) = (p .block ≡ blockChain) × InHome s h
+  Here (texts s h fs n o) = (p .block ≡ blockText) × InHome s h × NotedRows spool (homeKnown K s h) (textTable (isLayer h) 4 12) 4 ns o
+  Here (placing s m fs n o i) = (p .block ≡ blockPlaced) × InPlaced s m o i
   Here (skipping s m fs n o d) = ⊥
   Here (ended s) = Served s
 
@@ -111,5 +114,5 @@ pub record Pens (K : Known) (spool : List ℕ) (first : Bool) (p : Pen) (ns out 
   pub at : p .at ≡ length (lineBytes (shown K first st))
   pub fits : p .at ≤ length out
   pub text : take (p .at) out ≡ lineBytes (shown K first st)
-  pub many : length ns ≡ 28
+  pub many : length ns ≡ mostRows
   pub here : Here K spool first p ns st

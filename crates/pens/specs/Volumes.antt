@@ -75,7 +75,8 @@ pub record BodyOut (K : Known) (first : Bool) (st : State) (before after : List 
 
 abbrev pub BodyPromise : List ℕ → ℕ → ℕ → Bool → List ℕ → List ℕ → Wrote → Type 0
 BodyPromise spool start end first before after r =
-    (K : Known) (e : Env) (v : ℕ) (next : List ℕ) (ls : List (List ℕ)) (s : Set) (st : State) → e .class ≡ fullClass → e .limit ≡ none → LinesAt spool start end ls → Begins first s
+    (K : Known) (e : Env) (v : ℕ) (next : List ℕ) (ls : List (List ℕ)) (s : Set) (st : State) → e .class ≡ fullClass → e .limit ≡ none
+    → LinesAt spool start end ls → Begins first s
     → through e (top s 0) (numbered v next 1 start ls) ≡ got st → BodyOut K first st before after r
 
 -- ── behind its head ──
@@ -88,7 +89,8 @@ pub record VolumeOut (K : Known) (first : Bool) (name : List ℕ) (st : State) (
 
 abbrev pub VolumePromise : List ℕ → ℕ → ℕ → Bool → List ℕ → List ℕ → Wrote → Type 0
 VolumePromise spool start end first before after r =
-    (K : Known) (e : Env) (v : ℕ) (next : List ℕ) (ls : List (List ℕ)) (s : Set) (st : State) → e .class ≡ fullClass → e .limit ≡ none → LinesAt spool start end ls → Begins first s
+    (K : Known) (e : Env) (v : ℕ) (next : List ℕ) (ls : List (List ℕ)) (s : Set) (st : State) → e .class ≡ fullClass → e .limit ≡ none
+    → LinesAt spool start end ls → Begins first s
     → through e (top s 0) (numbered v next 1 start ls) ≡ got st → VolumeOut K first (nameAt spool start) st before after r
 
 -- ── the set ──

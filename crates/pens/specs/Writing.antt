@@ -26,6 +26,7 @@ use Rattle.prints.specs.Printing.{Prints}
 use Rattle.pens.specs.Texts.{lineBytes}
 use Rattle.pens.specs.Noting.{restOf, Noted, tablesOf, partTable, NotedParts, showDepth}
 use Rattle.pens.specs.Closing.{rowBytes, shutBytes}
+use Rattle.tables.specs.Numbering.{tableFile, tableLater, tableDrawing, tableLayerText, tableSymbolText, tablePlaced}
 
 -- the row q has this number in its table, and its key finds it
 pub record Named (table number : ℕ) (q : Rule) : Type 0 where
@@ -66,10 +67,14 @@ pub record Spared (text before after : List ℕ) : Type 0 where
   pub long : length after ≡ length before
   pub behind : length text ≤ length before → drop (length text) after ≡ drop (length text) before
 
--- the table of the inner part that a noted row opens: 20 where it opens none
+-- the number of no table: what opens no inner part has none
+abbrev pub noTable : ℕ
+noTable = 20
+
+-- the table of the inner part that a noted row opens
 abbrev pub innerTable : ℕ → Rule → Option Value → ℕ
-innerTable base q none = 20
-innerTable base q (some v) = cond (opensBlock (q .holds) v) (partTable base (innerOf (q .holds))) 20
+innerTable base q none = noTable
+innerTable base q (some v) = cond (opensBlock (q .holds) v) (partTable base (innerOf (q .holds))) noTable
 
 -- where there is room for the row's line
 abbrev pub TellsInner : List ℕ → ℕ → ℕ → ℕ → ℕ → List ℕ → List ℕ → ℕ → Type 0
@@ -84,7 +89,9 @@ rowsFrom k base h (suc d) p j = showSlots k (drop j (getD (tablesOf base) p []))
 
 -- the numbers of the tables whose parts are noted together
 abbrev pub notedBase : ℕ → Bool
-notedBase b = eqb b 1 || (eqb b 6 || (eqb b 7 || (eqb b 16 || (eqb b 17 || eqb b 18))))
+notedBase b =
+    eqb b tableFile
+    || (eqb b tableLater || (eqb b tableDrawing || (eqb b tableLayerText || (eqb b tableSymbolText || eqb b tablePlaced))))
 
 abbrev pub PrintsRows : List ℕ → ℕ → ℕ → ℕ → ℕ → List ℕ → List ℕ → List ℕ → Wrote → Type 0
 PrintsRows spool depth base table j ns before after r =
@@ -100,9 +107,9 @@ PrintsSlot spool depth base table j ns before after r =
     notedBase base ≡ true → (k : Known) (h : Held) (p : ℕ) → NotedParts spool k base ns h → p < length (tablesOf base) → table ≡ partTable base p
     → j < length (getD (tablesOf base) p []) → Prints (lineBytes (slotText k base h depth p j)) before after r
 
--- the inner part of a table and its `}`; nothing where the table is 20
+-- the inner part of a table and its `}`; nothing where there is no table
 abbrev pub PrintsPart : List ℕ → ℕ → ℕ → ℕ → List ℕ → List ℕ → List ℕ → Wrote → Type 0
 PrintsPart spool depth base inner ns before after r =
-    (inner ≡ 20 → Prints [] before after r)
+    (inner ≡ noTable → Prints [] before after r)
     × (notedBase base ≡ true → (k : Known) (h : Held) (p : ℕ) → NotedParts spool k base ns h → p < length (tablesOf base) → inner ≡ partTable base p
     → Prints (lineBytes (rowsFrom k base h depth p 0) ++ shutBytes) before after r)

@@ -21,6 +21,11 @@ use account::BLOCK_TEXT;
 use account::BLOCK_TOP;
 use leaves::Wrote;
 use prints::rows::put_plain;
+use tables::TABLE_DRAWING;
+use tables::TABLE_LAYER_TEXT;
+use tables::TABLE_PLACED;
+use tables::TABLE_SYMBOL;
+use tables::TABLE_SYMBOL_TEXT;
 ghost use mathlib.Core.Path.{_≡_};
 ghost use mathlib.Core.Bool.{true};
 ghost use Prim.Native.Nat.{_≤_};
@@ -30,6 +35,7 @@ ghost use Rattle.pens.specs.Texts.{Safe};
 ghost use Rattle.pens.specs.Closing.{Shuts, ShutsRows, ShutsDrawing, ShutsSymbol, aroundBlock, inPart, partClosed, CloseDone};
 ghost use Rattle.pens.specs.Writing.{notedBase};
 ghost use Rattle.pens.specs.KeyWriting.{Kept};
+ghost use Rattle.account.specs.Numbering.{mostRows};
 
 // The `}`, with which another block is open.
 fn shut(pen: Pen, block: u8, out: &mut [u8]) -> Drawn
@@ -73,7 +79,15 @@ fn close_drawing(s: &[u8], pen: Pen, notes: &[u32], out: &mut [u8]) -> Drawn
 {
     let from = pen.start;
     let middle = pen.at;
-    match put_rows(1, 7, 7, 0, s, notes, &mut out[middle..]) {
+    match put_rows(
+        1,
+        TABLE_DRAWING,
+        TABLE_DRAWING,
+        0,
+        s,
+        notes,
+        &mut out[middle..],
+    ) {
         Wrote::Full => Drawn::Full,
         Wrote::Bytes(n) => {
             let to = middle + n;
@@ -85,18 +99,18 @@ fn close_drawing(s: &[u8], pen: Pen, notes: &[u32], out: &mut [u8]) -> Drawn
 
 // A symbol's name comes before its `element` and `hide`, which are written already, and `wall` behind them.
 fn close_symbol(s: &[u8], pen: Pen, notes: &[u32], out: &mut [u8]) -> Drawn
-    requires { ⌜ Safe pen (now out) × (length (now notes) ≡ 28) ⌝ }
+    requires { ⌜ Safe pen (now out) × (length (now notes) ≡ mostRows) ⌝ }
     ensures { λ r. ⌜ Kept (now (out .entry)) (now (out .exit)) r × ShutsSymbol (now (s .entry)) pen (now (notes .entry)) (now (out .entry)) (now (out .exit)) r ⌝ }
 {
     let from = pen.start;
     let middle = pen.at;
-    let named = put_noted(9, 0, s, notes[0], &mut out[middle..]);
+    let named = put_noted(TABLE_SYMBOL, 0, s, notes[0], &mut out[middle..]);
     let Wrote::Bytes(n) = named else {
         return Drawn::Full;
     };
     let to = middle + n;
     exchange(&mut out[from..to], middle - from);
-    let walled = put_noted(9, 3, s, notes[3], &mut out[to..]);
+    let walled = put_noted(TABLE_SYMBOL, 3, s, notes[3], &mut out[to..]);
     let Wrote::Bytes(m) = walled else {
         return Drawn::Full;
     };
@@ -146,7 +160,7 @@ fn part_closed(pen: Pen) -> Pen
 }
 
 pub(crate) fn on_close(s: &[u8], first: bool, pen: Pen, notes: &[u32], out: &mut [u8]) -> Drawn
-    requires { ⌜ Safe pen (now out) × (length (now notes) ≡ 28) ⌝ }
+    requires { ⌜ Safe pen (now out) × (length (now notes) ≡ mostRows) ⌝ }
     ensures { λ r. ⌜ Kept (now (out .entry)) (now (out .exit)) r × CloseDone (now (s .entry)) first pen (now (notes .entry)) (now (out .entry)) (now (out .exit)) r ⌝ }
 {
     if in_part(pen) {
@@ -154,7 +168,7 @@ pub(crate) fn on_close(s: &[u8], first: bool, pen: Pen, notes: &[u32], out: &mut
     }
     if pen.block == BLOCK_TEXT {
         return close_rows(
-            by_home(pen.layered, 16, 17),
+            by_home(pen.layered, TABLE_LAYER_TEXT, TABLE_SYMBOL_TEXT),
             s,
             pen,
             BLOCK_FIGURES,
@@ -163,7 +177,7 @@ pub(crate) fn on_close(s: &[u8], first: bool, pen: Pen, notes: &[u32], out: &mut
         );
     }
     if pen.block == BLOCK_PLACED {
-        return close_rows(18, s, pen, BLOCK_FIGURES, notes, out);
+        return close_rows(TABLE_PLACED, s, pen, BLOCK_FIGURES, notes, out);
     }
     if pen.block == BLOCK_FILE {
         return close_rows(file_table(first, 0), s, pen, BLOCK_TOP, notes, out);

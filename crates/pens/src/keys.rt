@@ -28,7 +28,28 @@ use prints::rows::put_named;
 use prints::rows::put_row;
 use rules::Span;
 use tables::Found;
+use tables::HOLDS_BLOCK;
 use tables::Row;
+use tables::TABLE_BASE;
+use tables::TABLE_DEFINES;
+use tables::TABLE_DRAWING;
+use tables::TABLE_ELEC;
+use tables::TABLE_ELEMENT;
+use tables::TABLE_FIGURES;
+use tables::TABLE_FILE;
+use tables::TABLE_LATER;
+use tables::TABLE_LAYER;
+use tables::TABLE_LAYER_POINTS;
+use tables::TABLE_LAYER_TEXT;
+use tables::TABLE_PLACED;
+use tables::TABLE_PLACED_TEXT;
+use tables::TABLE_RANGE;
+use tables::TABLE_SINGLE_LAYER;
+use tables::TABLE_SYM;
+use tables::TABLE_SYMBOL;
+use tables::TABLE_SYMBOL_POINTS;
+use tables::TABLE_SYMBOL_TEXT;
+use tables::TABLE_TOP;
 use tables::lookup::row_of;
 ghost use mathlib.Core.Path.{_≡_};
 ghost use mathlib.Core.Bool.{cond};
@@ -42,6 +63,8 @@ ghost use Rattle.pens.specs.Moves.{moved, begun, amongFigures, figureBlo
 ghost use Rattle.pens.specs.Noting.{noteOf, notesFrom, figureNotes};
 ghost use Rattle.pens.specs.Keys.{isBrace, NamedLine};
 ghost use Rattle.pens.specs.KeyWriting.{Kept, DrawsRow, RowDone, KeyOrName, plainTableOf};
+ghost use Rattle.tables.specs.Numbering.{tablePlaced, tablePlacedText};
+ghost use Rattle.account.specs.Numbering.{blockTop, blockFile, blockDrawing, blockDefines, blockSymbol, blockFigures, blockPlaced, mostRows};
 
 fn is_brace(rest: Rest) -> bool
     ensures { λ r. ⌜ r ≡ isBrace rest ⌝ }
@@ -57,12 +80,12 @@ fn figure_table(layered: bool, rest: Rest) -> u8
     ensures { λ r. ⌜ r ≡ figureTableOf layered (isBrace rest) ⌝ }
 {
     if !layered {
-        return 13;
+        return TABLE_FIGURES;
     }
     if is_brace(rest) {
-        return 11;
+        return TABLE_LAYER;
     }
-    12
+    TABLE_SINGLE_LAYER
 }
 
 // The table of FILE_FORMAT's open part; the volumes behind the first have no inner parts.
@@ -70,30 +93,30 @@ pub(crate) fn file_table(first: bool, part: u8) -> u8
     ensures { λ r. ⌜ r ≡ fileTableOf first part ⌝ }
 {
     if !first {
-        return 6;
+        return TABLE_LATER;
     }
     if part == 0 {
-        return 1;
+        return TABLE_FILE;
     }
     if part == 1 {
-        return 2;
+        return TABLE_RANGE;
     }
     if part == 2 {
-        return 3;
+        return TABLE_BASE;
     }
     if part == 3 {
-        return 4;
+        return TABLE_ELEC;
     }
-    5
+    TABLE_SYM
 }
 
 fn placed_table(part: u8) -> u8
-    ensures { λ r. ⌜ r ≡ cond (eqb part 0) 18 19 ⌝ }
+    ensures { λ r. ⌜ r ≡ cond (eqb part 0) tablePlaced tablePlacedText ⌝ }
 {
     if part == 0 {
-        return 18;
+        return TABLE_PLACED;
     }
-    19
+    TABLE_PLACED_TEXT
 }
 
 // The table of the block that is open.
@@ -104,33 +127,33 @@ fn table_of(first: bool, pen: Pen, rest: Rest) -> u8
         return figure_table(pen.layered, rest);
     }
     if pen.block == BLOCK_CHAIN {
-        return by_home(pen.layered, 14, 15);
+        return by_home(pen.layered, TABLE_LAYER_POINTS, TABLE_SYMBOL_POINTS);
     }
     if pen.block == BLOCK_TEXT {
-        return by_home(pen.layered, 16, 17);
+        return by_home(pen.layered, TABLE_LAYER_TEXT, TABLE_SYMBOL_TEXT);
     }
     if pen.block == BLOCK_PLACED {
         return placed_table(pen.part);
     }
     if pen.block == BLOCK_TOP {
-        return 0;
+        return TABLE_TOP;
     }
     if pen.block == BLOCK_FILE {
         return file_table(first, pen.part);
     }
     if pen.block == BLOCK_DRAWING {
-        return 7;
+        return TABLE_DRAWING;
     }
     if pen.block == BLOCK_DEFINES {
-        return 8;
+        return TABLE_DEFINES;
     }
     if pen.block == BLOCK_SYMBOL {
-        return 9;
+        return TABLE_SYMBOL;
     }
     if pen.block == BLOCK_HIDE {
-        return 15;
+        return TABLE_SYMBOL_POINTS;
     }
-    10
+    TABLE_ELEMENT
 }
 
 // A line that is written at once, and the block that is open behind it.
@@ -204,7 +227,7 @@ fn note(table: u8, row: Row, rest: Rest, notes: &mut [u32])
 }
 
 fn key_top(row: Row, s: &[u8], rest: Rest, pen: Pen, notes: &mut [u32], out: &mut [u8]) -> Drawn
-    requires { ⌜ Safe pen (now out) × (pen .block ≡ 0) ⌝ }
+    requires { ⌜ Safe pen (now out) × (pen .block ≡ blockTop) ⌝ }
     ensures { λ r. ⌜ Kept (now (out .entry)) (now (out .exit)) r × (length (now (notes .exit)) ≡ length (now (notes .entry))) × RowDone 0 row (now (s .entry)) rest pen (now (notes .entry)) (now (notes .exit)) (now (out .entry)) (now (out .exit)) r ⌝ }
 {
     forget(notes);
@@ -229,7 +252,7 @@ fn key_file(
     notes: &mut [u32],
     out: &[u8],
 ) -> Drawn
-    requires { ⌜ Safe pen (now out) × (pen .block ≡ 1) ⌝ }
+    requires { ⌜ Safe pen (now out) × (pen .block ≡ blockFile) ⌝ }
     ensures { λ r. ⌜ Kept (now (out .entry)) (now (out .entry)) r × (length (now (notes .exit)) ≡ length (now (notes .entry))) × RowDone table row (now (s .entry)) rest pen (now (notes .entry)) (now (notes .exit)) (now (out .entry)) (now (out .entry)) r ⌝ }
 {
     note(table, row, rest, notes);
@@ -240,7 +263,7 @@ fn key_file(
 }
 
 fn key_drawing(row: Row, s: &[u8], rest: Rest, pen: Pen, notes: &mut [u32], out: &mut [u8]) -> Drawn
-    requires { ⌜ Safe pen (now out) × (pen .block ≡ 2) ⌝ }
+    requires { ⌜ Safe pen (now out) × (pen .block ≡ blockDrawing) ⌝ }
     ensures { λ r. ⌜ Kept (now (out .entry)) (now (out .exit)) r × (length (now (notes .exit)) ≡ length (now (notes .entry))) × RowDone 7 row (now (s .entry)) rest pen (now (notes .entry)) (now (notes .exit)) (now (out .entry)) (now (out .exit)) r ⌝ }
 {
     if row.number == 7 {
@@ -262,7 +285,7 @@ fn key_names(key: Span, s: &[u8], rest: Rest, pen: Pen, out: &mut [u8]) -> Drawn
 }
 
 fn key_defines(row: Row, s: &[u8], rest: Rest, pen: Pen, notes: &mut [u32], out: &mut [u8]) -> Drawn
-    requires { ⌜ Safe pen (now out) × (pen .block ≡ 4) ⌝ }
+    requires { ⌜ Safe pen (now out) × (pen .block ≡ blockDefines) ⌝ }
     ensures { λ r. ⌜ Kept (now (out .entry)) (now (out .exit)) r × (length (now (notes .exit)) ≡ length (now (notes .entry))) × RowDone 8 row (now (s .entry)) rest pen (now (notes .entry)) (now (notes .exit)) (now (out .entry)) (now (out .exit)) r ⌝ }
 {
     if row.number == 0 {
@@ -273,7 +296,7 @@ fn key_defines(row: Row, s: &[u8], rest: Rest, pen: Pen, notes: &mut [u32], out:
 }
 
 fn key_symbol(row: Row, s: &[u8], rest: Rest, pen: Pen, notes: &mut [u32], out: &mut [u8]) -> Drawn
-    requires { ⌜ Safe pen (now out) × (pen .block ≡ 5) ⌝ }
+    requires { ⌜ Safe pen (now out) × (pen .block ≡ blockSymbol) ⌝ }
     ensures { λ r. ⌜ Kept (now (out .entry)) (now (out .exit)) r × (length (now (notes .exit)) ≡ length (now (notes .entry))) × RowDone 9 row (now (s .entry)) rest pen (now (notes .entry)) (now (notes .exit)) (now (out .entry)) (now (out .exit)) r ⌝ }
 {
     if row.number == 1 {
@@ -290,7 +313,7 @@ fn key_symbol(row: Row, s: &[u8], rest: Rest, pen: Pen, notes: &mut [u32], out: 
 fn figure_block(row: Row) -> u8
     ensures { λ r. ⌜ r ≡ figureBlock (kindOf row) (innerOf (kindOf row)) ⌝ }
 {
-    if row.kind != 8 {
+    if row.kind != HOLDS_BLOCK {
         return BLOCK_FIGURES;
     }
     if row.inner == 1 {
@@ -304,7 +327,7 @@ fn figure_block(row: Row) -> u8
 
 // A text or a placed symbol has no notes yet.
 fn forget_for(block: u8, notes: &mut [u32])
-    requires { ⌜ length (now notes) ≡ 28 ⌝ }
+    requires { ⌜ length (now notes) ≡ mostRows ⌝ }
     ensures { λ _. ⌜ now (notes .exit) ≡ figureNotes block (now (notes .entry)) ⌝ }
 {
     if block == BLOCK_PLACED {
@@ -327,7 +350,7 @@ fn key_figures(
     notes: &mut [u32],
     out: &mut [u8],
 ) -> Drawn
-    requires { ⌜ Safe pen (now out) × (pen .block ≡ 8) × (length (now notes) ≡ 28) ⌝ }
+    requires { ⌜ Safe pen (now out) × (pen .block ≡ blockFigures) × (length (now notes) ≡ mostRows) ⌝ }
     ensures { λ r. ⌜ Kept (now (out .entry)) (now (out .exit)) r × (length (now (notes .exit)) ≡ length (now (notes .entry))) × RowDone table row (now (s .entry)) rest pen (now (notes .entry)) (now (notes .exit)) (now (out .entry)) (now (out .exit)) r ⌝ }
 {
     let block = figure_block(row);
@@ -344,11 +367,11 @@ fn key_placed(
     notes: &mut [u32],
     out: &[u8],
 ) -> Drawn
-    requires { ⌜ Safe pen (now out) × (pen .block ≡ 11) ⌝ }
+    requires { ⌜ Safe pen (now out) × (pen .block ≡ blockPlaced) ⌝ }
     ensures { λ r. ⌜ Kept (now (out .entry)) (now (out .entry)) r × (length (now (notes .exit)) ≡ length (now (notes .entry))) × RowDone table row (now (s .entry)) rest pen (now (notes .entry)) (now (notes .exit)) (now (out .entry)) (now (out .entry)) r ⌝ }
 {
     note(table, row, rest, notes);
-    if row.kind == 8 {
+    if row.kind == HOLDS_BLOCK {
         return Drawn::Go(at_block(pen, 0, BLOCK_PLACED, 1));
     }
     Drawn::Go(pen)
@@ -364,7 +387,7 @@ fn row_line(
     notes: &mut [u32],
     out: &mut [u8],
 ) -> Drawn
-    requires { ⌜ Safe pen (now out) × (length (now notes) ≡ 28) × (table ≡ plainTableOf pen table) ⌝ }
+    requires { ⌜ Safe pen (now out) × (length (now notes) ≡ mostRows) × (table ≡ plainTableOf pen table) ⌝ }
     ensures { λ r. ⌜ Kept (now (out .entry)) (now (out .exit)) r × (length (now (notes .exit)) ≡ length (now (notes .entry))) × RowDone table row (now (s .entry)) rest pen (now (notes .entry)) (now (notes .exit)) (now (out .entry)) (now (out .exit)) r ⌝ }
 {
     if pen.block == BLOCK_FIGURES {
@@ -410,8 +433,8 @@ pub(crate) fn on_key(
     notes: &mut [u32],
     out: &mut [u8],
 ) -> Drawn
-    requires { ⌜ Safe pen (now out) × (length (now notes) ≡ 28) ⌝ }
-    ensures { λ r. ⌜ Kept (now (out .entry)) (now (out .exit)) r × (length (now (notes .exit)) ≡ 28) × KeyOrName (now (s .entry)) first key rest pen (now (notes .entry)) (now (notes .exit)) (now (out .entry)) (now (out .exit)) r ⌝ }
+    requires { ⌜ Safe pen (now out) × (length (now notes) ≡ mostRows) ⌝ }
+    ensures { λ r. ⌜ Kept (now (out .entry)) (now (out .exit)) r × (length (now (notes .exit)) ≡ mostRows) × KeyOrName (now (s .entry)) first key rest pen (now (notes .entry)) (now (notes .exit)) (now (out .entry)) (now (out .exit)) r ⌝ }
 {
     if pen.block == BLOCK_LAYER_NAMES {
         return key_names(key, s, rest, pen, out);

@@ -1,5 +1,7 @@
 // Rows whose lines are noted where they stand, and written when their block closes, in the table's order.
 use entries::Rest;
+use entries::SORT_OPENER;
+use entries::SORT_OPENING;
 use entries::shapes::shape_for;
 use entries::shapes::sort_of;
 use keywords::put_key;
@@ -8,7 +10,20 @@ use prints::rows::put_plain;
 use prints::rows::put_row;
 use rules::Span;
 use tables::Found;
+use tables::HOLDS_BLOCK;
+use tables::HOLDS_TEXT;
 use tables::Row;
+use tables::TABLE_BASE;
+use tables::TABLE_DRAWING;
+use tables::TABLE_ELEC;
+use tables::TABLE_FILE;
+use tables::TABLE_LATER;
+use tables::TABLE_LAYER_TEXT;
+use tables::TABLE_PLACED;
+use tables::TABLE_PLACED_TEXT;
+use tables::TABLE_RANGE;
+use tables::TABLE_SYM;
+use tables::TABLE_SYMBOL_TEXT;
 use tables::lookup::row_of;
 ghost use mathlib.Core.Path.{_≡_};
 ghost use Prim.Native.Nat.{_≤_};
@@ -39,7 +54,7 @@ pub(crate) fn note_of(rest: Rest) -> u32
 fn rest_of(row: Row, note: u32) -> Rest
     ensures { λ r. ⌜ RestIs row note r ⌝ }
 {
-    if row.kind == 8 {
+    if row.kind == HOLDS_BLOCK {
         return Rest::Brace;
     }
     Rest::Equals(Span {
@@ -52,11 +67,11 @@ fn rest_of(row: Row, note: u32) -> Rest
 pub(crate) fn opens(s: &[u8], row: Row, rest: Rest) -> bool
     ensures { λ r. ⌜ Opens row (restIn (now (s .entry)) rest) r ⌝ }
 {
-    let sort = sort_of(shape_for(s, row.kind == 1, rest));
-    if sort == 0 {
+    let sort = sort_of(shape_for(s, row.kind == HOLDS_TEXT, rest));
+    if sort == SORT_OPENER {
         return true;
     }
-    sort == 3
+    sort == SORT_OPENING
 }
 
 // Where the notes of a table's rows begin: FILE_FORMAT's parts one behind the other, a placed symbol's text behind it; a figure's text
@@ -64,25 +79,25 @@ pub(crate) fn opens(s: &[u8], row: Row, rest: Rest) -> bool
 pub(crate) fn notes_from(table: u8) -> usize
     ensures { λ r. ⌜ r ≡ notesFrom table ⌝ }
 {
-    if table == 2 {
+    if table == TABLE_RANGE {
         return 16;
     }
-    if table == 3 {
+    if table == TABLE_BASE {
         return 22;
     }
-    if table == 4 {
+    if table == TABLE_ELEC {
         return 23;
     }
-    if table == 5 {
+    if table == TABLE_SYM {
         return 26;
     }
-    if table == 16 {
+    if table == TABLE_LAYER_TEXT {
         return 4;
     }
-    if table == 17 {
+    if table == TABLE_SYMBOL_TEXT {
         return 4;
     }
-    if table == 19 {
+    if table == TABLE_PLACED_TEXT {
         return 6;
     }
     0
@@ -92,28 +107,28 @@ pub(crate) fn notes_from(table: u8) -> usize
 fn rows_in(table: u8) -> u8
     ensures { λ r. ⌜ r ≡ rowsIn table ⌝ }
 {
-    if table == 1 {
+    if table == TABLE_FILE {
         return 16;
     }
-    if table == 2 {
+    if table == TABLE_RANGE {
         return 6;
     }
-    if table == 3 {
+    if table == TABLE_BASE {
         return 1;
     }
-    if table == 4 {
+    if table == TABLE_ELEC {
         return 3;
     }
-    if table == 5 {
+    if table == TABLE_SYM {
         return 2;
     }
-    if table == 6 {
+    if table == TABLE_LATER {
         return 5;
     }
-    if table == 7 {
+    if table == TABLE_DRAWING {
         return 7;
     }
-    if table == 18 {
+    if table == TABLE_PLACED {
         return 6;
     }
     2
@@ -126,19 +141,19 @@ fn part_table(base: u8, part: u8) -> u8
     if part == 0 {
         return base;
     }
-    if base != 1 {
-        return 19;
+    if base != TABLE_FILE {
+        return TABLE_PLACED_TEXT;
     }
     if part == 1 {
-        return 2;
+        return TABLE_RANGE;
     }
     if part == 2 {
-        return 3;
+        return TABLE_BASE;
     }
     if part == 3 {
-        return 4;
+        return TABLE_ELEC;
     }
-    5
+    TABLE_SYM
 }
 
 // The note at a place, 0 where there is none.
@@ -176,29 +191,32 @@ pub(crate) fn put_noted(table: u8, number: u8, s: &[u8], note: u32, out: &mut [u
     put_row(table, row, s, rest_of(row, note), out)
 }
 
-// The table of the inner part that a noted row opens; 20 where it opens none.
+// The number of no table: what opens no inner part has none.
+const NO_TABLE: u8 = 20;
+
+// The table of the inner part that a noted row opens.
 fn inner_table(base: u8, table: u8, number: u8, s: &[u8], note: u32, out: &mut [u8]) -> u8
     ensures { λ r. ⌜ TellsInner (now (s .entry)) base table number note (now (out .entry)) (now (out .exit)) r ⌝ }
 {
     if note == 0 {
-        return 20;
+        return NO_TABLE;
     }
     let found = row_at(table, number, out);
     let Found::Row(row) = found else {
-        return 20;
+        return NO_TABLE;
     };
     if opens(s, row, rest_of(row, note)) {
         return part_table(base, row.inner);
     }
-    20
+    NO_TABLE
 }
 
-// The inner part of a table and its `}`; nothing where the table is 20.
+// The inner part of a table and its `}`; nothing where there is no table.
 fn put_part(depth: u8, base: u8, inner: u8, s: &[u8], notes: &[u32], out: &mut [u8]) -> Wrote
     requires { ⌜ depth ≤ 3 ⌝ }
     ensures { λ r. ⌜ Within (now (out .entry)) (now (out .exit)) r × PrintsPart (now (s .entry)) depth base inner (now (notes .entry)) (now (out .entry)) (now (out .exit)) r ⌝ }
 {
-    if inner == 20 {
+    if inner == NO_TABLE {
         return Wrote::Bytes(0);
     }
     let rows = put_rows(depth, base, inner, 0, s, notes, out);

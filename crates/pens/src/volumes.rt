@@ -5,6 +5,7 @@ use crate::closing::on_close;
 use crate::keys::on_key;
 use crate::places::at_block;
 use account::BLOCK_TOP;
+use account::MOST_ROWS;
 use entries::Rest;
 use leaves::Wrote;
 use leaves::write::put;
@@ -24,6 +25,7 @@ ghost use Rattle.pens.specs.Keys.{EofLine};
 ghost use Rattle.pens.specs.KeyWriting.{Kept};
 ghost use Rattle.pens.specs.Drawing.{DrawPromise};
 ghost use Rattle.pens.specs.Volumes.{BodyPromise, headBytes, VolumePromise, SetPromise};
+ghost use Rattle.account.specs.Numbering.{mostRows};
 
 // "The last line of the last volume is `EOF`"
 fn on_eof(pen: Pen, out: &mut [u8]) -> Drawn
@@ -46,8 +48,8 @@ fn on_line(
     notes: &mut [u32],
     out: &mut [u8],
 ) -> Drawn
-    requires { ⌜ Safe pen (now out) × (length (now notes) ≡ 28) ⌝ }
-    ensures { λ r. ⌜ Kept (now (out .entry)) (now (out .exit)) r × (length (now (notes .exit)) ≡ 28) × DrawPromise (now (s .entry)) first form pen (now (notes .entry)) (now (notes .exit)) (now (out .entry)) (now (out .exit)) r ⌝ }
+    requires { ⌜ Safe pen (now out) × (length (now notes) ≡ mostRows) ⌝ }
+    ensures { λ r. ⌜ Kept (now (out .entry)) (now (out .exit)) r × (length (now (notes .exit)) ≡ mostRows) × DrawPromise (now (s .entry)) first form pen (now (notes .entry)) (now (notes .exit)) (now (out .entry)) (now (out .exit)) r ⌝ }
 {
     match form {
         LineForm::Ignored => Drawn::Go(pen),
@@ -68,8 +70,8 @@ fn on_line(
 
 // The lines of a volume and the byte 1A behind them.
 fn put_body(s: &[u8], start: u32, end: u32, first: bool, notes: &mut [u32], out: &mut [u8]) -> Wrote
-    requires { ⌜ length (now notes) ≡ 28 ⌝ }
-    ensures { λ r. ⌜ Within (now (out .entry)) (now (out .exit)) r × (length (now (notes .exit)) ≡ 28) × BodyPromise (now (s .entry)) start end first (now (out .entry)) (now (out .exit)) r ⌝ }
+    requires { ⌜ length (now notes) ≡ mostRows ⌝ }
+    ensures { λ r. ⌜ Within (now (out .entry)) (now (out .exit)) r × (length (now (notes .exit)) ≡ mostRows) × BodyPromise (now (s .entry)) start end first (now (out .entry)) (now (out .exit)) r ⌝ }
 {
     let mut pen = Pen {
         block: BLOCK_TOP,
@@ -128,8 +130,8 @@ fn put_volume(
     notes: &mut [u32],
     out: &mut [u8],
 ) -> Wrote
-    requires { ⌜ length (now notes) ≡ 28 ⌝ }
-    ensures { λ r. ⌜ Within (now (out .entry)) (now (out .exit)) r × (length (now (notes .exit)) ≡ 28) × VolumePromise (now (s .entry)) start end first (now (out .entry)) (now (out .exit)) r ⌝ }
+    requires { ⌜ length (now notes) ≡ mostRows ⌝ }
+    ensures { λ r. ⌜ Within (now (out .entry)) (now (out .exit)) r × (length (now (notes .exit)) ≡ mostRows) × VolumePromise (now (s .entry)) start end first (now (out .entry)) (now (out .exit)) r ⌝ }
 {
     if out.len() < 12 {
         return Wrote::Full;
@@ -149,7 +151,7 @@ pub fn put_set(s: &[u8], out: &mut [u8]) -> Wrote
     let count = l.count as usize;
     let places = l.places;
     let lengths = l.lengths;
-    let mut notes = [0u32; 28];
+    let mut notes = [0u32; MOST_ROWS];
     let mut at = 0;
     let mut i = 0;
     while i < count {

@@ -11,15 +11,16 @@ use Rattle.rules.specs.Lines.{Rest, brace, equals, Shape, opener, noContent, co
 use Rattle.rules.specs.Values.{Num, capital, sheets, findSheet, showSheet, readRatio, showRatio}
 use Rattle.leaves.specs.Drawing.{numberAt}
 use Rattle.tables.specs.declared.Row.{Row}
+use Rattle.tables.specs.Numbering.{holdsValues, holdsVolumeName, holdsSheet, holdsRatio, holdsSerials, holdsHeaded, holdsEither, partCount, partAnySign}
 
 -- what was read is written anew, what was not stands as it is
 abbrev pub anew : {A : Type 0} → List ℕ → (A → List ℕ) → Option A → List ℕ
 anew c show none = c
 anew c show (some a) = show a
 
--- one piece by its form's number: from 20 on decimals, 7 counts
+-- one piece by its form's number: decimals, counts
 abbrev pub pieceText : ℕ → List ℕ → List ℕ
-pieceText form c = cond (leb 20 form) (anew c showDecimal (readDecimal c)) (cond (eqb form 7) (anew c (showCount 20) (readCount 10 c)) c)
+pieceText form c = cond (leb partAnySign form) (anew c showDecimal (readDecimal c)) (cond (eqb form partCount) (anew c (showCount 20) (readCount 10 c)) c)
 
 -- the next piece's form is behind two decimal digits, or the same
 abbrev pub nextForms : ℕ → Bool → ℕ
@@ -43,12 +44,12 @@ ratioText c (got v) = showRatio (numberAt v 0) (numberAt v 1)
 -- a content that is not empty, by its row; texts and words stand as they are
 unfoldable pub contentText : Row → List ℕ → List ℕ
 contentText row c =
-    cond (eqb (row .kind) 3) (map capital c)
-    (cond (eqb (row .kind) 4) (sheetText c (findSheet c sheets))
-    (cond (eqb (row .kind) 5) (ratioText c (readRatio c))
-    (cond (eqb (row .kind) 6) (piecesText 7 true c)
-    (cond (eqb (row .kind) 9) (pieceText (row .parts) c)
-    (cond (ltb 0 (row .kind) && leb (row .kind) 10) c
+    cond (eqb (row .kind) holdsVolumeName) (map capital c)
+    (cond (eqb (row .kind) holdsSheet) (sheetText c (findSheet c sheets))
+    (cond (eqb (row .kind) holdsRatio) (ratioText c (readRatio c))
+    (cond (eqb (row .kind) holdsSerials) (piecesText partCount true c)
+    (cond (eqb (row .kind) holdsHeaded) (pieceText (row .parts) c)
+    (cond (ltb holdsValues (row .kind) && leb (row .kind) holdsEither) c
     (piecesText (row .parts) false c))))))
 
 unfoldable pub behindText : Row → Shape → List ℕ

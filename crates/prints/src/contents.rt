@@ -10,6 +10,14 @@ use leaves::Wrote;
 use leaves::bytes::capital;
 use leaves::sheets::ratio;
 use leaves::sheets::sheet;
+use tables::HOLDS_EITHER;
+use tables::HOLDS_HEADED;
+use tables::HOLDS_RATIO;
+use tables::HOLDS_SERIALS;
+use tables::HOLDS_SHEET;
+use tables::HOLDS_VALUES;
+use tables::HOLDS_VOLUME_NAME;
+use tables::PART_COUNT;
 use tables::Row;
 ghost use mathlib.Core.Path.{_≡_};
 ghost use mathlib.Core.Bool.{_&&_};
@@ -18,6 +26,7 @@ ghost use lib.Dec.{leb, ltb};
 ghost use Rattle.rules.specs.Values.{capital, findSheet, sheets, readRatio};
 ghost use Rattle.prints.specs.Printing.{Writes};
 ghost use Rattle.prints.specs.Texts.{sheetText, ratioText, contentText};
+ghost use Rattle.tables.specs.Numbering.{holdsValues, holdsEither};
 
 // The name of the next volume, in capitals, byte by byte.
 fn capitals(c: &[u8], at: Wrote, out: &mut [u8]) -> Wrote
@@ -54,10 +63,10 @@ fn scale(c: &[u8], at: Wrote, out: &mut [u8]) -> Wrote
 
 // A kind of content that stands as it was written: texts, words, and a range that may open a block.
 fn stands(kind: u8) -> bool
-    ensures { λ r. ⌜ r ≡ (ltb 0 kind && leb kind 10) ⌝ }
+    ensures { λ r. ⌜ r ≡ (ltb holdsValues kind && leb kind holdsEither) ⌝ }
 {
-    if 0 < kind {
-        return kind <= 10;
+    if HOLDS_VALUES < kind {
+        return kind <= HOLDS_EITHER;
     }
     false
 }
@@ -66,19 +75,19 @@ fn stands(kind: u8) -> bool
 pub(crate) fn content(row: Row, c: &[u8], at: Wrote, out: &mut [u8]) -> Wrote
     ensures { λ r. ⌜ Writes (contentText row (now (c .entry))) at (now (out .entry)) (now (out .exit)) r ⌝ }
 {
-    if row.kind == 3 {
+    if row.kind == HOLDS_VOLUME_NAME {
         return capitals(c, at, out);
     }
-    if row.kind == 4 {
+    if row.kind == HOLDS_SHEET {
         return size(c, at, out);
     }
-    if row.kind == 5 {
+    if row.kind == HOLDS_RATIO {
         return scale(c, at, out);
     }
-    if row.kind == 6 {
-        return pieces(7, true, c, at, out);
+    if row.kind == HOLDS_SERIALS {
+        return pieces(PART_COUNT, true, c, at, out);
     }
-    if row.kind == 9 {
+    if row.kind == HOLDS_HEADED {
         return piece(row.parts, c, at, out);
     }
     if stands(row.kind) {

@@ -8,6 +8,8 @@ use leaves::Wrote;
 use leaves::bytes::find;
 use leaves::numbers::decimal as read_decimal;
 use leaves::numbers::serial;
+use tables::PART_ANY_SIGN;
+use tables::PART_COUNT;
 ghost use Prim.Native.Nat.{_/_};
 ghost use Rattle.rules.specs.Numbers.{readCount, readDecimal, showCount, showDecimal};
 ghost use Rattle.prints.specs.Printing.{Writes};
@@ -37,10 +39,10 @@ fn size(c: &[u8], at: Wrote, out: &mut [u8]) -> Wrote
 pub(crate) fn piece(form: u64, c: &[u8], at: Wrote, out: &mut [u8]) -> Wrote
     ensures { λ r. ⌜ Writes (pieceText form (now (c .entry))) at (now (out .entry)) (now (out .exit)) r ⌝ }
 {
-    if 20 <= form {
+    if PART_ANY_SIGN <= form {
         return size(c, at, out);
     }
-    if form == 7 {
+    if form == PART_COUNT {
         return count(c, at, out);
     }
     text(c, at, out)

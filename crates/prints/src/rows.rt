@@ -8,6 +8,7 @@ use entries::shapes::shape_for;
 use keywords::put_key;
 use leaves::Wrote;
 use rules::Span;
+use tables::HOLDS_TEXT;
 use tables::Row;
 ghost use mathlib.Core.List.{_++_};
 ghost use Rattle.rules.specs.Lines.{bytesAt};
@@ -55,7 +56,7 @@ fn behind(row: Row, s: &[u8], shape: Shape, at: Wrote, out: &mut [u8]) -> Wrote
 pub fn put_row(table: u8, row: Row, s: &[u8], rest: Rest, out: &mut [u8]) -> Wrote
     ensures { λ r. ⌜ Within (now (out .entry)) (now (out .exit)) r × PrintsRow table row (restIn (now (s .entry)) rest) (now (out .entry)) (now (out .exit)) r ⌝ }
 {
-    let free = row.kind == 1;
+    let free = row.kind == HOLDS_TEXT;
     let shape = shape_for(s, free, rest);
     let key = put_key(table, row.number, out);
     let all = behind(row, s, shape, key, out);

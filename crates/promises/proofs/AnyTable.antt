@@ -8,7 +8,8 @@ use lib.ListN.{length}
 use Rattle.rules.specs.Spool.{Volume, volumesOf}
 use Rattle.rules.specs.RangeClass.{classOf}
 use Rattle.rules.specs.Sets.{Set, nothingYet}
-use Rattle.rules.specs.Machine.{Env, top, accepted}
+use Rattle.rules.specs.Machine.{Env, top}
+use Rattle.rules.specs.LineByLine.{accepted}
 use Rattle.rules.specs.RecordTable.{width, recordsOf}
 use Rattle.rules.specs.Answers.{Listed, listed, noLines, listVolumes, outcomeOfLines, outcomeOfVolumes, outcomeOf, readOutcome, fullClass, rewriteOutcome}
 use Rattle.rules.proofs.Runs.{not-accepted}

@@ -14,7 +14,8 @@ use Rattle.rules.specs.Base.{all}
 use Rattle.rules.specs.Spool.{Volume, volumesOf}
 use Rattle.rules.specs.RangeClass.{classOf}
 use Rattle.rules.specs.Sets.{Set, nothingYet}
-use Rattle.rules.specs.Machine.{top, Outcome, refused, accepted}
+use Rattle.rules.specs.Machine.{top}
+use Rattle.rules.specs.LineByLine.{Outcome, refused, accepted}
 use Rattle.rules.specs.RecordTable.{width, recordsOf}
 use Rattle.rules.specs.Answers.{Listed, listed, noLines, listVolumes, outcomeOfLines, outcomeOfVolumes, outcomeOf, answerWith, refusal, readOutcome, readAnswer, rewriteOutcome, written, fitOutput, rewriteAnswer}
 use Rattle.rules.proofs.Runs.{not-accepted}

@@ -11,7 +11,7 @@ use Rattle.rules.specs.Base.{isNil, all, split}
 use Rattle.rules.specs.RefusalNumbers.{Got, got, bad, unless, mapG, andThen, orBad, keep}
 use Rattle.rules.specs.Lines.{Rest, brace, equals, Form, ignored, wrong, close, eof, keyed, stem, Shape, opener, noContent, content, opening, formless, byStem, shapeOf, freeShapeOf, hasForm}
 use Rattle.rules.specs.RangeClass.{reaches}
-use Rattle.rules.specs.Values.{Value, empty, nums, chars, Known, Kind, values, text, word, volumeName, sheet, ratio, serials, nothing, opens, headed, either, isFree, byteIn, lettersAndDigits, capital, readAll, agree, readPart, range, findSheet, sheets, readRatio, mostPartners, readSerials, readKind, linkedOf}
+use Rattle.rules.specs.Values.{Value, nums, chars, Known, Kind, values, text, word, volumeName, sheet, ratio, serials, nothing, opens, headed, either, isFree, byteIn, lettersAndDigits, capital, readAll, agree, readPart, range, findSheet, sheets, readRatio, mostPartners, readSerials, readKind, linkedOf}
 use Rattle.rules.specs.Rows.{Rule, Found, absent, found, find, Slots, blank, Held, partOf, enter, isContent, isEmpty, fits, shapeFor, Act, stay, entry, begin, shut, refuse, orRefuse, innerOf, readShape, notTwice, actRow, actUnknown, actFound, complete, act}
 use Rattle.rules.specs.Blocks.{blankHeld, layerNameKind}
 use Rattle.rules.specs.Sets.{Contents}

@@ -10,7 +10,8 @@ use Rattle.rules.specs.declared.Digits.{Digits}
 use Rattle.rules.specs.Base.{all}
 use Rattle.rules.specs.RefusalNumbers.{Got, got, bad, mapG, also}
 use Rattle.rules.specs.Sets.{Set, nothingYet}
-use Rattle.rules.specs.Machine.{Line, Env, State, top, file, drawing, layerNames, defines, symbol, hide, elements, figures, successive, texts, placing, skipping, ended, completes, nextVolume, step, Outcome, refused, accepted, thenRun, finish, run}
+use Rattle.rules.specs.Machine.{Line, Env, State, top, file, drawing, layerNames, defines, symbol, hide, elements, figures, successive, texts, placing, skipping, ended}
+use Rattle.rules.specs.LineByLine.{completes, nextVolume, step, Outcome, refused, accepted, thenRun, finish, run}
 use Rattle.rules.specs.RecordTable.{recordsOf}
 use Rattle.rules.proofs.Chains.{On, and-true, all-append, clash, never, map-got, also-got}
 use Rattle.rules.proofs.Runs.{not-accepted, finish-ended}

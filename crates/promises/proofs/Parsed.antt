@@ -5,7 +5,8 @@ use mathlib.Core.Option.{Option, none, some}
 use mathlib.Core.Path.{_≡_, refl, sym, _∙_, ap}
 use Rattle.rules.specs.Spool.{Volume, volumesOf}
 use Rattle.rules.specs.Sets.{Set, nothingYet}
-use Rattle.rules.specs.Machine.{Env, top, accepted, run}
+use Rattle.rules.specs.Machine.{Env, top}
+use Rattle.rules.specs.LineByLine.{accepted, run}
 use Rattle.rules.specs.FixedForm.{Text}
 use Rattle.rules.specs.Answers.{Listed, listed, noLines, listVolumes, outcomeOfLines, outcomeOfVolumes}
 use Rattle.rules.proofs.Runs.{not-accepted}

@@ -10,7 +10,8 @@ use Rattle.rules.specs.declared.Digits.{Digits}
 use Rattle.rules.specs.Spool.{volumesOf}
 use Rattle.rules.specs.RangeClass.{classOf}
 use Rattle.rules.specs.Sets.{Set}
-use Rattle.rules.specs.Machine.{Env, refused, accepted}
+use Rattle.rules.specs.Machine.{Env}
+use Rattle.rules.specs.LineByLine.{refused, accepted}
 use Rattle.rules.specs.RecordTable.{recordsOf}
 use Rattle.rules.specs.Answers.{outcomeOfVolumes, readOutcome, readRecords}
 use Rattle.rules.proofs.Runs.{not-accepted}

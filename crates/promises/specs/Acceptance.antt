@@ -13,7 +13,7 @@ use Rattle.rules.specs.declared.Answer.the-variants.{Accepted}
 use Rattle.rules.specs.Base.{all}
 use Rattle.rules.specs.RangeClass.{classOf}
 use Rattle.rules.specs.Sets.{Set}
-use Rattle.rules.specs.Machine.{Outcome, refused, accepted}
+use Rattle.rules.specs.LineByLine.{Outcome, refused, accepted}
 use Rattle.rules.specs.RecordTable.{recordsOf, width}
 use Rattle.rules.specs.Answers.{outcomeAt, digitsOr, refusal, readAnswer, readRecords, written, rewriteAnswer}
 

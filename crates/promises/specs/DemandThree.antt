@@ -16,6 +16,7 @@ use Rattle.rules.specs.RangeClass.{digits, classOf, hides}
 use Rattle.rules.specs.Sets.{Set, rangeOf}
 use Rattle.rules.specs.LineByLine.{accepted}
 use Rattle.rules.specs.Answers.{readOutcome, readAnswer, readRecords}
+use Rattle.rules.specs.RecordTable.{kindPlaced}
 
 -- ── classes ──
 -- one class not above the other in either digit
@@ -30,7 +31,7 @@ pub record Classes (lo hi : ℕ) (low high : Digits) : Type 0 where
   pub below : NotAbove low high
 
 -- ── what may differ in a record, and what it is instead ──
--- an attribute of a placed symbol (kind 16): the digits from which on it is known, its places in the record, its state's place
+-- an attribute of a placed symbol: the digits from which on it is known, its places in the record, its state's place
 pub record Attribute : Type 0 where
   pub least : Digits
   pub places : List ℕ
@@ -65,7 +66,7 @@ unreadEach c d (a ∷ as′) r = unreadOne (hides c d (a .least)) a (unreadEach 
 
 abbrev pub isPlaced : List ℤ → Bool
 isPlaced [] = false
-isPlaced (pos k ∷ r) = eqb k 16
+isPlaced (pos k ∷ r) = eqb k kindPlaced
 isPlaced (negsuc k ∷ r) = false
 
 -- a record of a higher class as the class c has it, in a file of the range d

@@ -1,6 +1,6 @@
 -- "Places apart" (demand 2): document 01, "Fixed form": "Places, in demand 2, are line numbers and byte places of text."
 -- What is read, with every place made 0.
-use Prim.Native.Nat.{ℕ, suc}
+use Prim.Native.Nat.{ℕ, suc, _+_}
 use mathlib.Core.Bool.{Bool, cond, _||_}
 use mathlib.Core.List.{List, [], _∷_, map}
 use lib.Dec.{eqb}
@@ -13,6 +13,7 @@ use Rattle.rules.specs.Sets.{Point, Figure, plain, chain, lettering, placed, La
 use Rattle.rules.specs.Machine.{Line, Home, inElement, inLayer, State, top, file, drawing, layerNames, defines, symbol, hide, elements, figures, successive}
 use Rattle.rules.specs.Machine.{texts, placing, skipping, ended}
 use Rattle.rules.specs.LineByLine.{Outcome, refused, accepted}
+use Rattle.rules.specs.RecordTable.{kindHeader, kindDrawing, kindSymbol, kindLayer, kindText, kindPlaced, inSymbol}
 
 -- ── what is kept ──
 abbrev pub bareValue : Value → Value
@@ -54,7 +55,13 @@ bareContents v = record { line = 0; file = bareHeld (v .file); blocks = map bare
 
 abbrev pub bareSet : Set → Set
 bareSet s =
-    record { drawing = bareDrawing (s .drawing); symbols = map bareSymbol (s .symbols); volumes = map bareContents (s .volumes); now = bareContents (s .now); taken = s .taken }
+    record {
+      drawing = bareDrawing (s .drawing);
+      symbols = map bareSymbol (s .symbols);
+      volumes = map bareContents (s .volumes);
+      now = bareContents (s .now);
+      taken = s .taken;
+    }
 
 -- ── the reading ──
 abbrev pub bareRest : Rest → Rest
@@ -107,12 +114,12 @@ bareOutcome (accepted s) = accepted (bareSet s)
 -- where a record of a kind has the byte places of its texts (document 01, "Record table")
 abbrev pub textPlaces : ℕ → List ℕ
 textPlaces kind =
-    cond (eqb kind 1) (16 ∷ 18 ∷ 20 ∷ 22 ∷ 24 ∷ 26 ∷ 28 ∷ 30 ∷ [])
-    (cond (eqb kind 3) (12 ∷ 14 ∷ 16 ∷ [])
-    (cond (eqb kind 4) (5 ∷ [])
-    (cond (eqb kind 5) (7 ∷ [])
-    (cond (eqb kind 15 || eqb kind 35) (12 ∷ [])
-    (cond (eqb kind 16) (12 ∷ 24 ∷ []) [])))))
+    cond (eqb kind kindHeader) (16 ∷ 18 ∷ 20 ∷ 22 ∷ 24 ∷ 26 ∷ 28 ∷ 30 ∷ [])
+    (cond (eqb kind kindDrawing) (12 ∷ 14 ∷ 16 ∷ [])
+    (cond (eqb kind kindSymbol) (5 ∷ [])
+    (cond (eqb kind kindLayer) (7 ∷ [])
+    (cond (eqb kind kindText || eqb kind (kindText + inSymbol)) (12 ∷ [])
+    (cond (eqb kind kindPlaced) (12 ∷ 24 ∷ []) [])))))
 
 abbrev pub kindOf : List ℤ → ℕ
 kindOf [] = 0

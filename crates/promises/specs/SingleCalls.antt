@@ -7,7 +7,7 @@ use lib.ListN.{length, replicate}
 use Rattle.rules.specs.declared.Refusal.{Refusal}
 use Rattle.rules.specs.declared.Answer.the-variants.{Accepted, Refused}
 use Rattle.rules.specs.Sets.{Set}
-use Rattle.rules.specs.Machine.{accepted, refused}
+use Rattle.rules.specs.LineByLine.{accepted, refused}
 use Rattle.rules.specs.RecordTable.{width}
 use Rattle.rules.specs.Answers.{refusal, written}
 use Rattle.promises.specs.DemandOne.{Answered, Filled, Written}

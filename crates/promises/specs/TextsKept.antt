@@ -11,7 +11,7 @@ use Rattle.rules.specs.Rows.{Rule, Slots, partOf, slotValue, held}
 use Rattle.rules.specs.Blocks.{fileTable, drawingTable}
 use Rattle.rules.specs.Figures.{textTable, placedTable}
 use Rattle.rules.specs.Sets.{Point, Figure, plain, chain, lettering, placed, Layer, Drawing, Symbol, LayerBlock, Contents, Set, symbolNameOf}
-use Rattle.rules.specs.Machine.{accepted}
+use Rattle.rules.specs.LineByLine.{accepted}
 use Rattle.rules.specs.declared.Answer.the-variants.{Accepted}
 use Rattle.rules.specs.Answers.{readOutcome, readRecords}
 use Rattle.promises.specs.PlacesApart.{textPlaces}

@@ -70,7 +70,8 @@ outcomeOfVolumes e (some vs) = outcomeOfLines e (listVolumes 1 vs)
 
 -- the reading of a spool; to open it is to open every table
 unfoldable pub outcomeOf : Env → List ℕ → Outcome
-unfolding formOf linesOf volumesOf sheets topTable fileTable rangeTable baseTable elecTable symTable laterTable drawingTable definesTable symbolTable elementTable layerTable figureTable pointTable textTable placedTable
+unfolding formOf linesOf volumesOf sheets topTable fileTable rangeTable baseTable elecTable symTable laterTable drawingTable definesTable
+    symbolTable elementTable layerTable figureTable pointTable textTable placedTable
 outcomeOf e s = outcomeOfVolumes e (volumesOf s)
 
 -- "Order: 1, 2, 3 over all volumes, then line by line"
@@ -100,6 +101,7 @@ abbrev pub answerCount : Answer → ℕ
 answerCount (Accepted n) = n
 answerCount (Refused r) = 0
 
+-- number, volume, line
 abbrev pub refusal : ℕ → ℕ → ℕ → Answer
 refusal n v l = Refused (record { number = n; volume = v; line = l })
 

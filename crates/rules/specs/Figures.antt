@@ -11,6 +11,16 @@ abbrev pub coordinate : Bool → Part
 coordinate true = decimal notNegative
 coordinate false = decimal anySign
 
+-- a centre's x or y; "Radius, axes, width, height above zero", a factor too; "Angles are 0 to 360 inclusive"
+abbrev pub centre : Part
+centre = decimal anySign
+
+abbrev pub measure : Part
+measure = decimal aboveZero
+
+abbrev pub degrees : Part
+degrees = decimal angle
+
 -- "Turn and upright are 0 or 1"
 abbrev pub flag : Part
 flag = digit 0 1
@@ -23,8 +33,8 @@ pointKind inLayer = values typeDigits (coordinate inLayer ∷ coordinate inLayer
 abbrev pub plainRows : Bool → List Rule
 plainRows inLayer =
     row "line" (values typeDigits (coordinate inLayer ∷ coordinate inLayer ∷ coordinate inLayer ∷ coordinate inLayer ∷ []) endsDiffer) 4
-    ∷ row "circle" (values typeDigits (decimal anySign ∷ decimal anySign ∷ decimal aboveZero ∷ decimal angle ∷ decimal angle ∷ flag ∷ []) arcOfCircle) 4
-    ∷ row "ellipse" (values typeDigits (decimal anySign ∷ decimal anySign ∷ decimal aboveZero ∷ decimal aboveZero ∷ decimal angle ∷ decimal angle ∷ decimal angle ∷ flag ∷ []) axesOfEllipse) 4
+    ∷ row "circle" (values typeDigits (centre ∷ centre ∷ measure ∷ degrees ∷ degrees ∷ flag ∷ []) arcOfCircle) 4
+    ∷ row "ellipse" (values typeDigits (centre ∷ centre ∷ measure ∷ measure ∷ degrees ∷ degrees ∷ degrees ∷ flag ∷ []) axesOfEllipse) 4
     ∷ row "point" (pointKind inLayer) 4 ∷ []
 
 -- the figures that are blocks
@@ -33,7 +43,7 @@ blockRows = row "successive" (opens 1) 0 ∷ row "text" (opens 2) 0 ∷ []
 
 -- "Placed symbol: `name,x,y,angle,factor`, factor above zero."
 abbrev pub placing : Kind
-placing = values symbolName (decimal notNegative ∷ decimal notNegative ∷ decimal angle ∷ decimal aboveZero ∷ []) nothingMore
+placing = values symbolName (decimal notNegative ∷ decimal notNegative ∷ degrees ∷ measure ∷ []) nothingMore
 
 -- "At range 001 it is `E_symbol=` with these; at any other range a block": whether E_sym is 001
 abbrev pub placedKind : Bool → Kind
@@ -68,7 +78,7 @@ pointTable inLayer = repeated (upTo mostPoints) (row "point" (pointKind inLayer)
 -- "text: block of `type` (type,x,y,width,height,gap,angle,upright) and `character` (1-200 bytes)": where its two lines go in the record
 unfoldable pub textTable : Bool → ℕ → ℕ → List Rule
 textTable inLayer p q =
-    row "type" (values typeDigits (coordinate inLayer ∷ coordinate inLayer ∷ decimal aboveZero ∷ decimal aboveZero ∷ decimal notNegative ∷ decimal angle ∷ flag ∷ []) nothingMore) p
+    row "type" (values typeDigits (coordinate inLayer ∷ coordinate inLayer ∷ measure ∷ measure ∷ decimal notNegative ∷ degrees ∷ flag ∷ []) nothingMore) p
     ∷ row "character" (text 200 anyBytes) q ∷ []
 
 -- "Last digit 2 or more: `text`, may be missing; 3: `hight`, signed or empty; 4: `pos`, 1 to 5 or empty;

@@ -4,16 +4,16 @@ use Prim.Native.Nat.{ℕ}
 use mathlib.Core.Bool.{Bool, true, false, cond, _&&_, _||_}
 use mathlib.Core.List.{List, [], _∷_}
 use lib.Dec.{eqb}
-use Rattle.rules.specs.Base.{isNil}
 use Rattle.rules.specs.RefusalNumbers.{Got, got, bad, mapG, also}
 use Rattle.rules.specs.Lines.{Form, ignored, wrong, close, eof, keyed}
 use Rattle.rules.specs.Sets.{Set}
-use Rattle.rules.specs.Machine.{Line, Env, State, onTop, onFile, onDrawing, onLayerNames, onDefines, onSymbol, onHide, onElements, onFigures}
-use Rattle.rules.specs.Machine.{onSuccessive, onTexts, top, file, drawing, layerNames, defines, symbol, hide, elements, figures, successive, texts}
-use Rattle.rules.specs.Machine.{placing, skipping, ended}
+use Rattle.rules.specs.Machine.{Line, inLastVolume, Env, State, pastElement, onTop, onFile, onDrawing, onLayerNames, onDefines, onSymbol, onHide}
+use Rattle.rules.specs.Machine.{onElements, onFigures, onSuccessive, onTexts, top, file, drawing, layerNames, defines, symbol, hide, elements, figures}
+use Rattle.rules.specs.Machine.{successive, texts, placing, skipping, ended}
 use Rattle.rules.specs.PlacedSymbol.{onPlacing, onSkipping}
 
 -- ── one line ──
+-- in the block that is open; after EOF no line comes, for it is its volume's last and the volume the set's last (`atEof`)
 abbrev pub stepIn : Env → Line → State → Got State
 stepIn e l (top s k) = onTop e l s k (l .form)
 stepIn e l (file s n h p) = onFile l s n h p (l .form)
@@ -61,7 +61,7 @@ isWithinElement withinOther = false
 isWithinElement (atEnd s) = false
 
 abbrev pub isAfterElement : Stage → Bool
-isAfterElement (between s k) = eqb k 4
+isAfterElement (between s k) = eqb k pastElement
 isAfterElement withinElement = false
 isAfterElement withinOther = false
 isAfterElement (atEnd s) = false
@@ -98,7 +98,7 @@ isEof (keyed k c) = false
 -- Is the volume complete after this line? By its structure: in the last volume EOF after ELEMENT, in others ELEMENT's end.
 abbrev pub completes : Line → State → Bool
 completes l s =
-    cond (isNil (l .next))
+    cond (inLastVolume l)
     (afterElements s && isEof (l .form))
     ((inElements s && isClose (l .form)) || (afterElements s && isIgnored (l .form)))
 
@@ -112,6 +112,7 @@ begunAnew (atEnd s) st = st
 abbrev pub nextVolume : State → State
 nextVolume s = begunAnew (stageOf s) s
 
+-- a line, and where it is its volume's last, 9 unless the volume is complete with it
 abbrev pub step : Env → Line → State → Got State
 step e l s = cond (l .last) (mapG nextVolume (also (completes l s) 9 (stepIn e l s))) (stepIn e l s)
 
@@ -124,7 +125,8 @@ abbrev pub thenRun : Got State → Line → (State → Outcome) → Outcome
 thenRun (got s) l f = f s
 thenRun (bad n) l f = refused n (l .volume) (l .line)
 
--- after the last line of the last volume the set has ended (no other state comes through that line)
+-- After the last line of the last volume the set has ended. The other clauses are never reached: a spool has a volume, a volume a line
+-- (`Answers: linesOfVolume`), and at the last line of the last volume `completes` lets EOF alone through.
 abbrev pub endedAs : Stage → Outcome
 endedAs (between s k) = refused 9 0 0
 endedAs withinElement = refused 9 0 0

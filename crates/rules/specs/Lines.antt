@@ -61,11 +61,11 @@ pub data Rest : Type 0 where
   brace : Rest
   equals : ℕ → List ℕ → Rest
 
--- A line: one that is ignored, one refused as it stands (4 or 5), `}`, `EOF`, or a key and what follows it.
+-- A line: one that is ignored, one that is wrong in every block (4 or 5), `}`, `EOF`, or a key and what follows it.
 -- Whether the rest is text, a value or an opener goes by the key and the place, so it is told in Values.
 pub data Form : Type 0 where
   ignored : Form
-  wrong : ℕ → Form
+  wrong : ℕ → Form  -- its number
   close : Form
   eof : Form
   keyed : List ℕ → Rest → Form
@@ -134,7 +134,7 @@ hasForm formless = false
 abbrev pub bytesAt : List ℕ → Span → List ℕ
 bytesAt s p = take (p .len) (drop (p .at) s)
 
--- the form that a line's places stand for in a spool; a refusal's number is that of the line
+-- the form that a line's places stand for in a spool; of a refusal with its volume and line, the number
 abbrev pub formIn : List ℕ → LineForm → Form
 formIn s L.Ignored = ignored
 formIn s L.Close = close

@@ -1,4 +1,4 @@
--- The reading of a set, line by line: which block is open, what it holds so far, and what a line does there.
+-- Which block of the set is open, what it holds so far, and what a line does there. (A placed symbol's lines: PlacedSymbol.)
 use Prim.Native.Nat.{ℕ, zero, suc, _+_}
 use mathlib.Core.Bool.{Bool, true, false, cond, _&&_, _||_, not}
 use mathlib.Core.List.{List, [], _∷_, _++_, map}
@@ -27,6 +27,9 @@ pub record Line : Type 0 where
   pub next : List ℕ  -- the name of the volume that follows, nothing in the last volume
   pub form : Form
 
+abbrev pub inLastVolume : Line → Bool
+inLastVolume l = isNil (l .next)
+
 pub record Env : Type 0 where
   pub class : Digits
   pub limit : Option ℕ  -- how many records the table holds; none for the rewriter
@@ -53,7 +56,13 @@ pub data State : Type 0 where
   skipping : Set → ℕ → List Figure → ℕ → Held → ℕ → State  -- in it, how many skipped blocks are open
   ended : Set → State
 
+-- the number of the block that comes next, where none does: ELEMENT is closed
+abbrev pub pastElement : ℕ
+pastElement = 4
+
 -- ── what an act does ──
+-- In a state; where a row is entered, where a row opens an inner block, where the block closes. A table without openers never opens, one of
+-- openers alone never enters: the arm for it is never reached, and there says 5.
 abbrev pub byAct : State → (ℕ → Value → Got State) → (ℕ → ℕ → Value → Got State) → (Unit {0} → Got State) → Act → Got State
 byAct here entered opened closed stay = got here
 byAct here entered opened closed (entry j v) = entered j v
@@ -70,6 +79,7 @@ abbrev pub taking : Env → ℕ → Set → (Set → State) → Got State
 taking e n s f = unless (roomFor (e .limit) (s .taken + n)) 19 (got (f (withRecords n s)))
 
 -- ── at the top level ──
+-- by the number of the block's row in `topTable`, so the last clause is of ELEMENT alone
 abbrev pub openTop : Env → Line → Set → ℕ → Got State
 openTop e l s zero = taking e (cond (isFirst s) 2 1) s λ s′. file s′ (l .line) (blankHeld (fileTables (isFirst s))) 0
 openTop e l s (suc zero) = taking e 1 s λ s′. drawing s′ (record { line = l .line; own = blank drawingTable; layers = [] })
@@ -79,7 +89,7 @@ openTop e l s (suc (suc (suc k))) = got (elements s)
 -- EOF: "9 (EOF misplaced, at EOF's line, also if any line follows it)", then "14 (unused, at EOF)", then "17 (all_ele at EOF)"
 abbrev pub atEof : Line → Set → ℕ → Got State
 atEof l s k =
-    unless (eqb k 4 && (isNil (l .next) && l .last)) 9
+    unless (eqb k pastElement && (inLastVolume l && l .last)) 9
     (unless (layersUsed s) 14
     (unless (countedAll s) 17
     (got (ended s))))
@@ -122,7 +132,7 @@ onDrawing s d f =
     (λ _. got (top (withDrawing d s) 2))
     (act (knownOf s) drawingTable (digitsOf (arcOf s)) (rowsThere (d .own)) f)
 
--- a line in `layer_name`: every content there is a layer's name; "A misspelt id is 6"; one line too many is 11, a layer declared twice 14
+-- a line in `layer_name`: every content there is a layer's name (as free text, so `opening` and `formless` are never reached)
 abbrev pub layerValue : List ℕ → Shape → Got Value
 layerValue k opener = bad 5
 layerValue k noContent = got empty
@@ -130,6 +140,9 @@ layerValue k (content at c) = readKind (record { symbols = []; layers = [] }) la
 layerValue k (opening at c) = bad 5
 layerValue k formless = bad 5
 
+-- "A misspelt id is 6", in any form; a right one in a wrong form is 5: the two exclude each other, so 6 may stand first. The name's own
+-- number is 11, as is that of one line too many; then 14 for a layer declared twice, and 19. A rule on names with a number over 11, or one
+-- below 6 for a misspelt id, would have to find another place.
 abbrev pub layerLine : Env → Line → Set → Drawing → List ℕ → Rest → Got State
 layerLine e l s d k c =
     unless (isLayerId k) 6
@@ -146,12 +159,16 @@ onLayerNames e l s d eof = bad 9
 onLayerNames e l s d (keyed k c) = layerLine e l s d k c
 
 -- ── SYMBOL_DEFINE ──
--- "NON and a symbol together" is 6; neither is 8
+abbrev pub newSymbol : ℕ → Symbol
+newSymbol n = record { line = n; own = blank symbolTable; figures = []; hidden = []; hideFirst = false }
+
+-- "NON and a symbol together" is 6, behind the line's own 5; its 7 (NON twice) stands before that 6, but never where a symbol is there too.
+-- Neither is 8. Which rows may take no more: NON where it was read, `E_symbol` never.
 abbrev pub onDefines : Env → Line → Set → Bool → Form → Got State
 onDefines e l s non f =
     byAct (defines s non)
     (λ j v. unless (isNil (s .symbols)) 6 (got (defines s true)))
-    (λ i j v. unless (not non) 6 (taking e 1 s λ s′. symbol s′ (record { line = l .line; own = blank symbolTable; figures = []; hidden = []; hideFirst = false })))
+    (λ i j v. unless (not non) 6 (taking e 1 s λ s′. symbol s′ (newSymbol (l .line))))
     (λ _. unless (non || not (isNil (s .symbols))) 8 (got (top s 3)))
     (act (knownOf s) definesTable (digitsOf (defineRange s)) (non ∷ false ∷ []) f)
 
@@ -159,6 +176,7 @@ onDefines e l s non f =
 abbrev pub newName : Set → Symbol → Bool
 newName s y = isNil (symbolNameOf y) || not (among (symbolNameOf y) (knownOf s .symbols))
 
+-- by the numbers of the inner blocks in `symbolTable`: `element` is 1, `hide` 2; 0 is never reached
 abbrev pub openSymbol : Set → Symbol → ℕ → Got State
 openSymbol s y zero = bad 5
 openSymbol s y (suc zero) = got (figures s (inElement y) [])
@@ -191,7 +209,7 @@ onElements s f =
     byAct (elements s)
     (λ j v. bad 5)
     (λ i j v. unless (not (hasNumber (amountAt v 0) (usedIn (s .now)))) 14 (got (figures s (inLayer (amountAt v 0)) [])))
-    (λ _. unless (countedHere s) 17 (got (top (withVolume s) 4)))
+    (λ _. unless (countedHere s) 17 (got (top (withVolume s) pastElement)))
     (act (knownOf s) elementTable (digits 0 0) (rowsAtLimit 0 elementTable) f)
 
 -- ── figures ──
@@ -208,11 +226,12 @@ abbrev pub closeFigures : Set → Home → List Figure → Got State
 closeFigures s (inElement y) fs = unless (not (isNil fs)) 8 (got (symbol s (symbolFigures fs y)))
 closeFigures s (inLayer k) fs = got (elements (withBlock (record { layer = k; figures = fs }) s))
 
--- "E_symbol: placed symbol, in layers only"
+-- "E_symbol: placed symbol, in layers only": an element's table has no such row, so its clause is never reached
 abbrev pub openPlaced : Env → Line → Set → Home → List Figure → Got State
 openPlaced e l s (inElement y) fs = bad 6
 openPlaced e l s (inLayer k) fs = taking e 1 s λ s′. placing s′ k fs (l .line) (blankHeld placedTables) 0
 
+-- by the numbers of the inner blocks in `layerTable` and `figureTable`: successive 1, text 2, a placed symbol 3; 0 is never reached
 abbrev pub openFigure : Env → Line → Set → Home → List Figure → ℕ → Got State
 openFigure e l s h fs zero = bad 5
 openFigure e l s h fs (suc zero) = taking e 1 s λ s′. successive s′ h fs (l .line) []

@@ -24,6 +24,7 @@ bySkip noForm here inside = bad 5
 abbrev pub skipDeeper : ℕ → State → Got State
 skipDeeper d inside = unless (ltb d mostDepth) 18 (got inside)
 
+-- "Refused" is 6; `actUnknown` only refuses, so no other arm is reached
 abbrev pub onUnknown : Env → Set → ℕ → List Figure → ℕ → Held → List ℕ → Rest → Got State
 onUnknown e s h fs n o k c =
     cond (exceeds (rangeOf s) (e .class))
@@ -69,6 +70,7 @@ onPlacing e s h fs n o (suc p) f =
     onPlaced s h fs n o (suc p) (act (knownOf s) (getD placedTables (suc p) []) (digits 0 0) (rowsThere (partOf o (suc p))) f)
 
 -- ── skipped blocks: "A skipped opener takes all lines to its own `}`" ──
+-- where so many skipped blocks are open; there is one at least, so the first clause is never reached
 abbrev pub skipShut : Set → ℕ → List Figure → ℕ → Held → ℕ → Got State
 skipShut s h fs n o zero = bad 9
 skipShut s h fs n o (suc zero) = got (placing s h fs n o 0)

@@ -109,6 +109,48 @@ abbrev pub markUnread : Digits → Digits → List Rule → List ℤ → List �
 markUnread c d [] t = t
 markUnread c d (r ∷ rs) t = unreadState (r .state) (hides c d (r .least)) (markUnread c d rs t)
 
+-- ── the kinds of records ──
+-- "1 header", "2 volume", "3 drawing", "4 symbol", "5 layer"
+abbrev pub kindHeader : ℕ
+kindHeader = 1
+
+abbrev pub kindVolume : ℕ
+kindVolume = 2
+
+abbrev pub kindDrawing : ℕ
+kindDrawing = 3
+
+abbrev pub kindSymbol : ℕ
+kindSymbol = 4
+
+abbrev pub kindLayer : ℕ
+kindLayer = 5
+
+-- "10 line, 11 circle, 12 ellipse, 13 point": the first of the figures that are a line each, in the order of their rows
+abbrev pub kindLine : ℕ
+kindLine = 10
+
+-- "14 successive", "15 text", "16 placed symbol", "17 a successive's points"
+abbrev pub kindSuccessive : ℕ
+kindSuccessive = 14
+
+abbrev pub kindText : ℕ
+kindText = 15
+
+abbrev pub kindPlaced : ℕ
+kindPlaced = 16
+
+abbrev pub kindPoint : ℕ
+kindPoint = 17
+
+-- "plus 20 inside a symbol"
+abbrev pub inSymbol : ℕ
+inSymbol = 20
+
+-- "43 hide point"
+abbrev pub kindHidden : ℕ
+kindHidden = 43
+
 -- ── the record at its line: "0 kind, 1 owner, 2 volume from 1, 3 line, .. unused 0" ──
 abbrev pub width : ℕ
 width = 32
@@ -121,16 +163,16 @@ abbrev pub twoOf : List ℤ → List (List ℤ)
 twoOf t = take width t ∷ drop width t ∷ []
 
 abbrev pub fileRecords : Bool → ℕ → Contents → List (List ℤ)
-fileRecords true k v = twoOf (putHeld (fileTables true) (v .file) (start 1 0 k (v .line) ++ start 2 0 k (v .line)))
-fileRecords false k v = putHeld (fileTables false) (v .file) (start 2 0 k (v .line)) ∷ []
+fileRecords true k v = twoOf (putHeld (fileTables true) (v .file) (start kindHeader 0 k (v .line) ++ start kindVolume 0 k (v .line)))
+fileRecords false k v = putHeld (fileTables false) (v .file) (start kindVolume 0 k (v .line)) ∷ []
 
 -- "3 drawing"
 abbrev pub drawingRecord : Drawing → List ℤ
-drawingRecord d = putSlots drawingTable (d .own) (start 3 0 1 (d .line))
+drawingRecord d = putSlots drawingTable (d .own) (start kindDrawing 0 1 (d .line))
 
 -- "5 layer: letter's byte, number, name": the layers from number n on
 abbrev pub layerRecord : ℕ → Layer → List ℤ
-layerRecord n l = sets (start 5 n 1 (l .line)) 5 (pos (getD (l .id) 0 0) ∷ pos (value (drop 2 (l .id))) ∷ padded 2 (numbers (l .name)))
+layerRecord n l = sets (start kindLayer n 1 (l .line)) 5 (pos (getD (l .id) 0 0) ∷ pos (value (drop 2 (l .id))) ∷ padded 2 (numbers (l .name)))
 
 abbrev pub layerRecords : ℕ → List Layer → List (List ℤ)
 layerRecords n [] = []
@@ -141,14 +183,15 @@ layerRecords n (l ∷ ls) = layerRecord n l ∷ layerRecords (suc n) ls
 abbrev pub ruleAt : List Rule → ℕ → Rule
 ruleAt t j = getD t j (row "" (opens 0) 0)
 
--- "10 line, 11 circle, 12 ellipse, 13 point": a figure's row in the table, and 10
+-- "10 line, 11 circle, 12 ellipse, 13 point": a figure's row in the table, behind that of `line`
 abbrev pub plainRecord : List Rule → ℕ → ℕ → ℕ → ℕ → ℕ → List Num → List ℤ
-plainRecord t more owner volume line j v = putSlot (ruleAt t j) (some (nums v)) (start (10 + more + j) owner volume line)
+plainRecord t more owner volume line j v = putSlot (ruleAt t j) (some (nums v)) (start (kindLine + more + j) owner volume line)
 
 -- "17 a successive's points", "43 hide point": kind, and the table of points
 abbrev pub pointRecords : ℕ → ℕ → ℕ → List Point → List (List ℤ)
 pointRecords kind owner volume [] = []
-pointRecords kind owner volume (p ∷ ps) = putSlot (ruleAt (pointTable true) 0) (some (nums (p .values))) (start kind owner volume (p .line)) ∷ pointRecords kind owner volume ps
+pointRecords kind owner volume (p ∷ ps) =
+    putSlot (ruleAt (pointTable true) 0) (some (nums (p .values))) (start kind owner volume (p .line)) ∷ pointRecords kind owner volume ps
 
 -- "14 successive (first point's type, point count)"
 abbrev pub firstType : List Point → ℤ
@@ -156,25 +199,28 @@ firstType [] = pos 0
 firstType (p ∷ ps) = valueAt (p .values) 0
 
 abbrev pub chainRecord : ℕ → ℕ → ℕ → ℕ → List Point → List ℤ
-chainRecord more owner volume line ps = sets (start (14 + more) owner volume line) 4 (firstType ps ∷ pos (length ps) ∷ [])
+chainRecord more owner volume line ps = sets (start (kindSuccessive + more) owner volume line) 4 (firstType ps ∷ pos (length ps) ∷ [])
 
 -- "15 text (7 values, characters)"
 abbrev pub textRecord : ℕ → ℕ → ℕ → ℕ → Slots → List ℤ
-textRecord more owner volume line s = putSlots (textTable true 4 12) s (start (15 + more) owner volume line)
+textRecord more owner volume line s = putSlots (textTable true 4 12) s (start (kindText + more) owner volume line)
 
 -- "16 placed symbol": at the class c, in a file of the range d
 abbrev pub placedRecord : Digits → Digits → ℕ → ℕ → ℕ → ℕ → Held → List ℤ
-placedRecord c d more owner volume line h = markUnread c d placedTable (putHeld placedTables h (start (16 + more) owner volume line))
+placedRecord c d more owner volume line h = markUnread c d placedTable (putHeld placedTables h (start (kindPlaced + more) owner volume line))
 
--- `E_symbol=`, the seventh row of a layer's figures, is a placed symbol with that line alone
+-- `E_symbol=`, the seventh row of a layer's figures (`placedNumber`), is a placed symbol with that line alone
+abbrev pub placedNumber : ℕ
+placedNumber = 6
+
 abbrev pub lineRecord : Digits → Digits → List Rule → ℕ → ℕ → ℕ → ℕ → ℕ → List Num → List ℤ
 lineRecord c d t more owner volume n j v =
-    cond (eqb j 6) (placedRecord c d more owner volume n ((some (nums v) ∷ []) ∷ [])) (plainRecord t more owner volume n j v)
+    cond (eqb j placedNumber) (placedRecord c d more owner volume n ((some (nums v) ∷ []) ∷ [])) (plainRecord t more owner volume n j v)
 
 -- "plus 20 inside a symbol": `more`
 abbrev pub figureRecords : Digits → Digits → List Rule → ℕ → ℕ → ℕ → Figure → List (List ℤ)
 figureRecords c d t more owner volume (plain n j v) = lineRecord c d t more owner volume n j v ∷ []
-figureRecords c d t more owner volume (chain n ps) = chainRecord more owner volume n ps ∷ pointRecords (17 + more) owner volume ps
+figureRecords c d t more owner volume (chain n ps) = chainRecord more owner volume n ps ∷ pointRecords (kindPoint + more) owner volume ps
 figureRecords c d t more owner volume (lettering n s) = textRecord more owner volume n s ∷ []
 figureRecords c d t more owner volume (placed n h) = placedRecord c d more owner volume n h ∷ []
 
@@ -182,13 +228,13 @@ figureRecords c d t more owner volume (placed n h) = placedRecord c d more owner
 -- "4 symbol: name, wall state, x, y"; its figures and hide points follow in the order written
 abbrev pub innerRecords : ℕ → Symbol → List (List ℤ)
 innerRecords n y =
-    let shown = flat (map (figureRecords (digits 0 0) (digits 0 0) figureTable 20 n 1) (y .figures)) in
-    let hidden = pointRecords 43 n 1 (y .hidden) in
+    let shown = flat (map (figureRecords (digits 0 0) (digits 0 0) figureTable inSymbol n 1) (y .figures)) in
+    let hidden = pointRecords kindHidden n 1 (y .hidden) in
     cond (y .hideFirst) (hidden ++ shown) (shown ++ hidden)
 
 abbrev pub symbolRecords : ℕ → List Symbol → List (List ℤ)
 symbolRecords n [] = []
-symbolRecords n (y ∷ ys) = putSlots symbolTable (y .own) (start 4 n 1 (y .line)) ∷ innerRecords n y ++ symbolRecords (suc n) ys
+symbolRecords n (y ∷ ys) = putSlots symbolTable (y .own) (start kindSymbol n 1 (y .line)) ∷ innerRecords n y ++ symbolRecords (suc n) ys
 
 -- ── volumes ──
 abbrev pub blockRecords : Digits → Digits → List Rule → ℕ → LayerBlock → List (List ℤ)

@@ -4,6 +4,9 @@ use mathlib.Core.Bool.{Bool, true, false}
 use mathlib.Core.List.{List, _∷_}
 use mathlib.Core.Option.{Option, none, some}
 
+-- The words for a refusal. `bad n`: whatever is being judged breaks a rule, the one of number n; where it stands is not said yet. A line
+-- hands that number on as its form (`Lines: wrong`, 4 or 5, whichever block is open) or as what it does in its block (`Rows: refuse`).
+-- With the line's volume and number it is what a set is answered with: `LineByLine: refused`, in the answers `Answers: refusal`.
 pub data Got (A : Type 0) : Type 0 where
   got : A → Got A
   bad : ℕ → Got A

@@ -90,16 +90,17 @@ partOf h p = getD h p []
 abbrev pub enter : Held → ℕ → ℕ → Value → Held
 enter h p j v = set h p (set (partOf h p) j (some v))
 
--- which rows have had all that they may have: of rows that stand once, the ones that are there ..
+-- the rows that are there: those whose line was read
 abbrev pub rowsThere : Slots → List Bool
 rowsThere s = map isSome s
 
--- .. and in a list of n items, the rows that stand no more than n times
+-- in a list of n items: may a row take no more? (Rows of a list stand up to so many times or any number of times, none of them once.)
 abbrev pub limitReached : ℕ → Times → Bool
 limitReached n once = false
 limitReached n (upTo m) = leb m n
 limitReached n anyNumber = false
 
+-- the rows of a list of n items that may take no more
 abbrev pub rowsAtLimit : ℕ → List Rule → List Bool
 rowsAtLimit n t = map (λ r. limitReached n (r .times)) t
 
@@ -178,7 +179,7 @@ pub data Act : Type 0 where
   entry : ℕ → Value → Act  -- this row holds this
   begin : ℕ → ℕ → Value → Act  -- the same, and the inner block of that number opens
   shut : Act  -- the block, or the inner part that is open, closes
-  refuse : ℕ → Act
+  refuse : ℕ → Act  -- it breaks the rule of that number
 
 abbrev pub orRefuse : Got Act → Act
 orRefuse (got a) = a
@@ -198,7 +199,7 @@ innerOf (opens i) = i
 innerOf (headed i p) = i
 innerOf (either i) = i
 
--- the content of a line that has the form its key asks for
+-- the content of a line that has the form its key asks for (so `formless` is never reached)
 abbrev pub readShape : Known → ℕ → Rule → Shape → Got Act
 readShape k j r opener = got (begin (innerOf (r .holds)) j (nums []))
 readShape k j r noContent = got (entry j empty)
@@ -211,7 +212,11 @@ notTwice once full = not full
 notTwice (upTo n) full = true
 notTwice anyNumber full = true
 
--- A line with a key of the table, in a file of the range d. A key that is not allowed has only 6, so 6 stands before the form.
+-- A line with a key of the table, in a file of the range d; `full`: its row may take no more. Two tests are out of ascending order:
+-- - 6 before the 5 of a form that is not that key's. A key that is not allowed has only 6 (and 5 where the line has no form at all), so the
+--   two never apply together. A rule that judged the form of a forbidden key too would have to stand before 6.
+-- - the 11 of one item too many behind the value's own numbers. Only points can be too many, and a point's values give 10, which is
+--   smaller, or 11 too. A repeated row whose values could give 12 or more would need its 11 before them.
 abbrev pub actRow : Known → Digits → Bool → ℕ → Rule → Rest → Act
 actRow k d full j r c =
     orRefuse
@@ -238,7 +243,8 @@ complete d [] bs = true
 complete d (r ∷ rs) [] = true
 complete d (r ∷ rs) (b ∷ bs) = present d r b && complete d rs bs
 
--- a line in a block of the table t, in a file of the range d, where `full` tells which rows have had all they may have
+-- a line in a block of the table t, in a file of the range d, where `full` tells which rows may take no more: `rowsThere` in a block whose
+-- rows stand once, `rowsAtLimit` in a list. At `}` the same rows are asked whether they are there: only rows that stand once are required.
 abbrev pub act : Known → List Rule → Digits → List Bool → Form → Act
 act k t d full ignored = stay
 act k t d full (wrong n) = refuse n

@@ -7,7 +7,7 @@ use lib.IntN.{ℤ, pos}
 use lib.ListN.{take, replicate}
 use Rattle.rules.specs.declared.Answer.{Answer}
 use Rattle.rules.specs.declared.Answer.the-variants.{Accepted, Refused}
-use Rattle.rules.specs.Base.{bytes}
+use Rattle.rules.specs.Base.{bytes, flat}
 use Rattle.rules.specs.Numbers.{minus}
 use Rattle.rules.specs.RefusalNumbers.{Got, got, bad}
 use Rattle.rules.specs.Spool.{unlines, volumeBytes}

@@ -70,7 +70,7 @@ inBound angle z = leZ (pos 0) z && leZ z (pos 3600000)
 pub data Part : Type 0 where
   count : Part  -- 1 to 9 digits
   digit : ℕ → ℕ → Part  -- one digit, lo to hi (else 11): turn, upright, pos
-  typeDigits : Part  -- a type: four digits
+  typeDigits : Part  -- "Type is four digits": the first value of a figure
   range : ℕ → ℕ → Part  -- three digits, lo to hi (else 12)
   rangeOfSymbols : Part  -- E_sym: three digits, 000 to 005 or 011 to 015 (else 12)
   day clock : Part  -- a date, a time
@@ -247,7 +247,7 @@ showSerials (n ∷ ns) = showCount 10 n ∷ showSerials ns
 abbrev pub readText : ℕ → Bytes → ℕ → List ℕ → Got Value
 readText n b at c = unless (all (byteIn b) c && leb (length c) n) 11 (got (chars at c))
 
--- content that is not empty, at a place
+-- content that is not empty, at a place; `nothing` and `opens` have none, so their 5 is never reached (`Rows: fits` refuses the line before)
 abbrev pub readKind : Known → Kind → ℕ → List ℕ → Got Value
 readKind k (values p ps a) at c = mapG nums (keep 11 (agree a) (readAll k (p ∷ ps) (split 44 c)))
 readKind k (text n b) at c = readText n b at c

@@ -52,3 +52,32 @@ pub const SHEET_MULTIPLIERS: [u8; 8] = [4, 9, 16, 25, 36, 49, 64, 81];
 // The free-text keys (cad, os, hard, ver, corp, make, tel, name, project, drawname, drawer, character) and a layer's name, last: the
 // most bytes each may have.
 pub const TEXT_LIMITS: [u8; 13] = [20, 20, 20, 10, 40, 40, 20, 20, 60, 60, 20, 200, 20];
+
+// How many numbers a record has, and the kinds of records, as `RecordTable` names them.
+pub const WIDTH: usize = 32;
+
+pub const KIND_HEADER: u8 = 1;
+
+pub const KIND_VOLUME: u8 = 2;
+
+pub const KIND_DRAWING: u8 = 3;
+
+pub const KIND_SYMBOL: u8 = 4;
+
+pub const KIND_LAYER: u8 = 5;
+
+// line, circle, ellipse, point: the first of them
+pub const KIND_LINE: u8 = 10;
+
+pub const KIND_SUCCESSIVE: u8 = 14;
+
+pub const KIND_TEXT: u8 = 15;
+
+pub const KIND_PLACED: u8 = 16;
+
+pub const KIND_POINT: u8 = 17;
+
+// what is added to the kinds of figures inside a symbol
+pub const IN_SYMBOL: u8 = 20;
+
+pub const KIND_HIDDEN: u8 = 43;

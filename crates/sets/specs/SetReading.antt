@@ -17,10 +17,11 @@ use Rattle.rules.specs.RecordTable.{recordsOf, tableOf, width}
 use Rattle.rules.specs.Answers.{outcomeOf, rewriteOutcome}
 use Rattle.lines.specs.VolumeNames.{nameAt}
 use Rattle.account.specs.declared.Now.{Now}
+use Rattle.account.specs.Numbering.{blockTop, scratchLength}
 
 -- before the first line: at the top level, the table's first record is free
 abbrev pub nothingNow : Now
-nothingNow = record { block = 0; part = 0; layered = false; owner = 0; own = 0; free = 0; figures = 0; points = 0 }
+nothingNow = record { block = blockTop; part = 0; layered = false; owner = 0; own = 0; free = 0; figures = 0; points = 0 }
 
 -- the class, and a table of so many numbers
 abbrev pub envOf : Digits → ℕ → Env
@@ -30,9 +31,9 @@ envOf c len = record { class = c; limit = some (len / width) }
 abbrev pub nameBehind : List ℕ → List ℕ → ℕ → ℕ → List ℕ
 nameBehind spool places count i = cond (ltb (i + 1) count) (nameAt spool (getD places (i + 1) 0)) []
 
--- Of the numbers lent for a table, so many: all of it, or 96 of one that is longer
+-- Of the numbers lent for a table, so many: all of it, or `scratchLength` of one that is longer
 abbrev pub LentFor : ℕ → List ℤ → Type 0
-LentFor limit t = (length t ≡ limit → ⊥) → (length t ≡ 96) × (96 < limit)
+LentFor limit t = (length t ≡ limit → ⊥) → (length t ≡ scratchLength) × (scratchLength < limit)
 
 -- t₁: the numbers on return, where they are the table. Refused, nothing is said of them.
 abbrev pub SetOut : Digits → List ℕ → ℕ → List ℤ → List ℤ → Answer → Type 0

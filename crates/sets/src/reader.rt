@@ -1,7 +1,13 @@
 // The reader.
 use account::BLOCK_TOP;
 use account::Class;
+use account::HEADER_LENGTH;
+use account::MOST_ROWS;
+use account::MOST_SERIALS;
+use account::MOST_SYMBOLS;
 use account::Now;
+use account::SCRATCH_LENGTH;
+use account::TALLY_LENGTH;
 use account::Through;
 use account::Volume;
 use drawing::classes::class_of;
@@ -12,6 +18,7 @@ use lines::spool::volumes;
 use rules::Answer;
 use rules::Digits;
 use rules::Refusal;
+use rules::WIDTH;
 use steps::read_volume;
 ghost use mathlib.Core.Path.{_≡_};
 ghost use Prim.Native.Nat.{_≤_, _<_};
@@ -68,15 +75,15 @@ fn read_set(s: &[u8], class: Digits, limit: usize, t: &mut [i64]) -> Answer
             line: 0,
         });
     }
-    let mut tally = [0u32; 12];
-    let mut symbols = [0u32; 1280];
+    let mut tally = [0u32; TALLY_LENGTH];
+    let mut symbols = [0u32; MOST_SYMBOLS];
     let mut layers = [0u32; 64];
-    let mut serials = [0u64; 1464];
+    let mut serials = [0u64; MOST_SERIALS];
     let mut used = [false; 64];
     let mut used_all = [false; 64];
-    let mut marks = [false; 28];
+    let mut marks = [false; MOST_ROWS];
     let mut inner = [false; 2];
-    let mut header = [0i64; 70];
+    let mut header = [0i64; HEADER_LENGTH];
     let places = l.places;
     let lengths = l.lengths;
     let mut here = nothing_yet();
@@ -116,7 +123,7 @@ fn read_set(s: &[u8], class: Digits, limit: usize, t: &mut [i64]) -> Answer
         }
         i += 1;
     }
-    Answer::Accepted((here.free / 32) as u32)
+    Answer::Accepted((here.free / WIDTH) as u32)
 }
 
 // A spool, a range class and a lent table: the answer, and the records in the table. Refused, the table is all zeros; accepted, it is zero
@@ -150,6 +157,6 @@ pub fn read(s: &[u8], class: u64, t: &mut [i64]) -> Answer
 pub(crate) fn judge(s: &[u8]) -> Answer
     ensures { λ r. ⌜ Judged (now (s .entry)) r ⌝ }
 {
-    let mut scratch = [0i64; 96];
+    let mut scratch = [0i64; SCRATCH_LENGTH];
     read_set(s, Digits { middle: 1, last: 5 }, 2097152, &mut scratch)
 }

@@ -17,11 +17,12 @@ use Rattle.account.specs.Placing.{Shaped}
 use Rattle.standing.specs.SoFar.{volumeOf}
 use Rattle.account.specs.FileLines.{PartOpen, partMarks, Header, countAt, fileWidth}
 use Rattle.standing.specs.Standing.{Desk, Bare}
+use Rattle.rules.specs.RecordTable.{kindHeader, kindVolume}
 
 -- its records, begun
 abbrev pub fileHead : Bool → ℕ → ℕ → List ℤ
-fileHead true k n = start 1 0 k n ++ start 2 0 k n
-fileHead false k n = start 2 0 k n
+fileHead true k n = start kindHeader 0 k n ++ start kindVolume 0 k n
+fileHead false k n = start kindVolume 0 k n
 
 -- a row of one number holds numbers, or nothing
 abbrev pub isNumbers : Option Value → Bool
@@ -41,7 +42,9 @@ pub record InFile (spool : List ℕ) (k : ℕ) (d : Desk) (s : Set) (n : ℕ) (h
   pub shaped : Shaped 0 (fileTables (isFirst s)) h
   pub filled : take (fileWidth (isFirst s)) (d .header) ≡ putHeld (fileTables (isFirst s)) h (fileHead (isFirst s) k n)
   pub marked : (q : ℕ) → q < length (fileTables (isFirst s)) → partMarks (isFirst s) q (d .marks) ≡ rowsThere (partOf h q)
-  pub next : charsOf (slotValue (held "next_file" (ownTable (isFirst s)) (partOf h 0))) ≡ map capital (bytesAt spool (span (countAt (d .header) 66) (countAt (d .header) 67)))
+  pub next :
+      charsOf (slotValue (held "next_file" (ownTable (isFirst s)) (partOf h 0)))
+      ≡ map capital (bytesAt spool (span (countAt (d .header) 66) (countAt (d .header) 67)))
   pub date : isFirst s ≡ false → countAt (d .header) 68 ≡ numberOf "date" laterTable (partOf h 0)
   pub time : isFirst s ≡ false → countAt (d .header) 69 ≡ numberOf "time" laterTable (partOf h 0)
   pub counted : (q j : ℕ) → columns (ruleAt (getD (fileTables (isFirst s)) q []) j .holds) ≡ 1 → isNumbers (getD (partOf h q) j none) ≡ true

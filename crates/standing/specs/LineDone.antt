@@ -32,19 +32,24 @@ use Rattle.account.specs.PlacedLines.{Lent, lent, PlacedLine, LentReady}
 use Rattle.account.specs.TopLines.{Answered, TopLent, topLent, topNow, topLentBy}
 use Rattle.account.specs.DrawingLines.{drawingAct, drawingNow, drawingMarks, drawingPut, NamesLine}
 use Rattle.account.specs.FileLines.{fileTableOf, partMarks, FileLine, FileReady}
+use Rattle.tables.specs.Numbering.{tableDefines, tableSymbol, tableElement, tableSymbolPoints}
+use Rattle.account.specs.Numbering.{blockTop, blockFile, blockDrawing, blockLayerNames, blockDefines, blockSymbol, blockHide, blockElements, blockFigures}
+use Rattle.account.specs.Numbering.{blockChain, blockText, blockPlaced, blockEnded, tallyArc, tallySymbolRange, tallyDefineRange, tallyElementsHere}
+use Rattle.account.specs.Numbering.{tallyTotal, tallySymbols, tallyLayers, tallyLength, mostRows}
+use Rattle.rules.specs.RecordTable.{width}
 
 -- ── the names in use ──
 -- the tally tells how many of the kept names there are: the symbols', and the layers'
 abbrev pub namesOf : List ℕ → List ℕ → List ℕ
-namesOf tally symbols = take (getD tally 9 0) symbols
+namesOf tally symbols = take (getD tally tallySymbols 0) symbols
 
 abbrev pub idsOf : List ℕ → List ℕ → List ℕ
-idsOf tally layers = take (getD tally 10 0) layers
+idsOf tally layers = take (getD tally tallyLayers 0) layers
 
 pub record Named (tally symbols layers : List ℕ) : Type 0 where
-  pub twelve : length tally ≡ 12
-  pub names : getD tally 9 0 ≤ length symbols
-  pub ids : getD tally 10 0 ≤ length layers
+  pub twelve : length tally ≡ tallyLength
+  pub names : getD tally tallySymbols 0 ≤ length symbols
+  pub ids : getD tally tallyLayers 0 ≤ length layers
   pub few-symbols : length symbols ≤ 65536
   pub few-layers : length layers ≤ 64
 
@@ -73,29 +78,32 @@ module _ (spool : List ℕ) (form : LineForm) (n : Now) (tally symbols layers : 
   OnChain own w t₀ t₁ r = ChainLine (pointAct (pointTableOf (n .layered)) spool names ids n form t₀) n own w t₀ t₁ r
 
   abbrev pub OnHide : Where → List ℤ → List ℤ → Step → Type 0
-  OnHide w t₀ t₁ r = HideLine (pointAct 15 spool names ids n form t₀) n w t₀ t₁ r
+  OnHide w t₀ t₁ r = HideLine (pointAct tableSymbolPoints spool names ids n form t₀) n w t₀ t₁ r
 
   -- its record is the last one
   abbrev pub OnText : List Bool → List Bool → List ℤ → List ℤ → Step → Type 0
-  OnText i₀ i₁ t₀ t₁ r = Lends (n .free - 32) t₀ t₁ λ rec₀ rec₁. TextLine (act known (tableOf (textTableOf (n .layered))) (digits 0 0) i₀ line) n i₀ i₁ rec₀ rec₁ r
+  OnText i₀ i₁ t₀ t₁ r =
+      Lends (n .free - width) t₀ t₁ λ rec₀ rec₁. TextLine (act known (tableOf (textTableOf (n .layered))) (digits 0 0) i₀ line) n i₀ i₁ rec₀ rec₁ r
 
   abbrev pub figureAct : List ℤ → Act
   figureAct t =
       taking (hasRoom (n .free) t)
-      (act known (tableOf (homeTable (n .layered) (getD tally 1 0))) (digitsOf (getD tally 1 0)) (replicate (homeRows (n .layered)) false) line)
+      (act known (tableOf (homeTable (n .layered) (getD tally tallySymbolRange 0))) (digitsOf (getD tally tallySymbolRange 0))
+      (replicate (homeRows (n .layered)) false) line)
 
   -- a layer that closes is counted
   abbrev pub OnFigures : Where → List ℕ → List Bool → List Bool → List Bool → List Bool → List ℤ → List ℤ → Step → Type 0
-  OnFigures w tally₁ m₀ m₁ i₀ i₁ t₀ t₁ r = FigureLine (figureAct t₀) n (getD tally 1 0) w t₀ t₁ m₀ m₁ i₀ i₁ r × (tally₁ ≡ tallyAfter tally r)
+  OnFigures w tally₁ m₀ m₁ i₀ i₁ t₀ t₁ r = FigureLine (figureAct t₀) n (getD tally tallySymbolRange 0) w t₀ t₁ m₀ m₁ i₀ i₁ r × (tally₁ ≡ tallyAfter tally r)
 
   abbrev pub OnElements : List ℕ → List Bool → List Bool → List Bool → List Bool → Step → Type 0
-  OnElements tally₁ u₀ u₁ a₀ a₁ r = ElementLine (act known (tableOf 10) (digits 0 0) (false ∷ []) line) n tally tally₁ u₀ u₁ a₀ a₁ r
+  OnElements tally₁ u₀ u₁ a₀ a₁ r = ElementLine (act known (tableOf tableElement) (digits 0 0) (false ∷ []) line) n tally tally₁ u₀ u₁ a₀ a₁ r
 
   abbrev pub OnDefines : Where → List Bool → List Bool → List ℤ → List ℤ → Step → Type 0
-  OnDefines w m₀ m₁ t₀ t₁ r = DefinesLine (act known (tableOf 8) (digitsOf (getD tally 2 0)) (nonIn n ∷ false ∷ []) line) n (length names) w m₀ m₁ t₀ t₁ r
+  OnDefines w m₀ m₁ t₀ t₁ r =
+      DefinesLine (act known (tableOf tableDefines) (digitsOf (getD tally tallyDefineRange 0)) (nonIn n ∷ false ∷ []) line) n (length names) w m₀ m₁ t₀ t₁ r
 
   abbrev pub symbolAct : List Bool → Act
-  symbolAct m = act known (tableOf 9) (digitsOf (getD tally 2 0)) (take 4 m) line
+  symbolAct m = act known (tableOf tableSymbol) (digitsOf (getD tally tallyDefineRange 0)) (take 4 m) line
 
   -- its record stands before those of its figures; the name of a symbol that closes is kept
   abbrev pub OnSymbol : List ℕ → List ℕ → List Bool → List Bool → List ℤ → List ℤ → Step → Type 0
@@ -105,18 +113,19 @@ module _ (spool : List ℕ) (form : LineForm) (n : Now) (tally symbols layers : 
 
   -- a symbol that closes has a name, and there is room for it
   pub record SymbolReady (m : List Bool) (t : List ℤ) : Type 0 where
-    pub own : n .own + 32 ≤ length t
-    pub marks : length m ≡ 28
+    pub own : n .own + width ≤ length t
+    pub marks : length m ≡ mostRows
     pub content : ContentPlaced line
-    pub room : getD tally 9 0 < length symbols
+    pub room : getD tally tallySymbols 0 < length symbols
     pub name : symbolAct m ≡ shut → isNamed (partAt (n .own) t) ≡ true
 
   abbrev pub OnPlaced : Digits → Lent → Lent → List ℤ → List ℤ → Step → Type 0
-  OnPlaced c x₀ x₁ t₀ t₁ r = Lends (n .free - 32) t₀ t₁ λ rec₀ rec₁. PlacedLine known c (digitsOf (getD tally 1 0)) n x₀ x₁ rec₀ rec₁ r (eqb (n .part) 1) line
+  OnPlaced c x₀ x₁ t₀ t₁ r =
+      Lends (n .free - width) t₀ t₁ λ rec₀ rec₁. PlacedLine known c (digitsOf (getD tally tallySymbolRange 0)) n x₀ x₁ rec₀ rec₁ r (eqb (n .part) 1) line
 
   -- no layer has a name that a line of DRAWING_FORMAT asks for
   abbrev sheetAct : List Bool → Act
-  sheetAct m = drawingAct (knownIn spool names []) (getD tally 0 0) m line
+  sheetAct m = drawingAct (knownIn spool names []) (getD tally tallyArc 0) m line
 
   abbrev pub OnDrawing : List Bool → List Bool → List ℤ → List ℤ → Step → Type 0
   OnDrawing m₀ m₁ t₀ t₁ r =
@@ -126,7 +135,8 @@ module _ (spool : List ℕ) (form : LineForm) (n : Now) (tally symbols layers : 
   OnNames w tally₁ layers₁ t₀ t₁ r = NamesLine spool n w line tally tally₁ layers layers₁ t₀ t₁ r × (length layers₁ ≡ length layers)
 
   abbrev pub OnTop : Where → List Bool → TopLent → TopLent → Step → Type 0
-  OnTop w usedAll b₀ b₁ r = Answered (topNow known (eqb (w .volume) 1) n w tally usedAll (b₀ .table) line) (b₁ ≡ topLentBy known (eqb (w .volume) 1) n w b₀ line) r
+  OnTop w usedAll b₀ b₁ r =
+      Answered (topNow known (eqb (w .volume) 1) n w tally usedAll (b₀ .table) line) (b₁ ≡ topLentBy known (eqb (w .volume) 1) n w b₀ line) r
 
   abbrev pub OnFile : List ℕ → Where → List ℕ → List Bool → List Bool → List ℤ → List ℤ → List ℤ → List ℤ → Step → Type 0
   OnFile following w tally₁ m₀ m₁ h₀ h₁ t₀ t₁ r =
@@ -136,55 +146,58 @@ module _ (spool : List ℕ) (form : LineForm) (n : Now) (tally symbols layers : 
 -- ── any line ──
 -- what is lent on return; a line leaves what its block has no use for. The own record of an open `successive` stands at `own`.
 pub data Done (c : Digits) (spool following : List ℕ) (form : LineForm) (w : Where) (own : ℕ) (d d₁ : Desk) (r : Step) : Type 0 where
-  top : d .now .block ≡ 0
-      → OnTop spool form (d .now) (d .tally) (d .symbols) (d .layers) w (d .usedAll) (topLent (d .marks) (d .used) (d .header) (d .table)) (topLent (d₁ .marks) (d₁ .used) (d₁ .header) (d₁ .table)) r
+  top : d .now .block ≡ blockTop
+      → OnTop spool form (d .now) (d .tally) (d .symbols) (d .layers) w (d .usedAll) (topLent (d .marks) (d .used) (d .header) (d .table))
+      (topLent (d₁ .marks) (d₁ .used) (d₁ .header) (d₁ .table)) r
       → d₁ ≡ desk (d .now) (d .tally) (d .symbols) (d .layers) (d .serials) (d₁ .used) (d .usedAll) (d₁ .marks) (d .inner) (d₁ .header) (d₁ .table)
       → Done c spool following form w own d d₁ r
-  file : d .now .block ≡ 1
-      → OnFile spool form (d .now) (d .tally) (d .symbols) (d .layers) following w (d₁ .tally) (d .marks) (d₁ .marks) (d .header) (d₁ .header) (d .table) (d₁ .table) r
+  file : d .now .block ≡ blockFile
+      → OnFile spool form (d .now) (d .tally) (d .symbols) (d .layers) following w (d₁ .tally) (d .marks) (d₁ .marks) (d .header) (d₁ .header)
+      (d .table) (d₁ .table) r
       → d₁ ≡ desk (d .now) (d₁ .tally) (d .symbols) (d .layers) (d .serials) (d .used) (d .usedAll) (d₁ .marks) (d .inner) (d₁ .header) (d₁ .table)
       → Done c spool following form w own d d₁ r
-  drawing : d .now .block ≡ 2
+  drawing : d .now .block ≡ blockDrawing
       → OnDrawing spool form (d .now) (d .tally) (d .symbols) (d .layers) (d .marks) (d₁ .marks) (d .table) (d₁ .table) r
       → d₁ ≡ desk (d .now) (d .tally) (d .symbols) (d .layers) (d .serials) (d .used) (d .usedAll) (d₁ .marks) (d .inner) (d .header) (d₁ .table)
       → Done c spool following form w own d d₁ r
-  layer-names : d .now .block ≡ 3
+  layer-names : d .now .block ≡ blockLayerNames
       → OnNames spool form (d .now) (d .tally) (d .symbols) (d .layers) w (d₁ .tally) (d₁ .layers) (d .table) (d₁ .table) r
       → d₁ ≡ desk (d .now) (d₁ .tally) (d .symbols) (d₁ .layers) (d .serials) (d .used) (d .usedAll) (d .marks) (d .inner) (d .header) (d₁ .table)
       → Done c spool following form w own d d₁ r
-  defines : d .now .block ≡ 4
+  defines : d .now .block ≡ blockDefines
       → OnDefines spool form (d .now) (d .tally) (d .symbols) (d .layers) w (d .marks) (d₁ .marks) (d .table) (d₁ .table) r
       → d₁ ≡ desk (d .now) (d .tally) (d .symbols) (d .layers) (d .serials) (d .used) (d .usedAll) (d₁ .marks) (d .inner) (d .header) (d₁ .table)
       → Done c spool following form w own d d₁ r
-  symbol : d .now .block ≡ 5
+  symbol : d .now .block ≡ blockSymbol
       → OnSymbol spool form (d .now) (d .tally) (d .symbols) (d .layers) (d₁ .tally) (d₁ .symbols) (d .marks) (d₁ .marks) (d .table) (d₁ .table) r
       → d₁ ≡ desk (d .now) (d₁ .tally) (d₁ .symbols) (d .layers) (d .serials) (d .used) (d .usedAll) (d₁ .marks) (d .inner) (d .header) (d₁ .table)
       → Done c spool following form w own d d₁ r
-  hide : d .now .block ≡ 6
+  hide : d .now .block ≡ blockHide
       → OnHide spool form (d .now) (d .tally) (d .symbols) (d .layers) w (d .table) (d₁ .table) r
       → d₁ ≡ desk (d .now) (d .tally) (d .symbols) (d .layers) (d .serials) (d .used) (d .usedAll) (d .marks) (d .inner) (d .header) (d₁ .table)
       → Done c spool following form w own d d₁ r
-  elements : d .now .block ≡ 7
+  elements : d .now .block ≡ blockElements
       → OnElements spool form (d .now) (d .tally) (d .symbols) (d .layers) (d₁ .tally) (d .used) (d₁ .used) (d .usedAll) (d₁ .usedAll) r
       → d₁ ≡ desk (d .now) (d₁ .tally) (d .symbols) (d .layers) (d .serials) (d₁ .used) (d₁ .usedAll) (d .marks) (d .inner) (d .header) (d .table)
       → Done c spool following form w own d d₁ r
-  figures : d .now .block ≡ 8
+  figures : d .now .block ≡ blockFigures
       → OnFigures spool form (d .now) (d .tally) (d .symbols) (d .layers) w (d₁ .tally) (d .marks) (d₁ .marks) (d .inner) (d₁ .inner) (d .table) (d₁ .table) r
       → d₁ ≡ desk (d .now) (d₁ .tally) (d .symbols) (d .layers) (d .serials) (d .used) (d .usedAll) (d₁ .marks) (d₁ .inner) (d .header) (d₁ .table)
       → Done c spool following form w own d d₁ r
-  chain : d .now .block ≡ 9
+  chain : d .now .block ≡ blockChain
       → OnChain spool form (d .now) (d .tally) (d .symbols) (d .layers) own w (d .table) (d₁ .table) r
       → d₁ ≡ desk (d .now) (d .tally) (d .symbols) (d .layers) (d .serials) (d .used) (d .usedAll) (d .marks) (d .inner) (d .header) (d₁ .table)
       → Done c spool following form w own d d₁ r
-  text : d .now .block ≡ 10
+  text : d .now .block ≡ blockText
       → OnText spool form (d .now) (d .tally) (d .symbols) (d .layers) (d .inner) (d₁ .inner) (d .table) (d₁ .table) r
       → d₁ ≡ desk (d .now) (d .tally) (d .symbols) (d .layers) (d .serials) (d .used) (d .usedAll) (d .marks) (d₁ .inner) (d .header) (d₁ .table)
       → Done c spool following form w own d d₁ r
-  placed : d .now .block ≡ 11
-      → OnPlaced spool form (d .now) (d .tally) (d .symbols) (d .layers) c (lent (d .tally) (d .serials) (d .marks) (d .inner)) (lent (d₁ .tally) (d₁ .serials) (d₁ .marks) (d₁ .inner)) (d .table) (d₁ .table) r
+  placed : d .now .block ≡ blockPlaced
+      → OnPlaced spool form (d .now) (d .tally) (d .symbols) (d .layers) c (lent (d .tally) (d .serials) (d .marks) (d .inner))
+      (lent (d₁ .tally) (d₁ .serials) (d₁ .marks) (d₁ .inner)) (d .table) (d₁ .table) r
       → d₁ ≡ desk (d .now) (d₁ .tally) (d .symbols) (d .layers) (d₁ .serials) (d .used) (d .usedAll) (d₁ .marks) (d₁ .inner) (d .header) (d₁ .table)
       → Done c spool following form w own d d₁ r
-  other : 12 ≤ d .now .block → r ≡ S.Stop 9 → d₁ ≡ d → Done c spool following form w own d d₁ r
+  other : blockEnded ≤ d .now .block → r ≡ S.Stop 9 → d₁ ≡ d → Done c spool following form w own d d₁ r
 
 -- what a line needs
 pub record LineFits (spool : List ℕ) (form : LineForm) (w : Where) (own : ℕ) (d : Desk) : Type 0 where
@@ -192,13 +205,16 @@ pub record LineFits (spool : List ℕ) (form : LineForm) (w : Where) (own : ℕ)
   pub named : Named (d .tally) (d .symbols) (d .layers)
   pub lengths : Lengths d
   pub free : d .now .free ≤ length (d .table)
-  pub file : d .now .block ≡ 1 → FileReady (eqb (w .volume) 1) (d .now) (d .tally) (d .marks) (d .header) (d .table)
-  pub drawing : d .now .block ≡ 2 → d .now .own + 32 ≤ length (d .table)
-  pub symbol : d .now .block ≡ 5 → SymbolReady spool form (d .now) (d .tally) (d .symbols) (d .layers) (d .marks) (d .table)
-  pub hide : d .now .block ≡ 6 → d .now .points < 4294967295
-  pub elements : d .now .block ≡ 7 → getD (d .tally) 8 0 + getD (d .tally) 7 0 ≤ 4294967295
-  pub figures : d .now .block ≡ 8 → getD (d .tally) 7 0 + d .now .figures < 4294967295
-  pub chain : d .now .block ≡ 9 → (d .now .figures < 4294967295) × (d .now .points < 4294967295) × (leastPoints ≤ d .now .points → own + 64 ≤ length (d .table))
-  pub text : d .now .block ≡ 10 → (32 ≤ d .now .free) × (d .now .figures < 4294967295)
-  pub placed : d .now .block ≡ 11
-      → (32 ≤ d .now .free) × LentReady (lent (d .tally) (d .serials) (d .marks) (d .inner)) (partAt (d .now .free - 32) (d .table)) × (d .now .figures < 4294967295)
+  pub file : d .now .block ≡ blockFile → FileReady (eqb (w .volume) 1) (d .now) (d .tally) (d .marks) (d .header) (d .table)
+  pub drawing : d .now .block ≡ blockDrawing → d .now .own + width ≤ length (d .table)
+  pub symbol : d .now .block ≡ blockSymbol → SymbolReady spool form (d .now) (d .tally) (d .symbols) (d .layers) (d .marks) (d .table)
+  pub hide : d .now .block ≡ blockHide → d .now .points < 4294967295
+  pub elements : d .now .block ≡ blockElements → getD (d .tally) tallyTotal 0 + getD (d .tally) tallyElementsHere 0 ≤ 4294967295
+  pub figures : d .now .block ≡ blockFigures → getD (d .tally) tallyElementsHere 0 + d .now .figures < 4294967295
+  pub chain :
+      d .now .block ≡ blockChain
+      → (d .now .figures < 4294967295) × (d .now .points < 4294967295) × (leastPoints ≤ d .now .points → own + 64 ≤ length (d .table))
+  pub text : d .now .block ≡ blockText → (width ≤ d .now .free) × (d .now .figures < 4294967295)
+  pub placed : d .now .block ≡ blockPlaced
+      → (width ≤ d .now .free) × LentReady (lent (d .tally) (d .serials) (d .marks) (d .inner)) (partAt (d .now .free - width) (d .table))
+      × (d .now .figures < 4294967295)

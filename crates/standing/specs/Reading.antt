@@ -26,6 +26,7 @@ use Rattle.standing.specs.Standing.{Desk, Stands, deskNow, deskTable, Un
 use Rattle.account.specs.TableApart.{Seen, SeenBy}
 use Rattle.account.specs.SymbolLines.{nameOf, nameNumber}
 use Rattle.standing.specs.FileStanding.{InFile}
+use Rattle.account.specs.Numbering.{blockDefines, blockElements, tallyElementsHere, tallySymbols}
 
 -- the desk stands at the state st of a reading of volume k, behind the place `at`
 abbrev pub Standing : Digits → List ℕ → ℕ → Desk → ℕ → State → Type 0
@@ -64,24 +65,25 @@ pub record LineReady (c : Digits) (spool : List ℕ) (k : ℕ) (form : LineForm)
 -- the answer is the step that the definitions make, at any table and state that the desk stands at
 abbrev pub LinePromise : Digits → List ℕ → ℕ → LineForm → Where → ℕ → Desk → Desk → List ℕ → Step → Type 0
 LinePromise c spool k form w limit d₀ d₁ following r =
-    (table : List ℤ) (e : Env) (l : Line) (at to : ℕ) (st : State) → Seen (d₀ .now) (d₀ .table) limit table → Under c (deskTable d₀ table) e → LineHere spool k at to form w l → l .next ≡ following
+    (table : List ℤ) (e : Env) (l : Line) (at to : ℕ) (st : State) → Seen (d₀ .now) (d₀ .table) limit table → Under c (deskTable d₀ table) e
+    → LineHere spool k at to form w l → l .next ≡ following
     → PlacedForm (l .form) → Standing c spool k (deskTable d₀ table) at st
     → (table₁ : List ℤ) × StepOut c spool k (InFile spool k) e l to st (deskTable d₁ table₁) r × SeenBy r (d₁ .table) limit table₁
 
 -- a closed layer's figures are counted
 abbrev pub tallyAfter : List ℕ → Step → List ℕ
-tallyAfter t (S.Go n) = cond (eqb (n .block) 7) (set t 7 (getD t 7 0 + n .figures)) t
+tallyAfter t (S.Go n) = cond (eqb (n .block) blockElements) (set t tallyElementsHere (getD t tallyElementsHere 0 + n .figures)) t
 tallyAfter t (S.Skip n) = t
 tallyAfter t (S.Stop m) = t
 
 -- a closed symbol's name joins the others
 abbrev pub tallyNamed : List ℕ → Step → List ℕ
-tallyNamed t (S.Go n) = cond (eqb (n .block) 4) (set t 9 (getD t 9 0 + 1)) t
+tallyNamed t (S.Go n) = cond (eqb (n .block) blockDefines) (set t tallySymbols (getD t tallySymbols 0 + 1)) t
 tallyNamed t (S.Skip n) = t
 tallyNamed t (S.Stop m) = t
 
 abbrev pub symbolsNamed : List ℕ → List ℤ → List ℕ → Step → List ℕ
-symbolsNamed t rec symbols (S.Go n) = cond (eqb (n .block) 4) (set symbols (getD t 9 0) (nameNumber (nameOf rec))) symbols
+symbolsNamed t rec symbols (S.Go n) = cond (eqb (n .block) blockDefines) (set symbols (getD t tallySymbols 0) (nameNumber (nameOf rec))) symbols
 symbolsNamed t rec symbols (S.Skip n) = symbols
 symbolsNamed t rec symbols (S.Stop m) = symbols
 
@@ -124,6 +126,7 @@ VolumeOut c spool v last limit e st lines more d (T.Stop f) = run e st (lines ++
 
 abbrev pub VolumePromise : Digits → List ℕ → Volume → ℕ → ℕ → List ℕ → Desk → Desk → Through → Type 0
 VolumePromise c spool v start limit following d₀ d₁ r =
-    (table : List ℤ) (e : Env) (s : Set) (lines : List (List ℕ)) (more : List Line) → Seen (d₀ .now) (d₀ .table) limit table → Under c (deskTable d₀ table) e → At spool v (startOf start) lines
+    (table : List ℤ) (e : Env) (s : Set) (lines : List (List ℕ)) (more : List Line) → Seen (d₀ .now) (d₀ .table) limit table
+    → Under c (deskTable d₀ table) e → At spool v (startOf start) lines
     → Standing c spool (v .number) (deskTable d₀ table) start (top s 0)
     → VolumeOut c spool v (isNil following) limit e (top s 0) (linesOfVolume (v .number) following start lines) more d₁ r

@@ -13,7 +13,7 @@ use Rattle.rules.specs.Sets.{Figure, Drawing, Symbol, Set, isFirst, rangeOf, is
 use Rattle.rules.specs.Machine.{Home, inElement, inLayer, State, top, file, drawing, layerNames, defines, symbol, hide, elements, figures, successive, texts}
 use Rattle.rules.specs.Machine.{placing, skipping, ended}
 use Rattle.rules.specs.RecordTable.{putSlots, putHeld, start, fileRecords, drawingRecord, layerRecords, pointRecords, textRecord, figureRecords, innerRecords}
-use Rattle.rules.specs.RecordTable.{symbolRecords, bodyRecords, recordsFrom}
+use Rattle.rules.specs.RecordTable.{symbolRecords, bodyRecords, recordsFrom, width, kindSymbol, kindSuccessive, kindPlaced, kindPoint, inSymbol, kindHidden}
 
 -- the number of the volume at hand
 abbrev pub volumeOf : Set → ℕ
@@ -41,7 +41,7 @@ layersRecords c s = baseRecords c s (isFirst s) ++ bodyRecords c (rangeOf s) (la
 
 -- of a symbol that is open, as far as it is
 abbrev pub symbolSoFar : Set → Symbol → List (List ℤ)
-symbolSoFar s y = frontRecords s ++ putSlots symbolTable (y .own) (start 4 (length (s .symbols)) 1 (y .line)) ∷ innerRecords (length (s .symbols)) y
+symbolSoFar s y = frontRecords s ++ putSlots symbolTable (y .own) (start kindSymbol (length (s .symbols)) 1 (y .line)) ∷ innerRecords (length (s .symbols)) y
 
 -- ── figures: in a symbol's `element`, or in a layer ──
 abbrev pub homeRecords : Digits → Set → Home → List (List ℤ)
@@ -58,11 +58,11 @@ homeVolume s (inLayer k) = volumeOf s
 
 -- "plus 20 inside a symbol"
 abbrev pub homeMore : Home → ℕ
-homeMore (inElement y) = 20
+homeMore (inElement y) = inSymbol
 homeMore (inLayer k) = 0
 
 abbrev pub homeFigure : Digits → Set → Home → Figure → List (List ℤ)
-homeFigure c s (inElement y) f = figureRecords (digits 0 0) (digits 0 0) figureTable 20 (length (s .symbols)) 1 f
+homeFigure c s (inElement y) f = figureRecords (digits 0 0) (digits 0 0) figureTable inSymbol (length (s .symbols)) 1 f
 homeFigure c s (inLayer k) f = figureRecords c (rangeOf s) (layerTable (isSingle s)) 0 k (volumeOf s) f
 
 abbrev pub figuresSoFar : Digits → Set → Home → List Figure → List (List ℤ)
@@ -70,7 +70,7 @@ figuresSoFar c s h fs = homeRecords c s h ++ flat (map (homeFigure c s h) fs)
 
 -- a record whose numbers come later
 abbrev pub emptyRecord : List ℤ
-emptyRecord = replicate 32 (pos 0)
+emptyRecord = replicate width (pos 0)
 
 -- FILE_FORMAT's numbers are put when it closes
 abbrev pub emptyRecords : Bool → List (List ℤ)
@@ -93,12 +93,13 @@ soFar c (drawing s d) = sheetRecords s d
 soFar c (layerNames s d) = sheetRecords s d
 soFar c (defines s b) = frontRecords s
 soFar c (symbol s y) = symbolSoFar s y
-soFar c (hide s y ps) = symbolSoFar s y ++ pointRecords 43 (length (s .symbols)) 1 ps
+soFar c (hide s y ps) = symbolSoFar s y ++ pointRecords kindHidden (length (s .symbols)) 1 ps
 soFar c (elements s) = layersRecords c s
 soFar c (figures s h fs) = figuresSoFar c s h fs
 soFar c (successive s h fs n ps) =
-    figuresSoFar c s h fs ++ start (14 + homeMore h) (homeOwner s h) (homeVolume s h) n ∷ pointRecords (17 + homeMore h) (homeOwner s h) (homeVolume s h) ps
+    figuresSoFar c s h fs
+    ++ start (kindSuccessive + homeMore h) (homeOwner s h) (homeVolume s h) n ∷ pointRecords (kindPoint + homeMore h) (homeOwner s h) (homeVolume s h) ps
 soFar c (texts s h fs n o) = figuresSoFar c s h fs ++ textRecord (homeMore h) (homeOwner s h) (homeVolume s h) n o ∷ []
-soFar c (placing s k fs n o p) = figuresSoFar c s (inLayer k) fs ++ putHeld placedTables o (start 16 k (volumeOf s) n) ∷ []
-soFar c (skipping s k fs n o d) = figuresSoFar c s (inLayer k) fs ++ putHeld placedTables o (start 16 k (volumeOf s) n) ∷ []
+soFar c (placing s k fs n o p) = figuresSoFar c s (inLayer k) fs ++ putHeld placedTables o (start kindPlaced k (volumeOf s) n) ∷ []
+soFar c (skipping s k fs n o d) = figuresSoFar c s (inLayer k) fs ++ putHeld placedTables o (start kindPlaced k (volumeOf s) n) ∷ []
 soFar c (ended s) = closedRecords c s

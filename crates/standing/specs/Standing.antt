@@ -8,7 +8,7 @@ use mathlib.Core.Option.{Option, none, some}
 use lib.IntN.{ℤ}
 use lib.ListN.{length, getD, take}
 use Rattle.rules.specs.declared.Digits.{Digits}
-use Rattle.rules.specs.Base.{flat, total, hasNumber, isNil, isNone, isSome}
+use Rattle.rules.specs.Base.{flat, total, hasNumber, isNone, isSome}
 use Rattle.rules.specs.RefusalNumbers.{got, bad}
 use Rattle.rules.specs.Lines.{Rest, brace, equals, Form, ignored, wrong, close, eof, keyed, span, bytesAt, formIn}
 use Rattle.rules.specs.Values.{Value, empty, nums, chars, linked}
@@ -18,8 +18,8 @@ use Rattle.rules.specs.Figures.{textTable, placedTables}
 use Rattle.rules.specs.Sets.{Point, Figure, placed, Layer, Drawing, Symbol, Set, isFirst, firstContents, arcOf, symbolRange, defineRange, symbolNameOf}
 use Rattle.rules.specs.Sets.{figureSerial, serialsOfVolume, serialsIn, elementsOf, usedIn}
 use Rattle.rules.specs.VolumesAndTotals.{ownTable}
-use Rattle.rules.specs.Machine.{Line, Env, Home, inElement, inLayer, State, top, file, drawing, layerNames, defines, symbol, hide, elements, figures}
-use Rattle.rules.specs.Machine.{successive, texts, placing, skipping, ended, newName}
+use Rattle.rules.specs.Machine.{Line, inLastVolume, Env, Home, inElement, inLayer, State, top, file, drawing, layerNames, defines, symbol, hide, elements}
+use Rattle.rules.specs.Machine.{figures, successive, texts, placing, skipping, ended, newName}
 use Rattle.rules.specs.LineByLine.{stepIn}
 use Rattle.rules.specs.RecordTable.{fileRecords}
 use Rattle.entries.specs.Names.{namesIn}
@@ -31,6 +31,9 @@ use Rattle.account.specs.declared.Step.the-variants as S
 use Rattle.account.specs.Placing.{Shaped}
 use Rattle.standing.specs.Laid.{Laid}
 use Rattle.standing.specs.SoFar.{volumeOf, frontRecords, soFar}
+use Rattle.account.specs.Numbering.{blockTop, blockFile, blockDrawing, blockLayerNames, blockDefines, blockSymbol, blockHide, blockElements, blockFigures}
+use Rattle.account.specs.Numbering.{blockChain, blockText, blockPlaced, blockEnded, mostRows, headerLength, mostSymbols, mostSerials}
+use Rattle.rules.specs.RecordTable.{width}
 
 -- ── what is lent from line to line ──
 pub record Desk : Type 0 where
@@ -64,14 +67,14 @@ desk n tally symbols layers serials used usedAll marks inner header table = reco
 -- a symbol takes 48 bytes of a spool at least, a placed symbol with a serial number 42: at most 1,280 names, and 1,463 serials with one free
 -- place behind them, which a line in a placed symbol asks for
 pub record Lengths (d : Desk) : Type 0 where
-  pub symbols : length (d .symbols) ≡ 1280
+  pub symbols : length (d .symbols) ≡ mostSymbols
   pub layers : length (d .layers) ≡ 64
-  pub serials : length (d .serials) ≡ 1464
+  pub serials : length (d .serials) ≡ mostSerials
   pub used : length (d .used) ≡ 64
   pub usedAll : length (d .usedAll) ≡ 64
-  pub marks : length (d .marks) ≡ 28
+  pub marks : length (d .marks) ≡ mostRows
   pub inner : length (d .inner) ≡ 2
-  pub header : length (d .header) ≡ 70
+  pub header : length (d .header) ≡ headerLength
 
 -- ── what a state says ──
 abbrev pub setOf : State → Set
@@ -360,7 +363,8 @@ module _ (spool : List ℕ) (k : ℕ) (n : Now) (ms is : List Bool) where
 
   -- where the figures stand
   abbrev pub InHome : Set → Home → Type 0
-  InHome s (inElement y) = InSymbol s y × (n .layered ≡ false) × (y .figures ≡ []) × (y .hideFirst ≡ false → y .hidden ≡ []) × (isNone (getD (y .own) 1 none) ≡ false)
+  InHome s (inElement y) =
+      InSymbol s y × (n .layered ≡ false) × (y .figures ≡ []) × (y .hideFirst ≡ false → y .hidden ≡ []) × (isNone (getD (y .own) 1 none) ≡ false)
   InHome s (inLayer m) = (k ≡ volumeOf s) × (n .layered ≡ true) × (n .owner ≡ m) × (m < 64)
 
   pub record InDrawing (s : Set) (w : Drawing) : Type 0 where
@@ -399,26 +403,28 @@ module _ (spool : List ℕ) (k : ℕ) (n : Now) (ms is : List Bool) where
 module _ (c : Digits) (spool : List ℕ) (k : ℕ) (d : Desk) where
   -- FILE_FORMAT's part is said in FileStanding
   abbrev pub Inside : (FileHere : Set → ℕ → Held → ℕ → Type 0) → State → Type 0
-  Inside FileHere (top s m) = (d .now .block ≡ 0) × (d .now .part ≡ m) × TopPhase k s m
-  Inside FileHere (file s n h p) = (d .now .block ≡ 1) × FileHere s n h p
-  Inside FileHere (drawing s w) = (d .now .block ≡ 2) × InDrawing spool k (d .now) (d .marks) (d .inner) s w
-  Inside FileHere (layerNames s w) = (d .now .block ≡ 3) × InDrawing spool k (d .now) (d .marks) (d .inner) s w
-  Inside FileHere (defines s b) = (d .now .block ≡ 4) × (d .now .part ≡ cond b 1 0) × First k s
-  Inside FileHere (symbol s y) = (d .now .block ≡ 5) × InSymbol spool k (d .now) (d .marks) (d .inner) s y
-  Inside FileHere (hide s y ps) = (d .now .block ≡ 6) × InHide spool k (d .now) (d .marks) (d .inner) s y ps
-  Inside FileHere (elements s) = (d .now .block ≡ 7) × (k ≡ volumeOf s)
-  Inside FileHere (figures s h fs) = (d .now .block ≡ 8) × InHome spool k (d .now) (d .marks) (d .inner) s h × (d .now .figures ≡ length fs)
-  Inside FileHere (successive s h fs n ps) = (d .now .block ≡ 9) × InChain spool k (d .now) (d .marks) (d .inner) s h fs ps
-  Inside FileHere (texts s h fs n o) = (d .now .block ≡ 10) × InHome spool k (d .now) (d .marks) (d .inner) s h × (d .now .figures ≡ length fs) × (length o ≡ 2) × (d .inner ≡ rowsThere o)
-  Inside FileHere (placing s m fs n o p) = (d .now .block ≡ 11) × InPlaced spool k (d .now) (d .marks) (d .inner) s m fs o p
+  Inside FileHere (top s m) = (d .now .block ≡ blockTop) × (d .now .part ≡ m) × TopPhase k s m
+  Inside FileHere (file s n h p) = (d .now .block ≡ blockFile) × FileHere s n h p
+  Inside FileHere (drawing s w) = (d .now .block ≡ blockDrawing) × InDrawing spool k (d .now) (d .marks) (d .inner) s w
+  Inside FileHere (layerNames s w) = (d .now .block ≡ blockLayerNames) × InDrawing spool k (d .now) (d .marks) (d .inner) s w
+  Inside FileHere (defines s b) = (d .now .block ≡ blockDefines) × (d .now .part ≡ cond b 1 0) × First k s
+  Inside FileHere (symbol s y) = (d .now .block ≡ blockSymbol) × InSymbol spool k (d .now) (d .marks) (d .inner) s y
+  Inside FileHere (hide s y ps) = (d .now .block ≡ blockHide) × InHide spool k (d .now) (d .marks) (d .inner) s y ps
+  Inside FileHere (elements s) = (d .now .block ≡ blockElements) × (k ≡ volumeOf s)
+  Inside FileHere (figures s h fs) = (d .now .block ≡ blockFigures) × InHome spool k (d .now) (d .marks) (d .inner) s h × (d .now .figures ≡ length fs)
+  Inside FileHere (successive s h fs n ps) = (d .now .block ≡ blockChain) × InChain spool k (d .now) (d .marks) (d .inner) s h fs ps
+  Inside FileHere (texts s h fs n o) =
+      (d .now .block ≡ blockText) × InHome spool k (d .now) (d .marks) (d .inner) s h × (d .now .figures ≡ length fs) × (length o ≡ 2)
+      × (d .inner ≡ rowsThere o)
+  Inside FileHere (placing s m fs n o p) = (d .now .block ≡ blockPlaced) × InPlaced spool k (d .now) (d .marks) (d .inner) s m fs o p
   Inside FileHere (skipping s m fs n o q) = ⊥
-  Inside FileHere (ended s) = d .now .block ≡ 12
+  Inside FileHere (ended s) = d .now .block ≡ blockEnded
 
   -- the reading stands behind the line that ends at `at`
   pub record Stands (FileHere : Set → ℕ → Held → ℕ → Type 0) (at : ℕ) (st : State) : Type 0 where
     pub lengths : Lengths d
     pub laid : Laid (d .table) (soFar c st) (d .now .free)
-    pub taken : 32 * setOf st .taken ≡ d .now .free
+    pub taken : width * setOf st .taken ≡ d .now .free
     pub here : ℕ
     pub this : counts st ≡ true → here ≡ thisOf (setOf st)
     pub tally : d .tally ≡ tallyOf (setOf st) here (length (layersOf st)) (length (serialsOf st))
@@ -468,13 +474,13 @@ deskTable d t = record {
 -- the class, and how many records the table holds
 pub record Under (c : Digits) (d : Desk) (e : Env) : Type 0 where
   pub class : e .class ≡ c
-  pub limit : e .limit ≡ some (length (d .table) / 32)
+  pub limit : e .limit ≡ some (length (d .table) / width)
 
 -- the line l, as the code has it: in volume k, behind it the place `to`
 pub record LineHere (spool : List ℕ) (k at to : ℕ) (form : LineForm) (w : Where) (l : Line) : Type 0 where
   pub volume : w .volume ≡ k
   pub line : w .line ≡ l .line
-  pub ends : w .ends ≡ (isNil (l .next) && l .last)
+  pub ends : w .ends ≡ (inLastVolume l && l .last)
   pub is : l .form ≡ formIn spool form
   pub bytes : at + formSize (l .form) + 2 ≤ to
   pub most : to ≤ 61442
@@ -486,5 +492,7 @@ module _ (c : Digits) (spool : List ℕ) (k : ℕ) (FileHere : Desk → Set → 
   -- the code's answer to the line l in the state st, with these things lent back: the step that the definitions make
   abbrev pub StepOut : Env → Line → ℕ → State → Desk → Step → Type 0
   StepOut e l to st d (S.Go n) = (st′ : State) × (stepIn e l st ≡ got st′) × StandsAt (deskNow d n) to st′
-  StepOut e l to st d (S.Skip n) = (s : Set) × (m : ℕ) × (fs : List Figure) × (i : ℕ) × (o : Held) × (stepIn e l st ≡ got (skipping s m fs i o 1)) × StandsAt (deskNow d n) to (placing s m fs i o 0)
+  StepOut e l to st d (S.Skip n) =
+      (s : Set) × (m : ℕ) × (fs : List Figure) × (i : ℕ) × (o : Held) × (stepIn e l st ≡ got (skipping s m fs i o 1))
+      × StandsAt (deskNow d n) to (placing s m fs i o 0)
   StepOut e l to st d (S.Stop n) = stepIn e l st ≡ bad n

@@ -8,6 +8,7 @@ use Rattle.account.specs.declared.Now.{Now}
 use Rattle.account.specs.declared.Step.{Step}
 use Rattle.account.specs.declared.Step.the-variants as S
 use Rattle.account.specs.Account.{atBlock}
+use Rattle.account.specs.Numbering.{blockTop, blockElements}
 
 abbrev pub eofForm : LineForm → Bool
 eofForm L.Ignored = false
@@ -35,15 +36,15 @@ ignoredForm (L.Refused r) = false
 
 -- ELEMENT is closed
 abbrev pub afterElement : Now → Bool
-afterElement n = eqb (n .block) 0 && eqb (n .part) 4
+afterElement n = eqb (n .block) blockTop && eqb (n .part) 4
 
 -- "The last line of the last volume is `EOF`; other volumes have none": whether the volume is complete after a line, by its structure
 abbrev pub completesOf : Now → LineForm → Bool → Bool
-completesOf n f last = cond last (afterElement n && eofForm f) (cond (eqb (n .block) 7) (closeForm f) (afterElement n && ignoredForm f))
+completesOf n f last = cond last (afterElement n && eofForm f) (cond (eqb (n .block) blockElements) (closeForm f) (afterElement n && ignoredForm f))
 
 -- the next volume begins anew
 abbrev pub nextNow : Now → Now
-nextNow n = cond (eqb (n .block) 0) (atBlock n 0 0) n
+nextNow n = cond (eqb (n .block) blockTop) (atBlock n blockTop 0) n
 
 -- a volume's last line: 9 where the volume is not complete, or the line's own number where that is smaller
 abbrev pub lastStep : Bool → Step → Step

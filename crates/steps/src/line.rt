@@ -37,6 +37,7 @@ use drawing::texts::on_text;
 use drawing::top::on_top;
 use rules::Digits;
 use rules::LineForm;
+use rules::WIDTH;
 ghost use mathlib.Core.Path.{_≡_};
 ghost use mathlib.Core.Bool.{true};
 ghost use Prim.Native.Nat.{_+_, _-_, _≤_, _<_};
@@ -53,10 +54,12 @@ ghost use Rattle.account.specs.FileLines.{FileReady};
 ghost use Rattle.standing.specs.Standing.{desk};
 ghost use Rattle.standing.specs.Reading.{tallyAfter, tallyNamed, symbolsNamed, LineReady, LinePromise};
 ghost use Rattle.standing.specs.LineDone.{Named, SymbolReady, OnTop, OnFile, OnDrawing, OnNames, OnDefines, OnSymbol, OnHide, OnElements, OnFigures, OnChain, OnText, OnPlaced, Done, LineFits};
+ghost use Rattle.account.specs.Numbering.{blockDrawing, blockDefines, blockSymbol, blockElements, blockFigures, tallyElementsHere, tallyTotal, tallySymbols, tallyLayers, tallyLength, mostRows, headerLength};
+ghost use Rattle.rules.specs.RecordTable.{width};
 
 // A layer that has closed: its figures are counted.
 fn layer_counted(did: Step, tally: &mut [u32]) -> Step
-    requires { ⌜ (length (now tally) ≡ 12) × ((n : Now) → did ≡ S.Go n → n .block ≡ 7 → getD (now tally) 7 0 + n .figures ≤ 4294967295) ⌝ }
+    requires { ⌜ (length (now tally) ≡ tallyLength) × ((n : Now) → did ≡ S.Go n → n .block ≡ blockElements → getD (now tally) tallyElementsHere 0 + n .figures ≤ 4294967295) ⌝ }
     ensures { λ r. ⌜ (r ≡ did) × (now (tally .exit) ≡ tallyAfter (now (tally .entry)) did) ⌝ }
 {
     match did {
@@ -73,7 +76,7 @@ fn layer_counted(did: Step, tally: &mut [u32]) -> Step
 
 // A symbol that has closed: its name joins the others.
 fn name_kept(did: Step, tally: &mut [u32], symbols: &mut [u32], rec: &[i64]) -> Step
-    requires { ⌜ (length (now tally) ≡ 12) × (length (now symbols) ≤ 65536) × (length (now rec) ≡ 32) × ((n : Now) → did ≡ S.Go n → n .block ≡ 4 → (getD (now tally) 9 0 < length (now symbols)) × (isNamed (now rec) ≡ true)) ⌝ }
+    requires { ⌜ (length (now tally) ≡ tallyLength) × (length (now symbols) ≤ 65536) × (length (now rec) ≡ width) × ((n : Now) → did ≡ S.Go n → n .block ≡ blockDefines → (getD (now tally) tallySymbols 0 < length (now symbols)) × (isNamed (now rec) ≡ true)) ⌝ }
     ensures { λ r. ⌜ (r ≡ did) × (now (tally .exit) ≡ tallyNamed (now (tally .entry)) did) × (now (symbols .exit) ≡ symbolsNamed (now (tally .entry)) (now (rec .entry)) (now (symbols .entry)) did) ⌝ }
 {
     match did {
@@ -103,7 +106,7 @@ fn at_top(
     header: &mut [i64],
     t: &mut [i64],
 ) -> Step
-    requires { ⌜ (length (now s) ≤ 61440) × Named (now tally) (now symbols) (now layers) × (getD (now tally) 10 0 ≤ length (now «used_all»)) × (length (now header) ≡ 70) ⌝ }
+    requires { ⌜ (length (now s) ≤ 61440) × Named (now tally) (now symbols) (now layers) × (getD (now tally) tallyLayers 0 ≤ length (now «used_all»)) × (length (now header) ≡ headerLength) ⌝ }
     ensures { λ r. ⌜ OnTop (now (s .entry)) form here (now (tally .entry)) (now (symbols .entry)) (now (layers .entry)) at (now («used_all» .entry)) (topLent (now (marks .entry)) (now (used .entry)) (now (header .entry)) (now (t .entry))) (topLent (now (marks .exit)) (now (used .exit)) (now (header .exit)) (now (t .exit))) r ⌝ }
 {
     let ns = tally[TALLY_SYMBOLS] as usize;
@@ -170,13 +173,13 @@ fn in_drawing(
     marks: &mut [bool],
     t: &mut [i64],
 ) -> Step
-    requires { ⌜ (length (now s) ≤ 61440) × Named (now tally) (now symbols) (now layers) × (length (now marks) ≡ 28) × (here .own + 32 ≤ length (now t)) ⌝ }
+    requires { ⌜ (length (now s) ≤ 61440) × Named (now tally) (now symbols) (now layers) × (length (now marks) ≡ mostRows) × (here .own + width ≤ length (now t)) ⌝ }
     ensures { λ r. ⌜ OnDrawing (now (s .entry)) form here (now (tally .entry)) (now (symbols .entry)) (now (layers .entry)) (now (marks .entry)) (now (marks .exit)) (now (t .entry)) (now (t .exit)) r ⌝ }
 {
     let ns = tally[TALLY_SYMBOLS] as usize;
     let arc = tally[TALLY_ARC];
     let from = here.own;
-    let to = from + 32;
+    let to = from + WIDTH;
     on_drawing(
         s,
         &symbols[..ns],
@@ -245,14 +248,14 @@ fn in_symbol(
     marks: &mut [bool],
     t: &mut [i64],
 ) -> Step
-    requires { ⌜ (length (now s) ≤ 61440) × Named (now tally) (now symbols) (now layers) × (here .block ≡ 5) × SymbolReady (now s) form here (now tally) (now symbols) (now layers) (now marks) (now t) ⌝ }
+    requires { ⌜ (length (now s) ≤ 61440) × Named (now tally) (now symbols) (now layers) × (here .block ≡ blockSymbol) × SymbolReady (now s) form here (now tally) (now symbols) (now layers) (now marks) (now t) ⌝ }
     ensures { λ r. ⌜ OnSymbol (now (s .entry)) form here (now (tally .entry)) (now (symbols .entry)) (now (layers .entry)) (now (tally .exit)) (now (symbols .exit)) (now (marks .entry)) (now (marks .exit)) (now (t .entry)) (now (t .exit)) r ⌝ }
 {
     let ns = tally[TALLY_SYMBOLS] as usize;
     let nl = tally[TALLY_LAYERS] as usize;
     let define = tally[TALLY_DEFINE_RANGE];
     let from = here.own;
-    let to = from + 32;
+    let to = from + WIDTH;
     let r = on_symbol(
         s,
         &symbols[..ns],
@@ -294,7 +297,7 @@ fn in_elements(
     used: &mut [bool],
     used_all: &mut [bool],
 ) -> Step
-    requires { ⌜ (length (now s) ≤ 61440) × Named (now tally) (now symbols) (now layers) × (getD (now tally) 8 0 + getD (now tally) 7 0 ≤ 4294967295) × (length (now used) ≡ 64) × (length (now «used_all») ≡ 64) ⌝ }
+    requires { ⌜ (length (now s) ≤ 61440) × Named (now tally) (now symbols) (now layers) × (getD (now tally) tallyTotal 0 + getD (now tally) tallyElementsHere 0 ≤ 4294967295) × (length (now used) ≡ 64) × (length (now «used_all») ≡ 64) ⌝ }
     ensures { λ r. ⌜ OnElements (now (s .entry)) form here (now (tally .entry)) (now (symbols .entry)) (now (layers .entry)) (now (tally .exit)) (now (used .entry)) (now (used .exit)) (now («used_all» .entry)) (now («used_all» .exit)) r ⌝ }
 {
     let ns = tally[TALLY_SYMBOLS] as usize;
@@ -323,7 +326,7 @@ fn in_figures(
     inner: &mut [bool],
     t: &mut [i64],
 ) -> Step
-    requires { ⌜ (length (now s) ≤ 61440) × Named (now tally) (now symbols) (now layers) × (getD (now tally) 7 0 + here .figures < 4294967295) ⌝ }
+    requires { ⌜ (length (now s) ≤ 61440) × Named (now tally) (now symbols) (now layers) × (getD (now tally) tallyElementsHere 0 + here .figures < 4294967295) ⌝ }
     ensures { λ r. ⌜ OnFigures (now (s .entry)) form here (now (tally .entry)) (now (symbols .entry)) (now (layers .entry)) at (now (tally .exit)) (now (marks .entry)) (now (marks .exit)) (now (inner .entry)) (now (inner .exit)) (now (t .entry)) (now (t .exit)) r ⌝ }
 {
     let ns = tally[TALLY_SYMBOLS] as usize;
@@ -373,13 +376,13 @@ fn in_text(
     inner: &mut [bool],
     t: &mut [i64],
 ) -> Step
-    requires { ⌜ (length (now s) ≤ 61440) × Named (now tally) (now symbols) (now layers) × (here .figures < 4294967295) × (length (now inner) ≡ 2) × (32 ≤ here .free) × (here .free ≤ length (now t)) ⌝ }
+    requires { ⌜ (length (now s) ≤ 61440) × Named (now tally) (now symbols) (now layers) × (here .figures < 4294967295) × (length (now inner) ≡ 2) × (width ≤ here .free) × (here .free ≤ length (now t)) ⌝ }
     ensures { λ r. ⌜ OnText (now (s .entry)) form here (now (tally .entry)) (now (symbols .entry)) (now (layers .entry)) (now (inner .entry)) (now (inner .exit)) (now (t .entry)) (now (t .exit)) r ⌝ }
 {
     let ns = tally[TALLY_SYMBOLS] as usize;
     let nl = tally[TALLY_LAYERS] as usize;
     let to = here.free;
-    let from = to - 32;
+    let from = to - WIDTH;
     on_text(
         s,
         &symbols[..ns],
@@ -404,14 +407,14 @@ fn in_placed(
     inner: &mut [bool],
     t: &mut [i64],
 ) -> Step
-    requires { ⌜ (length (now s) ≤ 61440) × Named (now tally) (now symbols) (now layers) × (32 ≤ here .free) × (here .free ≤ length (now t)) × LentReady (lent (now tally) (now serials) (now marks) (now inner)) (partAt (here .free - 32) (now t)) × (here .figures < 4294967295) ⌝ }
+    requires { ⌜ (length (now s) ≤ 61440) × Named (now tally) (now symbols) (now layers) × (width ≤ here .free) × (here .free ≤ length (now t)) × LentReady (lent (now tally) (now serials) (now marks) (now inner)) (partAt (here .free - width) (now t)) × (here .figures < 4294967295) ⌝ }
     ensures { λ r. ⌜ OnPlaced (now (s .entry)) form here (now (tally .entry)) (now (symbols .entry)) (now (layers .entry)) class (lent (now (tally .entry)) (now (serials .entry)) (now (marks .entry)) (now (inner .entry))) (lent (now (tally .exit)) (now (serials .exit)) (now (marks .exit)) (now (inner .exit))) (now (t .entry)) (now (t .exit)) r ⌝ }
 {
     let ns = tally[TALLY_SYMBOLS] as usize;
     let nl = tally[TALLY_LAYERS] as usize;
     let range = tally[TALLY_SYMBOL_RANGE];
     let to = here.free;
-    let from = to - 32;
+    let from = to - WIDTH;
     on_placed(
         s,
         &symbols[..ns],
@@ -448,7 +451,7 @@ fn head_line(
     header: &mut [i64],
     t: &mut [i64],
 ) -> Step
-    requires { ⌜ LineFits (now s) form at own (desk here (now tally) (now symbols) (now layers) (now serials) (now used) (now «used_all») (now marks) (now inner) (now header) (now t)) × (here .block < 2) ⌝ }
+    requires { ⌜ LineFits (now s) form at own (desk here (now tally) (now symbols) (now layers) (now serials) (now used) (now «used_all») (now marks) (now inner) (now header) (now t)) × (here .block < blockDrawing) ⌝ }
     ensures { λ r. ⌜ Done class (now (s .entry)) (now (following .entry)) form at own (desk here (now (tally .entry)) (now (symbols .entry)) (now (layers .entry)) (now (serials .entry)) (now (used .entry)) (now («used_all» .entry)) (now (marks .entry)) (now (inner .entry)) (now (header .entry)) (now (t .entry))) (desk here (now (tally .exit)) (now (symbols .entry)) (now (layers .entry)) (now (serials .entry)) (now (used .exit)) (now («used_all» .entry)) (now (marks .exit)) (now (inner .entry)) (now (header .exit)) (now (t .exit))) r ⌝ }
 {
     if here.block == BLOCK_TOP {
@@ -502,7 +505,7 @@ fn sheet_line(
     header: &[i64],
     t: &mut [i64],
 ) -> Step
-    requires { ⌜ LineFits (now s) form at own (desk here (now tally) (now symbols) (now layers) (now serials) (now used) (now «used_all») (now marks) (now inner) (now header) (now t)) × (2 ≤ here .block) × (here .block < 7) ⌝ }
+    requires { ⌜ LineFits (now s) form at own (desk here (now tally) (now symbols) (now layers) (now serials) (now used) (now «used_all») (now marks) (now inner) (now header) (now t)) × (blockDrawing ≤ here .block) × (here .block < blockElements) ⌝ }
     ensures { λ r. ⌜ Done class (now (s .entry)) (now (following .entry)) form at own (desk here (now (tally .entry)) (now (symbols .entry)) (now (layers .entry)) (now (serials .entry)) (now (used .entry)) (now («used_all» .entry)) (now (marks .entry)) (now (inner .entry)) (now (header .entry)) (now (t .entry))) (desk here (now (tally .exit)) (now (symbols .exit)) (now (layers .exit)) (now (serials .entry)) (now (used .entry)) (now («used_all» .entry)) (now (marks .exit)) (now (inner .entry)) (now (header .entry)) (now (t .exit))) r ⌝ }
 {
     if here.block == BLOCK_DRAWING {
@@ -540,7 +543,7 @@ fn figure_line(
     header: &[i64],
     t: &mut [i64],
 ) -> Step
-    requires { ⌜ LineFits (now s) form at own (desk here (now tally) (now symbols) (now layers) (now serials) (now used) (now «used_all») (now marks) (now inner) (now header) (now t)) × (8 ≤ here .block) ⌝ }
+    requires { ⌜ LineFits (now s) form at own (desk here (now tally) (now symbols) (now layers) (now serials) (now used) (now «used_all») (now marks) (now inner) (now header) (now t)) × (blockFigures ≤ here .block) ⌝ }
     ensures { λ r. ⌜ Done class (now (s .entry)) (now (following .entry)) form at own (desk here (now (tally .entry)) (now (symbols .entry)) (now (layers .entry)) (now (serials .entry)) (now (used .entry)) (now («used_all» .entry)) (now (marks .entry)) (now (inner .entry)) (now (header .entry)) (now (t .entry))) (desk here (now (tally .exit)) (now (symbols .entry)) (now (layers .entry)) (now (serials .exit)) (now (used .entry)) (now («used_all» .entry)) (now (marks .exit)) (now (inner .exit)) (now (header .entry)) (now (t .exit))) r ⌝ }
 {
     if here.block == BLOCK_FIGURES {

@@ -1,2 +1,3 @@
+pub mod Numbering
 pub mod Rows
 pub mod Tables

@@ -14,30 +14,34 @@ use Rattle.leaves.specs.Texts.{textRules, noText}
 use Rattle.tables.specs.declared.Row.{Row}
 use Rattle.tables.specs.declared.Found.{Found as Finding}
 use Rattle.tables.specs.declared.Found.the-variants as F
+use Rattle.tables.specs.Numbering.{partFlag, partPosition, partCount, partDay, partClock, partRange0, partRange01, partRange02, partRange1}
+use Rattle.tables.specs.Numbering.{partSymbolRange, partSymbolName, partLayerId, partAnySign, partNotNegative, partAboveZero, acrossEnds, acrossArc}
+use Rattle.tables.specs.Numbering.{acrossAxes, timesOnce, timesAny, holdsValues, holdsText, holdsWord, holdsVolumeName, holdsSheet, holdsRatio}
+use Rattle.tables.specs.Numbering.{holdsSerials, holdsNothing, holdsBlock, holdsHeaded, holdsEither}
 
 -- the sign and limit of a decimal, by its number
 abbrev pub boundOf : ℕ → Bound
-boundOf n = cond (eqb n 20) anySign (cond (eqb n 21) notNegative (cond (eqb n 22) aboveZero angle))
+boundOf n = cond (eqb n partAnySign) anySign (cond (eqb n partNotNegative) notNegative (cond (eqb n partAboveZero) aboveZero angle))
 
 -- a value that is no decimal; any other number is that of a type
 abbrev pub wholeOf : ℕ → Part
 wholeOf n =
-    cond (eqb n 5) (digit 0 1)
-    (cond (eqb n 6) (digit 1 5)
-    (cond (eqb n 7) count
-    (cond (eqb n 8) day
-    (cond (eqb n 9) clock
-    (cond (eqb n 10) (range 0 0)
-    (cond (eqb n 11) (range 0 1)
-    (cond (eqb n 12) (range 0 2)
-    (cond (eqb n 13) (range 1 1)
-    (cond (eqb n 14) rangeOfSymbols
-    (cond (eqb n 15) symbolName
-    (cond (eqb n 16) layerId typeDigits)))))))))))
+    cond (eqb n partFlag) (digit 0 1)
+    (cond (eqb n partPosition) (digit 1 5)
+    (cond (eqb n partCount) count
+    (cond (eqb n partDay) day
+    (cond (eqb n partClock) clock
+    (cond (eqb n partRange0) (range 0 0)
+    (cond (eqb n partRange01) (range 0 1)
+    (cond (eqb n partRange02) (range 0 2)
+    (cond (eqb n partRange1) (range 1 1)
+    (cond (eqb n partSymbolRange) rangeOfSymbols
+    (cond (eqb n partSymbolName) symbolName
+    (cond (eqb n partLayerId) layerId typeDigits)))))))))))
 
 -- one value between commas, by its number
 abbrev pub partOf : ℕ → Part
-partOf n = cond (ltb n 20) (wholeOf n) (decimal (boundOf n))
+partOf n = cond (ltb n partAnySign) (wholeOf n) (decimal (boundOf n))
 
 -- n values, two decimal digits each, the first one last
 unfoldable pub partsOf : ℕ → ℕ → List Part
@@ -45,24 +49,24 @@ partsOf zero c = []
 partsOf (suc n) c = partOf (c % 100) ∷ partsOf n (c / 100)
 
 abbrev pub acrossOf : ℕ → Across
-acrossOf n = cond (eqb n 1) endsDiffer (cond (eqb n 2) arcOfCircle (cond (eqb n 3) axesOfEllipse nothingMore))
+acrossOf n = cond (eqb n acrossEnds) endsDiffer (cond (eqb n acrossArc) arcOfCircle (cond (eqb n acrossAxes) axesOfEllipse nothingMore))
 
 abbrev pub timesOf : ℕ → Times
-timesOf n = cond (eqb n 0) once (cond (eqb n 255) anyNumber (upTo n))
+timesOf n = cond (eqb n timesOnce) once (cond (eqb n timesAny) anyNumber (upTo n))
 
 -- a kind by its number; any other number is that of values
 abbrev pub kindOf : Row → Kind
 kindOf r =
-    cond (eqb (r .kind) 1) (text (r .most) (bytesOf (r .set)))
-    (cond (eqb (r .kind) 2) (word (r .most) (bytesOf (r .set)))
-    (cond (eqb (r .kind) 3) volumeName
-    (cond (eqb (r .kind) 4) sheet
-    (cond (eqb (r .kind) 5) ratio
-    (cond (eqb (r .kind) 6) serials
-    (cond (eqb (r .kind) 7) nothing
-    (cond (eqb (r .kind) 8) (opens (r .inner))
-    (cond (eqb (r .kind) 9) (headed (r .inner) (partOf (r .parts)))
-    (cond (eqb (r .kind) 10) (either (r .inner))
+    cond (eqb (r .kind) holdsText) (text (r .most) (bytesOf (r .set)))
+    (cond (eqb (r .kind) holdsWord) (word (r .most) (bytesOf (r .set)))
+    (cond (eqb (r .kind) holdsVolumeName) volumeName
+    (cond (eqb (r .kind) holdsSheet) sheet
+    (cond (eqb (r .kind) holdsRatio) ratio
+    (cond (eqb (r .kind) holdsSerials) serials
+    (cond (eqb (r .kind) holdsNothing) nothing
+    (cond (eqb (r .kind) holdsBlock) (opens (r .inner))
+    (cond (eqb (r .kind) holdsHeaded) (headed (r .inner) (partOf (r .parts)))
+    (cond (eqb (r .kind) holdsEither) (either (r .inner))
     (values (partOf (r .parts % 100)) (partsOf (r .count) (r .parts / 100)) (acrossOf (r .across))))))))))))
 
 -- the rule that a row stands for, but for its key and whether it is required: a line does not go by these
@@ -84,30 +88,150 @@ foundForLine (found j r) = found j (forLine r)
 -- ── rows, in the words of the definitions' tables ──
 -- not empty, at every range, once
 abbrev pub plainRow : ℕ → ℕ → ℕ → Row
-plainRow number kind place = record { number = number; kind = kind; parts = 0; count = 0; across = 0; most = 0; set = 0; inner = 0; may = false; least = digits 0 0; times = 0; place = place; state = 0 }
+plainRow number kind place =
+    record {
+      number = number;
+      kind = kind;
+      parts = 0;
+      count = 0;
+      across = 0;
+      most = 0;
+      set = 0;
+      inner = 0;
+      may = false;
+      least = digits 0 0;
+      times = timesOnce;
+      place = place;
+      state = 0;
+    }
 
 abbrev pub severalRow : ℕ → ℕ → ℕ → ℕ → ℕ → Row
-severalRow number parts more across place = record { number = number; kind = 0; parts = parts; count = more; across = across; most = 0; set = 0; inner = 0; may = false; least = digits 0 0; times = 0; place = place; state = 0 }
+severalRow number parts more across place =
+    record {
+      number = number;
+      kind = holdsValues;
+      parts = parts;
+      count = more;
+      across = across;
+      most = 0;
+      set = 0;
+      inner = 0;
+      may = false;
+      least = digits 0 0;
+      times = timesOnce;
+      place = place;
+      state = 0;
+    }
 
 abbrev pub textRow : ℕ → ℕ → ℕ → ℕ → ℕ → Row
-textRow number kind most bytes place = record { number = number; kind = kind; parts = 0; count = 0; across = 0; most = most; set = bytes; inner = 0; may = false; least = digits 0 0; times = 0; place = place; state = 0 }
+textRow number kind most bytes place =
+    record {
+      number = number;
+      kind = kind;
+      parts = 0;
+      count = 0;
+      across = 0;
+      most = most;
+      set = bytes;
+      inner = 0;
+      may = false;
+      least = digits 0 0;
+      times = timesOnce;
+      place = place;
+      state = 0;
+    }
 
 -- a free text, by its number among them
 abbrev pub freeRow : ℕ → ℕ → ℕ → Row
-freeRow number key place = let t = getD textRules key noText in textRow number 1 (t .most) (t .set) place
+freeRow number key place = let t = getD textRules key noText in textRow number holdsText (t .most) (t .set) place
 
 abbrev pub innerRow : ℕ → ℕ → ℕ → ℕ → ℕ → Row
-innerRow number kind parts inner place = record { number = number; kind = kind; parts = parts; count = 0; across = 0; most = 0; set = 0; inner = inner; may = false; least = digits 0 0; times = 0; place = place; state = 0 }
+innerRow number kind parts inner place =
+    record {
+      number = number;
+      kind = kind;
+      parts = parts;
+      count = 0;
+      across = 0;
+      most = 0;
+      set = 0;
+      inner = inner;
+      may = false;
+      least = digits 0 0;
+      times = timesOnce;
+      place = place;
+      state = 0;
+    }
 
 -- rows that differ from that
 abbrev pub emptyRow : Row → Row
-emptyRow r = record { number = r .number; kind = r .kind; parts = r .parts; count = r .count; across = r .across; most = r .most; set = r .set; inner = r .inner; may = true; least = r .least; times = r .times; place = r .place; state = r .state }
+emptyRow r =
+    record {
+      number = r .number;
+      kind = r .kind;
+      parts = r .parts;
+      count = r .count;
+      across = r .across;
+      most = r .most;
+      set = r .set;
+      inner = r .inner;
+      may = true;
+      least = r .least;
+      times = r .times;
+      place = r .place;
+      state = r .state;
+    }
 
 abbrev pub timesRow : ℕ → Row → Row
-timesRow n r = record { number = r .number; kind = r .kind; parts = r .parts; count = r .count; across = r .across; most = r .most; set = r .set; inner = r .inner; may = r .may; least = r .least; times = n; place = r .place; state = r .state }
+timesRow n r =
+    record {
+      number = r .number;
+      kind = r .kind;
+      parts = r .parts;
+      count = r .count;
+      across = r .across;
+      most = r .most;
+      set = r .set;
+      inner = r .inner;
+      may = r .may;
+      least = r .least;
+      times = n;
+      place = r .place;
+      state = r .state;
+    }
 
 abbrev pub fromRow : ℕ → ℕ → Row → Row
-fromRow m l r = record { number = r .number; kind = r .kind; parts = r .parts; count = r .count; across = r .across; most = r .most; set = r .set; inner = r .inner; may = r .may; least = digits m l; times = r .times; place = r .place; state = r .state }
+fromRow m l r =
+    record {
+      number = r .number;
+      kind = r .kind;
+      parts = r .parts;
+      count = r .count;
+      across = r .across;
+      most = r .most;
+      set = r .set;
+      inner = r .inner;
+      may = r .may;
+      least = digits m l;
+      times = r .times;
+      place = r .place;
+      state = r .state;
+    }
 
 abbrev pub stateRow : ℕ → Row → Row
-stateRow q r = record { number = r .number; kind = r .kind; parts = r .parts; count = r .count; across = r .across; most = r .most; set = r .set; inner = r .inner; may = r .may; least = r .least; times = r .times; place = r .place; state = q }
+stateRow q r =
+    record {
+      number = r .number;
+      kind = r .kind;
+      parts = r .parts;
+      count = r .count;
+      across = r .across;
+      most = r .most;
+      set = r .set;
+      inner = r .inner;
+      may = r .may;
+      least = r .least;
+      times = r .times;
+      place = r .place;
+      state = q;
+    }

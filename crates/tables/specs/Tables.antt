@@ -8,6 +8,9 @@ use Rattle.rules.specs.Rows.{Rule, Found, further}
 use Rattle.rules.specs.Blocks.{topTable, fileTable, rangeTable, baseTable, elecTable, symTable, laterTable, drawingTable, definesTable, symbolTable}
 use Rattle.rules.specs.Blocks.{elementTable}
 use Rattle.rules.specs.Figures.{plainRows, blockRows, placedRow, anyOf, layerTable, figureTable, pointTable, textTable, placedTable}
+use Rattle.tables.specs.Numbering.{tableTop, tableFile, tableRange, tableBase, tableElec, tableSym, tableLater, tableDrawing, tableDefines, tableSymbol}
+use Rattle.tables.specs.Numbering.{tableElement, tableLayer, tableSingleLayer, tableFigures, tableLayerPoints, tableSymbolPoints, tableLayerText}
+use Rattle.tables.specs.Numbering.{tableSymbolText, tablePlaced, tablePlacedText}
 
 -- what may stand among figures besides them: nothing, a placed symbol's block, a placed symbol on one line
 abbrev pub placedRows : ℕ → List Rule
@@ -28,26 +31,26 @@ behindEight f = further (further (further (further (further (further (further (f
 abbrev pub behindSix : Found → Found
 behindSix f = further (further (further (further (further (further f)))))
 
--- the tables by number: FILE_FORMAT with its inner parts from 1 on, a placed symbol with its text from 18 on
+-- the tables by number; any other number is that of none
 unfoldable pub tableOf : ℕ → List Rule
 tableOf n =
-    cond (eqb n 0) topTable
-    (cond (eqb n 1) fileTable
-    (cond (eqb n 2) rangeTable
-    (cond (eqb n 3) baseTable
-    (cond (eqb n 4) elecTable
-    (cond (eqb n 5) symTable
-    (cond (eqb n 6) laterTable
-    (cond (eqb n 7) drawingTable
-    (cond (eqb n 8) definesTable
-    (cond (eqb n 9) symbolTable
-    (cond (eqb n 10) elementTable
-    (cond (eqb n 11) (layerTable false)
-    (cond (eqb n 12) (layerTable true)
-    (cond (eqb n 13) figureTable
-    (cond (eqb n 14) (pointTable true)
-    (cond (eqb n 15) (pointTable false)
-    (cond (eqb n 16) (textTable true 4 12)
-    (cond (eqb n 17) (textTable false 4 12)
-    (cond (eqb n 18) placedTable
-    (cond (eqb n 19) (textTable true 16 24) [])))))))))))))))))))
+    cond (eqb n tableTop) topTable
+    (cond (eqb n tableFile) fileTable
+    (cond (eqb n tableRange) rangeTable
+    (cond (eqb n tableBase) baseTable
+    (cond (eqb n tableElec) elecTable
+    (cond (eqb n tableSym) symTable
+    (cond (eqb n tableLater) laterTable
+    (cond (eqb n tableDrawing) drawingTable
+    (cond (eqb n tableDefines) definesTable
+    (cond (eqb n tableSymbol) symbolTable
+    (cond (eqb n tableElement) elementTable
+    (cond (eqb n tableLayer) (layerTable false)
+    (cond (eqb n tableSingleLayer) (layerTable true)
+    (cond (eqb n tableFigures) figureTable
+    (cond (eqb n tableLayerPoints) (pointTable true)
+    (cond (eqb n tableSymbolPoints) (pointTable false)
+    (cond (eqb n tableLayerText) (textTable true 4 12)
+    (cond (eqb n tableSymbolText) (textTable false 4 12)
+    (cond (eqb n tablePlaced) placedTable
+    (cond (eqb n tablePlacedText) (textTable true 16 24) [])))))))))))))))))))

@@ -1,5 +1,27 @@
 // The tables of document 01: for each block the row of a key.
 use crate::Found;
+use crate::HOLDS_BLOCK;
+use crate::HOLDS_EITHER;
+use crate::HOLDS_HEADED;
+use crate::HOLDS_NOTHING;
+use crate::HOLDS_RATIO;
+use crate::HOLDS_SERIALS;
+use crate::HOLDS_SHEET;
+use crate::HOLDS_VOLUME_NAME;
+use crate::HOLDS_WORD;
+use crate::PART_ANY_SIGN;
+use crate::PART_CLOCK;
+use crate::PART_COUNT;
+use crate::PART_DAY;
+use crate::PART_LAYER_ID;
+use crate::PART_NOT_NEGATIVE;
+use crate::PART_POSITION;
+use crate::PART_RANGE_0;
+use crate::PART_RANGE_0_1;
+use crate::PART_RANGE_0_2;
+use crate::PART_RANGE_1;
+use crate::PART_SYMBOL_RANGE;
+use crate::TIMES_ANY;
 use crate::keys::is_air;
 use crate::keys::is_all_ele;
 use crate::keys::is_all_line;
@@ -67,62 +89,7 @@ ghost use Rattle.rules.specs.Figures.{placedTable};
 ghost use Rattle.tables.specs.Rows.{foundOf, foundForLine};
 ghost use Rattle.tables.specs.Tables.{headerTexts, behindEight};
 
-// what a row holds
-const WORD: u8 = 2;
-
-const NEXT_VOLUME: u8 = 3;
-
-const SHEET: u8 = 4;
-
-const SCALE: u8 = 5;
-
-const SERIALS: u8 = 6;
-
-const NOTHING: u8 = 7;
-
-const OPENS: u8 = 8;
-
-const HEADED: u8 = 9;
-
-const EITHER: u8 = 10;
-
-// the forms of values
-const ANY_SIGN: u64 = 20;
-
-const NOT_NEGATIVE: u64 = 21;
-
-const POSITION: u64 = 6;
-
-const COUNT: u64 = 7;
-
-const DAY: u64 = 8;
-
-const CLOCK: u64 = 9;
-
-const RANGE_0: u64 = 10;
-
-const RANGE_0_1: u64 = 11;
-
-const RANGE_0_2: u64 = 12;
-
-const RANGE_1: u64 = 13;
-
-const SYMBOL_RANGE: u64 = 14;
-
-const LAYER_ID: u64 = 16;
-
 // several forms, the first one last: type,x,y and the like
-const LINE_IN_LAYER: u64 = 2_02_02_02_17;
-
-const LINE_IN_SYMBOL: u64 = 1_01_01_01_17;
-
-const POINT_IN_LAYER: u64 = 2_02_17;
-
-const POINT_IN_SYMBOL: u64 = 1_01_17;
-
-const LETTERING_IN_LAYER: u64 = 5_04_02_03_03_02_02_17;
-
-const LETTERING_IN_SYMBOL: u64 = 5_04_02_03_03_01_01_17;
 
 const PLACING: u64 = 22_23_21_21_15;
 
@@ -156,24 +123,21 @@ const LETTERS_AND_DIGITS: u8 = 2;
 
 const CIRCUIT: u8 = 4;
 
-// how often a row may stand
-const ANY_NUMBER: u8 = 255;
-
 // "FILE_FORMAT, DRAWING_FORMAT, SYMBOL_DEFINE, ELEMENT": their order is judged by the reader.
 pub(crate) fn top_row(k: &[u8]) -> Found
     ensures { λ r. ⌜ foundForLine (find (now (k .entry)) topTable) ≡ foundOf r ⌝ }
 {
     if is_file_format(k) {
-        return Found::Row(times(inner(0, OPENS, 0, 0, 0), ANY_NUMBER));
+        return Found::Row(times(inner(0, HOLDS_BLOCK, 0, 0, 0), TIMES_ANY));
     }
     if is_drawing_format(k) {
-        return Found::Row(times(inner(1, OPENS, 0, 0, 0), ANY_NUMBER));
+        return Found::Row(times(inner(1, HOLDS_BLOCK, 0, 0, 0), TIMES_ANY));
     }
     if is_symbol_define(k) {
-        return Found::Row(times(inner(2, OPENS, 0, 0, 0), ANY_NUMBER));
+        return Found::Row(times(inner(2, HOLDS_BLOCK, 0, 0, 0), TIMES_ANY));
     }
     if is_element_block(k) {
-        return Found::Row(times(inner(3, OPENS, 0, 0, 0), ANY_NUMBER));
+        return Found::Row(times(inner(3, HOLDS_BLOCK, 0, 0, 0), TIMES_ANY));
     }
     Found::Absent
 }
@@ -214,28 +178,28 @@ pub(crate) fn file_row(k: &[u8]) -> Found
     ensures { λ r. ⌜ foundForLine (find (now (k .entry)) fileTable) ≡ foundOf r ⌝ }
 {
     if is_range(k) {
-        return Found::Row(inner(0, OPENS, 0, 1, 0));
+        return Found::Row(inner(0, HOLDS_BLOCK, 0, 1, 0));
     }
     if is_all_line(k) {
-        return Found::Row(several(1, COUNT, 0, 0, 12));
+        return Found::Row(several(1, PART_COUNT, 0, 0, 12));
     }
     if is_this_line(k) {
-        return Found::Row(several(2, COUNT, 0, 0, 37));
+        return Found::Row(several(2, PART_COUNT, 0, 0, 37));
     }
     if is_all_ele(k) {
-        return Found::Row(several(3, COUNT, 0, 0, 13));
+        return Found::Row(several(3, PART_COUNT, 0, 0, 13));
     }
     if is_this_ele(k) {
-        return Found::Row(several(4, COUNT, 0, 0, 38));
+        return Found::Row(several(4, PART_COUNT, 0, 0, 38));
     }
     if is_next_file(k) {
-        return Found::Row(may_be_empty(plain(5, NEXT_VOLUME, 0)));
+        return Found::Row(may_be_empty(plain(5, HOLDS_VOLUME_NAME, 0)));
     }
     if is_date(k) {
-        return Found::Row(several(6, DAY, 0, 0, 14));
+        return Found::Row(several(6, PART_DAY, 0, 0, 14));
     }
     if is_time(k) {
-        return Found::Row(several(7, CLOCK, 0, 0, 15));
+        return Found::Row(several(7, PART_CLOCK, 0, 0, 15));
     }
     header_text_row(k)
 }
@@ -245,22 +209,22 @@ pub(crate) fn range_row(k: &[u8]) -> Found
     ensures { λ r. ⌜ foundForLine (find (now (k .entry)) rangeTable) ≡ foundOf r ⌝ }
 {
     if is_base(k) {
-        return Found::Row(inner(0, HEADED, RANGE_1, 2, 0));
+        return Found::Row(inner(0, HOLDS_HEADED, PART_RANGE_1, 2, 0));
     }
     if is_arc(k) {
-        return Found::Row(several(1, RANGE_0_1, 0, 0, 6));
+        return Found::Row(several(1, PART_RANGE_0_1, 0, 0, 6));
     }
     if is_elec(k) {
-        return Found::Row(inner(2, EITHER, 0, 3, 7));
+        return Found::Row(inner(2, HOLDS_EITHER, 0, 3, 7));
     }
     if is_air(k) {
-        return Found::Row(several(3, RANGE_0, 0, 0, 0));
+        return Found::Row(several(3, PART_RANGE_0, 0, 0, 0));
     }
     if is_pipe(k) {
-        return Found::Row(several(4, RANGE_0, 0, 0, 0));
+        return Found::Row(several(4, PART_RANGE_0, 0, 0, 0));
     }
     if is_sym(k) {
-        return Found::Row(inner(5, EITHER, 0, 4, 9));
+        return Found::Row(inner(5, HOLDS_EITHER, 0, 4, 9));
     }
     Found::Absent
 }
@@ -270,7 +234,7 @@ pub(crate) fn base_row(k: &[u8]) -> Found
     ensures { λ r. ⌜ foundForLine (find (now (k .entry)) baseTable) ≡ foundOf r ⌝ }
 {
     if is_b_sym(k) {
-        return Found::Row(several(0, RANGE_0_1, 0, 0, 5));
+        return Found::Row(several(0, PART_RANGE_0_1, 0, 0, 5));
     }
     Found::Absent
 }
@@ -280,13 +244,13 @@ pub(crate) fn elec_row(k: &[u8]) -> Found
     ensures { λ r. ⌜ foundForLine (find (now (k .entry)) elecTable) ≡ foundOf r ⌝ }
 {
     if is_e_sym(k) {
-        return Found::Row(several(0, SYMBOL_RANGE, 0, 0, 8));
+        return Found::Row(several(0, PART_SYMBOL_RANGE, 0, 0, 8));
     }
     if is_e_wire(k) {
-        return Found::Row(several(1, RANGE_0, 0, 0, 0));
+        return Found::Row(several(1, PART_RANGE_0, 0, 0, 0));
     }
     if is_e_cirno(k) {
-        return Found::Row(several(2, RANGE_0, 0, 0, 0));
+        return Found::Row(several(2, PART_RANGE_0, 0, 0, 0));
     }
     Found::Absent
 }
@@ -296,10 +260,10 @@ pub(crate) fn sym_row(k: &[u8]) -> Found
     ensures { λ r. ⌜ foundForLine (find (now (k .entry)) symTable) ≡ foundOf r ⌝ }
 {
     if is_s_base(k) {
-        return Found::Row(several(0, RANGE_0_1, 0, 0, 10));
+        return Found::Row(several(0, PART_RANGE_0_1, 0, 0, 10));
     }
     if is_s_elec(k) {
-        return Found::Row(several(1, RANGE_0_2, 0, 0, 11));
+        return Found::Row(several(1, PART_RANGE_0_2, 0, 0, 11));
     }
     Found::Absent
 }
@@ -309,19 +273,19 @@ pub(crate) fn later_row(k: &[u8]) -> Found
     ensures { λ r. ⌜ foundForLine (find (now (k .entry)) laterTable) ≡ foundOf r ⌝ }
 {
     if is_this_line(k) {
-        return Found::Row(several(0, COUNT, 0, 0, 5));
+        return Found::Row(several(0, PART_COUNT, 0, 0, 5));
     }
     if is_this_ele(k) {
-        return Found::Row(several(1, COUNT, 0, 0, 6));
+        return Found::Row(several(1, PART_COUNT, 0, 0, 6));
     }
     if is_next_file(k) {
-        return Found::Row(may_be_empty(plain(2, NEXT_VOLUME, 0)));
+        return Found::Row(may_be_empty(plain(2, HOLDS_VOLUME_NAME, 0)));
     }
     if is_date(k) {
-        return Found::Row(several(3, DAY, 0, 0, 0));
+        return Found::Row(several(3, PART_DAY, 0, 0, 0));
     }
     if is_time(k) {
-        return Found::Row(several(4, CLOCK, 0, 0, 0));
+        return Found::Row(several(4, PART_CLOCK, 0, 0, 0));
     }
     Found::Absent
 }
@@ -331,10 +295,10 @@ pub(crate) fn drawing_row(k: &[u8]) -> Found
     ensures { λ r. ⌜ foundForLine (find (now (k .entry)) drawingTable) ≡ foundOf r ⌝ }
 {
     if is_size(k) {
-        return Found::Row(plain(0, SHEET, 5));
+        return Found::Row(plain(0, HOLDS_SHEET, 5));
     }
     if is_scale(k) {
-        return Found::Row(plain(1, SCALE, 7));
+        return Found::Row(plain(1, HOLDS_RATIO, 7));
     }
     if is_project(k) {
         return Found::Row(free_text(2, PROJECT, 12));
@@ -343,19 +307,19 @@ pub(crate) fn drawing_row(k: &[u8]) -> Found
         return Found::Row(free_text(3, DRAWNAME, 14));
     }
     if is_date(k) {
-        return Found::Row(several(4, DAY, 0, 0, 9));
+        return Found::Row(several(4, PART_DAY, 0, 0, 9));
     }
     if is_drawer(k) {
         return Found::Row(may_be_empty(free_text(5, DRAWER, 16)));
     }
     if is_floor_height(k) {
         return Found::Row(with_state(
-            from(may_be_empty(several(6, NOT_NEGATIVE, 0, 0, 11)), 0, 1),
+            from(may_be_empty(several(6, PART_NOT_NEGATIVE, 0, 0, 11)), 0, 1),
             10,
         ));
     }
     if is_layer_name(k) {
-        return Found::Row(inner(7, OPENS, 0, 1, 0));
+        return Found::Row(inner(7, HOLDS_BLOCK, 0, 1, 0));
     }
     Found::Absent
 }
@@ -365,10 +329,10 @@ pub(crate) fn defines_row(k: &[u8]) -> Found
     ensures { λ r. ⌜ foundForLine (find (now (k .entry)) definesTable) ≡ foundOf r ⌝ }
 {
     if is_non(k) {
-        return Found::Row(plain(0, NOTHING, 0));
+        return Found::Row(plain(0, HOLDS_NOTHING, 0));
     }
     if is_e_symbol(k) {
-        return Found::Row(from(times(inner(1, OPENS, 0, 1, 0), ANY_NUMBER), 0, 1));
+        return Found::Row(from(times(inner(1, HOLDS_BLOCK, 0, 1, 0), TIMES_ANY), 0, 1));
     }
     Found::Absent
 }
@@ -378,13 +342,13 @@ pub(crate) fn symbol_row(k: &[u8]) -> Found
     ensures { λ r. ⌜ foundForLine (find (now (k .entry)) symbolTable) ≡ foundOf r ⌝ }
 {
     if is_name(k) {
-        return Found::Row(text(0, WORD, 32, LETTERS_AND_DIGITS, 5));
+        return Found::Row(text(0, HOLDS_WORD, 32, LETTERS_AND_DIGITS, 5));
     }
     if is_element(k) {
-        return Found::Row(inner(1, OPENS, 0, 1, 0));
+        return Found::Row(inner(1, HOLDS_BLOCK, 0, 1, 0));
     }
     if is_hide(k) {
-        return Found::Row(inner(2, OPENS, 0, 2, 0));
+        return Found::Row(inner(2, HOLDS_BLOCK, 0, 2, 0));
     }
     if is_wall(k) {
         return Found::Row(with_state(from(may_be_empty(several(3, WALL, 1, 0, 8)), 0, 2), 7));
@@ -397,7 +361,7 @@ pub(crate) fn element_row(k: &[u8]) -> Found
     ensures { λ r. ⌜ foundForLine (find (now (k .entry)) elementTable) ≡ foundOf r ⌝ }
 {
     if is_layer(k) {
-        return Found::Row(times(inner(0, HEADED, LAYER_ID, 1, 0), ANY_NUMBER));
+        return Found::Row(times(inner(0, HOLDS_HEADED, PART_LAYER_ID, 1, 0), TIMES_ANY));
     }
     Found::Absent
 }
@@ -410,19 +374,28 @@ pub(crate) fn placed_row(k: &[u8]) -> Found
         return Found::Row(several(0, PLACING, 4, 0, 5));
     }
     if is_text(k) {
-        return Found::Row(with_state(from(inner(1, OPENS, 0, 1, 0), 0, 2), 26));
+        return Found::Row(with_state(from(inner(1, HOLDS_BLOCK, 0, 1, 0), 0, 2), 26));
     }
     if is_hight(k) {
-        return Found::Row(with_state(from(may_be_empty(several(2, ANY_SIGN, 0, 0, 10)), 0, 3), 27));
+        return Found::Row(with_state(
+            from(may_be_empty(several(2, PART_ANY_SIGN, 0, 0, 10)), 0, 3),
+            27,
+        ));
     }
     if is_pos(k) {
-        return Found::Row(with_state(from(may_be_empty(several(3, POSITION, 0, 0, 11)), 0, 4), 28));
+        return Found::Row(with_state(
+            from(may_be_empty(several(3, PART_POSITION, 0, 0, 11)), 0, 4),
+            28,
+        ));
     }
     if is_circuit(k) {
-        return Found::Row(with_state(from(may_be_empty(text(4, WORD, 10, CIRCUIT, 12)), 0, 5), 29));
+        return Found::Row(with_state(
+            from(may_be_empty(text(4, HOLDS_WORD, 10, CIRCUIT, 12)), 0, 5),
+            29,
+        ));
     }
     if is_serial(k) {
-        return Found::Row(with_state(from(plain(5, SERIALS, 14), 1, 0), 30));
+        return Found::Row(with_state(from(plain(5, HOLDS_SERIALS, 14), 1, 0), 30));
     }
     Found::Absent
 }

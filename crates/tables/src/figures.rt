@@ -1,5 +1,10 @@
 // The tables of figures, points, texts and placed symbols: the row of a key.
+use crate::ACROSS_ARC;
+use crate::ACROSS_AXES;
+use crate::ACROSS_ENDS;
 use crate::Found;
+use crate::HOLDS_BLOCK;
+use crate::TIMES_ANY;
 use crate::keys::is_character;
 use crate::keys::is_circle;
 use crate::keys::is_e_symbol;
@@ -20,10 +25,6 @@ ghost use Rattle.rules.specs.Rows.{find};
 ghost use Rattle.rules.specs.Figures.{pointTable, textTable, anyOf};
 ghost use Rattle.tables.specs.Rows.{foundOf, foundForLine};
 ghost use Rattle.tables.specs.Tables.{placedRows, figuresTable, behindSix};
-
-const OPENS: u8 = 8;
-
-const ANY_NUMBER: u8 = 255;
 
 const MOST_POINTS: u8 = 100;
 
@@ -70,9 +71,9 @@ fn placing_row(k: &[u8], placed: u8) -> Found
         return Found::Absent;
     }
     if placed == 1 {
-        return Found::Row(from(times(inner(6, OPENS, 0, 3, 5), ANY_NUMBER), 0, 1));
+        return Found::Row(from(times(inner(6, HOLDS_BLOCK, 0, 3, 5), TIMES_ANY), 0, 1));
     }
-    Found::Row(from(times(several(6, PLACING, 4, 0, 5), ANY_NUMBER), 0, 1))
+    Found::Row(from(times(several(6, PLACING, 4, 0, 5), TIMES_ANY), 0, 1))
 }
 
 // The figures of a layer or of a symbol's `element`, and what else may stand among them.
@@ -81,15 +82,21 @@ pub(crate) fn figure_row(k: &[u8], in_layer: bool, placed: u8) -> Found
 {
     if is_line(k) {
         return Found::Row(times(
-            several(0, by_home(in_layer, LINE_IN_LAYER, LINE_IN_SYMBOL), 4, 1, 4),
-            ANY_NUMBER,
+            several(
+                0,
+                by_home(in_layer, LINE_IN_LAYER, LINE_IN_SYMBOL),
+                4,
+                ACROSS_ENDS,
+                4,
+            ),
+            TIMES_ANY,
         ));
     }
     if is_circle(k) {
-        return Found::Row(times(several(1, CIRCLE, 6, 2, 4), ANY_NUMBER));
+        return Found::Row(times(several(1, CIRCLE, 6, ACROSS_ARC, 4), TIMES_ANY));
     }
     if is_ellipse(k) {
-        return Found::Row(times(several(2, ELLIPSE, 8, 3, 4), ANY_NUMBER));
+        return Found::Row(times(several(2, ELLIPSE, 8, ACROSS_AXES, 4), TIMES_ANY));
     }
     if is_point(k) {
         return Found::Row(times(
@@ -100,14 +107,14 @@ pub(crate) fn figure_row(k: &[u8], in_layer: bool, placed: u8) -> Found
                 0,
                 4,
             ),
-            ANY_NUMBER,
+            TIMES_ANY,
         ));
     }
     if is_successive(k) {
-        return Found::Row(times(inner(4, OPENS, 0, 1, 0), ANY_NUMBER));
+        return Found::Row(times(inner(4, HOLDS_BLOCK, 0, 1, 0), TIMES_ANY));
     }
     if is_text(k) {
-        return Found::Row(times(inner(5, OPENS, 0, 2, 0), ANY_NUMBER));
+        return Found::Row(times(inner(5, HOLDS_BLOCK, 0, 2, 0), TIMES_ANY));
     }
     placing_row(k, placed)
 }

@@ -1,5 +1,25 @@
 // The row of a key in the table of a number.
 use crate::Found;
+use crate::TABLE_BASE;
+use crate::TABLE_DEFINES;
+use crate::TABLE_DRAWING;
+use crate::TABLE_ELEC;
+use crate::TABLE_ELEMENT;
+use crate::TABLE_FIGURES;
+use crate::TABLE_FILE;
+use crate::TABLE_LATER;
+use crate::TABLE_LAYER;
+use crate::TABLE_LAYER_POINTS;
+use crate::TABLE_LAYER_TEXT;
+use crate::TABLE_PLACED;
+use crate::TABLE_PLACED_TEXT;
+use crate::TABLE_RANGE;
+use crate::TABLE_SINGLE_LAYER;
+use crate::TABLE_SYM;
+use crate::TABLE_SYMBOL;
+use crate::TABLE_SYMBOL_POINTS;
+use crate::TABLE_SYMBOL_TEXT;
+use crate::TABLE_TOP;
 use crate::blocks::base_row;
 use crate::blocks::defines_row;
 use crate::blocks::drawing_row;
@@ -24,64 +44,64 @@ ghost use Rattle.tables.specs.Tables.{tableOf};
 pub fn row_of(table: u8, k: &[u8]) -> Found
     ensures { λ r. ⌜ foundForLine (find (now (k .entry)) (tableOf table)) ≡ foundOf r ⌝ }
 {
-    if table == 0 {
+    if table == TABLE_TOP {
         return top_row(k);
     }
-    if table == 1 {
+    if table == TABLE_FILE {
         return file_row(k);
     }
-    if table == 2 {
+    if table == TABLE_RANGE {
         return range_row(k);
     }
-    if table == 3 {
+    if table == TABLE_BASE {
         return base_row(k);
     }
-    if table == 4 {
+    if table == TABLE_ELEC {
         return elec_row(k);
     }
-    if table == 5 {
+    if table == TABLE_SYM {
         return sym_row(k);
     }
-    if table == 6 {
+    if table == TABLE_LATER {
         return later_row(k);
     }
-    if table == 7 {
+    if table == TABLE_DRAWING {
         return drawing_row(k);
     }
-    if table == 8 {
+    if table == TABLE_DEFINES {
         return defines_row(k);
     }
-    if table == 9 {
+    if table == TABLE_SYMBOL {
         return symbol_row(k);
     }
-    if table == 10 {
+    if table == TABLE_ELEMENT {
         return element_row(k);
     }
-    if table == 11 {
+    if table == TABLE_LAYER {
         return figure_row(k, true, 1);
     }
-    if table == 12 {
+    if table == TABLE_SINGLE_LAYER {
         return figure_row(k, true, 2);
     }
-    if table == 13 {
+    if table == TABLE_FIGURES {
         return figure_row(k, false, 0);
     }
-    if table == 14 {
+    if table == TABLE_LAYER_POINTS {
         return point_row(k, true);
     }
-    if table == 15 {
+    if table == TABLE_SYMBOL_POINTS {
         return point_row(k, false);
     }
-    if table == 16 {
+    if table == TABLE_LAYER_TEXT {
         return lettering_row(k, true, 4, 12);
     }
-    if table == 17 {
+    if table == TABLE_SYMBOL_TEXT {
         return lettering_row(k, false, 4, 12);
     }
-    if table == 18 {
+    if table == TABLE_PLACED {
         return placed_row(k);
     }
-    if table == 19 {
+    if table == TABLE_PLACED_TEXT {
         return lettering_row(k, true, 16, 24);
     }
     Found::Absent

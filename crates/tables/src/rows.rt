@@ -1,5 +1,8 @@
 // Rows, in the words of document 01's tables.
+use crate::HOLDS_TEXT;
+use crate::HOLDS_VALUES;
 use crate::Row;
+use crate::TIMES_ONCE;
 use leaves::texts::text_rule;
 use rules::Digits;
 ghost use mathlib.Core.Path.{_≡_};
@@ -20,7 +23,7 @@ pub(crate) fn plain(number: u8, kind: u8, place: u8) -> Row
         inner: 0,
         may: false,
         least: Digits { middle: 0, last: 0 },
-        times: 0,
+        times: TIMES_ONCE,
         place: place,
         state: 0,
     }
@@ -32,7 +35,7 @@ pub(crate) fn several(number: u8, parts: u64, more: u8, across: u8, place: u8) -
 {
     Row {
         number: number,
-        kind: 0,
+        kind: HOLDS_VALUES,
         parts: parts,
         count: more,
         across: across,
@@ -41,7 +44,7 @@ pub(crate) fn several(number: u8, parts: u64, more: u8, across: u8, place: u8) -
         inner: 0,
         may: false,
         least: Digits { middle: 0, last: 0 },
-        times: 0,
+        times: TIMES_ONCE,
         place: place,
         state: 0,
     }
@@ -62,7 +65,7 @@ pub(crate) fn text(number: u8, kind: u8, most: u8, set: u8, place: u8) -> Row
         inner: 0,
         may: false,
         least: Digits { middle: 0, last: 0 },
-        times: 0,
+        times: TIMES_ONCE,
         place: place,
         state: 0,
     }
@@ -73,7 +76,7 @@ pub(crate) fn free_text(number: u8, key: u8, place: u8) -> Row
     ensures { λ r. ⌜ r ≡ freeRow number key place ⌝ }
 {
     let rule = text_rule(key);
-    text(number, 1, rule.most, rule.set, place)
+    text(number, HOLDS_TEXT, rule.most, rule.set, place)
 }
 
 // A row that opens an inner block, with a value or without.
@@ -91,7 +94,7 @@ pub(crate) fn inner(number: u8, kind: u8, part: u64, inner: u8, place: u8) -> Ro
         inner: inner,
         may: false,
         least: Digits { middle: 0, last: 0 },
-        times: 0,
+        times: TIMES_ONCE,
         place: place,
         state: 0,
     }
@@ -106,7 +109,7 @@ pub(crate) fn may_be_empty(row: Row) -> Row
     changed
 }
 
-// The same row, which may stand more than once: 255 for any number.
+// The same row, which may stand more than once.
 pub(crate) fn times(row: Row, most: u8) -> Row
     ensures { λ r. ⌜ r ≡ timesRow most row ⌝ }
 {
