@@ -1,21 +1,32 @@
 // Reads a spool from standard input at class 15 into a table of 256 records, and prints one line `answer volume line records`, then, if
-// accepted, one line of 32 numbers for each record.
+// accepted, one line of 32 numbers for each record. A read or a write that fails is told on standard error; a failed read has no answer.
 use rules::Answer;
 use sets::read;
+use shows::input::MOST_READ;
 
-// One byte more than a spool may have: an input that is longer is answered as a spool that is (2).
-const MOST_READ: usize = 61441;
+// What is written is `printed` of the spool (rules, Answers): the line of the answer, then the lines of the table's records one after the
+// other, each as it was laid (shows: `put_answer`, `put_line`). False where not all of it was.
+fn print(answer: Answer, table: &[i64]) -> bool {
+    if !shows::answer_line(1, answer) {
+        return false;
+    }
+    match answer {
+        Answer::Accepted(count) => shows::records(count as u64, table),
+        Answer::Refused(_f) => true,
+    }
+}
 
 fn main() {
     let mut spool = [0u8; MOST_READ];
-    let n = io::read_full(0, &mut spool);
+    let input = shows::input::read_all(&mut spool);
+    if input.failed {
+        os::fail(b"accread: standard input");
+        return;
+    }
+    let n = input.bytes;
     let mut table = [0i64; 8192];
     let answer = read(&spool[..n], 15, &mut table);
-    match answer {
-        Answer::Accepted(count) => {
-            shows::answer_line(1, 0, 0, 0, count as u64);
-            shows::records(count as u64, &table);
-        }
-        Answer::Refused(f) => shows::answer_line(1, f.number, f.volume, f.line, 0),
+    if !print(answer, &table) {
+        os::fail(b"accread: standard output");
     }
 }

@@ -1,7 +1,6 @@
 // Answers the questions of tests/reference on standard input, by the reader, the check and the rewriter: for each it prints the line that
 // the reference prints (README.md there tells how questions and answers are written). tools/frame-compared makes stdin and stdout.
 use host::ploverdell_check;
-use rules::Answer;
 use sets::read;
 use sets::rewrite;
 use std::num::wrapping_add_u64;
@@ -86,13 +85,6 @@ fn hash_bytes(bytes: &[u8]) -> u64 {
     h
 }
 
-fn show_answer(a: Answer) {
-    match a {
-        Answer::Accepted(count) => shows::answer(1, 0, 0, 0, count as u64),
-        Answer::Refused(f) => shows::answer(1, f.number, f.volume, f.line, 0),
-    }
-}
-
 // What is lent holds other numbers than zeros before a call.
 fn soil_table(table: &mut [i64]) {
     let mut i = 0;
@@ -112,14 +104,14 @@ fn soil_bytes(out: &mut [u8]) {
 
 fn show_reading(spool: &[u8], cls: u64, table: &mut [i64]) {
     soil_table(table);
-    show_answer(read(spool, cls, table));
+    shows::answer(1, read(spool, cls, table));
     shows::space(1);
     show_hash(hash_table(table));
 }
 
 fn show_rewriting(spool: &[u8], out: &mut [u8]) {
     soil_bytes(out);
-    show_answer(rewrite(spool, out));
+    shows::answer(1, rewrite(spool, out));
     shows::space(1);
     show_hash(hash_bytes(out));
 }

@@ -4,8 +4,8 @@
 use rules::Answer;
 use sets::read;
 use sets::rewrite;
+use shows::input::MOST_READ;
 use shows::questions::MOST_QUESTIONS;
-use shows::questions::MOST_READ;
 use shows::questions::next_spool;
 use shows::questions::pair;
 
@@ -84,27 +84,24 @@ fn show_leavings(from: usize, out: &[u8]) {
 fn read_back(written: &[u8]) {
     let mut table = [7i64; 8192];
     let answer = read(written, 15, &mut table);
-    match answer {
-        Answer::Accepted(count) => {
-            shows::answer_line(1, 0, 0, 0, count as u64);
-            places_apart(&mut table);
-            shows::records(count as u64, &table);
-        }
-        Answer::Refused(f) => shows::answer_line(1, f.number, f.volume, f.line, 0),
-    }
+    shows::answer_line(1, answer);
+    let Answer::Accepted(count) = answer else {
+        return;
+    };
+    places_apart(&mut table);
+    shows::records(count as u64, &table);
 }
 
 // Rewrites a spool and gives the count of bytes; 0 where it is refused.
 fn written_bytes(spool: &[u8], out: &mut [u8]) -> usize {
     let answer = rewrite(spool, out);
+    shows::answer_line(1, answer);
     match answer {
         Answer::Accepted(count) => {
-            shows::answer_line(1, 0, 0, 0, count as u64);
             show_leavings(count as usize, out);
             count as usize
         }
-        Answer::Refused(f) => {
-            shows::answer_line(1, f.number, f.volume, f.line, 0);
+        Answer::Refused(_f) => {
             show_leavings(0, out);
             0
         }

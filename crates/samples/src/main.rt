@@ -2,9 +2,9 @@
 // they are framed). For each it prints one line `answer volume line records`, then, if accepted, one line of 32 numbers for each record.
 use rules::Answer;
 use sets::read;
+use shows::input::MOST_READ;
 use shows::questions::END;
 use shows::questions::MOST_QUESTIONS;
-use shows::questions::MOST_READ;
 use shows::questions::next_spool;
 use shows::questions::pair;
 
@@ -30,16 +30,13 @@ fn show_leavings(from: u64, table: &[i64]) {
 // Puts one question to the reader.
 fn answer(spool: &[u8], cls: u64, table: &mut [i64]) {
     let answer = read(spool, cls, table);
+    shows::answer_line(1, answer);
     match answer {
         Answer::Accepted(count) => {
-            shows::answer_line(1, 0, 0, 0, count as u64);
             shows::records(count as u64, table);
             show_leavings(32 * count as u64, table);
         }
-        Answer::Refused(f) => {
-            shows::answer_line(1, f.number, f.volume, f.line, 0);
-            show_leavings(0, table);
-        }
+        Answer::Refused(_f) => show_leavings(0, table),
     }
 }
 

@@ -1,8 +1,20 @@
 // What the programs print: "one line `answer volume line records` in decimal, single spaces, newline at the end; if accepted, one line of 32
-// numbers per record follows".
+// numbers per record follows". Each line is laid first (text) and written by one call; a function answers whether all of it was written.
+pub mod input;
 pub mod questions;
+pub mod text;
+
+use leaves::Wrote;
+use rules::Answer;
+use text::put_answer;
+use text::put_line;
 
 const MOST_RECORDS: usize = 256;
+
+// 21 bytes for each number hold any line (proofs, LineLengths).
+const ANSWER_LINE: usize = 84;
+
+const RECORD_LINE: usize = 672;
 
 pub fn space(fd: i32) {
     io::write_all(fd, b" ");
@@ -12,61 +24,62 @@ pub fn newline(fd: i32) {
     io::write_all(fd, b"\n");
 }
 
-// An answer's four numbers, to standard output (1) or standard error (2).
-pub fn answer(fd: i32, number: u8, volume: u8, line: u32, count: u64) {
-    io::print_decimal(fd, number as u64);
-    space(fd);
-    io::print_decimal(fd, volume as u64);
-    space(fd);
-    io::print_decimal(fd, line as u64);
-    space(fd);
-    io::print_decimal(fd, count);
-}
-
-// The same, as a line.
-pub fn answer_line(fd: i32, number: u8, volume: u8, line: u32, count: u64) {
-    answer(fd, number, volume, line, count);
-    newline(fd);
-}
-
-fn show(n: u64) {
-    io::print_decimal(1, n);
-}
-
-fn signed(z: i64) {
-    if z < 0 {
-        io::write_all(1, b"-");
-        show(-(z + 1) as u64 + 1);
-        return;
+// The first n bytes.
+pub fn write_front(fd: i32, text: &[u8], n: usize) -> bool {
+    if text.len() < n {
+        return false;
     }
-    show(z as u64);
+    io::write_all(fd, &text[..n])
 }
 
-// A record's numbers, single spaces between them.
-fn record(rec: &[i64]) {
-    let mut i = 0;
-    while i < rec.len() {
-        if 0 < i {
-            space(1);
-        }
-        signed(rec[i]);
-        i += 1;
+fn write_laid(fd: i32, text: &[u8], laid: Wrote) -> bool {
+    match laid {
+        Wrote::Bytes(n) => write_front(fd, text, n),
+        Wrote::Full => false,
     }
-    newline(1);
 }
 
-// A table's records, so many, to standard output; no more than 256.
-pub fn records(count: u64, table: &[i64]) {
+// An answer's line, to standard output (1) or standard error (2).
+pub fn answer_line(fd: i32, a: Answer) -> bool {
+    let mut line = [0u8; ANSWER_LINE];
+    let laid = put_answer(a, &mut line);
+    write_laid(fd, &line, laid)
+}
+
+// The same without its newline.
+pub fn answer(fd: i32, a: Answer) -> bool {
+    let mut line = [0u8; ANSWER_LINE];
+    let laid = put_answer(a, &mut line);
+    let Wrote::Bytes(n) = laid else {
+        return false;
+    };
+    if n == 0 {
+        return false;
+    }
+    write_front(fd, &line, n - 1)
+}
+
+fn record(rec: &[i64]) -> bool {
+    let mut line = [0u8; RECORD_LINE];
+    let laid = put_line(rec, &mut line);
+    write_laid(1, &line, laid)
+}
+
+// A table's records, so many, to standard output; of more than 256 the first 256.
+pub fn records(count: u64, table: &[i64]) -> bool {
     let mut i = 0;
     while i < MOST_RECORDS {
         if count <= i as u64 {
-            return;
+            return true;
         }
         let from = 32 * i;
         if table.len() < from + 32 {
-            return;
+            return false;
         }
-        record(&table[from..from + 32]);
+        if !record(&table[from..from + 32]) {
+            return false;
+        }
         i += 1;
     }
+    count <= MOST_RECORDS as u64
 }

@@ -1,16 +1,17 @@
 // Questions on standard input, answered one after the other: what the programs that do so have in common.
+ghost use mathlib.Core.Path.{_≡_};
+ghost use Prim.Native.Nat.{_+_, _*_};
 
 // More questions than this are not read. (A program that is proved to end must stop somewhere.)
 pub const MOST_QUESTIONS: usize = 65536;
-
-// One byte more than a spool may have: an input that is longer is answered as a spool that is (2).
-pub const MOST_READ: usize = 61441;
 
 // A length that no spool has.
 pub const END: usize = 65536;
 
 // Two bytes, high first.
-pub fn pair(high: u8, low: u8) -> usize {
+pub fn pair(high: u8, low: u8) -> usize
+    ensures { λ r. ⌜ r ≡ 256 * high + low ⌝ }
+{
     256 * high as usize + low as usize
 }
 

@@ -42,6 +42,9 @@ part-record-end c = search needs
 record-requires : tie.Need-record-requires Inv-loop μ-loop
 record-requires c κs = search needs
 
+returns-3 : tie.Need-returns-3 Inv-loop μ-loop
+returns-3 c = search needs
+
 add-i : tie.Need-add-i Inv-loop μ-loop
 add-i c = search needs
 
@@ -51,8 +54,8 @@ loop-less c = search needs
 loop-again : tie.Need-loop-again Inv-loop μ-loop
 loop-again c = search needs
 
-returns-3 : tie.Need-returns-3 Inv-loop μ-loop
-returns-3 c = search needs
+returns-4 : tie.Need-returns-4 Inv-loop μ-loop
+returns-4 c = search needs
 
 pub records-spec : {M : Type 1} → statement M
 records-spec =
@@ -71,7 +74,8 @@ records-spec =
     part-record-start
     part-record-end
     record-requires
+    returns-3
     add-i
     loop-less
     loop-again
-    returns-3)
+    returns-4)

@@ -2,8 +2,8 @@ use native.Mathlib.Omega.{arith}
 use mathlib.Core.Path.{sym}
 use lib.Seq.{length-take-le}
 use borrow.Author.Needs.{needs}
-use Rattle.accfix.proofs.write_front.Statement.{statement}
-use Rattle.accfix.proofs.write_front.Tie as tie
+use Rattle.shows.proofs.write_front.Statement.{statement}
+use Rattle.shows.proofs.write_front.Tie as tie
 
 returns : tie.Need-returns
 returns c = search needs

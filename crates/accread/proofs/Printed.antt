@@ -1,0 +1,51 @@
+-- What main writes, line by line from the reader's answer and table, is `printed` of the spool.
+use Prim.Native.Nat.{ℕ, suc, _-_, _*_}
+use mathlib.Core.List.{List, [], _∷_, _++_, map, append-assoc}
+use mathlib.Core.Path.{_≡_, refl, ap, ap₂, sym, _∙_}
+use native.Mathlib.Omega.{arith}
+use lib.IntN.{ℤ, pos}
+use lib.ListN.{replicate, length}
+use lib.Seq.{take-at, drop-at}
+use Rattle.rules.specs.declared.Refusal.{Refusal}
+use Rattle.rules.specs.declared.Answer.{Answer}
+use Rattle.rules.specs.declared.Answer.the-variants.{Accepted, Refused}
+use Rattle.rules.specs.declared.Digits.{Digits}
+use Rattle.rules.specs.Base.{flat}
+use Rattle.rules.specs.LineByLine.{Outcome, refused, accepted}
+use Rattle.rules.specs.RangeClass.{classOf}
+use Rattle.rules.specs.RecordTable.{width}
+use Rattle.rules.specs.Answers.{digitsOr, answerCount, answerWith, recordsIn, readOutcome, readRecords, readAnswer, readTable, ownRecords, printLine, firstLine, printed}
+use Rattle.promises.specs.DemandOne.{Wide, noRecord, oneMore}
+use Rattle.promises.proofs.Answered.{demand-one}
+use Rattle.accread.specs.Printing.{recordLines}
+
+from-table : (rs : List (List ℤ)) → Wide rs → (rest : List ℤ) → recordLines (length rs) (flat rs ++ rest) ≡ flat (map printLine rs)
+from-table [] noRecord rest = refl
+from-table (r ∷ rs) (oneMore h w) rest =
+    ap (λ (t : List ℤ). recordLines (suc (length rs)) t) (append-assoc r (flat rs) rest)
+    ∙ ap₂ (λ (a b : List ℤ). printLine a ++ recordLines (length rs) b) (take-at r (flat rs ++ rest) 32 h) (drop-at r (flat rs ++ rest) 32 h)
+    ∙ ap (λ (s : List ℕ). printLine r ++ s) (from-table rs w rest)
+
+-- a refusal has no records
+no-records : (c : Digits) (o : Outcome) (r : Refusal) → answerWith (length (recordsIn c o)) o ≡ Refused r → recordsIn c o ≡ []
+no-records c (refused n v l) r e = refl
+no-records c (accepted s) r e = absurd (let z : _≡_ {A = ℕ} 0 1 = cc in omega arith)
+
+module _ (class len : ℕ) (spool : List ℕ) where
+  refused-none : (r : Refusal) → readAnswer class len spool ≡ Refused r → readRecords class len spool ≡ []
+  unfolding readAnswer readRecords
+  refused-none r e = no-records (digitsOr (classOf class)) (readOutcome class len spool) r e
+
+  lines : (a : Answer) → readAnswer class len spool ≡ a → recordLines (answerCount a) (readTable class len spool) ≡ flat (map printLine (readRecords class len spool))
+  lines (Accepted n) e =
+      let f = demand-one .reader class len spool .whenAccepted n e in
+      ap₂ recordLines (sym (f .count)) (f .stands) ∙ from-table (readRecords class len spool) (f .wide) (replicate (len - n * width) (pos 0))
+  lines (Refused r) e = sym (ap (λ (rs : List (List ℤ)). flat (map printLine rs)) (refused-none r e))
+
+-- the table of main has 256 records
+pub main-prints : (spool : List ℕ) → let len = ownRecords * width in
+    printLine (firstLine (readAnswer 15 len spool)) ++ recordLines (answerCount (readAnswer 15 len spool)) (readTable 15 len spool) ≡ printed spool
+unfolding printed
+main-prints spool =
+    let len = ownRecords * width in
+    ap (λ (s : List ℕ). printLine (firstLine (readAnswer 15 len spool)) ++ s) (lines 15 len spool (readAnswer 15 len spool) refl)

@@ -1,0 +1,3 @@
+pub mod Laying
+pub mod LineLengths
+pub mod Unique
