@@ -1,60 +1,87 @@
 /* Answers for the spool in the file named on the command line, at class 15 or the class named after it. Where a third file is named, the
- * spool is rewritten there in the fixed form. */
+ * spool is rewritten there in the fixed form.
+ *
+ * Status: 0 the last answer printed is an acceptance, and the fixed form is in its file where one is named;
+ *         1 it is a refusal, and no file was written;
+ *         2 usage: too few or too many words, or a class that is no number;
+ *         3 the spool could not be read;
+ *         4 the answer or the fixed form could not be written. A file that was written in part is removed. */
+#include <errno.h>
 #include <stdio.h>
 #include <stdlib.h>
+#include <string.h>
+#include <sys/stat.h>
 #include "ploverdell.h"
 
 #define MOST_BYTES 61440
+
+enum status { ACCEPTED, REFUSED, USAGE, NOT_READ, NOT_WRITTEN };
 
 static uint8_t spool[MOST_BYTES + 1];
 static uint8_t out[MOST_BYTES]; /* the fixed form is never longer than its spool */
 static int64_t table[256 * PLOVERDELL_RECORD];
 
-static void show(uint64_t answer, const char *what, uint64_t count) {
+static int failed(const char *what, int error, enum status status) {
+    fprintf(stderr, "host: %s: %s\n", what, strerror(error));
+    return status;
+}
+
+/* A class is decimal digits and nothing else; whether there is such a class is the reader's to say (1). */
+static int class_of(const char *word, uint64_t *cls) {
+    char *end;
+    if (*word < '0' || *word > '9') return 0;
+    errno = 0;
+    *cls = strtoull(word, &end, 10);
+    return *end == 0 && errno == 0;
+}
+
+/* 0 where the line could not be written. */
+static int show(uint64_t answer, const char *what, uint64_t count) {
     printf("answer %u volume %u line %u %s %llu\n", (unsigned)(answer % 100), (unsigned)(answer / 100 % 100), (unsigned)(answer / 10000), what,
            (unsigned long long)count);
+    return fflush(stdout) == 0;
 }
 
-/* How many bytes the file gave, one more than a spool may have at most; -1 where it could not be read. */
-static long load(const char *path) {
+/* How many bytes the file gave, one more than a spool may have at most; 0, or the error, is returned. */
+static int load(const char *path, size_t *n) {
     FILE *f = fopen(path, "rb");
-    long n = -1;
-    if (!f) return -1;
-    n = (long)fread(spool, 1, sizeof spool, f);
-    if (ferror(f)) n = -1;
+    int error = 0;
+    if (!f) return errno;
+    *n = fread(spool, 1, sizeof spool, f);
+    if (ferror(f)) error = errno;
     fclose(f);
-    return n;
+    return error;
 }
 
+/* 0, or the error. What was written in part is removed, where it is a file and no device. */
 static int save(const char *path, size_t n) {
     FILE *f = fopen(path, "wb");
-    int good;
-    if (!f) return 0;
-    good = fwrite(out, 1, n, f) == n;
-    return fclose(f) == 0 && good;
+    struct stat kind;
+    int error = 0, is_file;
+    if (!f) return errno;
+    is_file = fstat(fileno(f), &kind) == 0 && S_ISREG(kind.st_mode);
+    if (fwrite(out, 1, n, f) != n) error = errno;
+    if (fclose(f) != 0 && error == 0) error = errno;
+    if (error != 0 && is_file) remove(path);
+    return error;
 }
 
 int main(int argc, char **argv) {
     uint64_t count = 0, cls = 15, answer;
-    long n;
-    if (argc < 2 || argc > 4) {
+    size_t n = 0;
+    int error;
+    if (argc < 2 || argc > 4 || (argc > 2 && !class_of(argv[2], &cls))) {
         fprintf(stderr, "usage: host SPOOL [CLASS [FIXED]]\n");
-        return 2;
+        return USAGE;
     }
-    if (argc > 2) cls = strtoull(argv[2], NULL, 10);
-    n = load(argv[1]);
-    if (n < 0) {
-        perror(argv[1]);
-        return 2;
-    }
-    answer = ploverdell_read(spool, (size_t)n, cls, table, sizeof table / sizeof *table, &count);
-    show(answer, "records", count);
-    if (argc < 4) return answer % 100 != 0;
-    answer = ploverdell_rewrite(spool, (size_t)n, out, sizeof out, &count);
-    show(answer, "bytes", count);
-    if (answer % 100 == 0 && !save(argv[3], (size_t)count)) {
-        perror(argv[3]);
-        return 2;
-    }
-    return answer % 100 != 0;
+    error = load(argv[1], &n);
+    if (error != 0) return failed(argv[1], error, NOT_READ);
+    answer = ploverdell_read(spool, n, cls, table, sizeof table / sizeof *table, &count);
+    if (!show(answer, "records", count)) return failed("standard output", errno, NOT_WRITTEN);
+    if (argc < 4) return answer % 100 == 0 ? ACCEPTED : REFUSED;
+    answer = ploverdell_rewrite(spool, n, out, sizeof out, &count);
+    error = answer % 100 == 0 ? save(argv[3], (size_t)count) : 0;
+    if (error != 0) return failed(argv[3], error, NOT_WRITTEN);
+    if (!show(answer, "bytes", count)) return failed("standard output", errno, NOT_WRITTEN);
+    return answer % 100 == 0 ? ACCEPTED : REFUSED;
 }
