@@ -1,8 +1,20 @@
 /* The reader and the rewriter of the drawing counter, for hosts written in C. Link with libhost.a (`make host` builds it).
  *
  * A spool is one job as document 01 describes it, at most 61,440 bytes; a class is 1 to 5 or 11 to 15.
- * The answer is one number: the refusal's number (0: accepted) + 100 * volume + 10,000 * line.
- * docs/REFUSALS.md tells what each number means. Every call answers, whatever the bytes are. */
+ * docs/REFUSALS.md tells what each refusal number means. Every call answers, whatever the bytes are.
+ *
+ * The answer is one number: the refusal's number (0: accepted) + 100 * volume + 10,000 * line. It is taken apart by
+ *     number = answer % 100, volume = answer / 100 % 100, line = answer / 10000
+ * as a number is below 100 and a volume is at most 12 (proved: docs/PROMISES.md).
+ *
+ * What the caller owes, as the proofs take it as given:
+ * - No pointer is NULL, also where its length is 0; each is to as many bytes or numbers as its length says, and *count is one number.
+ * - What is lent to be written (table, out, *count) overlaps nothing else that the same call is lent, the spool among it.
+ * - A table, and *count, is aligned to 8 bytes, as C aligns an int64_t.
+ * - Nobody else writes what is lent, and nobody reads the table, the output or *count, till the call returns.
+ * - The stack has room. Measured (bench/FIGURES.md): 85,472 bytes for ploverdell_check, 65,536 of them its table; 20,048 for
+ *   ploverdell_read and 21,360 for ploverdell_rewrite beside what is lent. A thread of 96 KB holds each.
+ * Calls share nothing and keep nothing, so any number of them may run at once, in as many threads. */
 #ifndef PLOVERDELL_H
 #define PLOVERDELL_H
 
