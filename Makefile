@@ -1,10 +1,13 @@
 # make rules   prove the definitions of document 01 and compute its sample rulings
-# make test    the gate: layout, samples, sentences, broken rules refused, then every proof, must-fail edit and program from nothing (rt ci)
+# make test    the gate: layout, samples, sentences, the C side, the reference, programs, broken rules refused, then every proof, must-fail edit and
+#              program from nothing (rt ci)
 # make samples the sample spools and their listed answers are what their scripts make: a second
 # make sentences   tools/explain says what it must of the listed answers: seconds
 # make programs    accread, accfix (built without proof) and the example host, on inputs and outputs that fail too: under a minute
+# make c-side  header, example host and drivers compile without a warning, and the header's prototypes are the code's: seconds
+# make reference   the tests of tests/reference, which answers the samples and vectors as they are listed: seconds
 # make answer SPOOL=FILE   build accread where it is not built, and say in a sentence what it answers for a spool
-# make compared   the questions that the gate's program asks, and the reference's answers to them: a few seconds
+# make compared   the questions that the gate's program asks, and the reference's answers to them, every number among them: a few seconds
 # make accread prove the reader and build target/bin/accread: ten to fifteen minutes
 # make accfix  prove the rewriter and build target/bin/accfix
 # make host    prove the C side and build target/staticlib/libhost.a and target/host (examples/host.c)
@@ -15,8 +18,8 @@
 # make compare N=100000 SEED=1   the library's answers beside those of tests/reference, on N questions; LIBRARY=FILE takes a built one
 # make sanitize   a thousand questions under AddressSanitizer, UndefinedBehaviorSanitizer and valgrind: about two minutes
 
-.PHONY: rules accread accfix answer host test layout samples sentences programs compared broken-rules edits bench bench-spools native-bench \
-	stack compare sanitize
+.PHONY: rules accread accfix answer host test layout samples sentences programs c-side reference compared broken-rules edits bench \
+	bench-spools native-bench stack compare sanitize
 
 # The spools that the reader is timed on; the first is the mixed floor that the others are compared with.
 TIMED = floor-60k floor-8k lines mixed-figures placed-symbols only-symbols only-long-names only-serials only-partners only-layers \
@@ -60,12 +63,18 @@ programs:
 	tools/try-programs
 	tools/try-host
 
+c-side:
+	tools/c-side
+
+reference:
+	tools/reference-test
+
 # What the program of crates/compared reads and must print. Emulated it takes about half a minute for these.
 compared:
 	tools/frame-compared 20000 1997
 
 # rt proves in batches that wait for their slowest: four at a time keep two processors busy.
-test: layout samples sentences programs compared broken-rules
+test: layout samples sentences c-side reference programs compared broken-rules
 	RT_JOBS=4 rt ci
 
 edits:

@@ -6,8 +6,8 @@
 #include <string.h>
 #include <time.h>
 
-uint32_t linebench_unsound(const uint8_t *s, size_t len);
-uint64_t linebench_look(const uint8_t *s, size_t len, uint32_t at, uint32_t end, uint8_t volume, uint32_t line);
+uint32_t linebench_unsound(const uint8_t *s, size_t s_len);
+uint64_t linebench_look(const uint8_t *s, size_t s_len, uint32_t at, uint32_t end, uint8_t volume, uint32_t line);
 
 // ── plain C ──
 #define KEPT __attribute__((noinline))

@@ -10,6 +10,8 @@ def settle(script, folder, files):
             (folder / name).write_bytes(content)
         print(f"{script}: {len(files)} files written into {folder.name}/")
         return
+    if not files:
+        sys.exit(f"{script}: it makes no file")
     other = [n for n, content in files.items() if not (folder / n).is_file() or (folder / n).read_bytes() != content]
     if other:
         sys.exit(f"{script}: not what the script makes: {', '.join(other)} in {folder}; run tools/{script}")

@@ -26,7 +26,7 @@ struct fenced {
 };
 
 /* Ends at once, so that a line begun is not handed out. */
-static void fail(const char *why) {
+static _Noreturn void fail(const char *why) {
     fprintf(stderr, "driver: %s\n", why);
     _Exit(2);
 }

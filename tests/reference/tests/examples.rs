@@ -1,0 +1,55 @@
+//! The sample spools of ../../examples: the answers, records and fixed forms that are listed for them.
+
+use std::fs;
+use std::path::PathBuf;
+
+use reference::records::NUMBERS;
+
+fn folder() -> PathBuf {
+    PathBuf::from(env!("CARGO_MANIFEST_DIR")).join("../../examples")
+}
+
+#[test]
+fn every_listed_answer_agrees() {
+    let listed = fs::read_to_string(folder().join("ANSWERS")).expect("examples/ANSWERS");
+    let mut tables = 0;
+    for row in listed.lines().skip(1) {
+        let cells: Vec<&str> = row.split('\t').collect();
+        let [file, class, room, answer, volume, line, count, _why] = cells[..] else { panic!("{row}") };
+        let spool = fs::read(folder().join(file)).expect(file);
+        let room: usize = room.parse().unwrap();
+        let got = reference::read(&spool, class.parse().unwrap(), room * NUMBERS);
+        let said = format!("{} {} {} {}", got.answer, got.volume, got.line, got.count);
+        assert_eq!(said, format!("{answer} {volume} {line} {count}"), "{row}");
+        if got.answer != 0 {
+            assert!(got.lent.iter().all(|&number| number == 0), "{row}");
+            continue;
+        }
+        let records = file.replace(".spool", &format!(".class{class}"));
+        if let Ok(records) = fs::read_to_string(folder().join(records)) {
+            let listed: Vec<i64> = records.split_whitespace().map(|number| number.parse().unwrap()).collect();
+            assert_eq!(got.lent[..got.count * NUMBERS], listed, "{row}: other records");
+            assert!(got.lent[got.count * NUMBERS..].iter().all(|&number| number == 0), "{row}");
+            tables += 1;
+        }
+    }
+    assert!(tables > 0);
+}
+
+#[test]
+fn every_fixed_form_agrees() {
+    let mut forms = 0;
+    for entry in fs::read_dir(folder()).unwrap() {
+        let path = entry.unwrap().path();
+        if path.extension().is_none_or(|ending| ending != "fixed") {
+            continue;
+        }
+        let fixed = fs::read(&path).unwrap();
+        let spool = fs::read(path.with_extension("spool")).unwrap();
+        let got = reference::rewrite(&spool, fixed.len());
+        assert_eq!((got.answer, got.count), (0, fixed.len()), "{}", path.display());
+        assert!(got.lent == fixed, "{}: another fixed form", path.display());
+        forms += 1;
+    }
+    assert!(forms > 0);
+}
