@@ -1,5 +1,6 @@
 // Answers the questions of tests/reference on standard input, by the reader, the check and the rewriter: for each it prints the line that
-// the reference prints (README.md there tells how questions and answers are written). tools/frame-compared makes stdin and stdout.
+// the reference prints (README.md there tells how questions and answers are written), and at the end how many they were.
+// tools/frame-compared makes stdin and stdout.
 use host::ploverdell_check;
 use sets::read;
 use sets::rewrite;
@@ -177,6 +178,15 @@ fn answered(spool: &mut [u8], table: &mut [i64], out: &mut [u8]) -> bool {
     true
 }
 
+// How many questions were answered; nothing where none was.
+fn show_count(asked: usize) {
+    if asked == 0 {
+        return;
+    }
+    show(asked as u64);
+    io::write_all(1, b" questions\n");
+}
+
 fn main() {
     let mut spool = [0u8; MOST_SPOOL];
     let mut table = [0i64; MOST_TABLE];
@@ -184,8 +194,10 @@ fn main() {
     let mut asked = 0;
     while asked < MOST_QUESTIONS {
         if !answered(&mut spool, &mut table, &mut out) {
+            show_count(asked);
             return;
         }
         asked += 1;
     }
+    show_count(asked);
 }

@@ -35,6 +35,9 @@ slice-aggregate-answered-3 c = search needs
 answered-requires : tie.Need-answered-requires Inv-loop μ-loop
 answered-requires c κs = search needs
 
+show-count-requires : tie.Need-show-count-requires Inv-loop μ-loop
+show-count-requires c κs = search needs
+
 returns : tie.Need-returns Inv-loop μ-loop
 returns c = search needs
 
@@ -46,6 +49,9 @@ loop-less c = search needs
 
 loop-again : tie.Need-loop-again Inv-loop μ-loop
 loop-again c = search needs
+
+show-count-requires-2 : tie.Need-show-count-requires-2 Inv-loop μ-loop
+show-count-requires-2 c κs = search needs
 
 returns-2 : tie.Need-returns-2 Inv-loop μ-loop
 returns-2 c = search needs
@@ -61,8 +67,10 @@ main-spec =
     slice-aggregate-answered-2
     slice-aggregate-answered-3
     answered-requires
+    show-count-requires
     returns
     add-asked
     loop-less
     loop-again
+    show-count-requires-2
     returns-2)
