@@ -15,3 +15,4 @@ pub mod KeyedLines
 pub mod SymbolNames
 pub mod SymbolSteps
 pub mod ScratchCode
+pub mod Unique

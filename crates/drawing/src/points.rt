@@ -29,6 +29,9 @@ ghost use Rattle.rules.specs.RecordTable.{width};
 // "plus 20 inside a symbol"
 const KIND_POINT_IN_SYMBOL: u8 = KIND_POINT + IN_SYMBOL;
 
+// "block of 3 to 100 point"; "`hide` (0 to 100 points, H)"
+const MOST_POINTS: u32 = 100;
+
 // "In layers no coordinate is negative but the two centres; in symbols any sign."
 fn point_table(layered: bool) -> u8
     ensures { λ r. ⌜ r ≡ pointTableOf layered ⌝ }
@@ -93,7 +96,7 @@ pub fn on_chain(
     requires { ⌜ (length (now s) ≤ 61440) × (length (now symbols) ≤ 65536) × (length (now layers) ≤ 65536) × (here .figures < 4294967295) × (here .points < 4294967295) × (leastPoints ≤ here .points → own + 64 ≤ length (now t)) ⌝ }
     ensures { λ r. ⌜ ChainLine (pointAct (pointTableOf (here .layered)) (now (s .entry)) (now (symbols .entry)) (now (layers .entry)) here form (now (t .entry))) here own at (now (t .entry)) (now (t .exit)) r ⌝ }
 {
-    let full = [100 <= here.points];
+    let full = [MOST_POINTS <= here.points];
     let w = here.free;
     let next = act_at(
         point_table(here.layered),
@@ -138,7 +141,7 @@ pub fn on_hide(
     requires { ⌜ (length (now s) ≤ 61440) × (length (now symbols) ≤ 65536) × (length (now layers) ≤ 65536) × (here .points < 4294967295) ⌝ }
     ensures { λ r. ⌜ HideLine (pointAct tableSymbolPoints (now (s .entry)) (now (symbols .entry)) (now (layers .entry)) here form (now (t .entry))) here at (now (t .entry)) (now (t .exit)) r ⌝ }
 {
-    let full = [100 <= here.points];
+    let full = [MOST_POINTS <= here.points];
     let w = here.free;
     let next = act_at(
         TABLE_SYMBOL_POINTS,
