@@ -6,19 +6,20 @@
 # make programs    accread, accfix (built without proof) and the example host, on inputs and outputs that fail too: under a minute
 # make c-side  header, example host and drivers compile without a warning, and the header's prototypes are the code's: seconds
 # make reference   the tests of tests/reference, which answers the samples and vectors as they are listed: seconds
+# make edits-found   every edit of a wrong program still finds its lines, no two are the same, those that PROMISES names are there: a second
 # make answer SPOOL=FILE   build accread where it is not built, and say in a sentence what it answers for a spool
 # make compared   the questions that the gate's program asks, and the reference's answers to them, every number among them: a few seconds
 # make accread prove the reader and build target/bin/accread: ten to fifteen minutes
 # make accfix  prove the rewriter and build target/bin/accfix
 # make host    prove the C side and build target/staticlib/libhost.a and target/host (examples/host.c)
-# make edits   the wrong programs that the gate leaves out, tried and refused: within an hour where all is proved
+# make edits   the wrong programs that the gate leaves out, tried and refused: about an hour where all is proved
 # make bench   ns per byte of splitting, of reading and of rewriting a spool, beside plain C (bench/FIGURES.md)
 # make native-bench   the reader's and the rewriter's figures where the machine is not x86-64, without an emulator
 # make stack   the bytes of stack that the check, the reader and the rewriter take
 # make compare N=100000 SEED=1   the library's answers beside those of tests/reference, on N questions; LIBRARY=FILE takes a built one
 # make sanitize   a thousand questions under AddressSanitizer, UndefinedBehaviorSanitizer and valgrind: about two minutes
 
-.PHONY: rules accread accfix answer host test layout samples sentences programs c-side reference compared broken-rules edits bench \
+.PHONY: rules accread accfix answer host test layout samples sentences programs c-side reference compared edits-found broken-rules edits bench \
 	bench-spools native-bench stack compare sanitize
 
 # The spools that the reader is timed on; the first is the mixed floor that the others are compared with.
@@ -69,12 +70,16 @@ c-side:
 reference:
 	tools/reference-test
 
+edits-found:
+	tools/more-edits --check
+	tools/promised
+
 # What the program of crates/compared reads and must print. Emulated it takes about half a minute for these.
 compared:
 	tools/frame-compared 20000 1997
 
 # rt proves in batches that wait for their slowest: four at a time keep two processors busy.
-test: layout samples sentences c-side reference programs compared broken-rules
+test: layout samples sentences c-side reference programs compared edits-found broken-rules
 	RT_JOBS=4 rt ci
 
 edits:
