@@ -232,7 +232,7 @@ later-apart k v f =
 
 -- ── figures ──
 -- what is added to the kinds inside a symbol
-abbrev moreIn : Bool → ℕ
+abbrev pub moreIn : Bool → ℕ
 moreIn true = 0
 moreIn false = 20
 

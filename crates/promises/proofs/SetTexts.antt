@@ -21,6 +21,7 @@ use Rattle.promises.specs.PlacesApart.{textPlaces, kindOf}
 use Rattle.promises.specs.TableTexts.{Shows, ShowsAt, ShowTexts}
 use Rattle.promises.specs.TextsKept.{Kept, fileKept, drawingKept, layerKept, noTexts, pointKept, figureKept, innerKept, symbolKept, blockKept, bodyKept, laterKept, keptFrom, textsKept}
 use Rattle.promises.proofs.FitSets.{Each, FitSlot, FitSlots, FitHeld, FitFigure, FitLayer, FitSymbol, FitBlock, FitContents, FitVolumes, FitSet}
+use Rattle.promises.proofs.RecordPlaces.{moreIn}
 
 -- a text and its place, as a record has them
 abbrev pub Standing : List ℕ → ℕ → List ℕ → Type 0
@@ -125,11 +126,6 @@ module _ (spool : List ℕ) where
   layers-show n (l ∷ ls) h = record { texts = ((slot-shows (some (l .name)) (h .0), tt), layers-show (suc n) ls (h .1) .texts) }
 
   -- ── figures ──
-  -- what is added to the kinds inside a symbol
-  abbrev moreIn : Bool → ℕ
-  moreIn true = 0
-  moreIn false = 20
-
   points-show : (kind owner volume : ℕ) (ps : List Point) → textPlaces kind ≡ [] → Show (pointRecords kind owner volume ps) (map pointKept ps)
   unfolding pointTable
   points-show kind owner volume [] e = no-record
