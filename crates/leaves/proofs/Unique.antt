@@ -8,7 +8,7 @@ use mathlib.Core.List.{List}
 use mathlib.Core.Path.{_≡_, sym, _∙_, ap₂}
 use lib.Dec.{leb}
 use lib.IntN.{ℤ}
-use lib.ListN.{length, getD}
+use lib.ListN.{length, getD, replicate}
 use contract.Lifetimes.{Lfts}
 use denote.Ref.{now}
 use denote.Triple.Clauses.{AtExit}
@@ -50,6 +50,7 @@ use Rattle.leaves.proofs.sheets.sheet as sheet′
 use Rattle.leaves.proofs.sheets.ratio as ratio′
 use Rattle.leaves.proofs.texts.text_rule as text-rule′
 use Rattle.leaves.proofs.texts.fits as fits′
+use Rattle.leaves.proofs.write.clear as clear′
 use Rattle.leaves.proofs.write.put as put′
 use Rattle.leaves.proofs.write.put_count as put-count′
 use Rattle.leaves.proofs.write.put_fixed as put-fixed′
@@ -196,6 +197,12 @@ fits-code κs x r₁ r₂ e₁ e₂ = fits-unique (now (x .0)) (x .1 .0) (x .1 .
 -- ── write: the answer, and the output on return ──
 both-put : {text out out₁ out₂ : List ℕ} {r₁ r₂ : Wrote} → Puts text out out₁ r₁ → Puts text out out₂ r₂ → (r₁ ≡ r₂) × (out₁ ≡ out₂)
 both-put c₁ c₂ = (c₁ .answer ∙ sym (c₂ .answer), c₁ .memory ∙ sym (c₂ .memory))
+
+pub clear-unique : (out out₁ out₂ : List ℕ) → out₁ ≡ replicate (length out) 0 → out₂ ≡ replicate (length out) 0 → out₁ ≡ out₂
+clear-unique out out₁ out₂ c₁ c₂ = c₁ ∙ sym c₂
+
+clear-code : One clear′.Kinds.ps clear′.Kinds.r clear′.Reads.Learnt {A = List ℕ} (λ κs r e. now (e .0))
+clear-code κs x r₁ r₂ e₁ e₂ = clear-unique (now (x .0)) (now (e₁ .0)) (now (e₂ .0))
 
 pub put-unique : (text out out₁ out₂ : List ℕ) (r₁ r₂ : Wrote) → Puts text out out₁ r₁ → Puts text out out₂ r₂ → (r₁ ≡ r₂) × (out₁ ≡ out₂)
 put-unique text out out₁ out₂ r₁ r₂ c₁ c₂ = both-put c₁ c₂

@@ -157,11 +157,11 @@ module _ (m : ℕ) where
         ∙ rw (d, t, ne-eqb (m % 10000) 0 e)
 
 -- ── a byte before a text that is there or found no room ──
-full-bytes : {P : Type 0} {n : ℕ} → W.Full ≡ W.Bytes n → P
+pub full-bytes : {P : Type 0} {n : ℕ} → W.Full ≡ W.Bytes n → P
 full-bytes e = absurd (let z : _≡_ {A = ℕ} 0 1 = cc in omega arith)
 
 module _ (text s after : List ℕ) where
-  was-full : Puts text s after W.Full → (length s < length text) × (after ≡ s)
+  pub was-full : Puts text s after W.Full → (length s < length text) × (after ≡ s)
   was-full p = go (leb (length text) (length s)) refl (p .answer) (p .memory)
     where
       go : (t : Bool) → leb (length text) (length s) ≡ t → W.Full ≡ cond t (W.Bytes (length text)) W.Full → after ≡ cond t (text ++ drop (length text) s) s
@@ -169,7 +169,7 @@ module _ (text s after : List ℕ) where
       go true q a m = full-bytes a
       go false q a m = (leb-false (length text) (length s) q, m)
 
-  was-bytes : (n : ℕ) → Puts text s after (W.Bytes n) → (length text ≡ n) × (length text ≤ length s) × (after ≡ text ++ drop (length text) s)
+  pub was-bytes : (n : ℕ) → Puts text s after (W.Bytes n) → (length text ≡ n) × (length text ≤ length s) × (after ≡ text ++ drop (length text) s)
   was-bytes n p = go (leb (length text) (length s)) refl (p .answer) (p .memory)
     where
       go : (t : Bool) → leb (length text) (length s) ≡ t → W.Bytes n ≡ cond t (W.Bytes (length text)) W.Full → after ≡ cond t (text ++ drop (length text) s) s

@@ -2,10 +2,21 @@ use crate::Wrote;
 ghost use mathlib.Core.Path.{_≡_};
 ghost use Prim.Native.Nat.{_≤_, _/_, _%_};
 ghost use mathlib.Core.List.{_++_, _∷_};
-ghost use lib.ListN.{length, drop, take};
+ghost use lib.ListN.{length, drop, take, replicate};
 ghost use Rattle.rules.specs.Numbers.{fixed, trim, trimEnd, showCount, showSize, showDecimal};
 ghost use Rattle.rules.specs.Values.{showSheet, showRatio};
 ghost use Rattle.leaves.specs.Writing.{Puts, width, laidSize};
+
+// All zeros, whatever it held.
+pub fn clear(out: &mut [u8])
+    ensures { λ _. ⌜ now (out .exit) ≡ replicate (length (now (out .entry))) 0 ⌝ }
+{
+    let mut cleared = 0;
+    while cleared < out.len() {
+        out[cleared] = 0;
+        cleared += 1;
+    }
+}
 
 // A text at the front of out, where it fits; where it does not, out stays as it is.
 pub fn put(text: &[u8], out: &mut [u8]) -> Wrote

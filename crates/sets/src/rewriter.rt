@@ -1,24 +1,14 @@
 // The rewriter.
 use crate::reader::judge;
 use leaves::Wrote;
+use leaves::write::clear;
 use pens::volumes::put_set;
 use rules::Answer;
 use rules::Refusal;
 ghost use mathlib.Core.Path.{_≡_};
-ghost use lib.ListN.{length, replicate};
+ghost use lib.ListN.{length};
 ghost use Rattle.rules.specs.Answers.{rewriteAnswer, rewriteOutput};
 ghost use Rattle.sets.specs.SetReading.{IsAccepted};
-
-// All zeros, whatever it held.
-fn clear(out: &mut [u8])
-    ensures { λ _. ⌜ now (out .exit) ≡ replicate (length (now (out .entry))) 0 ⌝ }
-{
-    let mut i = 0;
-    while i < out.len() {
-        out[i] = 0;
-        i += 1;
-    }
-}
 
 // An accepted spool's fixed form and zeros behind it; "20 output shorter than the written set".
 fn write_set(s: &[u8], out: &mut [u8]) -> Answer

@@ -2,14 +2,14 @@
 use Prim.Native.Nat.{ℕ, suc, _+_, _-_, _<_, _≤_}
 use mathlib.Core.Path.{_≡_, refl, ap, ap₂, sym, subst, _∙_}
 use mathlib.Core.List.{List, [], _∷_, _++_, map, append-nil, append-assoc}
-use mathlib.Core.Bool.{Bool, true, false, cond}
+use mathlib.Core.Bool.{true, false, cond}
 use native.Mathlib.Omega.{arith}
 use lib.Dec.{leb, eqb}
 use lib.IntN.{ℤ, pos, negsuc}
 use lib.Signed.{mag, ltZ}
 use lib.ListN.{length, getD, take, drop, set, length-drop, length-append, take-append-drop, drop-of-length-le, replicate}
 use lib.Seq.{append-snoc, drop-append-le, drop-at, drop-cons, drop-drop, length-take-le, set-split, take-at}
-use borrow.Author.Tests.{ltb-true, leb-true, leb-false, le-leb, lt-leb, ne-eqb}
+use borrow.Author.Tests.{ltb-true, le-leb, lt-leb, ne-eqb}
 use borrow.Rule.Slice.PartMut.{putMid, same-len-mid}
 use Rattle.rules.specs.Base.{join}
 use mir.Syntax.{w64}
@@ -23,7 +23,7 @@ use Rattle.leaves.specs.declared.Wrote.{Wrote}
 use Rattle.leaves.specs.declared.Wrote.the-variants as W
 use Rattle.leaves.specs.Writing.{Puts}
 use Rattle.leaves.proofs.Scan.{rest-all}
-use Rattle.leaves.proofs.Written.{fits, full}
+use Rattle.leaves.proofs.Written.{fits, full, was-full, was-bytes}
 use Rattle.shows.specs.Laid.{Lays}
 
 -- ── a number's sign ──
@@ -35,27 +35,6 @@ pub shown-not-below : (z : ℤ) → ltZ z (pos 0) ≡ false → showSigned z ≡
 shown-not-below (pos n) e = refl
 shown-not-below (negsuc n) e = absurd (let q : _≡_ {A = ℕ} 0 1 = cc in omega arith)
 
--- ── a text that is there, or found no room ──
-full-bytes : {P : Type 0} {n : ℕ} → W.Full ≡ W.Bytes n → P
-full-bytes e = absurd (let z : _≡_ {A = ℕ} 0 1 = cc in omega arith)
-
-module _ (text s after : List ℕ) (r : Wrote) (p : Puts text s after r) where
-  was-full : r ≡ W.Full → (length s < length text) × (after ≡ s)
-  was-full e = go (leb (length text) (length s)) refl (sym e ∙ p .answer) (p .memory)
-    where
-      go : (t : Bool) → leb (length text) (length s) ≡ t → W.Full ≡ cond t (W.Bytes (length text)) W.Full → after ≡ cond t (text ++ drop (length text) s) s
-          → (length s < length text) × (after ≡ s)
-      go true q a m = full-bytes a
-      go false q a m = (leb-false (length text) (length s) q, m)
-
-  was-bytes : (n : ℕ) → r ≡ W.Bytes n → (length text ≡ n) × (length text ≤ length s) × (after ≡ text ++ drop (length text) s)
-  was-bytes n e = go (leb (length text) (length s)) refl (sym e ∙ p .answer) (p .memory)
-    where
-      go : (t : Bool) → leb (length text) (length s) ≡ t → W.Bytes n ≡ cond t (W.Bytes (length text)) W.Full → after ≡ cond t (text ++ drop (length text) s) s
-          → (length text ≡ n) × (length text ≤ length s) × (after ≡ text ++ drop (length text) s)
-      go true q a m = (let e : n ≡ length text = cc in sym e, leb-true (length text) (length s) q, m)
-      go false q a m = full-bytes (sym a)
-
 -- ── a text and the byte behind it, where the text was lent one byte less ──
 module _ (text out after : List ℕ) (r : Wrote) (h : length out ≡ 0 → ⊥) (p : Puts text (take (length out - 1) out) after r) (b : ℕ) where
   short : length (take (length out - 1) out) ≡ length out - 1
@@ -66,13 +45,13 @@ module _ (text out after : List ℕ) (r : Wrote) (h : length out ≡ 0 → ⊥) 
 
   pub ended-full : r ≡ W.Full → Puts (text ++ b ∷ []) out (after ++ drop (length out - 1) out) W.Full
   ended-full e =
-      let w = was-full text (take (length out - 1) out) after r p e in
+      let w = was-full text (take (length out - 1) out) after (subst (Puts text (take (length out - 1) out) after) e p) in
       let less : length out < length text + 1 = omega (arith, w .0, short) in
       rw (w .1, take-append-drop (length out - 1) out) (full (text ++ b ∷ []) out (length text + 1) longer less)
 
   module _ (n : ℕ) (e : r ≡ W.Bytes n) where
     parts : (length text ≡ n) × (length text ≤ length (take (length out - 1) out)) × (after ≡ text ++ drop (length text) (take (length out - 1) out))
-    parts = was-bytes text (take (length out - 1) out) after r p n e
+    parts = was-bytes text (take (length out - 1) out) after n (subst (Puts text (take (length out - 1) out) after) e p)
 
     pub ended-room : n < length out
     ended-room = omega (arith, parts .0, parts .1, short, h)
@@ -185,7 +164,7 @@ module _ (zs : List ℤ) (before out : List ℕ) (at i : ℕ) (g : Laid zs befor
 
     pub line-full : r ≡ W.Full → (cleared : List ℕ) → cleared ≡ replicate (length (putMid at (length out - at) out after)) 0 → Lays (printLine zs) before cleared W.Full
     line-full e cleared m =
-        let w = was-full (showSigned z ++ b ∷ []) (drop at out) after r written e in
+        let w = was-full (showSigned z ++ b ∷ []) (drop at out) after (subst (Puts (showSigned z ++ b ∷ []) (drop at out) after) e written) in
         let kept : length (putMid at (length out - at) out after) ≡ length out = same-len-mid at (length out - at) out after (ap (λ (s : List ℕ). length s) (w .1 ∙ sym (rest-all at out))) in
         let long : length (ended zs) ≡ at + (length (showSigned z ++ b ∷ []) + length (ended (drop (suc i) zs))) =
         ap (λ (s : List ℕ). length s) (g .text ∙ ap (λ (s : List ℕ). take at out ++ s) next)
@@ -196,7 +175,7 @@ module _ (zs : List ℤ) (before out : List ℕ) (at i : ℕ) (g : Laid zs befor
 
     module _ (n : ℕ) (e : r ≡ W.Bytes n) where
       there : (length (showSigned z ++ b ∷ []) ≡ n) × (length (showSigned z ++ b ∷ []) ≤ length (drop at out)) × (after ≡ (showSigned z ++ b ∷ []) ++ drop (length (showSigned z ++ b ∷ [])) (drop at out))
-      there = was-bytes (showSigned z ++ b ∷ []) (drop at out) after r written n e
+      there = was-bytes (showSigned z ++ b ∷ []) (drop at out) after n (subst (Puts (showSigned z ++ b ∷ []) (drop at out) after) e written)
 
       pub line-room : at + n ≤ length out
       line-room = omega (arith, there .0, there .1, length-drop at out, g .room)

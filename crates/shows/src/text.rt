@@ -1,6 +1,7 @@
 // One printed line, laid into a lent buffer: numbers in decimal, single spaces between them, a newline at the end (rules, Answers:
 // `printLine`).
 use leaves::Wrote;
+use leaves::write::clear;
 use leaves::write::put;
 use leaves::write::put_count;
 use rules::Answer;
@@ -8,7 +9,6 @@ ghost use mathlib.Core.Bool.{cond};
 ghost use mathlib.Core.List.{[], _∷_, _++_};
 ghost use mathlib.Core.Path.{_≡_};
 ghost use lib.Dec.{eqb};
-ghost use lib.ListN.{length, replicate};
 ghost use Rattle.leaves.specs.Writing.{Puts};
 ghost use Rattle.rules.specs.Answers.{showNumber, showSigned, printLine, firstLine};
 ghost use Rattle.shows.specs.Laid.{Lays};
@@ -62,16 +62,6 @@ fn end_before(left: usize) -> u8
         return b'\n';
     }
     b' '
-}
-
-fn clear(out: &mut [u8])
-    ensures { λ _. ⌜ now (out .exit) ≡ replicate (length (now (out .entry))) 0 ⌝ }
-{
-    let mut i = 0;
-    while i < out.len() {
-        out[i] = 0;
-        i += 1;
-    }
 }
 
 // The line of no number at all.
