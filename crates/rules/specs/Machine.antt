@@ -94,6 +94,7 @@ atEof l s k =
     (unless (countedAll s) 17
     (got (ended s))))
 
+-- a line with a key enters nothing here and closes nothing: those two arms are never reached
 abbrev pub onTop : Env → Line → Set → ℕ → Form → Got State
 onTop e l s k ignored = got (top s k)
 onTop e l s k (wrong n) = bad n
@@ -140,9 +141,9 @@ layerValue k (content at c) = readKind (record { symbols = []; layers = [] }) la
 layerValue k (opening at c) = bad 5
 layerValue k formless = bad 5
 
--- "A misspelt id is 6", in any form; a right one in a wrong form is 5: the two exclude each other, so 6 may stand first. The name's own
--- number is 11, as is that of one line too many; then 14 for a layer declared twice, and 19. A rule on names with a number over 11, or one
--- below 6 for a misspelt id, would have to find another place.
+-- "A misspelt id is 6" in any form, a right one in a wrong form 5: they exclude each other, so 6 may stand first. Then the name's own number,
+-- 11, that of one line too many, 11 again, 14 for a layer declared twice, 19. A form asked of a misspelt id too would have to stand before 6; a
+-- rule on names with a number above 11 would have to stand behind the test of how many lines there are.
 abbrev pub layerLine : Env → Line → Set → Drawing → List ℕ → Rest → Got State
 layerLine e l s d k c =
     unless (isLayerId k) 6
