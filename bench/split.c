@@ -7,7 +7,7 @@
 #include <time.h>
 
 uint32_t linebench_unsound(const uint8_t *s, size_t s_len);
-uint64_t linebench_look(const uint8_t *s, size_t s_len, uint32_t at, uint32_t end, uint8_t volume, uint32_t line);
+uint64_t linebench_look(const uint8_t *body, size_t body_len, uint32_t base, uint32_t at, uint8_t volume, uint32_t line);
 
 // ── plain C ──
 #define KEPT __attribute__((noinline))
@@ -68,11 +68,11 @@ static uint64_t unread(const uint8_t *t, size_t i, size_t len, uint32_t at, uint
     return i == len ? 0 : seen(at + (uint32_t)i + 2, kind);
 }
 
-static KEPT uint64_t plain_look(const uint8_t *s, size_t slen, uint32_t at, uint32_t end, uint8_t volume, uint32_t line) {
+static KEPT uint64_t plain_look(const uint8_t *body, size_t size, uint32_t base, uint32_t at, uint8_t volume, uint32_t line) {
     (void)volume, (void)line;
-    if (slen > 61440 || end > slen || at > end) return 0;
-    const uint8_t *t = s + at;
-    size_t len = end - at, n = 0, k, r, w;
+    if (base + size > 61440 || at < base || at - base > size) return 0;
+    const uint8_t *t = body + (at - base);
+    size_t len = size - (at - base), n = 0, k, r, w;
     if (len == 0) return 0;
     if (t[0] == '#') return unread(t, 0, len, at, 0);
     for (;;) {
@@ -111,13 +111,13 @@ static uint64_t split(const uint8_t *s, size_t len, unsound_fn *unsound, look_fn
     uint64_t sum = unsound(s, len);
     size_t at = 0;
     for (uint8_t v = 1; at < len; v++) {
-        uint32_t p = (uint32_t)at + 12, end = p + s[at + 10] * 256u + s[at + 11], line = 0;
+        uint32_t base = (uint32_t)at + 12, size = s[at + 10] * 256u + s[at + 11], p = base, line = 0;
         uint64_t f;
-        while ((f = look(s, len, p, end, v, ++line)) != 0) {
+        while ((f = look(s + base, size, base, p, v, ++line)) != 0) {
             sum = sum * 31 + f;
             p = (uint32_t)(f >> 32);
         }
-        at = end;
+        at = base + size;
     }
     return sum;
 }

@@ -1,14 +1,11 @@
 -- A line that `next_line` saw, among the lines left: what it is in the code's words, and where the reading stands behind it.
 use Prim.Native.Nat.{ℕ, suc, _+_, _<_, _≤_}
-use mathlib.Core.Bool.{Bool, true, false}
+use mathlib.Core.Bool.{Bool, false}
 use mathlib.Core.List.{List, _∷_}
 use mathlib.Core.Path.{_≡_, refl, sym, _∙_, ap, subst}
 use native.Mathlib.Omega.{arith}
-use lib.Dec.{leb}
 use lib.ListN.{length}
-use borrow.Author.Tests.{leb-true, leb-false}
 use Rattle.rules.specs.Base.{isNil}
-use Rattle.rules.specs.Spool.{mostBytes}
 use Rattle.rules.specs.Lines.{Form, formOf, formIn}
 use Rattle.rules.specs.Machine.{Line}
 use Rattle.rules.proofs.Chains.{clash}
@@ -16,11 +13,10 @@ use Rattle.lines.specs.LineLook.{lookIn}
 use Rattle.lines.specs.declared.Seen.{Seen}
 use Rattle.lines.specs.declared.Look.{Look}
 use Rattle.lines.specs.declared.Look.the-variants as K
-use Rattle.lines.proofs.LineLook.{look-long, look-behind}
 use Rattle.lines.proofs.LinesSeen.{look-forward}
 use Rattle.account.specs.declared.Volume.{Volume}
 use Rattle.account.specs.declared.Pos.{Pos}
-use Rattle.account.specs.Walk.{seenOr, seenFrom, At, todo, lineAt, Next}
+use Rattle.account.specs.Walk.{seenOr, seenFrom, endOf, At, todo, lineAt, Next}
 use Rattle.account.specs.SkippedLines.{Low}
 use Rattle.account.proofs.Walked.{next-seen, todo-cons}
 
@@ -32,22 +28,22 @@ abbrev pub seenLine : List ℕ → Volume → List ℕ → Pos → Seen → Line
 seenLine s v next p f = record { volume = v .number; line = p .line + 1; last = f .last; next = next; form = formIn s (f .form) }
 
 -- the line and those behind it
-pub record Passed (s : List ℕ) (v : Volume) (p : Pos) (ls : List (List ℕ)) (f : Seen) : Type 0 where
+pub record Passed (s body : List ℕ) (v : Volume) (p : Pos) (ls : List (List ℕ)) (f : Seen) : Type 0 where
   pub others : List (List ℕ)
-  pub at : At s v (past p f) others
+  pub at : At s body v (past p f) others
   pub last : f .last ≡ isNil others
   pub cons : (next : List ℕ) (more : List Line) → todo v next p ls more ≡ seenLine s v next p f ∷ todo v next (past p f) others more
 
-pub passed-line : (s : List ℕ) (v : Volume) (p : Pos) (ls : List (List ℕ)) (f : Seen) → f ≡ seenFrom s v p → At s v p ls → isNil ls ≡ false → Passed s v p ls f
-passed-line s v p ls f e a n =
-    let x = subst (λ (g : Seen). Next s v p ls g) (sym e) (next-seen s v p ls a n) in
+pub passed-line : (s body : List ℕ) (v : Volume) (p : Pos) (ls : List (List ℕ)) (f : Seen) → f ≡ seenFrom body v p → At s body v p ls → isNil ls ≡ false → Passed s body v p ls f
+passed-line s body v p ls f e a n =
+    let x = subst (λ (g : Seen). Next s body v p ls g) (sym e) (next-seen s body v p ls a n) in
     let l = x .line in
     let us = x .others in
     let z : record { at = p .at + length l + 2; line = p .line + 1 } ≡ past p f = ap (λ (m : ℕ). record { at = m; line = p .line + 1 }) (sym (x .next)) in
     let u : suc (p .line) ≡ p .line + 1 = omega arith in
     record {
       others = us;
-      at = subst (λ (q : Pos). At s v q us) z (x .at);
+      at = subst (λ (q : Pos). At s body v q us) z (x .at);
       last = x .last;
       cons = λ next more.
           ap (λ (ws : List (List ℕ)). todo v next p ws more) (x .lines)
@@ -58,31 +54,16 @@ passed-line s v p ls f e a n =
           ∙ ap (λ (g : Form). record { volume = v .number; line = p .line + 1; last = f .last; next = next; form = g } ∷ todo v next (past p f) us more) (sym (x .form));
     }
 
-abbrev pub Forward : Volume → Pos → Seen → Type 0
-Forward v p g = (p .at < g .next) × (g .next ≤ v .end + 1) × (g .next ≤ 61441)
+abbrev pub Forward : List ℕ → Volume → Pos → Seen → Type 0
+Forward body v p g = (p .at < g .next) × (g .next ≤ endOf body v + 1) × (g .next ≤ 61441)
 
 -- whatever the bytes: a line that is not the last goes on, and stays in the spool's places
-pub seen-forward : (s : List ℕ) (v : Volume) (p : Pos) (f : Seen) → f ≡ seenFrom s v p → f .last ≡ false → Forward v p f
-seen-forward s v p f e n = subst (Forward v p) (sym e) (go (lookIn (v .number) (p .line + 1) (p .at) (v .end) s) refl (ap (λ (g : Seen). g .last) (sym e) ∙ n))
+pub seen-forward : (body : List ℕ) (v : Volume) (p : Pos) (f : Seen) → f ≡ seenFrom body v p → f .last ≡ false → Forward body v p f
+seen-forward body v p f e n = subst (Forward body v p) (sym e) (go (lookIn (v .number) (p .line + 1) (v .at) (p .at) body) refl (ap (λ (g : Seen). g .last) (sym e) ∙ n))
   where
-    none-seen : {P : Type 0} {g : Seen} → K.End ≡ K.Line g → P
-    none-seen e = absurd (let z : _≡_ {A = ℕ} 0 1 = cc in omega arith)
-
-    short : (g : Seen) → lookIn (v .number) (p .line + 1) (p .at) (v .end) s ≡ K.Line g → (b : Bool) → leb (length s) mostBytes ≡ b → length s ≤ mostBytes
-    short g q true h = leb-true (length s) mostBytes h
-    short g q false h = none-seen (sym (look-long (v .number) (p .line + 1) (p .at) (v .end) s (leb-false (length s) mostBytes h)) ∙ q)
-
-    inside : (g : Seen) → lookIn (v .number) (p .line + 1) (p .at) (v .end) s ≡ K.Line g → (b : Bool) → leb (v .end) (length s) ≡ b → v .end ≤ length s
-    inside g q true h = leb-true (v .end) (length s) h
-    inside g q false h = none-seen (sym (look-behind (v .number) (p .line + 1) (p .at) (v .end) s (leb-false (v .end) (length s) h)) ∙ q)
-
-    go : (r : Look) → lookIn (v .number) (p .line + 1) (p .at) (v .end) s ≡ r → seenOr (p .at) r .last ≡ false → Forward v p (seenOr (p .at) r)
+    go : (r : Look) → lookIn (v .number) (p .line + 1) (v .at) (p .at) body ≡ r → seenOr (p .at) r .last ≡ false → Forward body v p (seenOr (p .at) r)
     go K.End q h = clash refl h
-    go (K.Line g) q h =
-        let w = look-forward (v .number) (p .line + 1) (p .at) (v .end) s g q in
-        let a = short g q (leb (length s) mostBytes) refl in
-        let b = inside g q (leb (v .end) (length s)) refl in
-        (w .0, w .1, omega (arith, w .1))
+    go (K.Line g) q h = look-forward (v .number) (p .line + 1) (v .at) (p .at) body g q
 
-pub low-past : (s : List ℕ) (v : Volume) (p : Pos) (f : Seen) → f ≡ seenFrom s v p → f .last ≡ false → Low p → Low (past p f)
-low-past s v p f e n h = let m = seen-forward s v p f e n in let a = h .line in record { line = omega (arith, m .0); at = m .2 }
+pub low-past : (body : List ℕ) (v : Volume) (p : Pos) (f : Seen) → f ≡ seenFrom body v p → f .last ≡ false → Low p → Low (past p f)
+low-past body v p f e n h = let m = seen-forward body v p f e n in let a = h .line in record { line = omega (arith, m .0); at = m .2 }

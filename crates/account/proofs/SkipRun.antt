@@ -70,15 +70,15 @@ early-turn t h fs n o d g (S.Refuse m) = refl
 
 -- ── the loop ──
 -- its invariant: the run from p is the run from q
-pub record Going (s : List ℕ) (v : Volume) (left : ℕ) (p q : Pos) : Type 0 where
-  pub came : (ls : List (List ℕ)) → At s v p ls → isNil ls ≡ false → Came s v p ls (skipped (5 - left)) (skipped (5 - left)) q
+pub record Going (s body : List ℕ) (v : Volume) (left : ℕ) (p q : Pos) : Type 0 where
+  pub came : (ls : List (List ℕ)) → At s body v p ls → isNil ls ≡ false → Came s body v p ls (skipped (5 - left)) (skipped (5 - left)) q
   pub low : Low q
   pub on : p .at ≤ q .at
   pub one : 1 ≤ left
   pub four : left ≤ 4
 
-pub start : (s : List ℕ) (v : Volume) (left : ℕ) (p : Pos) → SkipReady p left → Going s v left p p
-start s v left p r =
+pub start : (s body : List ℕ) (v : Volume) (left : ℕ) (p : Pos) → SkipReady p left → Going s body v left p p
+start s body v left p r =
     record {
       came = λ ls a n. record { rest = ls; at = a; some-left = n; eq = λ e t h fs k o next more. refl };
       low = r .low;
@@ -87,7 +87,7 @@ start s v left p r =
       four = r .four;
     }
 
-module _ (s : List ℕ) (v : Volume) (left : ℕ) (p q : Pos) (g : Going s v left p q) (f : Seen) (w : f ≡ seenFrom s v q) (did : Skipped) (z : did ≡ skippedBy (formIn s (f .form))) where
+module _ (s body : List ℕ) (v : Volume) (left : ℕ) (p q : Pos) (g : Going s body v left p q) (f : Seen) (w : f ≡ seenFrom body v q) (did : Skipped) (z : did ≡ skippedBy (formIn s (f .form))) where
   abbrev d : ℕ
   d = 5 - left
 
@@ -101,12 +101,12 @@ module _ (s : List ℕ) (v : Volume) (left : ℕ) (p q : Pos) (g : Going s v lef
   acts e t h fs n o next = turns t h fs n o d (formIn s (f .form)) ∙ ap (turn t h fs n o d) (sym z)
 
   -- the run from p is the run from this line
-  module _ (ls : List (List ℕ)) (a : At s v p ls) (n : isNil ls ≡ false) where
-    abbrev here : Came s v p ls (skipped d) (skipped d) q
+  module _ (ls : List (List ℕ)) (a : At s body v p ls) (n : isNil ls ≡ false) where
+    abbrev here : Came s body v p ls (skipped d) (skipped d) q
     here = g .came ls a n
 
-    abbrev this : Passed s v q (here .rest) f
-    this = passed-line s v q (here .rest) f w (here .at) (here .some-left)
+    abbrev this : Passed s body v q (here .rest) f
+    this = passed-line s body v q (here .rest) f w (here .at) (here .some-left)
 
     abbrev behind-it : List ℕ → List Line → List Line
     behind-it next more = todo v next (past q f) (this .others) more
@@ -116,7 +116,7 @@ module _ (s : List ℕ) (v : Volume) (left : ℕ) (p q : Pos) (g : Going s v lef
     comes e t h fs k o next more = here .eq e t h fs k o next more ∙ ap (run e (skipped d t h fs k o)) (this .cons next more)
 
     -- it is not the last: the machine goes on
-    goes : f .last ≡ false → (to : InPlaced) → ((t : Set) (h : ℕ) (fs : List Figure) (k : ℕ) (o : Held) → turn t h fs k o d did ≡ got (to t h fs k o)) → Came s v p ls (skipped d) to (past q f)
+    goes : f .last ≡ false → (to : InPlaced) → ((t : Set) (h : ℕ) (fs : List Figure) (k : ℕ) (o : Held) → turn t h fs k o d did ≡ got (to t h fs k o)) → Came s body v p ls (skipped d) to (past q f)
     goes l to y =
         record {
           rest = this .others;
@@ -144,37 +144,37 @@ module _ (s : List ℕ) (v : Volume) (left : ℕ) (p q : Pos) (g : Going s v lef
               ∙ ap (λ (x : ℕ). refused x (v .number) (q .line + 1)) (ap early (acts e t h fs k o next) ∙ early-turn t h fs k o d deep did ∙ sym y);
         }
 
-  pub at-last : f .last ≡ true → (m : ℕ) → m ≡ earlySkip did → SkipMet s v p left (L.Stop (stopAt v (past q f) m))
+  pub at-last : f .last ≡ true → (m : ℕ) → m ≡ earlySkip did → SkipMet s body v p left (L.Stop (stopAt v (past q f) m))
   at-last l m y = record { met = λ ls a n. ends ls a n l m y; further = tt }
 
   module _ (l : f .last ≡ false) where
     onward : (r : Pos) → past q f .at ≤ r .at → p .at < r .at
-    onward r h = let m = seen-forward s v q f w l in let a = g .on in omega (arith, m .0)
+    onward r h = let m = seen-forward body v q f w l in let a = g .on in omega (arith, m .0)
 
     turned-to : S.Shut ≡ did → (t : Set) (h : ℕ) (fs : List Figure) (n : ℕ) (o : Held) → turn t h fs n o d did ≡ got (unskipped d t h fs n o)
     turned-to y t h fs n o = ap (turn t h fs n o d) (sym y) ∙ shuts t h fs n o d deep
 
-    pub stays : S.Passes ≡ did → Going s v left p (past q f)
+    pub stays : S.Passes ≡ did → Going s body v left p (past q f)
     stays y =
-        let m = seen-forward s v q f w l in
+        let m = seen-forward body v q f w l in
         let a = g .on in
         record {
           came = λ ls a n. goes ls a n l (skipped d) (λ t h fs k o. ap (turn t h fs k o d) (sym y));
-          low = low-past s v q f w l (g .low);
+          low = low-past body v q f w l (g .low);
           on = omega (arith, m .0);
           one = g .one;
           four = g .four;
         }
 
-    pub shut : S.Shut ≡ did → SkipMet s v p left (L.Go (past q f))
+    pub shut : S.Shut ≡ did → SkipMet s body v p left (L.Go (past q f))
     shut y =
-        let m = seen-forward s v q f w l in
-        record { met = λ ls a n. goes ls a n l (unskipped d) (turned-to y); further = (low-past s v q f w l (g .low), onward (past q f) (omega arith), m .1) }
+        let m = seen-forward body v q f w l in
+        record { met = λ ls a n. goes ls a n l (unskipped d) (turned-to y); further = (low-past body v q f w l (g .low), onward (past q f) (omega arith), m .1) }
 
-    pub refuses : (m : ℕ) → S.Refuse m ≡ did → SkipMet s v p left (L.Stop (stopAt v (past q f) m))
+    pub refuses : (m : ℕ) → S.Refuse m ≡ did → SkipMet s body v p left (L.Stop (stopAt v (past q f) m))
     refuses m y = record { met = λ ls a n. stops ls a n l m (λ t h fs k o. ap (turn t h fs k o d) (sym y)); further = tt }
 
-    pub too-deep : S.Deeper ≡ did → left ≡ 1 → SkipMet s v p left (L.Stop (stopAt v (past q f) 18))
+    pub too-deep : S.Deeper ≡ did → left ≡ 1 → SkipMet s body v p left (L.Stop (stopAt v (past q f) 18))
     too-deep y h =
         let x : mostDepth ≤ d = omega arith in
         record { met = λ ls a n. stops ls a n l 18 (λ t k fs m o. ap (turn t k fs m o d) (sym y) ∙ rw (le-ltb d mostDepth x) refl); further = tt }
@@ -188,16 +188,16 @@ module _ (s : List ℕ) (v : Volume) (left : ℕ) (p q : Pos) (g : Going s v lef
       deeper-by = let a = fewer in let b = g .four in omega arith
 
       pub inner-ready : SkipReady (past q f) (left - 1)
-      inner-ready = let a = fewer in let b = g .four in record { low = low-past s v q f w l (g .low); one = omega arith; four = omega arith }
+      inner-ready = let a = fewer in let b = g .four in record { low = low-past body v q f w l (g .low); one = omega arith; four = omega arith }
 
       opened : (t : Set) (k : ℕ) (fs : List Figure) (n : ℕ) (o : Held) → turn t k fs n o d did ≡ got (skipped (suc d) t k fs n o)
       opened t k fs n o = let a = fewer in let x : d < mostDepth = omega arith in ap (turn t k fs n o d) (sym y) ∙ rw (lt-ltb d mostDepth x) refl
 
       -- the inner block's contract, one deeper
-      inner : (r : Left) → SkipMet s v (past q f) (left - 1) r → (us : List (List ℕ)) → At s v (past q f) us → isNil us ≡ false → CameOr s v (past q f) us (skipped (suc d)) (unskipped (suc d)) r
-      inner r k us a n = subst (λ (m : ℕ). CameOr s v (past q f) us (skipped m) (unskipped m) r) deeper-by (k .met us a n)
+      inner : (r : Left) → SkipMet s body v (past q f) (left - 1) r → (us : List (List ℕ)) → At s body v (past q f) us → isNil us ≡ false → CameOr s body v (past q f) us (skipped (suc d)) (unskipped (suc d)) r
+      inner r k us a n = subst (λ (m : ℕ). CameOr s body v (past q f) us (skipped m) (unskipped m) r) deeper-by (k .met us a n)
 
-      pub inner-stops : (x : Refusal) → SkipMet s v (past q f) (left - 1) (L.Stop x) → SkipMet s v p left (L.Stop x)
+      pub inner-stops : (x : Refusal) → SkipMet s body v (past q f) (left - 1) (L.Stop x) → SkipMet s body v p left (L.Stop x)
       inner-stops x k =
           record {
             met = λ ls a n.
@@ -207,7 +207,7 @@ module _ (s : List ℕ) (v : Volume) (left : ℕ) (p q : Pos) (g : Going s v lef
             further = tt;
           }
 
-      pub goes-on : (r : Pos) → SkipMet s v (past q f) (left - 1) (L.Go r) → Going s v left p r
+      pub goes-on : (r : Pos) → SkipMet s body v (past q f) (left - 1) (L.Go r) → Going s body v left p r
       goes-on r k =
           let x = k .further in
           let y = x .1 in

@@ -19,13 +19,13 @@ use Rattle.account.specs.declared.Volume.{Volume}
 use Rattle.account.specs.declared.Pos.{Pos}
 use Rattle.account.specs.Walk.{seenOr, seenFrom, At, behind, todo, lineAt, Next}
 
-pub next-seen : (s : List ℕ) (v : Volume) (p : Pos) (ls : List (List ℕ)) → At s v p ls → isNil ls ≡ false → Next s v p ls (seenFrom s v p)
-next-seen s v p ls a n = go (lookIn (v .number) (p .line + 1) (p .at) (v .end) s) refl
+pub next-seen : (s body : List ℕ) (v : Volume) (p : Pos) (ls : List (List ℕ)) → At s body v p ls → isNil ls ≡ false → Next s body v p ls (seenFrom body v p)
+next-seen s body v p ls a n = go (lookIn (v .number) (p .line + 1) (v .at) (p .at) body) refl
   where
-    go : (r : Look) → lookIn (v .number) (p .line + 1) (p .at) (v .end) s ≡ r → Next s v p ls (seenOr (p .at) r)
-    go K.End e = clash (ap isNil (look-end (v .number) (p .line + 1) (p .at) (v .end) s ls (a .short) (a .here) (a .inside) (a .lines) e)) n
+    go : (r : Look) → lookIn (v .number) (p .line + 1) (v .at) (p .at) body ≡ r → Next s body v p ls (seenOr (p .at) r)
+    go K.End e = clash (ap isNil (look-end (v .number) (p .line + 1) (v .at) (p .at) s body ls (a .part) (a .short) (a .begun) (a .here) (a .lines) e)) n
     go (K.Line f) e =
-        let g = look-line (v .number) (p .line + 1) (p .at) (v .end) s ls (a .short) (a .here) (a .inside) (a .lines) f e in
+        let g = look-line (v .number) (p .line + 1) (v .at) (p .at) s body ls (a .part) (a .short) (a .begun) (a .here) (a .lines) f e in
         let w = g .follows in
         let x = w .next in
         let y = w .inside in
@@ -39,9 +39,10 @@ next-seen s v p ls a n = go (lookIn (v .number) (p .line + 1) (p .at) (v .end) s
           last = w .last;
           at = record {
             short = a .short;
-            inside = a .inside;
+            part = a .part;
+            begun = omega (arith, a .begun);
             here = omega arith;
-            lines = subst (λ (q : ℕ). linesIn s q (v .end) ≡ some (g .others)) x (w .after);
+            lines = subst (λ (q : ℕ). linesIn (v .at) q body ≡ some (g .others)) x (w .after);
             low = omega arith;
           };
         }
@@ -50,9 +51,9 @@ pub todo-cons : (v : Volume) (next : List ℕ) (p : Pos) (l : List ℕ) (ls : Li
     → todo v next p (l ∷ ls) more ≡ lineAt v next p l ls ∷ todo v next (behind p l) ls more
 todo-cons v next p l ls more = ap (λ (n : ℕ). lineAt v next p l ls ∷ (numbered (v .number) next n (p .at + length l + 2) ls ++ more)) (omega arith)
 
-module _ (s : List ℕ) (v : Volume) (p : Pos) where
-  pub seen-end : lookIn (v .number) (p .line + 1) (p .at) (v .end) s ≡ K.End → seenOr (p .at) K.End ≡ seenFrom s v p
+module _ (body : List ℕ) (v : Volume) (p : Pos) where
+  pub seen-end : lookIn (v .number) (p .line + 1) (v .at) (p .at) body ≡ K.End → seenOr (p .at) K.End ≡ seenFrom body v p
   seen-end e = ap (seenOr (p .at)) (sym e)
 
-  pub seen-line : (f : Seen) → lookIn (v .number) (p .line + 1) (p .at) (v .end) s ≡ K.Line f → f ≡ seenFrom s v p
+  pub seen-line : (f : Seen) → lookIn (v .number) (p .line + 1) (v .at) (p .at) body ≡ K.Line f → f ≡ seenFrom body v p
   seen-line f e = ap (seenOr (p .at)) (sym e)

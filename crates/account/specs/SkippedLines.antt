@@ -17,7 +17,7 @@ use Rattle.account.specs.declared.Left.{Left}
 use Rattle.account.specs.declared.Left.the-variants as L
 use Rattle.account.specs.declared.Skipped.{Skipped}
 use Rattle.account.specs.declared.Skipped.the-variants as S
-use Rattle.account.specs.Walk.{At, todo}
+use Rattle.account.specs.Walk.{endOf, At, todo}
 
 -- ── one line ──
 abbrev pub skippedAs : Skip → Skipped
@@ -59,9 +59,9 @@ unskipped (suc zero) s h fs n o = placing s h fs n o 0
 unskipped (suc (suc d)) s h fs n o = skipping s h fs n o (suc d)
 
 -- from p on these lines are left; the reading came from there, in one state of any placed symbol, to q, in another, and lines are left
-pub record Came (s : List ℕ) (v : Volume) (p : Pos) (ls : List (List ℕ)) (from to : InPlaced) (q : Pos) : Type 0 where
+pub record Came (s body : List ℕ) (v : Volume) (p : Pos) (ls : List (List ℕ)) (from to : InPlaced) (q : Pos) : Type 0 where
   pub rest : List (List ℕ)
-  pub at : At s v q rest
+  pub at : At s body v q rest
   pub some-left : isNil rest ≡ false
   pub eq : (e : Env) (t : Set) (h : ℕ) (fs : List Figure) (n : ℕ) (o : Held) (next : List ℕ) (more : List Line)
       → run e (from t h fs n o) (todo v next p ls more) ≡ run e (to t h fs n o) (todo v next q rest more)
@@ -71,18 +71,18 @@ pub record Refused (v : Volume) (p : Pos) (ls : List (List ℕ)) (from : InPlace
   pub eq : (e : Env) (t : Set) (h : ℕ) (fs : List Figure) (n : ℕ) (o : Held) (next : List ℕ) (more : List Line)
       → run e (from t h fs n o) (todo v next p ls more) ≡ refused (f .number) (f .volume) (f .line)
 
-abbrev pub CameOr : List ℕ → Volume → Pos → List (List ℕ) → InPlaced → InPlaced → Left → Type 0
-CameOr s v p ls from to (L.Go q) = Came s v p ls from to q
-CameOr s v p ls from to (L.Stop f) = Refused v p ls from f
+abbrev pub CameOr : List ℕ → List ℕ → Volume → Pos → List (List ℕ) → InPlaced → InPlaced → Left → Type 0
+CameOr s body v p ls from to (L.Go q) = Came s body v p ls from to q
+CameOr s body v p ls from to (L.Stop f) = Refused v p ls from f
 
 -- no line's number is greater than its place, and no place than that behind a spool's last line
 pub record Low (p : Pos) : Type 0 where
   pub line : p .line ≤ p .at
   pub at : p .at ≤ 61441
 
-abbrev pub Further : Volume → Pos → Left → Type 0
-Further v p (L.Go q) = Low q × (p .at < q .at) × (q .at ≤ v .end + 1)
-Further v p (L.Stop f) = Unit {0}
+abbrev pub Further : List ℕ → Volume → Pos → Left → Type 0
+Further body v p (L.Go q) = Low q × (p .at < q .at) × (q .at ≤ endOf body v + 1)
+Further body v p (L.Stop f) = Unit {0}
 
 -- `left` blocks may be open in each other, this one counted
 pub record SkipReady (p : Pos) (left : ℕ) : Type 0 where
@@ -90,6 +90,6 @@ pub record SkipReady (p : Pos) (left : ℕ) : Type 0 where
   pub one : 1 ≤ left
   pub four : left ≤ 4
 
-pub record SkipMet (s : List ℕ) (v : Volume) (p : Pos) (left : ℕ) (r : Left) : Type 0 where
-  pub met : (ls : List (List ℕ)) → At s v p ls → isNil ls ≡ false → CameOr s v p ls (skipped (5 - left)) (unskipped (5 - left)) r
-  pub further : Further v p r
+pub record SkipMet (s body : List ℕ) (v : Volume) (p : Pos) (left : ℕ) (r : Left) : Type 0 where
+  pub met : (ls : List (List ℕ)) → At s body v p ls → isNil ls ≡ false → CameOr s body v p ls (skipped (5 - left)) (unskipped (5 - left)) r
+  pub further : Further body v p r

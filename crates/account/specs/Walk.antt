@@ -12,7 +12,7 @@ use Rattle.rules.specs.Machine.{Line}
 use Rattle.rules.specs.Answers.{numbered}
 use Rattle.rules.specs.declared.Refusal.{Refusal}
 use Rattle.rules.specs.declared.LineForm.the-variants as L
-use Rattle.lines.specs.LineLook.{lookIn, linesIn}
+use Rattle.lines.specs.LineLook.{lookIn, linesIn, PartOf}
 use Rattle.lines.specs.declared.Seen.{Seen}
 use Rattle.lines.specs.declared.Look.{Look}
 use Rattle.lines.specs.declared.Look.the-variants as K
@@ -23,16 +23,21 @@ abbrev pub seenOr : ℕ → Look → Seen
 seenOr at K.End = record { form = L.Ignored; next = at; last = true }
 seenOr at (K.Line f) = f
 
--- the next line, where there is one
+-- the next line of a volume with these bytes, where there is one
 abbrev pub seenFrom : List ℕ → Volume → Pos → Seen
-seenFrom s v p = seenOr (p .at) (lookIn (v .number) (p .line + 1) (p .at) (v .end) s)
+seenFrom body v p = seenOr (p .at) (lookIn (v .number) (p .line + 1) (v .at) (p .at) body)
 
--- in the volume v of the spool s the reading stands at p, and these are the lines left
-pub record At (s : List ℕ) (v : Volume) (p : Pos) (ls : List (List ℕ)) : Type 0 where
+-- the place just behind such a volume
+abbrev pub endOf : List ℕ → Volume → ℕ
+endOf body v = v .at + length body
+
+-- in the volume v, which is the part body of the spool s, the reading stands at p, and these are the lines left
+pub record At (s body : List ℕ) (v : Volume) (p : Pos) (ls : List (List ℕ)) : Type 0 where
   pub short : length s ≤ mostBytes
-  pub inside : v .end ≤ length s
-  pub here : p .at ≤ v .end
-  pub lines : linesIn s (p .at) (v .end) ≡ some ls
+  pub part : PartOf s (v .at) body
+  pub begun : v .at ≤ p .at
+  pub here : p .at ≤ endOf body v
+  pub lines : linesIn (v .at) (p .at) body ≡ some ls
   pub low : p .line ≤ p .at
 
 -- behind the line l
@@ -47,14 +52,14 @@ abbrev pub lineAt : Volume → List ℕ → Pos → List ℕ → List (List ℕ)
 lineAt v next p l ls = record { volume = v .number; line = suc (p .line); last = isNil ls; next = next; form = formOf (p .at) l }
 
 -- what the next line is, where there is one
-pub record Next (s : List ℕ) (v : Volume) (p : Pos) (ls : List (List ℕ)) (f : Seen) : Type 0 where
+pub record Next (s body : List ℕ) (v : Volume) (p : Pos) (ls : List (List ℕ)) (f : Seen) : Type 0 where
   pub line : List ℕ
   pub others : List (List ℕ)
   pub lines : ls ≡ line ∷ others
   pub form : formIn s (f .form) ≡ formOf (p .at) line
   pub next : f .next ≡ p .at + length line + 2
   pub last : f .last ≡ isNil others
-  pub at : At s v (behind p line) others
+  pub at : At s body v (behind p line) others
 
 -- the refusal of the line behind which q stands
 abbrev pub stopAt : Volume → Pos → ℕ → Refusal

@@ -3,10 +3,10 @@ use rules::Digits;
 use rules::Refusal;
 use rules::Span;
 
-// A volume: its number, from 1, and the place just behind its bytes.
+// A volume: its number, from 1, and the place of its first byte in the spool.
 pub struct Volume {
     pub number: u8,
-    pub end: u32,
+    pub at: u32,
 }
 
 // Where the reading stands in a volume: the place of the next line, and how many lines stand before it.

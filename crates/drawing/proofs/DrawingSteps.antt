@@ -25,6 +25,9 @@ use Rattle.rules.specs.Blocks.{drawingTable}
 use Rattle.rules.specs.RecordTable.{numbers, padded}
 use Rattle.rules.specs.Machine.{layerValue}
 use Rattle.rules.proofs.Chains.{clash, and-left, and-right}
+use Rattle.leaves.specs.Bytes.{bytesOf}
+use Rattle.leaves.specs.Texts.{textRules, noText}
+use Rattle.leaves.specs.declared.TextRule.{TextRule}
 use Rattle.leaves.specs.Readings.{countOf, readUpToEight}
 use Rattle.leaves.specs.declared.Count.{Count}
 use Rattle.leaves.specs.declared.Count.the-variants as C
@@ -157,6 +160,11 @@ module _ (s : List ℕ) (x : Shape) (p : Placed) (h : shapeIn s p ≡ x) where
 
     pub name-short : fitting b ≡ true → N.Is (span (c .at) (length b)) ≡ nameOf (layerValue [] x)
     name-short f = name-is (P.Content c) (N.Is (span (c .at) (length b))) e (ap (λ (u : List ℕ). N.Is (span (c .at) (length u))) z ∙ sym (ap judged (sym (ap fitting z) ∙ f)))
+
+-- by the rule of the table
+pub ruled : (b : List ℕ) (rule : TextRule) (t : Bool) → rule ≡ getD textRules 12 noText → t ≡ (all (byteIn (bytesOf (rule .set))) b && leb (length b) (rule .most)) → t ≡ (all (byteIn anyBytes) b && leb (length b) 20)
+unfolding textRules
+ruled b rule t e q = q ∙ ap (λ (r : TextRule). all (byteIn (bytesOf (r .set))) b && leb (length b) (r .most)) e
 
 pub name-fits : (b : List ℕ) → (all (byteIn anyBytes) b && leb (length b) 20) ≡ true → length b ≤ 20
 name-fits b e = leb-true (length b) 20 (and-right (all (byteIn anyBytes) b) (leb (length b) 20) e)

@@ -23,6 +23,7 @@ use leaves::Count;
 use leaves::bytes::is_layer_id;
 use leaves::numbers::fixed;
 use leaves::texts::fits;
+use leaves::texts::text_rule;
 use rules::KIND_LAYER;
 use rules::LineForm;
 use rules::Span;
@@ -87,6 +88,9 @@ pub fn on_drawing(
     }
 }
 
+// A layer's name, by its number in TEXT_LIMITS.
+const LAYER_TEXT: u8 = 12;
+
 // "name 0-20 bytes"
 fn layer_name(s: &[u8], rest: Rest) -> LayerName
     ensures { λ r. ⌜ r ≡ nameOf (layerValue [] (freeShapeOf (restIn (now (s .entry)) rest))) ⌝ }
@@ -97,7 +101,8 @@ fn layer_name(s: &[u8], rest: Rest) -> LayerName
         Shape::NoContent => LayerName::Is(Span { at: 0, len: 0 }),
         Shape::Content(c) => {
             let bytes = part(s, c);
-            if !fits(bytes, 20, 0) {
+            let rule = text_rule(LAYER_TEXT);
+            if !fits(bytes, rule.most, rule.set) {
                 return LayerName::Bad(11);
             }
             LayerName::Is(Span {

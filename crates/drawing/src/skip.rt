@@ -76,16 +76,16 @@ fn early_skip(did: Skipped) -> u8
     }
 }
 
-// From just inside a skipped block to just past its `}`. An inner block is skipped by a call of itself: `left` blocks may be open in
-// each other, this one counted.
-pub fn skip_block(s: &[u8], v: Volume, p: Pos, left: u8) -> Left
+// From just inside a skipped block of the volume with the bytes `body` to just past its `}`. An inner block is skipped by a call of itself:
+// `left` blocks may be open in each other, this one counted.
+pub fn skip_block(s: &[u8], body: &[u8], v: Volume, p: Pos, left: u8) -> Left
     requires { ⌜ SkipReady p left ⌝ }
-    ensures { λ r. ⌜ SkipMet (now (s .entry)) v p left r ⌝ }
+    ensures { λ r. ⌜ SkipMet (now (s .entry)) (now (body .entry)) v p left r ⌝ }
 {
     let mut at = p.at;
     let mut line = p.line;
     loop {
-        let seen = next_line(s, v, Pos { at: at, line: line });
+        let seen = next_line(body, v, Pos { at: at, line: line });
         let form = seen.form;
         let did = skip_line(s, form);
         at = seen.next;
@@ -117,7 +117,7 @@ pub fn skip_block(s: &[u8], v: Volume, p: Pos, left: u8) -> Left
                         line: line,
                     });
                 }
-                let r = skip_block(s, v, Pos { at: at, line: line }, left - 1);
+                let r = skip_block(s, body, v, Pos { at: at, line: line }, left - 1);
                 let Left::Go(q) = r else {
                     return r;
                 };

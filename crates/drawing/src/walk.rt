@@ -9,12 +9,12 @@ ghost use mathlib.Core.Path.{_≡_};
 ghost use Prim.Native.Nat.{_<_};
 ghost use Rattle.account.specs.Walk.{seenFrom};
 
-// The next line. Where there is none it is as an ignored line, the volume's last: so a volume without lines ends early at line 0.
-pub fn next_line(s: &[u8], v: Volume, p: Pos) -> Seen
+// The next line of a volume, whose bytes are `body`. Where there is none it is as an ignored line, the volume's last: so a volume without lines ends early at line 0.
+pub fn next_line(body: &[u8], v: Volume, p: Pos) -> Seen
     requires { ⌜ p .line < 4294967295 ⌝ }
-    ensures { λ r. ⌜ r ≡ seenFrom (now (s .entry)) v p ⌝ }
+    ensures { λ r. ⌜ r ≡ seenFrom (now (body .entry)) v p ⌝ }
 {
-    let seen = look(s, p.at, v.end, v.number, p.line + 1);
+    let seen = look(body, v.at, p.at, v.number, p.line + 1);
     let Look::Line(found) = seen else {
         return Seen {
             form: LineForm::Ignored,

@@ -35,10 +35,10 @@ fn kind_of(f: LineForm) -> u32
 
 // A look in one number: 0 for the end, else the next line's place, and what the line is.
 #[no_mangle]
-pub extern "C" fn linebench_look(s: &[u8], at: u32, end: u32, volume: u8, line: u32) -> u64
-    ensures { λ r. ⌜ r ≡ packed (lookIn volume line at end (now (s .entry))) ⌝ }
+pub extern "C" fn linebench_look(body: &[u8], base: u32, at: u32, volume: u8, line: u32) -> u64
+    ensures { λ r. ⌜ r ≡ packed (lookIn volume line base at (now (body .entry))) ⌝ }
 {
-    match look(s, at, end, volume, line) {
+    match look(body, base, at, volume, line) {
         Look::End => 0,
         Look::Line(f) => {
             let form = f.form;

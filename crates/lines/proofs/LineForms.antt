@@ -208,7 +208,7 @@ module _ (volume line at : ℕ) (s : List ℕ) where
   unfolding keylessForm wordKind
   by-neither = go (same s (bytes "}")) (same s (bytes "EOF"))
     where
-      go : (t u : Bool) → withPlaces volume line (at + length s) (cond t close (cond u eof (wrong 5))) ≡ keylessForm volume line (cond t 2 (cond u 3 7))
+      go : (t u : Bool) → withPlaces volume line (at + length s) (cond t close (cond u eof (wrong 5))) ≡ keylessForm volume line (cond t 1 (cond u 2 6))
       go true u = refl
       go false true = refl
       go false false = refl

@@ -21,12 +21,21 @@ use Rattle.rules.specs.declared.LineForm.the-variants as L
 use Rattle.rules.specs.Lines.{unindent, Scan, neither, atEqual, atBrace, scan, allowed, brace, equals, Form, ignored, wrong, close, eof, keyed, withKey, formFrom, formOfRest, formOf, formIn, withPlaces, lineFormOf}
 use Rattle.leaves.specs.Bytes.{upTo}
 use Rattle.leaves.proofs.Cuts.{upTo-le, upTo-take}
-use Rattle.lines.specs.LineLook.{seenAt, lookIn, linesIn}
+use Rattle.lines.specs.LineLook.{seenAt, lookIn, linesIn, PartOf}
 use Rattle.lines.specs.declared.Seen.{Seen}
 use Rattle.lines.specs.declared.Look.{Look}
 use Rattle.lines.specs.declared.Look.the-variants.{End, Line}
 use Rattle.lines.proofs.LineForms.{Around, Apart, scan-apart, unindent-behind}
-use Rattle.lines.proofs.LineLook.{up-cr, up-more, look-long, look-behind, look-turned, look-part, look-from-found, found-none, found-some}
+use Rattle.lines.proofs.LineLook.{look-long, look-early, look-behind, look-none as none-there, look-some as some-there}
+
+-- ── up to the CR ──
+up-cr : (b : ℕ) (s : List ℕ) → eqb b 13 ≡ true → upTo 13 (b ∷ s) ≡ []
+unfolding upTo
+up-cr b s e = rw e
+
+up-more : (b : ℕ) (s : List ℕ) → eqb b 13 ≡ false → upTo 13 (b ∷ s) ≡ b ∷ upTo 13 s
+unfolding upTo
+up-more b s e = rw e
 
 -- ── the first line of some bytes ──
 -- bytes that have these lines, with a CR in them
@@ -240,68 +249,64 @@ held-in s volume line end (keyed k (equals at c)) h b =
 
 -- ── the answer taken apart ──
 -- the line that a look saw
-record Cutting (volume line at end : ℕ) (s : List ℕ) (f : Seen) : Type 0 where
-  spool : length s ≤ mostBytes
-  volume-end : end ≤ length s
-  start : at ≤ end
+record Cutting (volume line base at : ℕ) (body : List ℕ) (f : Seen) : Type 0 where
+  most : base + length body ≤ mostBytes
+  low : base ≤ at
   line-bytes : List ℕ
-  is-first : line-bytes ≡ upTo 13 (take (end - at) (drop at s))
-  cr : at + length line-bytes < end
+  is-first : line-bytes ≡ upTo 13 (drop (at - base) body)
+  cr : at + length line-bytes < base + length body
   form-is : f .form ≡ lineFormOf volume line at line-bytes
   next-is : f .next ≡ at + length line-bytes + 2
-  last-is : f .last ≡ eqb (at + length line-bytes + 2 + 1) end
+  last-is : f .last ≡ eqb (at + length line-bytes + 2 + 1) (base + length body)
 
 end-line : {P : Type 0} {f : Seen} → End ≡ Line f → P
 end-line e = absurd (let z : _≡_ {A = ℕ} 0 1 = cc in omega arith)
 
-part-length : (s : List ℕ) (at end : ℕ) → end ≤ length s → length (take (end - at) (drop at s)) ≡ end - at
-part-length s at end h = length-take-le (end - at) (drop at s) (omega (arith, length-drop at s))
-
-look-cut : (volume line at end : ℕ) (s : List ℕ) (f : Seen) → lookIn volume line at end s ≡ Line f → Cutting volume line at end s f
-look-cut volume line at end s f e = long (leb (length s) mostBytes) refl
+look-cut : (volume line base at : ℕ) (body : List ℕ) (f : Seen) → lookIn volume line base at body ≡ Line f → Cutting volume line base at body f
+look-cut volume line base at body f e = long (leb (base + length body) mostBytes) refl
   where
-    found : length s ≤ mostBytes → end ≤ length s → at ≤ end → (q : Bool) → ltb (length (upTo 13 (take (end - at) (drop at s)))) (length (take (end - at) (drop at s))) ≡ q → Cutting volume line at end s f
-    found h k j true q =
-        let t = take (end - at) (drop at s) in
+    found : base + length body ≤ mostBytes → base ≤ at → at ≤ base + length body → (q : Bool) → ltb (length (upTo 13 (drop (at - base) body))) (length (drop (at - base) body)) ≡ q → Cutting volume line base at body f
+    found h i j true q =
+        let t = drop (at - base) body in
         let l = upTo 13 t in
         let n = ltb-true (length l) (length t) q in
-        let z : seenAt (lineFormOf volume line at l) (at + length l) end ≡ Line f = sym (look-part volume line at end s h k j ∙ look-from-found volume line at end t ∙ found-some (lineFormOf volume line at l) at end t (length l) refl n) ∙ e in
-        let w : record { form = lineFormOf volume line at l; next = at + length l + 2; last = eqb (at + length l + 2 + 1) end } ≡ f = cc in
+        let z : seenAt (lineFormOf volume line at l) (at + length l) (base + length body) ≡ Line f = sym (some-there volume line base at body h i j n) ∙ e in
+        let w : record { form = lineFormOf volume line at l; next = at + length l + 2; last = eqb (at + length l + 2 + 1) (base + length body) } ≡ f = cc in
         record {
-          spool = h;
-          volume-end = k;
-          start = j;
+          most = h;
+          low = i;
           line-bytes = l;
           is-first = refl;
-          cr = omega (arith, n, part-length s at end k);
+          cr = omega (arith, n, length-drop (at - base) body);
           form-is = ap (λ (g : Seen). g .form) (sym w);
           next-is = ap (λ (g : Seen). g .next) (sym w);
           last-is = ap (λ (g : Seen). g .last) (sym w);
         }
-    found h k j false q =
-        let t = take (end - at) (drop at s) in
-        end-line (sym (look-part volume line at end s h k j ∙ look-from-found volume line at end t ∙ found-none (lineFormOf volume line at (upTo 13 t)) at end t (ltb-false (length (upTo 13 t)) (length t) q)) ∙ e)
+    found h i j false q = end-line (sym (none-there volume line base at body h i j (ltb-false (length (upTo 13 (drop (at - base) body))) (length (drop (at - base) body)) q)) ∙ e)
 
-    turned : length s ≤ mostBytes → end ≤ length s → (q : Bool) → leb at end ≡ q → Cutting volume line at end s f
-    turned h k true q = found h k (leb-true at end q) (ltb (length (upTo 13 (take (end - at) (drop at s)))) (length (take (end - at) (drop at s)))) refl
-    turned h k false q = end-line (sym (look-turned volume line at end s (leb-false at end q)) ∙ e)
+    behind : base + length body ≤ mostBytes → base ≤ at → (q : Bool) → leb at (base + length body) ≡ q → Cutting volume line base at body f
+    behind h i true q = found h i (leb-true at (base + length body) q) (ltb (length (upTo 13 (drop (at - base) body))) (length (drop (at - base) body))) refl
+    behind h i false q = end-line (sym (look-behind volume line base at body (leb-false at (base + length body) q)) ∙ e)
 
-    behind : length s ≤ mostBytes → (q : Bool) → leb end (length s) ≡ q → Cutting volume line at end s f
-    behind h true q = turned h (leb-true end (length s) q) (leb at end) refl
-    behind h false q = end-line (sym (look-behind volume line at end s (leb-false end (length s) q)) ∙ e)
+    early : base + length body ≤ mostBytes → (q : Bool) → leb base at ≡ q → Cutting volume line base at body f
+    early h true q = behind h (leb-true base at q) (leb at (base + length body)) refl
+    early h false q = end-line (sym (look-early volume line base at body (leb-false base at q)) ∙ e)
 
-    long : (q : Bool) → leb (length s) mostBytes ≡ q → Cutting volume line at end s f
-    long true q = behind (leb-true (length s) mostBytes q) (leb end (length s)) refl
-    long false q = end-line (sym (look-long volume line at end s (leb-false (length s) mostBytes q)) ∙ e)
+    long : (q : Bool) → leb (base + length body) mostBytes ≡ q → Cutting volume line base at body f
+    long true q = early (leb-true (base + length body) mostBytes q) (leb base at) refl
+    long false q = end-line (sym (look-long volume line base at body (leb-false (base + length body) mostBytes q)) ∙ e)
 
-module _ (volume line at end : ℕ) (s : List ℕ) (f : Seen) (c : Cutting volume line at end s f) where
+module _ (volume line base at : ℕ) (s body : List ℕ) (f : Seen) (part : PartOf s base body) (c : Cutting volume line base at body f) where
   cut-sits : Sits s at (c .line-bytes)
   cut-sits =
-      let t = take (end - at) (drop at s) in
+      let t = drop (at - base) body in
       let l = c .line-bytes in
       let e = c .is-first in
       let n = ap length e in
-      e ∙ sym (upTo-take 13 t) ∙ take-take (length (upTo 13 t)) (end - at) (drop at s) (omega (arith, upTo-le 13 t, part-length s at end (c .volume-end))) ∙ ap (λ k. take k (drop at s)) (sym n)
+      let low = c .low in
+      let m : at - base ≤ length body = omega (arith, c .cr) in
+      let back : base + (at - base) ≡ at = omega arith in
+      e ∙ sym (upTo-take 13 t) ∙ sits-take s (base + (at - base)) t (sits-drop s base body (part .bytes) (at - base) m) (length (upTo 13 t)) (upTo-le 13 t) ∙ ap (λ p. take (length (upTo 13 t)) (drop p s)) back ∙ ap (λ k. take k (drop at s)) (sym n)
 
   cut-form : formIn s (f .form) ≡ formOf at (c .line-bytes)
   unfolding lineFormOf
@@ -311,28 +316,34 @@ module _ (volume line at end : ℕ) (s : List ℕ) (f : Seen) (c : Cutting volum
   unfolding lineFormOf
   cut-in =
       let k = c .cr in
-      let h = c .volume-end in
+      let h = part .inside in
       subst (FormIn s volume line (f .next)) (sym (c .form-is))
       (subst (λ (n : ℕ). FormIn s volume line n (lineFormOf volume line at (c .line-bytes))) (sym (c .next-is))
       (held-in s volume line (at + length (c .line-bytes)) (formOf at (c .line-bytes)) (held-line s at (c .line-bytes) cut-sits) (omega arith)))
 
 -- ── bounds of what a look saw, whatever the bytes ──
-module _ (volume line at end : ℕ) (s : List ℕ) (f : Seen) (e : lookIn volume line at end s ≡ Line f) where
-  form-in : (g : LineForm) → f .form ≡ g → FormIn s volume line (f .next) g
-  form-in g q = subst (FormIn s volume line (f .next)) q (cut-in volume line at end s f (look-cut volume line at end s f e))
+module _ (volume line base at : ℕ) (body : List ℕ) (f : Seen) (e : lookIn volume line base at body ≡ Line f) where
+  module _ (s : List ℕ) (part : PartOf s base body) where
+    form-in : (g : LineForm) → f .form ≡ g → FormIn s volume line (f .next) g
+    form-in g q = subst (FormIn s volume line (f .next)) q (cut-in volume line base at s body f part (look-cut volume line base at body f e))
 
-  pub look-opens : (o : Opener) → f .form ≡ L.Opens o → OpensIn s (f .next) o
-  look-opens o q = form-in (L.Opens o) q
+    pub look-opens : (o : Opener) → f .form ≡ L.Opens o → OpensIn s (f .next) o
+    look-opens o q = form-in (L.Opens o) q
 
-  pub look-equals : (q : Equation) → f .form ≡ L.Equals q → EqualsIn s (f .next) q
-  look-equals q p = form-in (L.Equals q) p
+    pub look-equals : (q : Equation) → f .form ≡ L.Equals q → EqualsIn s (f .next) q
+    look-equals q p = form-in (L.Equals q) p
 
-  pub look-refused : (r : Refusal) → f .form ≡ L.Refused r → RefusedIn volume line r
-  look-refused r q = form-in (L.Refused r) q
+    pub look-refused : (r : Refusal) → f .form ≡ L.Refused r → RefusedIn volume line r
+    look-refused r q = form-in (L.Refused r) q
 
-  -- a look goes on, and stays in the spool's places
-  pub look-forward : (at < f .next) × (f .next ≤ end + 1)
-  look-forward = let c = look-cut volume line at end s f e in let k = c .cr in let n = c .next-is in (omega arith, omega arith)
+  -- a look goes on, and stays in the places of the volume and of a spool
+  pub look-forward : (at < f .next) × (f .next ≤ base + length body + 1) × (f .next ≤ mostBytes + 1)
+  look-forward =
+      let c = look-cut volume line base at body f e in
+      let k = c .cr in
+      let n = c .next-is in
+      let m = c .most in
+      (omega arith, omega arith, omega arith)
 
 same-eqb : (a b c d : ℕ) → (a ≡ b → c ≡ d) → (c ≡ d → a ≡ b) → eqb a b ≡ eqb c d
 same-eqb a b c d f g = go (eqb a b) refl
@@ -342,100 +353,100 @@ same-eqb a b c d f g = go (eqb a b) refl
     go false q = sym (ne-eqb c d (λ y. eqb-false a b q (g y)))
 
 -- ── the lines that a walk finds ──
--- the line l at a place, which a look saw, and the lines behind it
-pub record Follows (s : List ℕ) (at end : ℕ) (l : List ℕ) (ls : List (List ℕ)) (f : Seen) : Type 0 where
+-- the line l at a place of the volume, which a look saw, and the lines behind it
+pub record Follows (s : List ℕ) (base at : ℕ) (body l : List ℕ) (ls : List (List ℕ)) (f : Seen) : Type 0 where
   pub form : formIn s (f .form) ≡ formOf at l
   pub next : f .next ≡ at + length l + 2
   pub last : f .last ≡ isNil ls
-  pub after : linesIn s (f .next) end ≡ some ls
+  pub after : linesIn base (f .next) body ≡ some ls
   pub forward : at < f .next
-  pub inside : f .next < end
+  pub inside : f .next < base + length body
 
-pub record Found (s : List ℕ) (at end : ℕ) (ls : List (List ℕ)) (f : Seen) : Type 0 where
+pub record Found (s : List ℕ) (base at : ℕ) (body : List ℕ) (ls : List (List ℕ)) (f : Seen) : Type 0 where
   pub line : List ℕ
   pub others : List (List ℕ)
   pub lines : ls ≡ line ∷ others
-  pub follows : Follows s at end line others f
+  pub follows : Follows s base at body line others f
 
 -- a look at the first of these lines saw it
-pub record Shown (volume line at end : ℕ) (s l : List ℕ) (ls : List (List ℕ)) : Type 0 where
+pub record Shown (volume line base at : ℕ) (s body l : List ℕ) (ls : List (List ℕ)) : Type 0 where
   pub seen : Seen
-  pub answer : lookIn volume line at end s ≡ Line seen
-  pub follows : Follows s at end l ls seen
+  pub answer : lookIn volume line base at body ≡ Line seen
+  pub follows : Follows s base at body l ls seen
 
--- the bytes from a place of the part on
-part-from : (s : List ℕ) (at end m : ℕ) → drop m (take (end - at) (drop at s)) ≡ take (end - (at + m)) (drop (at + m) s)
-part-from s at end m =
-    let e : end - at - m ≡ end - (at + m) = omega arith in
-    drop-take m (end - at) (drop at s) ∙ ap (λ k. take k (drop m (drop at s))) e ∙ ap (take (end - (at + m))) (drop-drop m at s)
-
-module _ (volume line at end : ℕ) (s : List ℕ) (ls : List (List ℕ)) (h : length s ≤ mostBytes) (j : at ≤ end) (k : end ≤ length s) (e : linesIn s at end ≡ some ls) where
-  -- the part of the spool that is left
+module _ (volume line base at : ℕ) (s body : List ℕ) (ls : List (List ℕ)) (part : PartOf s base body) (h : length s ≤ mostBytes) (i : base ≤ at) (j : at ≤ base + length body) (e : linesIn base at body ≡ some ls) where
+  -- the volume's bytes that are left
   abbrev left : List ℕ
-  left = take (end - at) (drop at s)
+  left = drop (at - base) body
 
-  pub look-line : (f : Seen) → lookIn volume line at end s ≡ Line f → Found s at end ls f
-  look-line f q =
-      let c = look-cut volume line at end s f q in
+  -- the line that a look cut off is the first of them
+  cut-found : (f : Seen) → Cutting volume line base at body f → Cut left ls → Found s base at body ls f
+  cut-found f c w =
       let l = c .line-bytes in
       let n = ap length (c .is-first) in
-      let m = c .cr in
-      let long = part-length s at end k in
-      let w = cuts left ls e .0 (omega (arith, n, m, long)) in
-      let z : at + (length (upTo 13 left) + 2) ≡ f .next = omega (arith, n, c .next-is) in
-      let i = some-inside left (length (upTo 13 left) + 2) (w .others) (w .after) in
-      let rest : take (end - f .next) (drop (f .next) s) ≡ drop (length (upTo 13 left) + 2) left = ap (λ p. take (end - p) (drop p s)) (sym z) ∙ sym (part-from s at end (length (upTo 13 left) + 2)) in
-      let after : linesIn s (f .next) end ≡ some (w .others) = ap (linesFrom false) rest ∙ w .after in
-      let x = part-length s (f .next) end k in
+      let y : at - base + (length (upTo 13 left) + 2) ≡ f .next - base = omega (arith, n, c .next-is) in
+      let rest : drop (f .next - base) body ≡ drop (length (upTo 13 left) + 2) left = sym (drop-drop (length (upTo 13 left) + 2) (at - base) body ∙ ap (λ p. drop p body) y) in
+      let after : linesIn base (f .next) body ≡ some (w .others) = ap (linesFrom false) rest ∙ w .after in
+      let x = some-inside body (f .next - base) (w .others) after in
+      let size = length-drop (f .next - base) body in
       record {
         line = l;
         others = w .others;
         lines = w .first ∙ ap (λ x. x ∷ w .others) (sym (c .is-first));
         follows =
             record {
-              form = cut-form volume line at end s f c;
+              form = cut-form volume line base at s body f part c;
               next = c .next-is;
-              last = c .last-is ∙ same-eqb (at + length l + 2 + 1) end (length (take (end - f .next) (drop (f .next) s))) 1 (λ y. omega (arith, y, x, c .next-is)) (λ y. omega (arith, y, x, c .next-is)) ∙ one-left (take (end - f .next) (drop (f .next) s)) (w .others) after;
+              last = c .last-is ∙ same-eqb (at + length l + 2 + 1) (base + length body) (length (drop (f .next - base) body)) 1 (λ k. omega (arith, k, size, c .next-is)) (λ k. omega (arith, k, size, c .next-is)) ∙ one-left (drop (f .next - base) body) (w .others) after;
               after = after;
               forward = omega (arith, c .next-is);
-              inside = omega (arith, z, i, long);
+              inside = omega (arith, x, c .next-is);
             };
       }
 
-  pub look-end : lookIn volume line at end s ≡ End → ls ≡ []
+  pub look-line : (f : Seen) → lookIn volume line base at body ≡ Line f → Found s base at body ls f
+  look-line f q =
+      let c = look-cut volume line base at body f q in
+      cut-found f c (cuts left ls e .0 (omega (arith, ap length (c .is-first), c .cr, length-drop (at - base) body)))
+
+  pub look-end : lookIn volume line base at body ≡ End → ls ≡ []
   look-end q = go (ltb (length (upTo 13 left)) (length left)) refl
     where
-      go : (b : Bool) → ltb (length (upTo 13 (take (end - at) (drop at s)))) (length (take (end - at) (drop at s))) ≡ b → ls ≡ []
-      go true p =
-          let t = take (end - at) (drop at s) in
-          end-line (sym q ∙ look-part volume line at end s h k j ∙ look-from-found volume line at end t ∙ found-some (lineFormOf volume line at (upTo 13 t)) at end t (length (upTo 13 t)) refl (ltb-true (length (upTo 13 t)) (length t) p))
-      go false p = let t = take (end - at) (drop at s) in cuts t ls e .1 (ltb-false (length (upTo 13 t)) (length t) p) .0
+      go : (b : Bool) → ltb (length (upTo 13 (drop (at - base) body))) (length (drop (at - base) body)) ≡ b → ls ≡ []
+      go true p = let t = drop (at - base) body in end-line (sym q ∙ some-there volume line base at body (omega (arith, part .inside)) i j (ltb-true (length (upTo 13 t)) (length t) p))
+      go false p = let t = drop (at - base) body in cuts t ls e .1 (ltb-false (length (upTo 13 t)) (length t) p) .0
 
-  pub look-none : ls ≡ [] → lookIn volume line at end s ≡ End
-  look-none q = go (lookIn volume line at end s) refl
+  pub look-none : ls ≡ [] → lookIn volume line base at body ≡ End
+  look-none q = go (lookIn volume line base at body) refl
     where
-      go : (x : Look) → lookIn volume line at end s ≡ x → x ≡ End
+      go : (x : Look) → lookIn volume line base at body ≡ x → x ≡ End
       go End p = refl
       go (Line f) p = cons-no-nil (sym (look-line f p .lines) ∙ q)
 
-  pub look-some : (l : List ℕ) (us : List (List ℕ)) → ls ≡ l ∷ us → Shown volume line at end s l us
-  look-some l us q = go (lookIn volume line at end s) refl
+  pub look-some : (l : List ℕ) (us : List (List ℕ)) → ls ≡ l ∷ us → Shown volume line base at s body l us
+  look-some l us q = go (lookIn volume line base at body) refl
     where
-      go : (x : Look) → lookIn volume line at end s ≡ x → Shown volume line at end s l us
+      go : (x : Look) → lookIn volume line base at body ≡ x → Shown volume line base at s body l us
       go End p = cons-no-nil (sym q ∙ look-end p)
       go (Line f) p =
           let w = look-line f p in
           let z = sym (w .lines) ∙ q in
           let a : w .line ≡ l = cc in
           let b : w .others ≡ us = cc in
-          record { seen = f; answer = p; follows = subst (λ (x : List ℕ). Follows s at end x us f) a (subst (λ (x : List (List ℕ)). Follows s at end (w .line) x f) b (w .follows)) }
+          record { seen = f; answer = p; follows = subst (λ (x : List ℕ). Follows s base at body x us f) a (subst (λ (x : List (List ℕ)). Follows s base at body (w .line) x f) b (w .follows)) }
 
 -- the definition's lines from there: the one seen, and those from the next place on
-pub found-numbered : (s : List ℕ) (at end : ℕ) (ls : List (List ℕ)) (f : Seen) (w : Found s at end ls f) (v n : ℕ) (name : List ℕ)
+pub found-numbered : (s : List ℕ) (base at : ℕ) (body : List ℕ) (ls : List (List ℕ)) (f : Seen) (w : Found s base at body ls f) (v n : ℕ) (name : List ℕ)
     → numbered v name n at ls ≡ record { volume = v; line = n; last = f .last; next = name; form = formIn s (f .form) } ∷ numbered v name (suc n) (f .next) (w .others)
-found-numbered s at end ls f w v n name = ap (numbered v name n at) (w .lines) ∙ sym (rw (w .follows .form, w .follows .last, w .follows .next))
+found-numbered s base at body ls f w v n name = ap (numbered v name n at) (w .lines) ∙ sym (rw (w .follows .form, w .follows .last, w .follows .next))
 
 -- ── the start of a walk ──
+-- a part of the spool, as it is lent
+pub part-of : (s : List ℕ) (from to : ℕ) → from ≤ to → to ≤ length s → PartOf s from (take (to - from) (drop from s))
+part-of s from to i j =
+    let n = length-take-le (to - from) (drop from s) (omega (arith, length-drop from s)) in
+    record { bytes = ap (λ k. take k (drop from s)) (sym n); inside = omega (arith, n) }
+
 -- the limit of a line's length is tested before
 pub lines-of : (s : List ℕ) (ls : List (List ℕ)) → linesOf s ≡ some ls → linesFrom false s ≡ some ls
 unfolding linesOf
@@ -448,3 +459,6 @@ lines-of s ls e = go (linesFrom false s) e
     go : (o : Option (List (List ℕ))) → shortLines o ≡ some ls → o ≡ some ls
     go none e = none-some e
     go (some us) e = short (all (λ l. leb (length l) mostInLine) us) us e
+
+pub lines-from-start : (base : ℕ) (body : List ℕ) (ls : List (List ℕ)) → linesOf body ≡ some ls → linesIn base base body ≡ some ls
+lines-from-start base body ls e = let z : base - base ≡ 0 = omega arith in ap (λ k. linesFrom false (drop k body)) z ∙ lines-of body ls e

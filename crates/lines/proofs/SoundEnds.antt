@@ -12,9 +12,14 @@ use borrow.Author.Tests.{eq-eqb, ne-eqb, le-leb, lt-leb, lt-ltb, le-ltb, eqb-tru
 use Rattle.rules.proofs.Chains.{and-left, and-right, and-false, clash}
 use Rattle.rules.specs.Base.{choose, all, isNil, isSome, mapO}
 use Rattle.rules.specs.Spool.{mostInLine, mostVolumes, headLine, linesFrom, shortLines, linesOf}
+use Rattle.leaves.specs.Bytes.{upTo}
 use Rattle.leaves.proofs.Scan.{at}
 use Rattle.lines.specs.LineEnds.{endByte, plainRun, highByte, NoEnd, lastByte, unsoundFrom, firstUnsound}
 use Rattle.lines.specs.declared.Layout.{Layout}
+
+pub or-neither : (a b : Bool) → (a || b) ≡ false → (a ≡ false) × (b ≡ false)
+or-neither true b e = clash refl e
+or-neither false b e = (refl, e)
 
 -- ── the run ──
 module _ (s : List ℕ) (i : ℕ) where
@@ -96,6 +101,25 @@ module _ (s : List ℕ) (i : ℕ) where
       let d = ap plainRun (drop-drop 8 j s) in
       record { low = omega arith; high = h; run = omega (arith, p .run, more, d) }
 
+-- nor a CR
+run-no-cr : (n : ℕ) (s : List ℕ) → n ≤ plainRun s → length (upTo 13 s) ≡ n + length (upTo 13 (drop n s))
+unfolding plainRun upTo
+run-no-cr zero s h = omega arith
+run-no-cr (suc n) [] h = absurd (omega arith)
+run-no-cr (suc n) (b ∷ s) h = go (endByte b) refl h (run-no-cr n s)
+  where
+    go : (t : Bool) → endByte b ≡ t → suc n ≤ cond t 0 (suc (plainRun s)) → (n ≤ plainRun s → length (upTo 13 s) ≡ n + length (upTo 13 (drop n s))) → length (upTo 13 (b ∷ s)) ≡ suc n + length (upTo 13 (drop n s))
+    go true q h ih = absurd (omega arith)
+    go false q h ih = rw (or-neither (eqb b 13) (eqb b 26 || eqb b 10) q .0) (let more = ih (omega arith) in omega (arith, more))
+
+pub no-end-cr : (s : List ℕ) (i j : ℕ) → NoEnd s i j → i + length (upTo 13 (drop i s)) ≡ j + length (upTo 13 (drop j s))
+no-end-cr s i j p =
+    let low = p .low in
+    let back : i + (j - i) ≡ j = omega arith in
+    let more = run-no-cr (j - i) (drop i s) (omega (arith, p .run)) in
+    let same = ap (λ u. length (upTo 13 u)) (drop-drop (j - i) i s ∙ ap (λ k. drop k s) back) in
+    omega (arith, more, same)
+
 -- ── the lines, where n bytes stand before the first of them ──
 abbrev short : List ℕ → Bool
 short l = leb (length l) mostInLine
@@ -134,10 +158,6 @@ sound-none n (some ls) h = rw (lt-leb (n + 0) mostInLine (omega arith))
 sound-is : (s : List ℕ) → isSome (linesOf s) ≡ soundAfter 0 (linesFrom false s)
 unfolding linesOf
 sound-is s = sym (sound-first (linesFrom false s))
-
-pub or-neither : (a b : Bool) → (a || b) ≡ false → (a ≡ false) × (b ≡ false)
-or-neither true b e = clash refl e
-or-neither false b e = (refl, e)
 
 over-run : (n : ℕ) (s : List ℕ) → soundAfter n (linesFrom false s) ≡ soundAfter (n + plainRun s) (linesFrom false (drop (plainRun s) s))
 unfolding plainRun

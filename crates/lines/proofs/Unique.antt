@@ -36,8 +36,8 @@ first-unsound-code : One first-unsound′.Kinds.ps first-unsound′.Kinds.r firs
 first-unsound-code κs x r₁ r₂ e₁ e₂ = first-unsound-unique (now (x .0)) (x .1 .0) r₁ r₂
 
 -- ── forms ──
-pub look-unique : (s : List ℕ) (at end volume line : ℕ) (r₁ r₂ : Look) → r₁ ≡ lookIn volume line at end s → r₂ ≡ lookIn volume line at end s → r₁ ≡ r₂
-look-unique s at end volume line r₁ r₂ c₁ c₂ = c₁ ∙ sym c₂
+pub look-unique : (body : List ℕ) (base at volume line : ℕ) (r₁ r₂ : Look) → r₁ ≡ lookIn volume line base at body → r₂ ≡ lookIn volume line base at body → r₁ ≡ r₂
+look-unique body base at volume line r₁ r₂ c₁ c₂ = c₁ ∙ sym c₂
 
 look-code : One look′.Kinds.ps look′.Kinds.r look′.Reads.Learnt (λ κs r e. r)
 look-code κs x r₁ r₂ e₁ e₂ = look-unique (now (x .0)) (x .1 .0) (x .1 .1 .0) (x .1 .1 .1 .0) (x .1 .1 .1 .1 .0) r₁ r₂

@@ -1,7 +1,6 @@
 -- What a layout says of each volume of a spool: laws for those who walk from volume to volume.
 use Prim.Native.Nat.{ℕ, zero, suc, _+_, _-_, _<_, _≤_}
 use mathlib.Core.Path.{_≡_, refl, ap, sym, subst, _∙_}
-use mathlib.Core.Bool.{false}
 use mathlib.Core.List.{List, [], _∷_, _++_, map}
 use mathlib.Core.Option.{Option, none, some}
 use native.Mathlib.Omega.{arith}
@@ -10,8 +9,8 @@ use lib.Seq.{getD-take, drop-drop}
 use Rattle.rules.specs.Base.{isSome}
 use Rattle.rules.specs.Machine as M
 use Rattle.rules.specs.Answers.{listed, noLines, nextName, linesOfVolume, listVolumes}
-use Rattle.rules.specs.Spool.{mostVolumes, Volume, linesFrom, linesOf, volumesOf}
-use Rattle.lines.specs.LineLook.{linesIn}
+use Rattle.rules.specs.Spool.{mostVolumes, Volume, linesOf, volumesOf}
+use Rattle.lines.specs.LineLook.{PartOf}
 use Rattle.lines.specs.VolumePlaces.{layoutOf}
 use Rattle.lines.specs.VolumeNames.{nameAt}
 use Rattle.lines.specs.LineEnds.{unsoundFrom, firstUnsound}
@@ -19,7 +18,6 @@ use Rattle.lines.specs.declared.Layout.{Layout}
 use Rattle.lines.proofs.VolumePlaces.{Placed, AllPlaced, volumes-laid}
 use Rattle.lines.proofs.VolumeNames.{name-here}
 use Rattle.lines.proofs.SoundEnds.{soundIn, unsound-none, unsound-here, unsound-later, unsound-start}
-use Rattle.lines.proofs.LinesSeen.{lines-of}
 
 -- the volume with number i + 1 of a spool, as the layout holds it
 pub record VolumeIn (s : List ℕ) (l : Layout) (i : ℕ) (v : Volume) : Type 0 where
@@ -27,10 +25,8 @@ pub record VolumeIn (s : List ℕ) (l : Layout) (i : ℕ) (v : Volume) : Type 0 
   pub place : getD (l .places) i 0 ≡ v .place
   pub size : getD (l .lengths) i 0 ≡ length (v .body)
   pub low : 12 ≤ v .place
-  pub high : v .place + length (v .body) ≤ length s
-  pub body : v .body ≡ take (length (v .body)) (drop (v .place) s)
+  pub part : PartOf s (v .place) (v .body)
   pub name : nameAt s (v .place) ≡ v .name
-  pub lines : linesIn s (v .place) (v .place + length (v .body)) ≡ linesFrom false (v .body)
 
 -- an element and what follows it, by its number
 map-nth : (f : Volume → ℕ) (vs : List Volume) (i : ℕ) (v : Volume) (us : List Volume) → drop i vs ≡ v ∷ us → getD (map f vs) i 0 ≡ f v
@@ -54,21 +50,14 @@ module _ (s : List ℕ) (vs : List Volume) (e : volumesOf s ≡ some vs) where
       let h : i < length vs = omega (arith, n, length-drop i vs) in
       let p = placed-nth s vs i v us d (laid .placed) in
       let count = laid .count in
-      let z : v .place + length (v .body) - v .place ≡ length (v .body) = omega arith in
       record {
         counted = omega (arith, h, count);
         place = sym (getD-take (length vs) (l .places) i 0 h) ∙ ap (λ ps. getD ps i 0) (laid .places) ∙ map-nth (λ v. v .place) vs i v us d;
         size = sym (getD-take (length vs) (l .lengths) i 0 h) ∙ ap (λ ps. getD ps i 0) (laid .lengths) ∙ map-nth (λ v. length (v .body)) vs i v us d;
         low = p .low;
-        high = p .high;
-        body = p .held;
+        part = record { bytes = p .held; inside = p .high };
         name = (let high = p .high in name-here s (v .place) (p .low) (omega arith)) ∙ sym (p .named);
-        lines = ap (λ k. linesFrom false (take k (drop (v .place) s))) z ∙ ap (linesFrom false) (sym (p .held));
       }
-
-  -- the lines that rule 3 found are those that a walk from the volume's place finds
-  pub volume-lines : (i : ℕ) (v : Volume) (us : List Volume) → drop i vs ≡ v ∷ us → (ls : List (List ℕ)) → linesOf (v .body) ≡ some ls → linesIn s (v .place) (v .place + length (v .body)) ≡ some ls
-  volume-lines i v us d ls q = volume-in i v us d .lines ∙ lines-of (v .body) ls q
 
 -- ── rule 3 over all volumes ──
 pub record Lined (v : Volume) : Type 0 where
@@ -98,7 +87,7 @@ module _ (s : List ℕ) (vs : List Volume) (e : volumesOf s ≡ some vs) where
       let l = layoutOf (volumesOf s) in
       let w = volume-in s vs e i v us d in
       ap (λ n. isSome (linesOf (take n (drop (getD (l .places) i 0) s)))) (w .size) ∙ ap (λ p. isSome (linesOf (take (length (v .body)) (drop p s)))) (w .place)
-      ∙ ap (λ t. isSome (linesOf t)) (sym (w .body))
+      ∙ ap (λ t. isSome (linesOf t)) (sym (w .part .bytes))
 
   tells-from : (us : List Volume) (i : ℕ) → drop i vs ≡ us → Tells (suc i) us (unsoundFrom s (layoutOf (volumesOf s)) (mostVolumes - i) i)
   tells-from [] i d =

@@ -9,7 +9,6 @@ use Rattle.rules.specs.Base.{within}
 use Rattle.rules.specs.Lines.{Scan, neither, atEqual, atBrace, unindent, scan, allowed, singleByte, leadByte, trailByte, span, formOfRest, withPlaces}
 use Rattle.rules.specs.declared.LineForm.{LineForm}
 use Rattle.rules.specs.declared.LineForm.the-variants as L
-use Rattle.leaves.specs.Bytes.{upTo}
 
 -- how many bytes the blank in front has: 20 or 09, or the pair 81 40 hex
 unfoldable pub blankOf : List ℕ → ℕ
@@ -55,30 +54,20 @@ later i endless = endless
 later i (equalAt n) = equalAt (i + n)
 later i (braceAt n) = braceAt (i + n)
 
--- the key of the line that starts at a place, by places
+-- the key of a line's bytes from a place on, by places
 abbrev pub keyFrom : List ℕ → ℕ → KeyEnd
-keyFrom t i = later i (keyEndOf (scan (upTo 13 (drop i t))))
-
--- whether the line's bytes from a place on are allowed
-abbrev pub cleanFrom : List ℕ → ℕ → Bool
-cleanFrom t i = allowed (upTo 13 (drop i t))
-
--- the place of the first CR from a place on
-abbrev pub crFrom : List ℕ → ℕ → ℕ
-crFrom t i = i + length (upTo 13 (drop i t))
+keyFrom l i = later i (keyEndOf (scan (drop i l)))
 
 -- before a place of a line stand its leading blanks
-pub record Blanks (t : List ℕ) (n : ℕ) : Type 0 where
-  pub high : n ≤ length t
-  pub cr : length (upTo 13 t) ≡ crFrom t n
-  pub rest : unindent (upTo 13 t) ≡ upTo 13 (drop n t)
+pub record Blanks (l : List ℕ) (n : ℕ) : Type 0 where
+  pub high : n ≤ length l
+  pub rest : unindent l ≡ drop n l
 
 -- between two places of a line stand only allowed characters
-pub record Passed (t : List ℕ) (i j : ℕ) : Type 0 where
+pub record Passed (l : List ℕ) (i j : ℕ) : Type 0 where
   pub low : i ≤ j
-  pub high : j ≤ length t
-  pub cr : crFrom t i ≡ crFrom t j
-  pub clean : cleanFrom t i ≡ cleanFrom t j
+  pub high : j ≤ length l
+  pub clean : allowed (drop i l) ≡ allowed (drop j l)
 
 -- the same in a key, which does not end between them
 pub record KeyPassed (t : List ℕ) (i j : ℕ) : Type 0 where

@@ -1,7 +1,8 @@
 -- One look at a line, of any bytes; that it finds the lines of Spool.linesOf is proved in proofs/LinesSeen.
-use Prim.Native.Nat.{ℕ, _+_, _-_}
-use mathlib.Core.Bool.{Bool, false, cond, _&&_}
-use mathlib.Core.List.{List, [], _∷_}
+use Prim.Native.Nat.{ℕ, _+_, _-_, _≤_}
+use mathlib.Core.Path.{_≡_}
+use mathlib.Core.Bool.{false, cond, _&&_}
+use mathlib.Core.List.{List}
 use mathlib.Core.Option.{Option}
 use lib.Dec.{eqb, leb, ltb}
 use lib.ListN.{length, take, drop}
@@ -16,23 +17,21 @@ use Rattle.lines.specs.declared.Look.the-variants.{End, Line}
 abbrev pub seenAt : LineForm → ℕ → ℕ → Look
 seenAt form cr end = Line (record { form = form; next = cr + 2; last = eqb (cr + 2 + 1) end })
 
--- a line with this form starts at a place with these bytes, if a CR stands in them
-unfoldable pub foundAt : LineForm → ℕ → ℕ → List ℕ → Look
-foundAt form at end t = cond (ltb (length (upTo 13 t)) (length t)) (seenAt form (at + length (upTo 13 t)) end) End
-
-unfoldable pub crHere : List ℕ → Bool
-crHere [] = false
-crHere (b ∷ t) = eqb b 13
-
--- the line that starts a volume's last bytes: all before the first CR
+-- the line that starts a volume's last bytes: all before the first CR, if one stands in them
 unfoldable pub lookFrom : ℕ → ℕ → ℕ → ℕ → List ℕ → Look
-lookFrom volume line at end t = foundAt (lineFormOf volume line at (upTo 13 t)) at end t
+lookFrom volume line at end t = cond (ltb (length (upTo 13 t)) (length t)) (seenAt (lineFormOf volume line at (upTo 13 t)) (at + length (upTo 13 t)) end) End
 
--- the line that starts at a place of a volume, which runs to end; places that are none of the spool are those of no line
+-- the line that starts at a place of the spool, in a volume whose bytes stand there from base on; other places are those of no line
 unfoldable pub lookIn : ℕ → ℕ → ℕ → ℕ → List ℕ → Look
-lookIn volume line at end s =
-    cond (leb (length s) mostBytes && (leb end (length s) && leb at end)) (lookFrom volume line at end (take (end - at) (drop at s))) End
+lookIn volume line base at body =
+    cond (leb (base + length body) mostBytes && (leb base at && leb at (base + length body)))
+    (lookFrom volume line at (base + length body) (drop (at - base) body)) End
 
--- the lines of the spool from one place to another, whatever their length
-abbrev pub linesIn : List ℕ → ℕ → ℕ → Option (List (List ℕ))
-linesIn s at end = linesFrom false (take (end - at) (drop at s))
+-- the lines of such a volume from a place on, whatever their length
+abbrev pub linesIn : ℕ → ℕ → List ℕ → Option (List (List ℕ))
+linesIn base at body = linesFrom false (drop (at - base) body)
+
+-- these bytes are the part of the spool from a place on
+pub record PartOf (s : List ℕ) (base : ℕ) (body : List ℕ) : Type 0 where
+  pub bytes : body ≡ take (length body) (drop base s)
+  pub inside : base + length body ≤ length s

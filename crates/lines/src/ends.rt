@@ -8,6 +8,7 @@ ghost use Prim.Native.Nat.{_+_, _<_, _≤_};
 ghost use lib.ListN.{length, getD, take, drop};
 ghost use Rattle.rules.specs.Base.{all, isSome};
 ghost use Rattle.rules.specs.Spool.{linesOf};
+ghost use Rattle.leaves.specs.Bytes.{upTo};
 ghost use Rattle.lines.specs.LineEnds.{endByte, plainRun, highByte, NoEnd, lastByte, firstUnsound};
 
 const MOST_IN_LINE: usize = 512;
@@ -82,6 +83,21 @@ fn end_from(s: &[u8], from: usize) -> usize
     let mut i = skip_eights(s, from);
     while i < s.len() {
         if is_end(s[i]) {
+            return i;
+        }
+        i += 1;
+    }
+    i
+}
+
+// Where the first CR stands from a place on, or the length.
+pub(crate) fn cr_from(s: &[u8], from: usize) -> usize
+    requires { ⌜ from ≤ length (now s) ⌝ }
+    ensures { λ r. ⌜ r ≡ from + length (upTo 13 (drop from (now (s .entry)))) ⌝ }
+{
+    let mut i = skip_eights(s, from);
+    while i < s.len() {
+        if s[i] == CR {
             return i;
         }
         i += 1;

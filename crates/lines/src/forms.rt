@@ -1,13 +1,12 @@
 // A line of a volume: its form, by the places of its parts, and where the next line starts.
-use crate::CR;
 use crate::Look;
 use crate::MOST_BYTES;
 use crate::Seen;
+use crate::ends::cr_from;
 use crate::runs::clean_run;
 use crate::runs::indent;
 use crate::runs::key_run;
 use crate::runs::opens_at;
-use leaves::bytes::find;
 use leaves::bytes::same;
 use rules::Equation;
 use rules::LineForm;
@@ -16,42 +15,40 @@ use rules::Refusal;
 use rules::Span;
 ghost use mathlib.Core.Path.{_≡_};
 ghost use Prim.Native.Nat.{_+_, _<_, _≤_};
-ghost use lib.ListN.{length, drop};
+ghost use lib.ListN.{length};
+ghost use Rattle.rules.specs.Lines.{lineFormOf};
 ghost use Rattle.lines.specs.LineForms.{refusedAs};
-ghost use Rattle.lines.specs.LineLook.{seenAt, crHere, lookIn};
-ghost use Rattle.lines.specs.LineSketch.{keylessSketch, unreadSketch, bareKind, equalSketch, braceSketch, keylessForm, sketchForm, Sketched};
+ghost use Rattle.lines.specs.LineLook.{seenAt, lookIn};
+ghost use Rattle.lines.specs.LineSketch.{keylessSketch, bareKind, equalSketch, braceSketch, keylessForm, sketchForm, Sketched};
 
-// The kinds of a sketch: no line, the forms of a line, and the two refusals: a byte that is not allowed (4), no form (5).
-const SKETCH_NO_LINE: u32 = 0;
+// The kinds of a sketch: the forms of a line, and the two refusals: a byte that is not allowed (4), no form (5).
+const SKETCH_IGNORED: u32 = 0;
 
-const SKETCH_IGNORED: u32 = 1;
+const SKETCH_CLOSE: u32 = 1;
 
-const SKETCH_CLOSE: u32 = 2;
+const SKETCH_EOF: u32 = 2;
 
-const SKETCH_EOF: u32 = 3;
+const SKETCH_OPENS: u32 = 3;
 
-const SKETCH_OPENS: u32 = 4;
+const SKETCH_EQUALS: u32 = 4;
 
-const SKETCH_EQUALS: u32 = 5;
+const SKETCH_BAD_BYTES: u32 = 5;
 
-const SKETCH_BAD_BYTES: u32 = 6;
+const SKETCH_NO_FORM: u32 = 6;
 
-const SKETCH_NO_FORM: u32 = 7;
-
-// A line in plain numbers: its kind, the place and the size of its key, the place and the length of what stands behind its `=`, and the
-// place of its CR. Its form is made of them once, as forms that are made in many branches are copied through memory.
+// A line in plain numbers: its kind, the place and the size of its key, the place and the length of what stands behind its `=`. Its form
+// is made of them once, as forms that are made in many branches are copied through memory.
 struct Sketch {
     kind: u32,
     first: u32,
     size: u32,
     rest: u32,
     len: u32,
-    cr: u32,
 }
 
-// A line that is told by its kind and the place of its CR.
-fn keyless(kind: u32, cr: u32) -> Sketch
-    ensures { λ r. ⌜ r ≡ keylessSketch kind cr ⌝ }
+// A line that is told by its kind.
+fn keyless(kind: u32) -> Sketch
+    ensures { λ r. ⌜ r ≡ keylessSketch kind ⌝ }
 {
     Sketch {
         kind: kind,
@@ -59,20 +56,7 @@ fn keyless(kind: u32, cr: u32) -> Sketch
         size: 0,
         rest: 0,
         len: 0,
-        cr: cr,
     }
-}
-
-// A line whose kind is known, from a place on: only its CR is searched.
-fn unread(kind: u32, t: &[u8], at: u32) -> Sketch
-    requires { ⌜ at + length (now t) ≤ 61440 ⌝ }
-    ensures { λ r. ⌜ r ≡ unreadSketch kind at (now (t .entry)) ⌝ }
-{
-    let n = find(t, CR);
-    if n == t.len() {
-        return keyless(SKETCH_NO_LINE, 0);
-    }
-    keyless(kind, at + n as u32)
 }
 
 // The kind of a line without a key, by its bytes behind the blanks.
@@ -91,13 +75,13 @@ fn bare_kind(s: &[u8]) -> u32
     SKETCH_NO_FORM
 }
 
-// A key with an `=` behind it, in a line that runs to its CR.
-fn equal_sketch(first: u32, size: u32, cr: u32) -> Sketch
-    requires { ⌜ first + size + 1 ≤ cr ⌝ }
-    ensures { λ r. ⌜ r ≡ equalSketch first size cr ⌝ }
+// A key with an `=` behind it, in a line that runs to the place `end`.
+fn equal_sketch(first: u32, size: u32, end: u32) -> Sketch
+    requires { ⌜ first + size + 1 ≤ end ⌝ }
+    ensures { λ r. ⌜ r ≡ equalSketch first size end ⌝ }
 {
     if size == 0 {
-        return keyless(SKETCH_NO_FORM, cr);
+        return keyless(SKETCH_NO_FORM);
     }
     let rest = first + size + 1;
     Sketch {
@@ -105,21 +89,20 @@ fn equal_sketch(first: u32, size: u32, cr: u32) -> Sketch
         first: first,
         size: size,
         rest: rest,
-        len: cr - rest,
-        cr: cr,
+        len: end - rest,
     }
 }
 
 // A key with a `:{` behind it: nothing may follow.
-fn brace_sketch(first: u32, size: u32, cr: u32) -> Sketch
-    requires { ⌜ first + size + 2 ≤ cr ⌝ }
-    ensures { λ r. ⌜ r ≡ braceSketch first size cr ⌝ }
+fn brace_sketch(first: u32, size: u32, end: u32) -> Sketch
+    requires { ⌜ first + size + 2 ≤ end ⌝ }
+    ensures { λ r. ⌜ r ≡ braceSketch first size end ⌝ }
 {
     if size == 0 {
-        return keyless(SKETCH_NO_FORM, cr);
+        return keyless(SKETCH_NO_FORM);
     }
-    if first + size + 2 != cr {
-        return keyless(SKETCH_NO_FORM, cr);
+    if first + size + 2 != end {
+        return keyless(SKETCH_NO_FORM);
     }
     Sketch {
         kind: SKETCH_OPENS,
@@ -127,56 +110,41 @@ fn brace_sketch(first: u32, size: u32, cr: u32) -> Sketch
         size: size,
         rest: 0,
         len: 0,
-        cr: cr,
     }
 }
 
-// Whether a CR stands at a place.
-fn cr_at(t: &[u8], i: usize) -> bool
-    ensures { λ r. ⌜ r ≡ crHere (drop i (now (t .entry))) ⌝ }
+// A line's bytes, whose first stands at a place of the spool.
+fn sketch_of(l: &[u8], at: u32) -> Sketch
+    requires { ⌜ at + length (now l) ≤ 61440 ⌝ }
+    ensures { λ r. ⌜ Sketched at (now (l .entry)) r ⌝ }
 {
-    if t.len() <= i {
-        return false;
+    if l.len() == 0 {
+        return keyless(SKETCH_IGNORED);
     }
-    t[i] == CR
-}
-
-// The line that starts a part of the spool, which runs to a volume's end.
-fn sketch_from(t: &[u8], at: u32) -> Sketch
-    requires { ⌜ at + length (now t) ≤ 61440 ⌝ }
-    ensures { λ r. ⌜ Sketched at (now (t .entry)) r ⌝ }
-{
-    if t.len() == 0 {
-        return keyless(SKETCH_NO_LINE, 0);
+    if l[0] == b'#' {
+        return keyless(SKETCH_IGNORED);
     }
-    if t[0] == b'#' {
-        return unread(SKETCH_IGNORED, t, at);
-    }
-    let n = indent(t);
-    let k = key_run(t, n);
-    if t.len() <= k {
-        return keyless(SKETCH_NO_LINE, 0);
-    }
-    if t[k] == CR {
-        return keyless(bare_kind(&t[n..k]), at + k as u32);
+    let n = indent(l);
+    let k = key_run(l, n);
+    if k == l.len() {
+        return keyless(bare_kind(&l[n..]));
     }
     let first = at + n as u32;
     let size = (k - n) as u32;
-    if t[k] == b'=' {
-        let r = clean_run(t, k + 1);
-        if !cr_at(t, r) {
-            return unread(SKETCH_BAD_BYTES, &t[r..], at + r as u32);
+    let end = at + l.len() as u32;
+    if l[k] == b'=' {
+        if clean_run(l, k + 1) != l.len() {
+            return keyless(SKETCH_BAD_BYTES);
         }
-        return equal_sketch(first, size, at + r as u32);
+        return equal_sketch(first, size, end);
     }
-    if opens_at(t, k) {
-        let r = clean_run(t, k + 2);
-        if !cr_at(t, r) {
-            return unread(SKETCH_BAD_BYTES, &t[r..], at + r as u32);
+    if opens_at(l, k) {
+        if clean_run(l, k + 2) != l.len() {
+            return keyless(SKETCH_BAD_BYTES);
         }
-        return brace_sketch(first, size, at + r as u32);
+        return brace_sketch(first, size, end);
     }
-    unread(SKETCH_BAD_BYTES, &t[k..], at + k as u32)
+    keyless(SKETCH_BAD_BYTES)
 }
 
 fn refused(number: u8, volume: u8, line: u32) -> LineForm
@@ -235,6 +203,14 @@ fn formed(f: Sketch, volume: u8, line: u32) -> LineForm
     keyless_form(f.kind, volume, line)
 }
 
+// The form of a line: its bytes up to its CR, whose first stands at a place of the spool.
+fn line_form(l: &[u8], at: u32, volume: u8, line: u32) -> LineForm
+    requires { ⌜ at + length (now l) ≤ 61440 ⌝ }
+    ensures { λ r. ⌜ r ≡ lineFormOf volume line at (now (l .entry)) ⌝ }
+{
+    formed(sketch_of(l, at), volume, line)
+}
+
 // A line with this form, its CR at a place.
 fn seen(form: LineForm, cr: u32, end: u32) -> Look
     requires { ⌜ cr < 61440 ⌝ }
@@ -248,26 +224,28 @@ fn seen(form: LineForm, cr: u32, end: u32) -> Look
     })
 }
 
-// The line that starts at a place of a volume, which runs to `end`; places that are none of the spool are those of no line.
+// The line that starts at a place of the spool, in a volume whose bytes stand there from `base` on; other places are those of no line.
 // Bytes that break rule 3 have lines too: each up to the next CR, with one byte behind it.
-pub fn look(s: &[u8], at: u32, end: u32, volume: u8, line: u32) -> Look
-    ensures { λ r. ⌜ r ≡ lookIn volume line at end (now (s .entry)) ⌝ }
+pub fn look(body: &[u8], base: u32, at: u32, volume: u8, line: u32) -> Look
+    ensures { λ r. ⌜ r ≡ lookIn volume line base at (now (body .entry)) ⌝ }
 {
-    if MOST_BYTES < s.len() {
+    if MOST_BYTES < body.len() {
         return Look::End;
     }
-    let from = at as usize;
-    let to = end as usize;
-    if s.len() < to {
+    if MOST_BYTES - body.len() < base as usize {
         return Look::End;
     }
-    if to < from {
+    if at < base {
         return Look::End;
     }
-    let f = sketch_from(&s[from..to], at);
-    if f.kind == SKETCH_NO_LINE {
+    let from = (at - base) as usize;
+    if body.len() < from {
         return Look::End;
     }
-    let cr = f.cr;
-    seen(formed(f, volume, line), cr, end)
+    let to = cr_from(body, from);
+    if to == body.len() {
+        return Look::End;
+    }
+    let form = line_form(&body[from..to], at, volume, line);
+    seen(form, base + to as u32, base + body.len() as u32)
 }

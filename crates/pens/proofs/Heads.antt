@@ -170,7 +170,7 @@ module _ (K : Known) (first : Bool) (name : List ℕ) (short : length name ≤ 8
         }
 
 -- what the code promises of a body is what it promises of a volume
-pub volume-promise : (spool : List ℕ) (start end : ℕ) (first : Bool) (before after : List ℕ) (r : Wrote) (within after′ : List ℕ) (q : Wrote) → BodyPromise spool start end first within after′ q
+pub volume-promise : (spool body : List ℕ) (start : ℕ) (first : Bool) (before after : List ℕ) (r : Wrote) (within after′ : List ℕ) (q : Wrote) → BodyPromise spool body start first within after′ q
     → ((K : Known) (st : State) → BodyOut K first st within after′ q → VolumeOut K first (nameAt spool start) st before after r)
-    → VolumePromise spool start end first before after r
-volume-promise spool start end first before after r within after′ q p f K e v next ls s st c no-limit a b g = f K st (p K e v next ls s st c no-limit a b g)
+    → VolumePromise spool body start first before after r
+volume-promise spool body start first before after r within after′ q p f K e v next ls s st c no-limit a b g = f K st (p K e v next ls s st c no-limit a b g)

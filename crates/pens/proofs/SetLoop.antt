@@ -1,12 +1,11 @@
 -- The loop over the volumes: what holds before each, whatever the spool is, and for every set that it is accepted as.
 use Prim.Native.Nat.{ℕ, suc, _+_, _≤_, _<_}
-use mathlib.Core.List.{List, []}
+use mathlib.Core.List.{List}
 use mathlib.Core.Option.{Option, none, some}
 use mathlib.Core.Path.{_≡_, refl, sym, _∙_, ap, subst}
 use native.Mathlib.Omega.{arith}
 use lib.Dec.{eqb}
-use lib.ListN.{length, getD, drop}
-use lib.Seq.{drop-cons}
+use lib.ListN.{length, getD, take, drop}
 use Rattle.rules.specs.Spool.{Volume, volumesOf}
 use Rattle.rules.specs.Sets.{Set}
 use Rattle.rules.specs.LineByLine.{accepted}
@@ -16,44 +15,23 @@ use Rattle.leaves.specs.declared.Wrote.the-variants as W
 use Rattle.lines.specs.VolumePlaces.{zeros, noLayout, layoutOf}
 use Rattle.lines.specs.declared.Layout.{Layout}
 use Rattle.lines.proofs.VolumePlaces.{volumes-laid}
-use Rattle.lines.proofs.VolumesSeen.{volume-in}
 use Rattle.prints.specs.Printing.{Within}
 use Rattle.pens.specs.Volumes.{VolumePromise, SetPromise}
 use Rattle.pens.proofs.Behind.{within-full}
 use Rattle.pens.proofs.LentOutput.{lent, back, within-long, lent-room}
 use Rattle.pens.proofs.SetWalk.{accepted-so, Done, done-begins, turn-full, turn-on, all-done}
 
--- a volume's number and places are within bounds
-pub record Placed (l : Layout) (i : ℕ) : Type 0 where
-  pub few : i < 12
-  pub high : getD (l .lengths) i 0 + getD (l .places) i 0 ≤ 61440
-
 none-count : layoutOf none .count ≡ 0
 unfolding layoutOf noLayout zeros
 none-count = refl
 
-pub placed : (s : List ℕ) (l : Layout) (i : ℕ) → l ≡ layoutOf (volumesOf s) → i < l .count → Placed l i
-placed s l i e h = go (volumesOf s) refl
+-- a volume's number is within bounds
+pub few : (s : List ℕ) (l : Layout) (i : ℕ) → l ≡ layoutOf (volumesOf s) → i < l .count → i < 12
+few s l i e h = go (volumesOf s) refl
   where
-    go : (o : Option (List Volume)) → volumesOf s ≡ o → Placed l i
+    go : (o : Option (List Volume)) → volumesOf s ≡ o → i < 12
     go none q = absurd (omega (arith, ap (λ (y : Layout). y .count) e, ap (λ (o : Option (List Volume)). layoutOf o .count) q, none-count, h))
-    go (some vs) q =
-        let laid = volumes-laid s vs q in
-        let below : i < length vs = omega (arith, ap (λ (y : Layout). y .count) e, laid .count, h) in
-        let noVolume : Volume = record { name = []; place = 0; body = [] } in
-        let w = volume-in s vs q i (getD vs i noVolume) (drop (suc i) vs) (drop-cons vs i noVolume below) in
-        record {
-          few = omega (arith, laid .few, below);
-          high = omega (
-            arith,
-            w .place,
-            w .size,
-            w .high,
-            laid .spool,
-            ap (λ (y : Layout). getD (y .places) i 0) e,
-            ap (λ (y : Layout). getD (y .lengths) i 0) e,
-          );
-        }
+    go (some vs) q = let laid = volumes-laid s vs q in omega (arith, laid .few, ap (λ (y : Layout). y .count) e, laid .count, h)
 
 -- before the volume with number i + 1
 pub record Going (s before out : List ℕ) (notes : List ℕ) (at i : ℕ) : Type 0 where
@@ -65,8 +43,8 @@ pub record Going (s before out : List ℕ) (notes : List ℕ) (at i : ℕ) : Typ
 pub begins : (s before notes : List ℕ) → length notes ≡ 28 → Going s before before notes 0 0
 begins s before notes m = record { long = refl; many = m; fits = omega arith; done = λ set q. done-begins s set (accepted-so s set q) before }
 
-module _ (s before out notes : List ℕ) (at i : ℕ) (z : Going s before out notes at i) (l : Layout) (e : l ≡ layoutOf (volumesOf s)) (h : i < l .count) (f : at ≤ length out) (part : List ℕ) (r : Wrote)
-    (w : Within (lent at out f) part r) (promise : VolumePromise s (getD (l .places) i 0) (getD (l .lengths) i 0 + getD (l .places) i 0) (eqb i 0) (lent at out f) part r) where
+module _ (s before out notes : List ℕ) (at i : ℕ) (z : Going s before out notes at i) (l : Layout) (e : l ≡ layoutOf (volumesOf s)) (h : i < l .count) (f : at ≤ length out) (body : List ℕ) (held : body ≡ take (getD (l .lengths) i 0) (drop (getD (l .places) i 0) s))
+    (part : List ℕ) (r : Wrote) (w : Within (lent at out f) part r) (promise : VolumePromise s body (getD (l .places) i 0) (eqb i 0) (lent at out f) part r) where
   below : (set : Set) (q : rewriteOutcome s ≡ accepted set) → i < length (accepted-so s set q .volumes)
   below set q =
       let a = accepted-so s set q in omega (arith, volumes-laid s (a .volumes) (a .are) .count, ap (λ (y : Layout). y .count) e, h)
@@ -79,15 +57,15 @@ module _ (s before out notes : List ℕ) (at i : ℕ) (z : Going s before out no
     done = λ set q.
         let one : suc i ≡ i + 1 = omega arith in
         subst (λ (j : ℕ). Done s set (accepted-so s set q) j (at + n) (back at out f part)) one
-        (turn-on s set (accepted-so s set q) i at out f (z .done set q) _ _ (below set q) (ap (λ (y : Layout). getD (y .places) i 0) (sym e))
-        (ap (λ (y : Layout). getD (y .lengths) i 0 + getD (l .places) i 0) (sym e)) part r promise n b);
+        (turn-on s set (accepted-so s set q) i at out f (z .done set q) body _ (below set q) (ap (λ (y : Layout). getD (y .places) i 0) (sym e))
+        (held ∙ ap (λ (y : Layout). take (getD (y .lengths) i 0) (drop (getD (l .places) i 0) s)) e) part r promise n b);
   }
 
   pub no-room : r ≡ W.Full → Within before (back at out f part) W.Full × SetPromise s before (back at out f part) W.Full
   no-room b = (
     within-full before (back at out f part) (within-long at out f part r w ∙ z .long),
-    λ set q. turn-full s set (accepted-so s set q) i at out f (z .done set q) _ _ (below set q) (ap (λ (y : Layout). getD (y .places) i 0) (sym e))
-        (ap (λ (y : Layout). getD (y .lengths) i 0 + getD (l .places) i 0) (sym e)) part r promise before (back at out f part) (z .long) b,
+    λ set q. turn-full s set (accepted-so s set q) i at out f (z .done set q) body _ (below set q) (ap (λ (y : Layout). getD (y .places) i 0) (sym e))
+        (held ∙ ap (λ (y : Layout). take (getD (y .lengths) i 0) (drop (getD (l .places) i 0) s)) e) part r promise before (back at out f part) (z .long) b,
   )
 
 -- behind the last volume

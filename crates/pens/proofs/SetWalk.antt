@@ -23,7 +23,8 @@ use Rattle.leaves.specs.declared.Wrote.{Wrote}
 use Rattle.leaves.specs.declared.Wrote.the-variants as W
 use Rattle.lines.specs.VolumePlaces.{layoutOf}
 use Rattle.lines.proofs.VolumePlaces.{volumes-laid}
-use Rattle.lines.proofs.VolumesSeen.{volume-in, volume-lines}
+use Rattle.lines.proofs.LinesSeen.{lines-from-start}
+use Rattle.lines.proofs.VolumesSeen.{volume-in}
 use Rattle.pens.specs.Shown.{shown}
 use Rattle.pens.specs.Volumes.{Fronts, LinesAt, Begins, ServedAfter, VolumeOut, VolumePromise}
 use Rattle.pens.proofs.LentOutput.{lent, back, lent-long, back-is}
@@ -173,20 +174,21 @@ module _ (spool : List ℕ) (set : Set) (a : Accepted spool set) where
   unfolding linesOf
   lines-narrow body ls q = narrow-of (linesFrom false body) ls q
 
-  lines-at : (i : ℕ) (v : Volume) (us : List Volume) (ls : List (List ℕ)) → drop i (a .volumes) ≡ v ∷ us → linesOf (v .body) ≡ some ls → LinesAt spool (v .place) (v .place + length (v .body)) ls
+  lines-at : (i : ℕ) (v : Volume) (us : List Volume) (ls : List (List ℕ)) → drop i (a .volumes) ≡ v ∷ us → linesOf (v .body) ≡ some ls → LinesAt spool (v .body) (v .place) (v .place) ls
   lines-at i v us ls d q =
       let w = volume-in spool (a .volumes) (a .are) i v us d in
       record {
         short = volumes-laid spool (a .volumes) (a .are) .spool;
-        inside = w .high;
+        part = w .part;
+        begun = omega arith;
         here = omega arith;
-        lines = volume-lines spool (a .volumes) (a .are) i v us d ls q;
+        lines = lines-from-start (v .place) (v .body) ls q;
         narrow = lines-narrow (v .body) ls q;
       }
 
-  module _ (i at : ℕ) (out : List ℕ) (h : at ≤ length out) (x : Done i at out) (place end : ℕ) (below : i < length (a .volumes))
-      (placed : getD (layoutOf (volumesOf spool) .places) i 0 ≡ place) (ended-at : getD (layoutOf (volumesOf spool) .lengths) i 0 + place ≡ end) (part : List ℕ) (r : Wrote)
-      (promise : VolumePromise spool place end (eqb i 0) (lent at out h) part r) where
+  module _ (i at : ℕ) (out : List ℕ) (h : at ≤ length out) (x : Done i at out) (body : List ℕ) (place : ℕ) (below : i < length (a .volumes))
+      (placed : getD (layoutOf (volumesOf spool) .places) i 0 ≡ place) (held : body ≡ take (getD (layoutOf (volumesOf spool) .lengths) i 0) (drop place spool)) (part : List ℕ) (r : Wrote)
+      (promise : VolumePromise spool body place (eqb i 0) (lent at out h) part r) where
     -- the volume, its text, and those behind it
     record Turn : Type 0 where
       volume : Volume
@@ -206,9 +208,9 @@ module _ (spool : List ℕ) (set : Set) (a : Accepted spool set) where
             let w = volume-in spool (a .volumes) (a .are) i v us d in
             let y = volume-step plainEnv set (eqb i 0) s (suc i) (knownOf set) v us ls (b .volume) lists q in
             let here : place ≡ v .place = sym placed ∙ w .place in
-            let there : end ≡ v .place + length (v .body) = sym ended-at ∙ omega (arith, w .size, here) in
-            let p : VolumePromise spool (v .place) (v .place + length (v .body)) (eqb i 0) (lent at out h) part r =
-            subst (λ (m : ℕ). VolumePromise spool (v .place) m (eqb i 0) (lent at out h) part r) there (subst (λ (m : ℕ). VolumePromise spool m end (eqb i 0) (lent at out h) part r) here promise) in
+            let same : body ≡ v .body = held ∙ ap (λ (m : ℕ). take m (drop place spool)) (w .size) ∙ ap (λ (m : ℕ). take (length (v .body)) (drop m spool)) here ∙ sym (w .part .bytes) in
+            let p : VolumePromise spool (v .body) (v .place) (eqb i 0) (lent at out h) part r =
+            subst (λ (u : List ℕ). VolumePromise spool u (v .place) (eqb i 0) (lent at out h) part r) same (subst (λ (m : ℕ). VolumePromise spool body m (eqb i 0) (lent at out h) part r) here promise) in
             let o = p (knownOf set) plainEnv (suc i) (nextName us) (y .lines) s (y .state) refl refl (lines-at i v us (y .lines) d (y .are)) b (y .goes) in
             record {
               volume = v;

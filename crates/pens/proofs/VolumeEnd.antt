@@ -53,9 +53,9 @@ served-here K spool first p ns (placing s m fs n o i) h = tt
 served-here K spool first p ns (skipping s m fs n o i) h = tt
 served-here K spool first p ns (ended s) h = tt
 
-module _ (spool : List ℕ) (start end : ℕ) (first : Bool) (before : List ℕ) (p : Pen) (at : ℕ) (going : Bool) (ns out : List ℕ) (w : Walk spool start end first before p at going ns out) (over : going ≡ false) (part : List ℕ) where
+module _ (spool body : List ℕ) (start : ℕ) (first : Bool) (before : List ℕ) (p : Pen) (at : ℕ) (going : Bool) (ns out : List ℕ) (w : Walk spool body start first before p at going ns out) (over : going ≡ false) (part : List ℕ) where
   -- the reading is where it ends
-  ends-here : (x : Reading spool start end first) → Pens (x .known) spool first p ns out (x .ends)
+  ends-here : (x : Reading spool body start first) → Pens (x .known) spool first p ns out (x .ends)
   ends-here x =
       let y = w .left x in
       let none-left : got (y .state) ≡ got (x .ends) =
@@ -63,7 +63,7 @@ module _ (spool : List ℕ) (start end : ℕ) (first : Bool) (before : List ℕ)
       let same : y .state ≡ x .ends = cc in
       subst (Pens (x .known) spool first p ns out) same (y .pens)
 
-  module _ (x : Reading spool start end first) where
+  module _ (x : Reading spool body start first) where
     abbrev text : List ℕ
     text = lineBytes (shown (x .known) first (x .ends))
 
@@ -98,9 +98,9 @@ module _ (spool : List ℕ) (start end : ℕ) (first : Bool) (before : List ℕ)
 
 -- ── what the code promises of a volume ──
 -- for every reading of it
-pub body-promise : (spool : List ℕ) (start end : ℕ) (first : Bool) (before after : List ℕ) (r : Wrote)
-    → ((x : Reading spool start end first) → BodyOut (x .known) first (x .ends) before after r) → BodyPromise spool start end first before after r
-body-promise spool start end first before after r f K e v next ls s st c no-limit a b q = f (record {
+pub body-promise : (spool body : List ℕ) (start : ℕ) (first : Bool) (before after : List ℕ) (r : Wrote)
+    → ((x : Reading spool body start first) → BodyOut (x .known) first (x .ends) before after r) → BodyPromise spool body start first before after r
+body-promise spool body start first before after r f K e v next ls s st c no-limit a b q = f (record {
   known = K;
   env = e;
   volume = v;

@@ -48,7 +48,7 @@ fits-of n eof t h = tt
 fits-of n (keyed k brace) t h = omega (arith, t, h)
 fits-of n (keyed k (equals p c)) t h = (omega (arith, t .0, h), t .1)
 
-module _ (spool : List ℕ) (at end : ℕ) (ls : List (List ℕ)) (a : LinesAt spool at end ls) (f : Seen) (q : lookIn 1 1 at end spool ≡ S.Line f) where
+module _ (spool body : List ℕ) (start at : ℕ) (ls : List (List ℕ)) (a : LinesAt spool body start at ls) (f : Seen) (q : lookIn 1 1 start at body ≡ S.Line f) where
   -- the line that was seen, and those behind it
   pub record Next : Type 0 where
     pub line : List ℕ
@@ -57,13 +57,13 @@ module _ (spool : List ℕ) (at end : ℕ) (ls : List (List ℕ)) (a : LinesAt s
     pub form : formOf at line ≡ formIn spool (f .form)
     pub next : at + length line + 2 ≡ f .next
     pub last : f .last ≡ isNil others
-    pub left : LinesAt spool (f .next) end others
+    pub left : LinesAt spool body start (f .next) others
     pub fits : FormFits (formOf at line)
     pub placed : PlacedCode (f .form)
 
   pub line-next : Next
   line-next =
-      let g = look-line 1 1 at end spool ls (a .short) (a .here) (a .inside) (a .lines) f q in
+      let g = look-line 1 1 start at spool body ls (a .part) (a .short) (a .begun) (a .here) (a .lines) f q in
       let w = g .follows in
       let narrow : all (λ (l : List ℕ). leb (length l) mostInLine) (g .line ∷ g .others) ≡ true = ap (all (λ (l : List ℕ). leb (length l) mostInLine)) (sym (g .lines)) ∙ a .narrow in
       let small : length (g .line) ≤ 512 = leb-true (length (g .line)) 512 (and-left (leb (length (g .line)) mostInLine) _ narrow) in
@@ -76,7 +76,8 @@ module _ (spool : List ℕ) (at end : ℕ) (ls : List (List ℕ)) (a : LinesAt s
         last = w .last;
         left = record {
           short = a .short;
-          inside = a .inside;
+          part = a .part;
+          begun = omega (arith, a .begun, w .forward);
           here = omega (arith, w .inside);
           lines = w .after;
           narrow = and-right (leb (length (g .line)) mostInLine) _ narrow;
@@ -91,7 +92,7 @@ module _ (spool : List ℕ) (at end : ℕ) (ls : List (List ℕ)) (a : LinesAt s
       places L.Eof e l h n = tt
       places (L.Opens o) e l h n = tt
       places (L.Equals r) e l h n =
-          let w = look-equals 1 1 at end spool f q r e in
+          let w = look-equals 1 1 start at body f q spool (a .part) r e in
           let tells : Tells (length l) (formIn spool (L.Equals r)) = subst (Tells (length l)) (sym h ∙ ap (formIn spool) e) (form-tells at l) in
           let long : length (bytesAt spool (r .rest)) ≡ r .rest .len = length-take-le (r .rest .len) (drop (r .rest .at) spool) (omega (arith, length-drop (r .rest .at) spool, w .rest-inside)) in
           (omega (arith, tells .0, long, w .rest-end, n), omega (arith, w .rest-inside, a .short), omega (arith, w .rest-inside, a .short))
@@ -99,7 +100,7 @@ module _ (spool : List ℕ) (at end : ℕ) (ls : List (List ℕ)) (a : LinesAt s
 
 -- ── how far the writing has come ──
 -- a reading of the volume's lines
-pub record Reading (spool : List ℕ) (start end : ℕ) (first : Bool) : Type 0 where
+pub record Reading (spool body : List ℕ) (start : ℕ) (first : Bool) : Type 0 where
   pub known : Known
   pub env : Env
   pub volume : ℕ
@@ -109,32 +110,32 @@ pub record Reading (spool : List ℕ) (start end : ℕ) (first : Bool) : Type 0 
   pub ends : State
   pub class-is : env .class ≡ fullClass
   pub no-limit : env .limit ≡ none
-  pub all-lines : LinesAt spool start end lines
+  pub all-lines : LinesAt spool body start start lines
   pub begins : Begins first set
   pub goes : through env (top set 0) (numbered volume name 1 start lines) ≡ got ends
 
 -- and its lines that are left
-pub record Left (spool : List ℕ) (start end : ℕ) (first : Bool) (x : Reading spool start end first) (p : Pen) (at : ℕ) (going : Bool) (ns out : List ℕ) : Type 0 where
+pub record Left (spool body : List ℕ) (start : ℕ) (first : Bool) (x : Reading spool body start first) (p : Pen) (at : ℕ) (going : Bool) (ns out : List ℕ) : Type 0 where
   pub state : State
   pub number : ℕ
   pub rest : List (List ℕ)
-  pub left : LinesAt spool at end rest
+  pub left : LinesAt spool body start at rest
   pub over : going ≡ false → rest ≡ []
   pub sound : Sound first (x .set) state
   pub pens : Pens (x .known) spool first p ns out state
   pub goes : through (x .env) state (numbered (x .volume) (x .name) number at rest) ≡ got (x .ends)
 
-pub record Walk (spool : List ℕ) (start end : ℕ) (first : Bool) (before : List ℕ) (p : Pen) (at : ℕ) (going : Bool) (ns out : List ℕ) : Type 0 where
+pub record Walk (spool body : List ℕ) (start : ℕ) (first : Bool) (before : List ℕ) (p : Pen) (at : ℕ) (going : Bool) (ns out : List ℕ) : Type 0 where
   pub long : length out ≡ length before
   pub many : length ns ≡ 28
   pub safe : Safe p out
-  pub left : (x : Reading spool start end first) → Left spool start end first x p at going ns out
+  pub left : (x : Reading spool body start first) → Left spool body start first x p at going ns out
 
-module _ (spool : List ℕ) (start end : ℕ) (first : Bool) where
+module _ (spool body : List ℕ) (start : ℕ) (first : Bool) where
   abbrev pub begun : Pen
   begun = record { block = 0; part = 0; layered = false; start = 0; at = 0 }
 
-  pub walk-begins : (ns out : List ℕ) → length ns ≡ 28 → Walk spool start end first out begun start true ns out
+  pub walk-begins : (ns out : List ℕ) → length ns ≡ 28 → Walk spool body start first out begun start true ns out
   walk-begins ns out many = record {
     long = refl;
     many = many;
@@ -158,9 +159,9 @@ module _ (spool : List ℕ) (start end : ℕ) (first : Bool) where
     };
   }
 
-  module _ (before : List ℕ) (p : Pen) (at : ℕ) (going : Bool) (ns out : List ℕ) (w : Walk spool start end first before p at going ns out) where
+  module _ (before : List ℕ) (p : Pen) (at : ℕ) (going : Bool) (ns out : List ℕ) (w : Walk spool body start first before p at going ns out) where
     -- no line was seen
-    pub walk-ends : lookIn 1 1 at end spool ≡ S.End → Walk spool start end first before p at false ns out
+    pub walk-ends : lookIn 1 1 start at body ≡ S.End → Walk spool body start first before p at false ns out
     walk-ends q = record {
       long = w .long;
       many = w .many;
@@ -173,7 +174,7 @@ module _ (spool : List ℕ) (start end : ℕ) (first : Bool) where
             number = y .number;
             rest = y .rest;
             left = y .left;
-            over = λ _. look-end 1 1 at end spool (y .rest) (a .short) (a .here) (a .inside) (a .lines) q;
+            over = λ _. look-end 1 1 start at spool body (y .rest) (a .part) (a .short) (a .begun) (a .here) (a .lines) q;
             sound = y .sound;
             pens = y .pens;
             goes = y .goes;
@@ -181,22 +182,22 @@ module _ (spool : List ℕ) (start end : ℕ) (first : Bool) where
     }
 
     -- a line was seen
-    module _ (f : Seen) (q : lookIn 1 1 at end spool ≡ S.Line f) (ns′ out′ : List ℕ) (d : Drawn) (promise : DrawPromise spool first (f .form) p ns ns′ out out′ d) where
+    module _ (f : Seen) (q : lookIn 1 1 start at body ≡ S.Line f) (ns′ out′ : List ℕ) (d : Drawn) (promise : DrawPromise spool first (f .form) p ns ns′ out out′ d) where
       -- it took the reading on
-      pub record Went (x : Reading spool start end first) : Type 0 where
+      pub record Went (x : Reading spool body start first) : Type 0 where
         pub state : State
         pub number : ℕ
         pub others : List (List ℕ)
-        pub left : LinesAt spool (f .next) end others
+        pub left : LinesAt spool body start (f .next) others
         pub last : f .last ≡ isNil others
         pub sound : Sound first (x .set) state
         pub out-is : LineOut (x .known) spool first state ns′ out′ d
         pub goes : through (x .env) state (numbered (x .volume) (x .name) number (f .next) others) ≡ got (x .ends)
 
-      pub went : (x : Reading spool start end first) → Went x
+      pub went : (x : Reading spool body start first) → Went x
       went x =
           let y = w .left x in
-          let z = line-next spool at end (y .rest) (y .left) f q in
+          let z = line-next spool body start at (y .rest) (y .left) f q in
           let l : Line = record { volume = x .volume; line = y .number; last = isNil (z .others); next = x .name; form = formOf at (z .line) } in
           let goes : through (x .env) (y .state) (l ∷ numbered (x .volume) (x .name) (suc (y .number)) (at + length (z .line) + 2) (z .others)) ≡ got (x .ends) =
           ap (λ (us : List (List ℕ)). through (x .env) (y .state) (numbered (x .volume) (x .name) (y .number) at us)) (sym (z .lines)) ∙ y .goes in
@@ -213,7 +214,7 @@ module _ (spool : List ℕ) (start end : ℕ) (first : Bool) where
           }
 
       -- there was no room for it, so there is none for all
-      pub walk-short : (x : Reading spool start end first) → d ≡ D.Full → length out′ ≡ length out → length before < length (lineBytes (shown (x .known) first (x .ends)))
+      pub walk-short : (x : Reading spool body start first) → d ≡ D.Full → length out′ ≡ length out → length before < length (lineBytes (shown (x .known) first (x .ends)))
       walk-short x e size =
           let g = went x in
           let full : length out′ < length (lineBytes (shown (x .known) first (g .state))) = subst (LineOut (x .known) spool first (g .state) ns′ out′) e (g .out-is) in
@@ -221,7 +222,7 @@ module _ (spool : List ℕ) (start end : ℕ) (first : Bool) where
           through-goes (x .known) first (x .set) (x .begins .volume) (x .env) (numbered (x .volume) (x .name) (g .number) (f .next) (g .others)) (g .state) (x .ends) (g .sound) (g .goes) in
           omega (arith, full, more, size, w .long)
 
-      pub walk-on : (p′ : Pen) → d ≡ D.Go p′ → length out′ ≡ length out → length ns′ ≡ 28 → SafeAfter d out′ → Walk spool start end first before p′ (f .next) (not (f .last)) ns′ out′
+      pub walk-on : (p′ : Pen) → d ≡ D.Go p′ → length out′ ≡ length out → length ns′ ≡ 28 → SafeAfter d out′ → Walk spool body start first before p′ (f .next) (not (f .last)) ns′ out′
       walk-on p′ e size many safe = record {
         long = size ∙ w .long;
         many = many;
@@ -249,9 +250,9 @@ pub fewer-none : (end at : ℕ) (going : Bool) → going ≡ true → 0 < cond g
 fewer-none end at true e = omega arith
 fewer-none end at false e = clash e refl
 
-pub fewer : (spool : List ℕ) (end at : ℕ) (going : Bool) (f : Seen) → going ≡ true → lookIn 1 1 at end spool ≡ S.Line f
-    → cond (not (f .last)) (suc (end + 3 - f .next)) 0 < cond going (suc (end + 3 - at)) 0
-fewer spool end at going f e q =
-    let (on, most) = look-forward 1 1 at end spool f q in
-    by-cond (λ (n : ℕ). n < cond going (suc (end + 3 - at)) 0) (not (f .last))
-    (λ _. rw e (omega (arith, on, most))) (λ _. fewer-none end at going e)
+pub fewer : (body : List ℕ) (start at : ℕ) (going : Bool) (f : Seen) → going ≡ true → lookIn 1 1 start at body ≡ S.Line f
+    → cond (not (f .last)) (suc (start + length body + 3 - f .next)) 0 < cond going (suc (start + length body + 3 - at)) 0
+fewer body start at going f e q =
+    let (on, most, few) = look-forward 1 1 start at body f q in
+    by-cond (λ (n : ℕ). n < cond going (suc (start + length body + 3 - at)) 0) (not (f .last))
+    (λ _. rw e (omega (arith, on, most))) (λ _. fewer-none (start + length body) at going e)

@@ -1,5 +1,5 @@
 -- What is written of a volume, line by line.
-use Prim.Native.Nat.{ℕ, zero, suc, _/_, _%_, _≤_}
+use Prim.Native.Nat.{ℕ, zero, suc, _+_, _/_, _%_, _≤_}
 use mathlib.Core.Bool.{Bool, true, false}
 use mathlib.Core.Path.{_≡_}
 use mathlib.Core.List.{List, [], _∷_, _++_}
@@ -18,7 +18,7 @@ use Rattle.rules.specs.Answers.{numbered, fullClass, rewriteOutcome, written}
 use Rattle.leaves.specs.declared.Wrote.{Wrote}
 use Rattle.leaves.specs.declared.Wrote.the-variants as W
 use Rattle.leaves.specs.Writing.{putAnswer}
-use Rattle.lines.specs.LineLook.{linesIn}
+use Rattle.lines.specs.LineLook.{linesIn, PartOf}
 use Rattle.lines.specs.VolumeNames.{nameAt}
 use Rattle.pens.specs.Shown.{shown}
 use Rattle.pens.specs.Standing.{Served}
@@ -33,12 +33,13 @@ abbrev pub through : Env → State → List Line → Got State
 through e st [] = got st
 through e st (l ∷ ls) = andThen (stepIn e l st) λ st₁. through e st₁ ls
 
--- the lines left of a volume that ends at a place
-pub record LinesAt (s : List ℕ) (at end : ℕ) (ls : List (List ℕ)) : Type 0 where
+-- the lines left, from a place on, of the volume that is the part body of the spool from start on
+pub record LinesAt (s body : List ℕ) (start at : ℕ) (ls : List (List ℕ)) : Type 0 where
   pub short : length s ≤ mostBytes
-  pub inside : end ≤ length s
-  pub here : at ≤ end
-  pub lines : linesIn s at end ≡ some ls
+  pub part : PartOf s start body
+  pub begun : start ≤ at
+  pub here : at ≤ start + length body
+  pub lines : linesIn start at body ≡ some ls
   pub narrow : all (λ l. leb (length l) mostInLine) ls ≡ true
 
 -- the set before the first volume, or before another
@@ -73,10 +74,10 @@ pub record BodyOut (K : Known) (first : Bool) (st : State) (before after : List 
   pub fronts : Fronts (unlines (shown K first st)) before after r
   pub served : (n : ℕ) → r ≡ W.Bytes n → ServedAfter st
 
-abbrev pub BodyPromise : List ℕ → ℕ → ℕ → Bool → List ℕ → List ℕ → Wrote → Type 0
-BodyPromise spool start end first before after r =
+abbrev pub BodyPromise : List ℕ → List ℕ → ℕ → Bool → List ℕ → List ℕ → Wrote → Type 0
+BodyPromise spool body start first before after r =
     (K : Known) (e : Env) (v : ℕ) (next : List ℕ) (ls : List (List ℕ)) (s : Set) (st : State) → e .class ≡ fullClass → e .limit ≡ none
-    → LinesAt spool start end ls → Begins first s
+    → LinesAt spool body start start ls → Begins first s
     → through e (top s 0) (numbered v next 1 start ls) ≡ got st → BodyOut K first st before after r
 
 -- ── behind its head ──
@@ -87,10 +88,10 @@ pub record VolumeOut (K : Known) (first : Bool) (name : List ℕ) (st : State) (
   pub fronts : Fronts (volumeBytes name (unlines (shown K first st))) before after r
   pub served : (n : ℕ) → r ≡ W.Bytes n → ServedAfter st
 
-abbrev pub VolumePromise : List ℕ → ℕ → ℕ → Bool → List ℕ → List ℕ → Wrote → Type 0
-VolumePromise spool start end first before after r =
+abbrev pub VolumePromise : List ℕ → List ℕ → ℕ → Bool → List ℕ → List ℕ → Wrote → Type 0
+VolumePromise spool body start first before after r =
     (K : Known) (e : Env) (v : ℕ) (next : List ℕ) (ls : List (List ℕ)) (s : Set) (st : State) → e .class ≡ fullClass → e .limit ≡ none
-    → LinesAt spool start end ls → Begins first s
+    → LinesAt spool body start start ls → Begins first s
     → through e (top s 0) (numbered v next 1 start ls) ≡ got st → VolumeOut K first (nameAt spool start) st before after r
 
 -- ── the set ──

@@ -7,6 +7,7 @@ use crate::places::at_block;
 use account::BLOCK_TOP;
 use account::MOST_ROWS;
 use entries::Rest;
+use entries::names::part;
 use leaves::Wrote;
 use leaves::write::put;
 use lines::Look;
@@ -15,6 +16,7 @@ use lines::spool::volume_name;
 use lines::spool::volumes;
 use prints::rows::put_plain;
 use rules::LineForm;
+use rules::Span;
 ghost use mathlib.Core.Path.{_≡_};
 ghost use mathlib.Core.List.{_++_};
 ghost use Prim.Native.Nat.{_≤_};
@@ -68,10 +70,17 @@ fn on_line(
     }
 }
 
-// The lines of a volume and the byte 1A behind them.
-fn put_body(s: &[u8], start: u32, end: u32, first: bool, notes: &mut [u32], out: &mut [u8]) -> Wrote
+// The lines of a volume, which is the part `body` of the spool from `start` on, and the byte 1A behind them.
+fn put_body(
+    s: &[u8],
+    body: &[u8],
+    start: u32,
+    first: bool,
+    notes: &mut [u32],
+    out: &mut [u8],
+) -> Wrote
     requires { ⌜ length (now notes) ≡ mostRows ⌝ }
-    ensures { λ r. ⌜ Within (now (out .entry)) (now (out .exit)) r × (length (now (notes .exit)) ≡ mostRows) × BodyPromise (now (s .entry)) start end first (now (out .entry)) (now (out .exit)) r ⌝ }
+    ensures { λ r. ⌜ Within (now (out .entry)) (now (out .exit)) r × (length (now (notes .exit)) ≡ mostRows) × BodyPromise (now (s .entry)) (now (body .entry)) start first (now (out .entry)) (now (out .exit)) r ⌝ }
 {
     let mut pen = Pen {
         block: BLOCK_TOP,
@@ -83,7 +92,7 @@ fn put_body(s: &[u8], start: u32, end: u32, first: bool, notes: &mut [u32], out:
     let mut at = start;
     let mut going = true;
     while going {
-        match look(s, at, end, 1, 1) {
+        match look(body, start, at, 1, 1) {
             Look::End => {
                 going = false;
             }
@@ -124,19 +133,19 @@ fn put_head(name: &[u8], size: usize, out: &mut [u8])
 // A volume, behind its head.
 fn put_volume(
     s: &[u8],
+    body: &[u8],
     start: u32,
-    end: u32,
     first: bool,
     notes: &mut [u32],
     out: &mut [u8],
 ) -> Wrote
     requires { ⌜ length (now notes) ≡ mostRows ⌝ }
-    ensures { λ r. ⌜ Within (now (out .entry)) (now (out .exit)) r × (length (now (notes .exit)) ≡ mostRows) × VolumePromise (now (s .entry)) start end first (now (out .entry)) (now (out .exit)) r ⌝ }
+    ensures { λ r. ⌜ Within (now (out .entry)) (now (out .exit)) r × (length (now (notes .exit)) ≡ mostRows) × VolumePromise (now (s .entry)) (now (body .entry)) start first (now (out .entry)) (now (out .exit)) r ⌝ }
 {
     if out.len() < 12 {
         return Wrote::Full;
     }
-    let Wrote::Bytes(n) = put_body(s, start, end, first, notes, &mut out[12..]) else {
+    let Wrote::Bytes(n) = put_body(s, body, start, first, notes, &mut out[12..]) else {
         return Wrote::Full;
     };
     put_head(volume_name(s, start), n, out);
@@ -156,8 +165,14 @@ pub fn put_set(s: &[u8], out: &mut [u8]) -> Wrote
     let mut i = 0;
     while i < count {
         let start = places[i];
-        let end = lengths[i] + start;
-        let wrote = put_volume(s, start, end, i == 0, &mut notes, &mut out[at..]);
+        let body = part(
+            s,
+            Span {
+                at: start,
+                len: lengths[i],
+            },
+        );
+        let wrote = put_volume(s, body, start, i == 0, &mut notes, &mut out[at..]);
         let Wrote::Bytes(n) = wrote else {
             return Wrote::Full;
         };

@@ -7,7 +7,7 @@ use mathlib.Core.Path.{_≡_, refl, sym, _∙_, ap, subst}
 use native.Mathlib.Omega.{arith}
 use lib.Dec.{eqb}
 use lib.IntN.{ℤ, pos}
-use lib.ListN.{length, getD, drop, replicate, length-drop, length-replicate}
+use lib.ListN.{length, getD, take, drop, replicate, length-drop, length-replicate}
 use lib.Seq.{drop-drop}
 use borrow.Author.Tests.{lt-ltb, le-ltb, eqb-true, eqb-false}
 use Rattle.rules.specs.declared.Digits.{Digits}
@@ -16,6 +16,7 @@ use Rattle.rules.specs.Base.{isNil}
 use Rattle.rules.proofs.Chains.{clash}
 use Rattle.rules.specs.Spool as P
 use Rattle.rules.specs.Spool.{volumesOf}
+use Rattle.rules.specs.Lines.{span, bytesAt}
 use Rattle.rules.specs.Sets.{Set, nothingYet}
 use Rattle.rules.specs.Machine.{Line, Env, top, ended}
 use Rattle.rules.specs.LineByLine.{refused, accepted, run}
@@ -24,15 +25,16 @@ use Rattle.rules.specs.Answers.{nextName, linesOfVolume, outcomeOfLines, outcom
 use Rattle.lines.specs.VolumePlaces.{noLayout, layoutOf}
 use Rattle.lines.specs.VolumeNames.{nameAt}
 use Rattle.lines.specs.LineEnds.{firstUnsound}
-use Rattle.lines.specs.LineLook.{linesIn}
+use Rattle.lines.specs.LineLook.{linesIn, PartOf}
+use Rattle.lines.proofs.LinesSeen.{lines-from-start}
 use Rattle.lines.specs.declared.Layout.{Layout}
 use Rattle.lines.proofs.VolumePlaces.{volumes-laid}
-use Rattle.lines.proofs.VolumesSeen.{VolumeIn, volume-in, volume-lines, AllLined, linesOver, lined-listed, sound-volumes, unsound-volume}
+use Rattle.lines.proofs.VolumesSeen.{VolumeIn, volume-in, AllLined, linesOver, lined-listed, sound-volumes, unsound-volume}
 use Rattle.account.specs.declared.Now.{Now}
 use Rattle.account.specs.declared.Volume.{Volume}
 use Rattle.account.specs.declared.Through.{Through}
 use Rattle.account.specs.declared.Through.the-variants as T
-use Rattle.account.specs.Walk.{At}
+use Rattle.account.specs.Walk.{endOf, At}
 use Rattle.standing.specs.Standing.{Desk, deskNow, deskTable, Under}
 use Rattle.account.specs.TableApart.{symbolOpen, Seen, whole, apart}
 use Rattle.standing.specs.FileStanding.{InFile}
@@ -177,15 +179,12 @@ module _ (c : Digits) (spool : List ℕ) (len lent : ℕ) (l : Layout) where
 
     -- ── one more volume ──
     module _ (h : i < l .count) where
-      -- its place, its end, and the name of the one behind it
+      -- its place, its number, and the name of the one behind it
       abbrev start : ℕ
       start = getD (l .places) i 0
 
-      abbrev end : ℕ
-      end = getD (l .places) i 0 + getD (l .lengths) i 0
-
       abbrev vol : Volume
-      vol = record { number = i + 1; end = end }
+      vol = record { number = i + 1; at = start }
 
       pub record Here : Type 0 where
         pub one : P.Volume
@@ -214,9 +213,6 @@ module _ (c : Digits) (spool : List ℕ) (len lent : ℕ) (l : Layout) where
             held = subst (λ (x : Layout). VolumeIn spool x i v) (sym (w .laid)) (volume-in spool (w .all) (w .are) i v us z);
           }
 
-      pub end-few : end ≤ 61440
-      end-few = let y = here .held in omega (arith, y .place, y .size, y .high, volumes-laid spool (w .all) (w .are) .spool)
-
       more-long : suc (length (here .more)) ≡ l .count - i
       more-long = sym (ap length (here .drops)) ∙ length-drop i (w .all) ∙ ap (λ (n : ℕ). n - i) (sym count-is)
 
@@ -233,24 +229,8 @@ module _ (c : Digits) (spool : List ℕ) (len lent : ℕ) (l : Layout) where
               let y : VolumeIn spool l (i + 1) v = subst (λ (x : Layout). VolumeIn spool x (i + 1) v) (sym (w .laid)) (volume-in spool (w .all) (w .are) (i + 1) v us (more-drops ∙ z)) in
               rw (lt-ltb (i + 1) (l .count) (y .counted)) (ap (nameAt spool) (y .place) ∙ y .name)
 
-      at-start : At spool vol (startOf start) (here .lines .0 .lines)
-      at-start =
-          let y = here .held in
-          let b = volumes-laid spool (w .all) (w .are) .spool in
-          let z = volume-lines spool (w .all) (w .are) i (here .one) (here .more) (here .drops) (here .lines .0 .lines) (here .lines .0 .are) in
-          record {
-            short = b;
-            inside = omega (arith, y .place, y .size, y .high);
-            here = omega arith;
-            lines = ap (λ (n : ℕ). linesIn spool n (n + getD (l .lengths) i 0)) (y .place) ∙ ap (λ (n : ℕ). linesIn spool (here .one .place) (here .one .place + n)) (y .size) ∙ z;
-            low = omega arith;
-          }
-
       stands-here : Standing c spool (i + 1) D start (top (w .set) 0)
       stands-here = stands-later c spool (i + 1) D (InFile spool (i + 1) D) (w .at) start (top (w .set) 0) (omega (arith, here .held .place, here .grown .0)) (here .stands)
-
-      pub volume-ready : VolumeReady c spool vol start len d
-      volume-ready = record { set = w .set; lines = here .lines .0 .lines; at = at-start; table = w .table; seen = w .seen; stands = stands-here }
 
       under : Under c D e
       under = record { class = refl; limit = ap (λ (n : ℕ). some (n / 32)) (seen-long (d .now) (d .table) len (w .table) (w .seen)) }
@@ -263,43 +243,65 @@ module _ (c : Digits) (spool : List ℕ) (len lent : ℕ) (l : Layout) where
       run-here =
           here .eq ∙ ap (λ (n : ℕ). run e (top (w .set) 0) (linesOfVolume (i + 1) (nextName (here .more)) n (here .lines .0 .lines) ++ more-lines)) (sym (here .held .place))
 
-      module _ (following : List ℕ) (f : following ≡ nameBehind spool (l .places) (l .count) i) (d₁ : Desk) (r : Through) (promise : VolumePromise c spool vol start len following d d₁ r) where
-        out : VolumeOut c spool vol (isNil (nextName (here .more))) len e (top (w .set) 0) (linesOfVolume (i + 1) (nextName (here .more)) start (here .lines .0 .lines)) more-lines d₁ r
-        out =
-            subst (λ (x : List ℕ). VolumeOut c spool vol (isNil x) len e (top (w .set) 0) (linesOfVolume (i + 1) x start (here .lines .0 .lines)) more-lines d₁ r) (f ∙ behind-is)
-            (promise (w .table) e (w .set) (here .lines .0 .lines) more-lines (w .seen) under at-start stands-here)
-
-        pub stops : (x : Refusal) → r ≡ T.Stop x → outcomeOf e spool ≡ refused (x .number) (x .volume) (x .line)
-        stops x q =
-            outcome-lined e spool (w .all) (w .are) (w .lined) ∙ run-here
-            ∙ subst (VolumeOut c spool vol (isNil (nextName (here .more))) len e (top (w .set) 0) (linesOfVolume (i + 1) (nextName (here .more)) start (here .lines .0 .lines)) more-lines d₁) q out
-
-        pub goes : (n : Now) → r ≡ T.Go n → length (d₁ .table) ≡ length (d .table) → Came (i + 1) (deskNow d₁ n)
-        goes n q t =
-            let (s, T, x, z, o) = subst (VolumeOut c spool vol (isNil (nextName (here .more))) len e (top (w .set) 0) (linesOfVolume (i + 1) (nextName (here .more)) start (here .lines .0 .lines)) more-lines d₁) q out in
-            let last : isNil (nextName (here .more)) ≡ isNil (here .more) = next-nil (here .one .place + length (here .one .body)) (here .more) (here .grown .2) in
-            let k : suc (i + 1) ≡ i + 1 + 1 = omega arith in
+      -- its part of the spool, as it is lent
+      module _ (body : List ℕ) (part : body ≡ bytesAt spool (span start (getD (l .lengths) i 0))) where
+        is-body : body ≡ here .one .body
+        is-body =
             let y = here .held in
-            let at-end : here .one .place + length (here .one .body) ≡ end = omega (arith, y .place, y .size) in
+            part ∙ ap (λ (n : ℕ). take n (drop start spool)) (y .size) ∙ ap (λ (n : ℕ). take (length (here .one .body)) (drop n spool)) (y .place) ∙ sym (y .part .bytes)
+
+        at-start : At spool body vol (startOf start) (here .lines .0 .lines)
+        at-start =
+            let y = here .held in
             record {
-              laid = w .laid;
-              all = w .all;
-              are = w .are;
-              lined = w .lined;
-              long = t ∙ w .long;
-              table = T;
-              seen = o;
-              left = here .more;
-              drops = more-drops;
-              lines = here .lines .1;
-              set = s;
-              at = end;
-              grown = subst (λ (m : ℕ). Grown m (here .more)) at-end (here .grown .2);
-              stands = subst (λ (b : Bool). Standing c spool (nextNumber b (i + 1)) (deskNow (deskTable d₁ T) n) end (nextState b s)) last z;
-              eq =
-                  run-here ∙ x ∙ ap (λ (b : Bool). run e (nextState b s) more-lines) last
-                  ∙ ap (λ (m : ℕ). run e (nextState (isNil (here .more)) s) (linesOver m (here .more) (here .lines .1))) k;
+              short = volumes-laid spool (w .all) (w .are) .spool;
+              part = subst (PartOf spool start) (sym is-body) (subst (λ (n : ℕ). PartOf spool n (here .one .body)) (sym (y .place)) (y .part));
+              begun = omega arith;
+              here = omega arith;
+              lines = ap (linesIn start start) is-body ∙ lines-from-start start (here .one .body) (here .lines .0 .lines) (here .lines .0 .are);
+              low = omega arith;
             }
+
+        pub volume-ready : VolumeReady c spool body vol len d
+        volume-ready = record { set = w .set; lines = here .lines .0 .lines; at = at-start; table = w .table; seen = w .seen; stands = stands-here }
+
+        module _ (following : List ℕ) (f : following ≡ nameBehind spool (l .places) (l .count) i) (d₁ : Desk) (r : Through) (promise : VolumePromise c spool body vol len following d d₁ r) where
+          out : VolumeOut c spool body vol (isNil (nextName (here .more))) len e (top (w .set) 0) (linesOfVolume (i + 1) (nextName (here .more)) start (here .lines .0 .lines)) more-lines d₁ r
+          out =
+              subst (λ (x : List ℕ). VolumeOut c spool body vol (isNil x) len e (top (w .set) 0) (linesOfVolume (i + 1) x start (here .lines .0 .lines)) more-lines d₁ r) (f ∙ behind-is)
+              (promise (w .table) e (w .set) (here .lines .0 .lines) more-lines (w .seen) under at-start stands-here)
+
+          pub stops : (x : Refusal) → r ≡ T.Stop x → outcomeOf e spool ≡ refused (x .number) (x .volume) (x .line)
+          stops x q =
+              outcome-lined e spool (w .all) (w .are) (w .lined) ∙ run-here
+              ∙ subst (VolumeOut c spool body vol (isNil (nextName (here .more))) len e (top (w .set) 0) (linesOfVolume (i + 1) (nextName (here .more)) start (here .lines .0 .lines)) more-lines d₁) q out
+
+          pub goes : (n : Now) → r ≡ T.Go n → length (d₁ .table) ≡ length (d .table) → Came (i + 1) (deskNow d₁ n)
+          goes n q t =
+              let (s, T, x, z, o) = subst (VolumeOut c spool body vol (isNil (nextName (here .more))) len e (top (w .set) 0) (linesOfVolume (i + 1) (nextName (here .more)) start (here .lines .0 .lines)) more-lines d₁) q out in
+              let last : isNil (nextName (here .more)) ≡ isNil (here .more) = next-nil (here .one .place + length (here .one .body)) (here .more) (here .grown .2) in
+              let k : suc (i + 1) ≡ i + 1 + 1 = omega arith in
+              let y = here .held in
+              let at-end : here .one .place + length (here .one .body) ≡ endOf body vol = omega (arith, y .place, ap length is-body) in
+              record {
+                laid = w .laid;
+                all = w .all;
+                are = w .are;
+                lined = w .lined;
+                long = t ∙ w .long;
+                table = T;
+                seen = o;
+                left = here .more;
+                drops = more-drops;
+                lines = here .lines .1;
+                set = s;
+                at = endOf body vol;
+                grown = subst (λ (m : ℕ). Grown m (here .more)) at-end (here .grown .2);
+                stands = subst (λ (b : Bool). Standing c spool (nextNumber b (i + 1)) (deskNow (deskTable d₁ T) n) (endOf body vol) (nextState b s)) last z;
+                eq =
+                    run-here ∙ x ∙ ap (λ (b : Bool). run e (nextState b s) more-lines) last
+                    ∙ ap (λ (m : ℕ). run e (nextState (isNil (here .more)) s) (linesOver m (here .more) (here .lines .1))) k;
+              }
 
     -- ── behind the last ──
     module _ (h : l .count ≤ i) where

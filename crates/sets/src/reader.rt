@@ -12,12 +12,14 @@ use account::Through;
 use account::Volume;
 use drawing::classes::class_of;
 use drawing::table::clear;
+use entries::names::part;
 use lines::ends::first_unsound;
 use lines::spool::volume_name;
 use lines::spool::volumes;
 use rules::Answer;
 use rules::Digits;
 use rules::Refusal;
+use rules::Span;
 use rules::WIDTH;
 use steps::read_volume;
 ghost use mathlib.Core.Path.{_≡_};
@@ -90,16 +92,24 @@ fn read_set(s: &[u8], class: Digits, limit: usize, t: &mut [i64]) -> Answer
     let mut i = 0;
     while i < count {
         let following = name_behind(s, places, count, i);
+        let start = places[i];
+        let body = part(
+            s,
+            Span {
+                at: start,
+                len: lengths[i],
+            },
+        );
         let v = Volume {
             number: i as u8 + 1,
-            end: places[i] + lengths[i],
+            at: start,
         };
         let r = read_volume(
             s,
+            body,
             following,
             class,
             v,
-            places[i],
             here,
             &mut tally,
             &mut symbols,

@@ -66,9 +66,9 @@ within s end (L.Equals q) h k b = (omega (arith, k, b), omega (arith, h, part-sh
 within s end (L.Refused r) h k b = tt
 
 -- a line that was seen in a spool
-pub line-placed : (s : List ℕ) (v : Volume) (p : Pos) (ls : List (List ℕ)) (f : Seen) → Next s v p ls f → PlacedForm (formIn s (f .form))
-line-placed s v p ls f n =
-    within s (p .at + length (n .line)) (f .form) (n .at .short) (omega (arith, n .at .short, n .at .inside, n .at .here))
+pub line-placed : (s body : List ℕ) (v : Volume) (p : Pos) (ls : List (List ℕ)) (f : Seen) → Next s body v p ls f → PlacedForm (formIn s (f .form))
+line-placed s body v p ls f n =
+    within s (p .at + length (n .line)) (f .form) (n .at .short) (omega (arith, n .at .short, n .at .part .inside, n .at .here))
     (subst (Before (p .at + length (n .line))) (sym (n .form)) (of-line (p .at) (n .line)))
 
 -- in FILE_FORMAT's words

@@ -21,7 +21,7 @@ use Rattle.account.specs.declared.Volume.{Volume}
 use Rattle.account.specs.declared.Pos.{Pos}
 use Rattle.account.specs.declared.Through.{Through}
 use Rattle.account.specs.declared.Through.the-variants as T
-use Rattle.account.specs.Walk.{At}
+use Rattle.account.specs.Walk.{endOf, At}
 use Rattle.standing.specs.Standing.{Desk, Stands, deskNow, deskTable, Under, LineHere, StepOut}
 use Rattle.account.specs.TableApart.{Seen, SeenBy}
 use Rattle.account.specs.SymbolLines.{nameOf, nameNumber}
@@ -109,24 +109,24 @@ abbrev pub nextState : Bool → Set → State
 nextState true s = ended s
 nextState false s = top s 0
 
-pub record VolumeReady (c : Digits) (spool : List ℕ) (v : Volume) (start limit : ℕ) (d : Desk) : Type 0 where
+pub record VolumeReady (c : Digits) (spool body : List ℕ) (v : Volume) (limit : ℕ) (d : Desk) : Type 0 where
   pub set : Set
   pub lines : List (List ℕ)
-  pub at : At spool v (startOf start) lines
+  pub at : At spool body v (startOf (v .at)) lines
   pub table : List ℤ
   pub seen : Seen (d .now) (d .table) limit table
-  pub stands : Standing c spool (v .number) (deskTable d table) start (top set 0)
+  pub stands : Standing c spool (v .number) (deskTable d table) (v .at) (top set 0)
 
 -- the volume read to its end, or the refusal
-abbrev pub VolumeOut : Digits → List ℕ → Volume → Bool → ℕ → Env → State → List Line → List Line → Desk → Through → Type 0
-VolumeOut c spool v last limit e st lines more d (T.Go n) =
+abbrev pub VolumeOut : Digits → List ℕ → List ℕ → Volume → Bool → ℕ → Env → State → List Line → List Line → Desk → Through → Type 0
+VolumeOut c spool body v last limit e st lines more d (T.Go n) =
     (s : Set) × (table : List ℤ) × (run e st (lines ++ more) ≡ run e (nextState last s) more)
-    × Standing c spool (nextNumber last (v .number)) (deskNow (deskTable d table) n) (v .end) (nextState last s) × Seen n (d .table) limit table
-VolumeOut c spool v last limit e st lines more d (T.Stop f) = run e st (lines ++ more) ≡ refused (f .number) (f .volume) (f .line)
+    × Standing c spool (nextNumber last (v .number)) (deskNow (deskTable d table) n) (endOf body v) (nextState last s) × Seen n (d .table) limit table
+VolumeOut c spool body v last limit e st lines more d (T.Stop f) = run e st (lines ++ more) ≡ refused (f .number) (f .volume) (f .line)
 
-abbrev pub VolumePromise : Digits → List ℕ → Volume → ℕ → ℕ → List ℕ → Desk → Desk → Through → Type 0
-VolumePromise c spool v start limit following d₀ d₁ r =
+abbrev pub VolumePromise : Digits → List ℕ → List ℕ → Volume → ℕ → List ℕ → Desk → Desk → Through → Type 0
+VolumePromise c spool body v limit following d₀ d₁ r =
     (table : List ℤ) (e : Env) (s : Set) (lines : List (List ℕ)) (more : List Line) → Seen (d₀ .now) (d₀ .table) limit table
-    → Under c (deskTable d₀ table) e → At spool v (startOf start) lines
-    → Standing c spool (v .number) (deskTable d₀ table) start (top s 0)
-    → VolumeOut c spool v (isNil following) limit e (top s 0) (linesOfVolume (v .number) following start lines) more d₁ r
+    → Under c (deskTable d₀ table) e → At spool body v (startOf (v .at)) lines
+    → Standing c spool (v .number) (deskTable d₀ table) (v .at) (top s 0)
+    → VolumeOut c spool body v (isNil following) limit e (top s 0) (linesOfVolume (v .number) following (v .at) lines) more d₁ r

@@ -51,59 +51,59 @@ same-on d₀ d d₁ n a b = record {
 }
 
 -- behind a skipped block the reading is further
-pub skipped-further : (spool : List ℕ) (v : Volume) (p q : Pos) (l : Left) → SkipMet spool v p 4 l → l ≡ L.Go q → Further v p (L.Go q)
-skipped-further spool v p q l m a = subst (Further v p) a (m .further)
+pub skipped-further : (spool body : List ℕ) (v : Volume) (p q : Pos) (l : Left) → SkipMet spool body v p 4 l → l ≡ L.Go q → Further body v p (L.Go q)
+skipped-further spool body v p q l m a = subst (Further body v p) a (m .further)
 
-module _ (c : Digits) (spool : List ℕ) (v : Volume) (start : ℕ) (following : List ℕ) (limit : ℕ) (d₀ : Desk) where
-  pub begins : VolumeReady c spool v start limit d₀ → Through-to c spool v start following limit d₀ (startOf start) d₀
-  begins y = begun c spool v start following limit d₀ (omega (arith, y .at .here, y .at .inside, y .at .short))
+module _ (c : Digits) (spool body : List ℕ) (v : Volume) (following : List ℕ) (limit : ℕ) (d₀ : Desk) where
+  pub begins : VolumeReady c spool body v limit d₀ → Through-to c spool body v following limit d₀ (startOf (v .at)) d₀
+  begins y = begun c spool body v following limit d₀ (omega (arith, y .at .here, y .at .part .inside, y .at .short))
 
   -- what is open when the volume ends is the answer's, not the desk's
-  any-now : (d₁ : Desk) (n : Now) (r : Through) → VolumePromise c spool v start limit following d₀ d₁ r → VolumePromise c spool v start limit following d₀ (deskNow d₁ n) r
+  any-now : (d₁ : Desk) (n : Now) (r : Through) → VolumePromise c spool body v limit following d₀ d₁ r → VolumePromise c spool body v limit following d₀ (deskNow d₁ n) r
   any-now d₁ n (T.Go m) h = λ table e s lines more o u a z. h table e s lines more o u a z
   any-now d₁ n (T.Stop x) h = λ table e s lines more o u a z. h table e s lines more o u a z
 
-  module _ (lastVolume : Bool) (p : Pos) (d : Desk) (i : Through-to c spool v start following limit d₀ p d × SameLengths d₀ d × (lastVolume ≡ isNil following)) (f : Seen) (q : f ≡ seenFrom spool v p) where
-    pub turn-empty : f .next ≡ p .at → (d₁ : Desk) (r : Through) → r ≡ stopOf v 9 (p .line) → VolumePromise c spool v start limit following d₀ d₁ r
-    turn-empty same d₁ r a = subst (VolumePromise c spool v start limit following d₀ d₁) (sym a) (ends-empty c spool v start following limit d₀ p d (i .0) f q same d₁)
+  module _ (lastVolume : Bool) (p : Pos) (d : Desk) (i : Through-to c spool body v following limit d₀ p d × SameLengths d₀ d × (lastVolume ≡ isNil following)) (f : Seen) (q : f ≡ seenFrom body v p) where
+    pub turn-empty : f .next ≡ p .at → (d₁ : Desk) (r : Through) → r ≡ stopOf v 9 (p .line) → VolumePromise c spool body v limit following d₀ d₁ r
+    turn-empty same d₁ r a = subst (VolumePromise c spool body v limit following d₀ d₁) (sym a) (ends-empty c spool body v following limit d₀ p d (i .0) f q same d₁)
 
     module _ (apart : (f .next ≡ p .at) → ⊥) where
-      pub turn-ready : (ends : Bool) → ends ≡ (lastVolume && f .last) → VolumeReady c spool v start limit d₀
+      pub turn-ready : (ends : Bool) → ends ≡ (lastVolume && f .last) → VolumeReady c spool body v limit d₀
           → LineReady c spool (v .number) (f .form) (record { volume = v .number; line = p .line + 1; ends = ends }) limit d following
       turn-ready ends both y =
           subst (λ (b : Bool). LineReady c spool (v .number) (f .form) (record { volume = v .number; line = p .line + 1; ends = b }) limit d following)
-          (sym (both ∙ ap (λ (b : Bool). b && f .last) (i .2))) (line-ready c spool v start following limit d₀ p d (i .0) f q apart y)
+          (sym (both ∙ ap (λ (b : Bool). b && f .last) (i .2))) (line-ready c spool body v following limit d₀ p d (i .0) f q apart y)
 
       module _ (ends : Bool) (both : ends ≡ (lastVolume && f .last)) (d₁ : Desk) (r : Step)
           (promise : LinePromise c spool (v .number) (f .form) (record { volume = v .number; line = p .line + 1; ends = ends }) limit d d₁ following r) (kept : SameLengths d d₁) where
-        judged : LinePromise c spool (v .number) (f .form) (whereOf c spool v following limit p f) limit d d₁ following r
+        judged : LinePromise c spool (v .number) (f .form) (whereOf c spool body v following limit p f) limit d d₁ following r
         judged =
             subst (λ (b : Bool). LinePromise c spool (v .number) (f .form) (record { volume = v .number; line = p .line + 1; ends = b }) limit d d₁ following r)
             (both ∙ ap (λ (b : Bool). b && f .last) (i .2)) promise
 
         module _ (h : f .last ≡ false) where
-          pub turn-go : (n : Now) → r ≡ S.Go n → Through-to c spool v start following limit d₀ (past p f) (deskNow d₁ n) × SameLengths d₀ (deskNow d₁ n) × (lastVolume ≡ isNil following)
-          turn-go n a = (on-go c spool v start following limit d₀ p d (i .0) f q apart d₁ r judged h n a, same-on d₀ d d₁ n (i .1) kept, i .2)
+          pub turn-go : (n : Now) → r ≡ S.Go n → Through-to c spool body v following limit d₀ (past p f) (deskNow d₁ n) × SameLengths d₀ (deskNow d₁ n) × (lastVolume ≡ isNil following)
+          turn-go n a = (on-go c spool body v following limit d₀ p d (i .0) f q apart d₁ r judged h n a, same-on d₀ d d₁ n (i .1) kept, i .2)
 
           pub turn-block : SkipReady (past p f) 4
-          turn-block = skip-ready c spool v start following limit d₀ p d (i .0) f q apart d₁ r judged h
+          turn-block = skip-ready c spool body v following limit d₀ p d (i .0) f q apart d₁ r judged h
 
-          pub turn-skip : (n : Now) → r ≡ S.Skip n → (l : Left) → SkipMet spool v (past p f) 4 l → (q′ : Pos) → l ≡ L.Go q′
-              → Through-to c spool v start following limit d₀ q′ (deskNow d₁ n) × SameLengths d₀ (deskNow d₁ n) × (lastVolume ≡ isNil following)
+          pub turn-skip : (n : Now) → r ≡ S.Skip n → (l : Left) → SkipMet spool body v (past p f) 4 l → (q′ : Pos) → l ≡ L.Go q′
+              → Through-to c spool body v following limit d₀ q′ (deskNow d₁ n) × SameLengths d₀ (deskNow d₁ n) × (lastVolume ≡ isNil following)
           turn-skip n a l m q′ b =
-              (on-skip c spool v start following limit d₀ p d (i .0) f q apart d₁ r judged h n a q′ (subst (SkipMet spool v (past p f) 4) b m), same-on d₀ d d₁ n (i .1) kept, i .2)
+              (on-skip c spool body v following limit d₀ p d (i .0) f q apart d₁ r judged h n a q′ (subst (SkipMet spool body v (past p f) 4) b m), same-on d₀ d d₁ n (i .1) kept, i .2)
 
-          pub turn-left : (n : Now) → r ≡ S.Skip n → (l : Left) → SkipMet spool v (past p f) 4 l → (x : Refusal) → l ≡ L.Stop x → VolumePromise c spool v start limit following d₀ d₁ (T.Stop x)
-          turn-left n a l m x b = ends-skip c spool v start following limit d₀ p d (i .0) f q apart d₁ r judged h n a x (subst (SkipMet spool v (past p f) 4) b m) d₁
+          pub turn-left : (n : Now) → r ≡ S.Skip n → (l : Left) → SkipMet spool body v (past p f) 4 l → (x : Refusal) → l ≡ L.Stop x → VolumePromise c spool body v limit following d₀ d₁ (T.Stop x)
+          turn-left n a l m x b = ends-skip c spool body v following limit d₀ p d (i .0) f q apart d₁ r judged h n a x (subst (SkipMet spool body v (past p f) 4) b m) d₁
 
-          pub turn-stop : (n : ℕ) → r ≡ S.Stop n → (d₂ : Desk) (t : Through) → t ≡ stopOf v n (p .line + 1) → VolumePromise c spool v start limit following d₀ d₂ t
-          turn-stop n a d₂ t b = subst (VolumePromise c spool v start limit following d₀ d₂) (sym b) (ends-stop c spool v start following limit d₀ p d (i .0) f q apart d₁ r judged h n a d₂)
+          pub turn-stop : (n : ℕ) → r ≡ S.Stop n → (d₂ : Desk) (t : Through) → t ≡ stopOf v n (p .line + 1) → VolumePromise c spool body v limit following d₀ d₂ t
+          turn-stop n a d₂ t b = subst (VolumePromise c spool body v limit following d₀ d₂) (sym b) (ends-stop c spool body v following limit d₀ p d (i .0) f q apart d₁ r judged h n a d₂)
 
         pub turn-last : f .last ≡ true → (complete : Bool) → complete ≡ completesOf (d .now) (f .form) lastVolume → (done : Step) → done ≡ lastStep complete r → (t : Through) → t ≡ throughOf v (p .line + 1) done → (n : Now)
-            → VolumePromise c spool v start limit following d₀ (deskNow d₁ n) t
+            → VolumePromise c spool body v limit following d₀ (deskNow d₁ n) t
         turn-last h complete a done b t x n =
             any-now d₁ n t
             (subst
-            (VolumePromise c spool v start limit following d₀ d₁)
+            (VolumePromise c spool body v limit following d₀ d₁)
             (sym (x ∙ ap (throughOf v (p .line + 1)) (b ∙ ap (λ (y : Bool). lastStep y r) (a ∙ ap (completesOf (d .now) (f .form)) (i .2)))))
-            (ends-last c spool v start following limit d₀ p d (i .0) f q apart d₁ r judged h))
+            (ends-last c spool body v following limit d₀ p d (i .0) f q apart d₁ r judged h))

@@ -92,7 +92,7 @@ pub seen-long : (n : Now) (t : List ℤ) (limit : ℕ) (table : List ℤ) → Se
 seen-long n t limit table (whole e l) = l
 seen-long n t limit table (apart a l h o) = l
 
-module _ (c : Digits) (spool : List ℕ) (v : Volume) (following : List ℕ) (limit : ℕ) where
+module _ (c : Digits) (spool body : List ℕ) (v : Volume) (following : List ℕ) (limit : ℕ) where
   abbrev k : ℕ
   k = v .number
 
@@ -100,7 +100,7 @@ module _ (c : Digits) (spool : List ℕ) (v : Volume) (following : List ℕ) (li
   pub record Gone (e : Env) (st₀ : State) (p₀ : Pos) (lines : List (List ℕ)) (more : List Line) (p : Pos) (d : Desk) : Type 0 where
     pub state : State
     pub rest : List (List ℕ)
-    pub at : At spool v p rest
+    pub at : At spool body v p rest
     pub some : isNil rest ≡ false
     pub table : List ℤ
     pub seen : Seen (d .now) (d .table) limit table
@@ -111,15 +111,15 @@ module _ (c : Digits) (spool : List ℕ) (v : Volume) (following : List ℕ) (li
   whereOf p f = record { volume = v .number; line = p .line + 1; ends = isNil following && f .last }
 
   -- the next line
-  module _ (e : Env) (st₀ : State) (p₀ : Pos) (lines : List (List ℕ)) (more : List Line) (p : Pos) (d : Desk) (g : Gone e st₀ p₀ lines more p d) (f : SeenLine) (q : f ≡ seenFrom spool v p) where
+  module _ (e : Env) (st₀ : State) (p₀ : Pos) (lines : List (List ℕ)) (more : List Line) (p : Pos) (d : Desk) (g : Gone e st₀ p₀ lines more p d) (f : SeenLine) (q : f ≡ seenFrom body v p) where
     abbrev next-line : Line
     next-line = seenLine spool v following p f
 
-    next-passed : Passed spool v p (g .rest) f
-    next-passed = passed-line spool v p (g .rest) f q (g .at) (g .some)
+    next-passed : Passed spool body v p (g .rest) f
+    next-passed = passed-line spool body v p (g .rest) f q (g .at) (g .some)
 
-    next-is : Next spool v p (g .rest) f
-    next-is = subst (λ (y : SeenLine). Next spool v p (g .rest) y) (sym q) (next-seen spool v p (g .rest) (g .at) (g .some))
+    next-is : Next spool body v p (g .rest) f
+    next-is = subst (λ (y : SeenLine). Next spool body v p (g .rest) y) (sym q) (next-seen spool body v p (g .rest) (g .at) (g .some))
 
     pub line-here : LineHere spool k (p .at) (f .next) (f .form) (whereOf p f) next-line
     line-here =
@@ -131,19 +131,19 @@ module _ (c : Digits) (spool : List ℕ) (v : Volume) (following : List ℕ) (li
           ends = refl;
           is = refl;
           bytes = omega (arith, size, y .next);
-          most = omega (arith, next-passed .at .here, next-passed .at .inside, next-passed .at .short);
+          most = omega (arith, next-passed .at .here, next-passed .at .part .inside, next-passed .at .short);
         }
 
     pub line-formed : PlacedForm (next-line .form)
-    line-formed = line-placed spool v p (g .rest) f next-is
+    line-formed = line-placed spool body v p (g .rest) f next-is
 
-  module _ (e : Env) (st₀ : State) (p₀ : Pos) (lines : List (List ℕ)) (more : List Line) (p : Pos) (d d₁ : Desk) (g : Gone e st₀ p₀ lines more p d) (f : SeenLine) (q : f ≡ seenFrom spool v p)
+  module _ (e : Env) (st₀ : State) (p₀ : Pos) (lines : List (List ℕ)) (more : List Line) (p : Pos) (d d₁ : Desk) (g : Gone e st₀ p₀ lines more p d) (f : SeenLine) (q : f ≡ seenFrom body v p)
       (u : Under c (deskTable d (g .table)) e) (r : Step) (promise : LinePromise c spool k (f .form) (whereOf p f) limit d d₁ following r) where
     abbrev l : Line
     l = seenLine spool v following p f
 
-    pub passed : Passed spool v p (g .rest) f
-    passed = passed-line spool v p (g .rest) f q (g .at) (g .some)
+    pub passed : Passed spool body v p (g .rest) f
+    passed = passed-line spool body v p (g .rest) f q (g .at) (g .some)
 
     -- the table behind the line
     pub given : (table₁ : List ℤ) × StepOut c spool k (InFile spool k) e l (f .next) (g .state) (deskTable d₁ table₁) r × SeenBy r (d₁ .table) limit table₁
@@ -189,7 +189,7 @@ module _ (c : Digits) (spool : List ℕ) (v : Volume) (following : List ℕ) (li
           ∙ step-refused e (g .state) l (todo v following (past p f) (passed .others) more) n h (subst (StepOut c spool k (InFile spool k) e l (f .next) (g .state) (deskTable d₁ table₁)) a out)
 
       -- a block was skipped
-      pub skipped-on : (n : Now) → r ≡ S.Skip n → (q′ : Pos) → SkipMet spool v (past p f) 4 (L.Go q′) → Gone e st₀ p₀ lines more q′ (deskNow d₁ n)
+      pub skipped-on : (n : Now) → r ≡ S.Skip n → (q′ : Pos) → SkipMet spool body v (past p f) 4 (L.Go q′) → Gone e st₀ p₀ lines more q′ (deskNow d₁ n)
       skipped-on n a q′ m =
           let (s, j, fs, i, o, y, z) = subst (StepOut c spool k (InFile spool k) e l (f .next) (g .state) (deskTable d₁ table₁)) a out in
           let w = m .met (passed .others) (passed .at) some-left in
@@ -204,7 +204,7 @@ module _ (c : Digits) (spool : List ℕ) (v : Volume) (following : List ℕ) (li
             eq = todo-on ∙ step-on e (g .state) l (todo v following (past p f) (passed .others) more) (skipping s j fs i o 1) h y ∙ w .eq e s j fs i o following more;
           }
 
-      pub skip-stopped : (n : Now) → r ≡ S.Skip n → (x : Refusal) → SkipMet spool v (past p f) 4 (L.Stop x) → run e st₀ (todo v following p₀ lines more) ≡ refused (x .number) (x .volume) (x .line)
+      pub skip-stopped : (n : Now) → r ≡ S.Skip n → (x : Refusal) → SkipMet spool body v (past p f) 4 (L.Stop x) → run e st₀ (todo v following p₀ lines more) ≡ refused (x .number) (x .volume) (x .line)
       skip-stopped n a x m =
           let (s, j, fs, i, o, y, z) = subst (StepOut c spool k (InFile spool k) e l (f .next) (g .state) (deskTable d₁ table₁)) a out in
           let w = m .met (passed .others) (passed .at) some-left in

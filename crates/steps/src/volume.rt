@@ -143,13 +143,13 @@ fn closed(v: Volume, line: u32, did: Step) -> Through
     }
 }
 
-// A volume, from its first line to its last.
+// A volume, from its first line to its last: `body` is its part of the spool. The spool is lent beside it, for names that stand elsewhere.
 pub fn read_volume(
     s: &[u8],
+    body: &[u8],
     following: &[u8],
     class: Digits,
     v: Volume,
-    start: u32,
     begin: Now,
     tally: &mut [u32],
     symbols: &mut [u32],
@@ -163,15 +163,15 @@ pub fn read_volume(
     limit: usize,
     t: &mut [i64],
 ) -> Through
-    requires { ⌜ VolumeReady class (now s) v start limit (desk begin (now tally) (now symbols) (now layers) (now serials) (now used) (now «used_all») (now marks) (now inner) (now header) (now t)) ⌝ }
-    ensures { λ r. ⌜ VolumePromise class (now (s .entry)) v start limit (now (following .entry)) (desk begin (now (tally .entry)) (now (symbols .entry)) (now (layers .entry)) (now (serials .entry)) (now (used .entry)) (now («used_all» .entry)) (now (marks .entry)) (now (inner .entry)) (now (header .entry)) (now (t .entry))) (desk begin (now (tally .exit)) (now (symbols .exit)) (now (layers .exit)) (now (serials .exit)) (now (used .exit)) (now («used_all» .exit)) (now (marks .exit)) (now (inner .exit)) (now (header .exit)) (now (t .exit))) r ⌝ }
+    requires { ⌜ VolumeReady class (now s) (now body) v limit (desk begin (now tally) (now symbols) (now layers) (now serials) (now used) (now «used_all») (now marks) (now inner) (now header) (now t)) ⌝ }
+    ensures { λ r. ⌜ VolumePromise class (now (s .entry)) (now (body .entry)) v limit (now (following .entry)) (desk begin (now (tally .entry)) (now (symbols .entry)) (now (layers .entry)) (now (serials .entry)) (now (used .entry)) (now («used_all» .entry)) (now (marks .entry)) (now (inner .entry)) (now (header .entry)) (now (t .entry))) (desk begin (now (tally .exit)) (now (symbols .exit)) (now (layers .exit)) (now (serials .exit)) (now (used .exit)) (now («used_all» .exit)) (now (marks .exit)) (now (inner .exit)) (now (header .exit)) (now (t .exit))) r ⌝ }
 {
     let mut here = begin;
-    let mut at = start;
+    let mut at = v.at;
     let mut line = 0;
     let last_volume = following.len() == 0;
     loop {
-        let seen = next_line(s, v, Pos { at: at, line: line });
+        let seen = next_line(body, v, Pos { at: at, line: line });
         let form = seen.form;
         if seen.next == at {
             return refused(v, 9, line);
@@ -212,7 +212,7 @@ pub fn read_volume(
             }
             Step::Skip(n) => {
                 here = n;
-                let left = skip_block(s, v, Pos { at: at, line: line }, 4);
+                let left = skip_block(s, body, v, Pos { at: at, line: line }, 4);
                 match left {
                     Left::Go(q) => {
                         at = q.at;

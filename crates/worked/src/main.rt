@@ -397,7 +397,7 @@ fn show_next(next: Next) {
 fn in_text(shown: &[u8], line: &[u8])
     requires { ⌜ length (now line) ≤ 61440 ⌝ }
 {
-    let seen = look(line, 0, line.len() as u32, 1, 1);
+    let seen = look(line, 0, 0, 1, 1);
     let Look::Line(found) = seen else {
         return;
     };

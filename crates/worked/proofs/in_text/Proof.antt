@@ -6,9 +6,6 @@ use borrow.Author.Needs.{needs}
 use Rattle.worked.proofs.in_text.Statement.{statement}
 use Rattle.worked.proofs.in_text.Tie as tie
 
-cast-look : tie.Need-cast-look
-cast-look c = search needs
-
 look-requires : tie.Need-look-requires
 look-requires c κs = search needs
 
@@ -56,7 +53,6 @@ pub in-text-spec : {M : Type 1} → statement M
 in-text-spec =
     tie.close
     (tie.spec
-    cast-look
     look-requires
     enum-known-seen
     enum-told

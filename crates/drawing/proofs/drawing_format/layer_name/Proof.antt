@@ -4,7 +4,7 @@ use borrow.Author.Tests.{not-true, not-false}
 use Rattle.rules.specs.Lines.{freeShapeOf}
 use Rattle.entries.specs.Shapes.{restIn}
 use Rattle.entries.specs.declared.Shape.the-variants as P
-use Rattle.drawing.proofs.DrawingSteps.{name-is, name-long, name-short, name-fits}
+use Rattle.drawing.proofs.DrawingSteps.{name-is, name-long, name-short, ruled, name-fits}
 use borrow.Author.Needs.{needs}
 use Rattle.drawing.proofs.drawing_format.layer_name.Statement.{statement}
 use Rattle.drawing.proofs.drawing_format.layer_name.Tie as tie
@@ -24,14 +24,17 @@ enum-known-shape c = search needs
 part-requires : tie.Need-part-requires
 part-requires c κs = search needs
 
+text-rule-requires : tie.Need-text-rule-requires
+text-rule-requires c κs = search needs
+
 fits-requires : tie.Need-fits-requires
 fits-requires c κs = search needs
 
 returns : tie.Need-returns
-returns c = name-long (c .before .before .before .before .before .before .before .before .args .s .now) (freeShapeOf (restIn (c .before .before .before .before .before .before .before .before .args .s .now) (c .before .before .before .before .before .before .before .before .args .rest))) _ (c .before .before .before .before .before .before .shape-for .ensures) _ _ (c .before .before .before .before .shape .given .1) (c .before .before .part .ensures) (sym (c .before .fits2 .ensures) ∙ not-true _ (c .if1 .taken))
+returns c = name-long (c .before .before .before .before .before .before .before .before .before .args .s .now) (freeShapeOf (restIn (c .before .before .before .before .before .before .before .before .before .args .s .now) (c .before .before .before .before .before .before .before .before .before .args .rest))) _ (c .before .before .before .before .before .before .before .shape-for .ensures) _ _ (c .before .before .before .before .before .shape .given .1) (c .before .before .before .part .ensures) (sym (ruled (c .before .before .before .part .result .now) _ _ (c .before .before .text-rule .ensures) (c .before .fits2 .ensures)) ∙ not-true _ (c .if1 .taken))
 
-cast-t11 : tie.Need-cast-t11
-cast-t11 c = let h = name-fits (c .before .before .part .result .now) (sym (c .before .fits2 .ensures) ∙ not-false _ (c .if1 .left)) in record { fits = omega (arith, h) }
+cast-t12 : tie.Need-cast-t12
+cast-t12 c = let h = name-fits (c .before .before .before .part .result .now) (sym (ruled (c .before .before .before .part .result .now) _ _ (c .before .before .text-rule .ensures) (c .before .fits2 .ensures)) ∙ not-false _ (c .if1 .left)) in record { fits = omega (arith, h) }
 
 enum-told-3 : tie.Need-enum-told-3
 enum-told-3 c = search needs
@@ -46,7 +49,7 @@ returns-3 : tie.Need-returns-3
 returns-3 c = name-is (c .before .before .before .before .args .s .now) (freeShapeOf (restIn (c .before .before .before .before .args .s .now) (c .before .before .before .before .args .rest))) _ (c .before .before .shape-for .ensures) P.NoContent _ (c .enum-told2 .given .1) refl
 
 returns-4 : tie.Need-returns-4
-returns-4 c = name-short (c .before .before .before .before .before .before .before .before .args .s .now) (freeShapeOf (restIn (c .before .before .before .before .before .before .before .before .args .s .now) (c .before .before .before .before .before .before .before .before .args .rest))) _ (c .before .before .before .before .before .before .shape-for .ensures) _ _ (c .before .before .before .before .shape .given .1) (c .before .before .part .ensures) (sym (c .before .fits2 .ensures) ∙ not-false _ (c .if1 .left))
+returns-4 c = name-short (c .before .before .before .before .before .before .before .before .before .args .s .now) (freeShapeOf (restIn (c .before .before .before .before .before .before .before .before .before .args .s .now) (c .before .before .before .before .before .before .before .before .before .args .rest))) _ (c .before .before .before .before .before .before .before .shape-for .ensures) _ _ (c .before .before .before .before .before .shape .given .1) (c .before .before .before .part .ensures) (sym (ruled (c .before .before .before .part .result .now) _ _ (c .before .before .text-rule .ensures) (c .before .fits2 .ensures)) ∙ not-false _ (c .if1 .left))
 
 returns-5 : tie.Need-returns-5
 returns-5 c = name-is (c .before .before .before .before .args .s .now) (freeShapeOf (restIn (c .before .before .before .before .args .s .now) (c .before .before .before .before .args .rest))) _ (c .before .before .shape-for .ensures) (P.Opening _) _ (c .enum-told3 .given .1) refl
@@ -63,9 +66,10 @@ layer-name-spec =
     enum-told-2
     enum-known-shape
     part-requires
+    text-rule-requires
     fits-requires
     returns
-    cast-t11
+    cast-t12
     enum-told-3
     enum-told-4
     returns-2

@@ -17,10 +17,10 @@ enum-told : tie.Need-enum-told
 enum-told c = search needs
 
 returns : tie.Need-returns
-returns c = seen-end (c .before .before .before .before .before .args .s .now) (c .before .before .before .before .before .args .v) (c .before .before .before .before .before .args .p) (sym (c .before .before .look .ensures) ∙ c .enum-told .given .1)
+returns c = seen-end (c .before .before .before .before .before .args .body .now) (c .before .before .before .before .before .args .v) (c .before .before .before .before .before .args .p) (sym (c .before .before .look .ensures) ∙ c .enum-told .given .1)
 
 returns-2 : tie.Need-returns-2
-returns-2 c = seen-line (c .before .before .before .before .before .before .args .s .now) (c .before .before .before .before .before .before .args .v) (c .before .before .before .before .before .before .args .p) _ (sym (c .before .before .before .look .ensures) ∙ c .before .seen .given .1)
+returns-2 c = seen-line (c .before .before .before .before .before .before .args .body .now) (c .before .before .before .before .before .before .args .v) (c .before .before .before .before .before .before .args .p) _ (sym (c .before .before .before .look .ensures) ∙ c .before .seen .given .1)
 
 pub next-line-spec : {M : Type 1} → statement M
 next-line-spec =

@@ -5,19 +5,20 @@ use Prim.Native.Nat.{suc, _+_, _-_}
 use mathlib.Core.Bool.{cond}
 use borrow.Author.Needs.{needs}
 use native.Mathlib.Omega.{arith}
+use lib.ListN.{length}
 use Rattle.pens.proofs.VolumeWalk.{Walk, walk-begins, walk-ends, walk-on, walk-short, fewer-none, fewer}
 use Rattle.pens.proofs.VolumeEnd.{body-promise, body-short, body-wrote, body-unwrote}
 use Rattle.pens.proofs.volumes.put_body.Statement.{statement}
 use Rattle.pens.proofs.volumes.put_body.Tie as tie
 
 abbrev Inv-loop : tie.InvT-loop
-Inv-loop s start end first notes₀ out₀ pen₀ at₀ going₀ t15 notes out pen at going = Walk s start end first out₀ pen at going notes out
+Inv-loop s body start first notes₀ out₀ pen₀ at₀ going₀ t15 notes out pen at going = Walk s body start first out₀ pen at going notes out
 
 abbrev μ-loop : tie.MeasureT-loop
-μ-loop s start end first notes₀ out₀ pen₀ at₀ going₀ t15 notes out pen at going = cond going (suc (end + 3 - at)) 0
+μ-loop s body start first notes₀ out₀ pen₀ at₀ going₀ t15 notes out pen at going = cond going (suc (start + length body + 3 - at)) 0
 
 loop-holds : tie.Need-loop-holds Inv-loop μ-loop
-loop-holds c = walk-begins _ _ _ _ _ _ (c .before .before .before .pre)
+loop-holds c = walk-begins _ _ _ _ _ _ (c .before .before .before .before .pre)
 
 look-requires : tie.Need-look-requires Inv-loop μ-loop
 look-requires c κs = search needs
@@ -26,7 +27,7 @@ enum-told : tie.Need-enum-told Inv-loop μ-loop
 enum-told c = search needs
 
 loop-less : tie.Need-loop-less Inv-loop μ-loop
-loop-less c = fewer-none (c .before .before .before .before .before .before .before .before .args .end) (c .before .before .before .before .loop .at) (c .before .before .before .before .loop .going) (c .before .before .before .loop-test .taken)
+loop-less c = fewer-none (c .before .before .before .before .before .before .before .before .before .args .start + length (c .before .before .before .before .before .before .before .before .before .args .body .now)) (c .before .before .before .before .loop .at) (c .before .before .before .before .loop .going) (c .before .before .before .loop-test .taken)
 
 loop-again : tie.Need-loop-again Inv-loop μ-loop
 loop-again c = walk-ends _ _ _ _ _ _ _ _ _ _ (c .before .before .before .before .loop .inv) (sym (c .before .before .look .ensures) ∙ c .enum-told .given .1)
@@ -44,7 +45,7 @@ enum-told-2 : tie.Need-enum-told-2 Inv-loop μ-loop
 enum-told-2 c = search needs
 
 same-length : tie.Need-same-length Inv-loop μ-loop
-same-length c = c .before .before .before .before .before .before .on-line .ensures .1 ∙ sym (c .before .before .before .before .before .before .before .before .before .before .before .before .before .before .before .before .before .before .pre)
+same-length c = c .before .before .before .before .before .before .on-line .ensures .1 ∙ sym (c .before .before .before .before .before .before .before .before .before .before .before .before .before .before .before .before .before .before .before .pre)
 
 same-length-2 : tie.Need-same-length-2 Inv-loop μ-loop
 same-length-2 c = c .before .before .before .before .before .before .on-line .ensures .0 .long ∙ c .before .before .before .before .before .before .before .before .before .before .before .before .before .before .loop .inv .long
@@ -58,7 +59,7 @@ returns c = (
 )
 
 loop-less-2 : tie.Need-loop-less-2 Inv-loop μ-loop
-loop-less-2 c = fewer (c .before .before .before .before .before .before .before .before .before .before .before .before .before .before .before .before .before .before .before .before .args .s .now) (c .before .before .before .before .before .before .before .before .before .before .before .before .before .before .before .before .before .before .before .before .args .end) (c .before .before .before .before .before .before .before .before .before .before .before .before .before .before .before .before .loop .at) (c .before .before .before .before .before .before .before .before .before .before .before .before .before .before .before .before .loop .going) (c .before .before .before .before .before .before .before .before .before .before .before .before .seen .given .0 .0) (c .before .before .before .before .before .before .before .before .before .before .before .before .before .before .before .loop-test .taken) (sym (c .before .before .before .before .before .before .before .before .before .before .before .before .before .before .look .ensures) ∙ c .before .before .before .before .before .before .before .before .before .before .before .before .seen .given .1)
+loop-less-2 c = fewer (c .before .before .before .before .before .before .before .before .before .before .before .before .before .before .before .before .before .before .before .before .before .args .body .now) (c .before .before .before .before .before .before .before .before .before .before .before .before .before .before .before .before .before .before .before .before .before .args .start) (c .before .before .before .before .before .before .before .before .before .before .before .before .before .before .before .before .loop .at) (c .before .before .before .before .before .before .before .before .before .before .before .before .before .before .before .before .loop .going) (c .before .before .before .before .before .before .before .before .before .before .before .before .seen .given .0 .0) (c .before .before .before .before .before .before .before .before .before .before .before .before .before .before .before .loop-test .taken) (sym (c .before .before .before .before .before .before .before .before .before .before .before .before .before .before .look .ensures) ∙ c .before .before .before .before .before .before .before .before .before .before .before .before .seen .given .1)
 
 loop-again-2 : tie.Need-loop-again-2 Inv-loop μ-loop
 loop-again-2 c = walk-on _ _ _ _ _ _ _ _ _ _ (c .before .before .before .before .before .before .before .before .before .before .before .before .before .before .before .before .loop .inv) (c .before .before .before .before .before .before .before .before .before .before .before .before .seen .given .0 .0) (sym (c .before .before .before .before .before .before .before .before .before .before .before .before .before .before .look .ensures) ∙ c .before .before .before .before .before .before .before .before .before .before .before .before .seen .given .1) _ _ _ (c .before .before .before .before .before .before .before .before .on-line .ensures .2) _ (c .before .before .p .given .1) (c .before .before .before .before .before .before .before .before .on-line .ensures .0 .long) (c .before .before .before .before .before .before .before .before .on-line .ensures .1) (c .before .before .before .before .before .before .before .before .on-line .ensures .0 .safe)
@@ -85,7 +86,7 @@ enum-told-3 : tie.Need-enum-told-3 Inv-loop μ-loop
 enum-told-3 c = search needs
 
 same-length-3 : tie.Need-same-length-3 Inv-loop μ-loop
-same-length-3 c = c .before .before .before .before .before .before .before .before .loop .inv .many ∙ sym (c .before .before .before .before .before .before .before .before .before .before .before .before .pre)
+same-length-3 c = c .before .before .before .before .before .before .before .before .loop .inv .many ∙ sym (c .before .before .before .before .before .before .before .before .before .before .before .before .before .pre)
 
 same-length-4 : tie.Need-same-length-4 Inv-loop μ-loop
 same-length-4 c = put-long (c .before .before .before .before .before .before .before .before .loop .pen .at) (c .before .before .before .before .before .before .before .before .loop .out) (c .before .before .before .before .before .before .before .before .loop .inv .safe .within) _ _ _ (c .before .before .before .before .put .ensures) ∙ c .before .before .before .before .before .before .before .before .loop .inv .long
@@ -101,7 +102,7 @@ add-t27 : tie.Need-add-t27 Inv-loop μ-loop
 add-t27 c = omega (arith, put-room (c .before .before .before .before .before .before .before .before .before .loop .pen .at) (c .before .before .before .before .before .before .before .before .before .loop .out) (c .before .before .before .before .before .before .before .before .before .loop .inv .safe .within) _ _ _ _ (c .before .before .before .before .before .put .ensures) (c .before .n .given .1), c .before .before .before .before .before .before .before .before .before .loop .inv .long)
 
 same-length-5 : tie.Need-same-length-5 Inv-loop μ-loop
-same-length-5 c = c .before .before .before .before .before .before .before .before .before .loop .inv .many ∙ sym (c .before .before .before .before .before .before .before .before .before .before .before .before .before .pre)
+same-length-5 c = c .before .before .before .before .before .before .before .before .before .loop .inv .many ∙ sym (c .before .before .before .before .before .before .before .before .before .before .before .before .before .before .pre)
 
 same-length-6 : tie.Need-same-length-6 Inv-loop μ-loop
 same-length-6 c = put-long (c .before .before .before .before .before .before .before .before .before .loop .pen .at) (c .before .before .before .before .before .before .before .before .before .loop .out) (c .before .before .before .before .before .before .before .before .before .loop .inv .safe .within) _ _ _ (c .before .before .before .before .before .put .ensures) ∙ c .before .before .before .before .before .before .before .before .before .loop .inv .long

@@ -7,7 +7,7 @@ use Rattle.lines.specs.VolumePlaces.{layout}
 use Rattle.standing.specs.Standing.{desk}
 use Rattle.sets.proofs.SetRunVolumes.{unsound-few}
 use Rattle.sets.proofs.SetRunStart.{none-used}
-use Rattle.sets.proofs.SetRun.{Came, came-none, came-unsound, came-first, count-few, tally-long, end-few, volume-ready, stops, goes, accepts, counts-records, lays-records, few-records}
+use Rattle.sets.proofs.SetRun.{Came, came-none, came-unsound, came-first, count-few, tally-long, volume-ready, stops, goes, accepts, counts-records, lays-records, few-records}
 use Rattle.sets.proofs.reader.read_set.Statement.{statement}
 use Rattle.sets.proofs.reader.read_set.Tie as tie
 
@@ -31,8 +31,8 @@ returns c = came-none (c .before .before .before .before .args .class) (c .befor
 first-unsound-requires : tie.Need-first-unsound-requires Inv-loop μ-loop
 first-unsound-requires c κs = search needs
 
-cast-t28 : tie.Need-cast-t28 Inv-loop μ-loop
-cast-t28 c = omega (arith, unsound-few (c .before .before .before .before .before .before .args .s .now) (c .before .before .before .before .volumes .result) (c .before .first-unsound .result) (c .before .first-unsound .ensures))
+cast-t30 : tie.Need-cast-t30 Inv-loop μ-loop
+cast-t30 c = omega (arith, unsound-few (c .before .before .before .before .before .before .args .s .now) (c .before .before .before .before .volumes .result) (c .before .first-unsound .result) (c .before .first-unsound .ensures))
 
 returns-2 : tie.Need-returns-2 Inv-loop μ-loop
 returns-2 c = came-unsound (c .before .before .before .before .before .before .args .class) (c .before .before .before .before .before .before .args .s .now) (c .before .before .before .before .before .before .args .limit) (length (c .before .before .before .before .before .before .args .t .now)) (c .before .before .before .before .volumes .result) (c .before .before .before .before .volumes .ensures) (c .before .before .if1 .left) (c .before .first-unsound .result) (c .before .first-unsound .ensures) (c .if2 .taken)
@@ -46,35 +46,29 @@ loop-holds c = came-first (c .before .before .before .before .before .before .be
 name-behind-requires : tie.Need-name-behind-requires Inv-loop μ-loop
 name-behind-requires c κs = (count-few (c .before .before .before .before .before .before .before .before .before .before .before .args .class) (c .before .before .before .before .before .before .before .before .before .before .before .args .s .now) (c .before .before .before .before .before .before .before .before .before .before .before .args .limit) (length (c .before .before .before .before .before .before .before .before .before .before .before .args .t .now)) (c .before .before .before .before .before .before .before .before .before .volumes .result) (c .before .loop .i) (desk (c .before .loop .here) (c .before .loop .tally) (c .before .loop .symbols) (c .before .loop .layers) (c .before .loop .serials) (c .before .loop .used) (c .before .loop .used-all) (c .before .loop .marks) (c .before .loop .inner) (c .before .loop .header) (c .before .loop .t)) (c .before .loop .inv), (c .loop-test .taken))
 
-cast-t32 : tie.Need-cast-t32 Inv-loop μ-loop
-cast-t32 c = omega (arith, (count-few (c .before .before .before .before .before .before .before .before .before .before .before .before .args .class) (c .before .before .before .before .before .before .before .before .before .before .before .before .args .s .now) (c .before .before .before .before .before .before .before .before .before .before .before .before .args .limit) (length (c .before .before .before .before .before .before .before .before .before .before .before .before .args .t .now)) (c .before .before .before .before .before .before .before .before .before .before .volumes .result) (c .before .before .loop .i) (desk (c .before .before .loop .here) (c .before .before .loop .tally) (c .before .before .loop .symbols) (c .before .before .loop .layers) (c .before .before .loop .serials) (c .before .before .loop .used) (c .before .before .loop .used-all) (c .before .before .loop .marks) (c .before .before .loop .inner) (c .before .before .loop .header) (c .before .before .loop .t)) (c .before .before .loop .inv)), (c .before .loop-test .taken))
+mul-start : tie.Need-mul-start Inv-loop μ-loop
+mul-start c = search needs
 
-add-t33 : tie.Need-add-t33 Inv-loop μ-loop
-add-t33 c = omega (arith, (count-few (c .before .before .before .before .before .before .before .before .before .before .before .before .args .class) (c .before .before .before .before .before .before .before .before .before .before .before .before .args .s .now) (c .before .before .before .before .before .before .before .before .before .before .before .before .args .limit) (length (c .before .before .before .before .before .before .before .before .before .before .before .before .args .t .now)) (c .before .before .before .before .before .before .before .before .before .before .volumes .result) (c .before .before .loop .i) (desk (c .before .before .loop .here) (c .before .before .loop .tally) (c .before .before .loop .symbols) (c .before .before .loop .layers) (c .before .before .loop .serials) (c .before .before .loop .used) (c .before .before .loop .used-all) (c .before .before .loop .marks) (c .before .before .loop .inner) (c .before .before .loop .header) (c .before .before .loop .t)) (c .before .before .loop .inv)), (c .before .loop-test .taken))
+array-read-start : tie.Need-array-read-start Inv-loop μ-loop
+array-read-start c = omega (arith, (count-few (c .before .before .before .before .before .before .before .before .before .before .before .before .args .class) (c .before .before .before .before .before .before .before .before .before .before .before .before .args .s .now) (c .before .before .before .before .before .before .before .before .before .before .before .before .args .limit) (length (c .before .before .before .before .before .before .before .before .before .before .before .before .args .t .now)) (c .before .before .before .before .before .before .before .before .before .before .volumes .result) (c .before .before .loop .i) (desk (c .before .before .loop .here) (c .before .before .loop .tally) (c .before .before .loop .symbols) (c .before .before .loop .layers) (c .before .before .loop .serials) (c .before .before .loop .used) (c .before .before .loop .used-all) (c .before .before .loop .marks) (c .before .before .loop .inner) (c .before .before .loop .header) (c .before .before .loop .t)) (c .before .before .loop .inv)), (c .before .loop-test .taken))
 
-mul-read-volume : tie.Need-mul-read-volume Inv-loop μ-loop
-mul-read-volume c = search needs
+mul-t34 : tie.Need-mul-t34 Inv-loop μ-loop
+mul-t34 c = search needs
 
-array-read-read-volume : tie.Need-array-read-read-volume Inv-loop μ-loop
-array-read-read-volume c = omega (arith, (count-few (c .before .before .before .before .before .before .before .before .before .before .before .before .args .class) (c .before .before .before .before .before .before .before .before .before .before .before .before .args .s .now) (c .before .before .before .before .before .before .before .before .before .before .before .before .args .limit) (length (c .before .before .before .before .before .before .before .before .before .before .before .before .args .t .now)) (c .before .before .before .before .before .before .before .before .before .before .volumes .result) (c .before .before .loop .i) (desk (c .before .before .loop .here) (c .before .before .loop .tally) (c .before .before .loop .symbols) (c .before .before .loop .layers) (c .before .before .loop .serials) (c .before .before .loop .used) (c .before .before .loop .used-all) (c .before .before .loop .marks) (c .before .before .loop .inner) (c .before .before .loop .header) (c .before .before .loop .t)) (c .before .before .loop .inv)), (c .before .loop-test .taken))
+array-read-t37 : tie.Need-array-read-t37 Inv-loop μ-loop
+array-read-t37 c = omega (arith, (count-few (c .before .before .before .before .before .before .before .before .before .before .before .before .args .class) (c .before .before .before .before .before .before .before .before .before .before .before .before .args .s .now) (c .before .before .before .before .before .before .before .before .before .before .before .before .args .limit) (length (c .before .before .before .before .before .before .before .before .before .before .before .before .args .t .now)) (c .before .before .before .before .before .before .before .before .before .before .volumes .result) (c .before .before .loop .i) (desk (c .before .before .loop .here) (c .before .before .loop .tally) (c .before .before .loop .symbols) (c .before .before .loop .layers) (c .before .before .loop .serials) (c .before .before .loop .used) (c .before .before .loop .used-all) (c .before .before .loop .marks) (c .before .before .loop .inner) (c .before .before .loop .header) (c .before .before .loop .t)) (c .before .before .loop .inv)), (c .before .loop-test .taken))
 
-mul-read-volume-2 : tie.Need-mul-read-volume-2 Inv-loop μ-loop
-mul-read-volume-2 c = search needs
+part-requires : tie.Need-part-requires Inv-loop μ-loop
+part-requires c κs = search needs
 
-array-read-read-volume-2 : tie.Need-array-read-read-volume-2 Inv-loop μ-loop
-array-read-read-volume-2 c = omega (arith, (count-few (c .before .before .before .before .before .before .before .before .before .before .before .before .args .class) (c .before .before .before .before .before .before .before .before .before .before .before .before .args .s .now) (c .before .before .before .before .before .before .before .before .before .before .before .before .args .limit) (length (c .before .before .before .before .before .before .before .before .before .before .before .before .args .t .now)) (c .before .before .before .before .before .before .before .before .before .before .volumes .result) (c .before .before .loop .i) (desk (c .before .before .loop .here) (c .before .before .loop .tally) (c .before .before .loop .symbols) (c .before .before .loop .layers) (c .before .before .loop .serials) (c .before .before .loop .used) (c .before .before .loop .used-all) (c .before .before .loop .marks) (c .before .before .loop .inner) (c .before .before .loop .header) (c .before .before .loop .t)) (c .before .before .loop .inv)), (c .before .loop-test .taken))
+cast-t41 : tie.Need-cast-t41 Inv-loop μ-loop
+cast-t41 c = omega (arith, (count-few (c .before .before .before .before .before .before .before .before .before .before .before .before .before .args .class) (c .before .before .before .before .before .before .before .before .before .before .before .before .before .args .s .now) (c .before .before .before .before .before .before .before .before .before .before .before .before .before .args .limit) (length (c .before .before .before .before .before .before .before .before .before .before .before .before .before .args .t .now)) (c .before .before .before .before .before .before .before .before .before .before .before .volumes .result) (c .before .before .before .loop .i) (desk (c .before .before .before .loop .here) (c .before .before .before .loop .tally) (c .before .before .before .loop .symbols) (c .before .before .before .loop .layers) (c .before .before .before .loop .serials) (c .before .before .before .loop .used) (c .before .before .before .loop .used-all) (c .before .before .before .loop .marks) (c .before .before .before .loop .inner) (c .before .before .before .loop .header) (c .before .before .before .loop .t)) (c .before .before .before .loop .inv)), (c .before .before .loop-test .taken))
 
-add-read-volume : tie.Need-add-read-volume Inv-loop μ-loop
-add-read-volume c = omega (arith, end-few (c .before .before .before .before .before .before .before .before .before .before .before .before .args .class) (c .before .before .before .before .before .before .before .before .before .before .before .before .args .s .now) (c .before .before .before .before .before .before .before .before .before .before .before .before .args .limit) (length (c .before .before .before .before .before .before .before .before .before .before .before .before .args .t .now)) (c .before .before .before .before .before .before .before .before .before .before .volumes .result) (c .before .before .loop .i) (desk (c .before .before .loop .here) (c .before .before .loop .tally) (c .before .before .loop .symbols) (c .before .before .loop .layers) (c .before .before .loop .serials) (c .before .before .loop .used) (c .before .before .loop .used-all) (c .before .before .loop .marks) (c .before .before .loop .inner) (c .before .before .loop .header) (c .before .before .loop .t)) (c .before .before .loop .inv) (c .before .loop-test .taken))
-
-mul-read-volume-3 : tie.Need-mul-read-volume-3 Inv-loop μ-loop
-mul-read-volume-3 c = search needs
-
-array-read-read-volume-3 : tie.Need-array-read-read-volume-3 Inv-loop μ-loop
-array-read-read-volume-3 c = omega (arith, (count-few (c .before .before .before .before .before .before .before .before .before .before .before .before .args .class) (c .before .before .before .before .before .before .before .before .before .before .before .before .args .s .now) (c .before .before .before .before .before .before .before .before .before .before .before .before .args .limit) (length (c .before .before .before .before .before .before .before .before .before .before .before .before .args .t .now)) (c .before .before .before .before .before .before .before .before .before .before .volumes .result) (c .before .before .loop .i) (desk (c .before .before .loop .here) (c .before .before .loop .tally) (c .before .before .loop .symbols) (c .before .before .loop .layers) (c .before .before .loop .serials) (c .before .before .loop .used) (c .before .before .loop .used-all) (c .before .before .loop .marks) (c .before .before .loop .inner) (c .before .before .loop .header) (c .before .before .loop .t)) (c .before .before .loop .inv)), (c .before .loop-test .taken))
+add-t42 : tie.Need-add-t42 Inv-loop μ-loop
+add-t42 c = omega (arith, (count-few (c .before .before .before .before .before .before .before .before .before .before .before .before .before .args .class) (c .before .before .before .before .before .before .before .before .before .before .before .before .before .args .s .now) (c .before .before .before .before .before .before .before .before .before .before .before .before .before .args .limit) (length (c .before .before .before .before .before .before .before .before .before .before .before .before .before .args .t .now)) (c .before .before .before .before .before .before .before .before .before .before .before .volumes .result) (c .before .before .before .loop .i) (desk (c .before .before .before .loop .here) (c .before .before .before .loop .tally) (c .before .before .before .loop .symbols) (c .before .before .before .loop .layers) (c .before .before .before .loop .serials) (c .before .before .before .loop .used) (c .before .before .before .loop .used-all) (c .before .before .before .loop .marks) (c .before .before .before .loop .inner) (c .before .before .before .loop .header) (c .before .before .before .loop .t)) (c .before .before .before .loop .inv)), (c .before .before .loop-test .taken))
 
 slice-aggregate-read-volume : tie.Need-slice-aggregate-read-volume Inv-loop μ-loop
-slice-aggregate-read-volume c = search (needs, tally-long (c .before .before .before .before .before .before .before .before .before .before .before .before .before .args .class) (c .before .before .before .before .before .before .before .before .before .before .before .before .before .args .s .now) (c .before .before .before .before .before .before .before .before .before .before .before .before .before .args .limit) (length (c .before .before .before .before .before .before .before .before .before .before .before .before .before .args .t .now)) (c .before .before .before .before .before .before .before .before .before .before .before .volumes .result) (c .before .before .before .loop .i) (desk (c .before .before .before .loop .here) (c .before .before .before .loop .tally) (c .before .before .before .loop .symbols) (c .before .before .before .loop .layers) (c .before .before .before .loop .serials) (c .before .before .before .loop .used) (c .before .before .before .loop .used-all) (c .before .before .before .loop .marks) (c .before .before .before .loop .inner) (c .before .before .before .loop .header) (c .before .before .before .loop .t)) (c .before .before .before .loop .inv))
+slice-aggregate-read-volume c = search (needs, tally-long (c .before .before .before .before .before .before .before .before .before .before .before .before .before .before .args .class) (c .before .before .before .before .before .before .before .before .before .before .before .before .before .before .args .s .now) (c .before .before .before .before .before .before .before .before .before .before .before .before .before .before .args .limit) (length (c .before .before .before .before .before .before .before .before .before .before .before .before .before .before .args .t .now)) (c .before .before .before .before .before .before .before .before .before .before .before .before .volumes .result) (c .before .before .before .before .loop .i) (desk (c .before .before .before .before .loop .here) (c .before .before .before .before .loop .tally) (c .before .before .before .before .loop .symbols) (c .before .before .before .before .loop .layers) (c .before .before .before .before .loop .serials) (c .before .before .before .before .loop .used) (c .before .before .before .before .loop .used-all) (c .before .before .before .before .loop .marks) (c .before .before .before .before .loop .inner) (c .before .before .before .before .loop .header) (c .before .before .before .before .loop .t)) (c .before .before .before .before .loop .inv))
 
 slice-aggregate-read-volume-2 : tie.Need-slice-aggregate-read-volume-2 Inv-loop μ-loop
 slice-aggregate-read-volume-2 c = search needs
@@ -101,7 +95,7 @@ slice-aggregate-read-volume-9 : tie.Need-slice-aggregate-read-volume-9 Inv-loop 
 slice-aggregate-read-volume-9 c = search needs
 
 read-volume-requires : tie.Need-read-volume-requires Inv-loop μ-loop
-read-volume-requires c κs = volume-ready (c .before .before .before .before .before .before .before .before .before .before .before .before .before .before .before .before .before .before .before .before .before .before .args .class) (c .before .before .before .before .before .before .before .before .before .before .before .before .before .before .before .before .before .before .before .before .before .before .args .s .now) (c .before .before .before .before .before .before .before .before .before .before .before .before .before .before .before .before .before .before .before .before .before .before .args .limit) (length (c .before .before .before .before .before .before .before .before .before .before .before .before .before .before .before .before .before .before .before .before .before .before .args .t .now)) (c .before .before .before .before .before .before .before .before .before .before .before .before .before .before .before .before .before .before .before .before .volumes .result) (c .before .before .before .before .before .before .before .before .before .before .before .before .loop .i) (desk (c .before .before .before .before .before .before .before .before .before .before .before .before .loop .here) (c .before .before .before .before .before .before .before .before .before .before .before .before .loop .tally) (c .before .before .before .before .before .before .before .before .before .before .before .before .loop .symbols) (c .before .before .before .before .before .before .before .before .before .before .before .before .loop .layers) (c .before .before .before .before .before .before .before .before .before .before .before .before .loop .serials) (c .before .before .before .before .before .before .before .before .before .before .before .before .loop .used) (c .before .before .before .before .before .before .before .before .before .before .before .before .loop .used-all) (c .before .before .before .before .before .before .before .before .before .before .before .before .loop .marks) (c .before .before .before .before .before .before .before .before .before .before .before .before .loop .inner) (c .before .before .before .before .before .before .before .before .before .before .before .before .loop .header) (c .before .before .before .before .before .before .before .before .before .before .before .before .loop .t)) (c .before .before .before .before .before .before .before .before .before .before .before .before .loop .inv) (c .before .before .before .before .before .before .before .before .before .before .before .loop-test .taken)
+read-volume-requires c κs = volume-ready (c .before .before .before .before .before .before .before .before .before .before .before .before .before .before .before .before .before .before .before .before .before .before .before .args .class) (c .before .before .before .before .before .before .before .before .before .before .before .before .before .before .before .before .before .before .before .before .before .before .before .args .s .now) (c .before .before .before .before .before .before .before .before .before .before .before .before .before .before .before .before .before .before .before .before .before .before .before .args .limit) (length (c .before .before .before .before .before .before .before .before .before .before .before .before .before .before .before .before .before .before .before .before .before .before .before .args .t .now)) (c .before .before .before .before .before .before .before .before .before .before .before .before .before .before .before .before .before .before .before .before .before .volumes .result) (c .before .before .before .before .before .before .before .before .before .before .before .before .before .loop .i) (desk (c .before .before .before .before .before .before .before .before .before .before .before .before .before .loop .here) (c .before .before .before .before .before .before .before .before .before .before .before .before .before .loop .tally) (c .before .before .before .before .before .before .before .before .before .before .before .before .before .loop .symbols) (c .before .before .before .before .before .before .before .before .before .before .before .before .before .loop .layers) (c .before .before .before .before .before .before .before .before .before .before .before .before .before .loop .serials) (c .before .before .before .before .before .before .before .before .before .before .before .before .before .loop .used) (c .before .before .before .before .before .before .before .before .before .before .before .before .before .loop .used-all) (c .before .before .before .before .before .before .before .before .before .before .before .before .before .loop .marks) (c .before .before .before .before .before .before .before .before .before .before .before .before .before .loop .inner) (c .before .before .before .before .before .before .before .before .before .before .before .before .before .loop .header) (c .before .before .before .before .before .before .before .before .before .before .before .before .before .loop .t)) (c .before .before .before .before .before .before .before .before .before .before .before .before .before .loop .inv) (c .before .before .before .before .before .before .before .before .before .before .before .before .loop-test .taken) (c .before .before .before .before .before .before .before .before .before .before .part .result .now) (c .before .before .before .before .before .before .before .before .before .before .part .ensures)
 
 enum-known-r : tie.Need-enum-known-r Inv-loop μ-loop
 enum-known-r c = search needs
@@ -110,22 +104,22 @@ enum-known-r-2 : tie.Need-enum-known-r-2 Inv-loop μ-loop
 enum-known-r-2 c = search needs
 
 same-length : tie.Need-same-length Inv-loop μ-loop
-same-length c = search needs
+same-length c = c .before .before .before .before .before .before .before .before .before .before .before .before .before .read-volume .kept .1 .1 .1 .1 .1 .1 .1 .1 .1 .1 .1 .1 .1 .1 .1 .1 .0 ∙ c .before .before .before .before .before .before .before .before .before .before .before .before .before .before .before .before .before .before .before .before .before .before .before .before .before .before .before .loop .inv .long
 
 returns-3 : tie.Need-returns-3 Inv-loop μ-loop
-returns-3 c = stops (c .before .before .before .before .before .before .before .before .before .before .before .before .before .before .before .before .before .before .before .before .before .before .before .before .before .before .before .before .before .before .before .before .before .before .before .before .args .class) (c .before .before .before .before .before .before .before .before .before .before .before .before .before .before .before .before .before .before .before .before .before .before .before .before .before .before .before .before .before .before .before .before .before .before .before .before .args .s .now) (c .before .before .before .before .before .before .before .before .before .before .before .before .before .before .before .before .before .before .before .before .before .before .before .before .before .before .before .before .before .before .before .before .before .before .before .before .args .limit) (length (c .before .before .before .before .before .before .before .before .before .before .before .before .before .before .before .before .before .before .before .before .before .before .before .before .before .before .before .before .before .before .before .before .before .before .before .before .args .t .now)) (c .before .before .before .before .before .before .before .before .before .before .before .before .before .before .before .before .before .before .before .before .before .before .before .before .before .before .before .before .before .before .before .before .before .before .volumes .result) (c .before .before .before .before .before .before .before .before .before .before .before .before .before .before .before .before .before .before .before .before .before .before .before .before .before .before .loop .i) (desk (c .before .before .before .before .before .before .before .before .before .before .before .before .before .before .before .before .before .before .before .before .before .before .before .before .before .before .loop .here) (c .before .before .before .before .before .before .before .before .before .before .before .before .before .before .before .before .before .before .before .before .before .before .before .before .before .before .loop .tally) (c .before .before .before .before .before .before .before .before .before .before .before .before .before .before .before .before .before .before .before .before .before .before .before .before .before .before .loop .symbols) (c .before .before .before .before .before .before .before .before .before .before .before .before .before .before .before .before .before .before .before .before .before .before .before .before .before .before .loop .layers) (c .before .before .before .before .before .before .before .before .before .before .before .before .before .before .before .before .before .before .before .before .before .before .before .before .before .before .loop .serials) (c .before .before .before .before .before .before .before .before .before .before .before .before .before .before .before .before .before .before .before .before .before .before .before .before .before .before .loop .used) (c .before .before .before .before .before .before .before .before .before .before .before .before .before .before .before .before .before .before .before .before .before .before .before .before .before .before .loop .used-all) (c .before .before .before .before .before .before .before .before .before .before .before .before .before .before .before .before .before .before .before .before .before .before .before .before .before .before .loop .marks) (c .before .before .before .before .before .before .before .before .before .before .before .before .before .before .before .before .before .before .before .before .before .before .before .before .before .before .loop .inner) (c .before .before .before .before .before .before .before .before .before .before .before .before .before .before .before .before .before .before .before .before .before .before .before .before .before .before .loop .header) (c .before .before .before .before .before .before .before .before .before .before .before .before .before .before .before .before .before .before .before .before .before .before .before .before .before .before .loop .t)) (c .before .before .before .before .before .before .before .before .before .before .before .before .before .before .before .before .before .before .before .before .before .before .before .before .before .before .loop .inv) (c .before .before .before .before .before .before .before .before .before .before .before .before .before .before .before .before .before .before .before .before .before .before .before .before .before .loop-test .taken) (c .before .before .before .before .before .before .before .before .before .before .before .before .before .before .before .before .before .before .before .before .before .before .before .before .name-behind .result .now) (c .before .before .before .before .before .before .before .before .before .before .before .before .before .before .before .before .before .before .before .before .before .before .before .before .name-behind .ensures) _ (c .before .before .before .before .before .before .before .before .before .before .before .before .before .read-volume .result) (c .before .before .before .before .before .before .before .before .before .before .before .before .before .read-volume .ensures) (c .before .r2 .given .0 .0) (c .before .r2 .given .1)
+returns-3 c = stops (c .before .before .before .before .before .before .before .before .before .before .before .before .before .before .before .before .before .before .before .before .before .before .before .before .before .before .before .before .before .before .before .before .before .before .before .before .before .args .class) (c .before .before .before .before .before .before .before .before .before .before .before .before .before .before .before .before .before .before .before .before .before .before .before .before .before .before .before .before .before .before .before .before .before .before .before .before .before .args .s .now) (c .before .before .before .before .before .before .before .before .before .before .before .before .before .before .before .before .before .before .before .before .before .before .before .before .before .before .before .before .before .before .before .before .before .before .before .before .before .args .limit) (length (c .before .before .before .before .before .before .before .before .before .before .before .before .before .before .before .before .before .before .before .before .before .before .before .before .before .before .before .before .before .before .before .before .before .before .before .before .before .args .t .now)) (c .before .before .before .before .before .before .before .before .before .before .before .before .before .before .before .before .before .before .before .before .before .before .before .before .before .before .before .before .before .before .before .before .before .before .before .volumes .result) (c .before .before .before .before .before .before .before .before .before .before .before .before .before .before .before .before .before .before .before .before .before .before .before .before .before .before .before .loop .i) (desk (c .before .before .before .before .before .before .before .before .before .before .before .before .before .before .before .before .before .before .before .before .before .before .before .before .before .before .before .loop .here) (c .before .before .before .before .before .before .before .before .before .before .before .before .before .before .before .before .before .before .before .before .before .before .before .before .before .before .before .loop .tally) (c .before .before .before .before .before .before .before .before .before .before .before .before .before .before .before .before .before .before .before .before .before .before .before .before .before .before .before .loop .symbols) (c .before .before .before .before .before .before .before .before .before .before .before .before .before .before .before .before .before .before .before .before .before .before .before .before .before .before .before .loop .layers) (c .before .before .before .before .before .before .before .before .before .before .before .before .before .before .before .before .before .before .before .before .before .before .before .before .before .before .before .loop .serials) (c .before .before .before .before .before .before .before .before .before .before .before .before .before .before .before .before .before .before .before .before .before .before .before .before .before .before .before .loop .used) (c .before .before .before .before .before .before .before .before .before .before .before .before .before .before .before .before .before .before .before .before .before .before .before .before .before .before .before .loop .used-all) (c .before .before .before .before .before .before .before .before .before .before .before .before .before .before .before .before .before .before .before .before .before .before .before .before .before .before .before .loop .marks) (c .before .before .before .before .before .before .before .before .before .before .before .before .before .before .before .before .before .before .before .before .before .before .before .before .before .before .before .loop .inner) (c .before .before .before .before .before .before .before .before .before .before .before .before .before .before .before .before .before .before .before .before .before .before .before .before .before .before .before .loop .header) (c .before .before .before .before .before .before .before .before .before .before .before .before .before .before .before .before .before .before .before .before .before .before .before .before .before .before .before .loop .t)) (c .before .before .before .before .before .before .before .before .before .before .before .before .before .before .before .before .before .before .before .before .before .before .before .before .before .before .before .loop .inv) (c .before .before .before .before .before .before .before .before .before .before .before .before .before .before .before .before .before .before .before .before .before .before .before .before .before .before .loop-test .taken) (c .before .before .before .before .before .before .before .before .before .before .before .before .before .before .before .before .before .before .before .before .before .before .before .before .part .result .now) (c .before .before .before .before .before .before .before .before .before .before .before .before .before .before .before .before .before .before .before .before .before .before .before .before .part .ensures) (c .before .before .before .before .before .before .before .before .before .before .before .before .before .before .before .before .before .before .before .before .before .before .before .before .before .name-behind .result .now) (c .before .before .before .before .before .before .before .before .before .before .before .before .before .before .before .before .before .before .before .before .before .before .before .before .before .name-behind .ensures) _ (c .before .before .before .before .before .before .before .before .before .before .before .before .before .read-volume .result) (c .before .before .before .before .before .before .before .before .before .before .before .before .before .read-volume .ensures) (c .before .r2 .given .0 .0) (c .before .r2 .given .1)
 
 add-i : tie.Need-add-i Inv-loop μ-loop
-add-i c = omega (arith, (count-few (c .before .before .before .before .before .before .before .before .before .before .before .before .before .before .before .before .before .before .before .before .before .before .before .before .before .before .before .before .before .before .before .before .before .before .before .before .args .class) (c .before .before .before .before .before .before .before .before .before .before .before .before .before .before .before .before .before .before .before .before .before .before .before .before .before .before .before .before .before .before .before .before .before .before .before .before .args .s .now) (c .before .before .before .before .before .before .before .before .before .before .before .before .before .before .before .before .before .before .before .before .before .before .before .before .before .before .before .before .before .before .before .before .before .before .before .before .args .limit) (length (c .before .before .before .before .before .before .before .before .before .before .before .before .before .before .before .before .before .before .before .before .before .before .before .before .before .before .before .before .before .before .before .before .before .before .before .before .args .t .now)) (c .before .before .before .before .before .before .before .before .before .before .before .before .before .before .before .before .before .before .before .before .before .before .before .before .before .before .before .before .before .before .before .before .before .before .volumes .result) (c .before .before .before .before .before .before .before .before .before .before .before .before .before .before .before .before .before .before .before .before .before .before .before .before .before .before .loop .i) (desk (c .before .before .before .before .before .before .before .before .before .before .before .before .before .before .before .before .before .before .before .before .before .before .before .before .before .before .loop .here) (c .before .before .before .before .before .before .before .before .before .before .before .before .before .before .before .before .before .before .before .before .before .before .before .before .before .before .loop .tally) (c .before .before .before .before .before .before .before .before .before .before .before .before .before .before .before .before .before .before .before .before .before .before .before .before .before .before .loop .symbols) (c .before .before .before .before .before .before .before .before .before .before .before .before .before .before .before .before .before .before .before .before .before .before .before .before .before .before .loop .layers) (c .before .before .before .before .before .before .before .before .before .before .before .before .before .before .before .before .before .before .before .before .before .before .before .before .before .before .loop .serials) (c .before .before .before .before .before .before .before .before .before .before .before .before .before .before .before .before .before .before .before .before .before .before .before .before .before .before .loop .used) (c .before .before .before .before .before .before .before .before .before .before .before .before .before .before .before .before .before .before .before .before .before .before .before .before .before .before .loop .used-all) (c .before .before .before .before .before .before .before .before .before .before .before .before .before .before .before .before .before .before .before .before .before .before .before .before .before .before .loop .marks) (c .before .before .before .before .before .before .before .before .before .before .before .before .before .before .before .before .before .before .before .before .before .before .before .before .before .before .loop .inner) (c .before .before .before .before .before .before .before .before .before .before .before .before .before .before .before .before .before .before .before .before .before .before .before .before .before .before .loop .header) (c .before .before .before .before .before .before .before .before .before .before .before .before .before .before .before .before .before .before .before .before .before .before .before .before .before .before .loop .t)) (c .before .before .before .before .before .before .before .before .before .before .before .before .before .before .before .before .before .before .before .before .before .before .before .before .before .before .loop .inv)), (c .before .before .before .before .before .before .before .before .before .before .before .before .before .before .before .before .before .before .before .before .before .before .before .before .before .loop-test .taken))
+add-i c = omega (arith, (count-few (c .before .before .before .before .before .before .before .before .before .before .before .before .before .before .before .before .before .before .before .before .before .before .before .before .before .before .before .before .before .before .before .before .before .before .before .before .before .args .class) (c .before .before .before .before .before .before .before .before .before .before .before .before .before .before .before .before .before .before .before .before .before .before .before .before .before .before .before .before .before .before .before .before .before .before .before .before .before .args .s .now) (c .before .before .before .before .before .before .before .before .before .before .before .before .before .before .before .before .before .before .before .before .before .before .before .before .before .before .before .before .before .before .before .before .before .before .before .before .before .args .limit) (length (c .before .before .before .before .before .before .before .before .before .before .before .before .before .before .before .before .before .before .before .before .before .before .before .before .before .before .before .before .before .before .before .before .before .before .before .before .before .args .t .now)) (c .before .before .before .before .before .before .before .before .before .before .before .before .before .before .before .before .before .before .before .before .before .before .before .before .before .before .before .before .before .before .before .before .before .before .before .volumes .result) (c .before .before .before .before .before .before .before .before .before .before .before .before .before .before .before .before .before .before .before .before .before .before .before .before .before .before .before .loop .i) (desk (c .before .before .before .before .before .before .before .before .before .before .before .before .before .before .before .before .before .before .before .before .before .before .before .before .before .before .before .loop .here) (c .before .before .before .before .before .before .before .before .before .before .before .before .before .before .before .before .before .before .before .before .before .before .before .before .before .before .before .loop .tally) (c .before .before .before .before .before .before .before .before .before .before .before .before .before .before .before .before .before .before .before .before .before .before .before .before .before .before .before .loop .symbols) (c .before .before .before .before .before .before .before .before .before .before .before .before .before .before .before .before .before .before .before .before .before .before .before .before .before .before .before .loop .layers) (c .before .before .before .before .before .before .before .before .before .before .before .before .before .before .before .before .before .before .before .before .before .before .before .before .before .before .before .loop .serials) (c .before .before .before .before .before .before .before .before .before .before .before .before .before .before .before .before .before .before .before .before .before .before .before .before .before .before .before .loop .used) (c .before .before .before .before .before .before .before .before .before .before .before .before .before .before .before .before .before .before .before .before .before .before .before .before .before .before .before .loop .used-all) (c .before .before .before .before .before .before .before .before .before .before .before .before .before .before .before .before .before .before .before .before .before .before .before .before .before .before .before .loop .marks) (c .before .before .before .before .before .before .before .before .before .before .before .before .before .before .before .before .before .before .before .before .before .before .before .before .before .before .before .loop .inner) (c .before .before .before .before .before .before .before .before .before .before .before .before .before .before .before .before .before .before .before .before .before .before .before .before .before .before .before .loop .header) (c .before .before .before .before .before .before .before .before .before .before .before .before .before .before .before .before .before .before .before .before .before .before .before .before .before .before .before .loop .t)) (c .before .before .before .before .before .before .before .before .before .before .before .before .before .before .before .before .before .before .before .before .before .before .before .before .before .before .before .loop .inv)), (c .before .before .before .before .before .before .before .before .before .before .before .before .before .before .before .before .before .before .before .before .before .before .before .before .before .before .loop-test .taken))
 
 loop-less : tie.Need-loop-less Inv-loop μ-loop
-loop-less c = omega (arith, (c .before .before .before .before .before .before .before .before .before .before .before .before .before .before .before .before .before .before .before .before .before .before .before .before .before .loop-test .taken))
+loop-less c = omega (arith, (c .before .before .before .before .before .before .before .before .before .before .before .before .before .before .before .before .before .before .before .before .before .before .before .before .before .before .loop-test .taken))
 
 loop-again : tie.Need-loop-again Inv-loop μ-loop
-loop-again c = goes (c .before .before .before .before .before .before .before .before .before .before .before .before .before .before .before .before .before .before .before .before .before .before .before .before .before .before .before .before .before .before .before .before .before .before .before .before .args .class) (c .before .before .before .before .before .before .before .before .before .before .before .before .before .before .before .before .before .before .before .before .before .before .before .before .before .before .before .before .before .before .before .before .before .before .before .before .args .s .now) (c .before .before .before .before .before .before .before .before .before .before .before .before .before .before .before .before .before .before .before .before .before .before .before .before .before .before .before .before .before .before .before .before .before .before .before .before .args .limit) (length (c .before .before .before .before .before .before .before .before .before .before .before .before .before .before .before .before .before .before .before .before .before .before .before .before .before .before .before .before .before .before .before .before .before .before .before .before .args .t .now)) (c .before .before .before .before .before .before .before .before .before .before .before .before .before .before .before .before .before .before .before .before .before .before .before .before .before .before .before .before .before .before .before .before .before .before .volumes .result) (c .before .before .before .before .before .before .before .before .before .before .before .before .before .before .before .before .before .before .before .before .before .before .before .before .before .before .loop .i) (desk (c .before .before .before .before .before .before .before .before .before .before .before .before .before .before .before .before .before .before .before .before .before .before .before .before .before .before .loop .here) (c .before .before .before .before .before .before .before .before .before .before .before .before .before .before .before .before .before .before .before .before .before .before .before .before .before .before .loop .tally) (c .before .before .before .before .before .before .before .before .before .before .before .before .before .before .before .before .before .before .before .before .before .before .before .before .before .before .loop .symbols) (c .before .before .before .before .before .before .before .before .before .before .before .before .before .before .before .before .before .before .before .before .before .before .before .before .before .before .loop .layers) (c .before .before .before .before .before .before .before .before .before .before .before .before .before .before .before .before .before .before .before .before .before .before .before .before .before .before .loop .serials) (c .before .before .before .before .before .before .before .before .before .before .before .before .before .before .before .before .before .before .before .before .before .before .before .before .before .before .loop .used) (c .before .before .before .before .before .before .before .before .before .before .before .before .before .before .before .before .before .before .before .before .before .before .before .before .before .before .loop .used-all) (c .before .before .before .before .before .before .before .before .before .before .before .before .before .before .before .before .before .before .before .before .before .before .before .before .before .before .loop .marks) (c .before .before .before .before .before .before .before .before .before .before .before .before .before .before .before .before .before .before .before .before .before .before .before .before .before .before .loop .inner) (c .before .before .before .before .before .before .before .before .before .before .before .before .before .before .before .before .before .before .before .before .before .before .before .before .before .before .loop .header) (c .before .before .before .before .before .before .before .before .before .before .before .before .before .before .before .before .before .before .before .before .before .before .before .before .before .before .loop .t)) (c .before .before .before .before .before .before .before .before .before .before .before .before .before .before .before .before .before .before .before .before .before .before .before .before .before .before .loop .inv) (c .before .before .before .before .before .before .before .before .before .before .before .before .before .before .before .before .before .before .before .before .before .before .before .before .before .loop-test .taken) (c .before .before .before .before .before .before .before .before .before .before .before .before .before .before .before .before .before .before .before .before .before .before .before .before .name-behind .result .now) (c .before .before .before .before .before .before .before .before .before .before .before .before .before .before .before .before .before .before .before .before .before .before .before .before .name-behind .ensures) _ (c .before .before .before .before .before .before .before .before .before .before .before .before .before .read-volume .result) (c .before .before .before .before .before .before .before .before .before .before .before .before .before .read-volume .ensures) (c .before .r .given .0 .0) (c .before .r .given .1) (c .before .before .before .before .before .before .before .before .before .before .before .before .before .read-volume .kept .1 .1 .1 .1 .1 .1 .1 .1 .1 .1 .1 .1 .1 .1 .1 .1 .0)
+loop-again c = goes (c .before .before .before .before .before .before .before .before .before .before .before .before .before .before .before .before .before .before .before .before .before .before .before .before .before .before .before .before .before .before .before .before .before .before .before .before .before .args .class) (c .before .before .before .before .before .before .before .before .before .before .before .before .before .before .before .before .before .before .before .before .before .before .before .before .before .before .before .before .before .before .before .before .before .before .before .before .before .args .s .now) (c .before .before .before .before .before .before .before .before .before .before .before .before .before .before .before .before .before .before .before .before .before .before .before .before .before .before .before .before .before .before .before .before .before .before .before .before .before .args .limit) (length (c .before .before .before .before .before .before .before .before .before .before .before .before .before .before .before .before .before .before .before .before .before .before .before .before .before .before .before .before .before .before .before .before .before .before .before .before .before .args .t .now)) (c .before .before .before .before .before .before .before .before .before .before .before .before .before .before .before .before .before .before .before .before .before .before .before .before .before .before .before .before .before .before .before .before .before .before .before .volumes .result) (c .before .before .before .before .before .before .before .before .before .before .before .before .before .before .before .before .before .before .before .before .before .before .before .before .before .before .before .loop .i) (desk (c .before .before .before .before .before .before .before .before .before .before .before .before .before .before .before .before .before .before .before .before .before .before .before .before .before .before .before .loop .here) (c .before .before .before .before .before .before .before .before .before .before .before .before .before .before .before .before .before .before .before .before .before .before .before .before .before .before .before .loop .tally) (c .before .before .before .before .before .before .before .before .before .before .before .before .before .before .before .before .before .before .before .before .before .before .before .before .before .before .before .loop .symbols) (c .before .before .before .before .before .before .before .before .before .before .before .before .before .before .before .before .before .before .before .before .before .before .before .before .before .before .before .loop .layers) (c .before .before .before .before .before .before .before .before .before .before .before .before .before .before .before .before .before .before .before .before .before .before .before .before .before .before .before .loop .serials) (c .before .before .before .before .before .before .before .before .before .before .before .before .before .before .before .before .before .before .before .before .before .before .before .before .before .before .before .loop .used) (c .before .before .before .before .before .before .before .before .before .before .before .before .before .before .before .before .before .before .before .before .before .before .before .before .before .before .before .loop .used-all) (c .before .before .before .before .before .before .before .before .before .before .before .before .before .before .before .before .before .before .before .before .before .before .before .before .before .before .before .loop .marks) (c .before .before .before .before .before .before .before .before .before .before .before .before .before .before .before .before .before .before .before .before .before .before .before .before .before .before .before .loop .inner) (c .before .before .before .before .before .before .before .before .before .before .before .before .before .before .before .before .before .before .before .before .before .before .before .before .before .before .before .loop .header) (c .before .before .before .before .before .before .before .before .before .before .before .before .before .before .before .before .before .before .before .before .before .before .before .before .before .before .before .loop .t)) (c .before .before .before .before .before .before .before .before .before .before .before .before .before .before .before .before .before .before .before .before .before .before .before .before .before .before .before .loop .inv) (c .before .before .before .before .before .before .before .before .before .before .before .before .before .before .before .before .before .before .before .before .before .before .before .before .before .before .loop-test .taken) (c .before .before .before .before .before .before .before .before .before .before .before .before .before .before .before .before .before .before .before .before .before .before .before .before .part .result .now) (c .before .before .before .before .before .before .before .before .before .before .before .before .before .before .before .before .before .before .before .before .before .before .before .before .part .ensures) (c .before .before .before .before .before .before .before .before .before .before .before .before .before .before .before .before .before .before .before .before .before .before .before .before .before .name-behind .result .now) (c .before .before .before .before .before .before .before .before .before .before .before .before .before .before .before .before .before .before .before .before .before .before .before .before .before .name-behind .ensures) _ (c .before .before .before .before .before .before .before .before .before .before .before .before .before .read-volume .result) (c .before .before .before .before .before .before .before .before .before .before .before .before .before .read-volume .ensures) (c .before .r .given .0 .0) (c .before .r .given .1) (c .before .before .before .before .before .before .before .before .before .before .before .before .before .read-volume .kept .1 .1 .1 .1 .1 .1 .1 .1 .1 .1 .1 .1 .1 .1 .1 .1 .0)
 
-cast-t66 : tie.Need-cast-t66 Inv-loop μ-loop
-cast-t66 c = omega (arith, few-records (c .before .before .before .before .before .before .before .before .before .before .before .before .args .class) (c .before .before .before .before .before .before .before .before .before .before .before .before .args .s .now) (c .before .before .before .before .before .before .before .before .before .before .before .before .args .limit) (length (c .before .before .before .before .before .before .before .before .before .before .before .before .args .t .now)) (c .before .before .before .before .before .before .before .before .before .before .volumes .result) (c .before .before .loop .i) (desk (c .before .before .loop .here) (c .before .before .loop .tally) (c .before .before .loop .symbols) (c .before .before .loop .layers) (c .before .before .loop .serials) (c .before .before .loop .used) (c .before .before .loop .used-all) (c .before .before .loop .marks) (c .before .before .loop .inner) (c .before .before .loop .header) (c .before .before .loop .t)) (c .before .before .loop .inv) (c .before .loop-test .left))
+cast-t64 : tie.Need-cast-t64 Inv-loop μ-loop
+cast-t64 c = omega (arith, few-records (c .before .before .before .before .before .before .before .before .before .before .before .before .args .class) (c .before .before .before .before .before .before .before .before .before .before .before .before .args .s .now) (c .before .before .before .before .before .before .before .before .before .before .before .before .args .limit) (length (c .before .before .before .before .before .before .before .before .before .before .before .before .args .t .now)) (c .before .before .before .before .before .before .before .before .before .before .volumes .result) (c .before .before .loop .i) (desk (c .before .before .loop .here) (c .before .before .loop .tally) (c .before .before .loop .symbols) (c .before .before .loop .layers) (c .before .before .loop .serials) (c .before .before .loop .used) (c .before .before .loop .used-all) (c .before .before .loop .marks) (c .before .before .loop .inner) (c .before .before .loop .header) (c .before .before .loop .t)) (c .before .before .loop .inv) (c .before .loop-test .left))
 
 same-length-2 : tie.Need-same-length-2 Inv-loop μ-loop
 same-length-2 c = search needs
@@ -143,20 +137,18 @@ read-set-spec =
     cast-count
     returns
     first-unsound-requires
-    cast-t28
+    cast-t30
     returns-2
     nothing-yet-requires
     loop-holds
     name-behind-requires
-    cast-t32
-    add-t33
-    mul-read-volume
-    array-read-read-volume
-    mul-read-volume-2
-    array-read-read-volume-2
-    add-read-volume
-    mul-read-volume-3
-    array-read-read-volume-3
+    mul-start
+    array-read-start
+    mul-t34
+    array-read-t37
+    part-requires
+    cast-t41
+    add-t42
     slice-aggregate-read-volume
     slice-aggregate-read-volume-2
     slice-aggregate-read-volume-3
@@ -174,6 +166,6 @@ read-set-spec =
     add-i
     loop-less
     loop-again
-    cast-t66
+    cast-t64
     same-length-2
     returns-4)

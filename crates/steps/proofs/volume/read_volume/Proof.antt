@@ -4,6 +4,7 @@ use native.Mathlib.Omega.{arith}
 use Prim.Native.Nat.{_+_, _-_}
 use Rattle.rules.specs.Base.{isNil}
 use Rattle.standing.specs.Standing.{Desk, desk}
+use Rattle.account.specs.Walk.{endOf}
 use Rattle.account.proofs.SeenLines.{seen-forward}
 use Rattle.steps.proofs.VolumeLoop.{Through-to, SameLengths}
 use Rattle.steps.proofs.VolumeLoopTurns.{none-following, same-lengths, skipped-further, begins, turn-empty, turn-ready, turn-go, turn-block, turn-skip, turn-left, turn-stop, turn-last}
@@ -11,13 +12,13 @@ use Rattle.steps.proofs.volume.read_volume.Statement.{statement}
 use Rattle.steps.proofs.volume.read_volume.Tie as tie
 
 abbrev Inv-loop : tie.InvT-loop
-Inv-loop s following class v start tally₀ symbols₀ layers₀ serials₀ used₀ used-all₀ marks₀ inner₀ header₀ limit t₀ here₀ at₀ line₀ last-volume tally symbols layers serials used used-all marks inner header t here at line =
-    Through-to class s v start following limit (desk here₀ tally₀ symbols₀ layers₀ serials₀ used₀ used-all₀ marks₀ inner₀ header₀ t₀) (record { at = at; line = line }) (desk here tally symbols layers serials used used-all marks inner header t)
+Inv-loop s body following class v tally₀ symbols₀ layers₀ serials₀ used₀ used-all₀ marks₀ inner₀ header₀ limit t₀ here₀ at₀ line₀ last-volume tally symbols layers serials used used-all marks inner header t here at line =
+    Through-to class s body v following limit (desk here₀ tally₀ symbols₀ layers₀ serials₀ used₀ used-all₀ marks₀ inner₀ header₀ t₀) (record { at = at; line = line }) (desk here tally symbols layers serials used used-all marks inner header t)
     × SameLengths (desk here₀ tally₀ symbols₀ layers₀ serials₀ used₀ used-all₀ marks₀ inner₀ header₀ t₀) (desk here tally symbols layers serials used used-all marks inner header t) × (last-volume ≡ isNil following)
 
 abbrev μ-loop : tie.MeasureT-loop
-μ-loop s following class v start tally₀ symbols₀ layers₀ serials₀ used₀ used-all₀ marks₀ inner₀ header₀ limit t₀ here₀ at₀ line₀ last-volume tally symbols layers serials used used-all marks inner header t here at line =
-    (v .end + 1) - at
+μ-loop s body following class v tally₀ symbols₀ layers₀ serials₀ used₀ used-all₀ marks₀ inner₀ header₀ limit t₀ here₀ at₀ line₀ last-volume tally symbols layers serials used used-all marks inner header t here at line =
+    (endOf body v + 1) - at
 
 -- what is lent, before the line was judged and after
 abbrev before-line : tie.After-step Inv-loop μ-loop → Desk
@@ -31,7 +32,7 @@ kept : (c : tie.After-step Inv-loop μ-loop) → SameLengths (before-line c) (af
 kept c = let k = c .step .kept in record { tally = k .1 .1 .1 .1 .1 .1 .0; symbols = k .1 .1 .1 .1 .1 .1 .1 .0; layers = k .1 .1 .1 .1 .1 .1 .1 .1 .0; serials = k .1 .1 .1 .1 .1 .1 .1 .1 .1 .0; used = k .1 .1 .1 .1 .1 .1 .1 .1 .1 .1 .0; usedAll = k .1 .1 .1 .1 .1 .1 .1 .1 .1 .1 .1 .0; marks = k .1 .1 .1 .1 .1 .1 .1 .1 .1 .1 .1 .1 .0; inner = k .1 .1 .1 .1 .1 .1 .1 .1 .1 .1 .1 .1 .1 .0; header = k .1 .1 .1 .1 .1 .1 .1 .1 .1 .1 .1 .1 .1 .1 .0; table = k .1 .1 .1 .1 .1 .1 .1 .1 .1 .1 .1 .1 .1 .1 .1 .1 .0 }
 
 loop-holds : tie.Need-loop-holds Inv-loop μ-loop
-loop-holds c = (begins _ _ _ _ _ _ _ (c .before .before .before .before .before .before .before .before .before .before .pre), same-lengths _, none-following (c .before .before .before .before .before .before .before .before .before .before .args .following .now))
+loop-holds c = (begins _ _ _ _ _ _ _ (c .before .before .before .before .before .before .before .before .before .before .before .pre), same-lengths _, none-following (c .before .before .before .before .before .before .before .before .before .before .before .args .following .now))
 
 next-line-requires : tie.Need-next-line-requires Inv-loop μ-loop
 next-line-requires c κs = let i = c .loop .inv .0 .low in omega (arith, i .line, i .at)
@@ -82,7 +83,7 @@ both-requires : tie.Need-both-requires Inv-loop μ-loop
 both-requires c κs = tt
 
 step-requires : tie.Need-step-requires Inv-loop μ-loop
-step-requires c κs = turn-ready _ _ _ _ _ _ _ _ _ _ (c .before .before .before .before .before .before .before .before .before .before .before .before .before .before .before .loop .inv) _ (c .before .before .before .before .before .before .before .before .before .before .before .before .before .before .next-line .ensures) (c .before .before .before .before .before .before .before .before .before .before .before .before .if1 .left) _ (c .before .before .before .before .before .before .before .before .before .before .both .ensures) (c .before .before .before .before .before .before .before .before .before .before .before .before .before .before .before .before .before .before .before .before .before .before .before .before .before .before .pre)
+step-requires c κs = turn-ready _ _ _ _ _ _ _ _ _ _ (c .before .before .before .before .before .before .before .before .before .before .before .before .before .before .before .loop .inv) _ (c .before .before .before .before .before .before .before .before .before .before .before .before .before .before .next-line .ensures) (c .before .before .before .before .before .before .before .before .before .before .before .before .if1 .left) _ (c .before .before .before .before .before .before .before .before .before .before .both .ensures) (c .before .before .before .before .before .before .before .before .before .before .before .before .before .before .before .before .before .before .before .before .before .before .before .before .before .before .before .pre)
 
 add-line : tie.Need-add-line Inv-loop μ-loop
 add-line c = let i = c .before .before .before .before .before .before .before .before .before .before .before .before .before .before .before .before .before .before .before .before .before .before .before .before .before .before .before .before .before .before .before .before .before .before .loop .inv .0 .low in omega (arith, i .line, i .at)
@@ -145,7 +146,7 @@ enum-known-left : tie.Need-enum-known-left Inv-loop μ-loop
 enum-known-left c = search needs
 
 loop-less-2 : tie.Need-loop-less-2 Inv-loop μ-loop
-loop-less-2 c = let m = seen-forward _ _ _ _ (c .before .before .before .before .before .before .before .before .before .before .before .before .before .before .before .before .before .before .before .before .before .before .before .before .before .before .before .before .before .before .before .before .before .before .before .before .before .before .before .before .before .next-line .ensures) (c .before .before .before .before .before .before .before .if2 .left) in let x = skipped-further _ _ _ _ _ (c .before .before .before .skip-block .ensures) (c .before .left .given .1) in omega (arith, m .0, m .1, x .1, x .2)
+loop-less-2 c = let m = seen-forward _ _ _ _ (c .before .before .before .before .before .before .before .before .before .before .before .before .before .before .before .before .before .before .before .before .before .before .before .before .before .before .before .before .before .before .before .before .before .before .before .before .before .before .before .before .before .next-line .ensures) (c .before .before .before .before .before .before .before .if2 .left) in let x = skipped-further _ _ _ _ _ _ (c .before .before .before .skip-block .ensures) (c .before .left .given .1) in omega (arith, m .0, m .1, x .1, x .2)
 
 loop-again-2 : tie.Need-loop-again-2 Inv-loop μ-loop
 loop-again-2 c = turn-skip _ _ _ _ _ _ _ _ _ _ (c .before .before .before .before .before .before .before .before .before .before .before .before .before .before .before .before .before .before .before .before .before .before .before .before .before .before .before .before .before .before .before .before .before .before .before .before .before .before .before .before .before .before .loop .inv) _ (c .before .before .before .before .before .before .before .before .before .before .before .before .before .before .before .before .before .before .before .before .before .before .before .before .before .before .before .before .before .before .before .before .before .before .before .before .before .before .before .before .before .next-line .ensures) (c .before .before .before .before .before .before .before .before .before .before .before .before .before .before .before .before .before .before .before .before .before .before .before .before .before .before .before .before .before .before .before .before .before .before .before .before .before .before .before .if1 .left) _ (c .before .before .before .before .before .before .before .before .before .before .before .before .before .before .before .before .before .before .before .before .before .before .before .before .before .before .before .before .before .before .before .before .before .before .before .before .before .both .ensures) (after-line (c .before .before .before .before .before .before .before .before .before .before .before .before .before .before .before .before .before .before .before .before .before .before .before .before .before .before)) (c .before .before .before .before .before .before .before .before .before .before .before .before .before .before .before .before .before .before .before .before .before .before .before .before .before .before .step .result) (c .before .before .before .before .before .before .before .before .before .before .before .before .before .before .before .before .before .before .before .before .before .before .before .before .before .before .step .ensures) (kept (c .before .before .before .before .before .before .before .before .before .before .before .before .before .before .before .before .before .before .before .before .before .before .before .before .before .before)) (c .before .before .before .before .before .before .before .if2 .left) _ (c .before .before .before .before .before .did2 .given .1) _ (c .before .before .before .skip-block .ensures) _ (c .before .left .given .1)
