@@ -17,10 +17,13 @@ use Rattle.tables.specs.Tables.{tableOf}
 use Rattle.entries.specs.declared.Next.the-variants as N
 use Rattle.entries.specs.Names.{knownIn}
 use Rattle.leaves.proofs.Unique.{One, paired}
+use Rattle.lines.specs.declared.Seen.{Seen}
 use Rattle.account.specs.declared.Class.{Class}
 use Rattle.account.specs.declared.Now.{Now}
 use Rattle.account.specs.declared.Skipped.{Skipped}
+use Rattle.account.specs.declared.Pos.{Pos}
 use Rattle.account.specs.declared.Step.{Step}
+use Rattle.account.specs.declared.Volume.{Volume}
 use Rattle.account.specs.Account.{atBlock}
 use Rattle.account.specs.Classes.{classIn}
 use Rattle.account.specs.ElementLines.{tallied}
@@ -28,6 +31,7 @@ use Rattle.account.specs.PlacedLines.{Lent, lent, ownNumber, placedStep, RowLin
 use Rattle.account.specs.SkippedLines.{skippedAs}
 use Rattle.account.specs.SymbolLines.{nameOf, nameNumber}
 use Rattle.account.specs.TableApart.{lentNow, chainAt, freshFor, backStep}
+use Rattle.account.specs.Walk.{seenFrom}
 use Rattle.drawing.proofs.blocks.at_block as at-block′
 use Rattle.drawing.proofs.classes.class_of as class-of′
 use Rattle.drawing.proofs.element.count_layer as count-layer′
@@ -49,6 +53,7 @@ use Rattle.drawing.proofs.symbol_define.on_defines as on-defines′
 use Rattle.drawing.proofs.symbol_define.on_symbol as on-symbol′
 use Rattle.drawing.proofs.texts.on_text as on-text′
 use Rattle.drawing.proofs.top.on_top as on-top′
+use Rattle.drawing.proofs.walk.next_line as next-line′
 
 -- ── blocks and classes ──
 pub at-block-unique : (n : Now) (block part : ℕ) (r₁ r₂ : Now) → r₁ ≡ atBlock n block part → r₂ ≡ atBlock n block part → r₁ ≡ r₂
@@ -62,6 +67,13 @@ class-of-unique n r₁ r₂ c₁ c₂ = c₁ ∙ sym c₂
 
 class-of-code : One class-of′.Kinds.ps class-of′.Kinds.r class-of′.Reads.Learnt (λ κs r e. r)
 class-of-code κs x r₁ r₂ e₁ e₂ = class-of-unique (x .0) r₁ r₂
+
+-- ── a line ──
+pub next-line-unique : (body : List ℕ) (v : Volume) (p : Pos) (r₁ r₂ : Seen) → r₁ ≡ seenFrom body v p → r₂ ≡ seenFrom body v p → r₁ ≡ r₂
+next-line-unique body v p r₁ r₂ c₁ c₂ = c₁ ∙ sym c₂
+
+next-line-code : One next-line′.Kinds.ps next-line′.Kinds.r next-line′.Reads.Learnt (λ κs r e. r)
+next-line-code κs x r₁ r₂ e₁ e₂ = next-line-unique (now (x .0)) (x .1 .0) (x .1 .1 .0) r₁ r₂
 
 -- ── the table, and the numbers lent in its place ──
 pub clear-unique : (t t₁ t₂ : List ℤ) → t₁ ≡ replicate (length t) (pos 0) → t₂ ≡ replicate (length t) (pos 0) → t₁ ≡ t₂

@@ -9,7 +9,8 @@ ghost use mathlib.Core.Path.{_≡_};
 ghost use Prim.Native.Nat.{_<_};
 ghost use Rattle.account.specs.Walk.{seenFrom};
 
-// The next line of a volume, whose bytes are `body`. Where there is none it is as an ignored line, the volume's last: so a volume without lines ends early at line 0.
+// The next line of a volume, whose bytes are `body`. Where there is none it is as an ignored line, the volume's last: so a volume without
+// lines ends early at line 0.
 pub fn next_line(body: &[u8], v: Volume, p: Pos) -> Seen
     requires { ⌜ p .line < 4294967295 ⌝ }
     ensures { λ r. ⌜ r ≡ seenFrom (now (body .entry)) v p ⌝ }

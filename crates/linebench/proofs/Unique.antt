@@ -19,8 +19,9 @@ linebench-unsound-unique s r₁ r₂ c₁ c₂ = c₁ ∙ sym c₂
 linebench-unsound-code : One linebench-unsound′.Kinds.ps linebench-unsound′.Kinds.r linebench-unsound′.Reads.Learnt (λ κs r e. r)
 linebench-unsound-code κs x r₁ r₂ e₁ e₂ = linebench-unsound-unique (now (x .0)) r₁ r₂
 
-pub linebench-look-unique : (s : List ℕ) (at end volume line : ℕ) (r₁ r₂ : ℕ) → r₁ ≡ packed (lookIn volume line at end s) → r₂ ≡ packed (lookIn volume line at end s) → r₁ ≡ r₂
-linebench-look-unique s at end volume line r₁ r₂ c₁ c₂ = c₁ ∙ sym c₂
+pub linebench-look-unique : (body : List ℕ) (base at volume line : ℕ) (r₁ r₂ : ℕ) → r₁ ≡ packed (lookIn volume line base at body)
+    → r₂ ≡ packed (lookIn volume line base at body) → r₁ ≡ r₂
+linebench-look-unique body base at volume line r₁ r₂ c₁ c₂ = c₁ ∙ sym c₂
 
 linebench-look-code : One linebench-look′.Kinds.ps linebench-look′.Kinds.r linebench-look′.Reads.Learnt (λ κs r e. r)
 linebench-look-code κs x r₁ r₂ e₁ e₂ = linebench-look-unique (now (x .0)) (x .1 .0) (x .1 .1 .0) (x .1 .1 .1 .0) (x .1 .1 .1 .1 .0) r₁ r₂
