@@ -7,9 +7,8 @@ use Rattle.rules.specs.declared.Refusal.{Refusal}
 use Rattle.rules.specs.Base.{isNil}
 use Rattle.rules.specs.Lines.{equals, Form, ignored, wrong, close, eof, keyed, shapeOf}
 use Rattle.rules.specs.RangeClass.{Skip, passes, deeper, noForm, skipShape, skipOf}
-use Rattle.rules.specs.Rows.{Held}
 use Rattle.rules.specs.Sets.{Set, Figure}
-use Rattle.rules.specs.Machine.{Line, Env, State, placing, skipping}
+use Rattle.rules.specs.Machine.{Line, Env, Owned, State, placing, skipping}
 use Rattle.rules.specs.LineByLine.{refused, run}
 use Rattle.account.specs.declared.Volume.{Volume}
 use Rattle.account.specs.declared.Pos.{Pos}
@@ -44,34 +43,38 @@ earlySkip S.Shut = 9
 earlySkip (S.Refuse n) = min n 9
 
 -- ── a block ──
--- a state of the placed symbol that is open: its set, its layer, the figures before it, its line, what it holds
-abbrev pub InPlaced : Type 0
-InPlaced = Set → ℕ → List Figure → ℕ → Held → State
+-- a state of the layer's block that is open: its set, its layer, the figures before it, its line, what it holds
+abbrev pub InOwned : Type 0
+InOwned = Set → ℕ → List Figure → ℕ → Owned → State
 
 -- d skipped blocks are open
-abbrev pub skipped : ℕ → InPlaced
-skipped d s h fs n o = skipping s h fs n o d
+abbrev pub skipped : ℕ → InOwned
+skipped d s h fs n b = skipping s h fs n b d
 
 -- the last of d skipped blocks has closed
-abbrev pub unskipped : ℕ → InPlaced
-unskipped zero s h fs n o = placing s h fs n o 0
-unskipped (suc zero) s h fs n o = placing s h fs n o 0
-unskipped (suc (suc d)) s h fs n o = skipping s h fs n o (suc d)
+abbrev pub unskipped : ℕ → InOwned
+unskipped zero s h fs n b = placing s h fs n b 0
+unskipped (suc zero) s h fs n b = placing s h fs n b 0
+unskipped (suc (suc d)) s h fs n b = skipping s h fs n b (suc d)
 
--- from p on these lines are left; the reading came from there, in one state of any placed symbol, to q, in another, and lines are left
-pub record Came (s body : List ℕ) (v : Volume) (p : Pos) (ls : List (List ℕ)) (from to : InPlaced) (q : Pos) : Type 0 where
+-- a line that opens a skipped block: behind it the one state, past the block's `}` the other
+pub data Skips : State → State → Type 0 where
+  inOwned : (s : Set) (h : ℕ) (fs : List Figure) (n : ℕ) (b : Owned) → Skips (skipping s h fs n b 1) (placing s h fs n b 0)
+
+-- from p on these lines are left; the reading came from there, in one state of any such block, to q, in another, and lines are left
+pub record Came (s body : List ℕ) (v : Volume) (p : Pos) (ls : List (List ℕ)) (from to : InOwned) (q : Pos) : Type 0 where
   pub rest : List (List ℕ)
   pub at : At s body v q rest
   pub some-left : isNil rest ≡ false
-  pub eq : (e : Env) (t : Set) (h : ℕ) (fs : List Figure) (n : ℕ) (o : Held) (next : List ℕ) (more : List Line)
-      → run e (from t h fs n o) (todo v next p ls more) ≡ run e (to t h fs n o) (todo v next q rest more)
+  pub eq : (e : Env) (t : Set) (h : ℕ) (fs : List Figure) (n : ℕ) (b : Owned) (next : List ℕ) (more : List Line)
+      → run e (from t h fs n b) (todo v next p ls more) ≡ run e (to t h fs n b) (todo v next q rest more)
 
 -- or it was refused
-pub record Refused (v : Volume) (p : Pos) (ls : List (List ℕ)) (from : InPlaced) (f : Refusal) : Type 0 where
-  pub eq : (e : Env) (t : Set) (h : ℕ) (fs : List Figure) (n : ℕ) (o : Held) (next : List ℕ) (more : List Line)
-      → run e (from t h fs n o) (todo v next p ls more) ≡ refused (f .number) (f .volume) (f .line)
+pub record Refused (v : Volume) (p : Pos) (ls : List (List ℕ)) (from : InOwned) (f : Refusal) : Type 0 where
+  pub eq : (e : Env) (t : Set) (h : ℕ) (fs : List Figure) (n : ℕ) (b : Owned) (next : List ℕ) (more : List Line)
+      → run e (from t h fs n b) (todo v next p ls more) ≡ refused (f .number) (f .volume) (f .line)
 
-abbrev pub CameOr : List ℕ → List ℕ → Volume → Pos → List (List ℕ) → InPlaced → InPlaced → Left → Type 0
+abbrev pub CameOr : List ℕ → List ℕ → Volume → Pos → List (List ℕ) → InOwned → InOwned → Left → Type 0
 CameOr s body v p ls from to (L.Go q) = Came s body v p ls from to q
 CameOr s body v p ls from to (L.Stop f) = Refused v p ls from f
 

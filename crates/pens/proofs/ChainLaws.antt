@@ -15,9 +15,9 @@ use Rattle.rules.specs.RangeClass.{digits}
 use Rattle.rules.specs.Values.{Value, nums, Known, numsOf}
 use Rattle.rules.specs.Rows.{Rule, found, find, rowsAtLimit, complete}
 use Rattle.rules.specs.Figures.{leastPoints, pointTable}
-use Rattle.rules.specs.RecordTable.{ruleAt}
+use Rattle.rules.specs.RecordTable.{ruleAt, kindPoint}
 use Rattle.rules.specs.Sets.{Point, Figure, chain, Set, withRecords, knownOf}
-use Rattle.rules.specs.Machine.{Line, Env, Home, State, figures, successive, isLayer, taking, pointAt, onSuccessive}
+use Rattle.rules.specs.Machine.{Line, Env, Home, State, figures, successive, isLayer, taking, pointAt, onSuccessive, kindIn}
 use Rattle.rules.specs.LineByLine.{stepIn}
 use Rattle.rules.specs.Answers.{fullClass}
 use Rattle.rules.specs.FixedForm.{Text, openLine, opensBlock, lineOf, showPoints}
@@ -40,7 +40,8 @@ use Rattle.pens.specs.Keys.{isBrace, KeyLine, PlacedRest}
 use Rattle.pens.specs.Closing.{CloseDone}
 use Rattle.pens.specs.Drawing.{FormFits, LineOut}
 use Rattle.pens.proofs.Acted.{acted, reads-any}
-use Rattle.pens.proofs.HomeLaws.{took, shut-did, key-line, shut-line, known-records, text-records, text-more, home-layered, home-at, home-records}
+use Rattle.pens.proofs.HomeLaws.{shut-did, key-line, shut-line, known-records, text-records, text-more, home-layered, home-at, home-records}
+use Rattle.pens.proofs.FrontSteps.{took}
 use Rattle.pens.proofs.FigureLaws.{nums-line}
 use Rattle.pens.proofs.ShownLaws.{block-parts, points-more, points-last}
 
@@ -66,7 +67,7 @@ module _ (K : Known) (spool : List ℕ) (first : Bool) (p : Pen) (ns out : List 
       enters (λ j r v f w u o g m. never m)
     where
       enters : (j : ℕ) (r : Rule) (v : Value) → find (bytesAt spool key) (pointTable (isLayer h)) ≡ found j r → Row (pointTable (isLayer h)) j r → Reads (knownOf s) r (restIn spool rest) v → opensBlock (r .holds) v ≡ false
-          → getD (rowsAtLimit (length ps) (pointTable (isLayer h))) j false ≡ false → (taking e 1 s λ s′. successive s′ h fs n (ps ++ pointAt l v ∷ [])) ≡ got st′ → LineOut K spool first st′ ns′ out′ d
+          → getD (rowsAtLimit (length ps) (pointTable (isLayer h))) j false ≡ false → (taking e (kindIn h kindPoint ∷ []) s λ s′. successive s′ h fs n (ps ++ pointAt l v ∷ [])) ≡ got st′ → LineOut K spool first st′ ns′ out′ d
       enters j r v f w u o g m =
           let b9 = z .here .0 in
           let b = isLayer h in
@@ -81,14 +82,14 @@ module _ (K : Known) (spool : List ℕ) (first : Bool) (p : Pen) (ns out : List 
           let ps′ = ps ++ pointAt l v ∷ [] in
           let first-line = openLine (bytes "successive") in
           let F = figuresText K first s h fs in
-          subst (λ (st : State). LineOut K spool first st ns′ out′ d) (took e 1 s (λ s′. successive s′ h fs n ps′) st′ m)
-          (key-line K spool first p ns out (successive s h fs n ps) z (successive (withRecords 1 s) h fs n ps′) p′ ns′ out′ d size many (tableFor first p (isBrace rest)) rest k j r v done
+          subst (λ (st : State). LineOut K spool first st ns′ out′ d) (took e (kindIn h kindPoint ∷ []) s (λ s′. successive s′ h fs n ps′) st′ m)
+          (key-line K spool first p ns out (successive s h fs n ps) z (successive (withRecords (kindIn h kindPoint ∷ []) s) h fs n ps′) p′ ns′ out′ d size many (tableFor first p (isBrace rest)) rest k j r v done
           (rw b9) (rw b9) refl
-          (ap (λ (t : Text). t ++ first-line ∷ showPoints (homeKnown K (withRecords 1 s) h) b ps′ []) (text-records K first 1 s h fs)
-          ∙ ap (λ (k : Known). F ++ first-line ∷ showPoints k b ps′ []) (known-records K first 1 s h)
+          (ap (λ (t : Text). t ++ first-line ∷ showPoints (homeKnown K (withRecords (kindIn h kindPoint ∷ []) s) h) b ps′ []) (text-records K first (kindIn h kindPoint ∷ []) s h fs)
+          ∙ ap (λ (k : Known). F ++ first-line ∷ showPoints k b ps′ []) (known-records K first (kindIn h kindPoint ∷ []) s h)
           ∙ ap (λ (t : Text). F ++ first-line ∷ t) (points-last k b ps (pointAt l v) ∙ ap (λ (t : List ℕ). showPoints k b ps [] ++ t ∷ []) (point-line b w k v))
           ∙ sym (append-assoc F (first-line ∷ showPoints k b ps []) (text ∷ [])))
-          (refl, home-records K first spool p′ ns′ 1 s h (home-at K first spool p p′ ns ns′ s h refl refl (kept 0) (kept 3) (z .here .1))))
+          (refl, home-records K first spool p′ ns′ (kindIn h kindPoint ∷ []) s h (home-at K first spool p p′ ns ns′ s h refl refl (kept 0) (kept 3) (z .here .1))))
 
   pub successive-close : l .form ≡ close → CloseDone spool first p ns out out′ d → ns′ ≡ ns → LineOut K spool first st′ ns′ out′ d
   successive-close form done notes =

@@ -16,7 +16,7 @@ use Rattle.rules.specs.Values.{Value, Known}
 use Rattle.rules.specs.Rows.{Rule, found, find, blank}
 use Rattle.rules.specs.Blocks.{definesTable, symbolTable}
 use Rattle.rules.specs.Sets.{Symbol, Set, withRecords, defineRange, knownOf}
-use Rattle.rules.specs.RecordTable.{ruleAt}
+use Rattle.rules.specs.RecordTable.{ruleAt, kindSymbol}
 use Rattle.rules.specs.Answers.{fullClass}
 use Rattle.rules.specs.Machine.{Line, Env, State, top, defines, symbol, taking}
 use Rattle.rules.specs.LineByLine.{stepIn}
@@ -43,7 +43,7 @@ use Rattle.pens.proofs.Laying.{bytes-append, on-draws}
 use Rattle.pens.proofs.Acted.{reads-any, acted}
 use Rattle.pens.proofs.NotedLaws.{zeros-at}
 use Rattle.pens.proofs.ShownLaws.{symbols-more}
-use Rattle.pens.proofs.FrontSteps.{taken, closed, row-is, front-more}
+use Rattle.pens.proofs.FrontSteps.{took, closed, row-is, front-more}
 
 -- ── the two rows ──
 abbrev rule : ℕ → Rule
@@ -119,7 +119,7 @@ module _ (K : Known) (spool : List ℕ) (first : Bool) (p : Pen) (ns out : List 
   abbrev opening : List ℕ
   opening = openLine (bytes "E_symbol")
 
-  symbol-shown : b ≡ false → shown K first (symbol (withRecords 1 s) fresh) ≡ shown K first (defines s b) ++ opening ∷ []
+  symbol-shown : b ≡ false → shown K first (symbol (withRecords (kindSymbol ∷ []) s) fresh) ≡ shown K first (defines s b) ++ opening ∷ []
   unfolding symbolTable
   symbol-shown f = append-nil (symbolBegun K s) ∙ ap (λ (x : Bool). definesBegun K s x ++ opening ∷ []) (sym f)
 
@@ -133,10 +133,10 @@ module _ (K : Known) (spool : List ℕ) (first : Bool) (p : Pen) (ns out : List 
         length-append (lineBytes (definesBegun K s false)) (lineBytes (opening ∷ [])),
       )
 
-  symbol-stands : b ≡ false → ns′ ≡ forgotten ns → InSymbol K spool first (begun p 12 5) ns′ (withRecords 1 s) fresh
+  symbol-stands : b ≡ false → ns′ ≡ forgotten ns → InSymbol K spool first (begun p 12 5) ns′ (withRecords (kindSymbol ∷ []) s) fresh
   unfolding symbolTable
   symbol-stands f n = record {
-    front = front-more first 1 s front;
+    front = front-more first (kindSymbol ∷ []) s front;
     start = begins f;
     slots = refl;
     name = ap (λ (u : List ℕ). getD u 0 0) n ∙ zeros-at (length ns) 0;
@@ -144,14 +144,14 @@ module _ (K : Known) (spool : List ℕ) (first : Bool) (p : Pen) (ns out : List 
     order = λ u w. clash w refl;
   }
 
-  symbol-drawn : b ≡ false → Draws (ended opening) (p .at) (begun p (length (ended opening)) 5) out out′ d → ns′ ≡ forgotten ns → LineOut K spool first (symbol (withRecords 1 s) fresh) ns′ out′ d
+  symbol-drawn : b ≡ false → Draws (ended opening) (p .at) (begun p (length (ended opening)) 5) out out′ d → ns′ ≡ forgotten ns → LineOut K spool first (symbol (withRecords (kindSymbol ∷ []) s) fresh) ns′ out′ d
   symbol-drawn f w n =
-      on-draws K spool first p ns out (defines s b) z (opening ∷ []) (symbol (withRecords 1 s) fresh) (begun p 12 5) ns′ out′ d size (symbol-shown f) w refl many (refl, symbol-stands f n)
+      on-draws K spool first p ns out (defines s b) z (opening ∷ []) (symbol (withRecords (kindSymbol ∷ []) s) fresh) (begun p 12 5) ns′ out′ d size (symbol-shown f) w refl many (refl, symbol-stands f n)
 
   pub defines-key : (key : Span) (rest : Rest) → l .form ≡ keyed (bytesAt spool key) (restIn spool rest) → PlacedRest rest → FormFits (l .form)
       → KeyLine spool first key rest p ns ns′ out out′ d → LineOut K spool first st′ ns′ out′ d
   defines-key key rest f placed fits does =
-      acted (defines s b) (λ j v. unless (isNil (s .symbols)) 6 (got (defines s true))) (λ i j v. unless (not b) 6 (taking e 1 s λ s′. symbol s′ fresh))
+      acted (defines s b) (λ j v. unless (isNil (s .symbols)) 6 (got (defines s true))) (λ i j v. unless (not b) 6 (taking e (kindSymbol ∷ []) s λ s′. symbol s′ fresh))
       (λ _. unless (b || not (isNil (s .symbols))) 8 (got (top s 3))) (knownOf s) (digitsOf (defineRange s)) st′ definesTable (b ∷ false ∷ []) (bytesAt spool key) (restIn spool rest)
       (table-keys false 0 0 .8) (rw f at fits) (rw f at q) ent beg
     where
@@ -172,15 +172,15 @@ module _ (K : Known) (spool : List ℕ) (first : Bool) (p : Pen) (ns out : List 
           subst (λ (a : State). LineOut K spool first a ns′ out′ d) st (non-drawn b0 (nil-is (s .symbols) i) (rw same at x) n)
 
       beg : (j : ℕ) (r : Rule) (v : Value) → find (bytesAt spool key) definesTable ≡ found j r → Row definesTable j r → Reads (knownOf s) r (restIn spool rest) v
-          → opensBlock (r .holds) v ≡ true → getD (b ∷ false ∷ []) j false ≡ false → unless (not b) 6 (taking e 1 s λ s′. symbol s′ fresh) ≡ got st′ → LineOut K spool first st′ ns′ out′ d
+          → opensBlock (r .holds) v ≡ true → getD (b ∷ false ∷ []) j false ≡ false → unless (not b) 6 (taking e (kindSymbol ∷ []) s λ s′. symbol s′ fresh) ≡ got st′ → LineOut K spool first st′ ns′ out′ d
       beg j r v h w u o m g =
           let (j1, r1) = begin-row j r v w o in
           let (_, same, _, plain) = rows-lines K v in
           let h1 : find (bytesAt spool key) (tableOf (tableFor first p (isBrace rest))) ≡ found 1 (rule 1) = t ∙ h ∙ cc in
           let u1 : Reads K (rule 1) (restIn spool rest) v = reads-any (knownOf s) K (rule 1) (restIn spool rest) v plain (subst (λ (x : Rule). Reads (knownOf s) x (restIn spool rest) v) r1 u) in
           let (x, n) = symbol-done _ p rest K (rule 1) v ns ns′ out out′ d (z .here .0) (does K 1 (rule 1) v h1 u1) in
-          let (i, g′) = unless-got (not b) 6 (taking e 1 s λ s′. symbol s′ fresh) st′ g in
-          subst (λ (a : State). LineOut K spool first a ns′ out′ d) (taken e 1 s (λ s′. symbol s′ fresh) st′ no-limit g′) (symbol-drawn (not-true b i) (rw same at x) n)
+          let (i, g′) = unless-got (not b) 6 (taking e (kindSymbol ∷ []) s λ s′. symbol s′ fresh) st′ g in
+          subst (λ (a : State). LineOut K spool first a ns′ out′ d) (took e (kindSymbol ∷ []) s (λ s′. symbol s′ fresh) st′ g′) (symbol-drawn (not-true b i) (rw same at x) n)
 
   -- ── `}` ──
   close-shown : (b || not (isNil (s .symbols))) ≡ true → shown K first (top s 3) ≡ shown K first (defines s b) ++ bytes "}" ∷ []
@@ -192,7 +192,7 @@ module _ (K : Known) (spool : List ℕ) (first : Bool) (p : Pen) (ns out : List 
   pub defines-close : l .form ≡ close → CloseDone spool first p ns out out′ d → ns′ ≡ ns → LineOut K spool first st′ ns′ out′ d
   defines-close f does n =
       let g =
-      closed (defines s b) (λ j v. unless (isNil (s .symbols)) 6 (got (defines s true))) (λ i j v. unless (not b) 6 (taking e 1 s λ s′. symbol s′ fresh))
+      closed (defines s b) (λ j v. unless (isNil (s .symbols)) 6 (got (defines s true))) (λ i j v. unless (not b) 6 (taking e (kindSymbol ∷ []) s λ s′. symbol s′ fresh))
       (λ _. unless (b || not (isNil (s .symbols))) 8 (got (top s 3))) (knownOf s) definesTable (digitsOf (defineRange s)) (b ∷ false ∷ []) st′ (rw f at q) in
       let (i, g′) = unless-got (b || not (isNil (s .symbols))) 8 (got (top s 3)) st′ g in
       let st : top s 3 ≡ st′ = cc in

@@ -18,7 +18,7 @@ use Rattle.rules.specs.Values.{Value, Known, opens, charsOf, isLayerId}
 use Rattle.rules.specs.Rows.{Rule, row, found, find, Slots, rowsThere}
 use Rattle.rules.specs.Blocks.{drawingTable, mostLayers}
 use Rattle.rules.specs.Sets.{Layer, Drawing, Set, withDrawing, withRecords, withLayer, withOwn, arcOf, knownOf}
-use Rattle.rules.specs.RecordTable.{ruleAt}
+use Rattle.rules.specs.RecordTable.{ruleAt, kindLayer}
 use Rattle.rules.specs.Answers.{fullClass}
 use Rattle.rules.specs.Machine.{Line, Env, State, top, drawing, layerNames, layerValue, taking}
 use Rattle.rules.specs.LineByLine.{stepIn}
@@ -45,7 +45,7 @@ use Rattle.pens.proofs.Laying.{on-draws, on-inserts}
 use Rattle.pens.proofs.Acted.{reads-any, acted}
 use Rattle.pens.proofs.NotedLaws.{noted-line, set-rows}
 use Rattle.pens.proofs.ShownLaws.{opensNothing, block-parts, slots-more, slots-append, slots-flat, none-more, layers-more, layers-last, block-more}
-use Rattle.pens.proofs.FrontSteps.{taken, closed, row-is, unread, draws-line, line-long, still, front-more}
+use Rattle.pens.proofs.FrontSteps.{took, closed, row-is, unread, draws-line, line-long, still, front-more}
 
 -- ── the rows: seven that are noted, and `layer_name` ──
 abbrev rule : ℕ → Rule
@@ -257,7 +257,7 @@ module _ (K : Known) (spool : List ℕ) (first : Bool) (p : Pen) (ns out : List 
   layer k v = record { line = l .line; id = k; name = v }
 
   abbrev grown : List ℕ → Value → State
-  grown k v = layerNames (withRecords 1 s) (withLayer (layer k v) dr)
+  grown k v = layerNames (withRecords (kindLayer ∷ []) s) (withLayer (layer k v) dr)
 
   layer-shown : (k : List ℕ) (v : Value) → shown K first (grown k v) ≡ shown K first (layerNames s dr) ++ (k ++ 61 ∷ charsOf v) ∷ []
   layer-shown k v =
@@ -268,7 +268,7 @@ module _ (K : Known) (spool : List ℕ) (first : Bool) (p : Pen) (ns out : List 
   layer-stands k v n = (
     refl,
     record {
-      front = front-more first 1 s (around .front);
+      front = front-more first (kindLayer ∷ []) s (around .front);
       bare = around .bare;
       start = around .start;
       slots = around .slots;
@@ -282,7 +282,7 @@ module _ (K : Known) (spool : List ℕ) (first : Bool) (p : Pen) (ns out : List 
       → NamedLine spool key rest p out out′ d → ns′ ≡ ns → LineOut K spool first st′ ns′ out′ d
   names-key key rest f placed fits does n =
       let k : List ℕ = bytesAt spool key in
-      let g3 : Value → Got State = λ v. taking e 1 s λ s′. layerNames s′ (withLayer (layer k v) dr) in
+      let g3 : Value → Got State = λ v. taking e (kindLayer ∷ []) s λ s′. layerNames s′ (withLayer (layer k v) dr) in
       let g2 : Value → Got State = λ v. unless (not (among k (map (λ y. y .id) (dr .layers)))) 14 (g3 v) in
       let g1 : Value → Got State = λ v. unless (ltb (length (dr .layers)) mostLayers) 11 (g2 v) in
       let value : Got Value = layerValue k (freeShapeOf (restIn spool rest)) in
@@ -293,7 +293,7 @@ module _ (K : Known) (spool : List ℕ) (first : Bool) (p : Pen) (ns out : List 
       let e4 = unless-got (not (among k (map (λ y. y .id) (dr .layers)))) 14 (g3 v) st′ e3 .1 in
       let x : List ℕ = k ++ 61 ∷ charsOf v in
       let next : Pen = moved p (length (ended x)) 3 0 in
-      subst (λ (a : State). LineOut K spool first a ns′ out′ d) (taken e 1 s (λ s′. layerNames s′ (withLayer (layer k v) dr)) st′ no-limit e4)
+      subst (λ (a : State). LineOut K spool first a ns′ out′ d) (took e (kindLayer ∷ []) s (λ s′. layerNames s′ (withLayer (layer k v) dr)) st′ e4)
       (on-draws K spool first p ns out (layerNames s dr) z (x ∷ []) (grown k v) next ns′ out′ d size (layer-shown k v)
       (draws-line x (p .at) next out out′ d (does v read)) (ap (λ (m : ℕ). p .at + m) (line-long x)) many
       (subst (λ (u : List ℕ). Here K spool first next u (grown k v)) (sym n) (layer-stands k v (length (ended x)))))

@@ -1,5 +1,5 @@
 -- A line among figures, in a symbol's `element` or in a layer.
-use Prim.Native.Nat.{ℕ, zero, suc, _≤_, _<_}
+use Prim.Native.Nat.{ℕ, zero, suc, _≤_, _<_, _+_}
 use mathlib.Core.Bool.{Bool, true, false, cond, _&&_, not}
 use mathlib.Core.List.{List, [], _∷_, _++_, append-assoc, append-nil}
 use mathlib.Core.Option.{Option, none, some}
@@ -17,12 +17,13 @@ use Rattle.rules.specs.Values.{Value, empty, nums, chars, linked, Known, Kind, 
 use Rattle.rules.specs.Rows.{Rule, row, repeated, anyNumber, found, find, blank, rowsAtLimit, fits, shapeFor, isOpener as opensShape, innerOf, complete}
 use Rattle.rules.specs.Blocks.{blankHeld}
 use Rattle.rules.specs.Figures.{plainRows, blockRows, placedRow, anyOf, layerTable, figureTable, textTable, placedTables}
-use Rattle.rules.specs.RecordTable.{ruleAt}
-use Rattle.rules.specs.Sets.{Figure, plain, Symbol, LayerBlock, Set, withRecords, withBlock, symbolFigures, rangeOf, isSingle, knownOf}
+use Rattle.rules.specs.RecordTable.{ruleAt, kindLine, kindSuccessive, kindText, kindPlaced}
+use Rattle.rules.specs.Sets.{Figure, plain, Symbol, LayerBlock, Set, withRecords, withBlock, symbolFigures, rangeOf, isSingle, knownOf, layerTableOf}
 use Rattle.rules.specs.Machine.{Line, Env, Home, inElement, inLayer, State, symbol, elements, figures, successive, texts, placing, isLayer, homeTable, taking, openFigure, onFigures, closeFigures}
 use Rattle.rules.specs.LineByLine.{stepIn}
 use Rattle.rules.specs.Answers.{fullClass}
 use Rattle.rules.specs.FixedForm.{Text, openLine, opensBlock, behind, lineOf, block, showFigures, showBlocks}
+use Rattle.rules.specs.Machine.{symbolBlock, kindIn}
 use Rattle.rules.proofs.Chains.{never, clash, same-eq, and-left, and-right, unless-got}
 use Rattle.rules.proofs.Rows.{Row, here, there, found-row, row-all, row-at, row-below, row-find}
 use Rattle.promises.proofs.Forms.{keyOk, keysOk}
@@ -46,7 +47,8 @@ use Rattle.pens.specs.Keys.{isBrace, KeyDone, KeyLine, PlacedRest}
 use Rattle.pens.specs.Closing.{shutBytes, CloseDone}
 use Rattle.pens.specs.Drawing.{FormFits, LineOut}
 use Rattle.pens.proofs.Acted.{acted, reads-any}
-use Rattle.pens.proofs.HomeLaws.{took, shut-did, key-line, shut-line, block-range, front-block, text-records, text-more, rows-table, symbol-at, home-at, home-records}
+use Rattle.pens.proofs.HomeLaws.{shut-did, key-line, shut-line, block-range, front-block, text-records, text-more, rows-table, symbol-at, home-at, home-records}
+use Rattle.pens.proofs.FrontSteps.{took}
 use Rattle.pens.proofs.NotedLaws.{blank-text, blank-parts}
 use Rattle.pens.proofs.ShownLaws.{block-parts, figures-more, blocks-one, blocks-last}
 
@@ -203,31 +205,31 @@ module _ (K : Known) (spool : List ℕ) (first : Bool) where
     opened s h fs z zero w le q notes key draws = never q
     opened s h fs z (suc zero) w le q notes key draws =
         let p′ = moved p (length (ended w)) 9 0 in
-        let st : State = successive (withRecords 1 s) h fs (l .line) [] in
+        let st : State = successive (withRecords (kindIn h kindSuccessive ∷ []) s) h fs (l .line) [] in
         let same : (i : ℕ) → getD ns′ i 0 ≡ getD ns i 0 = λ i. ap (λ (u : List ℕ). getD u i 0) notes in
-        subst (λ (st : State). LineOut K spool first st ns′ out′ d) (took e 1 s (λ s′. successive s′ h fs (l .line) []) st′ q)
-        (draws st (ap (λ (t : Text). t ++ openLine (bytes "successive") ∷ []) (text-records K first 1 s h fs) ∙ ap (λ (u : List ℕ). figuresText K first s h fs ++ u ∷ []) (sym key))
-        (refl, home-records K first spool p′ ns′ 1 s h (home-at K first spool p p′ ns ns′ s h refl refl (same 0) (same 3) (z .here .1))))
+        subst (λ (st : State). LineOut K spool first st ns′ out′ d) (took e (kindIn h kindSuccessive ∷ []) s (λ s′. successive s′ h fs (l .line) []) st′ q)
+        (draws st (ap (λ (t : Text). t ++ openLine (bytes "successive") ∷ []) (text-records K first (kindIn h kindSuccessive ∷ []) s h fs) ∙ ap (λ (u : List ℕ). figuresText K first s h fs ++ u ∷ []) (sym key))
+        (refl, home-records K first spool p′ ns′ (kindIn h kindSuccessive ∷ []) s h (home-at K first spool p p′ ns ns′ s h refl refl (same 0) (same 3) (z .here .1))))
     opened s h fs z (suc (suc zero)) w le q notes key draws =
         let p′ = moved p (length (ended w)) 10 0 in
         let t = textTable (isLayer h) 4 12 in
-        let st : State = texts (withRecords 1 s) h fs (l .line) (blank t) in
+        let st : State = texts (withRecords (kindIn h kindText ∷ []) s) h fs (l .line) (blank t) in
         let same : (i : ℕ) → i < 4 → getD ns′ i 0 ≡ getD ns i 0 = λ i l. ap (λ (u : List ℕ). getD u i 0) notes ∙ text-keeps ns i l in
-        subst (λ (st : State). LineOut K spool first st ns′ out′ d) (took e 1 s (λ s′. texts s′ h fs (l .line) (blank t)) st′ q)
-        (draws st (ap (λ (t : Text). t ++ openLine (bytes "text") ∷ []) (text-records K first 1 s h fs) ∙ ap (λ (u : List ℕ). figuresText K first s h fs ++ u ∷ []) (sym key)) (
+        subst (λ (st : State). LineOut K spool first st ns′ out′ d) (took e (kindIn h kindText ∷ []) s (λ s′. texts s′ h fs (l .line) (blank t)) st′ q)
+        (draws st (ap (λ (t : Text). t ++ openLine (bytes "text") ∷ []) (text-records K first (kindIn h kindText ∷ []) s h fs) ∙ ap (λ (u : List ℕ). figuresText K first s h fs ++ u ∷ []) (sym key)) (
           refl,
-          home-records K first spool p′ ns′ 1 s h (home-at K first spool p p′ ns ns′ s h refl refl (same 0 (omega arith)) (same 3 (omega arith)) (z .here .1)),
-          subst (λ (u : List ℕ). NotedRows spool (homeKnown K (withRecords 1 s) h) t 4 u (blank t)) (sym notes)
-              (blank-text spool (homeKnown K (withRecords 1 s) h) t ns (text-rows (isLayer h)) (omega (arith, z .many))),
+          home-records K first spool p′ ns′ (kindIn h kindText ∷ []) s h (home-at K first spool p p′ ns ns′ s h refl refl (same 0 (omega arith)) (same 3 (omega arith)) (z .here .1)),
+          subst (λ (u : List ℕ). NotedRows spool (homeKnown K (withRecords (kindIn h kindText ∷ []) s) h) t 4 u (blank t)) (sym notes)
+              (blank-text spool (homeKnown K (withRecords (kindIn h kindText ∷ []) s) h) t ns (text-rows (isLayer h)) (omega (arith, z .many))),
         ))
     opened s (inElement y) fs z (suc (suc (suc zero))) w le q notes key draws = never q
     opened s (inLayer m) fs z (suc (suc (suc zero))) w le q notes key draws =
         let p′ = moved p (length (ended w)) 11 0 in
         let o = blankHeld placedTables in
-        let st : State = placing (withRecords 1 s) m fs (l .line) o 0 in
+        let st : State = placing (withRecords (kindPlaced ∷ []) s) m fs (l .line) (symbolBlock o) 0 in
         let body : Body first s = z .here .1 .0 in
-        subst (λ (st : State). LineOut K spool first st ns′ out′ d) (took e 1 s (λ s′. placing s′ m fs (l .line) o 0) st′ q)
-        (draws st (ap (λ (t : Text). t ++ openLine (bytes "E_symbol") ∷ []) (text-records K first 1 s (inLayer m) fs) ∙ ap (λ (u : List ℕ). figuresText K first s (inLayer m) fs ++ u ∷ []) (sym key)) (
+        subst (λ (st : State). LineOut K spool first st ns′ out′ d) (took e (kindPlaced ∷ []) s (λ s′. placing s′ m fs (l .line) (symbolBlock o) 0) st′ q)
+        (draws st (ap (λ (t : Text). t ++ openLine (bytes "E_symbol") ∷ []) (text-records K first (kindPlaced ∷ []) s (inLayer m) fs) ∙ ap (λ (u : List ℕ). figuresText K first s (inLayer m) fs ++ u ∷ []) (sym key)) (
           refl,
           record {
             home = (record { volume = body .volume; served = body .served }, z .here .1 .1);
@@ -251,7 +253,7 @@ module _ (K : Known) (spool : List ℕ) (first : Bool) where
           does j r v f w u = line (homeKnown K s h) j r v (home-found p ns s h (bytesAt spool key) rest j r v (z .here .0) (z .here .1) f u) (home-reads s h j r (restIn spool rest) v w u)
 
           enters : (j : ℕ) (r : Rule) (v : Value) → find (bytesAt spool key) (homeTable s h) ≡ found j r → Row (homeTable s h) j r → Reads (knownOf s) r (restIn spool rest) v → opensBlock (r .holds) v ≡ false
-              → getD (rowsAtLimit 0 (homeTable s h)) j false ≡ false → (taking e 1 s λ s′. figures s′ h (fs ++ plain (l .line) j (numsOf v) ∷ [])) ≡ got st′ → LineOut K spool first st′ ns′ out′ d
+              → getD (rowsAtLimit 0 (homeTable s h)) j false ≡ false → (taking e (kindIn h (kindLine + j) ∷ []) s λ s′. figures s′ h (fs ++ plain (l .line) j (numsOf v) ∷ [])) ≡ got st′ → LineOut K spool first st′ ns′ out′ d
           enters j r v f w u o g n =
               let b8 = z .here .0 in
               let done = does j r v f w u in
@@ -261,13 +263,13 @@ module _ (K : Known) (spool : List ℕ) (first : Bool) where
               let fs′ = fs ++ plain (l .line) j (numsOf v) ∷ [] in
               let notes : ns′ ≡ ns = rw (b8, flat) at (done .notes) in
               let same : (i : ℕ) → getD ns′ i 0 ≡ getD ns i 0 = λ i. ap (λ (u : List ℕ). getD u i 0) notes in
-              subst (λ (st : State). LineOut K spool first st ns′ out′ d) (took e 1 s (λ s′. figures s′ h fs′) st′ n)
-              (key-line K spool first p ns out (figures s h fs) z (figures (withRecords 1 s) h fs′) p′ ns′ out′ d size many (tableFor first p (isBrace rest)) rest (homeKnown K s h) j r v done
+              subst (λ (st : State). LineOut K spool first st ns′ out′ d) (took e (kindIn h (kindLine + j) ∷ []) s (λ s′. figures s′ h fs′) st′ n)
+              (key-line K spool first p ns out (figures s h fs) z (figures (withRecords (kindIn h (kindLine + j) ∷ []) s) h fs′) p′ ns′ out′ d size many (tableFor first p (isBrace rest)) rest (homeKnown K s h) j r v done
               (rw b8) (rw (b8, flat)) refl
-              (text-records K first 1 s h fs′ ∙ text-more K first s h fs (plain (l .line) j (numsOf v))
+              (text-records K first (kindIn h (kindLine + j) ∷ []) s h fs′ ∙ text-more K first s h fs (plain (l .line) j (numsOf v))
               ∙ ap (λ (t : List Rule). figuresText K first s h fs ++ lineOf (homeKnown K s h) (ruleAt t j) (nums (numsOf v)) ∷ []) (rows-table K first s h)
               ∙ ap (λ (t : List ℕ). figuresText K first s h fs ++ t ∷ []) (nums-line w (home-rows s h .1) (homeKnown K s h) v))
-              (refl, home-records K first spool p′ ns′ 1 s h (home-at K first spool p p′ ns ns′ s h refl refl (same 0) (same 3) (z .here .1))))
+              (refl, home-records K first spool p′ ns′ (kindIn h (kindLine + j) ∷ []) s h (home-at K first spool p p′ ns ns′ s h refl refl (same 0) (same 3) (z .here .1))))
 
           opens-block : (j : ℕ) (r : Rule) (v : Value) → find (bytesAt spool key) (homeTable s h) ≡ found j r → Row (homeTable s h) j r → Reads (knownOf s) r (restIn spool rest) v → opensBlock (r .holds) v ≡ true
               → getD (rowsAtLimit 0 (homeTable s h)) j false ≡ false → openFigure e l s h fs (innerOf (r .holds)) ≡ got st′ → LineOut K spool first st′ ns′ out′ d
@@ -328,7 +330,7 @@ module _ (K : Known) (spool : List ℕ) (first : Bool) where
         let s′ = withBlock u s in
         let is : elements s′ ≡ st′ = cc in
         let k = knownOf s in
-        let t = layerTable (isSingle s) in
+        let t = layerTableOf s in
         let us = s .now .blocks in
         let body : Body first s = z .here .1 .0 in
         let N = frontText K first s in
@@ -341,7 +343,7 @@ module _ (K : Known) (spool : List ℕ) (first : Bool) where
         subst (λ (st : State). LineOut K spool first st ns′ out′ d) is
         (shut-line K spool first p ns out (figures s (inLayer m) fs) z (elements s′) (moved p 3 7 0) ns′ out′ d size many
         (subst (λ (b : Bool). Draws shutBytes (p .at) (moved p 3 (cond b 7 5) 0) out out′ d) (z .here .1 .1) (done .figures (z .here .0))) refl
-        (ap (λ (f : Text). f ++ E ∷ showBlocks k (layerTable (isSingle s′)) (us ++ u ∷ []) []) (front-block K first u s)
+        (ap (λ (f : Text). f ++ E ∷ showBlocks k (layerTableOf s′) (us ++ u ∷ []) []) (front-block K first u s)
         ∙ ap (λ (n : ℕ). N ++ E ∷ showBlocks k (layerTable (eqb n 1)) (us ++ u ∷ []) []) (block-range u s)
         ∙ ap (λ (b : Text). N ++ E ∷ b) (blocks-last k t us u ∙ ap (λ (b : Text). B ++ b) (blocks-one k t u))
         ∙ sym (append-assoc N (E ∷ B) ((L ∷ F) ++ S))

@@ -1,5 +1,5 @@
 -- Steps that the blocks before ELEMENT share.
-use Prim.Native.Nat.{ℕ}
+use Prim.Native.Nat.{ℕ, _+_}
 use mathlib.Core.Bool.{Bool, true, false, cond}
 use mathlib.Core.List.{List, [], _∷_, append-nil}
 use mathlib.Core.Option.{Option, none, some}
@@ -13,8 +13,8 @@ use Rattle.rules.specs.Values.{Value, Known, opens}
 use Rattle.rules.specs.RecordTable.{ruleAt}
 use Rattle.rules.specs.Rows.{Rule, row, Slots, rowsThere, shut, refuse, complete, act}
 use Rattle.rules.specs.Sets.{Set, withRecords}
-use Rattle.rules.specs.Machine.{Env, State, byAct, taking}
-use Rattle.rules.proofs.Chains.{never, clash}
+use Rattle.rules.specs.Machine.{Env, State, byAct, roomFor, taking}
+use Rattle.rules.proofs.Chains.{unless-got, never, clash}
 use Rattle.rules.proofs.Rows.{Row, row-at}
 use Rattle.pens.specs.declared.Pen.{Pen}
 use Rattle.pens.specs.declared.Drawn.{Drawn}
@@ -22,9 +22,9 @@ use Rattle.pens.specs.Texts.{ended, lineBytes, Draws}
 use Rattle.pens.specs.Standing.{Front}
 
 -- ── taking a line apart ──
--- with no limit there is room for every record
-pub taken : (e : Env) (n : ℕ) (s : Set) (f : Set → State) (st : State) → e .limit ≡ none → taking e n s f ≡ got st → f (withRecords n s) ≡ st
-taken e n s f st u q = let r : got (f (withRecords n s)) ≡ got st = rw u at q in cc
+-- records that were taken fitted
+pub took : (e : Env) (ks : List ℕ) (s : Set) (f : Set → State) (st : State) → taking e ks s f ≡ got st → f (withRecords ks s) ≡ st
+took e ks s f st q = let w = unless-got (roomFor (e .limit) (s .taken + length ks)) 19 (got (f (withRecords ks s))) st q .1 in cc
 
 -- a `}` that was taken closes the block
 pub closed : (here : State) (en : ℕ → Value → Got State) (op : ℕ → ℕ → Value → Got State) (cl : Unit {0} → Got State) (k : Known) (t : List Rule) (d : Digits) (full : List Bool) (st : State)
@@ -64,5 +64,5 @@ still p b = record { block = b; part = p .part; layered = p .layered; start = p 
 
 -- ── the set ──
 -- more records leave all else
-pub front-more : (first : Bool) (n : ℕ) (s : Set) → Front first s → Front first (withRecords n s)
-front-more first n s f = record { volume = f .volume; alone = f .alone; empty = f .empty; served = f .served }
+pub front-more : (first : Bool) (ks : List ℕ) (s : Set) → Front first s → Front first (withRecords ks s)
+front-more first ks s f = record { volume = f .volume; alone = f .alone; empty = f .empty; served = f .served }

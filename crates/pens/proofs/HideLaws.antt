@@ -15,7 +15,7 @@ use Rattle.rules.specs.Values.{Value, empty, nums, chars, linked, Known, numsOf
 use Rattle.rules.specs.Rows.{Rule, found, find, rowsAtLimit}
 use Rattle.rules.specs.Figures.{pointTable}
 use Rattle.rules.specs.Sets.{Point, Symbol, Set, withRecords, symbolHidden, knownOf}
-use Rattle.rules.specs.RecordTable.{ruleAt}
+use Rattle.rules.specs.RecordTable.{ruleAt, kindHidden}
 use Rattle.rules.specs.Answers.{fullClass}
 use Rattle.rules.specs.Machine.{Line, Env, State, symbol, hide, pointAt, taking}
 use Rattle.rules.specs.LineByLine.{stepIn}
@@ -40,7 +40,7 @@ use Rattle.pens.specs.Drawing.{FormFits, LineOut}
 use Rattle.pens.proofs.Laying.{on-draws}
 use Rattle.pens.proofs.Acted.{reads-any, acted}
 use Rattle.pens.proofs.ShownLaws.{points-more, points-last}
-use Rattle.pens.proofs.FrontSteps.{taken, closed, row-is, draws-line, line-long, front-more}
+use Rattle.pens.proofs.FrontSteps.{took, closed, row-is, draws-line, line-long, front-more}
 
 -- ── the row of a point ──
 point-row : {j : ℕ} {r : Rule} → Row (pointTable false) j r → (j ≡ 0) × (r ≡ ruleAt (pointTable false) 0)
@@ -85,7 +85,7 @@ module _ (K : Known) (spool : List ℕ) (first : Bool) (p : Pen) (ns out : List 
 
   -- a point more
   abbrev grown : Value → State
-  grown v = hide (withRecords 1 s) y (ps ++ pointAt l v ∷ [])
+  grown v = hide (withRecords (kindHidden ∷ []) s) y (ps ++ pointAt l v ∷ [])
 
   shown-more : (v : Value) → shown K first (grown v) ≡ shown K first (hide s y ps) ++ lineOf K (ruleAt (pointTable false) 0) v ∷ []
   shown-more v =
@@ -100,7 +100,7 @@ module _ (K : Known) (spool : List ℕ) (first : Bool) (p : Pen) (ns out : List 
     record {
       in-symbol =
           let w = within .in-symbol in
-          record { front = front-more first 1 s (w .front); start = w .start; slots = w .slots; name = w .name; wall = w .wall; order = w .order };
+          record { front = front-more first (kindHidden ∷ []) s (w .front); start = w .start; slots = w .slots; name = w .name; wall = w .wall; order = w .order };
       read = within .read;
       order = within .order;
     },
@@ -118,12 +118,12 @@ module _ (K : Known) (spool : List ℕ) (first : Bool) (p : Pen) (ns out : List 
   pub hide-key : (key : Span) (rest : Rest) → l .form ≡ keyed (bytesAt spool key) (restIn spool rest) → PlacedRest rest → FormFits (l .form)
       → KeyLine spool first key rest p ns ns′ out out′ d → LineOut K spool first st′ ns′ out′ d
   hide-key key rest f placed fits does =
-      acted (hide s y ps) (λ j v. taking e 1 s λ s′. hide s′ y (ps ++ pointAt l v ∷ [])) (λ i j v. bad 5) (λ _. got (symbol s (symbolHidden ps y)))
+      acted (hide s y ps) (λ j v. taking e (kindHidden ∷ []) s λ s′. hide s′ y (ps ++ pointAt l v ∷ [])) (λ i j v. bad 5) (λ _. got (symbol s (symbolHidden ps y)))
       (knownOf s) (digits 0 0) st′ (pointTable false) (rowsAtLimit (length ps) (pointTable false)) (bytesAt spool key) (restIn spool rest)
       (table-keys false 0 0 .13) (rw f at fits) (rw f at q) ent (λ j r v h w u o m g. never g)
     where
       ent : (j : ℕ) (r : Rule) (v : Value) → find (bytesAt spool key) (pointTable false) ≡ found j r → Row (pointTable false) j r → Reads (knownOf s) r (restIn spool rest) v
-          → opensBlock (r .holds) v ≡ false → getD (rowsAtLimit (length ps) (pointTable false)) j false ≡ false → taking e 1 s (λ s′. hide s′ y (ps ++ pointAt l v ∷ [])) ≡ got st′ → LineOut K spool first st′ ns′ out′ d
+          → opensBlock (r .holds) v ≡ false → getD (rowsAtLimit (length ps) (pointTable false)) j false ≡ false → taking e (kindHidden ∷ []) s (λ s′. hide s′ y (ps ++ pointAt l v ∷ [])) ≡ got st′ → LineOut K spool first st′ ns′ out′ d
       ent j r v h w u o m g =
           let (j0, r0) = point-row w in
           let t : tableOf (tableFor first p (isBrace rest)) ≡ pointTable false = ap tableOf (hide-table first p (isBrace rest) (z .here .0)) ∙ points-table in
@@ -131,7 +131,7 @@ module _ (K : Known) (spool : List ℕ) (first : Bool) (p : Pen) (ns out : List 
           let u0 : Reads K (ruleAt (pointTable false) 0) (restIn spool rest) v =
           reads-any (knownOf s) K (ruleAt (pointTable false) 0) (restIn spool rest) v point-nameless (subst (λ (x : Rule). Reads (knownOf s) x (restIn spool rest) v) r0 u) in
           let (x, n) = hide-done _ p rest K (ruleAt (pointTable false) 0) v ns ns′ out out′ d (z .here .0) (does K 0 (ruleAt (pointTable false) 0) v h0 u0) in
-          subst (λ (a : State). LineOut K spool first a ns′ out′ d) (taken e 1 s (λ s′. hide s′ y (ps ++ pointAt l v ∷ [])) st′ no-limit g) (drawn v x n)
+          subst (λ (a : State). LineOut K spool first a ns′ out′ d) (took e (kindHidden ∷ []) s (λ s′. hide s′ y (ps ++ pointAt l v ∷ [])) st′ g) (drawn v x n)
 
   shown-closed : shown K first (symbol s (symbolHidden ps y)) ≡ shown K first (hide s y ps) ++ bytes "}" ∷ []
   shown-closed =
@@ -145,7 +145,7 @@ module _ (K : Known) (spool : List ℕ) (first : Bool) (p : Pen) (ns out : List 
   pub hide-close : l .form ≡ close → CloseDone spool first p ns out out′ d → ns′ ≡ ns → LineOut K spool first st′ ns′ out′ d
   hide-close f does n =
       let g : got (symbol s (symbolHidden ps y)) ≡ got st′ =
-      closed (hide s y ps) (λ j v. taking e 1 s λ s′. hide s′ y (ps ++ pointAt l v ∷ [])) (λ i j v. bad 5) (λ _. got (symbol s (symbolHidden ps y)))
+      closed (hide s y ps) (λ j v. taking e (kindHidden ∷ []) s λ s′. hide s′ y (ps ++ pointAt l v ∷ [])) (λ i j v. bad 5) (λ _. got (symbol s (symbolHidden ps y)))
       (knownOf s) (pointTable false) (digits 0 0) (rowsAtLimit (length ps) (pointTable false)) st′ (rw f at q) in
       let r : symbol s (symbolHidden ps y) ≡ st′ = cc in
       let next : Pen = moved p 3 5 0 in

@@ -12,11 +12,10 @@ use Rattle.rules.specs.Values.{Value, Known, Kind}
 use Rattle.rules.specs.Rows.{Rule, innerOf, shut, refuse}
 use Rattle.rules.specs.RecordTable.{ruleAt}
 use Rattle.rules.specs.Blocks.{symbolTable}
-use Rattle.rules.specs.Figures.{layerTable}
-use Rattle.rules.specs.Sets.{Figure, Contents, Set, LayerBlock, Symbol, withRecords, withBlock, withVolume, symbolRange, isSingle, knownOf}
-use Rattle.rules.specs.Machine.{Env, Home, inElement, inLayer, State, isLayer, homeTable, byAct, roomFor, taking}
+use Rattle.rules.specs.Sets.{Figure, Contents, Set, LayerBlock, Symbol, withRecords, withBlock, withVolume, symbolRange, knownOf, layerTableOf}
+use Rattle.rules.specs.Machine.{Env, Home, inElement, inLayer, State, isLayer, homeTable, byAct}
 use Rattle.rules.specs.FixedForm.{Text, openLine, opensBlock, lineOf, showFigure, showFigures, showBlocks}
-use Rattle.rules.proofs.Chains.{unless-got, never}
+use Rattle.rules.proofs.Chains.{never}
 use Rattle.entries.specs.declared.Rest.{Rest as CodeRest}
 use Rattle.pens.specs.declared.Pen.{Pen}
 use Rattle.pens.specs.declared.Drawn.{Drawn}
@@ -33,8 +32,6 @@ use Rattle.pens.proofs.ShownLaws.{figures-last}
 
 -- ── answers ──
 -- a record that was taken
-pub took : (e : Env) (n : ℕ) (s : Set) (f : Set → State) (st : State) → taking e n s f ≡ got st → f (withRecords n s) ≡ st
-took e n s f st q = let w = unless-got (roomFor (e .limit) (s .taken + n)) 19 (got (f (withRecords n s))) st q .1 in cc
 
 -- a block that was closed
 pub shut-did : {P : Type 0} (here : State) (en : ℕ → Value → Got State) (op : ℕ → ℕ → Value → Got State) (cl : Unit {0} → Got State) (b : Bool) (st : State)
@@ -121,23 +118,23 @@ module _ (K : Known) (first : Bool) where
       go true = refl
       go false = refl
 
-  front-records : (n : ℕ) (s : Set) → frontText K first (withRecords n s) ≡ frontText K first s
-  front-records n s = go first
+  front-records : (ks : List ℕ) (s : Set) → frontText K first (withRecords ks s) ≡ frontText K first s
+  front-records ks s = go first
     where
-      go : (b : Bool) → frontText K b (withRecords n s) ≡ frontText K b s
+      go : (b : Bool) → frontText K b (withRecords ks s) ≡ frontText K b s
       go true = refl
       go false = refl
 
   -- ── a record taken changes nothing of what is shown ──
-  pub known-records : (n : ℕ) (s : Set) (h : Home) → homeKnown K (withRecords n s) h ≡ homeKnown K s h
-  known-records n s (inElement y) = refl
-  known-records n s (inLayer m) = refl
+  pub known-records : (ks : List ℕ) (s : Set) (h : Home) → homeKnown K (withRecords ks s) h ≡ homeKnown K s h
+  known-records ks s (inElement y) = refl
+  known-records ks s (inLayer m) = refl
 
-  pub text-records : (n : ℕ) (s : Set) (h : Home) (fs : List Figure) → figuresText K first (withRecords n s) h fs ≡ figuresText K first s h fs
-  text-records n s (inElement y) fs = refl
-  text-records n s (inLayer m) fs =
-      ap (λ (f : Text). ((f ++ openLine (bytes "ELEMENT") ∷ showBlocks (knownOf s) (layerTable (isSingle s)) (s .now .blocks) []) ++ (bytes "LAYER=" ++ openLine (getD (knownOf s .layers) m [])) ∷ [])
-      ++ showFigures (knownOf s) true (layerTable (isSingle s)) fs []) (front-records n s)
+  pub text-records : (ks : List ℕ) (s : Set) (h : Home) (fs : List Figure) → figuresText K first (withRecords ks s) h fs ≡ figuresText K first s h fs
+  text-records ks s (inElement y) fs = refl
+  text-records ks s (inLayer m) fs =
+      ap (λ (f : Text). ((f ++ openLine (bytes "ELEMENT") ∷ showBlocks (knownOf s) (layerTableOf s) (s .now .blocks) []) ++ (bytes "LAYER=" ++ openLine (getD (knownOf s .layers) m [])) ∷ [])
+      ++ showFigures (knownOf s) true (layerTableOf s) fs []) (front-records ks s)
 
   -- a figure more
   pub text-more : (s : Set) (h : Home) (fs : List Figure) (f : Figure)
@@ -156,8 +153,8 @@ module _ (K : Known) (first : Bool) where
     home-layered p ns s (inElement y) z = z .layered
     home-layered p ns s (inLayer m) z = z .1
 
-    front-at : (n : ℕ) (s : Set) → Front first s → Front first (withRecords n s)
-    front-at n s z = record { volume = z .volume; alone = z .alone; empty = z .empty; served = z .served }
+    front-at : (ks : List ℕ) (s : Set) → Front first s → Front first (withRecords ks s)
+    front-at ks s z = record { volume = z .volume; alone = z .alone; empty = z .empty; served = z .served }
 
     pub symbol-at : (p p′ : Pen) (ns ns′ : List ℕ) (s : Set) (y : Symbol) → p′ .start ≡ p .start → getD ns′ 0 0 ≡ getD ns 0 0 → getD ns′ 3 0 ≡ getD ns 3 0
         → InSymbol K spool first p ns s y → InSymbol K spool first p′ ns′ s y
@@ -178,13 +175,13 @@ module _ (K : Known) (first : Bool) where
     home-at p p′ ns ns′ s (inLayer m) a l b c z = (z .0, l ∙ z .1)
 
     -- a record is taken
-    pub home-records : (p : Pen) (ns : List ℕ) (n : ℕ) (s : Set) (h : Home) → InHome K spool first p ns s h → InHome K spool first p ns (withRecords n s) h
-    home-records p ns n s (inElement y) z =
+    pub home-records : (p : Pen) (ns : List ℕ) (ks : List ℕ) (s : Set) (h : Home) → InHome K spool first p ns s h → InHome K spool first p ns (withRecords ks s) h
+    home-records p ns ks s (inElement y) z =
         let w = z .in-symbol in
         record {
-          in-symbol = record { front = front-at n s (w .front); start = w .start; slots = w .slots; name = w .name; wall = w .wall; order = w .order };
+          in-symbol = record { front = front-at ks s (w .front); start = w .start; slots = w .slots; name = w .name; wall = w .wall; order = w .order };
           layered = z .layered;
           read = z .read;
           order = z .order;
         }
-    home-records p ns n s (inLayer m) z = (record { volume = z .0 .volume; served = z .0 .served }, z .1)
+    home-records p ns ks s (inLayer m) z = (record { volume = z .0 .volume; served = z .0 .served }, z .1)

@@ -16,6 +16,7 @@ use Rattle.rules.specs.Machine.{Line, Env, State, top, file, drawing, layerName
 use Rattle.rules.specs.PlacedSymbol.{onPlacing, onSkipping}
 use Rattle.rules.specs.LineByLine.{stepIn}
 use Rattle.rules.specs.Answers.{fullClass}
+use Rattle.rules.specs.Machine.{symbolBlock}
 use Rattle.rules.proofs.Chains.{never}
 use Rattle.entries.specs.declared.Rest.{Rest}
 use Rattle.entries.specs.declared.Rest.the-variants as R
@@ -61,7 +62,7 @@ module _ (K : Known) (spool : List ℕ) (first : Bool) (p : Pen) (ns out : List 
     on-key (figures s h fs) z q = figures-key K spool first p ns out e l c no-limit st′ ns′ out′ d size many s h fs z q key rest f placed fits (row 8 (z .here .0) (λ h. omega (arith, h)))
     on-key (successive s h fs n qs) z q = successive-key K spool first p ns out e l c no-limit st′ ns′ out′ d size many s h fs n qs z q key rest f placed fits (row 9 (z .here .0) (λ h. omega (arith, h)))
     on-key (texts s h fs n o) z q = texts-key K spool first p ns out e l c no-limit st′ ns′ out′ d size many s h fs n o z q key rest f placed fits (row 10 (z .here .0) (λ h. omega (arith, h)))
-    on-key (placing s m fs n o i) z q = placing-key K spool first p ns out e l c no-limit st′ ns′ out′ d size many s m fs n o i z q key rest f placed fits (row 11 (z .here .0) (λ h. omega (arith, h)))
+    on-key (placing s m fs n (symbolBlock o) i) z q = placing-key K spool first p ns out e l c no-limit st′ ns′ out′ d size many s m fs n o i z q key rest f placed fits (row 11 (z .here .0) (λ h. omega (arith, h)))
     on-key (skipping s m fs n o i) z q = absurd (z .here)
     on-key (ended s) z q = never q
 
@@ -79,7 +80,7 @@ module _ (K : Known) (spool : List ℕ) (first : Bool) (p : Pen) (ns out : List 
     on-close (figures s h fs) z q = figures-close K spool first p ns out e l c no-limit st′ ns′ out′ d size many s h fs z q f w same
     on-close (successive s h fs n qs) z q = successive-close K spool first p ns out e l c no-limit st′ ns′ out′ d size many s h fs n qs z q f w same
     on-close (texts s h fs n o) z q = texts-close K spool first p ns out e l c no-limit st′ ns′ out′ d size many s h fs n o z q f w same
-    on-close (placing s m fs n o i) z q = placing-close K spool first p ns out e l c no-limit st′ ns′ out′ d size many s m fs n o i z q f w same
+    on-close (placing s m fs n (symbolBlock o) i) z q = placing-close K spool first p ns out e l c no-limit st′ ns′ out′ d size many s m fs n o i z q f w same
     on-close (skipping s m fs n o i) z q = absurd (z .here)
     on-close (ended s) z q = never q
 
@@ -97,8 +98,8 @@ module _ (K : Known) (spool : List ℕ) (first : Bool) (p : Pen) (ns out : List 
     on-eof (figures s h fs) z q = never (ap (onFigures e l s h fs) (sym f) ∙ q)
     on-eof (successive s h fs n ps) z q = never (ap (onSuccessive e l s h fs n ps) (sym f) ∙ q)
     on-eof (texts s h fs n o) z q = never (ap (onTexts s h fs n o) (sym f) ∙ q)
-    on-eof (placing s m fs n o zero) z q = never (ap (onPlacing e s m fs n o 0) (sym f) ∙ q)
-    on-eof (placing s m fs n o (suc i)) z q = never (ap (onPlacing e s m fs n o (suc i)) (sym f) ∙ q)
+    on-eof (placing s m fs n (symbolBlock o) zero) z q = never (ap (onPlacing e s m fs n o 0) (sym f) ∙ q)
+    on-eof (placing s m fs n (symbolBlock o) (suc i)) z q = never (ap (onPlacing e s m fs n o (suc i)) (sym f) ∙ q)
     on-eof (skipping s m fs n o i) z q = absurd (z .here)
     on-eof (ended s) z q = never q
 
@@ -115,9 +116,9 @@ module _ (K : Known) (spool : List ℕ) (first : Bool) (p : Pen) (ns out : List 
   on-wrong m f (figures s h fs) q = never (ap (onFigures e l s h fs) (sym f) ∙ q)
   on-wrong m f (successive s h fs n ps) q = never (ap (onSuccessive e l s h fs n ps) (sym f) ∙ q)
   on-wrong m f (texts s h fs n o) q = never (ap (onTexts s h fs n o) (sym f) ∙ q)
-  on-wrong m f (placing s h fs n o zero) q = never (ap (onPlacing e s h fs n o 0) (sym f) ∙ q)
-  on-wrong m f (placing s h fs n o (suc i)) q = never (ap (onPlacing e s h fs n o (suc i)) (sym f) ∙ q)
-  on-wrong m f (skipping s h fs n o i) q = never (ap (onSkipping s h fs n o i) (sym f) ∙ q)
+  on-wrong m f (placing s h fs n (symbolBlock o) zero) q = never (ap (onPlacing e s h fs n o 0) (sym f) ∙ q)
+  on-wrong m f (placing s h fs n (symbolBlock o) (suc i)) q = never (ap (onPlacing e s h fs n o (suc i)) (sym f) ∙ q)
+  on-wrong m f (skipping s h fs n b i) q = never (ap (onSkipping s h fs n b i) (sym f) ∙ q)
   on-wrong m f (ended s) q = never q
 
   -- ── an ignored line: nothing changes ──
@@ -136,9 +137,9 @@ module _ (K : Known) (spool : List ℕ) (first : Bool) (p : Pen) (ns out : List 
   on-ignored f (figures s h fs) q = stays (figures s h fs) (ap (onFigures e l s h fs) (sym f) ∙ q)
   on-ignored f (successive s h fs n ps) q = stays (successive s h fs n ps) (ap (onSuccessive e l s h fs n ps) (sym f) ∙ q)
   on-ignored f (texts s h fs n o) q = stays (texts s h fs n o) (ap (onTexts s h fs n o) (sym f) ∙ q)
-  on-ignored f (placing s m fs n o zero) q = stays (placing s m fs n o 0) (ap (onPlacing e s m fs n o 0) (sym f) ∙ q)
-  on-ignored f (placing s m fs n o (suc i)) q = stays (placing s m fs n o (suc i)) (ap (onPlacing e s m fs n o (suc i)) (sym f) ∙ q)
-  on-ignored f (skipping s m fs n o i) q = stays (skipping s m fs n o i) (ap (onSkipping s m fs n o i) (sym f) ∙ q)
+  on-ignored f (placing s m fs n (symbolBlock o) zero) q = stays (placing s m fs n (symbolBlock o) 0) (ap (onPlacing e s m fs n o 0) (sym f) ∙ q)
+  on-ignored f (placing s m fs n (symbolBlock o) (suc i)) q = stays (placing s m fs n (symbolBlock o) (suc i)) (ap (onPlacing e s m fs n o (suc i)) (sym f) ∙ q)
+  on-ignored f (skipping s m fs n b i) q = stays (skipping s m fs n b i) (ap (onSkipping s m fs n b i) (sym f) ∙ q)
   on-ignored f (ended s) q = never q
 
 -- ── by the code's form ──

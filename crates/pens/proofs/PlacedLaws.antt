@@ -18,7 +18,7 @@ use Rattle.rules.specs.Values.{Value, Known, Kind, values, text, word, volumeNa
 use Rattle.rules.specs.Rows.{Rule, Found, absent, found, find, Held, partOf, enter, rowsThere, orRefuse, innerOf, complete}
 use Rattle.rules.specs.Figures.{textTable, placedTable, placedTables}
 use Rattle.rules.specs.Sets.{Figure, placed, Set, symbolRange, rangeOf, knownOf}
-use Rattle.rules.specs.Machine.{Line, Env, inLayer, State, figures, placing, skipping, byAct}
+use Rattle.rules.specs.Machine.{Line, Env, inLayer, State, figures, placing, skipping, byAct, symbolBlock, Owned}
 use Rattle.rules.specs.PlacedSymbol.{newSerial, onPlacedKey, onPlacing}
 use Rattle.rules.specs.LineByLine.{stepIn}
 use Rattle.rules.specs.Answers.{fullClass}
@@ -120,11 +120,11 @@ placed-pen p j d opened inner n h = rw h
 module _ (K : Known) (spool : List ℕ) (first : Bool) (p : Pen) (ns out : List ℕ) (e : Env) (l : Line) (c : e .class ≡ fullClass) (no-limit : e .limit ≡ none)
     (st′ : State) (ns′ out′ : List ℕ) (d : Drawn) (size : length out′ ≡ length out) (many : length ns′ ≡ 28)
     (s : Set) (m : ℕ) (fs : List Figure) (n : ℕ) (o : Held) where
-  module _ (i : ℕ) (z : Pens K spool first p ns out (placing s m fs n o i)) (key : Span) (rest : CodeRest) (place : PlacedRest rest) (line : KeyLine spool first key rest p ns ns′ out out′ d)
+  module _ (i : ℕ) (z : Pens K spool first p ns out (placing s m fs n (symbolBlock o) i)) (key : Span) (rest : CodeRest) (place : PlacedRest rest) (line : KeyLine spool first key rest p ns ns′ out out′ d)
       (j : ℕ) (r : Rule) (v : Value) (f : find (bytesAt spool key) (getD placedTables i []) ≡ found j r) (w : Row (getD placedTables i []) j r) (u : Reads (knownOf s) r (restIn spool rest) v) where
     -- a row is noted, and another part may be open behind it
     noted : (i′ : ℕ) (p′ : Pen) → i′ < 2 → p′ .part ≡ i′ → p′ .block ≡ 11 → p′ .layered ≡ p .layered → p′ .at ≡ p .at → placedPen p (r .holds) ≡ p′
-        → LineOut K spool first (placing s m fs n (enter o i j v) i′) ns′ out′ d
+        → LineOut K spool first (placing s m fs n (symbolBlock (enter o i j v)) i′) ns′ out′ d
     noted i′ p′ le part b layered at pen =
         let b11 = z .here .0 in
         let old = z .here .1 in
@@ -132,7 +132,7 @@ module _ (K : Known) (spool : List ℕ) (first : Bool) (p : Pen) (ns out : List 
         let done = line (knownOf s) j r v (ap (find (bytesAt spool key)) table ∙ f) u in
         let notes : ns′ ≡ set ns (notesFrom (partTable 18 i) + j) (noteOf rest) =
         done .notes ∙ notes-at p 11 b11 (tableFor first p (isBrace rest)) j (r .holds) (innerOf (r .holds)) (noteOf rest) ns ∙ ap (λ (t : ℕ). set ns (notesFrom t + j) (noteOf rest)) number in
-        key-noted K spool first p ns out (placing s m fs n o i) z (placing s m fs n (enter o i j v) i′) p′ ns′ out′ d size many (tableFor first p (isBrace rest)) rest (knownOf s) j r v done
+        key-noted K spool first p ns out (placing s m fs n (symbolBlock o) i) z (placing s m fs n (symbolBlock (enter o i j v)) i′) p′ ns′ out′ d size many (tableFor first p (isBrace rest)) rest (knownOf s) j r v done
         (rw b11) (placed-pen p j (r .holds) (opensBlock (r .holds) v) (innerOf (r .holds)) 0 b11 ∙ pen) at refl (
           b,
           record {
@@ -144,44 +144,44 @@ module _ (K : Known) (spool : List ℕ) (first : Bool) (p : Pen) (ns out : List 
           },
         )
 
-    enters : opensBlock (r .holds) v ≡ false → unless (newSerial s fs v) 15 (got (placing s m fs n (enter o i j v) i)) ≡ got st′ → LineOut K spool first st′ ns′ out′ d
+    enters : opensBlock (r .holds) v ≡ false → unless (newSerial s fs v) 15 (got (placing s m fs n (symbolBlock (enter o i j v)) i)) ≡ got st′ → LineOut K spool first st′ ns′ out′ d
     enters x q =
-        let is = unless-got (newSerial s fs v) 15 (got (placing s m fs n (enter o i j v) i)) st′ q .1 in
-        let is′ : placing s m fs n (enter o i j v) i ≡ st′ = cc in
+        let is = unless-got (newSerial s fs v) 15 (got (placing s m fs n (symbolBlock (enter o i j v)) i)) st′ q .1 in
+        let is′ : placing s m fs n (symbolBlock (enter o i j v)) i ≡ st′ = cc in
         let old = z .here .1 in
         subst (λ (st : State). LineOut K spool first st ns′ out′ d) is′ (noted i p (old .open-part) (old .part) (z .here .0) refl refl (rw (no-block (r .holds) v x)))
 
-    opens-part : r .holds ≡ opens 1 → got (placing s m fs n (enter o i j v) (innerOf (r .holds))) ≡ got st′ → LineOut K spool first st′ ns′ out′ d
+    opens-part : r .holds ≡ opens 1 → got (placing s m fs n (symbolBlock (enter o i j v)) (innerOf (r .holds))) ≡ got st′ → LineOut K spool first st′ ns′ out′ d
     opens-part h q =
-        let q′ : got (placing s m fs n (enter o i j v) 1) ≡ got st′ = ap (λ (d : Kind). got (placing s m fs n (enter o i j v) (innerOf d))) (sym h) ∙ q in
-        let is : placing s m fs n (enter o i j v) 1 ≡ st′ = cc in
+        let q′ : got (placing s m fs n (symbolBlock (enter o i j v)) 1) ≡ got st′ = ap (λ (d : Kind). got (placing s m fs n (symbolBlock (enter o i j v)) (innerOf d))) (sym h) ∙ q in
+        let is : placing s m fs n (symbolBlock (enter o i j v)) 1 ≡ st′ = cc in
         subst (λ (st : State). LineOut K spool first st ns′ out′ d) is (noted 1 (moved p 0 11 1) (omega arith) refl refl refl (omega arith) (rw h))
 
   -- ── a line with a key ──
   module _ (key : Span) (rest : CodeRest) (form : l .form ≡ keyed (bytesAt spool key) (restIn spool rest)) (place : PlacedRest rest) (fit : FormFits (l .form)) (line : KeyLine spool first key rest p ns ns′ out out′ d) where
-    own-key : (z : Pens K spool first p ns out (placing s m fs n o 0)) (g : Found) → find (bytesAt spool key) placedTable ≡ g
+    own-key : (z : Pens K spool first p ns out (placing s m fs n (symbolBlock o) 0)) (g : Found) → find (bytesAt spool key) placedTable ≡ g
         → onPlacedKey e s m fs n o (bytesAt spool key) (restIn spool rest) g ≡ got st′ → LineOut K spool first st′ ns′ out′ d
     own-key z absent f q =
-        unknown (placing s m fs n o 0) (λ j v. bad 6) (λ i j v. bad 6) (λ _. bad 6) (hasForm (shapeOf (restIn spool rest))) st′
+        unknown (placing s m fs n (symbolBlock o) 0) (λ j v. bad 6) (λ i j v. bad 6) (λ _. bad 6) (hasForm (shapeOf (restIn spool rest))) st′
         (rw (c, served-full (symbolRange s) (z .here .1 .home .0 .served)) at q)
     own-key z (found j r) f q =
         let (w, same-key) = found-row (bytesAt spool key) placedTable j r f in
         let knows : reaches (e .class) (r .least) ≡ true = ap (λ (x : Digits). reaches x (r .least)) c ∙ row-all (λ r. reaches fullClass (r .least)) w (placed-rows .0) in
-        row-acted (placing s m fs n o 0) _ _ _ (knownOf s) (rangeOf s) st′ (getD (rowsThere (partOf o 0)) j false) j r (restIn spool rest)
+        row-acted (placing s m fs n (symbolBlock o) 0) _ _ _ (knownOf s) (rangeOf s) st′ (getD (rowsThere (partOf o 0)) j false) j r (restIn spool rest)
         (row-all (λ r. keyOk (r .key)) w (table-keys true 0 0 .15))
         (subst (λ (x : List ℕ). FormFits (keyed x (restIn spool rest))) (same-eq (bytesAt spool key) (r .key) same-key) (subst FormFits form fit))
         (cond-true (reaches (e .class) (r .least)) _ _ (got st′) knows q)
         (λ v u x full a. enters 0 z key rest place line j r v f w u x a)
         (λ v u x full a. opens-part 0 z key rest place line j r v f w u (opens-text (r .holds) v (row-all (λ r. opensText (r .holds)) w (placed-rows .1)) x) a)
 
-    text-key : (z : Pens K spool first p ns out (placing s m fs n o 1)) → stepIn e l (placing s m fs n o 1) ≡ got st′ → LineOut K spool first st′ ns′ out′ d
+    text-key : (z : Pens K spool first p ns out (placing s m fs n (symbolBlock o) 1)) → stepIn e l (placing s m fs n (symbolBlock o) 1) ≡ got st′ → LineOut K spool first st′ ns′ out′ d
     text-key z q =
-        acted (placing s m fs n o 1) _ _ _ (knownOf s) (digits 0 0) st′ (textTable true 16 24) (rowsThere (partOf o 1)) (bytesAt spool key) (restIn spool rest)
+        acted (placing s m fs n (symbolBlock o) 1) _ _ _ (knownOf s) (digits 0 0) st′ (textTable true 16 24) (rowsThere (partOf o 1)) (bytesAt spool key) (restIn spool rest)
         (table-keys true 16 24 .14) (subst FormFits form fit) (ap (onPlacing e s m fs n o 1) (sym form) ∙ q)
         (λ j r v f w u x full a. enters 1 z key rest place line j r v f w u x a)
         (λ j r v f w u x full a. clash x (opens-not r v (row-all opensNothing w (placed-rows .2))))
 
-  pub placing-key : (i : ℕ) → Pens K spool first p ns out (placing s m fs n o i) → stepIn e l (placing s m fs n o i) ≡ got st′
+  pub placing-key : (i : ℕ) → Pens K spool first p ns out (placing s m fs n (symbolBlock o) i) → stepIn e l (placing s m fs n (symbolBlock o) i) ≡ got st′
       → (key : Span) (rest : CodeRest) → l .form ≡ keyed (bytesAt spool key) (restIn spool rest) → PlacedRest rest → FormFits (l .form)
       → KeyLine spool first key rest p ns ns′ out out′ d → LineOut K spool first st′ ns′ out′ d
   placing-key zero z q key rest form place fit line =
@@ -191,7 +191,7 @@ module _ (K : Known) (spool : List ℕ) (first : Bool) (p : Pen) (ns out : List 
 
   -- ── `}` ──
   module _ (form : l .form ≡ close) (done : CloseDone spool first p ns out out′ d) (notes : ns′ ≡ ns) where
-    own-close : Pens K spool first p ns out (placing s m fs n o 0) → got (figures s (inLayer m) (fs ++ placed n o ∷ [])) ≡ got st′ → LineOut K spool first st′ ns′ out′ d
+    own-close : Pens K spool first p ns out (placing s m fs n (symbolBlock o) 0) → got (figures s (inLayer m) (fs ++ placed n o ∷ [])) ≡ got st′ → LineOut K spool first st′ ns′ out′ d
     own-close z q =
         let fs′ = fs ++ placed n o ∷ [] in
         let is : figures s (inLayer m) fs′ ≡ st′ = cc in
@@ -203,31 +203,31 @@ module _ (K : Known) (spool : List ℕ) (first : Bool) (p : Pen) (ns out : List 
         let F = figuresText K first s (inLayer m) fs in
         let rows : rowsBytes k 18 o ≡ lineBytes X = sym (bytes-append (showHeld k placedTables o []) shut) ∙ ap lineBytes (sym (held-more k placedTables o shut)) in
         subst (λ (st : State). LineOut K spool first st ns′ out′ d) is
-        (on-draws K spool first p ns out (placing s m fs n o 0) z X (figures s (inLayer m) fs′) p′ ns′ out′ d size
+        (on-draws K spool first p ns out (placing s m fs n (symbolBlock o) 0) z X (figures s (inLayer m) fs′) p′ ns′ out′ d size
         (text-more K first s (inLayer m) fs (placed n o) ∙ sym (append-assoc F (openLine (bytes "E_symbol") ∷ []) X))
         (subst (λ (u : List ℕ). Draws u (p .at) (moved p (length u) 8 0) out out′ d) rows (done .placed (z .here .0) (old .part) k o (old .noted)))
         refl many (refl, old .home))
 
-    text-close : Pens K spool first p ns out (placing s m fs n o 1) → got (placing s m fs n o 0) ≡ got st′ → LineOut K spool first st′ ns′ out′ d
+    text-close : Pens K spool first p ns out (placing s m fs n (symbolBlock o) 1) → got (placing s m fs n (symbolBlock o) 0) ≡ got st′ → LineOut K spool first st′ ns′ out′ d
     text-close z q =
-        let is : placing s m fs n o 0 ≡ st′ = cc in
+        let is : placing s m fs n (symbolBlock o) 0 ≡ st′ = cc in
         let old = z .here .1 in
         let p′ = moved p 0 11 0 in
         let (go, kept) = done .placed-text (z .here .0) 0 (old .part) in
         subst (λ (st : State). LineOut K spool first st ns′ out′ d) is
-        (on-nothing K spool first p ns out (placing s m fs n o 1) z (placing s m fs n o 0) p′ ns′ out′ d size many refl
+        (on-nothing K spool first p ns out (placing s m fs n (symbolBlock o) 1) z (placing s m fs n (symbolBlock o) 0) p′ ns′ out′ d size many refl
         (part-draws (p .at) p′ out out′ d (z .fits) go kept) (omega arith)
         (refl, record { home = old .home; part = refl; open-part = omega arith; noted = subst (λ (x : List ℕ). NotedParts spool (knownOf s) 18 x o) (sym notes) (old .noted) }))
 
-  pub placing-close : (i : ℕ) → Pens K spool first p ns out (placing s m fs n o i) → stepIn e l (placing s m fs n o i) ≡ got st′
+  pub placing-close : (i : ℕ) → Pens K spool first p ns out (placing s m fs n (symbolBlock o) i) → stepIn e l (placing s m fs n (symbolBlock o) i) ≡ got st′
       → l .form ≡ close → CloseDone spool first p ns out out′ d → ns′ ≡ ns → LineOut K spool first st′ ns′ out′ d
   placing-close zero z q form done notes =
-      shut-did (placing s m fs n o 0) _ _ _ (complete (both (e .class) (rangeOf s)) placedTable (rowsThere (partOf o 0))) st′ (ap (onPlacing e s m fs n o 0) (sym form) ∙ q) (own-close form done notes z)
+      shut-did (placing s m fs n (symbolBlock o) 0) _ _ _ (complete (both (e .class) (rangeOf s)) placedTable (rowsThere (partOf o 0))) st′ (ap (onPlacing e s m fs n o 0) (sym form) ∙ q) (own-close form done notes z)
   placing-close (suc zero) z q form done notes =
-      shut-did (placing s m fs n o 1) _ _ _ (complete (digits 0 0) (textTable true 16 24) (rowsThere (partOf o 1))) st′ (ap (onPlacing e s m fs n o 1) (sym form) ∙ q) (text-close form done notes z)
+      shut-did (placing s m fs n (symbolBlock o) 1) _ _ _ (complete (digits 0 0) (textTable true 16 24) (rowsThere (partOf o 1))) st′ (ap (onPlacing e s m fs n o 1) (sym form) ∙ q) (text-close form done notes z)
   placing-close (suc (suc i)) z q form done notes = absurd (omega (arith, z .here .1 .open-part))
 
 -- nothing is skipped at class 15, and the writing never stands there
-pub skipping-never : {P : Type 0} (K : Known) (spool : List ℕ) (first : Bool) (p : Pen) (ns out : List ℕ) (s : Set) (m : ℕ) (fs : List Figure) (n : ℕ) (o : Held) (i : ℕ)
-    → Pens K spool first p ns out (skipping s m fs n o i) → P
-skipping-never K spool first p ns out s m fs n o i z = absurd (z .here)
+pub skipping-never : {P : Type 0} (K : Known) (spool : List ℕ) (first : Bool) (p : Pen) (ns out : List ℕ) (s : Set) (m : ℕ) (fs : List Figure) (n : ℕ) (b : Owned) (i : ℕ)
+    → Pens K spool first p ns out (skipping s m fs n b i) → P
+skipping-never K spool first p ns out s m fs n b i z = absurd (z .here)

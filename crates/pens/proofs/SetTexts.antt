@@ -12,7 +12,7 @@ use Rattle.rules.specs.Values.{Known}
 use Rattle.rules.specs.Rows.{Rule, numberOf, partOf}
 use Rattle.rules.specs.Blocks.{fileTables, elecTable}
 use Rattle.rules.specs.Figures.{layerTable}
-use Rattle.rules.specs.Sets.{Drawing, Symbol, Contents, Set, headOr, symbolRange, isSingle, symbolNameOf, knownOf}
+use Rattle.rules.specs.Sets.{Drawing, Symbol, Contents, Set, headOr, symbolRange, symbolNameOf, knownOf, layerTableOf}
 use Rattle.rules.specs.FixedForm.{Text, block, showHeld, showDrawing, showDefines, showBlocks, showFirst, showLater, ending, laterLines, volumeLines, volumesBytes}
 use Rattle.rules.specs.Machine.{Env, top, ended}
 use Rattle.pens.specs.Shown.{fileText, drawingText, definesText, frontText, elementText, shown}
@@ -25,7 +25,7 @@ module _ (e : Env) (set : Set) where
   k = knownOf set
 
   abbrev t : List Rule
-  t = layerTable (isSingle set)
+  t = layerTableOf set
 
   -- a volume's text, with these lines behind it
   abbrev bodyText : Bool → Contents → Text → Text

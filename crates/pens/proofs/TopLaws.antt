@@ -16,19 +16,20 @@ use Rattle.rules.specs.RangeClass.{digits}
 use Rattle.rules.specs.Values.{Value, Known}
 use Rattle.rules.specs.Rows.{Rule, found, find, blank, Held, rowsAtLimit}
 use Rattle.rules.specs.Blocks.{topTable, fileTables, drawingTable, blankHeld}
-use Rattle.rules.specs.Figures.{layerTable}
-use Rattle.rules.specs.Sets.{Drawing, Symbol, LayerBlock, Set, withRecords, isFirst, isSingle, knownOf}
+use Rattle.rules.specs.Sets.{Drawing, Symbol, LayerBlock, Set, withRecords, isFirst, knownOf, layerTableOf}
 use Rattle.rules.specs.VolumesAndTotals.{countedAll, layersUsed}
-use Rattle.rules.specs.Machine.{Line, Env, State, top, file, drawing, defines, elements, ended, roomFor, taking, openTop, onTop}
+use Rattle.rules.specs.Machine.{Line, Env, State, top, file, drawing, defines, elements, ended, openTop, onTop, fileKinds}
 use Rattle.rules.specs.LineByLine.{stepIn}
 use Rattle.rules.specs.Answers.{fullClass}
 use Rattle.rules.specs.FixedForm.{Text, openLine, lineOf, showSymbols, showBlocks}
+use Rattle.rules.specs.RecordTable.{kindDrawing}
 use Rattle.rules.proofs.Chains.{and-left, never, unless-got}
 use Rattle.rules.proofs.Rows.{Row, row-at, row-below}
 use Rattle.promises.proofs.Forms.{table-keys}
 use Rattle.tables.specs.Tables.{tableOf}
 use Rattle.entries.specs.declared.Rest.{Rest}
 use Rattle.entries.specs.Shapes.{restIn}
+use Rattle.pens.proofs.FrontSteps.{took}
 use Rattle.pens.specs.declared.Pen.{Pen}
 use Rattle.pens.specs.declared.Drawn.{Drawn}
 use Rattle.pens.specs.Texts.{ended as endedLine, lineBytes, Draws}
@@ -65,9 +66,6 @@ top-table : (first : Bool) (p : Pen) (b : Bool) → p .block ≡ 0 → tableOf (
 unfolding tableOf
 top-table first p b e = rw e
 
-pub taken-got : (e : Env) (n : ℕ) (s : Set) (f : Set → State) (st′ : State) → taking e n s f ≡ got st′ → f (withRecords n s) ≡ st′
-taken-got e n s f st′ o = let w = unless-got (roomFor (e .limit) (s .taken + n)) 19 (got (f (withRecords n s))) st′ o .1 in cc
-
 -- what such a line promises, at the top level
 top-done : (t : ℕ) (p : Pen) (rest : Rest) (k : Known) (j : ℕ) (r : Rule) (v : Value) (ns ns′ out out′ : List ℕ) (d : Drawn) → p .block ≡ 0 → Row topTable j r → KeyDone t p rest k j r v ns ns′ out out′ d
     → Draws (endedLine (openLine (topKey j))) (p .at) (topPen p j (length (endedLine (openLine (topKey j))))) out out′ d × (ns′ ≡ forgotten ns)
@@ -87,17 +85,17 @@ module _ (K : Known) (spool : List ℕ) (first : Bool) (p : Pen) (ns out : List 
       → Draws (endedLine (openLine (topKey j))) (p .at) (topPen p j (length (endedLine (openLine (topKey j))))) out out′ d → LineOut K spool first st′ ns′ out′ d
   opened zero few z o w =
       let (volume, bare, later) = z .here .1 in
-      let s′ : Set = withRecords (cond (isFirst s) 2 1) s in
+      let s′ : Set = withRecords (fileKinds (isFirst s)) s in
       let h : Held = blankHeld (fileTables (isFirst s)) in
       let next : Pen = moved p 15 1 0 in
       let noted : NotedParts spool K (cond first 1 6) ns′ h = subst (λ (x : List ℕ). NotedParts spool K (cond first 1 6) x h) (sym notes)
       (subst (λ (ts : List (List Rule)). NotedParts spool K (cond first 1 6) (forgotten ns) (blankHeld ts)) (file-tables-of first ∙ ap fileTables (sym volume)) (blank-parts spool K (cond first 1 6) ns)) in
       let here : InFile K spool first next ns′ s′ h 0 = record { part = refl; volume = volume; bare = bare; later = later; open-part = file-parts first; noted = noted } in
-      subst (λ (x : State). LineOut K spool first x ns′ out′ d) (taken-got e (cond (isFirst s) 2 1) s (λ s′. file s′ (l .line) h 0) st′ o)
+      subst (λ (x : State). LineOut K spool first x ns′ out′ d) (took e (fileKinds (isFirst s)) s (λ s′. file s′ (l .line) h 0) st′ o)
       (on-draws K spool first p ns out (top s 0) z (openLine (bytes "FILE_FORMAT") ∷ []) (file s′ (l .line) h 0) next ns′ out′ d size refl w refl many (refl, here))
   opened (suc zero) few z o w =
       let (front, bare) = z .here .1 in
-      let s′ : Set = withRecords 1 s in
+      let s′ : Set = withRecords (kindDrawing ∷ []) s in
       let begins : Drawing = record { line = l .line; own = blank drawingTable; layers = [] } in
       let next : Pen = begun p 18 2 in
       let line : Text = openLine (bytes "DRAWING_FORMAT") ∷ [] in
@@ -114,7 +112,7 @@ module _ (K : Known) (spool : List ℕ) (first : Bool) (p : Pen) (ns out : List 
         unnamed = λ _. refl;
       } in
       let names : namesText K begins ≡ [] = rw unnamed in
-      subst (λ (x : State). LineOut K spool first x ns′ out′ d) (taken-got e 1 s (λ s′. drawing s′ begins) st′ o)
+      subst (λ (x : State). LineOut K spool first x ns′ out′ d) (took e (kindDrawing ∷ []) s (λ s′. drawing s′ begins) st′ o)
       (on-draws K spool first p ns out (top s 1) z line (drawing s′ begins) next ns′ out′ d size (ap (λ (t : Text). file ++ line ++ t) names ∙ append-nil (file ++ line)) w refl many (refl, here))
   opened (suc (suc zero)) few z o w =
       let (front, bare) = z .here .1 in
@@ -129,7 +127,7 @@ module _ (K : Known) (spool : List ℕ) (first : Bool) (p : Pen) (ns out : List 
       let is : elements s ≡ st′ = cc in
       subst (λ (x : State). LineOut K spool first x ns′ out′ d) is
       (on-draws K spool first p ns out (top s 3) z line (elements s) (moved p 11 7 0) ns′ out′ d size
-      (ap (λ (us : List LayerBlock). frontText K first s ++ openLine (bytes "ELEMENT") ∷ showBlocks (knownOf s) (layerTable (isSingle s)) us []) blocks) w refl many (refl, body))
+      (ap (λ (us : List LayerBlock). frontText K first s ++ openLine (bytes "ELEMENT") ∷ showBlocks (knownOf s) (layerTableOf s) us []) blocks) w refl many (refl, body))
   opened (suc (suc (suc (suc j)))) few z o w = absurd (omega (arith, few))
 
 module _ (K : Known) (spool : List ℕ) (first : Bool) (p : Pen) (ns out : List ℕ) (s : Set) (k : ℕ) (z : Pens K spool first p ns out (top s k)) (e : Env) (l : Line) (c : e .class ≡ fullClass) (no-limit : e .limit ≡ none) (st′ : State) (q : stepIn e l (top s k) ≡ got st′) (ns′ out′ : List ℕ) (d : Drawn) (size : length out′ ≡ length out) (many : length ns′ ≡ 28) where

@@ -15,6 +15,7 @@ use Rattle.rules.specs.Figures.{layerTable, figureTable}
 use Rattle.rules.specs.Sets.{Point, Figure, chain, Layer, Drawing, Symbol, LayerBlock, Contents, Set, withNow, withDrawing, withSymbol, withVolume, withRecords, withBlock, withLayer, withOwn, symbolOwn, symbolFigures, symbolHidden, symbolOrder, isSingle, knownOf}
 use Rattle.rules.specs.FixedForm.{Text, openLine, block, showDrawing, showLayers, showPoints, showFigure, showFigures, showSymbol, showSymbols, showDefines, showBlocks}
 use Rattle.rules.specs.Machine.{Home, inElement, inLayer, State, top, file, drawing, layerNames, defines, symbol, hide, elements, figures, successive, texts, placing, skipping, ended, isLayer}
+use Rattle.rules.specs.Sets.{layerTableOf}
 use Rattle.rules.proofs.Chains.{clash}
 use Rattle.pens.specs.Texts.{lineBytes}
 use Rattle.pens.specs.Shown.{fileText, drawingText, definesText, frontText, elementText, topText, drawingBegun, namesText, definesBegun, symbolBegun, shownPart, hiddenPart, partsText, elementsBegun, homeKnown, homeRows, figuresText, shown}
@@ -95,8 +96,8 @@ module _ (first : Bool) (s₀ : Set) where
   Sound (skipping s m fs n o d) = Same s
   Sound (ended s) = Closed s
 
-  pub same-records : (n : ℕ) (s : Set) → Same s → Same (withRecords n s)
-  same-records n s m = record { volumes = m .volumes; drawing = m .drawing; symbols = m .symbols }
+  pub same-records : (ks : List ℕ) (s : Set) → Same s → Same (withRecords ks s)
+  same-records ks s m = record { volumes = m .volumes; drawing = m .drawing; symbols = m .symbols }
 
   pub same-now : (v : Contents) (s : Set) → Same s → Same (withNow v s)
   same-now v s m = record { volumes = m .volumes; drawing = m .drawing; symbols = m .symbols }
@@ -145,8 +146,8 @@ module _ (K : Known) (first : Bool) where
         size-append (drawingBegun K s) (openLine (bytes "layer_name") ∷ showLayers K (d .layers) []),
       )
 
-  pub names-more : (s : Set) (d : Drawing) (n : ℕ) (u : Layer) → weight (layerNames s d) ≤ weight (layerNames (withRecords n s) (withLayer u d))
-  names-more s d n u =
+  pub names-more : (s : Set) (d : Drawing) (ks : List ℕ) (u : Layer) → weight (layerNames s d) ≤ weight (layerNames (withRecords ks s) (withLayer u d))
+  names-more s d ks u =
       let L : Text = openLine (bytes "layer_name") ∷ [] in
       le-behind (drawingBegun K s) (openLine (bytes "layer_name") ∷ showLayers K (d .layers) []) (openLine (bytes "layer_name") ∷ showLayers K (d .layers ++ u ∷ []) [])
       (le-behind L (showLayers K (d .layers) []) (showLayers K (d .layers ++ u ∷ []) [])
@@ -183,8 +184,8 @@ module _ (K : Known) (first : Bool) where
       le-behind (topText K true s 2) (openLine (bytes "SYMBOL_DEFINE") ∷ showSymbols K (s .symbols) []) (openLine (bytes "SYMBOL_DEFINE") ∷ bytes "NON=" ∷ [])
       (le-behind S (showSymbols K (s .symbols) []) (bytes "NON=" ∷ []) (rw e (omega arith)))
 
-  pub symbol-opens : (s : Set) (n : ℕ) (y : Symbol) → weight (defines s false) ≤ weight (symbol (withRecords n s) y)
-  symbol-opens s n y =
+  pub symbol-opens : (s : Set) (ks : List ℕ) (y : Symbol) → weight (defines s false) ≤ weight (symbol (withRecords ks s) y)
+  symbol-opens s ks y =
       let E : Text = openLine (bytes "E_symbol") ∷ [] in
       omega (arith, size-append (definesBegun K s false) E, size-append (definesBegun K s false ++ E) (partsText K y))
 
@@ -258,8 +259,8 @@ module _ (K : Known) (first : Bool) where
       let none-yet : hiddenPart K y ≡ [] = rw e in
       omega (arith, symbol-size s y, ap size none-yet, shown-row y j v, size-append (symbolBegun K s) H, size-append (symbolBegun K s ++ H) E)
 
-  pub hide-more : (s : Set) (y : Symbol) (ps : List Point) (n : ℕ) (q : Point) → weight (hide s y ps) ≤ weight (hide (withRecords n s) y (ps ++ q ∷ []))
-  hide-more s y ps n q =
+  pub hide-more : (s : Set) (y : Symbol) (ps : List Point) (ks : List ℕ) (q : Point) → weight (hide s y ps) ≤ weight (hide (withRecords ks s) y (ps ++ q ∷ []))
+  hide-more s y ps ks q =
       let E : Text = openLine (bytes "hide") ∷ [] in
       let P = showPoints K false ps [] in
       le-behind (symbolBegun K s ++ shownPart K y) (openLine (bytes "hide") ∷ P) (openLine (bytes "hide") ∷ showPoints K false (ps ++ q ∷ []) [])
@@ -302,17 +303,17 @@ module _ (K : Known) (first : Bool) where
     abbrev T : List Figure → Text
     T fs = figuresText K first s h fs
 
-    pub figure-more : (fs : List Figure) (n : ℕ) (f : Figure) → weight (figures s h fs) ≤ weight (figures (withRecords n s) h (fs ++ f ∷ []))
-    figure-more fs n f =
+    pub figure-more : (fs : List Figure) (ks : List ℕ) (f : Figure) → weight (figures s h fs) ≤ weight (figures (withRecords ks s) h (fs ++ f ∷ []))
+    figure-more fs ks f =
         omega (
           arith,
-          ap size (text-records K first n s h (fs ++ f ∷ [])),
+          ap size (text-records K first ks s h (fs ++ f ∷ [])),
           ap size (text-more K first s h fs f),
           size-append (T fs) (showFigure (homeKnown K s h) (isLayer h) (homeRows K s h) f []),
         )
 
-    pub figure-opens : (fs : List Figure) (n : ℕ) (x : Text) → size (T fs) ≤ size (figuresText K first (withRecords n s) h fs ++ x)
-    figure-opens fs n x = omega (arith, ap size (text-records K first n s h fs), size-append (figuresText K first (withRecords n s) h fs) x)
+    pub figure-opens : (fs : List Figure) (ks : List ℕ) (x : Text) → size (T fs) ≤ size (figuresText K first (withRecords ks s) h fs ++ x)
+    figure-opens fs ks x = omega (arith, ap size (text-records K first ks s h fs), size-append (figuresText K first (withRecords ks s) h fs) x)
 
     -- a figure that is a block, closed
     pub figure-shut : (fs : List Figure) (f : Figure) (x : Text) → size x ≤ size (showFigure (homeKnown K s h) (isLayer h) (homeRows K s h) f []) → size (T fs ++ x) ≤ weight (figures s h (fs ++ f ∷ []))
@@ -328,19 +329,19 @@ module _ (K : Known) (first : Bool) where
     abbrev P : List Point → Text
     P ps = showPoints (homeKnown K s h) (isLayer h) ps []
 
-    pub chain-more : (fs : List Figure) (m : ℕ) (ps : List Point) (n : ℕ) (q : Point) → weight (successive s h fs m ps) ≤ weight (successive (withRecords n s) h fs m (ps ++ q ∷ []))
-    chain-more fs m ps n q =
+    pub chain-more : (fs : List Figure) (m : ℕ) (ps : List Point) (ks : List ℕ) (q : Point) → weight (successive s h fs m ps) ≤ weight (successive (withRecords ks s) h fs m (ps ++ q ∷ []))
+    chain-more fs m ps ks q =
         let S : Text = openLine (bytes "successive") ∷ [] in
-        let T′ = figuresText K first (withRecords n s) h fs in
-        let P′ = showPoints (homeKnown K (withRecords n s) h) (isLayer h) (ps ++ q ∷ []) [] in
+        let T′ = figuresText K first (withRecords ks s) h fs in
+        let P′ = showPoints (homeKnown K (withRecords ks s) h) (isLayer h) (ps ++ q ∷ []) [] in
         omega (
           arith,
           size-append (T fs) (openLine (bytes "successive") ∷ P ps),
           size-append S (P ps),
           size-append T′ (openLine (bytes "successive") ∷ P′),
           size-append S P′,
-          ap size (text-records K first n s h fs),
-          ap (λ (k : Known). size (showPoints k (isLayer h) (ps ++ q ∷ []) [])) (known-records K first n s h),
+          ap size (text-records K first ks s h fs),
+          ap (λ (k : Known). size (showPoints k (isLayer h) (ps ++ q ∷ []) [])) (known-records K first ks s h),
           ap size (points-last (homeKnown K s h) (isLayer h) ps q),
           size-append (P ps) (showPoints (homeKnown K s h) (isLayer h) (q ∷ []) []),
         )
@@ -373,7 +374,7 @@ module _ (K : Known) (first : Bool) where
 
   -- ── ELEMENT ──
   pub elements-open : (s : Set) → weight (top s 3) ≤ weight (elements s)
-  elements-open s = le-more (frontText K first s) (openLine (bytes "ELEMENT") ∷ showBlocks (knownOf s) (layerTable (isSingle s)) (s .now .blocks) [])
+  elements-open s = le-more (frontText K first s) (openLine (bytes "ELEMENT") ∷ showBlocks (knownOf s) (layerTableOf s) (s .now .blocks) [])
 
   pub layer-opens : (s : Set) (m : ℕ) → weight (elements s) ≤ weight (figures s (inLayer m) [])
   layer-opens s m =
@@ -384,7 +385,7 @@ module _ (K : Known) (first : Bool) where
   layer-shut s m fs =
       let u : LayerBlock = record { layer = m; figures = fs } in
       let k = knownOf s in
-      let t = layerTable (isSingle s) in
+      let t = layerTableOf s in
       let us = s .now .blocks in
       let N = frontText K first s in
       let E : Text = openLine (bytes "ELEMENT") ∷ [] in
@@ -392,7 +393,7 @@ module _ (K : Known) (first : Bool) where
       let L : Text = (bytes "LAYER=" ++ openLine (getD (k .layers) m [])) ∷ [] in
       let F = showFigures k true t fs [] in
       let is : shown K first (elements (withBlock u s)) ≡ N ++ openLine (bytes "ELEMENT") ∷ (B ++ ((L ++ F) ++ bytes "}" ∷ [])) =
-      ap (λ (f : Text). f ++ openLine (bytes "ELEMENT") ∷ showBlocks k (layerTable (isSingle (withBlock u s))) (us ++ u ∷ []) []) (front-block K first u s)
+      ap (λ (f : Text). f ++ openLine (bytes "ELEMENT") ∷ showBlocks k (layerTableOf (withBlock u s)) (us ++ u ∷ []) []) (front-block K first u s)
       ∙ ap (λ (n : ℕ). N ++ openLine (bytes "ELEMENT") ∷ showBlocks k (layerTable (eqb n 1)) (us ++ u ∷ []) []) (block-range u s)
       ∙ ap (λ (b : Text). N ++ openLine (bytes "ELEMENT") ∷ b) (blocks-last k t us u ∙ ap (λ (b : Text). B ++ b) (blocks-one k t u)) in
       omega (

@@ -1,5 +1,5 @@
 -- One line of a volume, in any state: what it leaves as it was, and that no less is shown.
-use Prim.Native.Nat.{ℕ, zero, suc, _≤_, _<_}
+use Prim.Native.Nat.{ℕ, zero, suc, _≤_, _<_, _+_}
 use mathlib.Core.Bool.{Bool, true, false, cond, _&&_, _||_, not}
 use mathlib.Core.List.{List, [], _∷_, map}
 use mathlib.Core.Option.{none, some}
@@ -23,6 +23,8 @@ use Rattle.rules.specs.VolumesAndTotals.{chained, dated, countedHere, countedAl
 use Rattle.rules.specs.Machine.{Line, Env, Home, inElement, inLayer, State, top, file, drawing, layerNames, defines, symbol, hide, elements, figures, successive, texts, placing, skipping, ended, openTop, onTop, closeFile, onFile, onDrawing, layerValue, onLayerNames, onDefines, newName, openSymbol, onSymbol, pointAt, onHide, onElements, isLayer, homeTable, closeFigures, openFigure, onFigures, onSuccessive, onTexts}
 use Rattle.rules.specs.PlacedSymbol.{onUnknown, newSerial, onPlaced, onPlacedKey, onPlacedOwn, onPlacing, skipShut, onSkipping}
 use Rattle.rules.specs.LineByLine.{stepIn}
+use Rattle.rules.specs.Machine.{symbolBlock, fileKinds, Owned, kindIn}
+use Rattle.rules.specs.RecordTable.{kindDrawing, kindSymbol, kindLayer, kindLine, kindSuccessive, kindText, kindPlaced, kindPoint, kindHidden}
 use Rattle.rules.proofs.Chains.{On, on-unless, on-cond, on-then, on-got, and-left, clash, then-got}
 use Rattle.rules.proofs.Rows.{Row, row-below}
 use Rattle.promises.proofs.CountActs.{on-byAct, on-taking, on-shut, on-skip, act-begin}
@@ -83,10 +85,10 @@ module _ (K : Known) (first : Bool) (s₀ : Set) (start : isFirst s₀ ≡ first
   -- ── at the top level ──
   top-opens : (s : Set) (j : ℕ) → j < 4 → Sound first s₀ (top s j) → On (Goes (top s j)) (openTop e l s j)
   top-opens s zero m z =
-      on-taking (Goes (top s 0)) e (cond (isFirst s) 2 1) s _ (λ _. record { sound = same-records first s₀ (cond (isFirst s) 2 1) s z; grows = omega arith })
+      on-taking (Goes (top s 0)) e (length (fileKinds (isFirst s))) s _ (λ _. record { sound = same-records first s₀ (fileKinds (isFirst s)) s z; grows = omega arith })
   top-opens s (suc zero) m z =
       on-taking (Goes (top s 1)) e 1 s _
-      (λ _. record { sound = (same-records first s₀ 1 s (z .0), z .1, blank-drawing); grows = drawing-opens K first (withRecords 1 s) (record { line = l .line; own = blank drawingTable; layers = [] }) })
+      (λ _. record { sound = (same-records first s₀ (kindDrawing ∷ []) s (z .0), z .1, blank-drawing); grows = drawing-opens K first (withRecords (kindDrawing ∷ []) s) (record { line = l .line; own = blank drawingTable; layers = [] }) })
   top-opens s (suc (suc zero)) m z = record { sound = (z .0, z .1, λ b. clash b refl); grows = defines-open K first s }
   top-opens s (suc (suc (suc zero))) m z = record { sound = z; grows = elements-open K first s }
   top-opens s (suc (suc (suc (suc k)))) m z = absurd (omega (arith, m))
@@ -164,7 +166,7 @@ module _ (K : Known) (first : Bool) (s₀ : Set) (start : isFirst s₀ ≡ first
       on-unless (Goes (layerNames s d)) (ltb (length (d .layers)) mostLayers) 11 _ λ _.
       on-unless (Goes (layerNames s d)) (not (among k (map (λ y. y .id) (d .layers)))) 14 _ λ _.
       on-taking (Goes (layerNames s d)) e 1 s _ λ _.
-      record { sound = (same-records first s₀ 1 s (z .0), z .1, z .2, z .3); grows = names-more K first s d 1 (record { line = l .line; id = k; name = v }) }
+      record { sound = (same-records first s₀ (kindLayer ∷ []) s (z .0), z .1, z .2, z .3); grows = names-more K first s d (kindLayer ∷ []) (record { line = l .line; id = k; name = v }) }
 
   -- ── SYMBOL_DEFINE ──
   nil-is : (ys : List Symbol) → isNil ys ≡ true → ys ≡ []
@@ -183,10 +185,10 @@ module _ (K : Known) (first : Bool) (s₀ : Set) (start : isFirst s₀ ≡ first
       fresh : Symbol
       fresh = record { line = l .line; own = blank symbolTable; figures = []; hidden = []; hideFirst = false }
 
-      opens : (b : Bool) → b ≡ false → Goes (defines s b) (symbol (withRecords 1 s) fresh)
+      opens : (b : Bool) → b ≡ false → Goes (defines s b) (symbol (withRecords (kindSymbol ∷ []) s) fresh)
       opens b q =
-          subst (λ (x : Bool). Goes (defines s x) (symbol (withRecords 1 s) fresh)) (sym q)
-          (record { sound = (same-records first s₀ 1 s (z .0), z .1, blank-symbol); grows = symbol-opens K first s 1 fresh })
+          subst (λ (x : Bool). Goes (defines s x) (symbol (withRecords (kindSymbol ∷ []) s) fresh)) (sym q)
+          (record { sound = (same-records first s₀ (kindSymbol ∷ []) s (z .0), z .1, blank-symbol); grows = symbol-opens K first s (kindSymbol ∷ []) fresh })
 
   -- ── a symbol ──
   symbol-begins : (s : Set) (y : Symbol) (i j : ℕ) (v : Value) (f : Form) → act (knownOf s) symbolTable (digitsOf (defineRange s)) (rowsThere (y .own)) f ≡ begin i j v → Sound first s₀ (symbol s y)
@@ -233,7 +235,7 @@ module _ (K : Known) (first : Bool) (s₀ : Set) (start : isFirst s₀ ≡ first
   hide-goes s y ps f z =
       on-byAct (Goes (hide s y ps)) (hide s y ps) _ _ _ (act (knownOf s) (pointTable false) (digits 0 0) (rowsAtLimit (length ps) (pointTable false)) f)
       (stays (hide s y ps) z)
-      (λ j v. on-taking (Goes (hide s y ps)) e 1 s _ λ _. record { sound = (same-records first s₀ 1 s (z .0), z .1, z .2, z .3); grows = hide-more K first s y ps 1 (pointAt l v) })
+      (λ j v. on-taking (Goes (hide s y ps)) e 1 s _ λ _. record { sound = (same-records first s₀ (kindHidden ∷ []) s (z .0), z .1, z .2, z .3); grows = hide-more K first s y ps (kindHidden ∷ []) (pointAt l v) })
       (λ i j v a. tt)
       (record { sound = (z .0, z .1, z .2); grows = hide-shut K first s y ps (z .3) })
 
@@ -253,17 +255,22 @@ module _ (K : Known) (first : Bool) (s₀ : Set) (start : isFirst s₀ ≡ first
 
   figure-begins : (s : Set) (h : Home) (fs : List Figure) (i : ℕ) → Sound first s₀ (figures s h fs) → On (Goes (figures s h fs)) (openFigure e l s h fs i)
   figure-begins s h fs zero z = tt
-  figure-begins s h fs (suc zero) z = on-taking (Goes (figures s h fs)) e 1 s _ λ _. record { sound = (same-records first s₀ 1 s (z .0), z .1); grows = figure-opens K first s h fs 1 _ }
-  figure-begins s h fs (suc (suc zero)) z = on-taking (Goes (figures s h fs)) e 1 s _ λ _. record { sound = (same-records first s₀ 1 s (z .0), z .1); grows = figure-opens K first s h fs 1 _ }
+  figure-begins s h fs (suc zero) z =
+      on-taking (Goes (figures s h fs)) e 1 s _ λ _.
+      record { sound = (same-records first s₀ (kindIn h kindSuccessive ∷ []) s (z .0), z .1); grows = figure-opens K first s h fs (kindIn h kindSuccessive ∷ []) _ }
+  figure-begins s h fs (suc (suc zero)) z =
+      on-taking (Goes (figures s h fs)) e 1 s _ λ _.
+      record { sound = (same-records first s₀ (kindIn h kindText ∷ []) s (z .0), z .1); grows = figure-opens K first s h fs (kindIn h kindText ∷ []) _ }
   figure-begins s (inElement y) fs (suc (suc (suc i))) z = tt
   figure-begins s (inLayer m) fs (suc (suc (suc i))) z =
-      on-taking (Goes (figures s (inLayer m) fs)) e 1 s _ λ _. record { sound = same-records first s₀ 1 s (z .0); grows = figure-opens K first s (inLayer m) fs 1 _ }
+      on-taking (Goes (figures s (inLayer m) fs)) e 1 s _ λ _. record { sound = same-records first s₀ (kindPlaced ∷ []) s (z .0); grows = figure-opens K first s (inLayer m) fs (kindPlaced ∷ []) _ }
 
   figures-go : (s : Set) (h : Home) (fs : List Figure) (f : Form) → Sound first s₀ (figures s h fs) → On (Goes (figures s h fs)) (onFigures e l s h fs f)
   figures-go s h fs f z =
       on-byAct (Goes (figures s h fs)) (figures s h fs) _ _ _ (act (knownOf s) (homeTable s h) (rangeOf s) (rowsAtLimit 0 (homeTable s h)) f)
       (stays (figures s h fs) z)
-      (λ j v. on-taking (Goes (figures s h fs)) e 1 s _ λ _. record { sound = (same-records first s₀ 1 s (z .0), z .1); grows = figure-more K first s h fs 1 (plain (l .line) j (numsOf v)) })
+      (λ j v. on-taking (Goes (figures s h fs)) e 1 s _ λ _.
+      record { sound = (same-records first s₀ (kindIn h (kindLine + j) ∷ []) s (z .0), z .1); grows = figure-more K first s h fs (kindIn h (kindLine + j) ∷ []) (plain (l .line) j (numsOf v)) })
       (λ i j v a. figure-begins s h fs i z)
       (figures-shut s h fs z)
 
@@ -271,7 +278,8 @@ module _ (K : Known) (first : Bool) (s₀ : Set) (start : isFirst s₀ ≡ first
   successive-goes s h fs n ps f z =
       on-byAct (Goes (successive s h fs n ps)) (successive s h fs n ps) _ _ _ (act (knownOf s) (pointTable (isLayer h)) (digits 0 0) (rowsAtLimit (length ps) (pointTable (isLayer h))) f)
       (stays (successive s h fs n ps) z)
-      (λ j v. on-taking (Goes (successive s h fs n ps)) e 1 s _ λ _. record { sound = (same-records first s₀ 1 s (z .0), z .1); grows = chain-more K first s h fs n ps 1 (pointAt l v) })
+      (λ j v. on-taking (Goes (successive s h fs n ps)) e 1 s _ λ _.
+      record { sound = (same-records first s₀ (kindIn h kindPoint ∷ []) s (z .0), z .1); grows = chain-more K first s h fs n ps (kindIn h kindPoint ∷ []) (pointAt l v) })
       (λ i j v a. tt)
       (on-unless (Goes (successive s h fs n ps)) (leb leastPoints (length ps)) 8 _ λ _. record { sound = z; grows = chain-shut K first s h fs n ps })
 
@@ -285,60 +293,62 @@ module _ (K : Known) (first : Bool) (s₀ : Set) (start : isFirst s₀ ≡ first
 
   -- ── a placed symbol ──
   module _ (s : Set) (m : ℕ) (fs : List Figure) (n : ℕ) (o : Held) (z : Same first s₀ s) where
-    inside : (p : ℕ) (o′ : Held) (q : ℕ) → Goes (placing s m fs n o p) (placing s m fs n o′ q)
-    inside p o′ q = record { sound = z; grows = le-refl (weight K first (placing s m fs n o p)) }
+    inside : (p : ℕ) (o′ : Held) (q : ℕ) → Goes (placing s m fs n (symbolBlock o) p) (placing s m fs n (symbolBlock o′) q)
+    inside p o′ q = record { sound = z; grows = le-refl (weight K first (placing s m fs n (symbolBlock o) p)) }
 
-    placed-goes : (p : ℕ) (a : Act) → On (Goes (placing s m fs n o p)) (onPlaced s m fs n o p a)
+    placed-goes : (p : ℕ) (a : Act) → On (Goes (placing s m fs n (symbolBlock o) p)) (onPlaced s m fs n o p a)
     placed-goes p a =
-        on-byAct (Goes (placing s m fs n o p)) (placing s m fs n o p) _ _ _ a
+        on-byAct (Goes (placing s m fs n (symbolBlock o) p)) (placing s m fs n (symbolBlock o) p) _ _ _ a
         (inside p o p)
-        (λ j v. on-unless (Goes (placing s m fs n o p)) (newSerial s fs v) 15 _ λ _. inside p (enter o p j v) p)
+        (λ j v. on-unless (Goes (placing s m fs n (symbolBlock o) p)) (newSerial s fs v) 15 _ λ _. inside p (enter o p j v) p)
         (λ i j v q. inside p (enter o p j v) i)
-        (on-shut (Goes (placing s m fs n o p)) p _ (λ q. placing s m fs n o q)
+        (on-shut (Goes (placing s m fs n (symbolBlock o) p)) p _ (λ q. placing s m fs n (symbolBlock o) q)
         (record { sound = (z, tt); grows = figure-shut K first s (inLayer m) fs (placed n o) _ (omega arith) })
         (λ q. inside p o q))
 
-    deeper : (p d : ℕ) → Goes (placing s m fs n o p) (skipping s m fs n o d)
-    deeper p d = record { sound = z; grows = le-refl (weight K first (placing s m fs n o p)) }
+    deeper : (p d : ℕ) → Goes (placing s m fs n (symbolBlock o) p) (skipping s m fs n (symbolBlock o) d)
+    deeper p d = record { sound = z; grows = le-refl (weight K first (placing s m fs n (symbolBlock o) p)) }
 
-    unknown-goes : (k : List ℕ) (c : Rest) → On (Goes (placing s m fs n o 0)) (onUnknown e s m fs n o k c)
+    unknown-goes : (k : List ℕ) (c : Rest) → On (Goes (placing s m fs n (symbolBlock o) 0)) (onUnknown e s m fs n o k c)
     unknown-goes k c =
-        on-cond (Goes (placing s m fs n o 0)) (exceeds (rangeOf s) (e .class)) _ _
-        (λ _. on-skip (Goes (placing s m fs n o 0)) (skipOf k c) _ _ (inside 0 o 0) (deeper 0 1))
-        (λ _. on-byAct (Goes (placing s m fs n o 0)) (placing s m fs n o 0) _ _ _ (actUnknown c) (inside 0 o 0) (λ j v. tt) (λ i j v a. tt) tt)
+        on-cond (Goes (placing s m fs n (symbolBlock o) 0)) (exceeds (rangeOf s) (e .class)) _ _
+        (λ _. on-skip (Goes (placing s m fs n (symbolBlock o) 0)) (skipOf k c) _ _ (inside 0 o 0) (deeper 0 1))
+        (λ _. on-byAct (Goes (placing s m fs n (symbolBlock o) 0)) (placing s m fs n (symbolBlock o) 0) _ _ _ (actUnknown c) (inside 0 o 0) (λ j v. tt) (λ i j v a. tt) tt)
 
-    key-goes : (k : List ℕ) (c : Rest) (g : Found) → On (Goes (placing s m fs n o 0)) (onPlacedKey e s m fs n o k c g)
+    key-goes : (k : List ℕ) (c : Rest) (g : Found) → On (Goes (placing s m fs n (symbolBlock o) 0)) (onPlacedKey e s m fs n o k c g)
     key-goes k c absent = unknown-goes k c
     key-goes k c (found j r) =
-        on-cond (Goes (placing s m fs n o 0)) (reaches (e .class) (r .least)) _ _ (λ _. placed-goes 0 (actRow (knownOf s) (rangeOf s) (getD (rowsThere (partOf o 0)) j false) j r c)) (λ _. unknown-goes k c)
+        on-cond (Goes (placing s m fs n (symbolBlock o) 0)) (reaches (e .class) (r .least)) _ _ (λ _. placed-goes 0 (actRow (knownOf s) (rangeOf s) (getD (rowsThere (partOf o 0)) j false) j r c)) (λ _. unknown-goes k c)
 
-    own-goes : (f : Form) → On (Goes (placing s m fs n o 0)) (onPlacedOwn e s m fs n o f)
+    own-goes : (f : Form) → On (Goes (placing s m fs n (symbolBlock o) 0)) (onPlacedOwn e s m fs n o f)
     own-goes ignored = inside 0 o 0
     own-goes (wrong k) = tt
     own-goes close = placed-goes 0 (act (knownOf s) placedTable (both (e .class) (rangeOf s)) (rowsThere (partOf o 0)) close)
     own-goes eof = tt
     own-goes (keyed k c) = key-goes k c (find k placedTable)
 
-    placing-goes : (p : ℕ) (f : Form) → On (Goes (placing s m fs n o p)) (onPlacing e s m fs n o p f)
+    placing-goes : (p : ℕ) (f : Form) → On (Goes (placing s m fs n (symbolBlock o) p)) (onPlacing e s m fs n o p f)
     placing-goes zero f = own-goes f
     placing-goes (suc p) f = placed-goes (suc p) (act (knownOf s) (getD placedTables (suc p) []) (digits 0 0) (rowsThere (partOf o (suc p))) f)
 
-    skip-same : (d : ℕ) (st : State) → Sound first s₀ st → weight K first (skipping s m fs n o d) ≡ weight K first st → Goes (skipping s m fs n o d) st
+  -- ── what is skipped ──
+  module _ (s : Set) (m : ℕ) (fs : List Figure) (n : ℕ) (b : Owned) (z : Same first s₀ s) where
+    skip-same : (d : ℕ) (st : State) → Sound first s₀ st → weight K first (skipping s m fs n b d) ≡ weight K first st → Goes (skipping s m fs n b d) st
     skip-same d st x q = record { sound = x; grows = omega (arith, q) }
 
-    skip-shut : (d : ℕ) → On (Goes (skipping s m fs n o d)) (skipShut s m fs n o d)
+    skip-shut : (d : ℕ) → On (Goes (skipping s m fs n b d)) (skipShut s m fs n b d)
     skip-shut zero = tt
-    skip-shut (suc zero) = skip-same 1 (placing s m fs n o 0) z refl
-    skip-shut (suc (suc d)) = skip-same (suc (suc d)) (skipping s m fs n o (suc d)) z refl
+    skip-shut (suc zero) = skip-same 1 (placing s m fs n b 0) z refl
+    skip-shut (suc (suc d)) = skip-same (suc (suc d)) (skipping s m fs n b (suc d)) z refl
 
-    skipping-goes : (d : ℕ) (f : Form) → On (Goes (skipping s m fs n o d)) (onSkipping s m fs n o d f)
-    skipping-goes d ignored = skip-same d (skipping s m fs n o d) z refl
+    skipping-goes : (d : ℕ) (f : Form) → On (Goes (skipping s m fs n b d)) (onSkipping s m fs n b d f)
+    skipping-goes d ignored = skip-same d (skipping s m fs n b d) z refl
     skipping-goes d (wrong k) = tt
     skipping-goes d close = skip-shut d
     skipping-goes d eof = tt
     skipping-goes d (keyed k c) =
-        on-skip (Goes (skipping s m fs n o d)) (skipOf k c) _ _ (skip-same d (skipping s m fs n o d) z refl)
-        (on-unless (Goes (skipping s m fs n o d)) (ltb d mostDepth) 18 _ λ _. skip-same d (skipping s m fs n o (suc d)) z refl)
+        on-skip (Goes (skipping s m fs n b d)) (skipOf k c) _ _ (skip-same d (skipping s m fs n b d) z refl)
+        (on-unless (Goes (skipping s m fs n b d)) (ltb d mostDepth) 18 _ λ _. skip-same d (skipping s m fs n b (suc d)) z refl)
 
   -- ── any line ──
   steps : (st : State) → Sound first s₀ st → On (Goes st) (stepIn e l st)
@@ -353,8 +363,8 @@ module _ (K : Known) (first : Bool) (s₀ : Set) (start : isFirst s₀ ≡ first
   steps (figures s h fs) z = figures-go s h fs (l .form) z
   steps (successive s h fs n ps) z = successive-goes s h fs n ps (l .form) z
   steps (texts s h fs n o) z = texts-go s h fs n o (l .form) z
-  steps (placing s m fs n o p) z = placing-goes s m fs n o z p (l .form)
-  steps (skipping s m fs n o d) z = skipping-goes s m fs n o z d (l .form)
+  steps (placing s m fs n (symbolBlock o) p) z = placing-goes s m fs n o z p (l .form)
+  steps (skipping s m fs n b d) z = skipping-goes s m fs n b z d (l .form)
   steps (ended s) z = tt
 
   pub step-goes : (st st′ : State) → Sound first s₀ st → stepIn e l st ≡ got st′ → Goes st st′

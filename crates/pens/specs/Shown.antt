@@ -9,8 +9,8 @@ use Rattle.rules.specs.Base.{bytes, isSome}
 use Rattle.rules.specs.Values.{Known}
 use Rattle.rules.specs.Rows.{Rule, Held}
 use Rattle.rules.specs.Blocks.{fileTables}
-use Rattle.rules.specs.Figures.{layerTable, figureTable}
-use Rattle.rules.specs.Sets.{Figure, Drawing, Symbol, Set, isSingle, knownOf}
+use Rattle.rules.specs.Figures.{figureTable}
+use Rattle.rules.specs.Sets.{Figure, Drawing, Symbol, Set, knownOf, layerTableOf}
 use Rattle.rules.specs.Machine.{Home, inElement, inLayer, State, top, file, drawing, layerNames, defines, symbol, hide, elements, figures, successive, texts}
 use Rattle.rules.specs.Machine.{placing, skipping, ended, isLayer}
 use Rattle.rules.specs.FixedForm.{Text, openLine, block, showHeld, showLayers, showDrawing, showPoints, showFigures, showSymbols, showDefines, showBlocks}
@@ -32,7 +32,7 @@ module _ (K : Known) where
   frontText false s = fileText false (s .now .file)
 
   abbrev pub elementText : Set → Text
-  elementText s = block (bytes "ELEMENT") (showBlocks (knownOf s) (layerTable (isSingle s)) (s .now .blocks)) []
+  elementText s = block (bytes "ELEMENT") (showBlocks (knownOf s) (layerTableOf s) (s .now .blocks)) []
 
   -- at the top level, by the block that comes next
   abbrev pub topText : Bool → Set → ℕ → Text
@@ -68,7 +68,7 @@ module _ (K : Known) where
 
   -- ELEMENT as far as it is, and in it a layer's first line
   abbrev pub elementsBegun : Bool → Set → Text
-  elementsBegun first s = frontText first s ++ openLine (bytes "ELEMENT") ∷ showBlocks (knownOf s) (layerTable (isSingle s)) (s .now .blocks) []
+  elementsBegun first s = frontText first s ++ openLine (bytes "ELEMENT") ∷ showBlocks (knownOf s) (layerTableOf s) (s .now .blocks) []
 
   -- figures, in a symbol's `element` or in a layer
   abbrev pub homeKnown : Set → Home → Known
@@ -77,7 +77,7 @@ module _ (K : Known) where
 
   abbrev pub homeRows : Set → Home → List Rule
   homeRows s (inElement y) = figureTable
-  homeRows s (inLayer n) = layerTable (isSingle s)
+  homeRows s (inLayer n) = layerTableOf s
 
   abbrev pub homeText : Bool → Set → Home → Text
   homeText first s (inElement y) = symbolBegun s ++ hiddenPart y ++ openLine (bytes "element") ∷ []

@@ -13,7 +13,7 @@ use Rattle.rules.specs.Figures.{textTable}
 use Rattle.rules.specs.Sets.{Drawing, Symbol, Set, isFirst, symbolRange, knownOf}
 use Rattle.rules.specs.RecordTable.{ruleAt}
 use Rattle.rules.specs.Machine.{Home, inElement, inLayer, State, top, file, drawing, layerNames, defines, symbol, hide, elements, figures, successive, texts}
-use Rattle.rules.specs.Machine.{placing, skipping, ended, isLayer}
+use Rattle.rules.specs.Machine.{placing, skipping, ended, isLayer, symbolBlock}
 use Rattle.pens.specs.declared.Pen.{Pen}
 use Rattle.pens.specs.Texts.{lineBytes}
 use Rattle.pens.specs.Noting.{Noted, NotedRows, NotedParts}
@@ -105,7 +105,7 @@ module _ (K : Known) (spool : List ℕ) (first : Bool) (p : Pen) (ns : List ℕ)
   Here (figures s h fs) = (p .block ≡ blockFigures) × InHome s h
   Here (successive s h fs n ps) = (p .block ≡ blockChain) × InHome s h
   Here (texts s h fs n o) = (p .block ≡ blockText) × InHome s h × NotedRows spool (homeKnown K s h) (textTable (isLayer h) 4 12) 4 ns o
-  Here (placing s m fs n o i) = (p .block ≡ blockPlaced) × InPlaced s m o i
+  Here (placing s m fs n (symbolBlock o) i) = (p .block ≡ blockPlaced) × InPlaced s m o i
   Here (skipping s m fs n o d) = ⊥
   Here (ended s) = Served s
 

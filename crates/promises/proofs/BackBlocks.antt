@@ -17,6 +17,7 @@ use Rattle.rules.specs.Sets.{Figure, LayerBlock, Set, withNow, withBlock, symbo
 use Rattle.rules.specs.Machine.{inLayer, elements, figures}
 use Rattle.rules.specs.LineByLine.{stepIn}
 use Rattle.rules.specs.FixedForm.{Text, openLine, showFigures, showBlocks}
+use Rattle.rules.specs.Sets.{layerTableOf}
 use Rattle.rules.proofs.Chains.{and-left, and-right, clash, map-append, flat-append}
 use Rattle.rules.proofs.Runs.{head-file}
 use Rattle.promises.specs.PlacesApart.{bareFigure, bareBlock}
@@ -50,7 +51,7 @@ showBlock k t u ls = (bytes "LAYER=" ++ openLine (getD (k .layers) (u .layer) []
 
 block-here : (next : List ℕ) (S : Set) (n : ℕ) (u : LayerBlock) → GoodBlock (knownOf S) (rangeOf S) (isSingle S) u
     → not (hasNumber (u .layer) (usedIn (S .now))) ≡ true → freshNumbers (serialsIn S) (serialsOfBlock u) ≡ true
-    → Reads next (elements (retaken n S)) (showBlock (knownOf S) (layerTable (isSingle S)) u) (elements (retaken (takenFigures n (u .figures)) (withBlock (bareBlock u) S)))
+    → Reads next (elements (retaken n S)) (showBlock (knownOf S) (layerTableOf S) u) (elements (retaken (takenFigures n (u .figures)) (withBlock (bareBlock u) S)))
 block-here next S n u g new f =
     one-line next (bytes "LAYER=" ++ openLine (getD (knownOf S .layers) (u .layer) [])) (elements (retaken n S)) (figures (retaken n S) (inLayer (u .layer)) [])
     (layer-line next (retaken n S) (u .layer) (getD (knownOf S .layers) (u .layer) []) (g .id) (g .here) new)

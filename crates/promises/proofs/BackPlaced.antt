@@ -16,8 +16,8 @@ use Rattle.rules.specs.Values.{Num, Value, nums, chars, Known, Kind, values, te
 use Rattle.rules.specs.Rows.{Rule, Slots, blank, Held, partOf, rowsThere, slotValue, held, fits, shapeFor, Act, stay, entry, begin, shut, refuse, orRefuse, innerOf, readShape, notTwice, actRow}
 use Rattle.rules.specs.Blocks.{blankHeld}
 use Rattle.rules.specs.Figures.{layerTable, textTable, placedTable, placedTables}
-use Rattle.rules.specs.Sets.{Figure, plain, chain, lettering, placed, Set, rangeOf, isSingle, knownOf, ownSerial, figureSerial, serialsIn}
-use Rattle.rules.specs.Machine.{inLayer, State, figures, placing}
+use Rattle.rules.specs.Sets.{Figure, plain, chain, lettering, placed, Set, rangeOf, isSingle, knownOf, ownSerial, figureSerial, serialsIn, layerTableOf}
+use Rattle.rules.specs.Machine.{inLayer, State, figures, placing, symbolBlock}
 use Rattle.rules.specs.PlacedSymbol.{noneOf, newSerial}
 use Rattle.rules.specs.LineByLine.{stepIn}
 use Rattle.rules.specs.FixedForm.{Text, opensBlock, lineOf, noInner, openLine, showInner, showHeld, showSlots, showValue, showFigure, showFigures}
@@ -132,7 +132,7 @@ module _ (next : List ℕ) (S : Set) (n m : ℕ) (fs : List Figure) (own inner :
   withText u = u ∷ innerSlots (opensAt placedTable u 1) lettersTable inner ∷ []
 
   abbrev own-so : Slots → State
-  own-so u = placing (retaken n S) m fs 0 (withText u) 0
+  own-so u = placing (retaken n S) m fs 0 (symbolBlock (withText u)) 0
 
   abbrev inPlaced : ℕ → Text → Text
   inPlaced = showInner (knownOf S) placedTables (own ∷ inner ∷ []) (showInner (knownOf S) placedTables (own ∷ inner ∷ []) noInner)
@@ -148,21 +148,21 @@ module _ (next : List ℕ) (S : Set) (n m : ℕ) (fs : List Figure) (own inner :
   opens-placed r v w g u f o q c =
       let x = set u 1 (some (bareValue v)) in
       rw (unfilled placedTable u 1 f, filled w u f v o)
-      (opened next (knownOf S) inPlaced r v (placing (retaken n S) m fs 0 (u ∷ blank lettersTable ∷ []) 0) (placing (retaken n S) m fs 0 (x ∷ blank lettersTable ∷ []) (innerOf (r .holds)))
-      (placing (retaken n S) m fs 0 (x ∷ bareSlots inner ∷ []) 0) o
+      (opened next (knownOf S) inPlaced r v (placing (retaken n S) m fs 0 (symbolBlock (u ∷ blank lettersTable ∷ [])) 0) (placing (retaken n S) m fs 0 (symbolBlock (x ∷ blank lettersTable ∷ [])) (innerOf (r .holds)))
+      (placing (retaken n S) m fs 0 (symbolBlock (x ∷ bareSlots inner ∷ [])) 0) o
       (rw (g .form 0, row-find w (placed-sound .0), row-all (λ r. reaches fullClass (r .least)) w (placed-sound .1), free-mark u 1 f, g .again 1, o))
       (rw q (letters x)))
     where
       letters : (x : Slots)
-          → Reads next (placing (retaken n S) m fs 0 (x ∷ blank lettersTable ∷ []) 1) (λ ls. showSlots (knownOf S) lettersTable inner (showInner (knownOf S) placedTables (own ∷ inner ∷ []) noInner) (bytes "}" ∷ ls))
-          (placing (retaken n S) m fs 0 (x ∷ bareSlots inner ∷ []) 0)
+          → Reads next (placing (retaken n S) m fs 0 (symbolBlock (x ∷ blank lettersTable ∷ [])) 1) (λ ls. showSlots (knownOf S) lettersTable inner (showInner (knownOf S) placedTables (own ∷ inner ∷ []) noInner) (bytes "}" ∷ ls))
+          (placing (retaken n S) m fs 0 (symbolBlock (x ∷ bareSlots inner ∷ [])) 0)
       letters x =
-          read-calm next (knownOf S) (showInner (knownOf S) placedTables (own ∷ inner ∷ []) noInner) (Always none0) (λ u. placing (retaken n S) m fs 0 (x ∷ u ∷ []) 1) lettersTable inner (text-sound true 16 24 .1)
+          read-calm next (knownOf S) (showInner (knownOf S) placedTables (own ∷ inner ∷ []) noInner) (Always none0) (λ u. placing (retaken n S) m fs 0 (symbolBlock (x ∷ u ∷ [])) 1) lettersTable inner (text-sound true 16 24 .1)
           (λ i r v w g u f z. rw (
             act-entry (knownOf S) none0 lettersTable i r v w (g (knownOf S)) (sound-differ lettersTable (text-sound true 16 24 .0)) (rowsThere u) (free-mark u i f) z,
             none-new (bareValue v) (row-serialless (knownOf S) none0 r v (g (knownOf S)) (not-true (isSerials (r .holds)) (row-all (λ r. not (isSerials (r .holds))) w (placed-sound .2)))),
           )) (c .good)
-          and one-line next (bytes "}") (placing (retaken n S) m fs 0 (x ∷ bareSlots inner ∷ []) 1) (placing (retaken n S) m fs 0 (x ∷ bareSlots inner ∷ []) 0) (rw (close-form, marks-bare inner, c .all))
+          and one-line next (bytes "}") (placing (retaken n S) m fs 0 (symbolBlock (x ∷ bareSlots inner ∷ [])) 1) (placing (retaken n S) m fs 0 (symbolBlock (x ∷ bareSlots inner ∷ [])) 0) (rw (close-form, marks-bare inner, c .all))
 
   takes-placed : Takes next (knownOf S) inPlaced (GoodRow (knownOf S) (rangeOf S)) own-so placedTable own
   unfolding placedTable
@@ -192,21 +192,21 @@ module _ (next : List ℕ) (S : Set) (n m : ℕ) (fs : List Figure) (own inner :
       is-some none = refl
       is-some (some v) = refl
 
-  read-placed : Reads next (placing (retaken n S) m fs 0 (blankHeld placedTables) 0) (λ ls. showHeld (knownOf S) placedTables (own ∷ inner ∷ []) (bytes "}" ∷ ls))
+  read-placed : Reads next (placing (retaken n S) m fs 0 (symbolBlock (blankHeld placedTables)) 0) (λ ls. showHeld (knownOf S) placedTables (own ∷ inner ∷ []) (bytes "}" ∷ ls))
       (figures (retaken n S) (inLayer m) (fs ++ placed 0 (bareHeld (own ∷ inner ∷ [])) ∷ []))
   unfolding placedTable
   read-placed =
       read-slots next (knownOf S) inPlaced (GoodRow (knownOf S) (rangeOf S)) own-so placedTable own (own-good .good) takes-placed
       and rw placed-end
-      (one-line next (bytes "}") (placing (retaken n S) m fs 0 (bareHeld (own ∷ inner ∷ [])) 0) (figures (retaken n S) (inLayer m) (fs ++ placed 0 (bareHeld (own ∷ inner ∷ [])) ∷ [])) shuts)
+      (one-line next (bytes "}") (placing (retaken n S) m fs 0 (symbolBlock (bareHeld (own ∷ inner ∷ []))) 0) (figures (retaken n S) (inLayer m) (fs ++ placed 0 (bareHeld (own ∷ inner ∷ [])) ∷ [])) shuts)
     where
-      shuts : stepIn plainEnv (lineFor next false (bytes "}")) (placing (retaken n S) m fs 0 (bareHeld (own ∷ inner ∷ [])) 0)
+      shuts : stepIn plainEnv (lineFor next false (bytes "}")) (placing (retaken n S) m fs 0 (symbolBlock (bareHeld (own ∷ inner ∷ []))) 0)
           ≡ got (figures (retaken n S) (inLayer m) (fs ++ placed 0 (bareHeld (own ∷ inner ∷ [])) ∷ []))
       shuts = rw (close-form, marks-bare own, own-good .all)
 
 -- ── a figure of a layer ──
 opens-symbol : (next : List ℕ) (S : Set) (n m : ℕ) (fs : List Figure) → isSingle S ≡ false → reaches (rangeOf S) (digits 0 1) ≡ true
-    → stepIn plainEnv (lineFor next false (openLine (bytes "E_symbol"))) (figures (retaken n S) (inLayer m) fs) ≡ got (placing (retaken (n + 1) S) m fs 0 (blankHeld placedTables) 0)
+    → stepIn plainEnv (lineFor next false (openLine (bytes "E_symbol"))) (figures (retaken n S) (inLayer m) fs) ≡ got (placing (retaken (n + 1) S) m fs 0 (symbolBlock (blankHeld placedTables)) 0)
 unfolding formOf layerTable
 opens-symbol next S n m fs e d = rw (e, d)
 
@@ -237,27 +237,27 @@ module _ (next : List ℕ) (S : Set) (m : ℕ) where
   good f = GoodFigure (knownOf S) (rangeOf S) (isSingle S) f
 
   abbrev layered : Figure → Text → Text
-  layered f = showFigure (knownOf S) true (layerTable (isSingle S)) f
+  layered f = showFigure (knownOf S) true (layerTableOf S) f
 
   read-figure : (n : ℕ) (fs : List Figure) (f : Figure) → good f → noneOf (figureSerial f) (serialsIn S ++ flat (map figureSerial fs)) ≡ true
       → Reads next (figures (retaken n S) (inLayer m) fs) (layered f) (figures (retaken (takenFigure n f) S) (inLayer m) (fs ++ bareFigure f ∷ []))
   read-figure n fs (plain l j v) g z =
-      let q : ruleAt (layerTable (isSingle S)) j ≡ g .rule = row-at (g .row) (ruleAt [] 0) in
+      let q : ruleAt (layerTableOf S) j ≡ g .rule = row-at (g .row) (ruleAt [] 0) in
       subst (λ (r : Rule). Reads next (figures (retaken n S) (inLayer m) fs) (λ ls. lineOf (knownOf S) r (nums v) ∷ ls) (figures (retaken (n + 1) S) (inLayer m) (fs ++ plain 0 j v ∷ []))) (sym q)
       (one-line next (lineOf (knownOf S) (g .rule) (nums v)) (figures (retaken n S) (inLayer m) fs) (figures (retaken (n + 1) S) (inLayer m) (fs ++ plain 0 j v ∷ []))
       (plain-line next S n (inLayer m) fs j v (g .rule) (g .row) (g .good) (g .alone)))
   read-figure n fs (chain l ps) g z = read-chain next (knownOf S) S n (inLayer m) fs ps g
   read-figure n fs (lettering l o) g z = read-text next (knownOf S) S n (inLayer m) fs o g
   read-figure n fs (placed l h) g z =
-      one-line next (openLine (bytes "E_symbol")) (figures (retaken n S) (inLayer m) fs) (placing (retaken (n + 1) S) m fs 0 (blankHeld placedTables) 0) (opens-symbol next S n m fs (g .1) (g .2))
+      one-line next (openLine (bytes "E_symbol")) (figures (retaken n S) (inLayer m) fs) (placing (retaken (n + 1) S) m fs 0 (symbolBlock (blankHeld placedTables)) 0) (opens-symbol next S n m fs (g .1) (g .2))
       and subst (λ (h : Held). noneOf (figureSerial (placed l h)) (serialsIn S ++ flat (map figureSerial fs)) ≡ true
-      → Reads next (placing (retaken (n + 1) S) m fs 0 (blankHeld placedTables) 0) (λ ls. showHeld (knownOf S) placedTables h (bytes "}" ∷ ls)) (figures (retaken (n + 1) S) (inLayer m) (fs ++ placed 0 (bareHeld h) ∷ [])))
+      → Reads next (placing (retaken (n + 1) S) m fs 0 (symbolBlock (blankHeld placedTables)) 0) (λ ls. showHeld (knownOf S) placedTables h (bytes "}" ∷ ls)) (figures (retaken (n + 1) S) (inLayer m) (fs ++ placed 0 (bareHeld h) ∷ [])))
       (sym (g .0 .is)) (λ z. read-placed next S (n + 1) m fs (g .0 .own) (g .0 .text) (g .0 .own-good) (g .0 .text-good) z) z
 
   -- all figures of a layer
   pub read-figures : (n : ℕ) (fs gs : List Figure) → GoodFigures (knownOf S) (rangeOf S) (isSingle S) gs
       → freshNumbers (serialsIn S ++ flat (map figureSerial fs)) (flat (map figureSerial gs)) ≡ true
-      → Reads next (figures (retaken n S) (inLayer m) fs) (showFigures (knownOf S) true (layerTable (isSingle S)) gs) (figures (retaken (takenFigures n gs) S) (inLayer m) (fs ++ map bareFigure gs))
+      → Reads next (figures (retaken n S) (inLayer m) fs) (showFigures (knownOf S) true (layerTableOf S) gs) (figures (retaken (takenFigures n gs) S) (inLayer m) (fs ++ map bareFigure gs))
   read-figures n fs [] g z = rw (append-nil fs) (no-lines next (figures (retaken n S) (inLayer m) fs))
   read-figures n fs (f ∷ gs) g z =
       let seen = serialsIn S ++ flat (map figureSerial fs) in

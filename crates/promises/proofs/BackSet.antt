@@ -5,6 +5,7 @@ use mathlib.Core.Bool.{Bool, true, false, cond, _&&_, not}
 use mathlib.Core.List.{List, [], _∷_, _++_, map, append-nil, append-assoc}
 use mathlib.Core.Path.{_≡_, refl, sym, _∙_, ap, ap₂, subst, subst₂}
 use lib.Dec.{eqb}
+use lib.ListN.{length}
 use borrow.Author.Tests.{not-true}
 use Rattle.rules.specs.Base.{bytes, isNil, flat}
 use Rattle.rules.specs.RefusalNumbers.{got}
@@ -16,9 +17,10 @@ use Rattle.rules.specs.Blocks.{topTable, fileTable, rangeTable, elecTable, symT
 use Rattle.rules.specs.Figures.{layerTable}
 use Rattle.rules.specs.Sets.{Contents, Set, noContents, nothingYet, withNow, withDrawing, withVolume, isFirst, headOr, firstContents, arcOf, symbolRange, rangeOf, defineRange, isSingle, knownOf, serialsOfVolume, elementsOf}
 use Rattle.rules.specs.VolumesAndTotals.{ownTable, countedHere, countedAll, layersUsed}
-use Rattle.rules.specs.Machine.{Line, top, file, drawing, defines, elements}
+use Rattle.rules.specs.Machine.{Line, top, file, drawing, defines, elements, fileKinds}
 use Rattle.rules.specs.LineByLine.{accepted, stepIn, run}
 use Rattle.rules.specs.FixedForm.{Text, openLine, block, showHeld, showDrawing, showDefines, showBlocks, ending, laterLines, volumeLines}
+use Rattle.rules.specs.Sets.{layerTableOf}
 use Rattle.rules.proofs.Chains.{and-left, and-right, map-append, nil-snoc, flat-append}
 use Rattle.rules.proofs.Runs.{head-snoc}
 use Rattle.promises.specs.PlacesApart.{bareForm, bareHeld, bareDrawing, bareSymbol, bareContents, bareSet}
@@ -33,7 +35,7 @@ use Rattle.promises.proofs.Bare.{part-number, known-bare, volume-serial
 
 -- ── the lines between the blocks ──
 opens-file : (next : List ℕ) (S : Set) (n : ℕ) → stepIn plainEnv (lineFor next false (openLine (bytes "FILE_FORMAT"))) (top (retaken n S) 0)
-    ≡ got (file (retaken (n + cond (isFirst S) 2 1) S) 0 (blankHeld (fileTables (isFirst S))) 0)
+    ≡ got (file (retaken (n + length (fileKinds (isFirst S))) S) 0 (blankHeld (fileTables (isFirst S))) 0)
 unfolding formOf topTable
 opens-file next S n = refl
 
@@ -105,7 +107,7 @@ module _ (k : Known) (f : Held) where
       (elements (nextSet S v))
   read-volume next S v p q g h d z =
       one-line next (openLine (bytes "FILE_FORMAT")) (top T 0) (file (retaken (S .taken + 1) T) 0 (blankHeld (fileTables false)) 0)
-      (opens-file next T (S .taken) ∙ ap (λ b. got (file (retaken (S .taken + cond b 2 1) T) 0 (blankHeld (fileTables b)) 0)) later)
+      (opens-file next T (S .taken) ∙ ap (λ b. got (file (retaken (S .taken + length (fileKinds b)) T) 0 (blankHeld (fileTables b)) 0)) later)
       and read-later next k (retaken (S .taken + 1) T) later (v .file) h (g .chain) (rw (head-snoc (S .now) (S .now) (S .volumes), q) (rw (dates-bare f (v .file)) d))
       and one-line next (openLine (bytes "ELEMENT")) (top (retaken (S .taken + 1) U) 3) (elements (retaken (S .taken + 1) U)) (opens-elements next (retaken (S .taken + 1) U))
       and read-blocks next k range U (S .taken + 1) (v .blocks) p
@@ -181,7 +183,7 @@ firstText s v ls =
     block (bytes "FILE_FORMAT") (showHeld (knownOf s) (fileTables true) (v .file))
     (block (bytes "DRAWING_FORMAT") (showDrawing (knownOf s) (s .drawing))
     (block (bytes "SYMBOL_DEFINE") (showDefines (knownOf s) (s .symbols))
-    (openLine (bytes "ELEMENT") ∷ showBlocks (knownOf s) (layerTable (isSingle s)) (v .blocks) ls)))
+    (openLine (bytes "ELEMENT") ∷ showBlocks (knownOf s) (layerTableOf s) (v .blocks) ls)))
 
 module _ (next : List ℕ) (s : Set) (v : Contents) (v-is : v .file ≡ firstContents s .file) where
   abbrev k : Known
@@ -234,7 +236,7 @@ module _ (nexts : List (List ℕ)) (s : Set) (g : GoodSet nexts s) (e : endsOnce
   set-runs : run plainEnv (top nothingYet 0) (layAll nexts (volumeLines s (s .volumes))) ≡ accepted (retaken (last .taken) (bareSet s))
   set-runs =
       let (z₁, z₂) = fresh-parts [] (serialsOfVolume (g .first)) (flat (map serialsOfVolume (g .rest))) (subst (λ (vs : List Contents). freshNumbers [] (flat (map serialsOfVolume vs)) ≡ true) (g .volumes) (g .serials)) in
-      let more = layAll (g .others) (laterLines (knownOf s) (layerTable (isSingle s)) (g .rest)) in
+      let more = layAll (g .others) (laterLines (knownOf s) (layerTableOf s) (g .rest)) in
       ap₂ (λ (ns : List (List ℕ)) (vs : List Contents). run plainEnv (top nothingYet 0) (layAll ns (volumeLines s vs))) (g .nexts-are) (g .volumes)
       ∙ read-first (g .next) s (g .first) first-file (g .file) (g .drawing) (g .defines) (g .volume) z₁ .leads (bytes "}" ∷ ending (g .rest)) more refl
       ∙ read-rest (knownOf s) (firstContents s .file) s refl (g .next) (g .others) (firstSet s (g .first)) (g .rest) (g .laters)

@@ -9,9 +9,10 @@ use Rattle.rules.specs.Base.{bytes, mapO}
 use Rattle.rules.specs.Values.{Value, empty, nums, chars, linked, Known, Kind, values, text, word, volumeName, sheet, ratio, serials, nothing, opens, headed, either}
 use Rattle.rules.specs.Rows.{Rule, Slots, Held, partOf, innerOf}
 use Rattle.rules.specs.Blocks.{fileTables, drawingTable, symbolTable}
-use Rattle.rules.specs.Figures.{layerTable, figureTable, textTable, placedTables}
-use Rattle.rules.specs.Sets.{Point, Figure, plain, chain, lettering, placed, Layer, Drawing, Symbol, LayerBlock, Contents, Set, isSingle, knownOf}
+use Rattle.rules.specs.Figures.{figureTable, textTable, placedTables}
+use Rattle.rules.specs.Sets.{Point, Figure, plain, chain, lettering, placed, Layer, Drawing, Symbol, LayerBlock, Contents, Set, knownOf}
 use Rattle.rules.specs.FixedForm.{Text, openLine, opensBlock, behind, lineOf, showValue, showSlots, noInner, showInner, showHeld, block, showPoints, showFigure, showFigures, showLayers, showDrawing, symbolInner, exchanged, showSymbol, showSymbols, showDefines, showBlocks, showFirst, showLater, ending, laterLines, volumeLines, volumesBytes, fixedForm}
+use Rattle.rules.specs.Sets.{layerTableOf}
 use Rattle.rules.proofs.Chains.{nil-map}
 use Rattle.promises.specs.PlacesApart.{bareValue, bareSlots, bareHeld, barePoint, bareFigure, bareLayer, bareDrawing, bareSymbol, bareBlock, bareContents, bareSet}
 use Rattle.promises.proofs.Bare.{chars-bare, part-bare, single-bare, known-bare}
@@ -134,5 +135,5 @@ form-bare names s = ap (volumesBytes names) (go (s .volumes))
     go [] = refl
     go (v ∷ vs) =
         rw (known-bare s, single-bare s)
-        (ap₂ _∷_ (showFirst-bare (knownOf s) (layerTable (isSingle s)) s v (ending (map bareContents vs)) (ending vs) (ending-bare vs))
-        (laterLines-bare (knownOf s) (layerTable (isSingle s)) vs))
+        (ap₂ _∷_ (showFirst-bare (knownOf s) (layerTableOf s) s v (ending (map bareContents vs)) (ending vs) (ending-bare vs))
+        (laterLines-bare (knownOf s) (layerTableOf s) vs))

@@ -9,9 +9,11 @@ use Rattle.rules.specs.Base.{bytes, isNil}
 use Rattle.rules.specs.Values.{Known}
 use Rattle.rules.specs.Rows.{Rule, Held}
 use Rattle.rules.specs.Blocks.{symbolTable}
-use Rattle.rules.specs.Figures.{layerTable, textTable, placedTables}
-use Rattle.rules.specs.Sets.{Figure, Drawing, Symbol, Contents, Set, withNow, withSymbol, withVolume, withBlock, isFirst, isSingle, knownOf}
+use Rattle.rules.specs.Figures.{textTable, placedTables}
+use Rattle.rules.specs.Sets.{Figure, Drawing, Symbol, Contents, Set, withNow, withSymbol, withVolume, withBlock, isFirst, knownOf}
 use Rattle.rules.specs.Machine.{Home, inElement, inLayer, State, top, file, drawing, layerNames, defines, symbol, hide, elements, figures, successive, texts, placing, skipping, ended, isLayer, homeTable}
+use Rattle.rules.specs.Machine.{symbolBlock, Owned}
+use Rattle.rules.specs.Sets.{layerTableOf}
 use Rattle.rules.proofs.Chains.{total-more}
 use Rattle.promises.proofs.Weights.{slotsCost, heldCost, blockCost, pointsCost, figuresCost, drawingCost, symbolCost, ownCost, symbolsCost, own-cost, nonCost, layerHead, blocksCost, fileCost, elementCost, headCost, latersCost, volumesCost}
 
@@ -32,7 +34,7 @@ withVolumes vs s = record { drawing = s .drawing; symbols = s .symbols; volumes 
 module _ (K : Known) where
   -- the closed volumes, and the symbols that are closed
   abbrev pub closedCost : Set → ℕ
-  closedCost s = volumesCost K (knownOf s) (layerTable (isSingle s)) (s .drawing) (s .symbols) (s .volumes)
+  closedCost s = volumesCost K (knownOf s) (layerTableOf s) (s .drawing) (s .symbols) (s .volumes)
 
   -- the blocks before ELEMENT of the volume at hand
   abbrev pub nowCost : Set → ℕ
@@ -55,7 +57,7 @@ module _ (K : Known) where
   inSymbol s y = inDefines s false + symbolCost K (slotsCost K symbolTable (y .own)) y
 
   abbrev pub inElements : Set → ℕ
-  inElements s = topCost s 3 + elementCost (knownOf s) (layerTable (isSingle s)) (s .now .blocks)
+  inElements s = topCost s 3 + elementCost (knownOf s) (layerTableOf s) (s .now .blocks)
 
   -- figures are weighed at home
   abbrev pub homeKnown : Set → Home → Known
@@ -69,8 +71,8 @@ module _ (K : Known) where
   abbrev pub inFigures : Set → Home → List Figure → ℕ
   inFigures s h fs = homeCost s h + figuresCost (homeKnown s h) (isLayer h) (homeTable s h) fs
 
-  abbrev pub inPlaced : Set → ℕ → List Figure → Held → ℕ
-  inPlaced s n fs o = inFigures s (inLayer n) fs + blockCost (bytes "E_symbol") (heldCost (knownOf s) placedTables o)
+  abbrev pub inOwned : Set → ℕ → List Figure → Owned → ℕ
+  inOwned s n fs (symbolBlock o) = inFigures s (inLayer n) fs + blockCost (bytes "E_symbol") (heldCost (knownOf s) placedTables o)
 
   abbrev pub cost : State → ℕ
   cost (top s k) = topCost s k
@@ -84,8 +86,8 @@ module _ (K : Known) where
   cost (figures s h fs) = inFigures s h fs
   cost (successive s h fs n ps) = inFigures s h fs + blockCost (bytes "successive") (pointsCost (homeKnown s h) (isLayer h) ps)
   cost (texts s h fs n o) = inFigures s h fs + blockCost (bytes "text") (slotsCost (homeKnown s h) (textTable (isLayer h) 4 12) o)
-  cost (placing s n fs m o p) = inPlaced s n fs o
-  cost (skipping s n fs m o d) = inPlaced s n fs o
+  cost (placing s n fs m b p) = inOwned s n fs b
+  cost (skipping s n fs m b d) = inOwned s n fs b
   cost (ended s) = closedCost s + 5
 
   -- the next volume begins with what is closed
@@ -103,7 +105,7 @@ module _ (K : Known) where
 
   -- before the first volume is closed, the symbols alone
   pub closed-first : (s : Set) → s .volumes ≡ [] → closedCost s ≡ symbolsCost K (s .symbols)
-  closed-first s e = ap (λ vs. volumesCost K (knownOf s) (layerTable (isSingle s)) (s .drawing) (s .symbols) vs) e
+  closed-first s e = ap (λ vs. volumesCost K (knownOf s) (layerTableOf s) (s .drawing) (s .symbols) vs) e
 
   pub now-first : (s : Set) → s .volumes ≡ [] → nowCost s ≡ headCost K (s .drawing) (s .symbols) (s .now .file)
   now-first s e = ap (λ (vs : List Contents). cond (isNil vs) (headCost K (s .drawing) (s .symbols) (s .now .file)) (fileCost K false (s .now .file))) e
@@ -114,7 +116,7 @@ module _ (K : Known) where
     where
       go : (vs : List Contents) → closedCost (withVolume (withVolumes vs s)) ≤ inElements (withVolumes vs s)
       go [] = omega arith
-      go (u ∷ us) = omega (arith, laters-more (knownOf s) (layerTable (isSingle (withVolumes (u ∷ us) s))) us (s .now))
+      go (u ∷ us) = omega (arith, laters-more (knownOf s) (layerTableOf (withVolumes (u ∷ us) s)) us (s .now))
 
   -- LAYER closes
   pub layer-cost : (s : Set) (n : ℕ) (fs : List Figure) → inElements (withBlock (record { layer = n; figures = fs }) s) ≤ inFigures s (inLayer n) fs
@@ -125,8 +127,8 @@ module _ (K : Known) where
       more t = total-more (λ u. layerHead (knownOf s) (u .layer) + figuresCost (knownOf s) true t (u .figures)) (s .now .blocks) (record { layer = n; figures = fs })
 
       go : (vs : List Contents) → inElements (withBlock (record { layer = n; figures = fs }) (withVolumes vs s)) ≤ inFigures (withVolumes vs s) (inLayer n) fs
-      go [] = omega (arith, more (layerTable (isSingle (withVolumes [] s))))
-      go (u ∷ us) = omega (arith, more (layerTable (isSingle (withVolumes (u ∷ us) s))))
+      go [] = omega (arith, more (layerTableOf (withVolumes [] s)))
+      go (u ∷ us) = omega (arith, more (layerTableOf (withVolumes (u ∷ us) s)))
 
   -- FILE_FORMAT closes
   pub file-cost : (s : Set) (n : ℕ) (h : Held) → topCost (withNow (record { line = n; file = h; blocks = [] }) s) (cond (isFirst s) 1 3) ≤ closedCost s + fileCost K (isFirst s) h

@@ -24,6 +24,7 @@ use Rattle.rules.specs.Machine.{Line, Env, Home, inElement, inLayer, State, top
 use Rattle.rules.specs.PlacedSymbol.{onUnknown, newSerial, onPlaced, onPlacedKey, onPlacedOwn, onPlacing, skipShut, onSkipping}
 use Rattle.rules.specs.LineByLine.{stepIn, isIgnored, isClose, isEof, completes, nextVolume, step, accepted, thenRun, run}
 use Rattle.rules.specs.RecordTable.{recordsOf}
+use Rattle.rules.specs.Machine.{symbolBlock, Owned, fileKinds}
 use Rattle.rules.proofs.Chains.{and-left, and-false, or-left, clash, by-cond, cond-same, On, on-unless, on-cond, on-map, on-then, on-also, on-weaken, nil-snoc, map-append, flat-append}
 use Rattle.rules.proofs.Runs.{not-accepted, finish-ended}
 use Rattle.rules.proofs.Rows.{row-below}
@@ -133,7 +134,7 @@ module _ (e : Env) (l : Line) where
   Ends st st′ = Adds e (l .line) (suc (volumeOf st)) st (nextVolume st′)
 
   inv-open : (s : Set) (k : ℕ) → k < 4 → Inv e (top s k) → On (Does (top s k)) (openTop e l s k)
-  inv-open s zero h i = on-taking (Does (top s 0)) e (cond (isFirst s) 2 1) s _ λ r. took (cond (isFirst s) 2 1) r i refl (i .kept) refl
+  inv-open s zero h i = on-taking (Does (top s 0)) e (length (fileKinds (isFirst s))) s _ λ r. took (length (fileKinds (isFirst s))) r i refl (i .kept) refl
   inv-open s (suc zero) h i = on-taking (Does (top s 1)) e 1 s _ (λ r. took 1 r i refl (i .kept) refl)
   inv-open s (suc (suc zero)) h i =
       let w = i .kept in
@@ -313,51 +314,51 @@ module _ (e : Env) (l : Line) where
       (on-unless (Does (elements s)) (countedHere s) 17 _ λ _. inv-volume s i)
 
   -- what a placed symbol holds, and which of its parts is open, takes no record
-  inv-placed : (s : Set) (k : ℕ) (fs : List Figure) (n : ℕ) (o : Held) (p : ℕ) (a : Act) → Inv e (placing s k fs n o p) → On (Does (placing s k fs n o p)) (onPlaced s k fs n o p a)
+  inv-placed : (s : Set) (k : ℕ) (fs : List Figure) (n : ℕ) (o : Held) (p : ℕ) (a : Act) → Inv e (placing s k fs n (symbolBlock o) p) → On (Does (placing s k fs n (symbolBlock o) p)) (onPlaced s k fs n o p a)
   inv-placed s k fs n o p a i =
-      on-byAct (Does (placing s k fs n o p)) _ _ _ _ a (still i refl tt refl)
-      (λ j v. on-unless (Does (placing s k fs n o p)) (newSerial s fs v) 15 _ λ _. still i refl tt refl)
+      on-byAct (Does (placing s k fs n (symbolBlock o) p)) _ _ _ _ a (still i refl tt refl)
+      (λ j v. on-unless (Does (placing s k fs n (symbolBlock o) p)) (newSerial s fs v) 15 _ λ _. still i refl tt refl)
       (λ m j v b. still i refl tt refl)
-      (on-shut (Does (placing s k fs n o p)) p _ _ (still i (figures-more s (inLayer k) fs (placed n o)) tt refl) (λ q. still i refl tt refl))
+      (on-shut (Does (placing s k fs n (symbolBlock o) p)) p _ _ (still i (figures-more s (inLayer k) fs (placed n o)) tt refl) (λ q. still i refl tt refl))
 
-  inv-unknown : (s : Set) (k : ℕ) (fs : List Figure) (n : ℕ) (o : Held) (key : List ℕ) (c : Rest) → Inv e (placing s k fs n o 0) → On (Does (placing s k fs n o 0)) (onUnknown e s k fs n o key c)
+  inv-unknown : (s : Set) (k : ℕ) (fs : List Figure) (n : ℕ) (o : Held) (key : List ℕ) (c : Rest) → Inv e (placing s k fs n (symbolBlock o) 0) → On (Does (placing s k fs n (symbolBlock o) 0)) (onUnknown e s k fs n o key c)
   inv-unknown s k fs n o key c i =
-      on-cond (Does (placing s k fs n o 0)) (exceeds (rangeOf s) (e .class)) _ _
-      (λ _. on-skip (Does (placing s k fs n o 0)) (skipOf key c) _ _ (still i refl tt refl) (still i refl tt refl))
-      (λ _. on-byAct (Does (placing s k fs n o 0)) _ _ _ _ (actUnknown c) (still i refl tt refl) (λ j v. tt) (λ m j v b. tt) tt)
+      on-cond (Does (placing s k fs n (symbolBlock o) 0)) (exceeds (rangeOf s) (e .class)) _ _
+      (λ _. on-skip (Does (placing s k fs n (symbolBlock o) 0)) (skipOf key c) _ _ (still i refl tt refl) (still i refl tt refl))
+      (λ _. on-byAct (Does (placing s k fs n (symbolBlock o) 0)) _ _ _ _ (actUnknown c) (still i refl tt refl) (λ j v. tt) (λ m j v b. tt) tt)
 
-  inv-placed-key : (s : Set) (k : ℕ) (fs : List Figure) (n : ℕ) (o : Held) (key : List ℕ) (c : Rest) (f : Found) → Inv e (placing s k fs n o 0)
-      → On (Does (placing s k fs n o 0)) (onPlacedKey e s k fs n o key c f)
+  inv-placed-key : (s : Set) (k : ℕ) (fs : List Figure) (n : ℕ) (o : Held) (key : List ℕ) (c : Rest) (f : Found) → Inv e (placing s k fs n (symbolBlock o) 0)
+      → On (Does (placing s k fs n (symbolBlock o) 0)) (onPlacedKey e s k fs n o key c f)
   inv-placed-key s k fs n o key c absent i = inv-unknown s k fs n o key c i
   inv-placed-key s k fs n o key c (found j r) i =
-      on-cond (Does (placing s k fs n o 0)) (reaches (e .class) (r .least)) _ _
+      on-cond (Does (placing s k fs n (symbolBlock o) 0)) (reaches (e .class) (r .least)) _ _
       (λ _. inv-placed s k fs n o 0 (actRow (knownOf s) (rangeOf s) (getD (rowsThere (partOf o 0)) j false) j r c) i)
       (λ _. inv-unknown s k fs n o key c i)
 
-  inv-placed-own : (s : Set) (k : ℕ) (fs : List Figure) (n : ℕ) (o : Held) (f : Form) → Inv e (placing s k fs n o 0) → On (Does (placing s k fs n o 0)) (onPlacedOwn e s k fs n o f)
+  inv-placed-own : (s : Set) (k : ℕ) (fs : List Figure) (n : ℕ) (o : Held) (f : Form) → Inv e (placing s k fs n (symbolBlock o) 0) → On (Does (placing s k fs n (symbolBlock o) 0)) (onPlacedOwn e s k fs n o f)
   inv-placed-own s k fs n o ignored i = still i refl tt refl
   inv-placed-own s k fs n o (wrong m) i = tt
   inv-placed-own s k fs n o close i = inv-placed s k fs n o 0 (act (knownOf s) placedTable (both (e .class) (rangeOf s)) (rowsThere (partOf o 0)) close) i
   inv-placed-own s k fs n o eof i = tt
   inv-placed-own s k fs n o (keyed key c) i = inv-placed-key s k fs n o key c (find key placedTable) i
 
-  inv-placing : (s : Set) (k : ℕ) (fs : List Figure) (n : ℕ) (o : Held) (p : ℕ) (f : Form) → Inv e (placing s k fs n o p) → On (Does (placing s k fs n o p)) (onPlacing e s k fs n o p f)
+  inv-placing : (s : Set) (k : ℕ) (fs : List Figure) (n : ℕ) (o : Held) (p : ℕ) (f : Form) → Inv e (placing s k fs n (symbolBlock o) p) → On (Does (placing s k fs n (symbolBlock o) p)) (onPlacing e s k fs n o p f)
   inv-placing s k fs n o zero f i = inv-placed-own s k fs n o f i
   inv-placing s k fs n o (suc p) f i =
       inv-placed s k fs n o (suc p) (act (knownOf s) (getD placedTables (suc p) []) (digits 0 0) (rowsThere (partOf o (suc p))) f) i
 
-  inv-skip-shut : (s : Set) (k : ℕ) (fs : List Figure) (n : ℕ) (o : Held) (d : ℕ) → Inv e (skipping s k fs n o d) → On (Does (skipping s k fs n o d)) (skipShut s k fs n o d)
-  inv-skip-shut s k fs n o zero i = tt
-  inv-skip-shut s k fs n o (suc zero) i = still i refl tt refl
-  inv-skip-shut s k fs n o (suc (suc d)) i = still i refl tt refl
+  inv-skip-shut : (s : Set) (k : ℕ) (fs : List Figure) (n : ℕ) (b : Owned) (d : ℕ) → Inv e (skipping s k fs n b d) → On (Does (skipping s k fs n b d)) (skipShut s k fs n b d)
+  inv-skip-shut s k fs n b zero i = tt
+  inv-skip-shut s k fs n b (suc zero) i = still i refl tt refl
+  inv-skip-shut s k fs n b (suc (suc d)) i = still i refl tt refl
 
-  inv-skipping : (s : Set) (k : ℕ) (fs : List Figure) (n : ℕ) (o : Held) (d : ℕ) (f : Form) → Inv e (skipping s k fs n o d) → On (Does (skipping s k fs n o d)) (onSkipping s k fs n o d f)
-  inv-skipping s k fs n o d ignored i = still i refl tt refl
-  inv-skipping s k fs n o d (wrong m) i = tt
-  inv-skipping s k fs n o d close i = inv-skip-shut s k fs n o d i
-  inv-skipping s k fs n o d eof i = tt
-  inv-skipping s k fs n o d (keyed key c) i =
-      on-skip (Does (skipping s k fs n o d)) (skipOf key c) _ _ (still i refl tt refl) (on-unless (Does (skipping s k fs n o d)) (ltb d mostDepth) 18 _ λ _. still i refl tt refl)
+  inv-skipping : (s : Set) (k : ℕ) (fs : List Figure) (n : ℕ) (b : Owned) (d : ℕ) (f : Form) → Inv e (skipping s k fs n b d) → On (Does (skipping s k fs n b d)) (onSkipping s k fs n b d f)
+  inv-skipping s k fs n b d ignored i = still i refl tt refl
+  inv-skipping s k fs n b d (wrong m) i = tt
+  inv-skipping s k fs n b d close i = inv-skip-shut s k fs n b d i
+  inv-skipping s k fs n b d eof i = tt
+  inv-skipping s k fs n b d (keyed key c) i =
+      on-skip (Does (skipping s k fs n b d)) (skipOf key c) _ _ (still i refl tt refl) (on-unless (Does (skipping s k fs n b d)) (ltb d mostDepth) 18 _ λ _. still i refl tt refl)
 
   inv-in : (st : State) → Inv e st → On (Does st) (stepIn e l st)
   inv-in (top s k) i = inv-top s k (l .form) i
@@ -371,8 +372,8 @@ module _ (e : Env) (l : Line) where
   inv-in (figures s h fs) i = inv-figures s h fs (l .form) i
   inv-in (successive s h fs n ps) i = inv-successive s h fs n ps (l .form) i
   inv-in (texts s h fs n o) i = inv-texts s h fs n o (l .form) i
-  inv-in (placing s h fs n o p) i = inv-placing s h fs n o p (l .form) i
-  inv-in (skipping s h fs n o d) i = inv-skipping s h fs n o d (l .form) i
+  inv-in (placing s h fs n (symbolBlock o) p) i = inv-placing s h fs n o p (l .form) i
+  inv-in (skipping s h fs n b d) i = inv-skipping s h fs n b d (l .form) i
   inv-in (ended s) i = tt
 
   -- ── the last line of a volume ──

@@ -15,6 +15,7 @@ use Rattle.rules.specs.Blocks.{symbolTable}
 use Rattle.rules.specs.Sets.{Point, Figure, Drawing, Symbol, Contents, Set, isFirst}
 use Rattle.rules.specs.Machine.{Env, Home, inElement, inLayer, State, top, file, drawing, layerNames, defines, symbol, hide, elements, figures, successive, texts, placing, skipping, ended, roomFor}
 use Rattle.rules.specs.RecordTable.{ruleAt}
+use Rattle.rules.specs.Machine.{fileKinds}
 use Rattle.rules.proofs.Chains.{clash}
 use Rattle.rules.proofs.Rows.{row-at}
 use Rattle.promises.specs.Acceptance.{Place, place}
@@ -52,7 +53,7 @@ volumeOf (ended s) = length (s .volumes)
 
 -- FILE_FORMAT takes two records in the first volume, one in others
 abbrev pub filePlaces : List Contents → ℕ → List Place
-filePlaces vs n = replicate (cond (isNil vs) 2 1) (place (suc (length vs)) n)
+filePlaces vs n = replicate (length (fileKinds (isNil vs))) (place (suc (length vs)) n)
 
 -- what stands before a volume's ELEMENT, and what it holds so far
 abbrev pub openPlaces : Drawing → List Symbol → List Contents → Contents → List Place

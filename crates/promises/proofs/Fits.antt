@@ -24,6 +24,7 @@ use Rattle.rules.specs.Machine.{Line, Env, Home, inElement, inLayer, State, top
 use Rattle.rules.specs.PlacedSymbol.{bySkip, skipDeeper, onUnknown, newSerial, onPlaced, onPlacedKey, onPlacedOwn, onPlacing, onSkipping}
 use Rattle.rules.specs.LineByLine.{stepIn, completes, nextVolume, step, Outcome, refused, accepted, thenRun, finish, run}
 use Rattle.rules.specs.RecordTable.{recordsOf}
+use Rattle.rules.specs.Machine.{symbolBlock, Owned, fileKinds}
 use Rattle.rules.proofs.Chains.{On, on-unless, on-cond, on-then, on-also, on-got}
 use Rattle.rules.proofs.Rows.{Row, found-row, row-below}
 use Rattle.promises.specs.PlacesApart.{bareSet, placesApart}
@@ -47,6 +48,9 @@ module _ (S : ℕ → List ℕ → Type 0) where
   abbrev FitPlacing : Set → List Figure → Held → Type 0
   FitPlacing s fs o = FitSet S s × FitNow s × Each (FitFigure S true) fs × FitHeld S placedTables o
 
+  abbrev FitOwned : Set → List Figure → Owned → Type 0
+  FitOwned s fs (symbolBlock o) = FitPlacing s fs o
+
   -- at the top level the volume at hand is open from FILE_FORMAT's end to ELEMENT's
   abbrev pub FitState : State → Type 0
   FitState (top s k) = FitSet S s × (1 ≤ k → k < 4 → FitNow s)
@@ -60,8 +64,8 @@ module _ (S : ℕ → List ℕ → Type 0) where
   FitState (figures s h fs) = FitFigures s h fs
   FitState (successive s h fs n ps) = FitFigures s h fs
   FitState (texts s h fs n o) = FitFigures s h fs × FitSlots S (textTable (isLayer h) 4 12) o
-  FitState (placing s k fs n o p) = FitPlacing s fs o
-  FitState (skipping s k fs n o d) = FitPlacing s fs o
+  FitState (placing s k fs n b p) = FitOwned s fs b
+  FitState (skipping s k fs n b d) = FitOwned s fs b
   FitState (ended s) = FitSet S s
 
   by-act : {t : List Rule} (a : Act) (z : State) (n : ℕ → Value → Got State) (o : ℕ → ℕ → Value → Got State) (c : Unit {0} → Got State) → FitAct S t a → FitState z
@@ -87,7 +91,7 @@ module _ (S : ℕ → List ℕ → Type 0) where
   top-rows j v w = row-below (w .1)
 
   openTop-fit : (e : Env) (l : Line) (s : Set) (k : ℕ) → FitState (top s k) → k < 4 → On FitState (openTop e l s k)
-  openTop-fit e l s zero f h = on-unless FitState (room e (cond (isFirst s) 2 1) s) 19 _ λ _. (f .0, fit-blanks S (fileTables (isFirst s)))
+  openTop-fit e l s zero f h = on-unless FitState (room e (length (fileKinds (isFirst s))) s) 19 _ λ _. (f .0, fit-blanks S (fileTables (isFirst s)))
   openTop-fit e l s (suc zero) f h = on-unless FitState (room e 1 s) 19 _ λ _. (f .0, f .1 (omega arith) h, (fit-blank S drawingTable, tt))
   openTop-fit e l s (suc (suc zero)) f h = (f .0, f .1 (omega arith) h)
   openTop-fit e l s (suc (suc (suc k))) f h = (f .0, f .1 (omega arith) h)
@@ -220,12 +224,12 @@ module _ (S : ℕ → List ℕ → Type 0) where
   onUnknown-fit : (e : Env) (s : Set) (i : ℕ) (fs : List Figure) (n : ℕ) (o : Held) (k : List ℕ) (c : Rest) → FitPlacing s fs o → On FitState (onUnknown e s i fs n o k c)
   onUnknown-fit e s i fs n o k c g =
       on-cond FitState (exceeds (rangeOf s) (e .class)) _ _
-      (λ _. bySkip-fit (skipOf k c) (got (placing s i fs n o 0)) (got (skipping s i fs n o 1)) g g)
-      (λ _. by-act {t = placedTable} (actUnknown c) (placing s i fs n o 0) _ _ _ (unknown-fit S placedTable c) g (λ j v w. tt) (λ i j v w. tt) tt)
+      (λ _. bySkip-fit (skipOf k c) (got (placing s i fs n (symbolBlock o) 0)) (got (skipping s i fs n (symbolBlock o) 1)) g g)
+      (λ _. by-act {t = placedTable} (actUnknown c) (placing s i fs n (symbolBlock o) 0) _ _ _ (unknown-fit S placedTable c) g (λ j v w. tt) (λ i j v w. tt) tt)
 
   onPlaced-fit : (s : Set) (i : ℕ) (fs : List Figure) (n : ℕ) (o : Held) (p : ℕ) (a : Act) → FitAct S (getD placedTables p []) a → FitPlacing s fs o → On FitState (onPlaced s i fs n o p a)
   onPlaced-fit s i fs n o p a f g =
-      by-act a (placing s i fs n o p) _ _ _ f g
+      by-act a (placing s i fs n (symbolBlock o) p) _ _ _ f g
       (λ j v w. on-unless FitState (newSerial s fs v) 15 _ λ _. (g .0, g .1, g .2, fit-enter S placedTables o p (w .1) v (g .3) (w .2)))
       (λ i j v w. (g .0, g .1, g .2, fit-enter S placedTables o p (w .1) v (g .3) (w .2)))
       (shutPart-fit p _ _ (g .0, g .1, tt, each-more (FitFigure S true) fs (placed n o) (g .2) (g .3)) (λ q. g))
@@ -252,15 +256,15 @@ module _ (S : ℕ → List ℕ → Type 0) where
       onPlaced-fit s i fs n o (suc p) (act (knownOf s) (getD placedTables (suc p) []) (digits 0 0) (rowsThere (partOf o (suc p))) f)
       (act-fit S (knownOf s) (getD placedTables (suc p) []) (digits 0 0) (rowsThere (partOf o (suc p))) f x) g
 
-  onSkipping-fit : (s : Set) (i : ℕ) (fs : List Figure) (n : ℕ) (o : Held) (d : ℕ) (f : Form) → FitPlacing s fs o → On FitState (onSkipping s i fs n o d f)
-  onSkipping-fit s i fs n o d ignored g = g
-  onSkipping-fit s i fs n o d (wrong m) g = tt
-  onSkipping-fit s i fs n o zero close g = tt
-  onSkipping-fit s i fs n o (suc zero) close g = g
-  onSkipping-fit s i fs n o (suc (suc d)) close g = g
-  onSkipping-fit s i fs n o d eof g = tt
-  onSkipping-fit s i fs n o d (keyed k c) g =
-      bySkip-fit (skipOf k c) (got (skipping s i fs n o d)) (skipDeeper d (skipping s i fs n o (suc d))) g (on-unless FitState (ltb d mostDepth) 18 _ λ _. g)
+  onSkipping-fit : (s : Set) (i : ℕ) (fs : List Figure) (n : ℕ) (b : Owned) (d : ℕ) (f : Form) → FitOwned s fs b → On FitState (onSkipping s i fs n b d f)
+  onSkipping-fit s i fs n b d ignored g = g
+  onSkipping-fit s i fs n b d (wrong m) g = tt
+  onSkipping-fit s i fs n b zero close g = tt
+  onSkipping-fit s i fs n b (suc zero) close g = g
+  onSkipping-fit s i fs n b (suc (suc d)) close g = g
+  onSkipping-fit s i fs n b d eof g = tt
+  onSkipping-fit s i fs n b d (keyed k c) g =
+      bySkip-fit (skipOf k c) (got (skipping s i fs n b d)) (skipDeeper d (skipping s i fs n b (suc d))) g (on-unless FitState (ltb d mostDepth) 18 _ λ _. g)
 
   -- ── all lines ──
   stepIn-fit : (e : Env) (l : Line) (s : State) → FitForm S (l .form) → FitState s → On FitState (stepIn e l s)
@@ -275,8 +279,8 @@ module _ (S : ℕ → List ℕ → Type 0) where
   stepIn-fit e l (figures s h fs) x g = onFigures-fit e l s h fs (l .form) x g
   stepIn-fit e l (successive s h fs n ps) x g = onSuccessive-fit e l s h fs n ps (l .form) x g
   stepIn-fit e l (texts s h fs n o) x g = onTexts-fit s h fs n o (l .form) x g
-  stepIn-fit e l (placing s k fs n o p) x g = onPlacing-fit e s k fs n o p (l .form) x g
-  stepIn-fit e l (skipping s k fs n o d) x g = onSkipping-fit s k fs n o d (l .form) g
+  stepIn-fit e l (placing s k fs n (symbolBlock o) p) x g = onPlacing-fit e s k fs n o p (l .form) x g
+  stepIn-fit e l (skipping s k fs n b d) x g = onSkipping-fit s k fs n b d (l .form) g
   stepIn-fit e l (ended s) x g = tt
 
   next-fit : (s : State) → FitState s → FitState (nextVolume s)

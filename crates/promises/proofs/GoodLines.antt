@@ -19,6 +19,7 @@ use Rattle.rules.specs.Blocks.{fileTable, rangeTable, baseTable, elecTable, sym
 use Rattle.rules.specs.Figures.{layerTable, figureTable, textTable, placedTable, placedTables}
 use Rattle.rules.specs.Sets.{Point, Figure, plain, chain, lettering, placed, Layer, Drawing, Symbol, LayerBlock, Contents, Set, rangeOf, isSingle, knownOf}
 use Rattle.rules.specs.FixedForm.{Text, openLine, opensBlock, innerOf, lineOf, showSlots, noInner, showInner, showHeld, block, showPoints, showFigure, showFigures, showLayers, showDrawing, symbolInner, exchanged, showSymbol, showSymbols, showDefines, showBlocks, ending, laterLines, volumeLines}
+use Rattle.rules.specs.Sets.{layerTableOf}
 use Rattle.rules.proofs.Chains.{and-left, and-right, and-true, by-cond}
 use Rattle.rules.proofs.Rows.{row-at}
 use Rattle.promises.proofs.Forms.{layer-key, allowed-append, allowed-key, allowed-equal, plainLine, allowed-plain}
@@ -253,7 +254,7 @@ lines-some s = first (s .volumes)
 
     first : (vs : List Contents) → all (λ t. not (isNil t)) (volumeLines s vs) ≡ true
     first [] = refl
-    first (v ∷ vs) = later (knownOf s) (layerTable (isSingle s)) vs
+    first (v ∷ vs) = later (knownOf s) (layerTableOf s) vs
 
 -- as many volumes as the set has
 pub lines-count : (s : Set) → length (volumeLines s (s .volumes)) ≡ length (s .volumes)
@@ -265,7 +266,7 @@ lines-count s = first (s .volumes)
 
     first : (vs : List Contents) → length (volumeLines s vs) ≡ length vs
     first [] = refl
-    first (v ∷ vs) = ap suc (later (knownOf s) (layerTable (isSingle s)) vs)
+    first (v ∷ vs) = ap suc (later (knownOf s) (layerTableOf s) vs)
 
 pub nexts-count : (nexts : List (List ℕ)) (s : Set) → GoodSet nexts s → length nexts ≡ length (s .volumes)
 nexts-count nexts s g = rw (g .nexts-are, g .volumes) (ap suc (later (knownOf s) (rangeOf s) (isSingle s) (g .others) (g .rest) (g .laters)))

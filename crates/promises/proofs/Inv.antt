@@ -15,6 +15,7 @@ use Rattle.rules.specs.VolumesAndTotals.{countedHere, countedAll, layersUsed}
 use Rattle.rules.specs.Machine.{Line, State, top, file, drawing, layerNames, defines, symbol, hide, elements, figures, successive, texts, placing, skipping, ended, onTop, onElements}
 use Rattle.rules.specs.LineByLine.{stepIn, isIgnored, isClose, isEof, completes, nextVolume, Outcome, refused, accepted, thenRun, finish, run}
 use Rattle.rules.specs.Answers.{fullClass}
+use Rattle.rules.specs.Machine.{symbolBlock}
 use Rattle.rules.proofs.Chains.{or-true, clash, cond-same, On, on-unless, on-map, on-also, or-left}
 use Rattle.promises.proofs.Forms.{Tells}
 use Rattle.promises.proofs.Good.{GoodSet}
@@ -49,8 +50,8 @@ inv-in done fin l n fit e t (elements s) was i = on-elements done fin l n fit s 
 inv-in done fin l n fit e t (figures s h fs) was i = on-figures done fin l n fit s h fs t i
 inv-in done fin l n fit e t (successive s h fs m ps) was i = on-successive done fin l n fit s h fs m ps t i
 inv-in done fin l n fit e t (texts s h fs m o) was i = on-texts done fin l n fit s h fs m o t i
-inv-in done fin l n fit e t (placing s k fs m o p) was i = on-placing done fin l n fit s k fs m o p t i
-inv-in done fin l n fit e t (skipping s k fs m o d) was i = on-skipping done fin l n fit s k fs m o d (l .form) i
+inv-in done fin l n fit e t (placing s k fs m (symbolBlock o) p) was i = on-placing done fin l n fit s k fs m o p t i
+inv-in done fin l n fit e t (skipping s k fs m b d) was i = on-skipping done fin l n fit s k fs m b d (l .form) i
 inv-in done fin l n fit e t (ended s) was i = tt
 
 -- ── the last line of a volume ──

@@ -1,5 +1,5 @@
 -- A line in ELEMENT, in a layer or a symbol's element, and in the figures that are blocks keeps the invariant.
-use Prim.Native.Nat.{ℕ, zero, suc, _≤_}
+use Prim.Native.Nat.{ℕ, zero, suc, _≤_, _+_}
 use mathlib.Core.Bool.{Bool, true, false, cond, _||_, not}
 use mathlib.Core.List.{List, [], _∷_, _++_, map, append-nil, append-assoc}
 use mathlib.Core.Option.{some}
@@ -23,7 +23,9 @@ use Rattle.rules.specs.VolumesAndTotals.{countedHere}
 use Rattle.rules.specs.Machine.{Line, Home, inElement, inLayer, State, elements, figures, successive, texts, placing, skipping, byAct, onElements, isLayer, homeTable, closeFigures, openFigure, onFigures, onSuccessive, onTexts}
 use Rattle.rules.specs.PlacedSymbol.{bySkip, onUnknown, noneOf, newSerial, onPlaced, onPlacedKey, onPlacedOwn, onPlacing, skipShut, onSkipping}
 use Rattle.rules.specs.Answers.{fullClass}
-use Rattle.rules.specs.RecordTable.{ruleAt}
+use Rattle.rules.specs.RecordTable.{ruleAt, kindLine, kindSuccessive, kindText, kindPoint}
+use Rattle.rules.specs.Machine.{symbolBlock, Owned, kindIn}
+use Rattle.rules.specs.Sets.{layerTableOf}
 use Rattle.rules.proofs.Chains.{unless-got, map-got, or-got, map-append, On, on-unless, on-cond, or-left}
 use Rattle.rules.proofs.Rows.{found-row, row-all, row-at, row-did}
 use Rattle.rules.proofs.Runs.{head-file, head-snoc}
@@ -116,9 +118,9 @@ add-figure done cur s (inLayer n) fs f i g e = (
 )
 
 -- records that are taken change nothing here
-records-taken : (done : List (List ℕ)) (cur : List ℕ) (s : Set) (h : Home) (fs : List Figure) (m : ℕ) → FiguresInv done cur s h fs → FiguresInv done cur (withRecords m s) h fs
-records-taken done cur s (inElement y) fs m i = i
-records-taken done cur s (inLayer n) fs m i = i
+records-taken : (done : List (List ℕ)) (cur : List ℕ) (s : Set) (h : Home) (fs : List Figure) (ks : List ℕ) → FiguresInv done cur s h fs → FiguresInv done cur (withRecords ks s) h fs
+records-taken done cur s (inElement y) fs ks i = i
+records-taken done cur s (inLayer n) fs ks i = i
 
 home-keys : (s : Set) (h : Home) → keysOk (homeTable s h) ≡ true
 home-keys s (inElement y) = table-keys true 0 0 .12
@@ -138,7 +140,7 @@ plain-good s (inElement y) m j v w =
     let e = entry-numbers (knownOf s) (rangeOf s) (getD (rowsAtLimit 0 figureTable) j false) j (w .rule) (w .rest) j v (row-all onlyNumbers (w .row) (shape-rows .0)) (w .from) in
     record { rule = w .rule; row = w .row; good = rw e (w .always (row-all (λ r. nameless (r .holds)) (w .row) (shape-rows .1))); alone = rw e (w .opened-is) }
 plain-good s (inLayer n) m j v w =
-    let e = entry-numbers (knownOf s) (rangeOf s) (getD (rowsAtLimit 0 (layerTable (isSingle s))) j false) j (w .rule) (w .rest) j v (row-all onlyNumbers (w .row) (layer-numbers (isSingle s))) (w .from) in
+    let e = entry-numbers (knownOf s) (rangeOf s) (getD (rowsAtLimit 0 (layerTableOf s)) j false) j (w .rule) (w .rest) j v (row-all onlyNumbers (w .row) (layer-numbers (isSingle s))) (w .from) in
     record { rule = w .rule; row = w .row; good = rw e (w .good); alone = rw e (w .opened-is) }
 
 -- a placed symbol's block opens at no single range, from 001 on
@@ -191,8 +193,8 @@ module _ (done fin : List (List ℕ)) (l : Line) (n : ℕ) (fit : n ≤ 512) whe
   open-figure : (s : Set) (h : Home) (fs : List Figure) (i j : ℕ) (v : Value) → J (figures s h fs)
       → Took (knownOf s) (rangeOf s) (homeTable s h) (rowsAtLimit 0 (homeTable s h)) j v true (begin i j v) → On J (openFigure fullEnv l s h fs i)
   open-figure s h fs zero j v i w = tt
-  open-figure s h fs (suc zero) j v i w = (records-taken done (l .next) s h fs 1 i, (tt, refl))
-  open-figure s h fs (suc (suc zero)) j v i w = (records-taken done (l .next) s h fs 1 i, good-blank (Always none0) (textTable (isLayer h) 4 12))
+  open-figure s h fs (suc zero) j v i w = (records-taken done (l .next) s h fs (kindIn h kindSuccessive ∷ []) i, (tt, refl))
+  open-figure s h fs (suc (suc zero)) j v i w = (records-taken done (l .next) s h fs (kindIn h kindText ∷ []) i, good-blank (Always none0) (textTable (isLayer h) 4 12))
   open-figure s (inElement y) fs (suc (suc (suc m))) j v i w = tt
   open-figure s (inLayer k) fs (suc (suc (suc m))) j v i w =
       let (single, level) = placed-opens (isSingle s) w in (i, placed-start (knownOf s) (rangeOf s) (serialsIn s ++ figureSerials fs), single, level)
@@ -200,7 +202,7 @@ module _ (done fin : List (List ℕ)) (l : Line) (n : ℕ) (fit : n ≤ 512) whe
   pub on-figures : (s : Set) (h : Home) (fs : List Figure) → Tells n (l .form) → J (figures s h fs) → On J (onFigures fullEnv l s h fs (l .form))
   on-figures s h fs t i =
       on-act J (knownOf s) (rangeOf s) (homeTable s h) (rowsAtLimit 0 (homeTable s h)) n (l .form) (home-keys s h) t fit _ _ _ _ i
-      (λ j v w. records-taken done (l .next) s h (fs ++ plain (l .line) j (numsOf v) ∷ []) 1
+      (λ j v w. records-taken done (l .next) s h (fs ++ plain (l .line) j (numsOf v) ∷ []) (kindIn h (kindLine + j) ∷ [])
       (add-figure done (l .next) s h fs (plain (l .line) j (numsOf v)) i (plain-good s h (l .line) j v w) refl))
       (λ i′ j v w. open-figure s h fs i′ j v i w)
       (λ e. close-figures s h fs i)
@@ -209,7 +211,7 @@ module _ (done fin : List (List ℕ)) (l : Line) (n : ℕ) (fit : n ≤ 512) whe
   pub on-successive : (s : Set) (h : Home) (fs : List Figure) (m : ℕ) (ps : List Point) → Tells n (l .form) → J (successive s h fs m ps) → On J (onSuccessive fullEnv l s h fs m ps (l .form))
   on-successive s h fs m ps t i =
       on-act J (knownOf s) none0 (pointTable (isLayer h)) (rowsAtLimit (length ps) (pointTable (isLayer h))) n (l .form) (table-keys (isLayer h) 0 0 .13) t fit _ _ _ _ i
-      (λ j v w. (records-taken done (l .next) s h fs 1 (i .0), points-enter (isLayer h) l ps (i .1) w))
+      (λ j v w. (records-taken done (l .next) s h fs (kindIn h kindPoint ∷ []) (i .0), points-enter (isLayer h) l ps (i .1) w))
       (λ i′ j v w. tt)
       (λ e. on-unless J (leb leastPoints (length ps)) 8 _ λ c.
       add-figure done (l .next) s h fs (chain m ps) (i .0) (chain-home s h m ps (record { points = i .1 .0; least = c; most = i .1 .1 })) refl)
@@ -222,7 +224,7 @@ module _ (done fin : List (List ℕ)) (l : Line) (n : ℕ) (fit : n ≤ 512) whe
       (λ e. add-figure done (l .next) s h fs (lettering m o) (i .0) (text-home s h m o (record { good = i .1; all = e })) refl)
 
   -- ── the placed symbol ──
-  placed-act : (s : Set) (k : ℕ) (fs : List Figure) (m : ℕ) (o : Held) (a : Act) → ActTold (knownOf s) (rangeOf s) (both fullClass (rangeOf s)) placedTable (rowsThere (partOf o 0)) a → J (placing s k fs m o 0)
+  placed-act : (s : Set) (k : ℕ) (fs : List Figure) (m : ℕ) (o : Held) (a : Act) → ActTold (knownOf s) (rangeOf s) (both fullClass (rangeOf s)) placedTable (rowsThere (partOf o 0)) a → J (placing s k fs m (symbolBlock o) 0)
       → On J (onPlaced s k fs m o 0 a)
   placed-act s k fs m o a told i =
       on-byAct J (knownOf s) (rangeOf s) (both fullClass (rangeOf s)) placedTable (rowsThere (partOf o 0)) _ _ _ _ a told i
@@ -243,11 +245,11 @@ module _ (done fin : List (List ℕ)) (l : Line) (n : ℕ) (fit : n ≤ 512) whe
   refused-act st (refuse m) i = tt
 
   -- what is skipped leaves what is held as it is
-  on-unknown : (s : Set) (k : ℕ) (fs : List Figure) (m : ℕ) (o : Held) (key : List ℕ) (c : Rest) → J (placing s k fs m o 0) → On J (onUnknown fullEnv s k fs m o key c)
+  on-unknown : (s : Set) (k : ℕ) (fs : List Figure) (m : ℕ) (o : Held) (key : List ℕ) (c : Rest) → J (placing s k fs m (symbolBlock o) 0) → On J (onUnknown fullEnv s k fs m o key c)
   on-unknown s k fs m o key c i =
-      on-cond J (exceeds (rangeOf s) fullClass) _ _ (λ e. on-skip (skipOf key c) _ _ i i) (λ e. refused-act (placing s k fs m o 0) (actUnknown c) i)
+      on-cond J (exceeds (rangeOf s) fullClass) _ _ (λ e. on-skip (skipOf key c) _ _ i i) (λ e. refused-act (placing s k fs m (symbolBlock o) 0) (actUnknown c) i)
 
-  placed-key : (s : Set) (k : ℕ) (fs : List Figure) (m : ℕ) (o : Held) (key : List ℕ) (c : Rest) (f : Found) → find key placedTable ≡ f → Tells n (keyed key c) → J (placing s k fs m o 0)
+  placed-key : (s : Set) (k : ℕ) (fs : List Figure) (m : ℕ) (o : Held) (key : List ℕ) (c : Rest) (f : Found) → find key placedTable ≡ f → Tells n (keyed key c) → J (placing s k fs m (symbolBlock o) 0)
       → On J (onPlacedKey fullEnv s k fs m o key c f)
   placed-key s k fs m o key c absent e t i = on-unknown s k fs m o key c i
   placed-key s k fs m o key c (found j r) e t i =
@@ -257,7 +259,7 @@ module _ (done fin : List (List ℕ)) (l : Line) (n : ℕ) (fit : n ≤ 512) whe
       (row-told (knownOf s) (rangeOf s) (both fullClass (rangeOf s)) placedTable (rowsThere (partOf o 0)) n key c j r w q (table-keys true 0 0 .15) t fit) i)
       (λ _. on-unknown s k fs m o key c i)
 
-  placed-own : (s : Set) (k : ℕ) (fs : List Figure) (m : ℕ) (o : Held) (f : Form) → Tells n f → J (placing s k fs m o 0) → On J (onPlacedOwn fullEnv s k fs m o f)
+  placed-own : (s : Set) (k : ℕ) (fs : List Figure) (m : ℕ) (o : Held) (f : Form) → Tells n f → J (placing s k fs m (symbolBlock o) 0) → On J (onPlacedOwn fullEnv s k fs m o f)
   placed-own s k fs m o ignored t i = i
   placed-own s k fs m o (wrong p) t i = tt
   placed-own s k fs m o close t i =
@@ -266,7 +268,7 @@ module _ (done fin : List (List ℕ)) (l : Line) (n : ℕ) (fit : n ≤ 512) whe
   placed-own s k fs m o eof t i = tt
   placed-own s k fs m o (keyed key c) t i = placed-key s k fs m o key c (find key placedTable) refl t i
 
-  pub on-placing : (s : Set) (k : ℕ) (fs : List Figure) (m : ℕ) (o : Held) (p : ℕ) → Tells n (l .form) → J (placing s k fs m o p) → On J (onPlacing fullEnv s k fs m o p (l .form))
+  pub on-placing : (s : Set) (k : ℕ) (fs : List Figure) (m : ℕ) (o : Held) (p : ℕ) → Tells n (l .form) → J (placing s k fs m (symbolBlock o) p) → On J (onPlacing fullEnv s k fs m o p (l .form))
   on-placing s k fs m o zero t i = placed-own s k fs m o (l .form) t i
   on-placing s k fs m o (suc p) t i =
       on-act J (knownOf s) none0 (getD placedTables (suc p) []) (rowsThere (partOf o (suc p))) n (l .form) (text-keys p) t fit _ _ _ _ i
@@ -274,14 +276,14 @@ module _ (done fin : List (List ℕ)) (l : Line) (n : ℕ) (fit : n ≤ 512) whe
       (λ i′ j v w. absurd (text-opens p w))
       (λ e. (i .0, text-shut (serialsIn s ++ figureSerials fs) p o (i .1) e, i .2, i .3))
 
-  skip-shut : (s : Set) (k : ℕ) (fs : List Figure) (m : ℕ) (o : Held) (d : ℕ) → J (skipping s k fs m o d) → On J (skipShut s k fs m o d)
-  skip-shut s k fs m o zero i = tt
-  skip-shut s k fs m o (suc zero) i = i
-  skip-shut s k fs m o (suc (suc d)) i = i
+  skip-shut : (s : Set) (k : ℕ) (fs : List Figure) (m : ℕ) (b : Owned) (d : ℕ) → J (skipping s k fs m b d) → On J (skipShut s k fs m b d)
+  skip-shut s k fs m b zero i = tt
+  skip-shut s k fs m b (suc zero) i = i
+  skip-shut s k fs m b (suc (suc d)) i = i
 
-  pub on-skipping : (s : Set) (k : ℕ) (fs : List Figure) (m : ℕ) (o : Held) (d : ℕ) (f : Form) → J (skipping s k fs m o d) → On J (onSkipping s k fs m o d f)
-  on-skipping s k fs m o d ignored i = i
-  on-skipping s k fs m o d (wrong p) i = tt
-  on-skipping s k fs m o d close i = skip-shut s k fs m o d i
-  on-skipping s k fs m o d eof i = tt
-  on-skipping s k fs m o d (keyed key c) i = on-skip (skipOf key c) _ _ i (on-unless J (ltb d mostDepth) 18 _ λ e. i)
+  pub on-skipping : (s : Set) (k : ℕ) (fs : List Figure) (m : ℕ) (b : Owned) (d : ℕ) (f : Form) → J (skipping s k fs m b d) → On J (onSkipping s k fs m b d f)
+  on-skipping s k fs m b d ignored i = i
+  on-skipping s k fs m b d (wrong p) i = tt
+  on-skipping s k fs m b d close i = skip-shut s k fs m b d i
+  on-skipping s k fs m b d eof i = tt
+  on-skipping s k fs m b d (keyed key c) i = on-skip (skipOf key c) _ _ i (on-unless J (ltb d mostDepth) 18 _ λ e. i)

@@ -19,6 +19,7 @@ use Rattle.rules.specs.VolumesAndTotals.{chained}
 use Rattle.rules.specs.Machine.{Home, inElement, inLayer, State, top, file, drawing, layerNames, defines, symbol, hide, elements, figures, successive, texts, placing, skipping, ended, isLayer}
 use Rattle.rules.specs.PlacedSymbol.{noneOf}
 use Rattle.rules.specs.RecordTable.{ruleAt}
+use Rattle.rules.specs.Machine.{symbolBlock, Owned}
 use Rattle.rules.proofs.Chains.{and-left, and-right, and-true}
 use Rattle.promises.proofs.Good.{Always, GoodSlots, none0, GoodFile, GoodLater, GoodPoints, GoodFigure, GoodFigures, GoodShape, GoodShapes, fresh, freshNumbers, GoodLayer, GoodLayers, idsOf, GoodDrawing, GoodSymbol, GoodSymbols, GoodDefines, GoodBlock, GoodBlocks, GoodVolume, GoodSet}
 use Rattle.promises.proofs.InvFile.{FileInv}
@@ -169,6 +170,9 @@ abbrev pub PlacingInv : List (List ℕ) → List ℕ → Set → ℕ → List Fi
 PlacingInv done cur s n fs o p =
     FiguresInv done cur s (inLayer n) fs × PlacedInv (knownOf s) (rangeOf s) (serialsIn s ++ figureSerials fs) p o × (isSingle s ≡ false) × (reaches (rangeOf s) (digits 0 1) ≡ true)
 
+abbrev pub OwnedInv : List (List ℕ) → List ℕ → Set → ℕ → List Figure → Owned → ℕ → Type 0
+OwnedInv done cur s n fs (symbolBlock o) p = PlacingInv done cur s n fs o p
+
 -- ── the invariant (fin: the names that follow all volumes, where the set has ended) ──
 abbrev pub Inv : List (List ℕ) → List ℕ → List (List ℕ) → State → Type 0
 Inv done cur fin (top s k) = TopInv done cur k (untaken s)
@@ -182,8 +186,8 @@ Inv done cur fin (elements s) = Working done cur (fileOf s) (untaken s)
 Inv done cur fin (figures s h fs) = FiguresInv done cur s h fs
 Inv done cur fin (successive s h fs n ps) = FiguresInv done cur s h fs × Points (isLayer h) ps
 Inv done cur fin (texts s h fs n o) = FiguresInv done cur s h fs × GoodSlots (Always none0) (textTable (isLayer h) 4 12) o
-Inv done cur fin (placing s n fs m o p) = PlacingInv done cur s n fs o p
-Inv done cur fin (skipping s n fs m o d) = PlacingInv done cur s n fs o 0
+Inv done cur fin (placing s n fs m b p) = OwnedInv done cur s n fs b p
+Inv done cur fin (skipping s n fs m b d) = OwnedInv done cur s n fs b 0
 Inv done cur fin (ended s) = GoodSet fin s
 
 -- ── one more ──

@@ -10,6 +10,7 @@ use Rattle.rules.specs.Sets.{Set, nothingYet, knownOf}
 use Rattle.rules.specs.Machine.{Line, Env, State, top, file, drawing, layerNames, defines, symbol, hide, elements, figures, successive, texts, placing, skipping, ended}
 use Rattle.rules.specs.LineByLine.{stepIn, completes, nextVolume, step, accepted, thenRun, run}
 use Rattle.rules.specs.FixedForm.{volumeLines}
+use Rattle.rules.specs.Machine.{symbolBlock}
 use Rattle.rules.proofs.Runs.{not-accepted, finish-ended}
 use Rattle.rules.proofs.Chains.{On, on-cond, on-map, on-also, on-weaken}
 use Rattle.promises.proofs.Forms.{Told}
@@ -31,8 +32,8 @@ in-next K n e l (elements s) ok t = elements-next K n s (l .form) t
 in-next K n e l (figures s h fs) ok t = figures-next K n e l s h fs (l .form) ok t
 in-next K n e l (successive s h fs m ps) ok t = successive-next K n e l s h fs m ps (l .form) ok t
 in-next K n e l (texts s h fs m o) ok t = texts-next K n s h fs m o (l .form) ok t
-in-next K n e l (placing s h fs m o p) ok t = placing-next K n s h fs m o e p (l .form) t
-in-next K n e l (skipping s h fs m o d) ok t = skipping-next K n s h fs m o d (l .form) t
+in-next K n e l (placing s h fs m (symbolBlock o) p) ok t = placing-next K n s h fs m o e p (l .form) t
+in-next K n e l (skipping s h fs m b d) ok t = skipping-next K n s h fs m b d (l .form) t
 in-next K n e l (ended s) ok t = tt
 
 -- the next volume begins with no more

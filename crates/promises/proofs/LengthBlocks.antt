@@ -14,14 +14,16 @@ use Rattle.rules.specs.RefusalNumbers.{Got, got, unless, andThen}
 use Rattle.rules.specs.Lines.{Form, ignored, wrong, close, eof, keyed, freeShapeOf}
 use Rattle.rules.specs.RangeClass.{digits, digitsOf}
 use Rattle.rules.specs.Values.{Value, nums, Known, isLayerId, opens, numsOf}
-use Rattle.rules.specs.RecordTable.{ruleAt}
+use Rattle.rules.specs.RecordTable.{ruleAt, kindDrawing, kindSymbol, kindLayer, kindHidden}
 use Rattle.rules.specs.FixedForm.{lineOf}
 use Rattle.rules.specs.Rows.{Rule, row, blank, Held, partOf, rowsThere, rowsAtLimit, innerOf, act}
 use Rattle.rules.specs.Blocks.{topTable, fileTable, rangeTable, baseTable, elecTable, symTable, laterTable, fileTables, drawingTable, mostLayers, definesTable, symbolTable, blankHeld}
-use Rattle.rules.specs.Figures.{layerTable, figureTable, pointTable, textTable}
-use Rattle.rules.specs.Sets.{Point, Layer, Drawing, Symbol, Set, withNow, withDrawing, withRecords, withLayer, symbolOwn, isFirst, arcOf, defineRange, isSingle, knownOf}
+use Rattle.rules.specs.Figures.{figureTable, pointTable, textTable}
+use Rattle.rules.specs.Sets.{Point, Layer, Drawing, Symbol, Set, withNow, withDrawing, withRecords, withLayer, symbolOwn, isFirst, arcOf, defineRange, knownOf}
 use Rattle.rules.specs.VolumesAndTotals.{chained, dated, countedAll, layersUsed}
 use Rattle.rules.specs.Machine.{Line, Env, inElement, State, top, file, drawing, layerNames, defines, symbol, hide, figures, ended, byAct, roomFor, taking, openTop, onTop, closeFile, shutPart, onFile, onDrawing, layerValue, onLayerNames, onDefines, newName, openSymbol, onSymbol, pointAt, onHide}
+use Rattle.rules.specs.Sets.{layerTableOf}
+use Rattle.rules.specs.Machine.{fileKinds}
 use Rattle.rules.proofs.Chains.{On, on-unless, on-then, clash, and-left, and-right, all-weaken, total-more}
 use Rattle.rules.proofs.Rows.{Row, row-all, row-at, row-below}
 use Rattle.promises.proofs.Forms.{Told, keyOk}
@@ -89,8 +91,8 @@ top-few : {j : ℕ} {r : Rule} → Row topTable j r → j ≤ 3
 unfolding topTable
 top-few w = omega (arith, row-below w)
 
-pub on-taking : (P : State → Type 0) (e : Env) (m : ℕ) (s : Set) (f : Set → State) → P (f (withRecords m s)) → On P (taking e m s f)
-on-taking P e m s f h = on-unless P (roomFor (e .limit) (s .taken + m)) 19 (got (f (withRecords m s))) λ _. h
+pub on-taking : (P : State → Type 0) (e : Env) (ks : List ℕ) (s : Set) (f : Set → State) → P (f (withRecords ks s)) → On P (taking e ks s f)
+on-taking P e ks s f h = on-unless P (roomFor (e .limit) (s .taken + length ks)) 19 (got (f (withRecords ks s))) λ _. h
 
 define-key : {j : ℕ} {r : Rule} → Row definesTable j r → 3 ≤ length (r .key)
 unfolding definesTable
@@ -154,12 +156,12 @@ module _ (K : Known) (n : ℕ) where
   -- ── the top level ──
   top-opens : (e : Env) (l : Line) (s : Set) (j : ℕ) → j ≤ 3 → length (topKey j) + 2 ≤ n → TopOk s j → On (Next K (top s j) n) (openTop e l s j)
   top-opens e l s zero few long ok =
-      on-taking (Next K (top s 0) n) e (cond (isFirst s) 2 1) s (λ s′. file s′ (l .line) (blankHeld (fileTables (isFirst s))) 0)
+      on-taking (Next K (top s 0) n) e (fileKinds (isFirst s)) s (λ s′. file s′ (l .line) (blankHeld (fileTables (isFirst s))) 0)
       (tt, omega (arith, blank-held K (fileTables (isFirst s))))
   top-opens e l s (suc zero) few long ok =
-      on-taking (Next K (top s 1) n) e 1 s (λ s′. drawing s′ (record { line = l .line; own = blank drawingTable; layers = [] })) (ok, omega (arith, blank-cost K drawingTable))
+      on-taking (Next K (top s 1) n) e (kindDrawing ∷ []) s (λ s′. drawing s′ (record { line = l .line; own = blank drawingTable; layers = [] })) (ok, omega (arith, blank-cost K drawingTable))
   top-opens e l s (suc (suc zero)) few long ok = (ok, omega arith)
-  top-opens e l s (suc (suc (suc zero))) few long ok = (tt, omega (arith, ap (blocksCost (knownOf s) (layerTable (isSingle s))) ok))
+  top-opens e l s (suc (suc (suc zero))) few long ok = (tt, omega (arith, ap (blocksCost (knownOf s) (layerTableOf s)) ok))
   top-opens e l s (suc (suc (suc (suc j)))) few long ok = absurd (omega (arith, few))
 
   pub top-next : (e : Env) (l : Line) (s : Set) (k : ℕ) (f : Form) → TopOk s k → Told n f → On (Next K (top s k) n) (onTop e l s k f)
@@ -198,13 +200,13 @@ module _ (K : Known) (n : ℕ) where
   layers-next e l s d (keyed k c) ok tells =
       let P : State → Type 0 = Next K (layerNames s d) n in
       let u : Value → Layer = λ v. record { line = l .line; id = k; name = v } in
-      let g2 : Value → Got State = λ v. taking e 1 s λ s′. layerNames s′ (withLayer (u v) d) in
+      let g2 : Value → Got State = λ v. taking e (kindLayer ∷ []) s λ s′. layerNames s′ (withLayer (u v) d) in
       let g1 : Value → Got State = λ v. unless (ltb (length (d .layers)) mostLayers) 11 (unless (not (among k (map (λ y. y .id) (d .layers)))) 14 (g2 v)) in
       on-unless P (isLayerId k) 6 (andThen (layerValue k (freeShapeOf c)) g1) λ i.
       on-then P (layerValue k (freeShapeOf c)) g1 λ v q.
       on-unless P (ltb (length (d .layers)) mostLayers) 11 (unless (not (among k (map (λ y. y .id) (d .layers)))) 14 (g2 v)) λ _.
       on-unless P (not (among k (map (λ y. y .id) (d .layers)))) 14 (g2 v) λ _.
-      on-taking P e 1 s (λ s′. layerNames s′ (withLayer (u v) d)) (ok, omega (arith, total-more layerCost (d .layers) (u v), layer-good k c n 0 v i (tells .0) (tells .1) q .1))
+      on-taking P e (kindLayer ∷ []) s (λ s′. layerNames s′ (withLayer (u v) d)) (ok, omega (arith, total-more layerCost (d .layers) (u v), layer-good k c n 0 v i (tells .0) (tells .1) q .1))
 
   -- ── SYMBOL_DEFINE ──
   pub defines-next : (e : Env) (l : Line) (s : Set) (b : Bool) (f : Form) → First s → Told n f → On (Next K (defines s b) n) (onDefines e l s b f)
@@ -214,8 +216,8 @@ module _ (K : Known) (n : ℕ) where
       on-plain P _ _ _ _ (knownOf s) (digitsOf (defineRange s)) definesTable (b ∷ false ∷ []) f (plain-tables true 0 0 .2) tells
       (ok, omega arith)
       (λ j r v w u. on-unless P (isNil (s .symbols)) 6 (got (defines s true)) λ _. (ok, omega (arith, define-key w, u .3)))
-      (λ j r v w u. on-unless P (not b) 6 (taking e 1 s λ s′. symbol s′ y) λ _.
-      on-taking P e 1 s (λ s′. symbol s′ y) ((ok, blank-sized), omega (arith, blank-cost K symbolTable, head-took (λ i. 10) w define-heads K _ v n u)))
+      (λ j r v w u. on-unless P (not b) 6 (taking e (kindSymbol ∷ []) s λ s′. symbol s′ y) λ _.
+      on-taking P e (kindSymbol ∷ []) s (λ s′. symbol s′ y) ((ok, blank-sized), omega (arith, blank-cost K symbolTable, head-took (λ i. 10) w define-heads K _ v n u)))
       (λ one. on-unless P (b || not (isNil (s .symbols))) 8 (got (top s 3)) λ q. (ok .1, omega (arith, now-first K s (ok .0), non-least b (isNil (s .symbols)) q)))
 
   symbol-opens : (s : Set) (y y′ : Symbol) (i : ℕ) → HomeOk s (inElement y′) → inSymbol K s y′ ≤ inSymbol K s y + (n + 2) + 3 → On (Next K (symbol s y) n) (openSymbol s y′ i)
@@ -239,6 +241,6 @@ module _ (K : Known) (n : ℕ) where
       let P : State → Type 0 = Next K (hide s y ps) n in
       on-plain P _ _ _ _ (knownOf s) (digits 0 0) (pointTable false) (rowsAtLimit (length ps) (pointTable false)) f (plain-tables false 0 0 .5) tells
       (ok, omega arith)
-      (λ j r v w u. on-taking P e 1 s (λ s′. hide s′ y (ps ++ pointAt l v ∷ [])) (ok, omega (arith, point-took false w K _ v n u ps l)))
+      (λ j r v w u. on-taking P e (kindHidden ∷ []) s (λ s′. hide s′ y (ps ++ pointAt l v ∷ [])) (ok, omega (arith, point-took false w K _ v n u ps l)))
       (λ j r v w u. tt)
       (λ one. (ok, omega arith))

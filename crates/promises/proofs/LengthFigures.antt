@@ -20,6 +20,8 @@ use Rattle.rules.specs.VolumesAndTotals.{countedHere}
 use Rattle.rules.specs.Machine.{Line, Env, Home, inElement, inLayer, State, top, symbol, elements, figures, successive, texts, placing, skipping, taking, onElements, isLayer, homeTable, pointAt, closeFigures, openFigure, onFigures, onSuccessive, onTexts, shutPart}
 use Rattle.rules.specs.PlacedSymbol.{bySkip, skipDeeper, onUnknown, newSerial, onPlaced, onPlacedKey, onPlacing, onSkipping}
 use Rattle.rules.specs.FixedForm.{openLine, lineOf}
+use Rattle.rules.specs.Machine.{symbolBlock, kindIn, Owned}
+use Rattle.rules.specs.RecordTable.{kindLine, kindSuccessive, kindText, kindPlaced, kindPoint}
 use Rattle.rules.proofs.Chains.{On, on-unless, on-cond, clash, same-eq, total-more}
 use Rattle.rules.proofs.Rows.{Row, found-row, row-all, row-at, row-below}
 use Rattle.promises.proofs.Forms.{Told, keyOk, keysOk, table-keys}
@@ -74,10 +76,10 @@ home-same K s (inElement y) j r w v = plain-same (plain-tables true 0 0 .4) w (k
 home-same K s (inLayer k) j r w v = refl
 
 -- a record taken changes nothing of what is at home
-on-home : (P : State → Type 0) (e : Env) (s : Set) (h : Home) (F : Set → Home → State) → ((y : Symbol) → P (F s (inElement y)) → P (F (withRecords 1 s) (inElement y)))
-    → ((k : ℕ) → P (F s (inLayer k)) → P (F (withRecords 1 s) (inLayer k))) → P (F s h) → On P (taking e 1 s λ s′. F s′ h)
-on-home P e s (inElement y) F f g z = on-taking P e 1 s (λ s′. F s′ (inElement y)) (f y z)
-on-home P e s (inLayer k) F f g z = on-taking P e 1 s (λ s′. F s′ (inLayer k)) (g k z)
+on-home : (P : State → Type 0) (e : Env) (ks : List ℕ) (s : Set) (h : Home) (F : Set → Home → State) → ((y : Symbol) → P (F s (inElement y)) → P (F (withRecords ks s) (inElement y)))
+    → ((k : ℕ) → P (F s (inLayer k)) → P (F (withRecords ks s) (inLayer k))) → P (F s h) → On P (taking e ks s λ s′. F s′ h)
+on-home P e ks s (inElement y) F f g z = on-taking P e ks s (λ s′. F s′ (inElement y)) (f y z)
+on-home P e ks s (inLayer k) F f g z = on-taking P e ks s (λ s′. F s′ (inLayer k)) (g k z)
 
 module _ (K : Known) (n : ℕ) where
   -- ── ELEMENT ──
@@ -94,12 +96,12 @@ module _ (K : Known) (n : ℕ) where
   -- ── figures ──
   figure-opens : (e : Env) (l : Line) (s : Set) (h : Home) (fs : List Figure) (i : ℕ) → HomeOk s h → figureHead i ≤ n → On (Next K (figures s h fs) n) (openFigure e l s h fs i)
   figure-opens e l s h fs zero ok le = tt
-  figure-opens e l s h fs (suc zero) ok le = on-home (Next K (figures s h fs) n) e s h (λ s′ h′. successive s′ h′ fs (l .line) []) (λ y z. z) (λ k z. z) (ok, omega arith)
+  figure-opens e l s h fs (suc zero) ok le = on-home (Next K (figures s h fs) n) e (kindIn h kindSuccessive ∷ []) s h (λ s′ h′. successive s′ h′ fs (l .line) []) (λ y z. z) (λ k z. z) (ok, omega arith)
   figure-opens e l s h fs (suc (suc zero)) ok le =
-      on-home (Next K (figures s h fs) n) e s h (λ s′ h′. texts s′ h′ fs (l .line) (blank (textTable (isLayer h) 4 12))) (λ y z. z) (λ k z. z) (ok, omega (arith, blank-cost (homeKnown K s h) (textTable (isLayer h) 4 12)))
+      on-home (Next K (figures s h fs) n) e (kindIn h kindText ∷ []) s h (λ s′ h′. texts s′ h′ fs (l .line) (blank (textTable (isLayer h) 4 12))) (λ y z. z) (λ k z. z) (ok, omega (arith, blank-cost (homeKnown K s h) (textTable (isLayer h) 4 12)))
   figure-opens e l s (inElement y) fs (suc (suc (suc i))) ok le = tt
   figure-opens e l s (inLayer k) fs (suc (suc (suc i))) ok le =
-      on-taking (Next K (figures s (inLayer k) fs) n) e 1 s (λ s′. placing s′ k fs (l .line) (blankHeld placedTables) 0) (tt, omega (arith, blank-held (knownOf s) placedTables))
+      on-taking (Next K (figures s (inLayer k) fs) n) e (kindPlaced ∷ []) s (λ s′. placing s′ k fs (l .line) (symbolBlock (blankHeld placedTables)) 0) (tt, omega (arith, blank-held (knownOf s) placedTables))
 
   figures-shut : (s : Set) (h : Home) (fs : List Figure) → HomeOk s h → 1 ≤ n → On (Next K (figures s h fs) n) (closeFigures s h fs)
   figures-shut s (inElement y) fs ok one =
@@ -116,7 +118,7 @@ module _ (K : Known) (n : ℕ) where
       let P : State → Type 0 = Next K (figures s h fs) n in
       on-act P _ _ _ _ (knownOf s) (homeKnown K s h) (rangeOf s) n (homeTable s h) (rowsAtLimit 0 (homeTable s h)) f (home-rows s h .0) (home-same K s h) tells
       (ok, omega arith)
-      (λ j r v w u. on-home P e s h (λ s′ h′. figures s′ h′ (fs ++ plain (l .line) j (numsOf v) ∷ [])) (λ y z. z) (λ k z. z)
+      (λ j r v w u. on-home P e (kindIn h (kindLine + j) ∷ []) s h (λ s′ h′. figures s′ h′ (fs ++ plain (l .line) j (numsOf v) ∷ [])) (λ y z. z) (λ k z. z)
       (ok, omega (arith, figure-more s h fs (plain (l .line) j (numsOf v)), nums-took w (home-rows s h .2) (homeKnown K s h) _ v n false u)))
       (λ j r v w u x q. figure-opens e l s h fs (innerOf (r .holds)) ok (head-took figureHead w (home-rows s h .1) (homeKnown K s h) _ v n u))
       (figures-shut s h fs ok)
@@ -127,7 +129,7 @@ module _ (K : Known) (n : ℕ) where
       let P : State → Type 0 = Next K (successive s h fs m ps) n in
       on-plain (homeKnown K s h) n P _ _ _ _ (knownOf s) (digits 0 0) (pointTable (isLayer h)) (rowsAtLimit (length ps) (pointTable (isLayer h))) f (plain-tables (isLayer h) 0 0 .5) tells
       (ok, omega arith)
-      (λ j r v w u. on-home P e s h (λ s′ h′. successive s′ h′ fs m (ps ++ pointAt l v ∷ [])) (λ y z. z) (λ k z. z) (ok, omega (arith, point-took (isLayer h) w (homeKnown K s h) _ v n u ps l)))
+      (λ j r v w u. on-home P e (kindIn h kindPoint ∷ []) s h (λ s′ h′. successive s′ h′ fs m (ps ++ pointAt l v ∷ [])) (λ y z. z) (λ k z. z) (ok, omega (arith, point-took (isLayer h) w (homeKnown K s h) _ v n u ps l)))
       (λ j r v w u. tt)
       (λ one. on-unless P (leb leastPoints (length ps)) 8 (got (figures s h (fs ++ chain m ps ∷ []))) λ _. (ok, omega (arith, figure-more s h fs (chain m ps))))
 
@@ -139,35 +141,14 @@ module _ (K : Known) (n : ℕ) where
       (λ j r v w u. tt)
       (λ one. (ok, omega (arith, figure-more s h fs (lettering m o))))
 
-  -- ── the placed symbol ──
-  module _ (s : Set) (h : ℕ) (fs : List Figure) (m : ℕ) (o : Held) where
-    placed-entry : (p j : ℕ) (r : Rule) (v : Value) → Row (getD placedTables p []) j r → Took (knownOf s) r (getD (rowsThere (partOf o p)) j false) v n false
-        → On (Next K (placing s h fs m o p) n) (unless (newSerial s fs v) 15 (got (placing s h fs m (enter o p j v) p)))
-    placed-entry p j r v w u =
-        on-unless (Next K (placing s h fs m o p) n) (newSerial s fs v) 15 (got (placing s h fs m (enter o p j v) p)) λ _.
-        (tt, omega (arith, held-took placedTables p w (knownOf s) o v n false u))
-
-    placed-begin : (p j : ℕ) (r : Rule) (v : Value) → Row (getD placedTables p []) j r → Took (knownOf s) r (getD (rowsThere (partOf o p)) j false) v n true
-        → Next K (placing s h fs m o p) n (placing s h fs m (enter o p j v) (innerOf (r .holds)))
-    placed-begin p j r v w u =
-        (tt, omega (arith, held-took placedTables p w (knownOf s) o v n true u, deeper-part p w (placed-rows p .1) (knownOf s) _ v n u))
-
-    placed-shut : (p : ℕ) → 1 ≤ n → On (Next K (placing s h fs m o p) n) (shutPart p (got (figures s (inLayer h) (fs ++ placed m o ∷ []))) (λ q. placing s h fs m o q))
-    placed-shut zero one = (tt, omega (arith, figure-more s (inLayer h) fs (placed m o)))
-    placed-shut (suc zero) one = (tt, omega arith)
-    placed-shut (suc (suc p)) one = (tt, omega arith)
-
-    placed-act : (p : ℕ) (d : Digits) (f : Form) → Told n f → On (Next K (placing s h fs m o p) n) (onPlaced s h fs m o p (act (knownOf s) (getD placedTables p []) d (rowsThere (partOf o p)) f))
-    placed-act p d f tells =
-        on-act (Next K (placing s h fs m o p) n) _ _ _ _ (knownOf s) (knownOf s) d n (getD placedTables p []) (rowsThere (partOf o p)) f (placed-rows p .0) (λ j r w v. refl) tells
-        (tt, omega arith) (placed-entry p) (λ j r v w u x e. placed-begin p j r v w u) (placed-shut p)
-
-    skip-next : (d : ℕ) (z : Skip) → On (Next K (skipping s h fs m o d) n) (bySkip z (got (skipping s h fs m o d)) (skipDeeper d (skipping s h fs m o (suc d))))
+  -- ── what is skipped ──
+  module _ (s : Set) (h : ℕ) (fs : List Figure) (m : ℕ) (b : Owned) where
+    skip-next : (d : ℕ) (z : Skip) → On (Next K (skipping s h fs m b d) n) (bySkip z (got (skipping s h fs m b d)) (skipDeeper d (skipping s h fs m b (suc d))))
     skip-next d passes = (tt, omega arith)
-    skip-next d deeper = on-unless (Next K (skipping s h fs m o d) n) (ltb d mostDepth) 18 (got (skipping s h fs m o (suc d))) λ _. (tt, omega arith)
+    skip-next d deeper = on-unless (Next K (skipping s h fs m b d) n) (ltb d mostDepth) 18 (got (skipping s h fs m b (suc d))) λ _. (tt, omega arith)
     skip-next d noForm = tt
 
-    pub skipping-next : (d : ℕ) (f : Form) → Told n f → On (Next K (skipping s h fs m o d) n) (onSkipping s h fs m o d f)
+    pub skipping-next : (d : ℕ) (f : Form) → Told n f → On (Next K (skipping s h fs m b d) n) (onSkipping s h fs m b d f)
     skipping-next d ignored tells = (tt, omega arith)
     skipping-next d (wrong q) tells = tt
     skipping-next zero close tells = tt
@@ -176,28 +157,51 @@ module _ (K : Known) (n : ℕ) where
     skipping-next d eof tells = tt
     skipping-next d (keyed k c) tells = skip-next d (skipOf k c)
 
-    unknown-next : (e : Env) (k : List ℕ) (c : Rest) → On (Next K (placing s h fs m o 0) n) (onUnknown e s h fs m o k c)
+  -- ── the placed symbol ──
+  module _ (s : Set) (h : ℕ) (fs : List Figure) (m : ℕ) (o : Held) where
+    placed-entry : (p j : ℕ) (r : Rule) (v : Value) → Row (getD placedTables p []) j r → Took (knownOf s) r (getD (rowsThere (partOf o p)) j false) v n false
+        → On (Next K (placing s h fs m (symbolBlock o) p) n) (unless (newSerial s fs v) 15 (got (placing s h fs m (symbolBlock (enter o p j v)) p)))
+    placed-entry p j r v w u =
+        on-unless (Next K (placing s h fs m (symbolBlock o) p) n) (newSerial s fs v) 15 (got (placing s h fs m (symbolBlock (enter o p j v)) p)) λ _.
+        (tt, omega (arith, held-took placedTables p w (knownOf s) o v n false u))
+
+    placed-begin : (p j : ℕ) (r : Rule) (v : Value) → Row (getD placedTables p []) j r → Took (knownOf s) r (getD (rowsThere (partOf o p)) j false) v n true
+        → Next K (placing s h fs m (symbolBlock o) p) n (placing s h fs m (symbolBlock (enter o p j v)) (innerOf (r .holds)))
+    placed-begin p j r v w u =
+        (tt, omega (arith, held-took placedTables p w (knownOf s) o v n true u, deeper-part p w (placed-rows p .1) (knownOf s) _ v n u))
+
+    placed-shut : (p : ℕ) → 1 ≤ n → On (Next K (placing s h fs m (symbolBlock o) p) n) (shutPart p (got (figures s (inLayer h) (fs ++ placed m o ∷ []))) (λ q. placing s h fs m (symbolBlock o) q))
+    placed-shut zero one = (tt, omega (arith, figure-more s (inLayer h) fs (placed m o)))
+    placed-shut (suc zero) one = (tt, omega arith)
+    placed-shut (suc (suc p)) one = (tt, omega arith)
+
+    placed-act : (p : ℕ) (d : Digits) (f : Form) → Told n f → On (Next K (placing s h fs m (symbolBlock o) p) n) (onPlaced s h fs m o p (act (knownOf s) (getD placedTables p []) d (rowsThere (partOf o p)) f))
+    placed-act p d f tells =
+        on-act (Next K (placing s h fs m (symbolBlock o) p) n) _ _ _ _ (knownOf s) (knownOf s) d n (getD placedTables p []) (rowsThere (partOf o p)) f (placed-rows p .0) (λ j r w v. refl) tells
+        (tt, omega arith) (placed-entry p) (λ j r v w u x e. placed-begin p j r v w u) (placed-shut p)
+
+    unknown-next : (e : Env) (k : List ℕ) (c : Rest) → On (Next K (placing s h fs m (symbolBlock o) 0) n) (onUnknown e s h fs m o k c)
     unknown-next e k c =
-        on-cond (Next K (placing s h fs m o 0) n) (exceeds (rangeOf s) (e .class)) _ _
+        on-cond (Next K (placing s h fs m (symbolBlock o) 0) n) (exceeds (rangeOf s) (e .class)) _ _
         (λ _. skips (skipOf k c))
-        (λ _. on-unknown (Next K (placing s h fs m o 0) n) (placing s h fs m o 0) (λ j v. bad 6) (λ i j v. bad 6) (λ _. bad 6) (knownOf s) (knownOf s) (digits 0 0) n c)
+        (λ _. on-unknown (Next K (placing s h fs m (symbolBlock o) 0) n) (placing s h fs m (symbolBlock o) 0) (λ j v. bad 6) (λ i j v. bad 6) (λ _. bad 6) (knownOf s) (knownOf s) (digits 0 0) n c)
       where
-        skips : (z : Skip) → On (Next K (placing s h fs m o 0) n) (bySkip z (got (placing s h fs m o 0)) (skipDeeper 0 (skipping s h fs m o 1)))
+        skips : (z : Skip) → On (Next K (placing s h fs m (symbolBlock o) 0) n) (bySkip z (got (placing s h fs m (symbolBlock o) 0)) (skipDeeper 0 (skipping s h fs m (symbolBlock o) 1)))
         skips passes = (tt, omega arith)
-        skips deeper = on-unless (Next K (placing s h fs m o 0) n) (ltb 0 mostDepth) 18 (got (skipping s h fs m o 1)) λ _. (tt, omega arith)
+        skips deeper = on-unless (Next K (placing s h fs m (symbolBlock o) 0) n) (ltb 0 mostDepth) 18 (got (skipping s h fs m (symbolBlock o) 1)) λ _. (tt, omega arith)
         skips noForm = tt
 
-    key-next : (e : Env) (k : List ℕ) (c : Rest) → Told n (keyed k c) → (g : Found) → find k placedTable ≡ g → On (Next K (placing s h fs m o 0) n) (onPlacedKey e s h fs m o k c g)
+    key-next : (e : Env) (k : List ℕ) (c : Rest) → Told n (keyed k c) → (g : Found) → find k placedTable ≡ g → On (Next K (placing s h fs m (symbolBlock o) 0) n) (onPlacedKey e s h fs m o k c g)
     key-next e k c tells absent q = unknown-next e k c
     key-next e k c tells (found j r) q =
         let (w, i) = found-row k placedTable j r q in
-        on-cond (Next K (placing s h fs m o 0) n) (reaches (e .class) (r .least)) _ _
-        (λ _. on-row (Next K (placing s h fs m o 0) n) _ _ _ _ (knownOf s) (knownOf s) (rangeOf s) n (getD (rowsThere (partOf o 0)) j false) j r c
+        on-cond (Next K (placing s h fs m (symbolBlock o) 0) n) (reaches (e .class) (r .least)) _ _
+        (λ _. on-row (Next K (placing s h fs m (symbolBlock o) 0) n) _ _ _ _ (knownOf s) (knownOf s) (rangeOf s) n (getD (rowsThere (partOf o 0)) j false) j r c
         (row-all (λ r. keyOk (r .key)) w (placed-rows 0 .0)) (λ v. refl) (subst (λ (x : List ℕ). Told n (keyed x c)) (same-eq k (r .key) i) tells)
         (tt, omega arith) (λ v. placed-entry 0 j r v w) (λ v u e. placed-begin 0 j r v w u) (placed-shut 0))
         (λ _. unknown-next e k c)
 
-    pub placing-next : (e : Env) (p : ℕ) (f : Form) → Told n f → On (Next K (placing s h fs m o p) n) (onPlacing e s h fs m o p f)
+    pub placing-next : (e : Env) (p : ℕ) (f : Form) → Told n f → On (Next K (placing s h fs m (symbolBlock o) p) n) (onPlacing e s h fs m o p f)
     placing-next e zero ignored tells = (tt, omega arith)
     placing-next e zero (wrong q) tells = tt
     placing-next e zero close tells = placed-act 0 (both (e .class) (rangeOf s)) close tells

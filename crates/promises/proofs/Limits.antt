@@ -20,6 +20,7 @@ use Rattle.rules.specs.RecordTable.{recordsOf}
 use Rattle.rules.specs.Machine.{Line, Env, Home, inElement, inLayer, State, top, file, drawing, layerNames, defines, symbol, hide, elements, figures, successive, texts, placing, skipping, ended, byAct, openTop, onTop, shutPart, onLayerNames, openSymbol, closeFigures, openPlaced, openFigure}
 use Rattle.rules.specs.PlacedSymbol.{bySkip, onUnknown, onPlacedKey, onPlacedOwn, onPlacing, skipShut, onSkipping}
 use Rattle.rules.specs.LineByLine.{stepIn, completes, nextVolume, step, accepted, thenRun, run}
+use Rattle.rules.specs.Machine.{symbolBlock, Owned}
 use Rattle.rules.proofs.Runs.{not-accepted, finish-ended}
 use Rattle.promises.proofs.Count.{count-taken}
 use Rattle.promises.proofs.CountState.{setOf}
@@ -166,17 +167,17 @@ module _ (c : Digits) (m : ℕ) (l : Line) where
   alike-placing s h fs n o zero f = alike-own s h fs n o f
   alike-placing s h fs n o (suc p) f = search alikes
 
-  alike-skip-shut : (s : Set) (h : ℕ) (fs : List Figure) (n : ℕ) (o : Held) (d : ℕ) → Alike m (s .taken) (skipShut s h fs n o d) (skipShut s h fs n o d)
-  alike-skip-shut s h fs n o zero = refuses
-  alike-skip-shut s h fs n o (suc zero) = search alikes
-  alike-skip-shut s h fs n o (suc (suc d)) = search alikes
+  alike-skip-shut : (s : Set) (h : ℕ) (fs : List Figure) (n : ℕ) (b : Owned) (d : ℕ) → Alike m (s .taken) (skipShut s h fs n b d) (skipShut s h fs n b d)
+  alike-skip-shut s h fs n b zero = refuses
+  alike-skip-shut s h fs n b (suc zero) = search alikes
+  alike-skip-shut s h fs n b (suc (suc d)) = search alikes
 
-  alike-skipping : (s : Set) (h : ℕ) (fs : List Figure) (n : ℕ) (o : Held) (d : ℕ) (f : Form) → Alike m (s .taken) (onSkipping s h fs n o d f) (onSkipping s h fs n o d f)
-  alike-skipping s h fs n o d ignored = search alikes
-  alike-skipping s h fs n o d (wrong k) = refuses
-  alike-skipping s h fs n o d close = alike-skip-shut s h fs n o d
-  alike-skipping s h fs n o d eof = refuses
-  alike-skipping s h fs n o d (keyed k x) = search alikes
+  alike-skipping : (s : Set) (h : ℕ) (fs : List Figure) (n : ℕ) (b : Owned) (d : ℕ) (f : Form) → Alike m (s .taken) (onSkipping s h fs n b d f) (onSkipping s h fs n b d f)
+  alike-skipping s h fs n b d ignored = search alikes
+  alike-skipping s h fs n b d (wrong k) = refuses
+  alike-skipping s h fs n b d close = alike-skip-shut s h fs n b d
+  alike-skipping s h fs n b d eof = refuses
+  alike-skipping s h fs n b d (keyed k x) = search alikes
 
   alike-in : (st : State) → Alike m (setOf st .taken) (stepIn (free c) l st) (stepIn (bound c m) l st)
   alike-in (top s k) = alike-top s k (l .form)
@@ -190,8 +191,8 @@ module _ (c : Digits) (m : ℕ) (l : Line) where
   alike-in (figures s h fs) = search (alikes, alike-figure, alike-close)
   alike-in (successive s h fs n ps) = search alikes
   alike-in (texts s h fs n o) = search alikes
-  alike-in (placing s h fs n o p) = alike-placing s h fs n o p (l .form)
-  alike-in (skipping s h fs n o d) = alike-skipping s h fs n o d (l .form)
+  alike-in (placing s h fs n (symbolBlock o) p) = alike-placing s h fs n o p (l .form)
+  alike-in (skipping s h fs n b d) = alike-skipping s h fs n b d (l .form)
   alike-in (ended s) = refuses
 
   pub alike-step : (st : State) → Alike m (setOf st .taken) (step (free c) l st) (step (bound c m) l st)

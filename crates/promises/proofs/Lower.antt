@@ -18,6 +18,7 @@ use Rattle.rules.specs.Blocks.{blankHeld}
 use Rattle.rules.specs.Figures.{placedTable, placedTables, textTable}
 use Rattle.rules.specs.Sets.{Figure, plain, chain, lettering, placed, LayerBlock, Contents, Set, headOr, rangeOf, elementsOf, usedIn}
 use Rattle.rules.specs.Machine.{Home, inElement, inLayer, State, top, file, drawing, layerNames, defines, symbol, hide, elements, figures, successive, texts, placing, skipping, ended}
+use Rattle.rules.specs.Machine.{symbolBlock, Owned}
 use Rattle.rules.proofs.Chains.{and-left, and-right, and-true, and-false, or-true, clash, cond-same, map-compose, map-agree}
 use Rattle.rules.proofs.Rows.{Row, here, there}
 use Rattle.promises.specs.DemandThree.{NotAbove}
@@ -121,12 +122,15 @@ depthIn zero = 1
 depthIn (suc zero) = 1
 depthIn (suc (suc p)) = 2
 
+abbrev pub lowerOwned : Digits → Digits → Owned → Owned
+lowerOwned c d (symbolBlock o) = symbolBlock (lowerHeld c d o)
+
 abbrev pub lowerPlacing : Digits → Set → ℕ → List Figure → ℕ → Held → ℕ → State
-lowerPlacing c s k fs n o zero = placing (lowerSet c s) k (lowerFigures c (rangeOf s) fs) n (lowerHeld c (rangeOf s) o) 0
+lowerPlacing c s k fs n o zero = placing (lowerSet c s) k (lowerFigures c (rangeOf s) fs) n (symbolBlock (lowerHeld c (rangeOf s) o)) 0
 lowerPlacing c s k fs n o (suc p) =
     cond (hides c (rangeOf s) textLeast)
-    (skipping (lowerSet c s) k (lowerFigures c (rangeOf s) fs) n (lowerHeld c (rangeOf s) o) (depthIn (suc p)))
-    (placing (lowerSet c s) k (lowerFigures c (rangeOf s) fs) n (lowerHeld c (rangeOf s) o) (suc p))
+    (skipping (lowerSet c s) k (lowerFigures c (rangeOf s) fs) n (symbolBlock (lowerHeld c (rangeOf s) o)) (depthIn (suc p)))
+    (placing (lowerSet c s) k (lowerFigures c (rangeOf s) fs) n (symbolBlock (lowerHeld c (rangeOf s) o)) (suc p))
 
 abbrev pub lower : Digits → State → State
 lower c (top s k) = top (lowerSet c s) k
@@ -140,8 +144,8 @@ lower c (elements s) = elements (lowerSet c s)
 lower c (figures s h fs) = figures (lowerSet c s) h (lowerSoFar c (rangeOf s) h fs)
 lower c (successive s h fs n ps) = successive (lowerSet c s) h (lowerSoFar c (rangeOf s) h fs) n ps
 lower c (texts s h fs n o) = texts (lowerSet c s) h (lowerSoFar c (rangeOf s) h fs) n o
-lower c (placing s k fs n o p) = lowerPlacing c s k fs n o p
-lower c (skipping s k fs n o d) = skipping (lowerSet c s) k (lowerFigures c (rangeOf s) fs) n (lowerHeld c (rangeOf s) o) d
+lower c (placing s k fs n (symbolBlock o) p) = lowerPlacing c s k fs n o p
+lower c (skipping s k fs n b d) = skipping (lowerSet c s) k (lowerFigures c (rangeOf s) fs) n (lowerOwned c (rangeOf s) b) d
 lower c (ended s) = ended (lowerSet c s)
 
 -- ── masked slots ──

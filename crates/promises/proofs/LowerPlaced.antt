@@ -17,7 +17,7 @@ use Rattle.rules.specs.Values.{Value, text}
 use Rattle.rules.specs.Rows.{Rule, Found, absent, found, find, Slots, Held, partOf, enter, rowsThere, shapeFor, Act, stay, entry, begin, shut, refuse, orRefuse, actRow, actUnknown, actFound, present, complete, act}
 use Rattle.rules.specs.Figures.{placedTable, placedTables, textTable}
 use Rattle.rules.specs.Sets.{Figure, placed, Set, firstContents, rangeOf, knownOf}
-use Rattle.rules.specs.Machine.{Env, inLayer, State, figures, placing, skipping, byAct}
+use Rattle.rules.specs.Machine.{Env, inLayer, State, figures, placing, skipping, byAct, symbolBlock, Owned}
 use Rattle.rules.specs.PlacedSymbol.{bySkip, skipDeeper, onUnknown, newSerial, onPlaced, onPlacedKey, onPlacedOwn, onPlacing, skipShut, onSkipping}
 use Rattle.rules.proofs.Chains.{and-left, and-right, and-true, clash, never, unless-got, map-append}
 use Rattle.rules.proofs.Rows.{Row, found-row, row-all}
@@ -97,17 +97,17 @@ module _ (low high : Digits) (le : NotAbove low high) (m : Option ℕ) (s : Set)
   sim-unknown : (key : List ℕ) (x : Rest) (s′ : State) → onUnknown hi s k fs n o key x ≡ got s′ → onUnknown lo (lowerSet low s) k fs′ n o′ key x ≡ got (lower low s′)
   sim-unknown key x s′ e = go (exceeds d high) refl e
     where
-      by : (z : Skip) → bySkip z (got (placing s k fs n o 0)) (skipDeeper 0 (skipping s k fs n o 1)) ≡ got s′
-          → bySkip z (got (placing (lowerSet low s) k fs′ n o′ 0)) (skipDeeper 0 (skipping (lowerSet low s) k fs′ n o′ 1)) ≡ got (lower low s′)
+      by : (z : Skip) → bySkip z (got (placing s k fs n (symbolBlock o) 0)) (skipDeeper 0 (skipping s k fs n (symbolBlock o) 1)) ≡ got s′
+          → bySkip z (got (placing (lowerSet low s) k fs′ n (symbolBlock o′) 0)) (skipDeeper 0 (skipping (lowerSet low s) k fs′ n (symbolBlock o′) 1)) ≡ got (lower low s′)
       by passes e = via e
       by deeper e = via e
       by noForm e = never e
 
-      go : (b : Bool) → exceeds d high ≡ b → cond b (bySkip (skipOf key x) (got (placing s k fs n o 0)) (skipDeeper 0 (skipping s k fs n o 1)))
-          (byAct (placing s k fs n o 0) (λ j v. bad 6) (λ i j v. bad 6) (λ _. bad 6) (actUnknown x)) ≡ got s′
+      go : (b : Bool) → exceeds d high ≡ b → cond b (bySkip (skipOf key x) (got (placing s k fs n (symbolBlock o) 0)) (skipDeeper 0 (skipping s k fs n (symbolBlock o) 1)))
+          (byAct (placing s k fs n (symbolBlock o) 0) (λ j v. bad 6) (λ i j v. bad 6) (λ _. bad 6) (actUnknown x)) ≡ got s′
           → onUnknown lo (lowerSet low s) k fs′ n o′ key x ≡ got (lower low s′)
       go true b e = rw (same-file, exceeds-down low high le d b) (by (skipOf key x) e)
-      go false b e = unknown-never (placing s k fs n o 0) x s′ e
+      go false b e = unknown-never (placing s k fs n (symbolBlock o) 0) x s′ e
 
   -- a row that both know
   sim-known : (key : List ℕ) (j : ℕ) (r : Rule) (x : Rest) → Row placedTable j r → hides low d (r .least) ≡ false → opensText (r .holds) (r .least) ≡ true
@@ -120,7 +120,7 @@ module _ (low high : Digits) (le : NotAbove low high) (m : Option ℕ) (s : Set)
       rw (enter-own low d w h o v, z .inner) (shown (rw (z .least) at h) (via (rw (z .inner) at e)))
     where
       shown : hides low d textLeast ≡ false → got (lowerPlacing low s k fs n (enter o 0 j v) 1) ≡ got (lower low s′)
-          → got (placing (lowerSet low s) k fs′ n (lowerHeld low d (enter o 0 j v)) 1) ≡ got (lower low s′)
+          → got (placing (lowerSet low s) k fs′ n (symbolBlock (lowerHeld low d (enter o 0 j v))) 1) ≡ got (lower low s′)
       shown g p = rw g at p
   sim-known key j r x w h t _ (refused i) s′ e = never e
 
@@ -130,15 +130,15 @@ module _ (low high : Digits) (le : NotAbove low high) (m : Option ℕ) (s : Set)
   sim-hidden key j r x w sk c t u _ (entered v l q) s′ e =
       let p = unless-got (newSerial s fs v) 15 _ s′ e in
       rw (same-file, unknown-exceeds low d (r .least) l u, quiet-passes key r x sk c q)
-      (ap (λ h. got (placing (lowerSet low s) k fs′ n h 0)) (sym (enter-hidden low d w (unknown-hides low d (r .least) l u) o v)) ∙ via (p .1))
+      (ap (λ h. got (placing (lowerSet low s) k fs′ n (symbolBlock h) 0)) (sym (enter-hidden low d w (unknown-hides low d (r .least) l u) o v)) ∙ via (p .1))
   sim-hidden key j r x w sk c t u _ (opened v l q f) s′ e =
       let z = opens-text key r x t q f in
       rw (same-file, unknown-exceeds low d (r .least) l u, z .skips)
-      (ap (λ h. got (skipping (lowerSet low s) k fs′ n h 1)) (sym (enter-hidden low d w (unknown-hides low d (r .least) l u) o v))
+      (ap (λ h. got (skipping (lowerSet low s) k fs′ n (symbolBlock h) 1)) (sym (enter-hidden low d w (unknown-hides low d (r .least) l u) o v))
       ∙ left-out (rw (z .least) at (unknown-hides low d (r .least) l u)) (via (rw (z .inner) at e)))
     where
       left-out : hides low d textLeast ≡ true → got (lowerPlacing low s k fs n (enter o 0 j v) 1) ≡ got (lower low s′)
-          → got (skipping (lowerSet low s) k fs′ n (lowerHeld low d (enter o 0 j v)) 1) ≡ got (lower low s′)
+          → got (skipping (lowerSet low s) k fs′ n (symbolBlock (lowerHeld low d (enter o 0 j v))) 1) ≡ got (lower low s′)
       left-out g p = rw g at p
   sim-hidden key j r x w sk c t u _ (refused i) s′ e = never e
 
@@ -197,33 +197,33 @@ module _ (low high : Digits) (le : NotAbove low high) (m : Option ℕ) (s : Set)
   sim-shown : (p : ℕ) → hides low d textLeast ≡ false → (a : Act) (s′ : State) → onPlaced s k fs n o (suc p) a ≡ got s′ → onPlaced (lowerSet low s) k fs′ n o′ (suc p) a ≡ got (lower low s′)
   sim-shown p h stay s′ e = shown (via e)
     where
-      shown : got (lowerPlacing low s k fs n o (suc p)) ≡ got (lower low s′) → got (placing (lowerSet low s) k fs′ n o′ (suc p)) ≡ got (lower low s′)
+      shown : got (lowerPlacing low s k fs n o (suc p)) ≡ got (lower low s′) → got (placing (lowerSet low s) k fs′ n (symbolBlock o′) (suc p)) ≡ got (lower low s′)
       shown q = rw h at q
   sim-shown p h (entry j v) s′ e =
       let u = unless-got (newSerial s fs v) 15 _ s′ e in
       rw (serial-new low d s fs v (u .0), enter-inner low d h o p j v) (shown (via (u .1)))
     where
-      shown : got (lowerPlacing low s k fs n (enter o (suc p) j v) (suc p)) ≡ got (lower low s′) → got (placing (lowerSet low s) k fs′ n (lowerHeld low d (enter o (suc p) j v)) (suc p)) ≡ got (lower low s′)
+      shown : got (lowerPlacing low s k fs n (enter o (suc p) j v) (suc p)) ≡ got (lower low s′) → got (placing (lowerSet low s) k fs′ n (symbolBlock (lowerHeld low d (enter o (suc p) j v))) (suc p)) ≡ got (lower low s′)
       shown q = rw h at q
   sim-shown p h (begin i j v) s′ e = rw (enter-inner low d h o p j v) (shown i (via e))
     where
-      shown : (i : ℕ) → got (lowerPlacing low s k fs n (enter o (suc p) j v) i) ≡ got (lower low s′) → got (placing (lowerSet low s) k fs′ n (lowerHeld low d (enter o (suc p) j v)) i) ≡ got (lower low s′)
+      shown : (i : ℕ) → got (lowerPlacing low s k fs n (enter o (suc p) j v) i) ≡ got (lower low s′) → got (placing (lowerSet low s) k fs′ n (symbolBlock (lowerHeld low d (enter o (suc p) j v))) i) ≡ got (lower low s′)
       shown zero q = q
       shown (suc i) q = rw h at q
   sim-shown zero h shut s′ e = via e
   sim-shown (suc p) h shut s′ e = shown (via e)
     where
-      shown : got (lowerPlacing low s k fs n o 1) ≡ got (lower low s′) → got (placing (lowerSet low s) k fs′ n o′ 1) ≡ got (lower low s′)
+      shown : got (lowerPlacing low s k fs n o 1) ≡ got (lower low s′) → got (placing (lowerSet low s) k fs′ n (symbolBlock o′) 1) ≡ got (lower low s′)
       shown q = rw h at q
   sim-shown p h (refuse i) s′ e = never e
 
   -- what an act of a flat row leaves of what is held, where the text is left out
   sim-wiped : (p : ℕ) → hides low d textLeast ≡ true → (key : List ℕ) (x : Rest) (f : Found) → find key (getD placedTables (suc p) []) ≡ f → (s′ : State)
       → onPlaced s k fs n o (suc p) (actFound (knownOf s) (digits 0 0) (rowsThere (partOf o (suc p))) x f) ≡ got s′
-      → onSkipping (lowerSet low s) k fs′ n o′ (depthIn (suc p)) (keyed key x) ≡ got (lower low s′)
+      → onSkipping (lowerSet low s) k fs′ n (symbolBlock o′) (depthIn (suc p)) (keyed key x) ≡ got (lower low s′)
   sim-wiped p h key x absent q s′ e = go (hasForm (shapeOf x)) e
     where
-      go : (b : Bool) → onPlaced s k fs n o (suc p) (orRefuse (unless b 5 (bad 6))) ≡ got s′ → onSkipping (lowerSet low s) k fs′ n o′ (depthIn (suc p)) (keyed key x) ≡ got (lower low s′)
+      go : (b : Bool) → onPlaced s k fs n o (suc p) (orRefuse (unless b 5 (bad 6))) ≡ got s′ → onSkipping (lowerSet low s) k fs′ n (symbolBlock o′) (depthIn (suc p)) (keyed key x) ≡ got (lower low s′)
       go true e = never e
       go false e = never e
   sim-wiped (suc p) h key x (found j r) q s′ e = absurd (let z : _≡_ {A = ℕ} 0 1 = cc in omega arith)
@@ -233,31 +233,31 @@ module _ (low high : Digits) (le : NotAbove low high) (m : Option ℕ) (s : Set)
       w : Row (textTable true 16 24) j r × (same key (r .key) ≡ true)
       w = found-row key (textTable true 16 24) j r q
 
-      by : (a : Act) → RowAct (digits 0 0) j r x a → onPlaced s k fs n o 1 a ≡ got s′ → onSkipping (lowerSet low s) k fs′ n o′ 1 (keyed key x) ≡ got (lower low s′)
+      by : (a : Act) → RowAct (digits 0 0) j r x a → onPlaced s k fs n o 1 a ≡ got s′ → onSkipping (lowerSet low s) k fs′ n (symbolBlock o′) 1 (keyed key x) ≡ got (lower low s′)
       by _ (entered v l c) e =
           let u = unless-got (newSerial s fs v) 15 _ s′ e in
           rw (quiet-passes key r x (w .1) (row-all quiet (w .0) quiet-texts) c)
-          (ap (λ b. got (skipping (lowerSet low s) k fs′ n b 1)) (sym (enter-wiped low d h o 0 j v)) ∙ wiped-out (via (u .1)))
+          (ap (λ b. got (skipping (lowerSet low s) k fs′ n (symbolBlock b) 1)) (sym (enter-wiped low d h o 0 j v)) ∙ wiped-out (via (u .1)))
         where
-          wiped-out : got (lowerPlacing low s k fs n (enter o 1 j v) 1) ≡ got (lower low s′) → got (skipping (lowerSet low s) k fs′ n (lowerHeld low d (enter o 1 j v)) 1) ≡ got (lower low s′)
+          wiped-out : got (lowerPlacing low s k fs n (enter o 1 j v) 1) ≡ got (lower low s′) → got (skipping (lowerSet low s) k fs′ n (symbolBlock (lowerHeld low d (enter o 1 j v))) 1) ≡ got (lower low s′)
           wiped-out p = rw h at p
       by _ (opened v l c f) e = absurd (flat-opens (r .holds) (r .may) (shapeFor r x) (row-all (λ r. flatKind (r .holds)) (w .0) flat-texts) c f)
       by _ (refused i) e = never e
 
   sim-closed : (p : ℕ) → hides low d textLeast ≡ true → (b : Bool) (s′ : State) → onPlaced s k fs n o (suc p) (cond b shut (refuse 8)) ≡ got s′
-      → skipShut (lowerSet low s) k fs′ n o′ (depthIn (suc p)) ≡ got (lower low s′)
+      → skipShut (lowerSet low s) k fs′ n (symbolBlock o′) (depthIn (suc p)) ≡ got (lower low s′)
   sim-closed zero h true s′ e = via e
   sim-closed (suc p) h true s′ e = left-out (via e)
     where
-      left-out : got (lowerPlacing low s k fs n o 1) ≡ got (lower low s′) → got (skipping (lowerSet low s) k fs′ n o′ 1) ≡ got (lower low s′)
+      left-out : got (lowerPlacing low s k fs n o 1) ≡ got (lower low s′) → got (skipping (lowerSet low s) k fs′ n (symbolBlock o′) 1) ≡ got (lower low s′)
       left-out q = rw h at q
   sim-closed p h false s′ e = never e
 
   sim-skipped : (p : ℕ) → hides low d textLeast ≡ true → (f : Form) (s′ : State) → onPlacing hi s k fs n o (suc p) f ≡ got s′
-      → onSkipping (lowerSet low s) k fs′ n o′ (depthIn (suc p)) f ≡ got (lower low s′)
+      → onSkipping (lowerSet low s) k fs′ n (symbolBlock o′) (depthIn (suc p)) f ≡ got (lower low s′)
   sim-skipped p h ignored s′ e = left-out (via e)
     where
-      left-out : got (lowerPlacing low s k fs n o (suc p)) ≡ got (lower low s′) → got (skipping (lowerSet low s) k fs′ n o′ (depthIn (suc p))) ≡ got (lower low s′)
+      left-out : got (lowerPlacing low s k fs n o (suc p)) ≡ got (lower low s′) → got (skipping (lowerSet low s) k fs′ n (symbolBlock o′) (depthIn (suc p))) ≡ got (lower low s′)
       left-out q = rw h at q
   sim-skipped p h (wrong i) s′ e = never e
   sim-skipped p h close s′ e = sim-closed p h (complete (digits 0 0) (getD placedTables (suc p) []) (rowsThere (partOf o (suc p)))) s′ e
@@ -274,11 +274,11 @@ module _ (low high : Digits) (le : NotAbove low high) (m : Option ℕ) (s : Set)
 
   -- ── a line where a placed symbol is open ──
   pub sim-placing : (p : ℕ) (f : Form) (s′ : State) → onPlacing hi s k fs n o p f ≡ got s′ → (st : State) → lowerPlacing low s k fs n o p ≡ st
-      → (onOne : State → Got State) → ((o : Held) (p : ℕ) → onOne (placing (lowerSet low s) k fs′ n o p) ≡ onPlacing lo (lowerSet low s) k fs′ n o p f)
-      → ((o : Held) (q : ℕ) → onOne (skipping (lowerSet low s) k fs′ n o q) ≡ onSkipping (lowerSet low s) k fs′ n o q f) → onOne st ≡ got (lower low s′)
+      → (onOne : State → Got State) → ((o : Held) (p : ℕ) → onOne (placing (lowerSet low s) k fs′ n (symbolBlock o) p) ≡ onPlacing lo (lowerSet low s) k fs′ n o p f)
+      → ((b : Owned) (q : ℕ) → onOne (skipping (lowerSet low s) k fs′ n b q) ≡ onSkipping (lowerSet low s) k fs′ n b q f) → onOne st ≡ got (lower low s′)
   sim-placing zero f s′ e st q on shown left = ap on (sym q) ∙ shown o′ 0 ∙ sim-own f s′ e
   sim-placing (suc p) f s′ e st q on shown left = ap on (sym q) ∙ go (hides low d textLeast) refl
     where
-      go : (b : Bool) → hides low d textLeast ≡ b → on (cond b (skipping (lowerSet low s) k fs′ n o′ (depthIn (suc p))) (placing (lowerSet low s) k fs′ n o′ (suc p))) ≡ got (lower low s′)
-      go true b = left o′ (depthIn (suc p)) ∙ sim-skipped p b f s′ e
+      go : (b : Bool) → hides low d textLeast ≡ b → on (cond b (skipping (lowerSet low s) k fs′ n (symbolBlock o′) (depthIn (suc p))) (placing (lowerSet low s) k fs′ n (symbolBlock o′) (suc p))) ≡ got (lower low s′)
+      go true b = left (symbolBlock o′) (depthIn (suc p)) ∙ sim-skipped p b f s′ e
       go false b = shown o′ (suc p) ∙ sim-inner p b f s′ e

@@ -16,9 +16,11 @@ use Rattle.rules.specs.RangeClass.{digits, hides}
 use Rattle.rules.specs.Values.{Num, Value, nums}
 use Rattle.rules.specs.Rows.{Rule, Slots, Held, partOf}
 use Rattle.rules.specs.Blocks.{fileTable, rangeTable, baseTable, elecTable, symTable, laterTable, drawingTable, symbolTable}
-use Rattle.rules.specs.Figures.{layerTable, figureTable, pointTable, textTable, placedTable}
+use Rattle.rules.specs.Figures.{figureTable, pointTable, textTable, placedTable}
 use Rattle.rules.specs.Sets.{Point, Figure, plain, chain, lettering, placed, Layer, Drawing, Symbol, LayerBlock, Contents, Set, rangeOf, isSingle}
 use Rattle.rules.specs.RecordTable.{numbersOf, stateOf, columns, firstOr0, others, padded, putNumbers, putState, putSlot, firstSlot, otherSlots, putSlots, start, fileRecords, drawingRecord, layerRecord, layerRecords, ruleAt, plainRecord, pointRecords, chainRecord, textRecord, placedRecord, lineRecord, figureRecords, innerRecords, symbolRecords, blockRecords, bodyRecords, laterRecords, recordsFrom, recordsOf}
+use Rattle.rules.specs.Sets.{layerTableOf}
+use Rattle.rules.specs.RecordTable.{View, plainView}
 use Rattle.rules.proofs.Rows.{Row, here, there, reaches-none}
 use Rattle.rules.proofs.Chains.{by-cond, cond-same, map-append}
 use Rattle.promises.specs.DemandThree.{NotAbove, instead, isPlaced, unread}
@@ -90,9 +92,9 @@ placedAs c d kind owner volume line s t =
     (nth 0 s) (nth 1 s) (nth 2 s) (nth 3 s) (nth 4 s) (nth 5 s) (nth 0 t) (nth 1 t)
 
 -- a placed symbol's record is those numbers, by computation
-placed-as : (c d : Digits) (more owner volume line : ℕ) (h : Held) → placedRecord c d more owner volume line h ≡ placedAs c d (16 + more) owner volume line (partOf h 0) (partOf h 1)
+placed-as : (w : View) (more owner volume line : ℕ) (h : Held) → placedRecord w more owner volume line h ≡ placedAs (w .class) (w .symbols) (16 + more) owner volume line (partOf h 0) (partOf h 1)
 unfolding placedTable textTable
-placed-as c d more owner volume line h = refl
+placed-as w more owner volume line h = refl
 
 -- ── the kind of a record: its first number, which no row changes ──
 abbrev is16 : ℤ → Bool
@@ -178,14 +180,17 @@ module _ (low high : Digits) (le : NotAbove low high) (d : Digits) where
     nth-mask {t = placedTable} (there (there (there (there (there here))))) s,
   )
 
-  placed-lower : (owner volume line : ℕ) (h : Held) → placedRecord low d 0 owner volume line (lowerHeld low d h) ≡ unread low d (placedRecord high d 0 owner volume line h)
-  placed-lower owner volume line h =
+  abbrev view : Digits → List Rule → View
+  view c t = record { class = c; symbols = d; table = t }
+
+  placed-lower : (t : List Rule) (owner volume line : ℕ) (h : Held) → placedRecord (view low t) 0 owner volume line (lowerHeld low d h) ≡ unread low d (placedRecord (view high t) 0 owner volume line h)
+  placed-lower t owner volume line h =
       let w = own-masked (partOf h 0) in
-      placed-as low d 0 owner volume line (lowerHeld low d h)
+      placed-as (view low t) 0 owner volume line (lowerHeld low d h)
       ∙ ap₂ (placedAs low d 16 owner volume line) (part-own low d h) (part-inner low d h 0)
       ∙ sixteen-lower owner volume line (partOf h 0) (maskSlots low d placedTable (partOf h 0)) (partOf h 1) (innerPart low d (partOf h 1))
       (w .0, w .1, w .2, w .3, w .4, w .5, nth-inner low d 0 (partOf h 1), nth-inner low d 1 (partOf h 1))
-      ∙ ap (unread low d) (sym (placed-as high d 0 owner volume line h))
+      ∙ ap (unread low d) (sym (placed-as (view high t) 0 owner volume line h))
 
   -- ── records of other kinds ──
   abbrev u : List ℤ → List ℤ
@@ -213,7 +218,7 @@ module _ (low high : Digits) (le : NotAbove low high) (d : Digits) where
       (rw (first-slot (ruleAt (pointTable true) 0) (some (nums (p .values))) (start kind owner volume (p .line))) e) (points-same kind owner volume e ps)
 
   -- ── figures in layers ──
-  line-lower : (t : List Rule) (owner volume n j : ℕ) (v : List Num) → lineRecord low d t 0 owner volume n j v ≡ u (lineRecord high d t 0 owner volume n j v)
+  line-lower : (t : List Rule) (owner volume n j : ℕ) (v : List Num) → lineRecord (view low t) 0 owner volume n j v ≡ u (lineRecord (view high t) 0 owner volume n j v)
   line-lower t owner volume n j v = go (eqb j 6) refl
     where
       alone : Held
@@ -222,29 +227,29 @@ module _ (low high : Digits) (le : NotAbove low high) (d : Digits) where
       kept : lowerHeld low d alone ≡ alone
       kept = first-alone (nums v)
 
-      go : (b : Bool) → eqb j 6 ≡ b → cond b (placedRecord low d 0 owner volume n alone) (plainRecord t 0 owner volume n j v)
-          ≡ u (cond b (placedRecord high d 0 owner volume n alone) (plainRecord t 0 owner volume n j v))
-      go true e = ap (placedRecord low d 0 owner volume n) (sym kept) ∙ placed-lower owner volume n alone
+      go : (b : Bool) → eqb j 6 ≡ b → cond b (placedRecord (view low t) 0 owner volume n alone) (plainRecord (view low t) 0 owner volume n j v)
+          ≡ u (cond b (placedRecord (view high t) 0 owner volume n alone) (plainRecord (view high t) 0 owner volume n j v))
+      go true e = ap (placedRecord (view low t) 0 owner volume n) (sym kept) ∙ placed-lower t owner volume n alone
       go false e =
-          sym (other (plainRecord t 0 owner volume n j v)
+          sym (other (plainRecord (view high t) 0 owner volume n j v)
           (rw (first-slot (ruleAt t j) (some (nums v)) (start (10 + 0 + j) owner volume n)) (ne-eqb (10 + 0 + j) 16 (λ z. eqb-false j 6 e (omega arith)))))
 
-  figure-lower : (t : List Rule) (owner volume : ℕ) (f : Figure) → figureRecords low d t 0 owner volume (lowerFigure low d f) ≡ map u (figureRecords high d t 0 owner volume f)
+  figure-lower : (t : List Rule) (owner volume : ℕ) (f : Figure) → figureRecords (view low t) 0 owner volume (lowerFigure low d f) ≡ map u (figureRecords (view high t) 0 owner volume f)
   figure-lower t owner volume (plain n j v) = ap (λ r. r ∷ []) (line-lower t owner volume n j v)
   figure-lower t owner volume (chain n ps) = sym (cons-same (chainRecord 0 owner volume n ps) (pointRecords 17 owner volume ps) refl (points-same 17 owner volume refl ps))
   figure-lower t owner volume (lettering n s) = sym (cons-same (textRecord 0 owner volume n s) [] (slots-same (textTable true 4 12) s (start 15 owner volume n) refl) refl)
-  figure-lower t owner volume (placed n h) = ap (λ r. r ∷ []) (placed-lower owner volume n h)
+  figure-lower t owner volume (placed n h) = ap (λ r. r ∷ []) (placed-lower t owner volume n h)
 
   -- lists of them
   flat-lower : {A : Type 0} (f g : A → List (List ℤ)) (low′ : A → A) → ((a : A) → f (low′ a) ≡ map u (g a)) → (s : List A) → flat (map f (map low′ s)) ≡ map u (flat (map g s))
   flat-lower f g low′ h [] = refl
   flat-lower f g low′ h (a ∷ s) = ap₂ (λ x y. x ++ y) (h a) (flat-lower f g low′ h s) ∙ sym (map-append u (g a) (flat (map g s)))
 
-  block-lower : (t : List Rule) (k : ℕ) (b : LayerBlock) → blockRecords low d t k (lowerBlock low d b) ≡ map u (blockRecords high d t k b)
-  block-lower t k b = flat-lower (figureRecords low d t 0 (b .layer) k) (figureRecords high d t 0 (b .layer) k) (lowerFigure low d) (figure-lower t (b .layer) k) (b .figures)
+  block-lower : (t : List Rule) (k : ℕ) (b : LayerBlock) → blockRecords (view low t) k (lowerBlock low d b) ≡ map u (blockRecords (view high t) k b)
+  block-lower t k b = flat-lower (figureRecords (view low t) 0 (b .layer) k) (figureRecords (view high t) 0 (b .layer) k) (lowerFigure low d) (figure-lower t (b .layer) k) (b .figures)
 
-  body-lower : (t : List Rule) (k : ℕ) (v : Contents) → bodyRecords low d t k (lowerContents low d v) ≡ map u (bodyRecords high d t k v)
-  body-lower t k v = flat-lower (blockRecords low d t k) (blockRecords high d t k) (lowerBlock low d) (block-lower t k) (v .blocks)
+  body-lower : (t : List Rule) (k : ℕ) (v : Contents) → bodyRecords (view low t) k (lowerContents low d v) ≡ map u (bodyRecords (view high t) k v)
+  body-lower t k v = flat-lower (blockRecords (view low t) k) (blockRecords (view high t) k) (lowerBlock low d) (block-lower t k) (v .blocks)
 
   -- ── the rest ──
   file-records : (b : Bool) (k : ℕ) (v : Contents) → Same (fileRecords b k v)
@@ -252,41 +257,41 @@ module _ (low high : Digits) (le : NotAbove low high) (d : Digits) where
   file-records true k v = refl
   file-records false k v = refl
 
-  later-lower : (t : List Rule) (k : ℕ) (vs : List Contents) → laterRecords low d t k (map (lowerContents low d) vs) ≡ map u (laterRecords high d t k vs)
+  later-lower : (t : List Rule) (k : ℕ) (vs : List Contents) → laterRecords (view low t) k (map (lowerContents low d) vs) ≡ map u (laterRecords (view high t) k vs)
   later-lower t k [] = refl
   later-lower t k (v ∷ vs) =
       ap₂ (λ x y. x ++ y) (ap₂ (λ x y. x ++ y) (sym (file-records false k v)) (body-lower t k v)) (later-lower t (suc k) vs)
-      ∙ sym (map-append u (fileRecords false k v ++ bodyRecords high d t k v) (laterRecords high d t (suc k) vs) ∙ ap (λ x. x ++ map u (laterRecords high d t (suc k) vs)) (map-append u (fileRecords false k v) (bodyRecords high d t k v)))
+      ∙ sym (map-append u (fileRecords false k v ++ bodyRecords (view high t) k v) (laterRecords (view high t) (suc k) vs) ∙ ap (λ x. x ++ map u (laterRecords (view high t) (suc k) vs)) (map-append u (fileRecords false k v) (bodyRecords (view high t) k v)))
 
   layers-same : (n : ℕ) (ls : List Layer) → Same (layerRecords n ls)
   layers-same n [] = refl
   layers-same n (l ∷ ls) = cons-same (layerRecord n l) (layerRecords (suc n) ls) refl (layers-same (suc n) ls)
 
-  shapes-same : (n : ℕ) (fs : List Figure) → Same (flat (map (figureRecords (digits 0 0) (digits 0 0) figureTable 20 n 1) fs))
+  shapes-same : (n : ℕ) (fs : List Figure) → Same (flat (map (figureRecords plainView 20 n 1) fs))
   shapes-same n [] = refl
   shapes-same n (f ∷ fs) =
-      append-same (figureRecords (digits 0 0) (digits 0 0) figureTable 20 n 1 f) (flat (map (figureRecords (digits 0 0) (digits 0 0) figureTable 20 n 1) fs)) (one f) (shapes-same n fs)
+      append-same (figureRecords plainView 20 n 1 f) (flat (map (figureRecords plainView 20 n 1) fs)) (one f) (shapes-same n fs)
     where
-      line-same : (m j : ℕ) (v : List Num) → is16 (firstOr0 (lineRecord (digits 0 0) (digits 0 0) figureTable 20 n 1 m j v)) ≡ false
+      line-same : (m j : ℕ) (v : List Num) → is16 (firstOr0 (lineRecord plainView 20 n 1 m j v)) ≡ false
       line-same m j v =
           by-cond (λ r. is16 (firstOr0 r) ≡ false) (eqb j 6)
-          (λ _. ap (λ r. is16 (firstOr0 r)) (placed-as (digits 0 0) (digits 0 0) 20 n 1 m ((some (nums v) ∷ []) ∷ [])))
+          (λ _. ap (λ r. is16 (firstOr0 r)) (placed-as plainView 20 n 1 m ((some (nums v) ∷ []) ∷ [])))
           (λ _. rw (first-slot (ruleAt figureTable j) (some (nums v)) (start (10 + 20 + j) n 1 m)) (ne-eqb (10 + 20 + j) 16 (λ z. absurd (no z))))
         where
           no : 10 + 20 + j ≡ 16 → ⊥
           no z = omega arith
 
-      one : (f : Figure) → Same (figureRecords (digits 0 0) (digits 0 0) figureTable 20 n 1 f)
-      one (plain m j v) = cons-same (lineRecord (digits 0 0) (digits 0 0) figureTable 20 n 1 m j v) [] (line-same m j v) refl
+      one : (f : Figure) → Same (figureRecords plainView 20 n 1 f)
+      one (plain m j v) = cons-same (lineRecord plainView 20 n 1 m j v) [] (line-same m j v) refl
       one (chain m ps) = cons-same (chainRecord 20 n 1 m ps) (pointRecords 37 n 1 ps) refl (points-same 37 n 1 refl ps)
       one (lettering m s) = cons-same (textRecord 20 n 1 m s) [] (slots-same (textTable true 4 12) s (start 35 n 1 m) refl) refl
-      one (placed m h) = cons-same (placedRecord (digits 0 0) (digits 0 0) 20 n 1 m h) [] (ap (λ r. is16 (firstOr0 r)) (placed-as (digits 0 0) (digits 0 0) 20 n 1 m h)) refl
+      one (placed m h) = cons-same (placedRecord plainView 20 n 1 m h) [] (ap (λ r. is16 (firstOr0 r)) (placed-as plainView 20 n 1 m h)) refl
 
   inner-same : (n : ℕ) (y : Symbol) → Same (innerRecords n y)
   inner-same n y = go (y .hideFirst)
     where
       shown : List (List ℤ)
-      shown = flat (map (figureRecords (digits 0 0) (digits 0 0) figureTable 20 n 1) (y .figures))
+      shown = flat (map (figureRecords plainView 20 n 1) (y .figures))
 
       hidden : List (List ℤ)
       hidden = pointRecords 43 n 1 (y .hidden)
@@ -308,7 +313,7 @@ module _ (low high : Digits) (le : NotAbove low high) (d : Digits) where
   from-lower : (s s′ : Set) → s′ .drawing ≡ s .drawing → s′ .symbols ≡ s .symbols → rangeOf s′ ≡ d → isSingle s′ ≡ isSingle s → rangeOf s ≡ d → (vs : List Contents)
       → recordsFrom low s′ (map (lowerContents low d) vs) ≡ map u (recordsFrom high s vs)
   from-lower s s′ p q r o e [] = refl
-  from-lower s s′ p q r o e (v ∷ vs) = rw (p, q, r, o, e) (apart (layerTable (isSingle s)))
+  from-lower s s′ p q r o e (v ∷ vs) = rw (p, q, r, o, e) (apart (layerTableOf s))
     where
       head : List (List ℤ)
       head = fileRecords true 1 v ++ (drawingRecord (s .drawing) ∷ layerRecords 0 (s .drawing .layers)) ++ symbolRecords 0 (s .symbols)
@@ -318,12 +323,12 @@ module _ (low high : Digits) (le : NotAbove low high) (d : Digits) where
           append-same (fileRecords true 1 v ++ (drawingRecord (s .drawing) ∷ layerRecords 0 (s .drawing .layers))) (symbolRecords 0 (s .symbols))
           (append-same (fileRecords true 1 v) (drawingRecord (s .drawing) ∷ layerRecords 0 (s .drawing .layers)) (file-records true 1 v) (head-same (s .drawing))) (symbols-same 0 (s .symbols))
 
-      apart : (t : List Rule) → head ++ bodyRecords low d t 1 (lowerContents low d v) ++ laterRecords low d t 2 (map (lowerContents low d) vs)
-          ≡ map u (head ++ bodyRecords high d t 1 v ++ laterRecords high d t 2 vs)
+      apart : (t : List Rule) → head ++ bodyRecords (view low t) 1 (lowerContents low d v) ++ laterRecords (view low t) 2 (map (lowerContents low d) vs)
+          ≡ map u (head ++ bodyRecords (view high t) 1 v ++ laterRecords (view high t) 2 vs)
       apart t =
           ap₂ (λ x y. x ++ y) (ap₂ (λ x y. x ++ y) (sym head-kept) (body-lower t 1 v)) (later-lower t 2 vs)
-          ∙ ap (λ x. x ++ map u (laterRecords high d t 2 vs)) (sym (map-append u head (bodyRecords high d t 1 v)))
-          ∙ sym (map-append u (head ++ bodyRecords high d t 1 v) (laterRecords high d t 2 vs))
+          ∙ ap (λ x. x ++ map u (laterRecords (view high t) 2 vs)) (sym (map-append u head (bodyRecords (view high t) 1 v)))
+          ∙ sym (map-append u (head ++ bodyRecords (view high t) 1 v) (laterRecords (view high t) 2 vs))
 
 -- the records of a set, at the two classes
 pub records-lower : (low high : Digits) → NotAbove low high → (s : Set) → recordsOf low (lowerSet low s) ≡ map (unread low (rangeOf s)) (recordsOf high s)

@@ -17,6 +17,7 @@ use Rattle.rules.specs.VolumesAndTotals.{countedAll, layersUsed}
 use Rattle.rules.specs.Rows.{Held}
 use Rattle.rules.specs.Machine.{Line, Env, State, top, file, drawing, layerNames, defines, symbol, hide, elements, figures, successive, texts, placing, skipping, ended, atEof, onTop}
 use Rattle.rules.specs.LineByLine.{stepIn, inElements, afterElements, isIgnored, isClose, isEof, completes, nextVolume, step, refused, accepted, thenRun, finish, run}
+use Rattle.rules.specs.Machine.{symbolBlock, Owned}
 use Rattle.rules.proofs.Runs.{not-accepted}
 use Rattle.rules.proofs.Chains.{and-left, and-right, or-true, clash, by-cond, never, unless-got, map-got, also-got, cond-true}
 use Rattle.promises.specs.DemandThree.{NotAbove}
@@ -48,18 +49,18 @@ module _ (low high : Digits) (le : NotAbove low high) (m : Option ℕ) where
   sim-in l (figures s h fs) s′ e = via (sim-figures low high m l s h fs (l .form)) e
   sim-in l (successive s h fs n ps) s′ e = via (sim-successive low high m l s h fs n ps (l .form)) e
   sim-in l (texts s h fs n o) s′ e = via (sim-texts low high m s h fs n o (l .form)) e
-  sim-in l (placing s k fs n o p) s′ e =
+  sim-in l (placing s k fs n (symbolBlock o) p) s′ e =
       sim-placing low high le m s k fs n o p (l .form) s′ e (lowerPlacing low s k fs n o p) refl (stepIn lo l) (λ o p. refl) (λ o q. refl)
-  sim-in l (skipping s k fs n o d) s′ e = via (sim-skipping low high m s k fs n o d (l .form)) e
+  sim-in l (skipping s k fs n b d) s′ e = via (sim-skipping low high m s k fs n b d (l .form)) e
   sim-in l (ended s) s′ e = never e
 
   -- what is said of a placed symbol is said of what the lower class has in its place
   placing-is : {A : Type 0} (f : State → A) (a : A) (s : Set) (k : ℕ) (fs : List Figure) (n : ℕ) (o : Held) (p : ℕ)
-      → ((o : Held) (p : ℕ) → f (placing (lowerSet low s) k (lowerFigures low (rangeOf s) fs) n o p) ≡ a)
-      → ((o : Held) (d : ℕ) → f (skipping (lowerSet low s) k (lowerFigures low (rangeOf s) fs) n o d) ≡ a) → f (lowerPlacing low s k fs n o p) ≡ a
-  placing-is f a s k fs n o zero g h = g (lowerHeld low (rangeOf s) o) 0
+      → ((b : Owned) (p : ℕ) → f (placing (lowerSet low s) k (lowerFigures low (rangeOf s) fs) n b p) ≡ a)
+      → ((b : Owned) (d : ℕ) → f (skipping (lowerSet low s) k (lowerFigures low (rangeOf s) fs) n b d) ≡ a) → f (lowerPlacing low s k fs n o p) ≡ a
+  placing-is f a s k fs n o zero g h = g (symbolBlock (lowerHeld low (rangeOf s) o)) 0
   placing-is f a s k fs n o (suc p) g h =
-      by-cond (λ st. f st ≡ a) (hides low (rangeOf s) textLeast) (λ _. h (lowerHeld low (rangeOf s) o) (depthIn (suc p))) (λ _. g (lowerHeld low (rangeOf s) o) (suc p))
+      by-cond (λ st. f st ≡ a) (hides low (rangeOf s) textLeast) (λ _. h (symbolBlock (lowerHeld low (rangeOf s) o)) (depthIn (suc p))) (λ _. g (symbolBlock (lowerHeld low (rangeOf s) o)) (suc p))
 
   in-same : (s : State) → inElements (lower low s) ≡ inElements s
   in-same (top s k) = refl
@@ -73,7 +74,7 @@ module _ (low high : Digits) (le : NotAbove low high) (m : Option ℕ) where
   in-same (figures s h fs) = refl
   in-same (successive s h fs n ps) = refl
   in-same (texts s h fs n o) = refl
-  in-same (placing s k fs n o p) = placing-is inElements false s k fs n o p (λ o p. refl) (λ o d. refl)
+  in-same (placing s k fs n (symbolBlock o) p) = placing-is inElements false s k fs n o p (λ o p. refl) (λ o d. refl)
   in-same (skipping s k fs n o d) = refl
   in-same (ended s) = refl
 
@@ -89,7 +90,7 @@ module _ (low high : Digits) (le : NotAbove low high) (m : Option ℕ) where
   after-same (figures s h fs) = refl
   after-same (successive s h fs n ps) = refl
   after-same (texts s h fs n o) = refl
-  after-same (placing s k fs n o p) = placing-is afterElements false s k fs n o p (λ o p. refl) (λ o d. refl)
+  after-same (placing s k fs n (symbolBlock o) p) = placing-is afterElements false s k fs n o p (λ o p. refl) (λ o d. refl)
   after-same (skipping s k fs n o d) = refl
   after-same (ended s) = refl
 
@@ -106,8 +107,8 @@ module _ (low high : Digits) (le : NotAbove low high) (m : Option ℕ) where
   next-same (figures s h fs) = refl
   next-same (successive s h fs n ps) = refl
   next-same (texts s h fs n o) = refl
-  next-same (placing s k fs n o zero) = refl
-  next-same (placing s k fs n o (suc p)) = by-cond (λ st. nextVolume st ≡ st) (hides low (rangeOf s) textLeast) (λ _. refl) (λ _. refl)
+  next-same (placing s k fs n (symbolBlock o) zero) = refl
+  next-same (placing s k fs n (symbolBlock o) (suc p)) = by-cond (λ st. nextVolume st ≡ st) (hides low (rangeOf s) textLeast) (λ _. refl) (λ _. refl)
   next-same (skipping s k fs n o d) = refl
   next-same (ended s) = refl
 

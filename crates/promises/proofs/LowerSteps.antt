@@ -14,9 +14,10 @@ use Rattle.rules.specs.Sets.{Point, Figure, plain, chain, lettering, Drawing, S
 use Rattle.rules.specs.VolumesAndTotals.{dated}
 use Rattle.rules.specs.Machine.{Line, Env, Home, inElement, inLayer, State, file, drawing, figures, openTop, atEof, onTop, closeFile, shutPart, onFile, onDrawing, onLayerNames, onDefines, openSymbol, onSymbol, onHide, onElements, homeTable, closeFigures, openFigure, onFigures, onSuccessive, onTexts}
 use Rattle.rules.specs.PlacedSymbol.{bySkip, skipShut, onSkipping}
+use Rattle.rules.specs.Machine.{Owned, symbolBlock}
 use Rattle.rules.proofs.Chains.{map-append, nil-map, through}
 use Rattle.rules.proofs.Runs.{map-act, head-file, head-snoc}
-use Rattle.promises.proofs.Lower.{lowerHeld, lowerFigure, lowerFigures, lowerIn, lowerSet, lowerSoFar, lower, lower-blank, file-same, elements-same, totals-same, used-same, all-used-same}
+use Rattle.promises.proofs.Lower.{lowerHeld, lowerFigure, lowerFigures, lowerIn, lowerSet, lowerSoFar, lower, lower-blank, file-same, elements-same, totals-same, used-same, all-used-same, lowerOwned}
 
 -- ── the set, where one thing of it changes ──
 module _ (c : Digits) where
@@ -143,16 +144,16 @@ module _ (low high : Digits) (m : Option ℕ) where
   map-skip g deeper a b = refl
   map-skip g noForm a b = refl
 
-  pub sim-skipShut : (s : Set) (k : ℕ) (fs : List Figure) (n : ℕ) (o : Held) (d : ℕ)
-      → skipShut (lowerSet low s) k (lowerFigures low (rangeOf s) fs) n (lowerHeld low (rangeOf s) o) d ≡ mapG (lower low) (skipShut s k fs n o d)
-  sim-skipShut s k fs n o zero = refl
-  sim-skipShut s k fs n o (suc zero) = refl
-  sim-skipShut s k fs n o (suc (suc d)) = refl
+  pub sim-skipShut : (s : Set) (k : ℕ) (fs : List Figure) (n : ℕ) (b : Owned) (d : ℕ)
+      → skipShut (lowerSet low s) k (lowerFigures low (rangeOf s) fs) n (lowerOwned low (rangeOf s) b) d ≡ mapG (lower low) (skipShut s k fs n b d)
+  sim-skipShut s k fs n b zero = refl
+  sim-skipShut s k fs n (symbolBlock o) (suc zero) = refl
+  sim-skipShut s k fs n b (suc (suc d)) = refl
 
-  pub sim-skipping : (s : Set) (k : ℕ) (fs : List Figure) (n : ℕ) (o : Held) (d : ℕ) (f : Form)
-      → onSkipping (lowerSet low s) k (lowerFigures low (rangeOf s) fs) n (lowerHeld low (rangeOf s) o) d f ≡ mapG (lower low) (onSkipping s k fs n o d f)
-  sim-skipping s k fs n o d ignored = refl
-  sim-skipping s k fs n o d (wrong m) = refl
-  sim-skipping s k fs n o d close = sim-skipShut s k fs n o d
-  sim-skipping s k fs n o d eof = refl
-  sim-skipping s k fs n o d (keyed key x) = simp (through, map-skip)
+  pub sim-skipping : (s : Set) (k : ℕ) (fs : List Figure) (n : ℕ) (b : Owned) (d : ℕ) (f : Form)
+      → onSkipping (lowerSet low s) k (lowerFigures low (rangeOf s) fs) n (lowerOwned low (rangeOf s) b) d f ≡ mapG (lower low) (onSkipping s k fs n b d f)
+  sim-skipping s k fs n b d ignored = refl
+  sim-skipping s k fs n b d (wrong m) = refl
+  sim-skipping s k fs n b d close = sim-skipShut s k fs n b d
+  sim-skipping s k fs n b d eof = refl
+  sim-skipping s k fs n b d (keyed key x) = simp (through, map-skip)

@@ -19,8 +19,9 @@ use Rattle.rules.specs.Sets.{Point, Figure, Drawing, Symbol, Set, isFirst, arcO
 use Rattle.rules.specs.Machine.{Line, Env, Home, inElement, inLayer, State, top, file, drawing, layerNames, defines, symbol, hide, elements, figures, successive, texts, placing, skipping, ended, openTop, atEof, onTop, closeFile, shutPart, onFile, onDrawing, layerValue, onLayerNames, onDefines, newName, openSymbol, onSymbol, onHide, onElements, isLayer, homeTable, closeFigures, openPlaced, openFigure, onFigures, onSuccessive, onTexts}
 use Rattle.rules.specs.PlacedSymbol.{bySkip, onUnknown, newSerial, onPlaced, onPlacedKey, onPlacedOwn, onPlacing, skipShut, onSkipping}
 use Rattle.rules.specs.LineByLine.{stepIn, inElements, afterElements, isIgnored, isClose, isEof, completes, nextVolume, step, Outcome, refused, accepted, thenRun, finish, run}
+use Rattle.rules.specs.Machine.{symbolBlock, Owned}
 use Rattle.rules.proofs.Chains.{nil-map, map-cond, map-unless, through, map-append, map-set}
-use Rattle.promises.specs.PlacesApart.{bareValue, bareSlots, bareHeld, barePoint, bareFigure, bareLayer, bareDrawing, bareSymbol, bareSet, bareRest, bareForm, bareLine, bareAct, bareHome, bareState, bareOutcome}
+use Rattle.promises.specs.PlacesApart.{bareValue, bareSlots, bareHeld, barePoint, bareFigure, bareLayer, bareDrawing, bareSymbol, bareSet, bareRest, bareForm, bareLine, bareAct, bareHome, bareState, bareOutcome, bareOwned}
 use Rattle.promises.proofs.Bare.{nums-bare, serials-bare, amount-bare, none-bare, marks-bare, at-bare, blank-bare, part-marks, enter-bare, held-blank, first-bare, arc-bare, sym-bare, define-bare, range-bare, single-bare, name-bare, names-bare, ids-bare, known-bare, figures-serials, set-serials, used-bare, chained-bare, dated-bare, here-bare, all-bare, layers-bare}
 use Rattle.promises.proofs.BareActs.{bareShape, free-bare, skipped-bare, kind-bare, row-bare, unknown-bare, act-bare, by-act, by-line}
 
@@ -172,12 +173,12 @@ onUnknown-bare e s h fs n o k c =
     rw (sym-bare s, skipped-bare k c, unknown-bare c)
     (map-cond bareState (exceeds (rangeOf s) (e .class)) _ _
     ∙ ap₂ (cond (exceeds (rangeOf s) (e .class))) (simp (bySkip-bare, through))
-    (by-act (placing s h fs n o 0) _ _ _ _ _ _ (actUnknown c) (λ j v. refl) (λ i j v. refl) refl))
+    (by-act (placing s h fs n (symbolBlock o) 0) _ _ _ _ _ _ (actUnknown c) (λ j v. refl) (λ i j v. refl) refl))
 
 onPlaced-bare : (s : Set) (h : ℕ) (fs : List Figure) (n : ℕ) (o : Held) (p : ℕ) (a : Act)
     → mapG bareState (onPlaced s h fs n o p a) ≡ onPlaced (bareSet s) h (map bareFigure fs) 0 (bareHeld o) p (bareAct a)
 onPlaced-bare s h fs n o p a =
-    by-act (placing s h fs n o p) _ _ _ _ _ _ a
+    by-act (placing s h fs n (symbolBlock o) p) _ _ _ _ _ _ a
     (λ j v. rw (newSerial-bare s fs v, ← (enter-bare o p j v)) (simp through))
     (λ i j v. rw (← (enter-bare o p j v)))
     (shutPart-bare p _ _ _ _ (simp map-append) (λ q. refl))
@@ -211,19 +212,19 @@ onPlacing-bare e s h fs n o (suc p) f =
     rw (known-bare s, part-marks o (suc p), act-bare (knownOf s) (getD placedTables (suc p) []) (digits 0 0) (rowsThere (partOf o (suc p))) f)
     (onPlaced-bare s h fs n o (suc p) (act (knownOf s) (getD placedTables (suc p) []) (digits 0 0) (rowsThere (partOf o (suc p))) f))
 
-skipShut-bare : (s : Set) (h : ℕ) (fs : List Figure) (n : ℕ) (o : Held) (d : ℕ)
-    → mapG bareState (skipShut s h fs n o d) ≡ skipShut (bareSet s) h (map bareFigure fs) 0 (bareHeld o) d
-skipShut-bare s h fs n o zero = refl
-skipShut-bare s h fs n o (suc zero) = refl
-skipShut-bare s h fs n o (suc (suc d)) = refl
+skipShut-bare : (s : Set) (h : ℕ) (fs : List Figure) (n : ℕ) (b : Owned) (d : ℕ)
+    → mapG bareState (skipShut s h fs n b d) ≡ skipShut (bareSet s) h (map bareFigure fs) 0 (bareOwned b) d
+skipShut-bare s h fs n b zero = refl
+skipShut-bare s h fs n b (suc zero) = refl
+skipShut-bare s h fs n b (suc (suc d)) = refl
 
-onSkipping-bare : (s : Set) (h : ℕ) (fs : List Figure) (n : ℕ) (o : Held) (d : ℕ) (f : Form)
-    → mapG bareState (onSkipping s h fs n o d f) ≡ onSkipping (bareSet s) h (map bareFigure fs) 0 (bareHeld o) d (bareForm f)
-onSkipping-bare s h fs n o d ignored = refl
-onSkipping-bare s h fs n o d (wrong m) = refl
-onSkipping-bare s h fs n o d close = skipShut-bare s h fs n o d
-onSkipping-bare s h fs n o d eof = refl
-onSkipping-bare s h fs n o d (keyed k c) = rw (skipped-bare k c) (simp (bySkip-bare, through))
+onSkipping-bare : (s : Set) (h : ℕ) (fs : List Figure) (n : ℕ) (b : Owned) (d : ℕ) (f : Form)
+    → mapG bareState (onSkipping s h fs n b d f) ≡ onSkipping (bareSet s) h (map bareFigure fs) 0 (bareOwned b) d (bareForm f)
+onSkipping-bare s h fs n b d ignored = refl
+onSkipping-bare s h fs n b d (wrong m) = refl
+onSkipping-bare s h fs n b d close = skipShut-bare s h fs n b d
+onSkipping-bare s h fs n b d eof = refl
+onSkipping-bare s h fs n b d (keyed k c) = rw (skipped-bare k c) (simp (bySkip-bare, through))
 
 -- ── one line ──
 stepIn-bare : (e : Env) (l : Line) (s : State) → mapG bareState (stepIn e l s) ≡ stepIn e (bareLine l) (bareState s)
@@ -238,8 +239,8 @@ stepIn-bare e l (elements s) = onElements-bare s (l .form)
 stepIn-bare e l (figures s h fs) = onFigures-bare e l s h fs (l .form)
 stepIn-bare e l (successive s h fs n ps) = onSuccessive-bare e l s h fs n ps (l .form)
 stepIn-bare e l (texts s h fs n o) = onTexts-bare s h fs n o (l .form)
-stepIn-bare e l (placing s h fs n o p) = onPlacing-bare e s h fs n o p (l .form)
-stepIn-bare e l (skipping s h fs n o d) = onSkipping-bare s h fs n o d (l .form)
+stepIn-bare e l (placing s h fs n (symbolBlock o) p) = onPlacing-bare e s h fs n o p (l .form)
+stepIn-bare e l (skipping s h fs n b d) = onSkipping-bare s h fs n b d (l .form)
 stepIn-bare e l (ended s) = refl
 
 -- a line completes its volume, and the next begins, whatever the places

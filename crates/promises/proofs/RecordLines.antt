@@ -17,8 +17,9 @@ use Rattle.rules.specs.Values.{Value, nums}
 use Rattle.rules.specs.Rows.{Rule, Slots, Held, partOf}
 use Rattle.rules.specs.Blocks.{fileTable, rangeTable, baseTable, elecTable, symTable, laterTable, fileTables, drawingTable, symbolTable}
 use Rattle.rules.specs.Figures.{layerTable, figureTable, pointTable, textTable, placedTable, placedTables}
-use Rattle.rules.specs.Sets.{Point, Figure, plain, chain, lettering, placed, Layer, Drawing, Symbol, LayerBlock, Contents, Set, rangeOf, isSingle}
+use Rattle.rules.specs.Sets.{Point, Figure, plain, chain, lettering, placed, Layer, Drawing, Symbol, LayerBlock, Contents, Set, isSingle}
 use Rattle.rules.specs.RecordTable.{numbersOf, stateOf, columns, others, padded, putNumbers, putState, putSlot, firstSlot, otherSlots, putSlots, putParts, putHeld, unreadState, markUnread, start, fileRecords, drawingRecord, layerRecords, ruleAt, pointRecords, figureRecords, innerRecords, symbolRecords, blockRecords, bodyRecords, laterRecords, recordsFrom, recordsOf}
+use Rattle.rules.specs.RecordTable.{View, viewOf, plainView}
 use Rattle.rules.proofs.Chains.{and-left, and-right, by-cond, map-append}
 use Rattle.promises.specs.Acceptance.{Place, place, natural, placeOf}
 
@@ -217,27 +218,27 @@ placed-at c d kind owner k n h =
     λ i e. unread-miss i c d placedTable (putHeld placedTables h t) (and-left (all (misses i) placedTable) _ e) ∙ parts-miss i 0 placedTables h t e in
     place-kept kind owner k n (markUnread c d placedTable (putHeld placedTables h t)) (at 2 (clear-placed .0)) (at 3 (clear-placed .1))
 
-figure-at : (c d : Digits) (t : List Rule) → clear t ≡ true → (more owner k : ℕ) (f : Figure) → map placeOf (figureRecords c d t more owner k f) ≡ figurePlaces k f
-figure-at c d t e more owner k (plain n j v) =
+figure-at : (w : View) → clear (w .table) ≡ true → (more owner k : ℕ) (f : Figure) → map placeOf (figureRecords w more owner k f) ≡ figurePlaces k f
+figure-at w e more owner k (plain n j v) =
     by-cond (λ (r : List ℤ). placeOf r ∷ [] ≡ place k n ∷ []) (eqb j 6)
-    (λ _. ap (λ p. p ∷ []) (placed-at c d (16 + more) owner k n ((some (nums v) ∷ []) ∷ [])))
-    (λ _. ap (λ p. p ∷ []) (slot-place (10 + more + j) owner k n t e j (some (nums v))))
-figure-at c d t e more owner k (chain n ps) = ap (λ qs. place k n ∷ qs) (points-at (17 + more) owner k ps)
-figure-at c d t e more owner k (lettering n s) = ap (λ p. p ∷ []) (slots-place (15 + more) owner k n (textTable true 4 12) clear-text s)
-figure-at c d t e more owner k (placed n h) = ap (λ p. p ∷ []) (placed-at c d (16 + more) owner k n h)
+    (λ _. ap (λ p. p ∷ []) (placed-at (w .class) (w .symbols) (16 + more) owner k n ((some (nums v) ∷ []) ∷ [])))
+    (λ _. ap (λ p. p ∷ []) (slot-place (10 + more + j) owner k n (w .table) e j (some (nums v))))
+figure-at w e more owner k (chain n ps) = ap (λ qs. place k n ∷ qs) (points-at (17 + more) owner k ps)
+figure-at w e more owner k (lettering n s) = ap (λ p. p ∷ []) (slots-place (15 + more) owner k n (textTable true 4 12) clear-text s)
+figure-at w e more owner k (placed n h) = ap (λ p. p ∷ []) (placed-at (w .class) (w .symbols) (16 + more) owner k n h)
 
 flat-at : {A : Type 0} (f : A → List (List ℤ)) (g : A → List Place) → ((a : A) → map placeOf (f a) ≡ g a) → (s : List A) → map placeOf (flat (map f s)) ≡ flat (map g s)
 flat-at f g h [] = refl
 flat-at f g h (a ∷ s) = map-append placeOf (f a) (flat (map f s)) ∙ ap₂ _++_ (h a) (flat-at f g h s)
 
-figures-at : (c d : Digits) (t : List Rule) → clear t ≡ true → (more owner k : ℕ) (fs : List Figure) → map placeOf (flat (map (figureRecords c d t more owner k) fs)) ≡ figuresPlaces k fs
-figures-at c d t e more owner k fs = flat-at (figureRecords c d t more owner k) (figurePlaces k) (figure-at c d t e more owner k) fs
+figures-at : (w : View) → clear (w .table) ≡ true → (more owner k : ℕ) (fs : List Figure) → map placeOf (flat (map (figureRecords w more owner k) fs)) ≡ figuresPlaces k fs
+figures-at w e more owner k fs = flat-at (figureRecords w more owner k) (figurePlaces k) (figure-at w e more owner k) fs
 
 inner-at : (n : ℕ) (y : Symbol) → map placeOf (innerRecords n y) ≡ innerPlaces 1 y
 inner-at n y =
-    let shown = flat (map (figureRecords (digits 0 0) (digits 0 0) figureTable 20 n 1) (y .figures)) in
+    let shown = flat (map (figureRecords plainView 20 n 1) (y .figures)) in
     let hidden = pointRecords 43 n 1 (y .hidden) in
-    let a : map placeOf shown ≡ figuresPlaces 1 (y .figures) = figures-at (digits 0 0) (digits 0 0) figureTable clear-figure 20 n 1 (y .figures) in
+    let a : map placeOf shown ≡ figuresPlaces 1 (y .figures) = figures-at plainView clear-figure 20 n 1 (y .figures) in
     let b : map placeOf hidden ≡ pointPlaces 1 (y .hidden) = points-at 43 n 1 (y .hidden) in
     go shown hidden a b (y .hideFirst)
   where
@@ -256,8 +257,8 @@ layers-at : (n : ℕ) (ls : List Layer) → map placeOf (layerRecords n ls) ≡ 
 layers-at n [] = refl
 layers-at n (l ∷ ls) = ap (λ ps. place 1 (l .line) ∷ ps) (layers-at (suc n) ls)
 
-body-at : (c d : Digits) (t : List Rule) → clear t ≡ true → (k : ℕ) (v : Contents) → map placeOf (bodyRecords c d t k v) ≡ bodyPlaces k v
-body-at c d t e k v = flat-at (blockRecords c d t k) (blockPlaces k) (λ u. figures-at c d t e 0 (u .layer) k (u .figures)) (v .blocks)
+body-at : (w : View) → clear (w .table) ≡ true → (k : ℕ) (v : Contents) → map placeOf (bodyRecords w k v) ≡ bodyPlaces k v
+body-at w e k v = flat-at (blockRecords w k) (blockPlaces k) (λ u. figures-at w e 0 (u .layer) k (u .figures)) (v .blocks)
 
 header-at : (k : ℕ) (v : Contents) → map placeOf (fileRecords true k v) ≡ headPlaces k v
 header-at k v =
@@ -274,11 +275,11 @@ volume-at k v =
     ap (λ p. p ∷ [])
     (place-kept 2 0 k (v .line) (putHeld (fileTables false) (v .file) t) (parts-miss 2 0 (fileTables false) (v .file) t (clear-later .0)) (parts-miss 3 0 (fileTables false) (v .file) t (clear-later .1)))
 
-later-at : (c d : Digits) (t : List Rule) → clear t ≡ true → (k : ℕ) (vs : List Contents) → map placeOf (laterRecords c d t k vs) ≡ laterPlaces k vs
-later-at c d t e k [] = refl
-later-at c d t e k (v ∷ vs) =
-    map-append placeOf (fileRecords false k v ++ bodyRecords c d t k v) (laterRecords c d t (suc k) vs)
-    ∙ ap₂ _++_ (map-append placeOf (fileRecords false k v) (bodyRecords c d t k v) ∙ ap₂ _++_ (volume-at k v) (body-at c d t e k v)) (later-at c d t e (suc k) vs)
+later-at : (w : View) → clear (w .table) ≡ true → (k : ℕ) (vs : List Contents) → map placeOf (laterRecords w k vs) ≡ laterPlaces k vs
+later-at w e k [] = refl
+later-at w e k (v ∷ vs) =
+    map-append placeOf (fileRecords false k v ++ bodyRecords w k v) (laterRecords w (suc k) vs)
+    ∙ ap₂ _++_ (map-append placeOf (fileRecords false k v) (bodyRecords w k v) ∙ ap₂ _++_ (volume-at k v) (body-at w e k v)) (later-at w e (suc k) vs)
 
 pub records-at : (c : Digits) (s : Set) → map placeOf (recordsOf c s) ≡ setPlaces (s .drawing) (s .symbols) (s .volumes)
 unfolding recordsOf
@@ -287,14 +288,13 @@ records-at c s = go (s .volumes)
     go : (vs : List Contents) → map placeOf (recordsFrom c s vs) ≡ setPlaces (s .drawing) (s .symbols) vs
     go [] = refl
     go (v ∷ vs) =
-        let d = rangeOf s in
-        let t = layerTable (isSingle s) in
+        let w = viewOf c s in
         let e = clear-layer (isSingle s) in
         let head = fileRecords true 1 v in
         let drawn = drawingRecord (s .drawing) ∷ layerRecords 0 (s .drawing .layers) in
         let symbols = symbolRecords 0 (s .symbols) in
-        let body = bodyRecords c d t 1 v in
-        map-append placeOf (((head ++ drawn) ++ symbols) ++ body) (laterRecords c d t 2 vs)
+        let body = bodyRecords w 1 v in
+        map-append placeOf (((head ++ drawn) ++ symbols) ++ body) (laterRecords w 2 vs)
         ∙ ap₂ _++_
         (map-append placeOf ((head ++ drawn) ++ symbols) body
         ∙ ap₂ _++_
@@ -303,5 +303,5 @@ records-at c s = go (s .volumes)
         (map-append placeOf head drawn
         ∙ ap₂ _++_ (header-at 1 v) (ap₂ _∷_ (slots-place 3 0 1 (s .drawing .line) drawingTable clear-drawing (s .drawing .own)) (layers-at 0 (s .drawing .layers))))
         (symbols-at 0 (s .symbols)))
-        (body-at c d t e 1 v))
-        (later-at c d t e 2 vs)
+        (body-at w e 1 v))
+        (later-at w e 2 vs)

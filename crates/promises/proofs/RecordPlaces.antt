@@ -14,9 +14,10 @@ use Rattle.rules.specs.RangeClass.{digits, hides}
 use Rattle.rules.specs.Values.{Num, Value, empty, nums, chars, linked, Kind, values, text, word, volumeName, sheet, ratio, serials, nothing, opens, headed, either}
 use Rattle.rules.specs.Rows.{Rule, Slots, Held, partOf}
 use Rattle.rules.specs.Blocks.{fileTable, rangeTable, baseTable, elecTable, symTable, laterTable, fileTables, drawingTable, symbolTable}
-use Rattle.rules.specs.Figures.{layerTable, figureTable, pointTable, textTable, placedTable, placedTables}
-use Rattle.rules.specs.Sets.{Point, Figure, plain, chain, lettering, placed, Layer, Drawing, Symbol, Contents, Set, rangeOf, isSingle}
+use Rattle.rules.specs.Figures.{layerTable, pointTable, textTable, placedTable, placedTables}
+use Rattle.rules.specs.Sets.{Point, Figure, plain, chain, lettering, placed, Layer, Drawing, Symbol, Contents, Set}
 use Rattle.rules.specs.RecordTable.{numbers, numbersOf, stateOf, columns, firstOr0, others, padded, putNumbers, putState, putSlot, firstSlot, otherSlots, putSlots, putParts, putHeld, unreadState, markUnread, start, fileRecords, drawingRecord, layerRecord, layerRecords, ruleAt, plainRecord, lineRecord, pointRecords, firstType, chainRecord, textRecord, placedRecord, figureRecords, innerRecords, symbolRecords, blockRecords, bodyRecords, laterRecords, recordsFrom, recordsOf}
+use Rattle.rules.specs.RecordTable.{View, viewOf, plainView}
 use Rattle.rules.proofs.Chains.{and-left, and-right, cond-same, map-append}
 use Rattle.promises.specs.PlacesApart.{bareValue, bareSlots, bareHeld, barePoint, bareFigure, bareLayer, bareDrawing, bareSymbol, bareBlock, bareContents, bareSet, textPlaces, kindOf, without, placesApart}
 use Rattle.promises.proofs.Bare.{part-bare, range-bare, single-bare}
@@ -254,40 +255,40 @@ unfolding textTable
 text-apart true owner volume line s f = slots-apart (isPlace 15) (textTable true 4 12) s (start 15 owner volume line) (start 15 owner volume 0) refl f refl
 text-apart false owner volume line s f = slots-apart (isPlace 35) (textTable true 4 12) s (start 35 owner volume line) (start 35 owner volume 0) refl f refl
 
-placed-apart : (c d : Digits) (owner volume line : ℕ) (h : Held) → FitHeld anyText placedTables h
-    → placesApart (placedRecord c d 0 owner volume line h) ≡ placesApart (placedRecord c d 0 owner volume 0 (bareHeld h))
+placed-apart : (w : View) (owner volume line : ℕ) (h : Held) → FitHeld anyText placedTables h
+    → placesApart (placedRecord w 0 owner volume line h) ≡ placesApart (placedRecord w 0 owner volume 0 (bareHeld h))
 unfolding textTable placedTable
-placed-apart c d owner volume line h f =
-    marked-same (isPlace 16) c d placedTable (putHeld placedTables h (start 16 owner volume line)) (putHeld placedTables (bareHeld h) (start 16 owner volume 0))
+placed-apart w owner volume line h f =
+    marked-same (isPlace 16) (w .class) (w .symbols) placedTable (putHeld placedTables h (start 16 owner volume line)) (putHeld placedTables (bareHeld h) (start 16 owner volume 0))
     (parts-apart (isPlace 16) placedTables 0 h (start 16 owner volume line) (start 16 owner volume 0) refl (f 0, (f 1, tt)) refl)
 
 -- a placed symbol that is one line
-placed-line : (c d : Digits) (more owner volume line : ℕ) (h : Held)
-    → placesApart (placedRecord c d more owner volume line h) ≡ placesApart (placedRecord c d more owner volume 0 h)
+placed-line : (w : View) (more owner volume line : ℕ) (h : Held)
+    → placesApart (placedRecord w more owner volume line h) ≡ placesApart (placedRecord w more owner volume 0 h)
 unfolding textTable placedTable
-placed-line c d more owner volume line h =
-    marked-same (isPlace (16 + more)) c d placedTable (putHeld placedTables h (start (16 + more) owner volume line)) (putHeld placedTables h (start (16 + more) owner volume 0))
+placed-line w more owner volume line h =
+    marked-same (isPlace (16 + more)) (w .class) (w .symbols) placedTable (putHeld placedTables h (start (16 + more) owner volume line)) (putHeld placedTables h (start (16 + more) owner volume 0))
     (parts-same (isPlace (16 + more)) placedTables 0 h (start (16 + more) owner volume line) (start (16 + more) owner volume 0) refl)
 
-plain-apart : (c d : Digits) (t : List Rule) (more owner volume line j : ℕ) (v : List Num)
-    → placesApart (lineRecord c d t more owner volume line j v) ≡ placesApart (lineRecord c d t more owner volume 0 j v)
-plain-apart c d t more owner volume line j v = go (eqb j 6)
+plain-apart : (w : View) (more owner volume line j : ℕ) (v : List Num)
+    → placesApart (lineRecord w more owner volume line j v) ≡ placesApart (lineRecord w more owner volume 0 j v)
+plain-apart w more owner volume line j v = go (eqb j 6)
   where
     h : Held
     h = (some (nums v) ∷ []) ∷ []
 
-    go : (b : Bool) → placesApart (cond b (placedRecord c d more owner volume line h) (plainRecord t more owner volume line j v))
-        ≡ placesApart (cond b (placedRecord c d more owner volume 0 h) (plainRecord t more owner volume 0 j v))
-    go true = placed-line c d more owner volume line h
-    go false = line-apart (ruleAt t j) (some (nums v)) (10 + more + j) owner volume line
+    go : (b : Bool) → placesApart (cond b (placedRecord w more owner volume line h) (plainRecord w more owner volume line j v))
+        ≡ placesApart (cond b (placedRecord w more owner volume 0 h) (plainRecord w more owner volume 0 j v))
+    go true = placed-line w more owner volume line h
+    go false = line-apart (ruleAt (w .table) j) (some (nums v)) (10 + more + j) owner volume line
 
-figure-apart : (b : Bool) (c d : Digits) (t : List Rule) (owner volume : ℕ) (f : Figure) → FitFigure anyText b f
-    → Apart (figureRecords c d t (moreIn b) owner volume f) (figureRecords c d t (moreIn b) owner volume (bareFigure f))
-figure-apart b c d t owner volume (plain n j v) g = one-more (plain-apart c d t (moreIn b) owner volume n j v) no-record
-figure-apart b c d t owner volume (chain n ps) g = one-more (chain-apart (moreIn b) owner volume n ps) (points-apart (17 + moreIn b) owner volume ps)
-figure-apart b c d t owner volume (lettering n s) g = one-more (text-apart b owner volume n s g) no-record
-figure-apart true c d t owner volume (placed n h) g = one-more (placed-apart c d owner volume n h g) no-record
-figure-apart false c d t owner volume (placed n h) g = absurd g
+figure-apart : (b : Bool) (w : View) (owner volume : ℕ) (f : Figure) → FitFigure anyText b f
+    → Apart (figureRecords w (moreIn b) owner volume f) (figureRecords w (moreIn b) owner volume (bareFigure f))
+figure-apart b w owner volume (plain n j v) g = one-more (plain-apart w (moreIn b) owner volume n j v) no-record
+figure-apart b w owner volume (chain n ps) g = one-more (chain-apart (moreIn b) owner volume n ps) (points-apart (17 + moreIn b) owner volume ps)
+figure-apart b w owner volume (lettering n s) g = one-more (text-apart b owner volume n s g) no-record
+figure-apart true w owner volume (placed n h) g = one-more (placed-apart w owner volume n h g) no-record
+figure-apart false w owner volume (placed n h) g = absurd g
 
 -- ── the whole ──
 layers-apart : (n : ℕ) (ls : List Layer) → Apart (layerRecords n ls) (layerRecords n (map bareLayer ls))
@@ -296,7 +297,7 @@ layers-apart n (l ∷ ls) = one-more (layer-apart n l) (layers-apart (suc n) ls)
 
 inner-apart : (n : ℕ) (y : Symbol) → FitSymbol anyText y → Apart (innerRecords n y) (innerRecords n (bareSymbol y))
 inner-apart n y g =
-    go (y .hideFirst) (each-item (FitFigure anyText false) _ bareFigure (figure-apart false (digits 0 0) (digits 0 0) figureTable n 1) (y .figures) (g .1)) (points-apart 43 n 1 (y .hidden))
+    go (y .hideFirst) (each-item (FitFigure anyText false) _ bareFigure (figure-apart false plainView n 1) (y .figures) (g .1)) (points-apart 43 n 1 (y .hidden))
   where
     go : (b : Bool) {s t u v : List (List ℤ)} → Apart s u → Apart t v → Apart (cond b (t ++ s) (s ++ t)) (cond b (v ++ u) (u ++ v))
     go true p q = behind-it q p
@@ -306,20 +307,20 @@ symbols-apart : (n : ℕ) (ys : List Symbol) → Each (FitSymbol anyText) ys →
 symbols-apart n [] g = no-record
 symbols-apart n (y ∷ ys) g = one-more (symbol-apart n y (g .0 .0)) (behind-it (inner-apart n y (g .0)) (symbols-apart (suc n) ys (g .1)))
 
-module _ (c d : Digits) (t : List Rule) where
-  body-apart : (k : ℕ) (v : Contents) → Each (FitBlock anyText) (v .blocks) → Apart (bodyRecords c d t k v) (bodyRecords c d t k (bareContents v))
+module _ (w : View) where
+  body-apart : (k : ℕ) (v : Contents) → Each (FitBlock anyText) (v .blocks) → Apart (bodyRecords w k v) (bodyRecords w k (bareContents v))
   body-apart k v g =
-      each-item (FitBlock anyText) (blockRecords c d t k) bareBlock
-      (λ u h. each-item (FitFigure anyText true) (figureRecords c d t 0 (u .layer) k) bareFigure (figure-apart true c d t (u .layer) k) (u .figures) h) (v .blocks) g
+      each-item (FitBlock anyText) (blockRecords w k) bareBlock
+      (λ u h. each-item (FitFigure anyText true) (figureRecords w 0 (u .layer) k) bareFigure (figure-apart true w (u .layer) k) (u .figures) h) (v .blocks) g
 
-  volumes-apart : (k : ℕ) (vs : List Contents) → Each (FitContents anyText false) vs → Apart (laterRecords c d t k vs) (laterRecords c d t k (map bareContents vs))
+  volumes-apart : (k : ℕ) (vs : List Contents) → Each (FitContents anyText false) vs → Apart (laterRecords w k vs) (laterRecords w k (map bareContents vs))
   volumes-apart k [] g = no-record
   volumes-apart k (v ∷ vs) g = behind-it (behind-it (later-apart k v (g .0 .0)) (body-apart k v (g .0 .1))) (volumes-apart (suc k) vs (g .1))
 
   abbrev allRecords : Set → Contents → List Contents → List (List ℤ)
   allRecords s v vs =
       fileRecords true 1 v ++ (drawingRecord (s .drawing) ∷ layerRecords 0 (s .drawing .layers)) ++ symbolRecords 0 (s .symbols)
-      ++ bodyRecords c d t 1 v ++ laterRecords c d t 2 vs
+      ++ bodyRecords w 1 v ++ laterRecords w 2 vs
 
   all-apart : (s : Set) (v : Contents) (vs : List Contents) → FitSlots anyText drawingTable (s .drawing .own) → Each (FitSymbol anyText) (s .symbols) → FitVolumes anyText (v ∷ vs)
       → Apart (allRecords s v vs) (allRecords (bareSet s) (bareContents v) (map bareContents vs))
@@ -337,5 +338,5 @@ records-bare c s f = go (s .volumes) (f .2)
     go : (vs : List Contents) → FitVolumes anyText vs → map placesApart (recordsFrom c s vs) ≡ map placesApart (recordsFrom c (bareSet s) (map bareContents vs))
     go [] g = refl
     go (v ∷ vs) g =
-        all-apart c (rangeOf s) (layerTable (isSingle s)) s v vs (f .0 .0) (f .1) g .eq
-        ∙ ap₂ (λ d t. map placesApart (allRecords c d t (bareSet s) (bareContents v) (map bareContents vs))) (sym (range-bare s)) (ap layerTable (sym (single-bare s)))
+        all-apart (viewOf c s) s v vs (f .0 .0) (f .1) g .eq
+        ∙ ap₂ (λ d t. map placesApart (allRecords (record { class = c; symbols = d; table = t }) (bareSet s) (bareContents v) (map bareContents vs))) (sym (range-bare s)) (ap layerTable (sym (single-bare s)))

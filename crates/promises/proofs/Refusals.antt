@@ -22,6 +22,7 @@ use Rattle.rules.specs.PlacedSymbol.{bySkip, onUnknown, onPlaced, onPlacedKey, 
 use Rattle.rules.specs.LineByLine.{stepIn, step, Outcome, refused, accepted, thenRun, finish, run}
 use Rattle.rules.specs.Spool.{Volume, volumesOf, linesOf, mostVolumes}
 use Rattle.rules.specs.Answers.{numbered, linesOfVolume, nextName, Listed, listed, noLines, ontoLines, listVolume, listVolumes, outcomeOfLines, outcomeOfVolumes, outcomeOf, outcomeAt}
+use Rattle.rules.specs.Machine.{symbolBlock, Owned}
 use Rattle.rules.proofs.Chains.{and-left, and-right, clash, by-cond}
 use Rattle.rules.proofs.Runs.{not-accepted}
 use Rattle.promises.specs.DemandOne.{ofWhole, Located}
@@ -137,17 +138,17 @@ module _ (e : Env) (l : Line) where
   fine-placing s k fs n o zero w = fine-own s k fs n o w
   fine-placing s k fs n o (suc p) w = search (fine-placed, fine-act)
 
-  fine-skip-shut : (s : Set) (k : ℕ) (fs : List Figure) (n : ℕ) (o : Held) (d : ℕ) → Fine (skipShut s k fs n o d)
-  fine-skip-shut s k fs n o zero = refuses 9 tt
-  fine-skip-shut s k fs n o (suc zero) = answers
-  fine-skip-shut s k fs n o (suc (suc d)) = answers
+  fine-skip-shut : (s : Set) (k : ℕ) (fs : List Figure) (n : ℕ) (b : Owned) (d : ℕ) → Fine (skipShut s k fs n b d)
+  fine-skip-shut s k fs n b zero = refuses 9 tt
+  fine-skip-shut s k fs n b (suc zero) = answers
+  fine-skip-shut s k fs n b (suc (suc d)) = answers
 
-  fine-skipping : (s : Set) (k : ℕ) (fs : List Figure) (n : ℕ) (o : Held) (d : ℕ) {f : Form} → FineForm f → Fine (onSkipping s k fs n o d f)
-  fine-skipping s k fs n o d passed = answers
-  fine-skipping s k fs n o d (broken m h) = refuses m h
-  fine-skipping s k fs n o d closing = fine-skip-shut s k fs n o d
-  fine-skipping s k fs n o d ending = refuses 9 tt
-  fine-skipping s k fs n o d keying = search steps
+  fine-skipping : (s : Set) (k : ℕ) (fs : List Figure) (n : ℕ) (b : Owned) (d : ℕ) {f : Form} → FineForm f → Fine (onSkipping s k fs n b d f)
+  fine-skipping s k fs n b d passed = answers
+  fine-skipping s k fs n b d (broken m h) = refuses m h
+  fine-skipping s k fs n b d closing = fine-skip-shut s k fs n b d
+  fine-skipping s k fs n b d ending = refuses 9 tt
+  fine-skipping s k fs n b d keying = search steps
 
   fine-in : (st : State) → FineForm (l .form) → Fine (stepIn e l st)
   fine-in (top s k) w = fine-top s k w
@@ -161,8 +162,8 @@ module _ (e : Env) (l : Line) where
   fine-in (figures s h fs) w = fine-figures s h fs w
   fine-in (successive s h fs n ps) w = fine-successive s h fs n ps w
   fine-in (texts s h fs n o) w = fine-texts s h fs n o w
-  fine-in (placing s h fs n o p) w = fine-placing s h fs n o p w
-  fine-in (skipping s h fs n o d) w = fine-skipping s h fs n o d w
+  fine-in (placing s h fs n (symbolBlock o) p) w = fine-placing s h fs n o p w
+  fine-in (skipping s h fs n b d) w = fine-skipping s h fs n b d w
   fine-in (ended s) w = refuses 9 tt
 
   fine-step : (st : State) → FineForm (l .form) → Fine (step e l st)

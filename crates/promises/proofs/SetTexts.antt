@@ -16,6 +16,7 @@ use Rattle.rules.specs.Blocks.{fileTable, rangeTable, baseTable, elecTable, sym
 use Rattle.rules.specs.Figures.{layerTable, figureTable, pointTable, textTable, placedTable, placedTables}
 use Rattle.rules.specs.Sets.{Point, Figure, plain, chain, lettering, placed, Layer, Drawing, Symbol, Contents, Set, rangeOf, isSingle, symbolNameOf}
 use Rattle.rules.specs.RecordTable.{numbersOf, firstOr0, others, firstSlot, otherSlots, putSlots, start, fileRecords, drawingRecord, layerRecords, pointRecords, chainRecord, lineRecord, textRecord, placedRecord, figureRecords, innerRecords, symbolRecords, blockRecords, bodyRecords, laterRecords, recordsFrom, recordsOf}
+use Rattle.rules.specs.RecordTable.{View, plainView}
 use Rattle.rules.proofs.Chains.{clash}
 use Rattle.promises.specs.PlacesApart.{textPlaces, kindOf}
 use Rattle.promises.specs.TableTexts.{Shows, ShowsAt, ShowTexts}
@@ -132,11 +133,14 @@ module _ (spool : List ℕ) where
   points-show kind owner volume (p ∷ ps) e = one-more (rw e tt) (points-show kind owner volume ps e)
 
   -- a figure that is one line, in a layer and in a symbol
-  abbrev LineShows : Digits → Digits → List Rule → ℕ → ℕ → ℕ → ℕ → ℕ → List Num → Type 0
-  LineShows c d t more owner volume n j v =
-      ShowsAt spool (lineRecord c d t more owner volume n j v) (textPlaces (kindOf (lineRecord c d t more owner volume n j v))) (noTexts (10 + more + j))
+  abbrev LineShows : View → ℕ → ℕ → ℕ → ℕ → ℕ → List Num → Type 0
+  LineShows w more owner volume n j v =
+      ShowsAt spool (lineRecord w more owner volume n j v) (textPlaces (kindOf (lineRecord w more owner volume n j v))) (noTexts (10 + more + j))
 
-  line-layer : (c d : Digits) (single : Bool) (owner volume n j : ℕ) (v : List Num) → j < 7 → LineShows c d (layerTable single) 0 owner volume n j v
+  abbrev inLayers : Digits → Digits → Bool → View
+  inLayers c d single = record { class = c; symbols = d; table = layerTable single }
+
+  line-layer : (c d : Digits) (single : Bool) (owner volume n j : ℕ) (v : List Num) → j < 7 → LineShows (inLayers c d single) 0 owner volume n j v
   unfolding layerTable placedTable textTable
   line-layer c d single owner volume n zero v h = tt
   line-layer c d single owner volume n (suc zero) v h = tt
@@ -147,19 +151,19 @@ module _ (spool : List ℕ) where
   line-layer c d single owner volume n (suc (suc (suc (suc (suc (suc zero)))))) v h = (Shows.empty, (Shows.empty, tt))
   line-layer c d single owner volume n (suc (suc (suc (suc (suc (suc (suc j))))))) v h = absurd (omega arith)
 
-  line-symbol : (c d : Digits) (owner volume n j : ℕ) (v : List Num) → j < 6 → LineShows c d figureTable 20 owner volume n j v
+  line-symbol : (owner volume n j : ℕ) (v : List Num) → j < 6 → LineShows plainView 20 owner volume n j v
   unfolding figureTable
-  line-symbol c d owner volume n zero v h = tt
-  line-symbol c d owner volume n (suc zero) v h = tt
-  line-symbol c d owner volume n (suc (suc zero)) v h = tt
-  line-symbol c d owner volume n (suc (suc (suc zero))) v h = tt
-  line-symbol c d owner volume n (suc (suc (suc (suc zero)))) v h = tt
-  line-symbol c d owner volume n (suc (suc (suc (suc (suc zero))))) v h = (Shows.empty, tt)
-  line-symbol c d owner volume n (suc (suc (suc (suc (suc (suc j)))))) v h = absurd (omega arith)
+  line-symbol owner volume n zero v h = tt
+  line-symbol owner volume n (suc zero) v h = tt
+  line-symbol owner volume n (suc (suc zero)) v h = tt
+  line-symbol owner volume n (suc (suc (suc zero))) v h = tt
+  line-symbol owner volume n (suc (suc (suc (suc zero)))) v h = tt
+  line-symbol owner volume n (suc (suc (suc (suc (suc zero))))) v h = (Shows.empty, tt)
+  line-symbol owner volume n (suc (suc (suc (suc (suc (suc j)))))) v h = absurd (omega arith)
 
-  abbrev tableIn : Bool → Bool → List Rule
-  tableIn true single = layerTable single
-  tableIn false single = figureTable
+  abbrev viewIn : Bool → Digits → Digits → Bool → View
+  viewIn true c d single = inLayers c d single
+  viewIn false c d single = plainView
 
   chain-shows : (b : Bool) (owner volume n : ℕ) (ps : List Point)
       → Show (chainRecord (moreIn b) owner volume n ps ∷ pointRecords (17 + moreIn b) owner volume ps) ([] ∷ map pointKept ps)
@@ -171,17 +175,17 @@ module _ (spool : List ℕ) where
   text-shows true owner volume n s f = record { texts = ((column 1 s (f .1 .0), tt), tt) }
   text-shows false owner volume n s f = record { texts = ((column 1 s (f .1 .0), tt), tt) }
 
-  placed-shows : (c d : Digits) (owner volume n : ℕ) (h : Held) → FitHeld S placedTables h → Show (placedRecord c d 0 owner volume n h ∷ []) (figureKept 0 (placed n h))
+  placed-shows : (w : View) (owner volume n : ℕ) (h : Held) → FitHeld S placedTables h → Show (placedRecord w 0 owner volume n h ∷ []) (figureKept 0 (placed n h))
   unfolding textTable placedTable
-  placed-shows c d owner volume n h f = record { texts = ((column 4 (partOf h 0) (f 0 .1 .1 .1 .1 .0), (column 1 (partOf h 1) (f 1 .1 .0), tt)), tt) }
+  placed-shows w owner volume n h f = record { texts = ((column 4 (partOf h 0) (f 0 .1 .1 .1 .1 .0), (column 1 (partOf h 1) (f 1 .1 .0), tt)), tt) }
 
   figure-shows : (b single : Bool) (c d : Digits) (owner volume : ℕ) (f : Figure) → FitFigure S b f
-      → Show (figureRecords c d (tableIn b single) (moreIn b) owner volume f) (figureKept (moreIn b) f)
+      → Show (figureRecords (viewIn b c d single) (moreIn b) owner volume f) (figureKept (moreIn b) f)
   figure-shows true single c d owner volume (plain n j v) g = one-more (line-layer c d single owner volume n j v g) no-record
-  figure-shows false single c d owner volume (plain n j v) g = one-more (line-symbol c d owner volume n j v g) no-record
+  figure-shows false single c d owner volume (plain n j v) g = one-more (line-symbol owner volume n j v g) no-record
   figure-shows b single c d owner volume (chain n ps) g = chain-shows b owner volume n ps
   figure-shows b single c d owner volume (lettering n s) g = text-shows b owner volume n s g
-  figure-shows true single c d owner volume (placed n h) g = placed-shows c d owner volume n h g
+  figure-shows true single c d owner volume (placed n h) g = placed-shows (inLayers c d single) owner volume n h g
   figure-shows false single c d owner volume (placed n h) g = absurd g
 
   -- ── the whole ──
@@ -198,13 +202,13 @@ module _ (spool : List ℕ) where
   symbols-show n (y ∷ ys) g = one-more (symbol-shows n y (g .0 .0)) (behind-it (inner-shows n y (g .0)) (symbols-show (suc n) ys (g .1)))
 
   module _ (c d : Digits) (single : Bool) where
-    body-shows : (k : ℕ) (v : Contents) → Each (FitBlock S) (v .blocks) → Show (bodyRecords c d (layerTable single) k v) (bodyKept v)
+    body-shows : (k : ℕ) (v : Contents) → Each (FitBlock S) (v .blocks) → Show (bodyRecords (inLayers c d single) k v) (bodyKept v)
     body-shows k v g =
-        each-item (FitBlock S) (blockRecords c d (layerTable single) k) blockKept
-        (λ u h. each-item (FitFigure S true) (figureRecords c d (layerTable single) 0 (u .layer) k) (figureKept 0) (figure-shows true single c d (u .layer) k) (u .figures) h)
+        each-item (FitBlock S) (blockRecords (inLayers c d single) k) blockKept
+        (λ u h. each-item (FitFigure S true) (figureRecords (inLayers c d single) 0 (u .layer) k) (figureKept 0) (figure-shows true single c d (u .layer) k) (u .figures) h)
         (v .blocks) g
 
-    volumes-show : (k : ℕ) (vs : List Contents) → Each (FitContents S false) vs → Show (laterRecords c d (layerTable single) k vs) (flat (map laterKept vs))
+    volumes-show : (k : ℕ) (vs : List Contents) → Each (FitContents S false) vs → Show (laterRecords (inLayers c d single) k vs) (flat (map laterKept vs))
     volumes-show k [] g = no-record
     volumes-show k (v ∷ vs) g = behind-it (behind-it (later-shows k v) (body-shows k v (g .0 .1))) (volumes-show (suc k) vs (g .1))
 

@@ -10,10 +10,11 @@ use Rattle.rules.specs.Base.{bytes, isNil, total}
 use Rattle.rules.specs.Values.{Value, nums, Known, Part, Kind, values, text, word, volumeName, sheet, ratio, serials, nothing, opens, headed, either, charsOf}
 use Rattle.rules.specs.Rows.{Rule, Slots, blank, Held, partOf, rowsThere}
 use Rattle.rules.specs.Blocks.{fileTable, rangeTable, baseTable, elecTable, symTable, laterTable, fileTables, drawingTable, symbolTable, blankHeld}
-use Rattle.rules.specs.Figures.{layerTable, figureTable, pointTable, textTable, placedTable, placedTables}
-use Rattle.rules.specs.Sets.{Point, Figure, plain, chain, lettering, placed, Layer, Drawing, Symbol, LayerBlock, Contents, Set, isSingle, knownOf}
+use Rattle.rules.specs.Figures.{figureTable, pointTable, textTable, placedTable, placedTables}
+use Rattle.rules.specs.Sets.{Point, Figure, plain, chain, lettering, placed, Layer, Drawing, Symbol, LayerBlock, Contents, Set, knownOf}
 use Rattle.rules.specs.RecordTable.{ruleAt}
 use Rattle.rules.specs.FixedForm.{Text, openLine, opensBlock, innerOf, lineOf, showValue, showSlots, noInner, showInner, showHeld, block, showPoints, showFigure, showFigures, showLayers, showDrawing, symbolInner, exchanged, showSymbol, showSymbols, showDefines, showBlocks, showFirst, showLater, ending, laterLines, volumeLines}
+use Rattle.rules.specs.Sets.{layerTableOf}
 use Rattle.rules.proofs.Chains.{clash}
 use Rattle.rules.proofs.Rows.{Row, here, there}
 
@@ -337,7 +338,7 @@ laters-weight k t (v ∷ vs) = omega (arith, later-weight k t v (ending vs), lat
 
 -- the whole set, with its EOF
 pub volumes-weight : (s : Set) (vs : List Contents)
-    → total weigh (volumeLines s vs) ≤ volumesCost (knownOf s) (knownOf s) (layerTable (isSingle s)) (s .drawing) (s .symbols) vs + 5
+    → total weigh (volumeLines s vs) ≤ volumesCost (knownOf s) (knownOf s) (layerTableOf s) (s .drawing) (s .symbols) vs + 5
 volumes-weight s [] = omega arith
 volumes-weight s (v ∷ vs) =
-    omega (arith, first-weight (knownOf s) (layerTable (isSingle s)) s v (ending vs), laters-weight (knownOf s) (layerTable (isSingle s)) vs)
+    omega (arith, first-weight (knownOf s) (layerTableOf s) s v (ending vs), laters-weight (knownOf s) (layerTableOf s) vs)

@@ -15,9 +15,10 @@ use Rattle.rules.specs.RangeClass.{digits}
 use Rattle.rules.specs.Values.{nums}
 use Rattle.rules.specs.Rows.{Rule, Held}
 use Rattle.rules.specs.Blocks.{fileTables, drawingTable, symbolTable}
-use Rattle.rules.specs.Figures.{layerTable, figureTable, pointTable, textTable, placedTable, placedTables}
-use Rattle.rules.specs.Sets.{Point, Figure, plain, chain, lettering, placed, Layer, Symbol, Contents, Set, rangeOf, isSingle}
+use Rattle.rules.specs.Figures.{pointTable, textTable, placedTable, placedTables}
+use Rattle.rules.specs.Sets.{Point, Figure, plain, chain, lettering, placed, Layer, Symbol, Contents, Set}
 use Rattle.rules.specs.RecordTable.{putHeld, markUnread, start, twoOf, fileRecords, layerRecords, ruleAt, pointRecords, figureRecords, innerRecords, symbolRecords, bodyRecords, laterRecords, recordsFrom, recordsOf}
+use Rattle.rules.specs.RecordTable.{View, viewOf, plainView}
 use Rattle.rules.proofs.Chains.{by-cond}
 use Rattle.rules.proofs.RecordLengths.{length-slot, length-slots, length-parts, length-unread}
 use Rattle.promises.specs.DemandOne.{Wide, noRecord, oneMore}
@@ -44,20 +45,20 @@ wide-points : (kind owner volume : ℕ) (ps : List Point) → Wide (pointRecords
 wide-points kind owner volume [] = noRecord
 wide-points kind owner volume (p ∷ ps) = oneMore (length-slot (ruleAt (pointTable true) 0) (some (nums (p .values))) _) (wide-points kind owner volume ps)
 
-wide-figure : (c d : Digits) (t : List Rule) (more owner volume : ℕ) (f : Figure) → Wide (figureRecords c d t more owner volume f)
-wide-figure c d t more owner volume (plain n j v) =
+wide-figure : (w : View) (more owner volume : ℕ) (f : Figure) → Wide (figureRecords w more owner volume f)
+wide-figure w more owner volume (plain n j v) =
     oneMore
     (by-cond (λ (l : List ℤ). length l ≡ 32) (eqb j 6)
-    (λ _. placed-length c d ((some (nums v) ∷ []) ∷ []) (start (16 + more) owner volume n))
-    (λ _. length-slot (ruleAt t j) (some (nums v)) _))
+    (λ _. placed-length (w .class) (w .symbols) ((some (nums v) ∷ []) ∷ []) (start (16 + more) owner volume n))
+    (λ _. length-slot (ruleAt (w .table) j) (some (nums v)) _))
     noRecord
-wide-figure c d t more owner volume (chain n ps) = oneMore refl (wide-points (17 + more) owner volume ps)
-wide-figure c d t more owner volume (lettering n s) = oneMore (length-slots (textTable true 4 12) s _) noRecord
-wide-figure c d t more owner volume (placed n h) = oneMore (placed-length c d h _) noRecord
+wide-figure w more owner volume (chain n ps) = oneMore refl (wide-points (17 + more) owner volume ps)
+wide-figure w more owner volume (lettering n s) = oneMore (length-slots (textTable true 4 12) s _) noRecord
+wide-figure w more owner volume (placed n h) = oneMore (placed-length (w .class) (w .symbols) h _) noRecord
 
 wide-inner : (n : ℕ) (y : Symbol) → Wide (innerRecords n y)
 wide-inner n y =
-    let shown = wide-flat _ (wide-figure (digits 0 0) (digits 0 0) figureTable 20 n 1) (y .figures) in
+    let shown = wide-flat _ (wide-figure plainView 20 n 1) (y .figures) in
     let hidden = wide-points 43 n 1 (y .hidden) in
     by-cond Wide (y .hideFirst) (λ e. wide-append _ _ hidden shown) (λ e. wide-append _ _ shown hidden)
 
@@ -69,8 +70,8 @@ wide-layers : (n : ℕ) (ls : List Layer) → Wide (layerRecords n ls)
 wide-layers n [] = noRecord
 wide-layers n (l ∷ ls) = oneMore refl (wide-layers (suc n) ls)
 
-wide-body : (c d : Digits) (t : List Rule) (k : ℕ) (v : Contents) → Wide (bodyRecords c d t k v)
-wide-body c d t k v = wide-flat _ (λ u. wide-flat _ (wide-figure c d t 0 (u .layer) k) (u .figures)) (v .blocks)
+wide-body : (w : View) (k : ℕ) (v : Contents) → Wide (bodyRecords w k v)
+wide-body w k v = wide-flat _ (λ u. wide-flat _ (wide-figure w 0 (u .layer) k) (u .figures)) (v .blocks)
 
 -- the header's 64 numbers, cut into 32 and 32
 wide-two : (t : List ℤ) → length t ≡ 64 → Wide (twoOf t)
@@ -83,23 +84,22 @@ wide-file : (b : Bool) (k : ℕ) (v : Contents) → Wide (fileRecords b k v)
 wide-file true k v = wide-two (putHeld (fileTables true) (v .file) (start 1 0 k (v .line) ++ start 2 0 k (v .line))) (length-parts 0 (fileTables true) (v .file) (start 1 0 k (v .line) ++ start 2 0 k (v .line)))
 wide-file false k v = oneMore (length-parts 0 (fileTables false) (v .file) _) noRecord
 
-wide-later : (c d : Digits) (t : List Rule) (k : ℕ) (vs : List Contents) → Wide (laterRecords c d t k vs)
-wide-later c d t k [] = noRecord
-wide-later c d t k (v ∷ vs) =
-    wide-append _ _ (wide-append (fileRecords false k v) _ (wide-file false k v) (wide-body c d t k v)) (wide-later c d t (suc k) vs)
+wide-later : (w : View) (k : ℕ) (vs : List Contents) → Wide (laterRecords w k vs)
+wide-later w k [] = noRecord
+wide-later w k (v ∷ vs) =
+    wide-append _ _ (wide-append (fileRecords false k v) _ (wide-file false k v) (wide-body w k v)) (wide-later w (suc k) vs)
 
 wide-from : (c : Digits) (s : Set) (vs : List Contents) → Wide (recordsFrom c s vs)
 wide-from c s [] = noRecord
 wide-from c s (v ∷ vs) =
-    let d = rangeOf s in
-    let t = layerTable (isSingle s) in
+    let w = viewOf c s in
     wide-append _ _
     (wide-append _ _
     (wide-append _ _
     (wide-append (fileRecords true 1 v) _ (wide-file true 1 v) (oneMore (length-slots drawingTable (s .drawing .own) _) (wide-layers 0 (s .drawing .layers))))
     (wide-symbols 0 (s .symbols)))
-    (wide-body c d t 1 v))
-    (wide-later c d t 2 vs)
+    (wide-body w 1 v))
+    (wide-later w 2 vs)
 
 pub wide-records : (c : Digits) (s : Set) → Wide (recordsOf c s)
 unfolding recordsOf

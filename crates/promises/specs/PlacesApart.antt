@@ -11,7 +11,7 @@ use Rattle.rules.specs.Values.{Value, empty, nums, chars, linked}
 use Rattle.rules.specs.Rows.{Slots, Held, Act, stay, entry, begin, shut, refuse}
 use Rattle.rules.specs.Sets.{Point, Figure, plain, chain, lettering, placed, Layer, Drawing, Symbol, LayerBlock, Contents, Set}
 use Rattle.rules.specs.Machine.{Line, Home, inElement, inLayer, State, top, file, drawing, layerNames, defines, symbol, hide, elements, figures, successive}
-use Rattle.rules.specs.Machine.{texts, placing, skipping, ended}
+use Rattle.rules.specs.Machine.{texts, placing, skipping, ended, symbolBlock, Owned}
 use Rattle.rules.specs.LineByLine.{Outcome, refused, accepted}
 use Rattle.rules.specs.RecordTable.{kindHeader, kindDrawing, kindSymbol, kindLayer, kindText, kindPlaced, inSymbol}
 
@@ -89,6 +89,9 @@ abbrev pub bareHome : Home → Home
 bareHome (inElement y) = inElement (bareSymbol y)
 bareHome (inLayer k) = inLayer k
 
+abbrev pub bareOwned : Owned → Owned
+bareOwned (symbolBlock o) = symbolBlock (bareHeld o)
+
 abbrev pub bareState : State → State
 bareState (top s k) = top (bareSet s) k
 bareState (file s n h p) = file (bareSet s) 0 (bareHeld h) p
@@ -101,8 +104,8 @@ bareState (elements s) = elements (bareSet s)
 bareState (figures s h fs) = figures (bareSet s) (bareHome h) (map bareFigure fs)
 bareState (successive s h fs n ps) = successive (bareSet s) (bareHome h) (map bareFigure fs) 0 (map barePoint ps)
 bareState (texts s h fs n o) = texts (bareSet s) (bareHome h) (map bareFigure fs) 0 (bareSlots o)
-bareState (placing s k fs n o p) = placing (bareSet s) k (map bareFigure fs) 0 (bareHeld o) p
-bareState (skipping s k fs n o d) = skipping (bareSet s) k (map bareFigure fs) 0 (bareHeld o) d
+bareState (placing s k fs n b p) = placing (bareSet s) k (map bareFigure fs) 0 (bareOwned b) p
+bareState (skipping s k fs n b d) = skipping (bareSet s) k (map bareFigure fs) 0 (bareOwned b) d
 bareState (ended s) = ended (bareSet s)
 
 -- an outcome with the places made 0

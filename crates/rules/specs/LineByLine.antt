@@ -9,7 +9,7 @@ use Rattle.rules.specs.Lines.{Form, ignored, wrong, close, eof, keyed}
 use Rattle.rules.specs.Sets.{Set}
 use Rattle.rules.specs.Machine.{Line, inLastVolume, Env, State, pastElement, onTop, onFile, onDrawing, onLayerNames, onDefines, onSymbol, onHide}
 use Rattle.rules.specs.Machine.{onElements, onFigures, onSuccessive, onTexts, top, file, drawing, layerNames, defines, symbol, hide, elements, figures}
-use Rattle.rules.specs.Machine.{successive, texts, placing, skipping, ended}
+use Rattle.rules.specs.Machine.{successive, texts, symbolBlock, placing, skipping, ended}
 use Rattle.rules.specs.PlacedSymbol.{onPlacing, onSkipping}
 
 -- ── one line ──
@@ -26,7 +26,7 @@ stepIn e l (elements s) = onElements s (l .form)
 stepIn e l (figures s h fs) = onFigures e l s h fs (l .form)
 stepIn e l (successive s h fs n ps) = onSuccessive e l s h fs n ps (l .form)
 stepIn e l (texts s h fs n o) = onTexts s h fs n o (l .form)
-stepIn e l (placing s h fs n o p) = onPlacing e s h fs n o p (l .form)
+stepIn e l (placing s h fs n (symbolBlock o) p) = onPlacing e s h fs n o p (l .form)
 stepIn e l (skipping s h fs n o d) = onSkipping s h fs n o d (l .form)
 stepIn e l (ended s) = bad 9
 

@@ -13,10 +13,12 @@ use Rattle.rules.specs.RangeClass.{digits, digitsOf}
 use Rattle.rules.specs.Values.{Value, empty, numsOf, amountAt, isLayerId, readKind}
 use Rattle.rules.specs.Rows.{Rule, Slots, blank, Held, partOf, enter, rowsThere, rowsAtLimit, Act, stay, entry, begin, shut, refuse, act}
 use Rattle.rules.specs.Blocks.{topTable, fileTables, around, blankHeld, drawingTable, mostLayers, layerNameKind, definesTable, symbolTable, elementTable}
-use Rattle.rules.specs.Figures.{layerTable, figureTable, leastPoints, pointTable, textTable, placedTables}
+use Rattle.rules.specs.Figures.{figureTable, leastPoints, pointTable, textTable, placedTables}
 use Rattle.rules.specs.Sets.{Point, Figure, plain, chain, lettering, Drawing, Symbol, Set, withNow, withDrawing, withSymbol, withVolume, withRecords}
 use Rattle.rules.specs.Sets.{withBlock, withLayer, withOwn, symbolOwn, symbolFigures, symbolHidden, symbolOrder, isFirst, arcOf, rangeOf, defineRange}
-use Rattle.rules.specs.Sets.{isSingle, symbolNameOf, knownOf, usedIn}
+use Rattle.rules.specs.Sets.{layerTableOf, symbolNameOf, knownOf, usedIn}
+use Rattle.rules.specs.RecordTable.{kindHeader, kindVolume, kindDrawing, kindSymbol, kindLayer, kindLine, kindSuccessive, kindText, kindPlaced, kindPoint}
+use Rattle.rules.specs.RecordTable.{inSymbol, kindHidden}
 use Rattle.rules.specs.VolumesAndTotals.{chained, dated, countedHere, countedAll, layersUsed}
 
 -- ── a line of the set, and what the reading knows from the start ──
@@ -40,6 +42,10 @@ pub data Home : Type 0 where
   inElement : Symbol → Home
   inLayer : ℕ → Home
 
+-- what a layer's block with attributes holds so far: a placed symbol's block
+pub data Owned : Type 0 where
+  symbolBlock : Held → Owned
+
 pub data State : Type 0 where
   top : Set → ℕ → State  -- none: the number of the block that comes next (0 to 3, 4 after ELEMENT)
   file : Set → ℕ → Held → ℕ → State  -- FILE_FORMAT: its line, what it holds, which inner part is open
@@ -52,8 +58,8 @@ pub data State : Type 0 where
   figures : Set → Home → List Figure → State  -- `element` or LAYER
   successive : Set → Home → List Figure → ℕ → List Point → State
   texts : Set → Home → List Figure → ℕ → Slots → State
-  placing : Set → ℕ → List Figure → ℕ → Held → ℕ → State  -- a placed symbol in a layer: its line, what it holds, which inner part is open
-  skipping : Set → ℕ → List Figure → ℕ → Held → ℕ → State  -- in it, how many skipped blocks are open
+  placing : Set → ℕ → List Figure → ℕ → Owned → ℕ → State  -- a layer's block with attributes: its line, what it holds, which inner part is open
+  skipping : Set → ℕ → List Figure → ℕ → Owned → ℕ → State  -- in it, how many skipped blocks are open
   ended : Set → State
 
 -- the number of the block that comes next, where none does: ELEMENT is closed
@@ -75,14 +81,19 @@ abbrev pub roomFor : Option ℕ → ℕ → Bool
 roomFor none n = true
 roomFor (some m) n = leb n m
 
-abbrev pub taking : Env → ℕ → Set → (Set → State) → Got State
-taking e n s f = unless (roomFor (e .limit) (s .taken + n)) 19 (got (f (withRecords n s)))
+-- records of these kinds, taken at this line
+abbrev pub taking : Env → List ℕ → Set → (Set → State) → Got State
+taking e ks s f = unless (roomFor (e .limit) (s .taken + length ks)) 19 (got (f (withRecords ks s)))
 
 -- ── at the top level ──
+-- FILE_FORMAT's: the first volume's takes the header's record too
+abbrev pub fileKinds : Bool → List ℕ
+fileKinds first = cond first (kindHeader ∷ kindVolume ∷ []) (kindVolume ∷ [])
+
 -- by the number of the block's row in `topTable`, so the last clause is of ELEMENT alone
 abbrev pub openTop : Env → Line → Set → ℕ → Got State
-openTop e l s zero = taking e (cond (isFirst s) 2 1) s λ s′. file s′ (l .line) (blankHeld (fileTables (isFirst s))) 0
-openTop e l s (suc zero) = taking e 1 s λ s′. drawing s′ (record { line = l .line; own = blank drawingTable; layers = [] })
+openTop e l s zero = taking e (fileKinds (isFirst s)) s λ s′. file s′ (l .line) (blankHeld (fileTables (isFirst s))) 0
+openTop e l s (suc zero) = taking e (kindDrawing ∷ []) s λ s′. drawing s′ (record { line = l .line; own = blank drawingTable; layers = [] })
 openTop e l s (suc (suc zero)) = got (defines s false)
 openTop e l s (suc (suc (suc k))) = got (elements s)
 
@@ -150,7 +161,7 @@ layerLine e l s d k c =
     (andThen (layerValue k (freeShapeOf c)) λ v.
     unless (ltb (length (d .layers)) mostLayers) 11
     (unless (not (among k (map (λ y. y .id) (d .layers)))) 14
-    (taking e 1 s λ s′. layerNames s′ (withLayer (record { line = l .line; id = k; name = v }) d))))
+    (taking e (kindLayer ∷ []) s λ s′. layerNames s′ (withLayer (record { line = l .line; id = k; name = v }) d))))
 
 abbrev pub onLayerNames : Env → Line → Set → Drawing → Form → Got State
 onLayerNames e l s d ignored = got (layerNames s d)
@@ -169,7 +180,7 @@ abbrev pub onDefines : Env → Line → Set → Bool → Form → Got State
 onDefines e l s non f =
     byAct (defines s non)
     (λ j v. unless (isNil (s .symbols)) 6 (got (defines s true)))
-    (λ i j v. unless (not non) 6 (taking e 1 s λ s′. symbol s′ (newSymbol (l .line))))
+    (λ i j v. unless (not non) 6 (taking e (kindSymbol ∷ []) s λ s′. symbol s′ (newSymbol (l .line))))
     (λ _. unless (non || not (isNil (s .symbols))) 8 (got (top s 3)))
     (act (knownOf s) definesTable (digitsOf (defineRange s)) (non ∷ false ∷ []) f)
 
@@ -198,7 +209,7 @@ pointAt l v = record { line = l .line; values = numsOf v }
 abbrev pub onHide : Env → Line → Set → Symbol → List Point → Form → Got State
 onHide e l s y ps f =
     byAct (hide s y ps)
-    (λ j v. taking e 1 s λ s′. hide s′ y (ps ++ pointAt l v ∷ []))
+    (λ j v. taking e (kindHidden ∷ []) s λ s′. hide s′ y (ps ++ pointAt l v ∷ []))
     (λ i j v. bad 5)
     (λ _. got (symbol s (symbolHidden ps y)))
     (act (knownOf s) (pointTable false) (digits 0 0) (rowsAtLimit (length ps) (pointTable false)) f)
@@ -220,7 +231,12 @@ isLayer (inLayer k) = true
 
 abbrev pub homeTable : Set → Home → List Rule
 homeTable s (inElement y) = figureTable
-homeTable s (inLayer k) = layerTable (isSingle s)
+homeTable s (inLayer k) = layerTableOf s
+
+-- a figure's kind by where it stands: "plus 20 inside a symbol"
+abbrev pub kindIn : Home → ℕ → ℕ
+kindIn (inElement y) kind = kind + inSymbol
+kindIn (inLayer k) kind = kind
 
 -- "`element` (one or more figures)": none is 8; a layer may have none
 abbrev pub closeFigures : Set → Home → List Figure → Got State
@@ -230,19 +246,19 @@ closeFigures s (inLayer k) fs = got (elements (withBlock (record { layer = k; fi
 -- "E_symbol: placed symbol, in layers only": an element's table has no such row, so its clause is never reached
 abbrev pub openPlaced : Env → Line → Set → Home → List Figure → Got State
 openPlaced e l s (inElement y) fs = bad 6
-openPlaced e l s (inLayer k) fs = taking e 1 s λ s′. placing s′ k fs (l .line) (blankHeld placedTables) 0
+openPlaced e l s (inLayer k) fs = taking e (kindPlaced ∷ []) s λ s′. placing s′ k fs (l .line) (symbolBlock (blankHeld placedTables)) 0
 
 -- by the numbers of the inner blocks in `layerTable` and `figureTable`: successive 1, text 2, a placed symbol 3; 0 is never reached
 abbrev pub openFigure : Env → Line → Set → Home → List Figure → ℕ → Got State
 openFigure e l s h fs zero = bad 5
-openFigure e l s h fs (suc zero) = taking e 1 s λ s′. successive s′ h fs (l .line) []
-openFigure e l s h fs (suc (suc zero)) = taking e 1 s λ s′. texts s′ h fs (l .line) (blank (textTable (isLayer h) 4 12))
+openFigure e l s h fs (suc zero) = taking e (kindIn h kindSuccessive ∷ []) s λ s′. successive s′ h fs (l .line) []
+openFigure e l s h fs (suc (suc zero)) = taking e (kindIn h kindText ∷ []) s λ s′. texts s′ h fs (l .line) (blank (textTable (isLayer h) 4 12))
 openFigure e l s h fs (suc (suc (suc i))) = openPlaced e l s h fs
 
 abbrev pub onFigures : Env → Line → Set → Home → List Figure → Form → Got State
 onFigures e l s h fs f =
     byAct (figures s h fs)
-    (λ j v. taking e 1 s λ s′. figures s′ h (fs ++ plain (l .line) j (numsOf v) ∷ []))
+    (λ j v. taking e (kindIn h (kindLine + j) ∷ []) s λ s′. figures s′ h (fs ++ plain (l .line) j (numsOf v) ∷ []))
     (λ i j v. openFigure e l s h fs i)
     (λ _. closeFigures s h fs)
     (act (knownOf s) (homeTable s h) (rangeOf s) (rowsAtLimit 0 (homeTable s h)) f)
@@ -251,7 +267,7 @@ onFigures e l s h fs f =
 abbrev pub onSuccessive : Env → Line → Set → Home → List Figure → ℕ → List Point → Form → Got State
 onSuccessive e l s h fs n ps f =
     byAct (successive s h fs n ps)
-    (λ j v. taking e 1 s λ s′. successive s′ h fs n (ps ++ pointAt l v ∷ []))
+    (λ j v. taking e (kindIn h kindPoint ∷ []) s λ s′. successive s′ h fs n (ps ++ pointAt l v ∷ []))
     (λ i j v. bad 5)
     (λ _. unless (leb leastPoints (length ps)) 8 (got (figures s h (fs ++ chain n ps ∷ []))))
     (act (knownOf s) (pointTable (isLayer h)) (digits 0 0) (rowsAtLimit (length ps) (pointTable (isLayer h))) f)

@@ -13,7 +13,7 @@ use Rattle.rules.specs.Values.{Value, serialsOf}
 use Rattle.rules.specs.Rows.{Found, absent, found, find, Held, partOf, enter, rowsThere, Act, actRow, actUnknown, act}
 use Rattle.rules.specs.Figures.{placedTable, placedTables}
 use Rattle.rules.specs.Sets.{Figure, placed, Set, rangeOf, knownOf, ownSerial, figureSerial, serialsIn}
-use Rattle.rules.specs.Machine.{Env, State, byAct, shutPart, inLayer, figures, placing, skipping}
+use Rattle.rules.specs.Machine.{Env, Owned, symbolBlock, State, byAct, shutPart, inLayer, figures, placing, skipping}
 
 -- what the line of a key that the class doesn't know does: "skipped when a digit of E_sym exceeds the class's, and refused otherwise"
 abbrev pub bySkip : Skip → Got State → Got State → Got State
@@ -28,8 +28,8 @@ skipDeeper d inside = unless (ltb d mostDepth) 18 (got inside)
 abbrev pub onUnknown : Env → Set → ℕ → List Figure → ℕ → Held → List ℕ → Rest → Got State
 onUnknown e s h fs n o k c =
     cond (exceeds (rangeOf s) (e .class))
-    (bySkip (skipOf k c) (got (placing s h fs n o 0)) (skipDeeper 0 (skipping s h fs n o 1)))
-    (byAct (placing s h fs n o 0) (λ j v. bad 6) (λ i j v. bad 6) (λ _. bad 6) (actUnknown c))
+    (bySkip (skipOf k c) (got (placing s h fs n (symbolBlock o) 0)) (skipDeeper 0 (skipping s h fs n (symbolBlock o) 1)))
+    (byAct (placing s h fs n (symbolBlock o) 0) (λ j v. bad 6) (λ i j v. bad 6) (λ _. bad 6) (actUnknown c))
 
 -- "Own numbers differ as numbers over the set" (15)
 abbrev pub noneOf : List ℕ → List ℕ → Bool
@@ -41,10 +41,10 @@ newSerial s fs v = noneOf (ownSerial (serialsOf v)) (serialsIn s ++ flat (map fi
 
 abbrev pub onPlaced : Set → ℕ → List Figure → ℕ → Held → ℕ → Act → Got State
 onPlaced s h fs n o p a =
-    byAct (placing s h fs n o p)
-    (λ j v. unless (newSerial s fs v) 15 (got (placing s h fs n (enter o p j v) p)))
-    (λ i j v. got (placing s h fs n (enter o p j v) i))
-    (λ _. shutPart p (got (figures s (inLayer h) (fs ++ placed n o ∷ []))) (λ q. placing s h fs n o q))
+    byAct (placing s h fs n (symbolBlock o) p)
+    (λ j v. unless (newSerial s fs v) 15 (got (placing s h fs n (symbolBlock (enter o p j v)) p)))
+    (λ i j v. got (placing s h fs n (symbolBlock (enter o p j v)) i))
+    (λ _. shutPart p (got (figures s (inLayer h) (fs ++ placed n o ∷ []))) (λ q. placing s h fs n (symbolBlock o) q))
     a
 
 -- a key that the class knows is judged as in any block, in a file of the range E_sym
@@ -57,7 +57,7 @@ onPlacedKey e s h fs n o k c (found j r) =
 
 -- what the file allows and the class knows is required
 abbrev pub onPlacedOwn : Env → Set → ℕ → List Figure → ℕ → Held → Form → Got State
-onPlacedOwn e s h fs n o ignored = got (placing s h fs n o 0)
+onPlacedOwn e s h fs n o ignored = got (placing s h fs n (symbolBlock o) 0)
 onPlacedOwn e s h fs n o (wrong m) = bad m
 onPlacedOwn e s h fs n o close =
     onPlaced s h fs n o 0 (act (knownOf s) placedTable (both (e .class) (rangeOf s)) (rowsThere (partOf o 0)) close)
@@ -71,12 +71,12 @@ onPlacing e s h fs n o (suc p) f =
 
 -- ── skipped blocks: "A skipped opener takes all lines to its own `}`" ──
 -- where so many skipped blocks are open; there is one at least, so the first clause is never reached
-abbrev pub skipShut : Set → ℕ → List Figure → ℕ → Held → ℕ → Got State
+abbrev pub skipShut : Set → ℕ → List Figure → ℕ → Owned → ℕ → Got State
 skipShut s h fs n o zero = bad 9
 skipShut s h fs n o (suc zero) = got (placing s h fs n o 0)
 skipShut s h fs n o (suc (suc d)) = got (skipping s h fs n o (suc d))
 
-abbrev pub onSkipping : Set → ℕ → List Figure → ℕ → Held → ℕ → Form → Got State
+abbrev pub onSkipping : Set → ℕ → List Figure → ℕ → Owned → ℕ → Form → Got State
 onSkipping s h fs n o d ignored = got (skipping s h fs n o d)
 onSkipping s h fs n o d (wrong m) = bad m
 onSkipping s h fs n o d close = skipShut s h fs n o d

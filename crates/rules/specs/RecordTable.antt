@@ -15,8 +15,8 @@ use Rattle.rules.specs.Values.{Num, Value, empty, nums, chars, linked, v
 use Rattle.rules.specs.Values.{opens, headed, either}
 use Rattle.rules.specs.Rows.{Rule, row, Slots, Held, partOf}
 use Rattle.rules.specs.Blocks.{fileTables, drawingTable, symbolTable}
-use Rattle.rules.specs.Figures.{layerTable, figureTable, pointTable, textTable, placedTable, placedTables}
-use Rattle.rules.specs.Sets.{Point, Figure, plain, chain, lettering, placed, Layer, Drawing, Symbol, LayerBlock, Contents, Set, rangeOf, isSingle}
+use Rattle.rules.specs.Figures.{figureTable, pointTable, textTable, placedTable, placedTables}
+use Rattle.rules.specs.Sets.{Point, Figure, plain, chain, lettering, placed, Layer, Drawing, Symbol, LayerBlock, Contents, Set, rangeOf, layerTableOf}
 
 -- ── what a line's value puts into its record ──
 -- "Text is byte place in the spool, from 0, and length; 0 and 0 if empty."
@@ -179,13 +179,27 @@ layerRecords n [] = []
 layerRecords n (l ∷ ls) = layerRecord n l ∷ layerRecords (suc n) ls
 
 -- ── figures ──
+-- what the records of figures are made with: the class, the file's range of symbols, the table of the figures' rows
+pub record View : Type 0 where
+  pub class : Digits
+  pub symbols : Digits
+  pub table : List Rule
+
+-- in layers, at a class
+abbrev pub viewOf : Digits → Set → View
+viewOf c s = record { class = c; symbols = rangeOf s; table = layerTableOf s }
+
+-- in a symbol: nothing there goes by the class
+abbrev pub plainView : View
+plainView = record { class = digits 0 0; symbols = digits 0 0; table = figureTable }
+
 -- a row of a table by its number
 abbrev pub ruleAt : List Rule → ℕ → Rule
 ruleAt t j = getD t j (row "" (opens 0) 0)
 
 -- "10 line, 11 circle, 12 ellipse, 13 point": a figure's row in the table, behind that of `line`
-abbrev pub plainRecord : List Rule → ℕ → ℕ → ℕ → ℕ → ℕ → List Num → List ℤ
-plainRecord t more owner volume line j v = putSlot (ruleAt t j) (some (nums v)) (start (kindLine + more + j) owner volume line)
+abbrev pub plainRecord : View → ℕ → ℕ → ℕ → ℕ → ℕ → List Num → List ℤ
+plainRecord w more owner volume line j v = putSlot (ruleAt (w .table) j) (some (nums v)) (start (kindLine + more + j) owner volume line)
 
 -- "17 a successive's points", "43 hide point": kind, and the table of points
 abbrev pub pointRecords : ℕ → ℕ → ℕ → List Point → List (List ℤ)
@@ -205,30 +219,30 @@ chainRecord more owner volume line ps = sets (start (kindSuccessive + more) owne
 abbrev pub textRecord : ℕ → ℕ → ℕ → ℕ → Slots → List ℤ
 textRecord more owner volume line s = putSlots (textTable true 4 12) s (start (kindText + more) owner volume line)
 
--- "16 placed symbol": at the class c, in a file of the range d
-abbrev pub placedRecord : Digits → Digits → ℕ → ℕ → ℕ → ℕ → Held → List ℤ
-placedRecord c d more owner volume line h = markUnread c d placedTable (putHeld placedTables h (start (kindPlaced + more) owner volume line))
+-- "16 placed symbol"
+abbrev pub placedRecord : View → ℕ → ℕ → ℕ → ℕ → Held → List ℤ
+placedRecord w more owner volume line h = markUnread (w .class) (w .symbols) placedTable (putHeld placedTables h (start (kindPlaced + more) owner volume line))
 
 -- `E_symbol=`, the seventh row of a layer's figures (`placedNumber`), is a placed symbol with that line alone
 abbrev pub placedNumber : ℕ
 placedNumber = 6
 
-abbrev pub lineRecord : Digits → Digits → List Rule → ℕ → ℕ → ℕ → ℕ → ℕ → List Num → List ℤ
-lineRecord c d t more owner volume n j v =
-    cond (eqb j placedNumber) (placedRecord c d more owner volume n ((some (nums v) ∷ []) ∷ [])) (plainRecord t more owner volume n j v)
+abbrev pub lineRecord : View → ℕ → ℕ → ℕ → ℕ → ℕ → List Num → List ℤ
+lineRecord w more owner volume n j v =
+    cond (eqb j placedNumber) (placedRecord w more owner volume n ((some (nums v) ∷ []) ∷ [])) (plainRecord w more owner volume n j v)
 
 -- "plus 20 inside a symbol": `more`
-abbrev pub figureRecords : Digits → Digits → List Rule → ℕ → ℕ → ℕ → Figure → List (List ℤ)
-figureRecords c d t more owner volume (plain n j v) = lineRecord c d t more owner volume n j v ∷ []
-figureRecords c d t more owner volume (chain n ps) = chainRecord more owner volume n ps ∷ pointRecords (kindPoint + more) owner volume ps
-figureRecords c d t more owner volume (lettering n s) = textRecord more owner volume n s ∷ []
-figureRecords c d t more owner volume (placed n h) = placedRecord c d more owner volume n h ∷ []
+abbrev pub figureRecords : View → ℕ → ℕ → ℕ → Figure → List (List ℤ)
+figureRecords w more owner volume (plain n j v) = lineRecord w more owner volume n j v ∷ []
+figureRecords w more owner volume (chain n ps) = chainRecord more owner volume n ps ∷ pointRecords (kindPoint + more) owner volume ps
+figureRecords w more owner volume (lettering n s) = textRecord more owner volume n s ∷ []
+figureRecords w more owner volume (placed n h) = placedRecord w more owner volume n h ∷ []
 
 -- ── symbols ──
 -- "4 symbol: name, wall state, x, y"; its figures and hide points follow in the order written
 abbrev pub innerRecords : ℕ → Symbol → List (List ℤ)
 innerRecords n y =
-    let shown = flat (map (figureRecords (digits 0 0) (digits 0 0) figureTable inSymbol n 1) (y .figures)) in
+    let shown = flat (map (figureRecords plainView inSymbol n 1) (y .figures)) in
     let hidden = pointRecords kindHidden n 1 (y .hidden) in
     cond (y .hideFirst) (hidden ++ shown) (shown ++ hidden)
 
@@ -237,24 +251,22 @@ symbolRecords n [] = []
 symbolRecords n (y ∷ ys) = putSlots symbolTable (y .own) (start kindSymbol n 1 (y .line)) ∷ innerRecords n y ++ symbolRecords (suc n) ys
 
 -- ── volumes ──
-abbrev pub blockRecords : Digits → Digits → List Rule → ℕ → LayerBlock → List (List ℤ)
-blockRecords c d t k u = flat (map (figureRecords c d t 0 (u .layer) k) (u .figures))
+abbrev pub blockRecords : View → ℕ → LayerBlock → List (List ℤ)
+blockRecords w k u = flat (map (figureRecords w 0 (u .layer) k) (u .figures))
 
-abbrev pub bodyRecords : Digits → Digits → List Rule → ℕ → Contents → List (List ℤ)
-bodyRecords c d t k v = flat (map (blockRecords c d t k) (v .blocks))
+abbrev pub bodyRecords : View → ℕ → Contents → List (List ℤ)
+bodyRecords w k v = flat (map (blockRecords w k) (v .blocks))
 
 -- the volumes after the first, from number k on
-abbrev pub laterRecords : Digits → Digits → List Rule → ℕ → List Contents → List (List ℤ)
-laterRecords c d t k [] = []
-laterRecords c d t k (v ∷ vs) = fileRecords false k v ++ bodyRecords c d t k v ++ laterRecords c d t (suc k) vs
+abbrev pub laterRecords : View → ℕ → List Contents → List (List ℤ)
+laterRecords w k [] = []
+laterRecords w k (v ∷ vs) = fileRecords false k v ++ bodyRecords w k v ++ laterRecords w (suc k) vs
 
 abbrev pub recordsFrom : Digits → Set → List Contents → List (List ℤ)
 recordsFrom c s [] = []
 recordsFrom c s (v ∷ vs) =
-    let d = rangeOf s in
-    let t = layerTable (isSingle s) in
     fileRecords true 1 v ++ (drawingRecord (s .drawing) ∷ layerRecords 0 (s .drawing .layers)) ++ symbolRecords 0 (s .symbols)
-    ++ bodyRecords c d t 1 v ++ laterRecords c d t 2 vs
+    ++ bodyRecords (viewOf c s) 1 v ++ laterRecords (viewOf c s) 2 vs
 
 -- the records of an accepted set, at a class
 unfoldable pub recordsOf : Digits → Set → List (List ℤ)

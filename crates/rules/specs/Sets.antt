@@ -9,9 +9,9 @@ use Rattle.rules.specs.declared.Digits.{Digits}
 use Rattle.rules.specs.Base.{isNil, total, flat}
 use Rattle.rules.specs.RangeClass.{digitsOf}
 use Rattle.rules.specs.Values.{Num, Value, Known, charsOf, serialsOf}
-use Rattle.rules.specs.Rows.{Slots, Held, partOf, slotValue, held, numberOf}
+use Rattle.rules.specs.Rows.{Rule, Slots, Held, partOf, slotValue, held, numberOf}
 use Rattle.rules.specs.Blocks.{rangeTable, elecTable, symTable, symbolTable}
-use Rattle.rules.specs.Figures.{placedTable}
+use Rattle.rules.specs.Figures.{layerTable, placedTable}
 
 -- ── figures ──
 pub record Point : Type 0 where
@@ -85,8 +85,9 @@ withSymbol y s = record { drawing = s .drawing; symbols = s .symbols ++ y ∷ []
 abbrev pub withVolume : Set → Set
 withVolume s = record { drawing = s .drawing; symbols = s .symbols; volumes = s .volumes ++ s .now ∷ []; now = s .now; taken = s .taken }
 
-abbrev pub withRecords : ℕ → Set → Set
-withRecords n s = record { drawing = s .drawing; symbols = s .symbols; volumes = s .volumes; now = s .now; taken = s .taken + n }
+-- records of these kinds are taken
+abbrev pub withRecords : List ℕ → Set → Set
+withRecords ks s = record { drawing = s .drawing; symbols = s .symbols; volumes = s .volumes; now = s .now; taken = s .taken + length ks }
 
 abbrev pub withBlock : LayerBlock → Set → Set
 withBlock u s = withNow (record { line = s .now .line; file = s .now .file; blocks = s .now .blocks ++ u ∷ [] }) s
@@ -138,6 +139,10 @@ rangeOf s = digitsOf (symbolRange s)
 -- E_sym is 001
 abbrev pub isSingle : Set → Bool
 isSingle s = eqb (symbolRange s) 1
+
+-- the table of a layer's figures, by the file's ranges
+abbrev pub layerTableOf : Set → List Rule
+layerTableOf s = layerTable (isSingle s)
 
 abbrev pub symbolNameOf : Symbol → List ℕ
 symbolNameOf y = charsOf (slotValue (held "name" symbolTable (y .own)))

@@ -1,6 +1,6 @@
 -- A line takes two records at most: so an accepted set has at most two for each of its lines.
 use Prim.Native.Nat.{ℕ, zero, suc, _+_, _*_, _≤_}
-use mathlib.Core.Bool.{Bool, false, cond, _&&_, _||_, not}
+use mathlib.Core.Bool.{Bool, true, false, _&&_, _||_, not}
 use mathlib.Core.List.{List, [], _∷_, map}
 use mathlib.Core.Option.{some}
 use mathlib.Core.Path.{_≡_, refl, sym, subst}
@@ -20,7 +20,8 @@ use Rattle.rules.specs.VolumesAndTotals.{chained, dated, countedHere, countedAl
 use Rattle.rules.specs.Machine.{Line, Env, Home, inElement, inLayer, State, top, file, drawing, layerNames, defines, symbol, hide, elements, figures, successive, texts, placing, skipping, ended, byAct, roomFor, openTop, onTop, shutPart, onFile, onDrawing, layerValue, onLayerNames, newName, openSymbol, onSymbol, onDefines, onHide, onElements, isLayer, homeTable, closeFigures, openPlaced, openFigure, onFigures, onSuccessive, onTexts}
 use Rattle.rules.specs.PlacedSymbol.{bySkip, onUnknown, newSerial, onPlaced, onPlacedKey, onPlacing, skipShut, onSkipping}
 use Rattle.rules.specs.LineByLine.{stepIn, completes, nextVolume, step, accepted, thenRun, run}
-use Rattle.rules.proofs.Chains.{by-cond, On, on-unless, on-cond, on-map, on-then, on-also, on-weaken}
+use Rattle.rules.specs.Machine.{symbolBlock, fileKinds, Owned}
+use Rattle.rules.proofs.Chains.{On, on-unless, on-cond, on-map, on-then, on-also, on-weaken}
 use Rattle.rules.proofs.Runs.{not-accepted, finish-ended}
 use Rattle.standing.specs.Standing.{setOf}
 
@@ -56,8 +57,12 @@ module _ (e : Env) (l : Line) (s : Set) where
   taken : (n : ℕ) (u : State) → n ≤ 2 → takenIn u ≡ s .taken + n → On Few (unless (roomFor (e .limit) (s .taken + n)) 19 (got u))
   taken n u h q = on-unless Few (roomFor (e .limit) (s .taken + n)) 19 (got u) λ _. omega (arith, h, q)
 
+  few-kinds : (first : Bool) → length (fileKinds first) ≤ 2
+  few-kinds true = omega arith
+  few-kinds false = omega arith
+
   few-open : (k : ℕ) → On Few (openTop e l s k)
-  few-open zero = taken (cond (isFirst s) 2 1) _ (by-cond (λ (m : ℕ). m ≤ 2) (isFirst s) (λ _. omega arith) (λ _. omega arith)) refl
+  few-open zero = taken (length (fileKinds (isFirst s))) _ (few-kinds (isFirst s)) refl
   few-open (suc zero) = taken 1 _ (omega arith) refl
   few-open (suc (suc zero)) = none-taken
   few-open (suc (suc (suc k))) = none-taken
@@ -172,17 +177,17 @@ module _ (e : Env) (l : Line) (s : Set) where
   few-own k fs n o zero (keyed key c) = few-key k fs n o key c (find key placedTable)
   few-own k fs n o (suc p) f = few-placed k fs n o (suc p) (act (knownOf s) (getD placedTables (suc p) []) (digits 0 0) (rowsThere (partOf o (suc p))) f)
 
-  few-unskipped : (k : ℕ) (fs : List Figure) (n : ℕ) (o : Held) (d : ℕ) → On Few (skipShut s k fs n o d)
-  few-unskipped k fs n o zero = tt
-  few-unskipped k fs n o (suc zero) = none-taken
-  few-unskipped k fs n o (suc (suc d)) = none-taken
+  few-unskipped : (k : ℕ) (fs : List Figure) (n : ℕ) (b : Owned) (d : ℕ) → On Few (skipShut s k fs n b d)
+  few-unskipped k fs n b zero = tt
+  few-unskipped k fs n b (suc zero) = none-taken
+  few-unskipped k fs n b (suc (suc d)) = none-taken
 
-  few-skipping : (k : ℕ) (fs : List Figure) (n : ℕ) (o : Held) (d : ℕ) (f : Form) → On Few (onSkipping s k fs n o d f)
-  few-skipping k fs n o d ignored = none-taken
-  few-skipping k fs n o d (wrong m) = tt
-  few-skipping k fs n o d close = few-unskipped k fs n o d
-  few-skipping k fs n o d eof = tt
-  few-skipping k fs n o d (keyed key c) = on-skip Few (skipOf key c) _ _ none-taken (on-unless Few (ltb d mostDepth) 18 _ λ _. none-taken)
+  few-skipping : (k : ℕ) (fs : List Figure) (n : ℕ) (b : Owned) (d : ℕ) (f : Form) → On Few (onSkipping s k fs n b d f)
+  few-skipping k fs n b d ignored = none-taken
+  few-skipping k fs n b d (wrong m) = tt
+  few-skipping k fs n b d close = few-unskipped k fs n b d
+  few-skipping k fs n b d eof = tt
+  few-skipping k fs n b d (keyed key c) = on-skip Few (skipOf key c) _ _ none-taken (on-unless Few (ltb d mostDepth) 18 _ λ _. none-taken)
 
 few-in : (e : Env) (l : Line) (st : State) → On (Few e l (setOf st)) (stepIn e l st)
 few-in e l (top s k) = few-top e l s k (l .form)
@@ -196,8 +201,8 @@ few-in e l (elements s) = few-elements e l s (l .form)
 few-in e l (figures s h fs) = few-figures e l s h fs (l .form)
 few-in e l (successive s h fs n ps) = few-chain e l s h fs n ps (l .form)
 few-in e l (texts s h fs n o) = few-texts e l s h fs n o (l .form)
-few-in e l (placing s k fs n o p) = few-own e l s k fs n o p (l .form)
-few-in e l (skipping s k fs n o d) = few-skipping e l s k fs n o d (l .form)
+few-in e l (placing s k fs n (symbolBlock o) p) = few-own e l s k fs n o p (l .form)
+few-in e l (skipping s k fs n b d) = few-skipping e l s k fs n b d (l .form)
 few-in e l (ended s) = tt
 
 -- the next volume begins with as many

@@ -26,6 +26,8 @@ use Rattle.rules.specs.Machine.{closeFigures, Line, Env, Home, inElement, inLay
 use Rattle.rules.specs.PlacedSymbol.{onPlacedKey, onPlacing}
 use Rattle.rules.specs.LineByLine.{stepIn, completes, nextVolume, step, thenRun, run}
 use Rattle.rules.specs.Answers.{fullClass, outcomeOfVolumes, outcomeOf, rewriteOutcome}
+use Rattle.rules.specs.Machine.{symbolBlock, fileKinds, kindIn}
+use Rattle.rules.specs.RecordTable.{kindLine}
 use Rattle.rules.proofs.Chains.{On}
 use Rattle.lines.specs.VolumePlaces.{layoutOf}
 use Rattle.lines.specs.LineEnds.{firstUnsound}
@@ -57,10 +59,10 @@ module _ (c : Digits) (m : ℕ) where
     room-1 : roomFor (some m) (s .taken + 1) ≡ true
     room-1 = le-leb (s .taken + 1) m (omega (arith, h))
 
-    room-file : roomFor (some m) (s .taken + cond (isFirst s) 2 1) ≡ true
-    room-file = le-leb (s .taken + cond (isFirst s) 2 1) m (go (isFirst s))
+    room-file : roomFor (some m) (s .taken + length (fileKinds (isFirst s))) ≡ true
+    room-file = le-leb (s .taken + length (fileKinds (isFirst s))) m (go (isFirst s))
       where
-        go : (b : Bool) → s .taken + cond b 2 1 ≤ m
+        go : (b : Bool) → s .taken + length (fileKinds b) ≤ m
         go true = omega (arith, h)
         go false = omega (arith, h)
 
@@ -104,7 +106,7 @@ module _ (c : Digits) (m : ℕ) where
 
     same-figures : (x : Home) (fs : List Figure) (f : Form) → onFigures few l s x fs f ≡ onFigures free l s x fs f
     same-figures x fs f =
-        by-same (figures s x fs) (λ j v. taking few 1 s λ s′. figures s′ x (fs ++ plain (l .line) j (numsOf v) ∷ [])) (λ j v. taking free 1 s λ s′. figures s′ x (fs ++ plain (l .line) j (numsOf v) ∷ []))
+        by-same (figures s x fs) (λ j v. taking few (kindIn x (kindLine + j) ∷ []) s λ s′. figures s′ x (fs ++ plain (l .line) j (numsOf v) ∷ [])) (λ j v. taking free (kindIn x (kindLine + j) ∷ []) s λ s′. figures s′ x (fs ++ plain (l .line) j (numsOf v) ∷ []))
         (λ i j v. openFigure few l s x fs i) (λ i j v. openFigure free l s x fs i) (λ _. closeFigures s x fs)
         (act (knownOf s) (homeTable s x) (rangeOf s) (rowsAtLimit 0 (homeTable s x)) f) (λ j v. rw room-1 refl) (λ i j v. same-figure x fs i)
 
@@ -136,7 +138,7 @@ module _ (c : Digits) (m : ℕ) where
   same-in l (figures s x fs) h = same-figures l s h x fs (l .form)
   same-in l (successive s x fs n ps) h = same-chain l s h x fs n ps (l .form)
   same-in l (texts s x fs n o) h = refl
-  same-in l (placing s k fs n o p) h = same-placing s k fs n o p (l .form)
+  same-in l (placing s k fs n (symbolBlock o) p) h = same-placing s k fs n o p (l .form)
   same-in l (skipping s k fs n o d) h = refl
   same-in l (ended s) h = refl
 

@@ -12,7 +12,7 @@ use Rattle.rules.specs.Rows.{Rule, blank, partOf, rowsThere}
 use Rattle.rules.specs.Blocks.{blankHeld}
 use Rattle.rules.specs.Figures.{textTable, placedTable, placedTables}
 use Rattle.rules.specs.Sets.{Figure, plain, placed, Set, withRecords, figureSerial}
-use Rattle.rules.specs.Machine.{Home, inElement, inLayer, isLayer, elements, figures, successive, texts, placing}
+use Rattle.rules.specs.Machine.{Home, inElement, inLayer, isLayer, elements, figures, successive, texts, placing, symbolBlock}
 use Rattle.rules.specs.RecordTable.{start, putState, putHeld, textRecord}
 use Rattle.entries.specs.Acts.{putLine}
 use Rattle.account.specs.Placing.{Shaped}
@@ -30,24 +30,24 @@ abbrev sighted : Set → List ℕ → List ℕ → Bool → Sight
 sighted s serials used inside =
     record { set = sight (elements s) .set; layers = s .drawing .layers; serials = serials; used = used; inside = inside; counts = true }
 
-pub plain-sight : (s : Set) (h : Home) (fs : List Figure) (n j : ℕ) (v : List Num) → sight (figures s h fs) ≡ sight (figures (withRecords 1 s) h (fs ++ plain n j v ∷ []))
-plain-sight s (inElement y) fs n j v = refl
-plain-sight s (inLayer m) fs n j v = ap (λ (u : List ℕ). sighted s u (homeUsed s (inLayer m)) true) (plain-serials s (inLayer m) fs (plain n j v) refl)
+pub plain-sight : (kind : ℕ) (s : Set) (h : Home) (fs : List Figure) (n j : ℕ) (v : List Num) → sight (figures s h fs) ≡ sight (figures (withRecords (kind ∷ []) s) h (fs ++ plain n j v ∷ []))
+plain-sight kind s (inElement y) fs n j v = refl
+plain-sight kind s (inLayer m) fs n j v = ap (λ (u : List ℕ). sighted s u (homeUsed s (inLayer m)) true) (plain-serials s (inLayer m) fs (plain n j v) refl)
 
-pub chain-sight : (s : Set) (h : Home) (fs : List Figure) (n : ℕ) → sight (figures s h fs) ≡ sight (successive (withRecords 1 s) h fs n [])
-chain-sight s (inElement y) fs n = refl
-chain-sight s (inLayer m) fs n = refl
+pub chain-sight : (kind : ℕ) (s : Set) (h : Home) (fs : List Figure) (n : ℕ) → sight (figures s h fs) ≡ sight (successive (withRecords (kind ∷ []) s) h fs n [])
+chain-sight kind s (inElement y) fs n = refl
+chain-sight kind s (inLayer m) fs n = refl
 
-pub text-sight : (s : Set) (h : Home) (fs : List Figure) (n : ℕ) → sight (figures s h fs) ≡ sight (texts (withRecords 1 s) h fs n (blank (textTable (isLayer h) 4 12)))
-text-sight s (inElement y) fs n = refl
-text-sight s (inLayer m) fs n = refl
+pub text-sight : (kind : ℕ) (s : Set) (h : Home) (fs : List Figure) (n : ℕ) → sight (figures s h fs) ≡ sight (texts (withRecords (kind ∷ []) s) h fs n (blank (textTable (isLayer h) 4 12)))
+text-sight kind s (inElement y) fs n = refl
+text-sight kind s (inLayer m) fs n = refl
 
 no-serial : (n : ℕ) → figureSerial (placed n (blankHeld placedTables)) ≡ []
 unfolding placedTable
 no-serial n = refl
 
-pub placed-sight : (s : Set) (m : ℕ) (fs : List Figure) (n : ℕ) → sight (figures s (inLayer m) fs) ≡ sight (placing (withRecords 1 s) m fs n (blankHeld placedTables) 0)
-placed-sight s m fs n =
+pub placed-sight : (kind : ℕ) (s : Set) (m : ℕ) (fs : List Figure) (n : ℕ) → sight (figures s (inLayer m) fs) ≡ sight (placing (withRecords (kind ∷ []) s) m fs n (symbolBlock (blankHeld placedTables)) 0)
+placed-sight kind s m fs n =
     ap (λ (u : List ℕ). sighted s u (homeUsed s (inLayer m)) true)
     (sym (ap (λ (u : List ℕ). serialsWith s fs ++ u) (no-serial n) ∙ append-nil (serialsWith s fs)))
 
@@ -61,23 +61,23 @@ text-kind (inElement y) = refl
 text-kind (inLayer m) = refl
 
 -- ── a figure that is a block, just begun ──
-pub chain-begun : (c : Digits) (s : Set) (h : Home) (fs : List Figure) (n : ℕ)
-    → soFar c (figures s h fs) ++ start (14 + homeMore h) (homeOwner s h) (homeVolume s h) n ∷ [] ≡ soFar c (successive (withRecords 1 s) h fs n [])
-chain-begun c s (inElement y) fs n = refl
-chain-begun c s (inLayer m) fs n = ap (λ (r : List (List ℤ)). r ++ start 14 m (homeVolume s (inLayer m)) n ∷ []) (sym (figures-taken c s 1 (inLayer m) fs))
+pub chain-begun : (kind : ℕ) (c : Digits) (s : Set) (h : Home) (fs : List Figure) (n : ℕ)
+    → soFar c (figures s h fs) ++ start (14 + homeMore h) (homeOwner s h) (homeVolume s h) n ∷ [] ≡ soFar c (successive (withRecords (kind ∷ []) s) h fs n [])
+chain-begun kind c s (inElement y) fs n = refl
+chain-begun kind c s (inLayer m) fs n = ap (λ (r : List (List ℤ)). r ++ start 14 m (homeVolume s (inLayer m)) n ∷ []) (sym (figures-taken c s (kind ∷ []) (inLayer m) fs))
 
-pub texts-begun : (c : Digits) (s : Set) (h : Home) (fs : List Figure) (n : ℕ)
-    → soFar c (figures s h fs) ++ start (15 + homeMore h) (homeOwner s h) (homeVolume s h) n ∷ [] ≡ soFar c (texts (withRecords 1 s) h fs n (blank (textTable (isLayer h) 4 12)))
-texts-begun c s (inElement y) fs n = ap (λ (r : List ℤ). soFar c (figures s (inElement y) fs) ++ r ∷ []) (sym (text-begun false 20 (homeOwner s (inElement y)) 1 n))
-texts-begun c s (inLayer m) fs n =
+pub texts-begun : (kind : ℕ) (c : Digits) (s : Set) (h : Home) (fs : List Figure) (n : ℕ)
+    → soFar c (figures s h fs) ++ start (15 + homeMore h) (homeOwner s h) (homeVolume s h) n ∷ [] ≡ soFar c (texts (withRecords (kind ∷ []) s) h fs n (blank (textTable (isLayer h) 4 12)))
+texts-begun kind c s (inElement y) fs n = ap (λ (r : List ℤ). soFar c (figures s (inElement y) fs) ++ r ∷ []) (sym (text-begun false 20 (homeOwner s (inElement y)) 1 n))
+texts-begun kind c s (inLayer m) fs n =
     ap (λ (r : List ℤ). soFar c (figures s (inLayer m) fs) ++ r ∷ []) (sym (text-begun true 0 m (homeVolume s (inLayer m)) n))
-    ∙ ap (λ (r : List (List ℤ)). r ++ textRecord 0 m (homeVolume s (inLayer m)) n (blank (textTable true 4 12)) ∷ []) (sym (figures-taken c s 1 (inLayer m) fs))
+    ∙ ap (λ (r : List (List ℤ)). r ++ textRecord 0 m (homeVolume s (inLayer m)) n (blank (textTable true 4 12)) ∷ []) (sym (figures-taken c s (kind ∷ []) (inLayer m) fs))
 
-pub placed-so-far : (c : Digits) (s : Set) (m : ℕ) (fs : List Figure) (n : ℕ)
-    → soFar c (figures s (inLayer m) fs) ++ start 16 m (homeVolume s (inLayer m)) n ∷ [] ≡ soFar c (placing (withRecords 1 s) m fs n (blankHeld placedTables) 0)
-placed-so-far c s m fs n =
+pub placed-so-far : (kind : ℕ) (c : Digits) (s : Set) (m : ℕ) (fs : List Figure) (n : ℕ)
+    → soFar c (figures s (inLayer m) fs) ++ start 16 m (homeVolume s (inLayer m)) n ∷ [] ≡ soFar c (placing (withRecords (kind ∷ []) s) m fs n (symbolBlock (blankHeld placedTables)) 0)
+placed-so-far kind c s m fs n =
     ap (λ (r : List ℤ). soFar c (figures s (inLayer m) fs) ++ r ∷ []) (sym (placed-begun m (homeVolume s (inLayer m)) n))
-    ∙ ap (λ (r : List (List ℤ)). r ++ putHeld placedTables (blankHeld placedTables) (start 16 m (homeVolume s (inLayer m)) n) ∷ []) (sym (figures-taken c s 1 (inLayer m) fs))
+    ∙ ap (λ (r : List (List ℤ)). r ++ putHeld placedTables (blankHeld placedTables) (start 16 m (homeVolume s (inLayer m)) n) ∷ []) (sym (figures-taken c s (kind ∷ []) (inLayer m) fs))
 
 -- a line that holds nothing leaves its record empty but for its head
 pub empty-line : (r : Rule) → r .state ≡ 0 → putLine r 0 (nums []) zeros ≡ zeros
@@ -101,6 +101,6 @@ unfolding placedTable textTable
 blank-shaped = (omega arith, refl, (omega arith, refl, tt))
 
 -- `E_symbol:{` is read, the line of its serial number isn't
-pub placed-bytes : (s : Set) (m : ℕ) (fs : List Figure) (n : ℕ) → serialBytes (placing s m fs n (blankHeld placedTables) 0) ≡ 32
+pub placed-bytes : (s : Set) (m : ℕ) (fs : List Figure) (n : ℕ) → serialBytes (placing s m fs n (symbolBlock (blankHeld placedTables)) 0) ≡ 32
 unfolding placedTable
 placed-bytes s m fs n = refl

@@ -19,8 +19,8 @@ use Rattle.rules.specs.Values.{Known, Num, valueAt, Value, nums}
 use Rattle.rules.specs.Rows.{Rule, Held, rowsAtLimit, Act, stay, entry, begin, shut, refuse, act}
 use Rattle.rules.specs.Figures.{pointTable, leastPoints}
 use Rattle.rules.specs.Sets.{Point, Figure, chain, Set, knownOf, withRecords}
-use Rattle.rules.specs.Machine.{Line, Env, Home, inElement, inLayer, isLayer, State, figures, successive, byAct, pointAt}
-use Rattle.rules.specs.RecordTable.{ruleAt, start, putSlot, pointRecords, firstType, chainRecord}
+use Rattle.rules.specs.Machine.{Line, Env, Home, inElement, inLayer, isLayer, State, figures, successive, byAct, pointAt, kindIn}
+use Rattle.rules.specs.RecordTable.{ruleAt, start, putSlot, pointRecords, firstType, chainRecord, kindPoint}
 use Rattle.rules.proofs.Chains.{clash, flat-append}
 use Rattle.tables.specs.Tables.{tableOf}
 use Rattle.account.specs.declared.Where.{Where}
@@ -48,13 +48,13 @@ chain-kind (inElement y) = refl
 chain-kind (inLayer m) = refl
 
 -- the count of records says nothing of what they are, nor of the set
-same-chain : (c : Digits) (s : Set) (h : Home) (fs : List Figure) (n : ℕ) (ps : List Point) → soFar c (successive s h fs n ps) ≡ soFar c (successive (withRecords 1 s) h fs n ps)
-same-chain c s (inElement y) fs n ps = refl
-same-chain c s (inLayer m) fs n ps = ap (λ (r : List (List ℤ)). r ++ start 14 m (homeVolume s (inLayer m)) n ∷ pointRecords 17 m (homeVolume s (inLayer m)) ps) (sym (figures-taken c s 1 (inLayer m) fs))
+same-chain : (kind : ℕ) (c : Digits) (s : Set) (h : Home) (fs : List Figure) (n : ℕ) (ps : List Point) → soFar c (successive s h fs n ps) ≡ soFar c (successive (withRecords (kind ∷ []) s) h fs n ps)
+same-chain kind c s (inElement y) fs n ps = refl
+same-chain kind c s (inLayer m) fs n ps = ap (λ (r : List (List ℤ)). r ++ start 14 m (homeVolume s (inLayer m)) n ∷ pointRecords 17 m (homeVolume s (inLayer m)) ps) (sym (figures-taken c s (kind ∷ []) (inLayer m) fs))
 
-same-sight : (s : Set) (h : Home) (fs : List Figure) (n : ℕ) (ps ps′ : List Point) → sight (successive s h fs n ps) ≡ sight (successive (withRecords 1 s) h fs n ps′)
-same-sight s (inElement y) fs n ps ps′ = refl
-same-sight s (inLayer m) fs n ps ps′ = refl
+same-sight : (kind : ℕ) (s : Set) (h : Home) (fs : List Figure) (n : ℕ) (ps ps′ : List Point) → sight (successive s h fs n ps) ≡ sight (successive (withRecords (kind ∷ []) s) h fs n ps′)
+same-sight kind s (inElement y) fs n ps ps′ = refl
+same-sight kind s (inLayer m) fs n ps ps′ = refl
 
 -- the first point's type is in the first point's record
 type-of : (v : List Num) (kind owner volume line : ℕ) → getD (putSlot (ruleAt (pointTable true) 0) (some (nums v)) (start kind owner volume line)) 4 (pos 0) ≡ valueAt v 0
@@ -116,7 +116,7 @@ module _ (c : Digits) (spool : List ℕ) (k : ℕ) (FileHere : Desk → Set → 
       p = pointAt l v
 
       abbrev st′ : State
-      st′ = successive (withRecords 1 s) h fs n (ps ++ p ∷ [])
+      st′ = successive (withRecords (kindIn h kindPoint ∷ []) s) h fs n (ps ++ p ∷ [])
 
       abbrev kind : ℕ
       kind = 17 + homeMore h
@@ -135,20 +135,20 @@ module _ (c : Digits) (spool : List ℕ) (k : ℕ) (FileHere : Desk → Set → 
         grown =
             append-assoc (figuresSoFar c s h fs) (start (14 + homeMore h) (homeOwner s h) (homeVolume s h) n ∷ pointRecords kind (homeOwner s h) (homeVolume s h) ps) made
             ∙ ap (λ (y : List (List ℤ)). figuresSoFar c s h fs ++ start (14 + homeMore h) (homeOwner s h) (homeVolume s h) n ∷ y) (sym (more-points kind (homeOwner s h) (homeVolume s h) ps p))
-            ∙ same-chain c s h fs n (ps ++ p ∷ [])
+            ∙ same-chain (kindIn h kindPoint) c s h fs n (ps ++ p ∷ [])
 
         on-entry : Out (S.Go (morePoints (d .now)))
         on-entry = (
           st′,
           ap (byAct _ _ _ _) a ∙ ap (λ (y : Bool). unless y 19 (got st′)) (has-room c d e (s .taken) u (z .taken) ∙ b),
-          stands-on c spool k FileHere d at to st st′ z (morePoints (d .now)) (d .marks) (d .inner) t₁ (same-sight s h fs n ps (ps ++ p ∷ [])) (z .lengths .marks) (z .lengths .inner)
+          stands-on c spool k FileHere d at to st st′ z (morePoints (d .now)) (d .marks) (d .inner) t₁ (same-sight (kindIn h kindPoint) s h fs n ps (ps ++ p ∷ [])) (z .lengths .marks) (z .lengths .inner)
               (laid-same t₁ (soFar c st ++ made) (soFar c st′) (d .now .free + 32) grown
               (point-laid (isLayer h) (knownOf s) (length ps) (l .form) j v a (d .table) (soFar c st) (d .now) (z .laid) (leb-true (d .now .free + 32) (length (d .table)) b) w kind (homeOwner s h) (homeVolume s h) (l .line)
               (home-owner spool k (d .now) (d .marks) (d .inner) s h (inc .home)) (x .volume ∙ home-volume spool k (d .now) (d .marks) (d .inner) s h (inc .home)) (x .line) t₁ put))
               (omega (arith, z .taken)) (omega (arith, z .counted, later)) (omega (arith, z .named, later)) (omega (arith, z .numbered, later)) (
                 z .block .0,
                 record {
-                  home = home-on spool k (d .now) (morePoints (d .now)) (d .marks) (d .inner) (d .inner) s 1 h refl refl refl (inc .home);
+                  home = home-on spool k (d .now) (morePoints (d .now)) (d .marks) (d .inner) (d .inner) s (kindIn h kindPoint ∷ []) h refl refl refl (inc .home);
                   figures = inc .figures;
                   points = ap (λ (m : ℕ). m + 1) (inc .points) ∙ sym (length-append ps (p ∷ []));
                   few = omega (arith, point-few (isLayer h) (knownOf s) (length ps) (l .form) j v a, length-append ps (p ∷ []));

@@ -22,7 +22,7 @@ use Rattle.rules.specs.Blocks.{definesTable, symbolTable}
 use Rattle.rules.specs.Sets.{Symbol, Contents, Set, knownOf, defineRange, withRecords}
 use Rattle.rules.specs.Machine.{Line, Env, State, top, defines, symbol, byAct, roomFor, newName}
 use Rattle.rules.specs.LineByLine.{stepIn}
-use Rattle.rules.specs.RecordTable.{ruleAt, putSlots, start}
+use Rattle.rules.specs.RecordTable.{ruleAt, putSlots, start, kindSymbol}
 use Rattle.rules.proofs.Chains.{clash}
 use Rattle.rules.proofs.Rows.{row-at, row-below}
 use Rattle.tables.specs.Tables.{tableOf}
@@ -202,7 +202,7 @@ module _ (c : Digits) (spool : List ℕ) (k : ℕ) (FileHere : Desk → Set → 
       y₀ = blankSymbol (l .line)
 
       abbrev st′ : State
-      st′ = symbol (withRecords 1 s) y₀
+      st′ = symbol (withRecords (kindSymbol ∷ []) s) y₀
 
       step : stepIn e l st ≡ unless (not b) 6 (unless (roomFor (e .limit) (s .taken + 1)) 19 (got st′))
       step = ap (byAct _ _ _ _) a
@@ -216,7 +216,7 @@ module _ (c : Digits) (spool : List ℕ) (k : ℕ) (FileHere : Desk → Set → 
             ap (λ (m : ℕ). start 4 m (w .volume) (w .line)) counted ∙ ap (λ (m : ℕ). start 4 (length (s .symbols)) m (w .line)) (x .volume ∙ first .volume)
             ∙ ap (start 4 (length (s .symbols)) 1) (x .line) ∙ sym (blank-record (length (s .symbols)) (l .line))
 
-        opened : InSymbol spool k (symbolOpened (d .now) namesLent) m₁ (d .inner) (withRecords 1 s) y₀
+        opened : InSymbol spool k (symbolOpened (d .now) namesLent) m₁ (d .inner) (withRecords (kindSymbol ∷ []) s) y₀
         opened = record {
           phase = record { volume = first .volume; first = first .first; blocks = first .blocks };
           owner = counted;

@@ -20,7 +20,7 @@ use Rattle.rules.specs.Figures.{layerTable, figureTable, textTable, placedTable
 use Rattle.rules.specs.Sets.{Set, plain, symbolRange, rangeOf, isSingle}
 use Rattle.rules.specs.Machine as M
 use Rattle.rules.specs.Machine.{Home, inElement, inLayer, isLayer}
-use Rattle.rules.specs.RecordTable.{numbers, ruleAt, start, putSlot, putHeld, textRecord, placedRecord, lineRecord}
+use Rattle.rules.specs.RecordTable.{numbers, ruleAt, start, putSlot, putHeld, textRecord, placedRecord, lineRecord, plainView}
 use Rattle.rules.proofs.Chains.{clash}
 use Rattle.tables.specs.Tables.{tableOf}
 use Rattle.entries.specs.Acts.{putLine}
@@ -89,14 +89,14 @@ placed-key s (inLayer m) = layer-placed-key (isSingle s)
 
 -- ── a figure on one line ──
 -- `E_symbol=`: at E_sym 001 no attribute is allowed, so none is unread
-single-record : (c : Digits) (v : List Num) (owner volume line : ℕ)
-    → putSlot (ruleAt (layerTable true) 6) (some (nums v)) (start 16 owner volume line) ≡ placedRecord c (digits 0 1) 0 owner volume line ((some (nums v) ∷ []) ∷ [])
+single-record : (c : Digits) (t : List Rule) (v : List Num) (owner volume line : ℕ)
+    → putSlot (ruleAt (layerTable true) 6) (some (nums v)) (start 16 owner volume line) ≡ placedRecord (record { class = c; symbols = digits 0 1; table = t }) 0 owner volume line ((some (nums v) ∷ []) ∷ [])
 unfolding layerTable placedTable textTable
-single-record c v owner volume line = refl
+single-record c t v owner volume line = refl
 
 layer-line : (c d : Digits) (b : Bool) → (b ≡ true → d ≡ digits 0 1) → (j : ℕ) (v : List Num) (owner volume line : ℕ) → isValues (ruleAt (layerTable b) j .holds) ≡ true
     → fills (ruleAt (layerTable b) j .holds) (numbers (nums v)) ≡ true
-    → sets (putLine (ruleAt (layerTable b) j) 0 (nums v) zeros) 0 (pos (lineKind true j) ∷ pos owner ∷ pos volume ∷ pos line ∷ []) ≡ lineRecord c d (layerTable b) 0 owner volume line j v
+    → sets (putLine (ruleAt (layerTable b) j) 0 (nums v) zeros) 0 (pos (lineKind true j) ∷ pos owner ∷ pos volume ∷ pos line ∷ []) ≡ lineRecord (record { class = c; symbols = d; table = layerTable b }) 0 owner volume line j v
 unfolding layerTable
 layer-line c d b q zero v o vo li i f = row-record (ruleAt (layerTable b) 0) 3 (nums v) 10 o vo li refl (omega arith) refl refl refl f
 layer-line c d b q (suc zero) v o vo li i f = row-record (ruleAt (layerTable b) 1) 3 (nums v) 11 o vo li refl (omega arith) refl refl refl f
@@ -106,21 +106,21 @@ layer-line c d b q (suc (suc (suc (suc zero)))) v o vo li i f = clash i refl
 layer-line c d b q (suc (suc (suc (suc (suc zero))))) v o vo li i f = clash i refl
 layer-line c d true q (suc (suc (suc (suc (suc (suc zero)))))) v o vo li i f =
     row-record (ruleAt (layerTable true) 6) 4 (nums v) 16 o vo li refl (omega arith) refl refl refl f
-    ∙ single-record c v o vo li ∙ ap (λ (y : Digits). placedRecord c y 0 o vo li ((some (nums v) ∷ []) ∷ [])) (sym (q refl))
+    ∙ single-record c (layerTable true) v o vo li ∙ ap (λ (y : Digits). placedRecord (record { class = c; symbols = y; table = layerTable true }) 0 o vo li ((some (nums v) ∷ []) ∷ [])) (sym (q refl))
 layer-line c d false q (suc (suc (suc (suc (suc (suc zero)))))) v o vo li i f = clash i refl
 layer-line c d b q (suc (suc (suc (suc (suc (suc (suc j))))))) v o vo li i f = clash i refl
 
-element-line : (c d : Digits) (j : ℕ) (v : List Num) (owner volume line : ℕ) → isValues (ruleAt figureTable j .holds) ≡ true
+element-line : (j : ℕ) (v : List Num) (owner volume line : ℕ) → isValues (ruleAt figureTable j .holds) ≡ true
     → fills (ruleAt figureTable j .holds) (numbers (nums v)) ≡ true
-    → sets (putLine (ruleAt figureTable j) 0 (nums v) zeros) 0 (pos (lineKind false j) ∷ pos owner ∷ pos volume ∷ pos line ∷ []) ≡ lineRecord c d figureTable 20 owner volume line j v
+    → sets (putLine (ruleAt figureTable j) 0 (nums v) zeros) 0 (pos (lineKind false j) ∷ pos owner ∷ pos volume ∷ pos line ∷ []) ≡ lineRecord plainView 20 owner volume line j v
 unfolding figureTable
-element-line c d zero v o vo li i f = row-record (ruleAt figureTable 0) 3 (nums v) 30 o vo li refl (omega arith) refl refl refl f
-element-line c d (suc zero) v o vo li i f = row-record (ruleAt figureTable 1) 3 (nums v) 31 o vo li refl (omega arith) refl refl refl f
-element-line c d (suc (suc zero)) v o vo li i f = row-record (ruleAt figureTable 2) 3 (nums v) 32 o vo li refl (omega arith) refl refl refl f
-element-line c d (suc (suc (suc zero))) v o vo li i f = row-record (ruleAt figureTable 3) 3 (nums v) 33 o vo li refl (omega arith) refl refl refl f
-element-line c d (suc (suc (suc (suc zero)))) v o vo li i f = clash i refl
-element-line c d (suc (suc (suc (suc (suc zero))))) v o vo li i f = clash i refl
-element-line c d (suc (suc (suc (suc (suc (suc j)))))) v o vo li i f = clash i refl
+element-line zero v o vo li i f = row-record (ruleAt figureTable 0) 3 (nums v) 30 o vo li refl (omega arith) refl refl refl f
+element-line (suc zero) v o vo li i f = row-record (ruleAt figureTable 1) 3 (nums v) 31 o vo li refl (omega arith) refl refl refl f
+element-line (suc (suc zero)) v o vo li i f = row-record (ruleAt figureTable 2) 3 (nums v) 32 o vo li refl (omega arith) refl refl refl f
+element-line (suc (suc (suc zero))) v o vo li i f = row-record (ruleAt figureTable 3) 3 (nums v) 33 o vo li refl (omega arith) refl refl refl f
+element-line (suc (suc (suc (suc zero)))) v o vo li i f = clash i refl
+element-line (suc (suc (suc (suc (suc zero))))) v o vo li i f = clash i refl
+element-line (suc (suc (suc (suc (suc (suc j)))))) v o vo li i f = clash i refl
 
 abbrev pub lineMade : Set → Home → ℕ → ℕ → List Num → List ℤ
 lineMade s h line j v =
@@ -128,7 +128,7 @@ lineMade s h line j v =
 
 pub line-record : (c : Digits) (s : Set) (h : Home) (line j : ℕ) (v : List Num) → isValues (ruleAt (M.homeTable s h) j .holds) ≡ true
     → fills (ruleAt (M.homeTable s h) j .holds) (numbers (nums v)) ≡ true → lineMade s h line j v ∷ [] ≡ homeFigure c s h (plain line j v)
-line-record c s (inElement y) line j v i f = ap (λ (r : List ℤ). r ∷ []) (element-line (digits 0 0) (digits 0 0) j v (homeOwner s (inElement y)) 1 line i f)
+line-record c s (inElement y) line j v i f = ap (λ (r : List ℤ). r ∷ []) (element-line j v (homeOwner s (inElement y)) 1 line i f)
 line-record c s (inLayer m) line j v i f =
     ap (λ (r : List ℤ). r ∷ []) (layer-line c (rangeOf s) (isSingle s) (λ q. ap digitsOf (eqb-true (symbolRange s) 1 q)) j v m (homeVolume s (inLayer m)) line i f)
 

@@ -22,7 +22,8 @@ use Rattle.rules.specs.Figures.{textTable, placedTables}
 use Rattle.rules.specs.Sets.{Figure, plain, Symbol, Set, symbolRange, rangeOf, knownOf, withRecords, symbolFigures, usedIn}
 use Rattle.rules.specs.Machine as M
 use Rattle.rules.specs.Machine.{Line, Env, Home, inElement, inLayer, isLayer, State, symbol, elements, figures, successive, texts, placing, byAct, openFigure, roomFor}
-use Rattle.rules.specs.RecordTable.{numbers, ruleAt, start, innerRecords}
+use Rattle.rules.specs.RecordTable.{numbers, ruleAt, start, innerRecords, kindLine, kindSuccessive, kindText, kindPlaced}
+use Rattle.rules.specs.Machine.{symbolBlock, kindIn}
 use Rattle.rules.proofs.Chains.{clash, and-left, and-right, same-eq, or-left}
 use Rattle.rules.proofs.Rows.{row-at, row-all, found-row}
 use Rattle.tables.specs.Tables.{tableOf}
@@ -148,11 +149,11 @@ module _ (c : Digits) (spool : List ℕ) (k : ℕ) (FileHere : Desk → Set → 
             laid-same t₁ _ rs (d .now .free + 32) g
             (subst (λ (t : List ℤ). Laid t (soFar c st ++ made ∷ []) (d .now .free + 32)) (sym q) (laid-more (d .table) (soFar c st) (d .now .free) (z .laid) room made n))
 
-        fits-still : (f : Set → State) → unless (roomFor (e .limit) (s .taken + 1)) 19 (got (f (withRecords 1 s))) ≡ got (f (withRecords 1 s))
-        fits-still f = ap (λ (y : Bool). unless y 19 (got (f (withRecords 1 s)))) (has-room c d e (s .taken) u (z .taken) ∙ b)
+        fits-still : (kind : ℕ) (f : Set → State) → unless (roomFor (e .limit) (s .taken + 1)) 19 (got (f (withRecords (kind ∷ []) s))) ≡ got (f (withRecords (kind ∷ []) s))
+        fits-still kind f = ap (λ (y : Bool). unless y 19 (got (f (withRecords (kind ∷ []) s)))) (has-room c d e (s .taken) u (z .taken) ∙ b)
 
-      full-up : (f : Set → State) → hasRoom (d .now .free) (d .table) ≡ false → unless (roomFor (e .limit) (s .taken + 1)) 19 (got (f (withRecords 1 s))) ≡ bad 19
-      full-up f b = ap (λ (y : Bool). unless y 19 (got (f (withRecords 1 s)))) (has-room c d e (s .taken) u (z .taken) ∙ b)
+      full-up : (kind : ℕ) (f : Set → State) → hasRoom (d .now .free) (d .table) ≡ false → unless (roomFor (e .limit) (s .taken + 1)) 19 (got (f (withRecords (kind ∷ []) s))) ≡ bad 19
+      full-up kind f b = ap (λ (y : Bool). unless y 19 (got (f (withRecords (kind ∷ []) s)))) (has-room c d e (s .taken) u (z .taken) ∙ b)
 
       -- ── a figure on one line ──
       module _ (j : ℕ) (v : Value) (a : did ≡ entry j v) where
@@ -175,7 +176,7 @@ module _ (c : Digits) (spool : List ℕ) (k : ℕ) (FileHere : Desk → Set → 
         now-plain = plain (l .line) j (numsOf v)
 
         abbrev st′ : State
-        st′ = figures (withRecords 1 s) h (fs ++ now-plain ∷ [])
+        st′ = figures (withRecords (kindIn h (kindLine + j) ∷ []) s) h (fs ++ now-plain ∷ [])
 
         made-is : lineMade s h (l .line) j (numsOf v) ∷ [] ≡ homeFigure c s h now-plain
         made-is =
@@ -184,7 +185,7 @@ module _ (c : Digits) (spool : List ℕ) (k : ℕ) (FileHere : Desk → Set → 
 
         grown : soFar c st ++ lineMade s h (l .line) j (numsOf v) ∷ [] ≡ soFar c st′
         grown =
-            ap (λ (y : List (List ℤ)). figuresSoFar c s h fs ++ y) made-is ∙ sym (more-figures c s h fs now-plain) ∙ sym (figures-taken c s 1 h (fs ++ now-plain ∷ []))
+            ap (λ (y : List (List ℤ)). figuresSoFar c s h fs ++ y) made-is ∙ sym (more-figures c s h fs now-plain) ∙ sym (figures-taken c s (kindIn h (kindLine + j) ∷ []) h (fs ++ now-plain ∷ []))
 
         on-entry : hasRoom (d .now .free) (d .table) ≡ true → t₁ ≡ figureAt (d .now) w (lineKind (d .now .layered) j) (homeRule (d .now .layered) range j) v (d .table)
             → m₁ ≡ d .marks → i₁ ≡ d .inner → Out (S.Go (moreFigures (d .now)))
@@ -196,16 +197,16 @@ module _ (c : Digits) (spool : List ℕ) (k : ℕ) (FileHere : Desk → Set → 
             subst (λ (y : List Bool). StepOut c spool k FileHere e l to st (deskWith d (d .now) y i₁ t₁) (S.Go n)) (sym qm)
             (subst (λ (y : List Bool). StepOut c spool k FileHere e l to st (deskWith d (d .now) (d .marks) y t₁) (S.Go n)) (sym qi) (
               st′,
-              ap (byAct _ _ _ _) a ∙ fits-still b (λ s′. figures s′ h (fs ++ now-plain ∷ [])),
-              stands-on c spool k FileHere d at to st st′ z n (d .marks) (d .inner) t₁ (plain-sight s h fs (l .line) j (numsOf v)) (z .lengths .marks) (z .lengths .inner)
+              ap (byAct _ _ _ _) a ∙ fits-still b (kindIn h (kindLine + j)) (λ s′. figures s′ h (fs ++ now-plain ∷ [])),
+              stands-on c spool k FileHere d at to st st′ z n (d .marks) (d .inner) t₁ (plain-sight (kindIn h (kindLine + j)) s h fs (l .line) j (numsOf v)) (z .lengths .marks) (z .lengths .inner)
                   (more b (lineMade s h (l .line) j (numsOf v)) (soFar c st′) p
                   (length-sets (putLine (ruleAt rows j) 0 (nums (numsOf v)) zeros) 0 (heading (lineKind (isLayer h) j)) ∙ length-line (ruleAt rows j) 0 (nums (numsOf v)) zeros) grown)
                   (omega (arith, z .taken)) (omega (arith, z .counted, x .bytes, length-append fs (now-plain ∷ []))) (omega (arith, z .named, later)) (omega (arith, z .numbered, later))
-                  (z .block .0, home-on spool k (d .now) n (d .marks) (d .inner) (d .inner) s 1 h refl refl refl home, ap (λ (m : ℕ). m + 1) (z .block .2) ∙ sym (length-append fs (now-plain ∷ []))),
+                  (z .block .0, home-on spool k (d .now) n (d .marks) (d .inner) (d .inner) s (kindIn h (kindLine + j) ∷ []) h refl refl refl home, ap (λ (m : ℕ). m + 1) (z .block .2) ∙ sym (length-append fs (now-plain ∷ []))),
             ))
 
         on-full : hasRoom (d .now .free) (d .table) ≡ false → Out (S.Stop 19)
-        on-full b = ap (byAct _ _ _ _) a ∙ full-up (λ s′. figures s′ h (fs ++ now-plain ∷ [])) b
+        on-full b = ap (byAct _ _ _ _) a ∙ full-up (kindIn h (kindLine + j)) (λ s′. figures s′ h (fs ++ now-plain ∷ [])) b
 
       -- ── a figure that is a block ──
       module _ (i j : ℕ) (v : Value) (a : did ≡ begin i j v) where
@@ -255,16 +256,16 @@ module _ (c : Digits) (spool : List ℕ) (k : ℕ) (FileHere : Desk → Set → 
           → t₁ ≡ figureAt (d .now) w (blockKind (d .now .layered) 1) (homeRule (d .now .layered) range j) v (d .table) → m₁ ≡ d .marks → i₁ ≡ d .inner → Out (S.Go (figureOpened (d .now) 1))
       on-chain j v a b q qm qi =
           let n : Now = figureOpened (d .now) 1 in
-          let st′ : State = successive (withRecords 1 s) h fs (l .line) [] in
+          let st′ : State = successive (withRecords (kindIn h kindSuccessive ∷ []) s) h fs (l .line) [] in
           let made : List ℤ = start (14 + homeMore h) (homeOwner s h) (homeVolume s h) (l .line) in
           subst (λ (y : List Bool). StepOut c spool k FileHere e l to st (deskWith d (d .now) y i₁ t₁) (S.Go n)) (sym qm)
           (subst (λ (y : List Bool). StepOut c spool k FileHere e l to st (deskWith d (d .now) (d .marks) y t₁) (S.Go n)) (sym qi) (
             st′,
-            ap (byAct _ _ _ _) a ∙ fits-still b (λ s′. successive s′ h fs (l .line) []),
-            stands-on c spool k FileHere d at to st st′ z n (d .marks) (d .inner) t₁ (chain-sight s h fs (l .line)) (z .lengths .marks) (z .lengths .inner)
-                (more b made (soFar c st′) (put-begun 1 j v a b (14 + homeMore h) (chain-kind h) q) refl (chain-begun c s h fs (l .line)))
+            ap (byAct _ _ _ _) a ∙ fits-still b (kindIn h kindSuccessive) (λ s′. successive s′ h fs (l .line) []),
+            stands-on c spool k FileHere d at to st st′ z n (d .marks) (d .inner) t₁ (chain-sight (kindIn h kindSuccessive) s h fs (l .line)) (z .lengths .marks) (z .lengths .inner)
+                (more b made (soFar c st′) (put-begun 1 j v a b (14 + homeMore h) (chain-kind h) q) refl (chain-begun (kindIn h kindSuccessive) c s h fs (l .line)))
                 (omega (arith, z .taken)) (omega (arith, z .counted, later)) (omega (arith, z .named, later)) (omega (arith, z .numbered, later))
-                (refl, record { home = home-on spool k (d .now) n (d .marks) (d .inner) (d .inner) s 1 h refl refl refl home; figures = z .block .2; points = refl; few = omega arith }),
+                (refl, record { home = home-on spool k (d .now) n (d .marks) (d .inner) (d .inner) s (kindIn h kindSuccessive ∷ []) h refl refl refl home; figures = z .block .2; points = refl; few = omega arith }),
           ))
 
       -- a text
@@ -274,16 +275,16 @@ module _ (c : Digits) (spool : List ℕ) (k : ℕ) (FileHere : Desk → Set → 
       on-text j v a b q qm qi =
           let n : Now = figureOpened (d .now) 2 in
           let o = blank (textTable (isLayer h) 4 12) in
-          let st′ : State = texts (withRecords 1 s) h fs (l .line) o in
+          let st′ : State = texts (withRecords (kindIn h kindText ∷ []) s) h fs (l .line) o in
           let made : List ℤ = start (15 + homeMore h) (homeOwner s h) (homeVolume s h) (l .line) in
           let i : i₁ ≡ rowsThere o = qi ∙ two-unmarked (isLayer h) (d .inner) (z .lengths .inner) in
           subst (λ (y : List Bool). StepOut c spool k FileHere e l to st (deskWith d (d .now) y i₁ t₁) (S.Go n)) (sym qm) (
             st′,
-            ap (byAct _ _ _ _) a ∙ fits-still b (λ s′. texts s′ h fs (l .line) o),
-            stands-on c spool k FileHere d at to st st′ z n (d .marks) i₁ t₁ (text-sight s h fs (l .line)) (z .lengths .marks) (ap length i ∙ marks-length o ∙ two-slots (isLayer h))
-                (more b made (soFar c st′) (put-begun 2 j v a b (15 + homeMore h) (text-kind h) q) refl (texts-begun c s h fs (l .line)))
+            ap (byAct _ _ _ _) a ∙ fits-still b (kindIn h kindText) (λ s′. texts s′ h fs (l .line) o),
+            stands-on c spool k FileHere d at to st st′ z n (d .marks) i₁ t₁ (text-sight (kindIn h kindText) s h fs (l .line)) (z .lengths .marks) (ap length i ∙ marks-length o ∙ two-slots (isLayer h))
+                (more b made (soFar c st′) (put-begun 2 j v a b (15 + homeMore h) (text-kind h) q) refl (texts-begun (kindIn h kindText) c s h fs (l .line)))
                 (omega (arith, z .taken)) (omega (arith, z .counted, later)) (omega (arith, z .named, later)) (omega (arith, z .numbered, later))
-                (refl, home-on spool k (d .now) n (d .marks) (d .inner) i₁ s 1 h refl refl refl home, z .block .2, two-slots (isLayer h), i),
+                (refl, home-on spool k (d .now) n (d .marks) (d .inner) i₁ s (kindIn h kindText ∷ []) h refl refl refl home, z .block .2, two-slots (isLayer h), i),
           )
 
       -- no room for its record
@@ -292,10 +293,10 @@ module _ (c : Digits) (spool : List ℕ) (k : ℕ) (FileHere : Desk → Set → 
         where
           go : (i : ℕ) (y : Home) → 1 ≤ i → i ≤ mostBlock y → openFigure e l s y fs i ≡ bad 19
           go zero y p q = absurd (omega (arith, p))
-          go (suc zero) y p q = full-up (λ s′. successive s′ y fs (l .line) []) b
-          go (suc (suc zero)) y p q = full-up (λ s′. texts s′ y fs (l .line) (blank (textTable (isLayer y) 4 12))) b
+          go (suc zero) y p q = full-up (kindIn y kindSuccessive) (λ s′. successive s′ y fs (l .line) []) b
+          go (suc (suc zero)) y p q = full-up (kindIn y kindText) (λ s′. texts s′ y fs (l .line) (blank (textTable (isLayer y) 4 12))) b
           go (suc (suc (suc i))) (inElement o) p q = absurd (omega (arith, q))
-          go (suc (suc (suc i))) (inLayer m) p q = full-up (λ s′. placing s′ m fs (l .line) (blankHeld placedTables) 0) b
+          go (suc (suc (suc i))) (inLayer m) p q = full-up kindPlaced (λ s′. placing s′ m fs (l .line) (symbolBlock (blankHeld placedTables)) 0) b
 
   -- ── in a layer ──
   module _ (m : ℕ) (z : Stands c spool k d (FileHere d) at (figures s (inLayer m) fs)) (m₁ i₁ : List Bool) (t₁ : List ℤ) where
@@ -309,7 +310,7 @@ module _ (c : Digits) (spool : List ℕ) (k : ℕ) (FileHere : Desk → Set → 
     on-placed j v a b q qm qi =
         let n : Now = figureOpened (d .now) 3 in
         let o : Held = blankHeld placedTables in
-        let st′ : State = placing (withRecords 1 s) m fs (l .line) o 0 in
+        let st′ : State = placing (withRecords (kindPlaced ∷ []) s) m fs (l .line) (symbolBlock o) 0 in
         let r : Rule = opened h z m₁ i₁ t₁ 3 j v a .rule in
         let long : length (r .key) ≡ 8 =
         eqb-true (length (r .key)) 8
@@ -317,14 +318,14 @@ module _ (c : Digits) (spool : List ℕ) (k : ℕ) (FileHere : Desk → Set → 
         (row-all placedKey (opened h z m₁ i₁ t₁ 3 j v a .row) (placed-key s h))) in
         subst (λ (y : List Bool). StepOut c spool k FileHere e l to (figures s h fs) (deskWith d (d .now) m₁ y t₁) (S.Go n)) (sym qi) (
           st′,
-          ap (byAct _ _ _ _) a ∙ fits-still h z m₁ i₁ t₁ b (λ s′. placing s′ m fs (l .line) o 0),
-          stands-on c spool k FileHere d at to (figures s h fs) st′ z n m₁ (d .inner) t₁ (placed-sight s m fs (l .line)) (ap length qm ∙ length-replicate (length (d .marks)) false ∙ z .lengths .marks) (z .lengths .inner)
-              (more h z m₁ i₁ t₁ b (start 16 m (homeVolume s h) (l .line)) (soFar c st′) (put-begun h z m₁ i₁ t₁ 3 j v a b 16 refl q) refl (placed-so-far c s m fs (l .line)))
+          ap (byAct _ _ _ _) a ∙ fits-still h z m₁ i₁ t₁ b kindPlaced (λ s′. placing s′ m fs (l .line) (symbolBlock o) 0),
+          stands-on c spool k FileHere d at to (figures s h fs) st′ z n m₁ (d .inner) t₁ (placed-sight kindPlaced s m fs (l .line)) (ap length qm ∙ length-replicate (length (d .marks)) false ∙ z .lengths .marks) (z .lengths .inner)
+              (more h z m₁ i₁ t₁ b (start 16 m (homeVolume s h) (l .line)) (soFar c st′) (put-begun h z m₁ i₁ t₁ 3 j v a b 16 refl q) refl (placed-so-far kindPlaced c s m fs (l .line)))
               (omega (arith, z .taken)) (omega (arith, z .counted, later)) (omega (arith, z .named, later))
-              (omega (arith, z .numbered, x .bytes, opener-size h z m₁ i₁ t₁ 3 j v a, long, placed-bytes (withRecords 1 s) m fs (l .line))) (
+              (omega (arith, z .numbered, x .bytes, opener-size h z m₁ i₁ t₁ 3 j v a, long, placed-bytes (withRecords (kindPlaced ∷ []) s) m fs (l .line))) (
                 refl,
                 record {
-                  home = home-on spool k (d .now) n (d .marks) (d .inner) (d .inner) s 1 h refl refl refl (z .block .1);
+                  home = home-on spool k (d .now) n (d .marks) (d .inner) (d .inner) s (kindPlaced ∷ []) h refl refl refl (z .block .1);
                   figures = z .block .2;
                   part = refl;
                   parts = omega arith;

@@ -17,7 +17,7 @@ use Rattle.rules.specs.Rows.{Rule, Held, rowsAtLimit, Act, stay, entry, begin, 
 use Rattle.rules.specs.Figures.{pointTable}
 use Rattle.rules.specs.Sets.{Point, Symbol, Set, knownOf, withRecords, symbolHidden}
 use Rattle.rules.specs.Machine.{Line, Env, State, symbol, hide, byAct, pointAt}
-use Rattle.rules.specs.RecordTable.{pointRecords, innerRecords}
+use Rattle.rules.specs.RecordTable.{pointRecords, innerRecords, kindHidden}
 use Rattle.rules.proofs.Chains.{clash}
 use Rattle.tables.specs.Tables.{tableOf}
 use Rattle.account.specs.declared.Where.{Where}
@@ -80,7 +80,7 @@ module _ (c : Digits) (spool : List ℕ) (k : ℕ) (FileHere : Desk → Set → 
       p = pointAt l v
 
       abbrev st′ : State
-      st′ = hide (withRecords 1 s) y (ps ++ p ∷ [])
+      st′ = hide (withRecords (kindHidden ∷ []) s) y (ps ++ p ∷ [])
 
       module _ (b : hasRoom (d .now .free) (d .table) ≡ true) (q : t₁ ≡ pointPut (d .now) 43 15 w j v (d .table)) where
         grown : soFar c st ++ pointRecords 43 owner 1 (p ∷ []) ≡ soFar c st′
@@ -102,7 +102,7 @@ module _ (c : Digits) (spool : List ℕ) (k : ℕ) (FileHere : Desk → Set → 
               (omega (arith, z .taken)) (omega (arith, z .counted, later)) (omega (arith, z .named, later)) (omega (arith, z .numbered, later)) (
                 z .block .0,
                 record {
-                  in-symbol = symbol-on spool k (d .now) (morePoints (d .now)) (d .marks) (d .inner) (d .inner) s 1 y refl refl (inh .in-symbol);
+                  in-symbol = symbol-on spool k (d .now) (morePoints (d .now)) (d .marks) (d .inner) (d .inner) s (kindHidden ∷ []) y refl refl (inh .in-symbol);
                   points = ap (λ (m : ℕ). m + 1) (inh .points) ∙ sym (length-append ps (p ∷ []));
                   few = omega (arith, point-few false (knownOf s) (length ps) (l .form) j v a, length-append ps (p ∷ []));
                   hidden = inh .hidden;

@@ -23,9 +23,9 @@ module _ (spool : List ℕ) (k : ℕ) (n : Now) (ms is : List Bool) (s : Set) wh
   home-volume (inLayer m) x = x .0
 
 -- ── from line to line ──
-module _ (spool : List ℕ) (k : ℕ) (n n′ : Now) (ms is is′ : List Bool) (s : Set) (m : ℕ) where
+module _ (spool : List ℕ) (k : ℕ) (n n′ : Now) (ms is is′ : List Bool) (s : Set) (ks : List ℕ) where
   -- records taken, and another place in the same symbol
-  pub symbol-on : (y : Symbol) → n′ .owner ≡ n .owner → n′ .own ≡ n .own → InSymbol spool k n ms is s y → InSymbol spool k n′ ms is′ (withRecords m s) y
+  pub symbol-on : (y : Symbol) → n′ .owner ≡ n .owner → n′ .own ≡ n .own → InSymbol spool k n ms is s y → InSymbol spool k n′ ms is′ (withRecords ks s) y
   symbol-on y a b x = record {
     phase = record { volume = x .phase .volume; first = x .phase .first; blocks = x .phase .blocks };
     owner = a ∙ x .owner;
@@ -39,7 +39,7 @@ module _ (spool : List ℕ) (k : ℕ) (n n′ : Now) (ms is is′ : List Bool) (
     hide-first = x .hide-first;
   }
 
-  pub home-on : (h : Home) → n′ .layered ≡ n .layered → n′ .owner ≡ n .owner → n′ .own ≡ n .own → InHome spool k n ms is s h → InHome spool k n′ ms is′ (withRecords m s) h
+  pub home-on : (h : Home) → n′ .layered ≡ n .layered → n′ .owner ≡ n .owner → n′ .own ≡ n .own → InHome spool k n ms is s h → InHome spool k n′ ms is′ (withRecords ks s) h
   home-on (inElement y) l a b x = (symbol-on y a b (x .0), l ∙ x .1, x .2, x .3, x .4)
   home-on (inLayer i) l a b x = (x .0, l ∙ x .1, a ∙ x .2, x .3)
 

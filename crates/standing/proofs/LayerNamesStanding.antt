@@ -21,7 +21,7 @@ use Rattle.rules.specs.Blocks.{mostLayers}
 use Rattle.rules.specs.Sets.{Layer, Drawing, Set, withLayer, withRecords}
 use Rattle.rules.specs.Machine.{Line, Env, State, drawing, layerNames, roomFor, layerValue, onLayerNames}
 use Rattle.rules.specs.LineByLine.{stepIn}
-use Rattle.rules.specs.RecordTable.{numbers, padded, start, layerRecord}
+use Rattle.rules.specs.RecordTable.{numbers, padded, start, layerRecord, kindLayer}
 use Rattle.rules.proofs.Chains.{unless-got, then-got, map-append}
 use Rattle.entries.specs.Names.{namesIn}
 use Rattle.account.specs.declared.Where.{Where}
@@ -145,7 +145,7 @@ module _ (c : Digits) (spool : List ℕ) (k : ℕ) (FileHere : Desk → Set → 
       layer v = record { line = l .line; id = id; name = v }
 
       abbrev next : Value → State
-      next v = layerNames (withRecords 1 s) (withLayer (layer v) g)
+      next v = layerNames (withRecords (kindLayer ∷ []) s) (withLayer (layer v) g)
 
       abbrev names : List (List ℕ)
       names = map (λ (y : Layer). y .id) (g .layers)

@@ -14,10 +14,11 @@ use Rattle.rules.specs.RangeClass.{digits, digitsOf}
 use Rattle.rules.specs.Values.{nums}
 use Rattle.rules.specs.Rows.{Rule, Held, partOf, numberOf}
 use Rattle.rules.specs.Blocks.{symbolTable, elecTable}
-use Rattle.rules.specs.Figures.{layerTable, figureTable, pointTable}
-use Rattle.rules.specs.Sets.{Point, Figure, Layer, Drawing, Symbol, LayerBlock, Contents, Set, isFirst, rangeOf, isSingle, symbolRange, withBlock, withRecords, withVolume, withSymbol, withLayer, symbolFigures, symbolHidden, firstContents, headOr}
+use Rattle.rules.specs.Figures.{layerTable, pointTable}
+use Rattle.rules.specs.Sets.{Point, Figure, Layer, Drawing, Symbol, LayerBlock, Contents, Set, isFirst, symbolRange, withBlock, withRecords, withVolume, withSymbol, withLayer, symbolFigures, symbolHidden, firstContents, headOr}
 use Rattle.rules.specs.Machine.{Home, inElement, inLayer}
 use Rattle.rules.specs.RecordTable.{putSlot, putSlots, ruleAt, start, fileRecords, drawingRecord, layerRecord, layerRecords, pointRecords, figureRecords, innerRecords, symbolRecords, blockRecords, bodyRecords, laterRecords, recordsFrom}
+use Rattle.rules.specs.RecordTable.{View, viewOf, plainView}
 use Rattle.rules.proofs.Chains.{flat-append, map-append}
 use Rattle.standing.specs.SoFar.{volumeOf, closedRecords, sheetRecords, frontRecords, baseRecords, layersRecords, symbolSoFar, homeRecords, homeFigure, figuresSoFar}
 
@@ -73,7 +74,7 @@ symbol-more s y =
 -- its `element` closed, where it had none: in the order written
 module _ (n : ℕ) (y : Symbol) where
   abbrev pub shown : List Figure → Records
-  shown fs = flat (map (figureRecords (digits 0 0) (digits 0 0) figureTable 20 n 1) fs)
+  shown fs = flat (map (figureRecords plainView 20 n 1) fs)
 
   abbrev pub inOrder : Bool → Records → Records → Records
   inOrder b a h = cond b (h ++ a) (a ++ h)
@@ -121,28 +122,28 @@ base-block c u s false = ap (λ (r : Records). r ++ fileRecords false (volumeOf 
 
 -- the records of closed layers, by the file's E_sym
 abbrev pub layersBy : Digits → Set → List LayerBlock → ℕ → Records
-layersBy c s us n = flat (map (blockRecords c (digitsOf n) (layerTable (eqb n 1)) (volumeOf s)) us)
+layersBy c s us n = flat (map (blockRecords (record { class = c; symbols = digitsOf n; table = layerTable (eqb n 1) }) (volumeOf s)) us)
 
 pub layer-closed : (c : Digits) (u : LayerBlock) (s : Set) → layersRecords c (withBlock u s) ≡ layersRecords c s ++ flat (map (homeFigure c s (inLayer (u .layer))) (u .figures))
 layer-closed c u s =
     ap (λ (n : ℕ). baseRecords c (withBlock u s) (isFirst s) ++ layersBy c s (s .now .blocks ++ u ∷ []) n) (range-block u s)
     ∙ ap (λ (r : Records). r ++ layersBy c s (s .now .blocks ++ u ∷ []) (symbolRange s)) (base-block c u s (isFirst s))
-    ∙ ap (λ (r : Records). baseRecords c s (isFirst s) ++ r) (flat-map-more (blockRecords c (rangeOf s) (layerTable (isSingle s)) (volumeOf s)) (s .now .blocks) u)
+    ∙ ap (λ (r : Records). baseRecords c s (isFirst s) ++ r) (flat-map-more (blockRecords (viewOf c s) (volumeOf s)) (s .now .blocks) u)
     ∙ sym (append-assoc (baseRecords c s (isFirst s)) (layersBy c s (s .now .blocks) (symbolRange s)) (flat (map (homeFigure c s (inLayer (u .layer))) (u .figures))))
 
 -- ── a closed volume ──
-module _ (c d : Digits) (t : List Rule) where
+module _ (w : View) where
   pub later-more : (k : ℕ) (vs : List Contents) (v : Contents)
-      → laterRecords c d t k (vs ++ v ∷ []) ≡ laterRecords c d t k vs ++ (fileRecords false (k + length vs) v ++ bodyRecords c d t (k + length vs) v)
+      → laterRecords w k (vs ++ v ∷ []) ≡ laterRecords w k vs ++ (fileRecords false (k + length vs) v ++ bodyRecords w (k + length vs) v)
   later-more k [] v =
-      append-nil (fileRecords false k v ++ bodyRecords c d t k v) ∙ ap (λ (m : ℕ). fileRecords false m v ++ bodyRecords c d t m v) (up k)
+      append-nil (fileRecords false k v ++ bodyRecords w k v) ∙ ap (λ (m : ℕ). fileRecords false m v ++ bodyRecords w m v) (up k)
     where
       up : (k : ℕ) → k ≡ k + 0
       up k = omega arith
   later-more k (u ∷ vs) v =
-      ap (λ (r : Records). fileRecords false k u ++ bodyRecords c d t k u ++ r)
-      (later-more (suc k) vs v ∙ ap (λ (m : ℕ). laterRecords c d t (suc k) vs ++ (fileRecords false m v ++ bodyRecords c d t m v)) (along k (length vs)))
-      ∙ sym (append-assoc (fileRecords false k u ++ bodyRecords c d t k u) (laterRecords c d t (suc k) vs) (fileRecords false (k + suc (length vs)) v ++ bodyRecords c d t (k + suc (length vs)) v))
+      ap (λ (r : Records). fileRecords false k u ++ bodyRecords w k u ++ r)
+      (later-more (suc k) vs v ∙ ap (λ (m : ℕ). laterRecords w (suc k) vs ++ (fileRecords false m v ++ bodyRecords w m v)) (along k (length vs)))
+      ∙ sym (append-assoc (fileRecords false k u ++ bodyRecords w k u) (laterRecords w (suc k) vs) (fileRecords false (k + suc (length vs)) v ++ bodyRecords w (k + suc (length vs)) v))
     where
       along : (k n : ℕ) → suc k + n ≡ k + suc n
       along k n = omega arith
@@ -152,38 +153,37 @@ module _ (c : Digits) (d : Drawing) (ys : List Symbol) (now : Contents) (n : ℕ
   with vs = record { drawing = d; symbols = ys; volumes = vs; now = now; taken = n }
 
   abbrev first : Contents → List Contents → Records
-  first v vs = fileRecords true 1 v ++ (drawingRecord d ∷ layerRecords 0 (d .layers)) ++ symbolRecords 0 ys ++ bodyRecords c (rangeOf (with (v ∷ vs))) (layerTable (isSingle (with (v ∷ vs)))) 1 v
+  first v vs = fileRecords true 1 v ++ (drawingRecord d ∷ layerRecords 0 (d .layers)) ++ symbolRecords 0 ys ++ bodyRecords (viewOf c (with (v ∷ vs))) 1 v
 
   closed-with : (vs : List Contents) → closedRecords c (withVolume (with vs)) ≡ layersRecords c (with vs)
   closed-with [] = append-nil (layersRecords c (with []))
   closed-with (v ∷ vs) =
-      let e : Digits = rangeOf (with (v ∷ vs)) in
-      let t : List Rule = layerTable (isSingle (with (v ∷ vs))) in
+      let w : View = viewOf c (with (v ∷ vs)) in
       let k : ℕ = volumeOf (with (v ∷ vs)) in
       let up : 2 + length vs ≡ k = omega arith in
-      ap (λ (r : Records). first v vs ++ r) (later-more c e t 2 vs now ∙ ap (λ (m : ℕ). laterRecords c e t 2 vs ++ (fileRecords false m now ++ bodyRecords c e t m now)) up)
-      ∙ sym (append-assoc (first v vs) (laterRecords c e t 2 vs) (fileRecords false k now ++ bodyRecords c e t k now))
-      ∙ sym (append-assoc (first v vs ++ laterRecords c e t 2 vs) (fileRecords false k now) (bodyRecords c e t k now))
+      ap (λ (r : Records). first v vs ++ r) (later-more w 2 vs now ∙ ap (λ (m : ℕ). laterRecords w 2 vs ++ (fileRecords false m now ++ bodyRecords w m now)) up)
+      ∙ sym (append-assoc (first v vs) (laterRecords w 2 vs) (fileRecords false k now ++ bodyRecords w k now))
+      ∙ sym (append-assoc (first v vs ++ laterRecords w 2 vs) (fileRecords false k now) (bodyRecords w k now))
 
 pub volume-closed : (c : Digits) (s : Set) → closedRecords c (withVolume s) ≡ layersRecords c s
 volume-closed c s = closed-with c (s .drawing) (s .symbols) (s .now) (s .taken) (s .volumes)
 
 -- ── how many records were taken says nothing of what they are ──
-from-taken : (c : Digits) (s : Set) (m : ℕ) (vs : List Contents) → recordsFrom c (withRecords m s) vs ≡ recordsFrom c s vs
-from-taken c s m [] = refl
-from-taken c s m (v ∷ vs) = refl
+from-taken : (c : Digits) (s : Set) (ks : List ℕ) (vs : List Contents) → recordsFrom c (withRecords ks s) vs ≡ recordsFrom c s vs
+from-taken c s ks [] = refl
+from-taken c s ks (v ∷ vs) = refl
 
-pub closed-taken : (c : Digits) (s : Set) (m : ℕ) → closedRecords c (withRecords m s) ≡ closedRecords c s
-closed-taken c s m = from-taken c s m (s .volumes)
+pub closed-taken : (c : Digits) (s : Set) (ks : List ℕ) → closedRecords c (withRecords ks s) ≡ closedRecords c s
+closed-taken c s ks = from-taken c s ks (s .volumes)
 
-base-taken : (c : Digits) (s : Set) (m : ℕ) (b : Bool) → baseRecords c (withRecords m s) b ≡ baseRecords c s b
-base-taken c s m true = refl
-base-taken c s m false = ap (λ (r : Records). r ++ fileRecords false (volumeOf s) (s .now)) (closed-taken c s m)
+base-taken : (c : Digits) (s : Set) (ks : List ℕ) (b : Bool) → baseRecords c (withRecords ks s) b ≡ baseRecords c s b
+base-taken c s ks true = refl
+base-taken c s ks false = ap (λ (r : Records). r ++ fileRecords false (volumeOf s) (s .now)) (closed-taken c s ks)
 
-pub layers-taken : (c : Digits) (s : Set) (m : ℕ) → layersRecords c (withRecords m s) ≡ layersRecords c s
-layers-taken c s m =
-    ap (λ (r : Records). r ++ bodyRecords c (rangeOf s) (layerTable (isSingle s)) (volumeOf s) (s .now)) (base-taken c s m (isFirst s))
+pub layers-taken : (c : Digits) (s : Set) (ks : List ℕ) → layersRecords c (withRecords ks s) ≡ layersRecords c s
+layers-taken c s ks =
+    ap (λ (r : Records). r ++ bodyRecords (viewOf c s) (volumeOf s) (s .now)) (base-taken c s ks (isFirst s))
 
-pub figures-taken : (c : Digits) (s : Set) (m : ℕ) (h : Home) (fs : List Figure) → figuresSoFar c (withRecords m s) h fs ≡ figuresSoFar c s h fs
-figures-taken c s m (inElement y) fs = refl
-figures-taken c s m (inLayer i) fs = ap (λ (r : Records). r ++ flat (map (homeFigure c s (inLayer i)) fs)) (layers-taken c s m)
+pub figures-taken : (c : Digits) (s : Set) (ks : List ℕ) (h : Home) (fs : List Figure) → figuresSoFar c (withRecords ks s) h fs ≡ figuresSoFar c s h fs
+figures-taken c s ks (inElement y) fs = refl
+figures-taken c s ks (inLayer i) fs = ap (λ (r : Records). r ++ flat (map (homeFigure c s (inLayer i)) fs)) (layers-taken c s ks)

@@ -8,6 +8,7 @@ use Rattle.rules.specs.declared.Digits.{Digits}
 use Rattle.rules.specs.Rows.{Slots, Held}
 use Rattle.rules.specs.Sets.{Point, Figure, Drawing, Symbol, Set}
 use Rattle.rules.specs.Machine.{Home, State, top, file, drawing, layerNames, defines, symbol, hide, elements, figures, successive, texts, placing, skipping, ended}
+use Rattle.rules.specs.Machine.{symbolBlock}
 use Rattle.standing.specs.Standing.{Desk, Inside}
 
 pub data AtTop : State → Type 0 where
@@ -44,7 +45,7 @@ pub data InAText : State → Type 0 where
   here : (s : Set) (h : Home) (fs : List Figure) (n : ℕ) (o : Slots) → InAText (texts s h fs n o)
 
 pub data InAPlaced : State → Type 0 where
-  here : (s : Set) (m : ℕ) (fs : List Figure) (n : ℕ) (o : Held) (p : ℕ) → InAPlaced (placing s m fs n o p)
+  here : (s : Set) (m : ℕ) (fs : List Figure) (n : ℕ) (o : Held) (p : ℕ) → InAPlaced (placing s m fs n (symbolBlock o) p)
 
 -- the blocks by their numbers; behind EOF none is open
 abbrev Open : ℕ → State → Type 0
@@ -63,7 +64,7 @@ module _ (c : Digits) (spool : List ℕ) (k : ℕ) (d : Desk) (F : Set → ℕ �
   open-block (figures s h fs) i = subst (λ (block : ℕ). Open block (figures s h fs)) (sym (i .0)) (here s h fs)
   open-block (successive s h fs n ps) i = subst (λ (block : ℕ). Open block (successive s h fs n ps)) (sym (i .0)) (here s h fs n ps)
   open-block (texts s h fs n o) i = subst (λ (block : ℕ). Open block (texts s h fs n o)) (sym (i .0)) (here s h fs n o)
-  open-block (placing s m fs n o p) i = subst (λ (block : ℕ). Open block (placing s m fs n o p)) (sym (i .0)) (here s m fs n o p)
+  open-block (placing s m fs n (symbolBlock o) p) i = subst (λ (block : ℕ). Open block (placing s m fs n (symbolBlock o) p)) (sym (i .0)) (here s m fs n o p)
   open-block (skipping s m fs n o p) i = absurd i
   open-block (ended s) i = subst (λ (block : ℕ). Open block (ended s)) (sym i) tt
 

@@ -21,7 +21,7 @@ use Rattle.rules.specs.Values.{serialsOf as numbersOf}
 use Rattle.rules.specs.Rows.{Rule, found, find, Slots, Held, partOf, enter, rowsThere, slotValue, shapeFor, innerOf, Act, stay, entry, begin, shut, refuse, actRow, actFound, act}
 use Rattle.rules.specs.Figures.{placedTable, placedTables}
 use Rattle.rules.specs.Sets.{Figure, ownSerial, Set, rangeOf, knownOf}
-use Rattle.rules.specs.Machine.{Line, Env, inLayer, State, placing, byAct}
+use Rattle.rules.specs.Machine.{Line, Env, inLayer, State, placing, byAct, symbolBlock}
 use Rattle.rules.specs.PlacedSymbol.{noneOf, newSerial, onPlaced}
 use Rattle.rules.specs.LineByLine.{stepIn}
 use Rattle.rules.specs.RecordTable.{ruleAt, putHeld}
@@ -61,9 +61,9 @@ one-of n used = go (hasNumber n used)
     go false = refl
 
 module _ (c : Digits) (spool : List ℕ) (k : ℕ) (FileHere : Desk → Set → ℕ → Held → ℕ → Type 0) (d : Desk) (at to : ℕ) (e : Env) (l : Line) (w : Where) (form : LineForm) (u : Under c d e)
-    (x : LineHere spool k at to form w l) (s : Set) (m : ℕ) (fs : List Figure) (n : ℕ) (o : Held) (z : Stands c spool k d (FileHere d) at (placing s m fs n o 0)) where
+    (x : LineHere spool k at to form w l) (s : Set) (m : ℕ) (fs : List Figure) (n : ℕ) (o : Held) (z : Stands c spool k d (FileHere d) at (placing s m fs n (symbolBlock o) 0)) where
   abbrev st : State
-  st = placing s m fs n o 0
+  st = placing s m fs n (symbolBlock o) 0
 
   abbrev full : List Bool
   full = rowsThere (partOf o 0)
@@ -121,7 +121,7 @@ module _ (c : Digits) (spool : List ℕ) (k : ℕ) (FileHere : Desk → Set → 
     o′ = enter o 0 5 v
 
     abbrev st′ : State
-    st′ = placing s m fs n o′ 0
+    st′ = placing s m fs n (symbolBlock o′) 0
 
     none-yet : serialsOf st ≡ serialsWith s fs
     none-yet =
@@ -239,7 +239,7 @@ module _ (c : Digits) (spool : List ℕ) (k : ℕ) (FileHere : Desk → Set → 
             record-entered c spool k FileHere d at to s m fs n o 0 z 0 i v rec₁ (omega arith) taken placed-places (q ∙ ap (λ (t : List Rule). putLine (ruleAt t i) 0 v rec₀) placed-rows)
 
         abbrev st″ : State
-        st″ = placing s m fs n (enter o 0 i v) 0
+        st″ = placing s m fs n (symbolBlock (enter o 0 i v)) 0
 
         -- `symbol=` is paid by its line
         paid : at + rowBytes 17 (getD (partOf (enter o 0 i v) 0) 0 none) ≤ to + rowBytes 17 (getD (partOf o 0) 0 none)
@@ -322,8 +322,8 @@ module _ (c : Digits) (spool : List ℕ) (k : ℕ) (FileHere : Desk → Set → 
           on-new b y = (
             st″,
             h ∙ ap (byAct _ _ _ _) a ∙ ap (λ (t : Bool). unless t 15 (got st″)) (new-so ∙ ap not (sym used-so ∙ b)),
-            subst (λ (t : ℕ). StandsAt c spool k FileHere (deskNow (lentDesk d x₁ rec₁) (d .now)) to (placing s m fs n (enter o 0 t v) 0)) (sym five)
-                (subst (λ (t : Lent). StandsAt c spool k FileHere (deskNow (lentDesk d t rec₁) (d .now)) to (placing s m fs n (enter o 0 5 v) 0)) (sym y)
+            subst (λ (t : ℕ). StandsAt c spool k FileHere (deskNow (lentDesk d x₁ rec₁) (d .now)) to (placing s m fs n (symbolBlock (enter o 0 t v)) 0)) (sym five)
+                (subst (λ (t : Lent). StandsAt c spool k FileHere (deskNow (lentDesk d t rec₁) (d .now)) to (placing s m fs n (symbolBlock (enter o 0 5 v)) 0)) (sym y)
                 (serial-stands v own (linked-so .1) (linked-so .2) free size rec₁ (put-entry ∙ ap (λ (t : ℕ). putHeld placedTables (enter o 0 t v) begun₀) five))),
           )
 
@@ -361,9 +361,9 @@ module _ (c : Digits) (spool : List ℕ) (k : ℕ) (FileHere : Desk → Set → 
           ap (λ (t : Slots). isNone (getD t 1 none)) own ∙ ap (λ (t : ℕ). isNone (getD (set (partOf o 0) t (some v)) 1 none)) one
           ∙ ap isNone (getD-set-same (partOf o 0) 1 (some v) none (omega (arith, six))) in
           let free : isNone (getD (partOf o 0) 1 none) ≡ true = ap (λ (t : ℕ). isNone (getD (partOf o 0) t none)) (sym one) ∙ ap isNone (mark-free (partOf o 0) j (taken .free)) in (
-            placing s m fs n o′ 1,
-            h ∙ ap (byAct _ _ _ _) a ∙ ap (λ (t : ℕ). got (placing s m fs n o′ t)) part-so,
-            subst (λ (t : Lent). StandsAt c spool k FileHere (deskNow (lentDesk d t rec₁) (atBlock (d .now) 11 1)) to (placing s m fs n o′ 1)) (sym y)
+            placing s m fs n (symbolBlock o′) 1,
+            h ∙ ap (byAct _ _ _ _) a ∙ ap (λ (t : ℕ). got (placing s m fs n (symbolBlock o′) t)) part-so,
+            subst (λ (t : Lent). StandsAt c spool k FileHere (deskNow (lentDesk d t rec₁) (atBlock (d .now) 11 1)) to (placing s m fs n (symbolBlock o′) 1)) (sym y)
                 (placing-on c spool k FileHere d at to s m fs n o 0 z (atBlock (d .now) 11 1) (set (d .marks) j true) (replicate (length (d .inner)) false) rec₁ o′ 1 later (omega (arith, later, ap (rowBytes 17) (other-slot j 0 v (λ t. omega (arith, t, one))))) refl
                 (length-set (d .marks) j true ∙ z .lengths .marks) (length-replicate (length (d .inner)) false ∙ z .lengths .inner)
                 (record-entered c spool k FileHere d at to s m fs n o 0 z 0 j v rec₁ (omega arith) taken placed-places (q ∙ ap (λ (t : List Rule). putLine (ruleAt t j) 0 v rec₀) placed-rows))

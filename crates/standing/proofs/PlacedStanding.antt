@@ -18,10 +18,10 @@ use Rattle.rules.specs.Values.{Known}
 use Rattle.rules.specs.Rows.{Rule, Found, absent, found, find, Held, partOf, rowsThere, shut, refuse, orRefuse, actRow, actUnknown, complete}
 use Rattle.rules.specs.Figures.{placedTable, placedTables}
 use Rattle.rules.specs.Sets.{Figure, placed, figureSerial, Set, rangeOf, knownOf, serialsIn}
-use Rattle.rules.specs.Machine.{Line, Env, inLayer, State, figures, placing, skipping, byAct}
+use Rattle.rules.specs.Machine.{Line, Env, inLayer, State, figures, placing, skipping, byAct, symbolBlock}
 use Rattle.rules.specs.PlacedSymbol.{bySkip, skipDeeper, onUnknown, onPlaced, onPlacedKey, onPlacedOwn}
 use Rattle.rules.specs.LineByLine.{stepIn}
-use Rattle.rules.specs.RecordTable.{putHeld, markUnread, placedRecord}
+use Rattle.rules.specs.RecordTable.{putHeld, markUnread, placedRecord, viewOf}
 use Rattle.tables.specs.Tables.{tableOf}
 use Rattle.entries.specs.Names.{knownIn}
 use Rattle.account.specs.declared.Where.{Where}
@@ -29,7 +29,7 @@ use Rattle.account.specs.declared.Step.{Step}
 use Rattle.account.specs.declared.Step.the-variants as S
 use Rattle.account.specs.Records.{partAt, withPart}
 use Rattle.account.specs.Account.{figureDone}
-use Rattle.account.specs.SkippedLines.{skippedAs}
+use Rattle.account.specs.SkippedLines.{skippedAs, inOwned}
 use Rattle.standing.specs.SoFar.{volumeOf, figuresSoFar, soFar}
 use Rattle.account.specs.PlacedLines.{Lent, skipStep, unknownStep, FoundLine, KeyLine, isWhole, OwnLine, PlacedLine}
 use Rattle.standing.specs.Standing.{Desk, formSize, usedOf, rowBytes, InPlaced, Stands, deskNow, Under, LineHere, StandsAt, StepOut}
@@ -44,9 +44,9 @@ use Rattle.standing.proofs.PlacedTextStanding.{text-line}
 use Rattle.standing.proofs.PlacedKeyStanding.{same-stands, row-line}
 
 -- the closed symbol's serial number is that of a figure of the layer
-closed-sight : (s : Set) (m : ℕ) (fs : List Figure) (n : ℕ) (o : Held) → sight (placing s m fs n o 0) ≡ sight (figures s (inLayer m) (fs ++ placed n o ∷ []))
+closed-sight : (s : Set) (m : ℕ) (fs : List Figure) (n : ℕ) (o : Held) → sight (placing s m fs n (symbolBlock o) 0) ≡ sight (figures s (inLayer m) (fs ++ placed n o ∷ []))
 closed-sight s m fs n o =
-    ap (λ (u : List ℕ). record { set = sight (placing s m fs n o 0) .set; layers = s .drawing .layers; serials = u; used = usedOf (placing s m fs n o 0); inside = true; counts = true })
+    ap (λ (u : List ℕ). record { set = sight (placing s m fs n (symbolBlock o) 0) .set; layers = s .drawing .layers; serials = u; used = usedOf (placing s m fs n (symbolBlock o) 0); inside = true; counts = true })
     (append-assoc (serialsIn s) (flat (map figureSerial fs)) (figureSerial (placed n o)) ∙ ap (λ (u : List ℕ). serialsIn s ++ u) (sym (flat-map-more figureSerial fs (placed n o))))
 
 module _ (c : Digits) (spool : List ℕ) (k : ℕ) (FileHere : Desk → Set → ℕ → Held → ℕ → Type 0) (d : Desk) (at to : ℕ) (e : Env) (l : Line) (w : Where) (form : LineForm) (u : Under c d e)
@@ -62,9 +62,9 @@ module _ (c : Digits) (spool : List ℕ) (k : ℕ) (FileHere : Desk → Set → 
   rec₀ = partAt (d .now .free - 32) (d .table)
 
   -- ── directly in the block ──
-  module _ (z : Stands c spool k d (FileHere d) at (placing s m fs n o 0)) (x₁ : Lent) (rec₁ : List ℤ) where
+  module _ (z : Stands c spool k d (FileHere d) at (placing s m fs n (symbolBlock o) 0)) (x₁ : Lent) (rec₁ : List ℤ) where
     abbrev st : State
-    st = placing s m fs n o 0
+    st = placing s m fs n (symbolBlock o) 0
 
     abbrev Out : Step → Type 0
     Out r = StepOut c spool k FileHere e l to st (lentDesk d x₁ rec₁) r
@@ -78,7 +78,7 @@ module _ (c : Digits) (spool : List ℕ) (k : ℕ) (FileHere : Desk → Set → 
     -- ── a key that the class doesn't know ──
     module _ (key : List ℕ) (rest : Rest) (h : stepIn e l st ≡ onUnknown e s m fs n o key rest) (y : x₁ ≡ lentOf d) (q : rec₁ ≡ rec₀) where
       abbrev skipping₁ : Got State
-      skipping₁ = skipDeeper 0 (skipping s m fs n o 1)
+      skipping₁ = skipDeeper 0 (skipping s m fs n (symbolBlock o) 1)
 
       abbrev refused : Got State
       refused = byAct st (λ j v. bad 6) (λ i j v. bad 6) (λ _. bad 6) (actUnknown rest)
@@ -88,7 +88,7 @@ module _ (c : Digits) (spool : List ℕ) (k : ℕ) (FileHere : Desk → Set → 
         where
           go : (t : Skip) → stepIn e l st ≡ bySkip t (got st) skipping₁ → Out (skipStep (d .now) (skippedAs t))
           go passes f = (st, f, as-before y q)
-          go deeper f = (s, m, fs, n, o, f, as-before y q)
+          go deeper f = (skipping s m fs n (symbolBlock o) 1, st, inOwned s m fs n (symbolBlock o), f, as-before y q)
           go noForm f = f
 
       by-form : (t : Bool) → hasForm (shapeOf rest) ≡ t → exceeds (rangeOf s) (e .class) ≡ false → Out (cond t (S.Stop 6) (S.Stop 5))
@@ -134,7 +134,7 @@ module _ (c : Digits) (spool : List ℕ) (k : ℕ) (FileHere : Desk → Set → 
       on-whole b y q =
           let st′ : State = figures s (inLayer m) (fs ++ placed n o ∷ []) in
           let begun₀ : List ℤ = begun c spool k FileHere d at to s m fs n o 0 z in
-          let made : List ℤ = placedRecord c (rangeOf s) 0 m (volumeOf s) n o in
+          let made : List ℤ = placedRecord (viewOf c s) 0 m (volumeOf s) n o in
           let put : rec₁ ≡ made =
           q ∙ ap (λ (i : Digits). markUnread c i placedTable rec₀) (range-is c spool k FileHere d at to s m fs n o 0 z)
           ∙ ap (markUnread c (rangeOf s) placedTable) (record-is c spool k FileHere d at to s m fs n o 0 z) in
@@ -192,13 +192,13 @@ module _ (c : Digits) (spool : List ℕ) (k : ℕ) (FileHere : Desk → Set → 
       own-line v = on-form (l .form) refl (subst (OwnLine known₀ c range₀ (d .now) (lentOf d) x₁ rec₀ rec₁ r) (sym (x .is)) v)
 
   -- ── in its text, or directly in it ──
-  pub placed-line : (p : ℕ) → Stands c spool k d (FileHere d) at (placing s m fs n o p) → (x₁ : Lent) (rec₁ : List ℤ) (r : Step)
+  pub placed-line : (p : ℕ) → Stands c spool k d (FileHere d) at (placing s m fs n (symbolBlock o) p) → (x₁ : Lent) (rec₁ : List ℤ) (r : Step)
       → PlacedLine known₀ c range₀ (d .now) (lentOf d) x₁ rec₀ rec₁ r (eqb (d .now .part) 1) (formIn spool form)
-      → StepOut c spool k FileHere e l to (placing s m fs n o p) (lentDesk d x₁ rec₁) r
+      → StepOut c spool k FileHere e l to (placing s m fs n (symbolBlock o) p) (lentDesk d x₁ rec₁) r
   placed-line zero z x₁ rec₁ r v =
       own-line z x₁ rec₁ r (subst (λ (i : ℕ). PlacedLine known₀ c range₀ (d .now) (lentOf d) x₁ rec₀ rec₁ r (eqb i 1) (formIn spool form)) (z .block .1 .part) v)
   placed-line (suc zero) z x₁ rec₁ r v =
       let y = subst (λ (i : ℕ). PlacedLine known₀ c range₀ (d .now) (lentOf d) x₁ rec₀ rec₁ r (eqb i 1) (formIn spool form)) (z .block .1 .part) v in
-      subst (λ (i : Lent). StepOut c spool k FileHere e l to (placing s m fs n o 1) (lentDesk d i rec₁) r) (sym (y .1))
+      subst (λ (i : Lent). StepOut c spool k FileHere e l to (placing s m fs n (symbolBlock o) 1) (lentDesk d i rec₁) r) (sym (y .1))
       (text-line c spool k FileHere d at to e l w form u x s m fs n o z (x₁ .inner) rec₁ r (y .0))
   placed-line (suc (suc p)) z x₁ rec₁ r v = absurd (omega (arith, z .block .1 .parts))

@@ -15,7 +15,7 @@ use Rattle.rules.specs.Values.{serialsOf as numbersOf}
 use Rattle.rules.specs.Rows.{Rule, Held, partOf, enter, rowsThere, slotValue}
 use Rattle.rules.specs.Figures.{placedTables}
 use Rattle.rules.specs.Sets.{Figure, ownSerial, Set, rangeOf}
-use Rattle.rules.specs.Machine.{inLayer, State, placing}
+use Rattle.rules.specs.Machine.{inLayer, State, placing, symbolBlock}
 use Rattle.rules.specs.RecordTable.{ruleAt, start, putHeld}
 use Rattle.entries.specs.Acts.{putLine}
 use Rattle.account.specs.declared.Now.{Now}
@@ -54,7 +54,7 @@ lentDesk d x u = record {
 }
 
 module _ (c : Digits) (spool : List ℕ) (k : ℕ) (FileHere : Desk → Set → ℕ → Held → ℕ → Type 0) (d : Desk) (at to : ℕ) (s : Set) (m : ℕ) (fs : List Figure) (n : ℕ) (o : Held) (p : ℕ)
-    (z : Stands c spool k d (FileHere d) at (placing s m fs n o p)) where
+    (z : Stands c spool k d (FileHere d) at (placing s m fs n (symbolBlock o) p)) where
   abbrev fore : List (List ℤ)
   fore = figuresSoFar c s (inLayer m) fs
 
@@ -96,10 +96,10 @@ module _ (c : Digits) (spool : List ℕ) (k : ℕ) (FileHere : Desk → Set → 
   pub placing-on : (now : Now) (ms is : List Bool) (u : List ℤ) (o′ : Held) (p′ : ℕ) → at ≤ to
       → at + rowBytes 17 (getD (partOf o′ 0) 0 none) ≤ to + rowBytes 17 (getD (partOf o 0) 0 none) → now .free ≡ d .now .free → length ms ≡ 28 → length is ≡ 2
       → u ≡ putHeld placedTables o′ begun → getD (partOf o 0) 5 none ≡ getD (partOf o′ 0) 5 none → now .block ≡ 11 → InPlaced spool k now ms is s m fs o′ p′
-      → Stands c spool k (deskWith d now ms is (withPart place u (d .table))) (FileHere (deskWith d now ms is (withPart place u (d .table)))) to (placing s m fs n o′ p′)
+      → Stands c spool k (deskWith d now ms is (withPart place u (d .table))) (FileHere (deskWith d now ms is (withPart place u (d .table)))) to (placing s m fs n (symbolBlock o′) p′)
   placing-on now ms is u o′ p′ later paid f lm li e same b w =
-      let st : State = placing s m fs n o p in
-      let st′ : State = placing s m fs n o′ p′ in
+      let st : State = placing s m fs n (symbolBlock o) p in
+      let st′ : State = placing s m fs n (symbolBlock o′) p′ in
       let seen : sight st ≡ sight st′ =
       ap (λ (y : List ℕ). record { set = sight st .set; layers = s .drawing .layers; serials = serialsWith s fs ++ y; used = sight st .used; inside = true; counts = true })
       (figure-serial n o ∙ ap (λ (y : Option Value). ownSerial (numbersOf (slotValue y))) same ∙ sym (figure-serial n o′)) in
@@ -111,7 +111,7 @@ module _ (c : Digits) (spool : List ℕ) (k : ℕ) (FileHere : Desk → Set → 
   -- what the code needs
   pub placed-ready : at ≤ 61440 → LentReady (lentOf d) (partAt place (d .table)) × (d .now .figures < 4294967295)
   placed-ready h =
-      let count : serialCount (d .tally) ≡ length (serialsOf (placing s m fs n o p)) = ap (λ (t : List ℕ). getD t 11 0) (z .tally) in (
+      let count : serialCount (d .tally) ≡ length (serialsOf (placing s m fs n (symbolBlock o) p)) = ap (λ (t : List ℕ). getD t 11 0) (z .tally) in (
         record {
           tally = ap length (z .tally);
           serials = omega (arith, count, z .numbered, z .lengths .serials, h);

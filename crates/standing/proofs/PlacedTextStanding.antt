@@ -18,7 +18,7 @@ use Rattle.rules.specs.Values.{Known, Value, serialsOf}
 use Rattle.rules.specs.Rows.{Rule, Slots, Held, partOf, enter, rowsThere, shapeFor, Act, stay, entry, begin, shut, refuse, act}
 use Rattle.rules.specs.Figures.{textTable, placedTables}
 use Rattle.rules.specs.Sets.{Figure, Set, knownOf, ownSerial}
-use Rattle.rules.specs.Machine.{Line, Env, inLayer, State, placing, byAct}
+use Rattle.rules.specs.Machine.{Line, Env, inLayer, State, placing, byAct, symbolBlock}
 use Rattle.rules.specs.PlacedSymbol.{noneOf}
 use Rattle.rules.specs.RecordTable.{ruleAt, putHeld}
 use Rattle.rules.proofs.Chains.{clash}
@@ -44,9 +44,9 @@ use Rattle.standing.proofs.PlacedTables.{begun, record-is, record-enter
 use Rattle.standing.proofs.HeldParts.{shaped-enter, enter-own, enter-other}
 
 module _ (c : Digits) (spool : List ℕ) (k : ℕ) (FileHere : Desk → Set → ℕ → Held → ℕ → Type 0) (d : Desk) (at to : ℕ) (e : Env) (l : Line) (w : Where) (form : LineForm) (u : Under c d e)
-    (x : LineHere spool k at to form w l) (s : Set) (m : ℕ) (fs : List Figure) (n : ℕ) (o : Held) (z : Stands c spool k d (FileHere d) at (placing s m fs n o 1)) where
+    (x : LineHere spool k at to form w l) (s : Set) (m : ℕ) (fs : List Figure) (n : ℕ) (o : Held) (z : Stands c spool k d (FileHere d) at (placing s m fs n (symbolBlock o) 1)) where
   abbrev st : State
-  st = placing s m fs n o 1
+  st = placing s m fs n (symbolBlock o) 1
 
   abbrev rows : List Rule
   rows = textTable true 16 24
@@ -112,8 +112,8 @@ module _ (c : Digits) (spool : List ℕ) (k : ℕ) (FileHere : Desk → Set → 
         let o′ : Held = enter o 1 j v in
         let own : partOf o′ 0 ≡ partOf o 0 = enter-other o 1 0 j v (λ y. omega (arith, y)) in
         let first : Slots → Option Value = λ y. getD y 1 none in (
-          placing s m fs n o′ 1,
-          ap (byAct _ _ _ _) a ∙ ap (λ (y : List ℕ). unless (noneOf (ownSerial y) (serialsWith s fs)) 15 (got (placing s m fs n o′ 1))) plain,
+          placing s m fs n (symbolBlock o′) 1,
+          ap (byAct _ _ _ _) a ∙ ap (λ (y : List ℕ). unless (noneOf (ownSerial y) (serialsWith s fs)) 15 (got (placing s m fs n (symbolBlock o′) 1))) plain,
           placing-on c spool k FileHere d at to s m fs n o 1 z (d .now) (d .marks) is rec₁ o′ 1 later (omega (arith, later, ap (λ (y : Slots). rowBytes 17 (getD y 0 none)) own)) refl (z .lengths .marks) (ap length i ∙ length-set (d .inner) j true ∙ z .lengths .inner)
               (record-entered c spool k FileHere d at to s m fs n o 1 z 1 j v rec₁ (omega arith) taken text-places (q ∙ ap (λ (y : List Rule). putLine (ruleAt y j) 0 v rec₀) text-rows))
               (ap (λ (y : Slots). getD y 5 none) (sym own)) (z .block .0)
@@ -136,7 +136,7 @@ module _ (c : Digits) (spool : List ℕ) (k : ℕ) (FileHere : Desk → Set → 
     -- its end: the placed symbol is open again
     on-shut : did ≡ shut → is ≡ d .inner → rec₁ ≡ rec₀ → Out (S.Go (atBlock (d .now) 11 0))
     on-shut a i q = (
-      placing s m fs n o 0,
+      placing s m fs n (symbolBlock o) 0,
       ap (byAct _ _ _ _) a,
       placing-on c spool k FileHere d at to s m fs n o 1 z (atBlock (d .now) 11 0) (d .marks) is rec₁ o 0 later (omega (arith, later)) refl (z .lengths .marks) (long i) (same-record q) refl refl
           (record {

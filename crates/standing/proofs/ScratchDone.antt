@@ -322,7 +322,7 @@ module _ (c : Digits) (spool following : List ℕ) (form : LineForm) (w : Where)
         by-answer (S.Go m) i long u h s o =
             let (st, a, z) = s in omega (arith, laid-room u (soFar c st) (d .now .free + (m .free - i)) (z .laid), o .0, h, most)
         by-answer (S.Skip m) i long u h s o =
-            let (x, j, fs, p, held, a, z) = s in omega (arith, laid-room u (soFar c (placing x j fs p held 0)) (d .now .free + (m .free - i)) (z .laid), o .0, h, most)
+            let (inside, behind, skips, a, z) = s in omega (arith, laid-room u (soFar c behind) (d .now .free + (m .free - i)) (z .laid), o .0, h, most)
         by-answer (S.Stop m) i long u h s o = tt
 
         go : Seen (d .now) (d .table) limit (v .table) → Grows (d .now) (scratchFree (d .now) limit) r

@@ -14,6 +14,7 @@ use Rattle.rules.specs.RangeClass.{digits, digitsOf}
 use Rattle.rules.specs.Rows.{Held, act}
 use Rattle.rules.specs.Sets.{Set}
 use Rattle.rules.specs.Machine.{Line, Env, State, top, file, drawing, layerNames, defines, symbol, hide, elements, figures, successive, texts, placing, skipping, ended}
+use Rattle.rules.specs.Machine.{symbolBlock}
 use Rattle.tables.specs.Tables.{tableOf}
 use Rattle.entries.specs.Names.{knownIn}
 use Rattle.account.specs.declared.Where.{Where}
@@ -186,6 +187,6 @@ module _ (c : Digits) (spool : List ℕ) (k : ℕ) (form : LineForm) (w : Where)
       go (figures s h fs) z = absurd (omega (arith, z .block .0, b))
       go (successive s h fs i ps) z = absurd (omega (arith, z .block .0, b))
       go (texts s h fs i o) z = absurd (omega (arith, z .block .0, b))
-      go (placing s m fs i o g) z = absurd (omega (arith, z .block .0, b))
+      go (placing s m fs i (symbolBlock o) g) z = absurd (omega (arith, z .block .0, b))
       go (skipping s m fs i o g) z = absurd (z .block)
       go (ended s) z = refl

@@ -17,10 +17,10 @@ use Rattle.rules.specs.Lines.{span}
 use Rattle.rules.specs.Values.{Value, empty, nums, chars, linked, word, lettersAndDigits, charsOf}
 use Rattle.rules.specs.Rows.{Slots, rowsThere, slotValue, innerOf, complete}
 use Rattle.rules.specs.Blocks.{symbolTable}
-use Rattle.rules.specs.Figures.{figureTable}
 use Rattle.rules.specs.Sets.{Symbol, symbolNameOf, symbolOrder}
 use Rattle.rules.specs.Machine.{figures}
 use Rattle.rules.specs.RecordTable.{numbersOf, firstOr0, others, firstSlot, otherSlots, ruleAt, putSlots, pointRecords, figureRecords, innerRecords}
+use Rattle.rules.specs.RecordTable.{plainView}
 use Rattle.rules.proofs.Chains.{clash, and-left, and-right}
 use Rattle.tables.specs.Tables.{tableOf}
 use Rattle.account.specs.Placing.{clearTable}
@@ -91,7 +91,7 @@ by-order false a h e = ap (λ (r : List (List ℤ)). a ++ r) e ∙ append-nil a
 pub same-order : (m : ℕ) (y : Symbol) (b : Bool) → y .hidden ≡ [] → innerRecords m y ≡ innerRecords m (symbolOrder b y)
 same-order m y b e =
     let h : pointRecords 43 m 1 (y .hidden) ≡ [] = ap (pointRecords 43 m 1) e in
-    let a : List (List ℤ) = flat (map (figureRecords (digits 0 0) (digits 0 0) figureTable 20 m 1) (y .figures)) in
+    let a : List (List ℤ) = flat (map (figureRecords plainView 20 m 1) (y .figures)) in
     by-order (y .hideFirst) a (pointRecords 43 m 1 (y .hidden)) h ∙ sym (by-order b a (pointRecords 43 m 1 (y .hidden)) h)
 
 -- a symbol's name is what its first row holds

@@ -18,12 +18,11 @@ use Rattle.rules.specs.Lines.{Rest, Form, ignored, wrong, close, eof, keyed, fo
 use Rattle.rules.specs.Values.{Known}
 use Rattle.rules.specs.Rows.{Rule, blank, rowsThere, rowsAtLimit, Act, stay, entry, begin, shut, refuse, act}
 use Rattle.rules.specs.Blocks.{topTable, fileTables, blankHeld, drawingTable}
-use Rattle.rules.specs.Sets.{Layer, Drawing, Contents, LayerBlock, Set, isFirst, withRecords, knownOf, serialsIn, serialsOfBlock, usedIn, rangeOf, isSingle}
+use Rattle.rules.specs.Sets.{Layer, Drawing, Contents, LayerBlock, Set, isFirst, withRecords, knownOf, serialsIn, serialsOfBlock, usedIn}
 use Rattle.rules.specs.VolumesAndTotals.{allUsed, layersUsed, countedAll}
-use Rattle.rules.specs.Figures.{layerTable}
-use Rattle.rules.specs.Machine.{Line, Env, State, top, file, drawing, defines, elements, ended, roomFor, byAct, openTop, onTop}
+use Rattle.rules.specs.Machine.{Line, Env, State, top, file, drawing, defines, elements, ended, roomFor, byAct, openTop, onTop, fileKinds}
 use Rattle.rules.specs.LineByLine.{stepIn}
-use Rattle.rules.specs.RecordTable.{start, drawingRecord, symbolRecords, blockRecords}
+use Rattle.rules.specs.RecordTable.{start, drawingRecord, symbolRecords, blockRecords, viewOf, kindDrawing}
 use Rattle.rules.proofs.Chains.{and-left}
 use Rattle.tables.specs.Tables.{tableOf}
 use Rattle.entries.specs.Names.{knownIn}
@@ -91,14 +90,14 @@ blockless-used v e = ap (λ (y : List LayerBlock). map (λ (i : LayerBlock). i .
 
 blockless-records : (c : Digits) (s : Set) → s .now .blocks ≡ [] → soFar c (top s 3) ≡ soFar c (elements s)
 blockless-records c s e =
-    sym (ap (λ (y : List LayerBlock). baseRecords c s (isFirst s) ++ flat (map (blockRecords c (rangeOf s) (layerTable (isSingle s)) (volumeOf s)) y)) e ∙ append-nil (baseRecords c s (isFirst s)))
+    sym (ap (λ (y : List LayerBlock). baseRecords c s (isFirst s) ++ flat (map (blockRecords (viewOf c s) (volumeOf s)) y)) e ∙ append-nil (baseRecords c s (isFirst s)))
 
 -- how many records FILE_FORMAT takes
-file-records : (f : Bool) → 32 * cond f 2 1 ≡ fileSize f
+file-records : (f : Bool) → 32 * length (fileKinds f) ≡ fileSize f
 file-records true = refl
 file-records false = refl
 
-file-rooms : (f : Bool) (n w len : ℕ) → 32 * n ≡ w → leb (n + cond f 2 1) (len / 32) ≡ leb (w + fileSize f) len
+file-rooms : (f : Bool) (n w len : ℕ) → 32 * n ≡ w → leb (n + length (fileKinds f)) (len / 32) ≡ leb (w + fileSize f) len
 file-rooms true n w len h = room-for 2 n w len h
 file-rooms false n w len h = room-for 1 n w len h
 
@@ -199,11 +198,11 @@ module _ (c : Digits) (spool : List ℕ) (k : ℕ) (d : Desk) (at to : ℕ) (e :
   begunDrawing = record { line = l .line; own = blank drawingTable; layers = [] }
 
   drawing-begin : Stood 1 → d .now .free + 32 ≤ length (d .table)
-      → Standing (deskNow (deskTop d (topLent (unmarked (d .marks)) (d .used) (d .header) (headAt (d .now .free) 3 0 w (d .table)))) (recordTaken (d .now) 2 32)) (drawing (withRecords 1 s) begunDrawing)
+      → Standing (deskNow (deskTop d (topLent (unmarked (d .marks)) (d .used) (d .header) (headAt (d .now .free) 3 0 w (d .table)))) (recordTaken (d .now) 2 32)) (drawing (withRecords (kindDrawing ∷ []) s) begunDrawing)
   drawing-begin z room =
       let phase : First k s = z .block .2 .0 in
       let bare : Bare s = z .block .2 .1 in
-      let st′ : State = drawing (withRecords 1 s) begunDrawing in
+      let st′ : State = drawing (withRecords (kindDrawing ∷ []) s) begunDrawing in
       let t₁ : List ℤ = headAt (d .now .free) 3 0 w (d .table) in
       let v : sight (top s 1) ≡ sight st′ =
       ap (λ (y : List Layer). record { set = sight st′ .set; layers = y; serials = closedSerials s; used = []; inside = false; counts = true }) (bare .layers) in
@@ -227,13 +226,13 @@ module _ (c : Digits) (spool : List ℕ) (k : ℕ) (d : Desk) (at to : ℕ) (e :
 
   -- FILE_FORMAT
   abbrev begunFile : State
-  begunFile = file (withRecords (cond (isFirst s) 2 1) s) (l .line) (blankHeld (fileTables (isFirst s))) 0
+  begunFile = file (withRecords (fileKinds (isFirst s)) s) (l .line) (blankHeld (fileTables (isFirst s))) 0
 
   file-begin : w .volume < 4294967296 → w .line < 4294967296 → Stood 0 → d .now .free + fileSize (isFirst s) ≤ length (d .table)
       → Standing (deskNow (deskTop d (topLent (unmarked (d .marks)) (d .used) (headerBegun (isFirst s) w (d .header)) (d .table))) (recordTaken (d .now) 1 (fileSize (isFirst s)))) begunFile
   file-begin fv fl z room =
       let f : Bool = isFirst s in
-      let s′ : Set = withRecords (cond f 2 1) s in
+      let s′ : Set = withRecords (fileKinds f) s in
       let h₁ : List ℤ = headerBegun f w (d .header) in
       let begun : h₁ ≡ headerBegun f w (replicate 70 (pos 0)) = header-same f w (d .header) (z .lengths .header) in
       let d₁ : Desk = deskTop d (topLent (d .marks) (d .used) h₁ (d .table)) in
@@ -241,7 +240,7 @@ module _ (c : Digits) (spool : List ℕ) (k : ℕ) (d : Desk) (at to : ℕ) (e :
       let n₁ : Now = recordTaken (d .now) 1 (fileSize f) in
       let bare : isFirst s′ ≡ true → Bare s′ = λ q. let y : Bare s = z .block .2 .1 q in record { layers = y .layers; symbols = y .symbols } in
       stands-on c spool k (InFile spool k) d₁ at to (top s 0) begunFile z₁ n₁ (unmarked (d .marks)) (d .inner) (d .table) refl (unmarked-length (z .lengths)) (z .lengths .inner)
-      (laid-same (d .table) (closedRecords c s ++ emptyRecords f) (soFar c begunFile) (d .now .free + fileSize f) (ap (λ (y : List (List ℤ)). y ++ emptyRecords f) (sym (closed-taken c s (cond f 2 1))))
+      (laid-same (d .table) (closedRecords c s ++ emptyRecords f) (soFar c begunFile) (d .now .free + fileSize f) (ap (λ (y : List (List ℤ)). y ++ emptyRecords f) (sym (closed-taken c s (fileKinds f))))
       (file-laid f (d .table) (closedRecords c s) (d .now .free) (z .laid) room))
       (omega (arith, z .taken, file-records f)) (omega (arith, z .counted, later)) (omega (arith, z .named, later)) (omega (arith, z .numbered, later))
       (refl, file-begins spool k (deskWith d₁ n₁ (unmarked (d .marks)) (d .inner) (d .table)) s′ w (l .line) (x .volume) (x .line) fv fl (z .block .2 .0) bare refl (unmarked-28 (z .lengths)) begun)
@@ -312,7 +311,7 @@ module _ (c : Digits) (spool : List ℕ) (k : ℕ) (d : Desk) (at to : ℕ) (e :
     on-file : Stood 0 → stepIn e l st ≡ openTop e l s 0 → (y : Step) → Answered (openedNow first (d .now) (d .table) 0) (b ≡ openedLent first (d .now) w 0 (lentOf d)) y → Out y
     on-file z₀ a y v =
         go (leb (d .now .free + fileSize (isFirst s)) (length (d .table))) refl
-        (a ∙ ap (λ (o : Option ℕ). unless (roomFor o (s .taken + cond (isFirst s) 2 1)) 19 (got begunFile)) (u .limit)
+        (a ∙ ap (λ (o : Option ℕ). unless (roomFor o (s .taken + length (fileKinds (isFirst s)))) 19 (got begunFile)) (u .limit)
         ∙ ap (λ (t : Bool). unless t 19 (got begunFile)) (file-rooms (isFirst s) (s .taken) (d .now .free) (length (d .table)) (z₀ .taken)))
         (subst (λ (f : Bool). Answered (openedNow f (d .now) (d .table) 0) (b ≡ openedLent f (d .now) w 0 (lentOf d)) y) (first-volume k s (z₀ .block .2 .0)) v)
       where
@@ -325,14 +324,14 @@ module _ (c : Digits) (spool : List ℕ) (k : ℕ) (d : Desk) (at to : ℕ) (e :
 
     on-drawing : Stood 1 → stepIn e l st ≡ openTop e l s 1 → (y : Step) → Answered (openedNow first (d .now) (d .table) 1) (b ≡ openedLent first (d .now) w 1 (lentOf d)) y → Out y
     on-drawing z₁ a y v =
-        go (hasRoom (d .now .free) (d .table)) refl (a ∙ ap (λ (t : Bool). unless t 19 (got (drawing (withRecords 1 s) begunDrawing))) (has-room c d e (s .taken) u (z₁ .taken))) v
+        go (hasRoom (d .now .free) (d .table)) refl (a ∙ ap (λ (t : Bool). unless t 19 (got (drawing (withRecords (kindDrawing ∷ []) s) begunDrawing))) (has-room c d e (s .taken) u (z₁ .taken))) v
       where
-        go : (room : Bool) → hasRoom (d .now .free) (d .table) ≡ room → stepIn e l st ≡ unless room 19 (got (drawing (withRecords 1 s) begunDrawing))
+        go : (room : Bool) → hasRoom (d .now .free) (d .table) ≡ room → stepIn e l st ≡ unless room 19 (got (drawing (withRecords (kindDrawing ∷ []) s) begunDrawing))
             → Answered (unless room 19 (got (recordTaken (d .now) 2 32))) (b ≡ openedLent first (d .now) w 1 (lentOf d)) y → Out y
         go false h a v = subst Out (sym (v .answer)) a
         go true h a v =
             subst Out (sym (v .answer)) (subst (λ (q : TopLent). Of q (S.Go (recordTaken (d .now) 2 32))) (sym (v .lent))
-            (drawing (withRecords 1 s) begunDrawing, a, drawing-begin z₁ (leb-true (d .now .free + 32) (length (d .table)) h)))
+            (drawing (withRecords (kindDrawing ∷ []) s) begunDrawing, a, drawing-begin z₁ (leb-true (d .now .free + 32) (length (d .table)) h)))
 
     opened : (j : ℕ) → j < 4 → Stood j → stepIn e l st ≡ openTop e l s j → (y : Step) → Answered (openedNow first (d .now) (d .table) j) (b ≡ openedLent first (d .now) w j (lentOf d)) y → Out y
     opened zero h z₀ a y v = on-file z₀ a y v

@@ -8,12 +8,13 @@ use Rattle.rules.specs.declared.Digits.{Digits}
 use Rattle.rules.specs.Base.{flat}
 use Rattle.rules.specs.RangeClass.{digits}
 use Rattle.rules.specs.Blocks.{symbolTable}
-use Rattle.rules.specs.Figures.{layerTable, figureTable, placedTables}
-use Rattle.rules.specs.Sets.{Figure, Drawing, Symbol, Set, isFirst, rangeOf, isSingle}
+use Rattle.rules.specs.Figures.{placedTables}
+use Rattle.rules.specs.Sets.{Figure, Drawing, Symbol, Set, isFirst}
 use Rattle.rules.specs.Machine.{Home, inElement, inLayer, State, top, file, drawing, layerNames, defines, symbol, hide, elements, figures, successive, texts}
-use Rattle.rules.specs.Machine.{placing, skipping, ended}
+use Rattle.rules.specs.Machine.{placing, skipping, ended, symbolBlock}
 use Rattle.rules.specs.RecordTable.{putSlots, putHeld, start, fileRecords, drawingRecord, layerRecords, pointRecords, textRecord, figureRecords, innerRecords}
 use Rattle.rules.specs.RecordTable.{symbolRecords, bodyRecords, recordsFrom, width, kindSymbol, kindSuccessive, kindPlaced, kindPoint, inSymbol, kindHidden}
+use Rattle.rules.specs.RecordTable.{viewOf, plainView}
 
 -- the number of the volume at hand
 abbrev pub volumeOf : Set → ℕ
@@ -37,7 +38,7 @@ baseRecords c s false = closedRecords c s ++ fileRecords false (volumeOf s) (s .
 
 -- of all closed layers
 abbrev pub layersRecords : Digits → Set → List (List ℤ)
-layersRecords c s = baseRecords c s (isFirst s) ++ bodyRecords c (rangeOf s) (layerTable (isSingle s)) (volumeOf s) (s .now)
+layersRecords c s = baseRecords c s (isFirst s) ++ bodyRecords (viewOf c s) (volumeOf s) (s .now)
 
 -- of a symbol that is open, as far as it is
 abbrev pub symbolSoFar : Set → Symbol → List (List ℤ)
@@ -62,8 +63,8 @@ homeMore (inElement y) = inSymbol
 homeMore (inLayer k) = 0
 
 abbrev pub homeFigure : Digits → Set → Home → Figure → List (List ℤ)
-homeFigure c s (inElement y) f = figureRecords (digits 0 0) (digits 0 0) figureTable inSymbol (length (s .symbols)) 1 f
-homeFigure c s (inLayer k) f = figureRecords c (rangeOf s) (layerTable (isSingle s)) 0 k (volumeOf s) f
+homeFigure c s (inElement y) f = figureRecords plainView inSymbol (length (s .symbols)) 1 f
+homeFigure c s (inLayer k) f = figureRecords (viewOf c s) 0 k (volumeOf s) f
 
 abbrev pub figuresSoFar : Digits → Set → Home → List Figure → List (List ℤ)
 figuresSoFar c s h fs = homeRecords c s h ++ flat (map (homeFigure c s h) fs)
@@ -100,6 +101,6 @@ soFar c (successive s h fs n ps) =
     figuresSoFar c s h fs
     ++ start (kindSuccessive + homeMore h) (homeOwner s h) (homeVolume s h) n ∷ pointRecords (kindPoint + homeMore h) (homeOwner s h) (homeVolume s h) ps
 soFar c (texts s h fs n o) = figuresSoFar c s h fs ++ textRecord (homeMore h) (homeOwner s h) (homeVolume s h) n o ∷ []
-soFar c (placing s k fs n o p) = figuresSoFar c s (inLayer k) fs ++ putHeld placedTables o (start kindPlaced k (volumeOf s) n) ∷ []
-soFar c (skipping s k fs n o d) = figuresSoFar c s (inLayer k) fs ++ putHeld placedTables o (start kindPlaced k (volumeOf s) n) ∷ []
+soFar c (placing s k fs n (symbolBlock o) p) = figuresSoFar c s (inLayer k) fs ++ putHeld placedTables o (start kindPlaced k (volumeOf s) n) ∷ []
+soFar c (skipping s k fs n (symbolBlock o) d) = figuresSoFar c s (inLayer k) fs ++ putHeld placedTables o (start kindPlaced k (volumeOf s) n) ∷ []
 soFar c (ended s) = closedRecords c s

@@ -19,7 +19,7 @@ use Rattle.rules.specs.Sets.{Point, Figure, placed, Layer, Drawing, Symbol, Set
 use Rattle.rules.specs.Sets.{figureSerial, serialsOfVolume, serialsIn, elementsOf, usedIn}
 use Rattle.rules.specs.VolumesAndTotals.{ownTable}
 use Rattle.rules.specs.Machine.{Line, inLastVolume, Env, Home, inElement, inLayer, State, top, file, drawing, layerNames, defines, symbol, hide, elements}
-use Rattle.rules.specs.Machine.{figures, successive, texts, placing, skipping, ended, newName}
+use Rattle.rules.specs.Machine.{figures, successive, texts, placing, skipping, ended, newName, symbolBlock}
 use Rattle.rules.specs.LineByLine.{stepIn}
 use Rattle.rules.specs.RecordTable.{fileRecords}
 use Rattle.entries.specs.Names.{namesIn}
@@ -29,6 +29,7 @@ use Rattle.account.specs.declared.Where.{Where}
 use Rattle.account.specs.declared.Step.{Step}
 use Rattle.account.specs.declared.Step.the-variants as S
 use Rattle.account.specs.Placing.{Shaped}
+use Rattle.account.specs.SkippedLines.{Skips}
 use Rattle.standing.specs.Laid.{Laid}
 use Rattle.standing.specs.SoFar.{volumeOf, frontRecords, soFar}
 use Rattle.account.specs.Numbering.{blockTop, blockFile, blockDrawing, blockLayerNames, blockDefines, blockSymbol, blockHide, blockElements, blockFigures}
@@ -133,8 +134,8 @@ serialsOf (elements s) = serialsIn s
 serialsOf (figures s h fs) = homeSerials s h fs
 serialsOf (successive s h fs n ps) = homeSerials s h fs
 serialsOf (texts s h fs n o) = homeSerials s h fs
-serialsOf (placing s k fs n o p) = serialsWith s fs ++ figureSerial (placed n o)
-serialsOf (skipping s k fs n o d) = serialsWith s fs ++ figureSerial (placed n o)
+serialsOf (placing s k fs n (symbolBlock o) p) = serialsWith s fs ++ figureSerial (placed n o)
+serialsOf (skipping s k fs n (symbolBlock o) d) = serialsWith s fs ++ figureSerial (placed n o)
 serialsOf (ended s) = closedSerials s
 
 -- the layers used so far in the volume at hand
@@ -307,8 +308,8 @@ serialBytes (elements s) = 20
 serialBytes (figures s h fs) = 20
 serialBytes (successive s h fs n ps) = 20
 serialBytes (texts s h fs n o) = 20
-serialBytes (placing s k fs n o p) = placedBytes o
-serialBytes (skipping s k fs n o d) = placedBytes o
+serialBytes (placing s k fs n (symbolBlock o) p) = placedBytes o
+serialBytes (skipping s k fs n (symbolBlock o) d) = placedBytes o
 serialBytes (ended s) = 20
 
 -- ── the block that is open ──
@@ -416,7 +417,7 @@ module _ (c : Digits) (spool : List ℕ) (k : ℕ) (d : Desk) where
   Inside FileHere (texts s h fs n o) =
       (d .now .block ≡ blockText) × InHome spool k (d .now) (d .marks) (d .inner) s h × (d .now .figures ≡ length fs) × (length o ≡ 2)
       × (d .inner ≡ rowsThere o)
-  Inside FileHere (placing s m fs n o p) = (d .now .block ≡ blockPlaced) × InPlaced spool k (d .now) (d .marks) (d .inner) s m fs o p
+  Inside FileHere (placing s m fs n (symbolBlock o) p) = (d .now .block ≡ blockPlaced) × InPlaced spool k (d .now) (d .marks) (d .inner) s m fs o p
   Inside FileHere (skipping s m fs n o q) = ⊥
   Inside FileHere (ended s) = d .now .block ≡ blockEnded
 
@@ -493,6 +494,5 @@ module _ (c : Digits) (spool : List ℕ) (k : ℕ) (FileHere : Desk → Set → 
   abbrev pub StepOut : Env → Line → ℕ → State → Desk → Step → Type 0
   StepOut e l to st d (S.Go n) = (st′ : State) × (stepIn e l st ≡ got st′) × StandsAt (deskNow d n) to st′
   StepOut e l to st d (S.Skip n) =
-      (s : Set) × (m : ℕ) × (fs : List Figure) × (i : ℕ) × (o : Held) × (stepIn e l st ≡ got (skipping s m fs i o 1))
-      × StandsAt (deskNow d n) to (placing s m fs i o 0)
+      (inside : State) × (behind : State) × Skips inside behind × (stepIn e l st ≡ got inside) × StandsAt (deskNow d n) to behind
   StepOut e l to st d (S.Stop n) = stepIn e l st ≡ bad n

@@ -23,6 +23,7 @@ use Rattle.account.specs.declared.Now.{Now}
 use Rattle.account.specs.declared.Step.{Step}
 use Rattle.account.specs.declared.Step.the-variants as S
 use Rattle.account.specs.Account.{atBlock}
+use Rattle.account.specs.SkippedLines.{Skips, inOwned}
 use Rattle.standing.specs.SoFar.{volumeOf}
 use Rattle.steps.specs.VolumeLines.{nextNow, lastStep}
 use Rattle.standing.specs.Reading.{nextNumber, nextState}
@@ -33,6 +34,11 @@ use Rattle.standing.specs.Standing.{Desk, Stands, deskNow, StepOut}
 abbrev pub Ends : Bool → State → Type 0
 Ends true st = (s : Set) × (st ≡ ended s)
 Ends false st = (s : Set) × (st ≡ top s 4)
+
+-- a line that opens a skipped block completes none
+never-ends : (b : Bool) {inside behind : State} → Skips inside behind → Ends b inside → ⊥
+never-ends true (inOwned s m fs i b) (s′, v) = absurd (let x : _≡_ {A = ℕ} 0 1 = cc in omega arith)
+never-ends false (inOwned s m fs i b) (s′, v) = absurd (let x : _≡_ {A = ℕ} 0 1 = cc in omega arith)
 
 form-ignored : (f : Form) → isIgnored f ≡ true → f ≡ ignored
 form-ignored ignored h = refl
@@ -178,11 +184,7 @@ module _ (c : Digits) (spool : List ℕ) (k : ℕ) (FileHere : Desk → Set → 
     last-out true p (S.Go n) (st′, q, z) =
         let (s, v, y) = gone d n to st′ (isNil (l .next)) (complete-ends e l st st′ p q) z in (s, as-last true (got st′) p q ∙ ap got v, y)
     last-out false p (S.Go n) (st′, q, z) = as-last false (got st′) p q
-    last-out true p (S.Skip n) (s, m, fs, i, o, q, z) = never-ends (isNil (l .next)) (complete-ends e l st (skipping s m fs i o 1) p q)
-      where
-        never-ends : (b : Bool) → Ends b (skipping s m fs i o 1) → step e l st ≡ bad 9
-        never-ends true (s′, v) = absurd (let x : _≡_ {A = ℕ} 0 1 = cc in omega arith)
-        never-ends false (s′, v) = absurd (let x : _≡_ {A = ℕ} 0 1 = cc in omega arith)
-    last-out false p (S.Skip n) (s, m, fs, i, o, q, z) = as-last false (got (skipping s m fs i o 1)) p q
+    last-out true p (S.Skip n) (inside, behind, skips, q, z) = absurd (never-ends (isNil (l .next)) skips (complete-ends e l st inside p q))
+    last-out false p (S.Skip n) (inside, behind, skips, q, z) = as-last false (got inside) p q
     last-out true p (S.Stop n) q = as-last true (bad n) p q
     last-out false p (S.Stop n) q = as-last false (bad n) p q

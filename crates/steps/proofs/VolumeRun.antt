@@ -14,7 +14,7 @@ use Rattle.rules.specs.RefusalNumbers.{Got, bad}
 use Rattle.rules.specs.Lines.{Form, formIn}
 use Rattle.rules.specs.Rows.{Held}
 use Rattle.rules.specs.Sets.{Set}
-use Rattle.rules.specs.Machine.{Line, Env, State, placing, skipping}
+use Rattle.rules.specs.Machine.{Line, Env, State}
 use Rattle.rules.specs.LineByLine.{step, refused, thenRun, run}
 use Rattle.lines.specs.declared.Seen.{Seen as SeenLine}
 use Rattle.account.specs.declared.Now.{Now}
@@ -35,6 +35,7 @@ use Rattle.standing.specs.Reading.{Standing, PlacedForm, LinePromise, nextState
 use Rattle.rules.proofs.Chains.{clash}
 use Rattle.account.proofs.RunSteps.{step-on, step-refused}
 use Rattle.account.proofs.Walked.{next-seen}
+use Rattle.account.proofs.SkipRun.{skipped-run, skipped-refused}
 use Rattle.account.proofs.SeenLines.{past, seenLine, Passed, passed-line}
 use Rattle.steps.proofs.FormSizes.{form-fits}
 use Rattle.standing.proofs.FormPlaces.{line-placed}
@@ -191,24 +192,26 @@ module _ (c : Digits) (spool body : List ℕ) (v : Volume) (following : List ℕ
       -- a block was skipped
       pub skipped-on : (n : Now) → r ≡ S.Skip n → (q′ : Pos) → SkipMet spool body v (past p f) 4 (L.Go q′) → Gone e st₀ p₀ lines more q′ (deskNow d₁ n)
       skipped-on n a q′ m =
-          let (s, j, fs, i, o, y, z) = subst (StepOut c spool k (InFile spool k) e l (f .next) (g .state) (deskTable d₁ table₁)) a out in
+          let (inside, behind, skips, y, z) = subst (StepOut c spool k (InFile spool k) e l (f .next) (g .state) (deskTable d₁ table₁)) a out in
           let w = m .met (passed .others) (passed .at) some-left in
           record {
-            state = placing s j fs i o 0;
+            state = behind;
             rest = w .rest;
             at = w .at;
             some = w .some-left;
             table = table₁;
             seen = subst (λ (x : Step). SeenBy x (d₁ .table) limit table₁) a seen₁;
-            stands = stands-later c spool k (deskNow (deskTable d₁ table₁) n) (InFile spool k (deskNow (deskTable d₁ table₁) n)) (f .next) (q′ .at) (placing s j fs i o 0) (omega (arith, m .further .1)) z;
-            eq = todo-on ∙ step-on e (g .state) l (todo v following (past p f) (passed .others) more) (skipping s j fs i o 1) h y ∙ w .eq e s j fs i o following more;
+            stands = stands-later c spool k (deskNow (deskTable d₁ table₁) n) (InFile spool k (deskNow (deskTable d₁ table₁) n)) (f .next) (q′ .at) behind (omega (arith, m .further .1)) z;
+            eq =
+                todo-on ∙ step-on e (g .state) l (todo v following (past p f) (passed .others) more) inside h y
+                ∙ skipped-run spool body v (past p f) (passed .others) (passed .at) some-left q′ m skips e following more;
           }
 
       pub skip-stopped : (n : Now) → r ≡ S.Skip n → (x : Refusal) → SkipMet spool body v (past p f) 4 (L.Stop x) → run e st₀ (todo v following p₀ lines more) ≡ refused (x .number) (x .volume) (x .line)
       skip-stopped n a x m =
-          let (s, j, fs, i, o, y, z) = subst (StepOut c spool k (InFile spool k) e l (f .next) (g .state) (deskTable d₁ table₁)) a out in
-          let w = m .met (passed .others) (passed .at) some-left in
-          todo-on ∙ step-on e (g .state) l (todo v following (past p f) (passed .others) more) (skipping s j fs i o 1) h y ∙ w .eq e s j fs i o following more
+          let (inside, behind, skips, y, z) = subst (StepOut c spool k (InFile spool k) e l (f .next) (g .state) (deskTable d₁ table₁)) a out in
+          todo-on ∙ step-on e (g .state) l (todo v following (past p f) (passed .others) more) inside h y
+          ∙ skipped-refused spool body v (past p f) (passed .others) (passed .at) some-left x m skips e following more
 
     -- the volume's last line
     module _ (h : f .last ≡ true) where
