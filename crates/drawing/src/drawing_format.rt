@@ -1,8 +1,4 @@
 // DRAWING_FORMAT, and the names of layers in it.
-use crate::blocks::at_block;
-use crate::blocks::digits_of;
-use crate::blocks::has_room;
-use crate::table::head;
 use account::BLOCK_DRAWING;
 use account::BLOCK_LAYER_NAMES;
 use account::BLOCK_TOP;
@@ -19,6 +15,10 @@ use entries::acts::act;
 use entries::names::index_of;
 use entries::names::part;
 use entries::shapes::shape_for;
+use groundwork::blocks::at_block;
+use groundwork::blocks::digits_of;
+use groundwork::blocks::has_room;
+use groundwork::table::head;
 use leaves::Count;
 use leaves::bytes::is_layer_id;
 use leaves::numbers::fixed;

@@ -1,6 +1,4 @@
 // FILE_FORMAT, and the parts of `range` in it.
-use crate::blocks::at_block;
-use crate::blocks::no_digits;
 use account::BLOCK_FILE;
 use account::BLOCK_TOP;
 use account::MOST_ROWS;
@@ -17,6 +15,8 @@ use account::TALLY_TIME;
 use entries::Next;
 use entries::acts::act;
 use entries::names::part;
+use groundwork::blocks::at_block;
+use groundwork::blocks::no_digits;
 use leaves::bytes::capital;
 use rules::LineForm;
 use rules::Span;

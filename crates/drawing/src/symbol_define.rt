@@ -1,9 +1,4 @@
 // SYMBOL_DEFINE, and a symbol in it.
-use crate::blocks::at_block;
-use crate::blocks::digits_of;
-use crate::blocks::has_room;
-use crate::blocks::unmark;
-use crate::table::head;
 use account::BLOCK_DEFINES;
 use account::BLOCK_FIGURES;
 use account::BLOCK_HIDE;
@@ -18,6 +13,11 @@ use entries::Next;
 use entries::acts::act;
 use entries::names::index_of;
 use entries::names::part;
+use groundwork::blocks::at_block;
+use groundwork::blocks::digits_of;
+use groundwork::blocks::has_room;
+use groundwork::blocks::unmark;
+use groundwork::table::head;
 use rules::KIND_SYMBOL;
 use rules::LineForm;
 use rules::Span;

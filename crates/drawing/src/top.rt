@@ -1,11 +1,4 @@
 // The top level: the blocks of a volume in their order, and EOF.
-use crate::blocks::at_block;
-use crate::blocks::has_room;
-use crate::blocks::no_digits;
-use crate::blocks::unmark;
-use crate::serials::all_marked;
-use crate::table::clear;
-use crate::table::head;
 use account::BLOCK_DEFINES;
 use account::BLOCK_DRAWING;
 use account::BLOCK_ELEMENTS;
@@ -19,6 +12,13 @@ use account::TALLY_TOTAL;
 use account::Where;
 use entries::Next;
 use entries::acts::act;
+use groundwork::blocks::at_block;
+use groundwork::blocks::has_room;
+use groundwork::blocks::no_digits;
+use groundwork::blocks::unmark;
+use groundwork::serials::all_marked;
+use groundwork::table::clear;
+use groundwork::table::head;
 use rules::KIND_DRAWING;
 use rules::KIND_HEADER;
 use rules::KIND_VOLUME;

@@ -1,0 +1,196 @@
+// Figures, in a layer or in a symbol's `element`.
+use account::BLOCK_ELEMENTS;
+use account::BLOCK_FIGURES;
+use account::BLOCK_SYMBOL;
+use account::Now;
+use account::Step;
+use account::Where;
+use entries::Next;
+use groundwork::blocks::act_at;
+use groundwork::blocks::at_block;
+use groundwork::blocks::digits_of;
+use groundwork::blocks::unmark;
+use groundwork::table::head;
+use rules::IN_SYMBOL;
+use rules::KIND_LINE;
+use rules::LineForm;
+use rules::WIDTH;
+use tables::TABLE_FIGURES;
+use tables::TABLE_LAYER;
+use tables::TABLE_SINGLE_LAYER;
+ghost use mathlib.Core.Path.{_≡_};
+ghost use mathlib.Core.Bool.{false};
+ghost use Prim.Native.Nat.{_+_, _≤_, _<_};
+ghost use lib.ListN.{length, replicate};
+ghost use Rattle.rules.specs.Lines.{formIn};
+ghost use Rattle.rules.specs.RangeClass.{digitsOf};
+ghost use Rattle.rules.specs.Rows.{act};
+ghost use Rattle.tables.specs.Tables.{tableOf};
+ghost use Rattle.entries.specs.Names.{knownIn};
+ghost use Rattle.account.specs.Records.{hasRoom};
+ghost use Rattle.account.specs.Account.{taking};
+ghost use Rattle.account.specs.FigureLines.{homeTable, homeRows, lineKind, blockKind, moreFigures, figureOpened, figuresClosed, unmarkedIf, FigureLine};
+ghost use Rattle.rules.specs.RecordTable.{width};
+
+// "plus 20 inside a symbol"
+const KIND_LINE_IN_SYMBOL: u8 = KIND_LINE + IN_SYMBOL;
+
+// The table of the figures that may stand here: "E_symbol: placed symbol, in layers only", "At range 001 it is `E_symbol=`".
+fn home_table(layered: bool, range: u32) -> u8
+    ensures { λ r. ⌜ r ≡ homeTable layered range ⌝ }
+{
+    if !layered {
+        return TABLE_FIGURES;
+    }
+    if range == 1 {
+        return TABLE_SINGLE_LAYER;
+    }
+    TABLE_LAYER
+}
+
+fn home_rows(layered: bool) -> usize
+    ensures { λ r. ⌜ r ≡ homeRows layered ⌝ }
+{
+    if layered {
+        return 7;
+    }
+    6
+}
+
+// "10 line, 11 circle, 12 ellipse, 13 point", "16 placed symbol"; "plus 20 inside a symbol"
+fn line_kind(layered: bool, row: u8) -> u8
+    requires { ⌜ row < 7 ⌝ }
+    ensures { λ r. ⌜ r ≡ lineKind layered row ⌝ }
+{
+    if layered {
+        return KIND_LINE + row;
+    }
+    KIND_LINE_IN_SYMBOL + row
+}
+
+// "14 successive", "15 text", "16 placed symbol"; "plus 20 inside a symbol"
+fn block_kind(layered: bool, block: u8) -> u8
+    requires { ⌜ block ≤ 3 ⌝ }
+    ensures { λ r. ⌜ r ≡ blockKind layered block ⌝ }
+{
+    if layered {
+        return 13 + block;
+    }
+    33 + block
+}
+
+fn more_figures(now: Now) -> Now
+    requires { ⌜ (now .free + width ≤ 18446744073709551615) × (now .figures < 4294967295) ⌝ }
+    ensures { λ r. ⌜ r ≡ moreFigures now ⌝ }
+{
+    Now {
+        block: now.block,
+        part: now.part,
+        layered: now.layered,
+        owner: now.owner,
+        own: now.own,
+        free: now.free + WIDTH,
+        figures: now.figures + 1,
+        points: now.points,
+    }
+}
+
+// A figure that is a block: 9 `successive`, 10 text, 11 a placed symbol.
+fn figure_opened(now: Now, block: u8) -> Now
+    requires { ⌜ (block ≤ 3) × (now .free + width ≤ 18446744073709551615) ⌝ }
+    ensures { λ r. ⌜ r ≡ figureOpened now block ⌝ }
+{
+    Now {
+        block: BLOCK_FIGURES + block,
+        part: 0,
+        layered: now.layered,
+        owner: now.owner,
+        own: now.own,
+        free: now.free + WIDTH,
+        figures: now.figures,
+        points: 0,
+    }
+}
+
+// "`element` (one or more figures)"; a layer may have none.
+fn close_figures(now: Now) -> Step
+    ensures { λ r. ⌜ r ≡ figuresClosed now ⌝ }
+{
+    if now.layered {
+        return Step::Go(at_block(now, BLOCK_ELEMENTS, 0));
+    }
+    if now.figures == 0 {
+        return Step::Stop(8);
+    }
+    Step::Go(at_block(now, BLOCK_SYMBOL, 0))
+}
+
+// A block's marks, as it opens.
+fn unmark_if(opens: bool, marks: &mut [bool])
+    ensures { λ _. ⌜ now (marks .exit) ≡ unmarkedIf opens (now (marks .entry)) ⌝ }
+{
+    if opens {
+        unmark(marks);
+    }
+}
+
+// A line among the figures.
+pub fn on_figures(
+    s: &[u8],
+    symbols: &[u32],
+    layers: &[u32],
+    range: u32,
+    was: Now,
+    form: LineForm,
+    at: Where,
+    marks: &mut [bool],
+    inner_marks: &mut [bool],
+    t: &mut [i64],
+) -> Step
+    requires { ⌜ (length (now s) ≤ 61440) × (length (now symbols) ≤ 65536) × (length (now layers) ≤ 65536) × (was .figures < 4294967295) ⌝ }
+    ensures { λ r. ⌜ FigureLine (taking (hasRoom (was .free) (now (t .entry))) (act (knownIn (now (s .entry)) (now (symbols .entry)) (now (layers .entry))) (tableOf (homeTable (was .layered) range)) (digitsOf range) (replicate (homeRows (was .layered)) false) (formIn (now (s .entry)) form))) was range at (now (t .entry)) (now (t .exit)) (now (marks .entry)) (now (marks .exit)) (now («inner_marks» .entry)) (now («inner_marks» .exit)) r ⌝ }
+{
+    let full = [false; 7];
+    let rows = home_rows(was.layered);
+    let w = was.free;
+    let next = act_at(
+        home_table(was.layered, range),
+        s,
+        symbols,
+        layers,
+        digits_of(range),
+        &full[..rows],
+        form,
+        w,
+        t,
+    );
+    match next {
+        Next::Stay => Step::Go(was),
+        Next::Entry(row) => {
+            head(
+                t,
+                w,
+                line_kind(was.layered, row),
+                was.owner,
+                at.volume,
+                at.line,
+            );
+            Step::Go(more_figures(was))
+        }
+        Next::Begin(inner) => {
+            head(
+                t,
+                w,
+                block_kind(was.layered, inner.block),
+                was.owner,
+                at.volume,
+                at.line,
+            );
+            unmark_if(inner.block == 3, marks);
+            unmark_if(inner.block == 2, inner_marks);
+            Step::Go(figure_opened(was, inner.block))
+        }
+        Next::Shut => close_figures(was),
+        Next::Refuse(n) => Step::Stop(n),
+    }
+}

@@ -1,0 +1,167 @@
+// The points of a `successive` and of a symbol's `hide`.
+use account::BLOCK_SYMBOL;
+use account::Now;
+use account::Step;
+use account::Where;
+use entries::Next;
+use groundwork::blocks::act_at;
+use groundwork::blocks::at_block;
+use groundwork::blocks::figure_done;
+use groundwork::blocks::no_digits;
+use groundwork::table::head;
+use rules::IN_SYMBOL;
+use rules::KIND_HIDDEN;
+use rules::KIND_POINT;
+use rules::LineForm;
+use rules::WIDTH;
+use tables::TABLE_LAYER_POINTS;
+use tables::TABLE_SYMBOL_POINTS;
+ghost use mathlib.Core.Path.{_≡_};
+ghost use mathlib.Core.Bool.{false};
+ghost use Prim.Native.Nat.{_+_, _≤_, _<_};
+ghost use lib.Dec.{ltb};
+ghost use lib.ListN.{length};
+ghost use Rattle.rules.specs.Figures.{leastPoints};
+ghost use Rattle.account.specs.Points.{pointTableOf, chainKind, pointAct, morePoints, chainEnd, chainClosed, ChainLine, HideLine};
+ghost use Rattle.tables.specs.Numbering.{tableSymbolPoints};
+ghost use Rattle.rules.specs.RecordTable.{width};
+
+// "plus 20 inside a symbol"
+const KIND_POINT_IN_SYMBOL: u8 = KIND_POINT + IN_SYMBOL;
+
+// "block of 3 to 100 point"; "`hide` (0 to 100 points, H)"
+const MOST_POINTS: u32 = 100;
+
+// "In layers no coordinate is negative but the two centres; in symbols any sign."
+fn point_table(layered: bool) -> u8
+    ensures { λ r. ⌜ r ≡ pointTableOf layered ⌝ }
+{
+    if layered {
+        return TABLE_LAYER_POINTS;
+    }
+    TABLE_SYMBOL_POINTS
+}
+
+// "17 a successive's points", "plus 20 inside a symbol"
+fn chain_point_kind(layered: bool) -> u8
+    ensures { λ r. ⌜ r ≡ chainKind layered ⌝ }
+{
+    if layered {
+        return KIND_POINT;
+    }
+    KIND_POINT_IN_SYMBOL
+}
+
+// One more point.
+fn more_points(now: Now) -> Now
+    requires { ⌜ (now .free + width ≤ 18446744073709551615) × (now .points < 4294967295) ⌝ }
+    ensures { λ r. ⌜ r ≡ morePoints now ⌝ }
+{
+    Now {
+        block: now.block,
+        part: now.part,
+        layered: now.layered,
+        owner: now.owner,
+        own: now.own,
+        free: now.free + WIDTH,
+        figures: now.figures,
+        points: now.points + 1,
+    }
+}
+
+// "14 successive (first point's type, point count)": they go to its own record, the first point's record is the next.
+fn close_chain(here: Now, own: usize, t: &mut [i64]) -> Step
+    requires { ⌜ (here .figures < 4294967295) × (here .points < 4294967295) × (leastPoints ≤ here .points → own + 64 ≤ length (now t)) ⌝ }
+    ensures { λ r. ⌜ (r ≡ chainEnd here) × (ltb (here .points) leastPoints ≡ false → now (t .exit) ≡ chainClosed here own (now (t .entry))) ⌝ }
+{
+    if here.points < 3 {
+        return Step::Stop(8);
+    }
+    t[own + 4] = t[own + 36];
+    t[own + 5] = here.points as i64;
+    Step::Go(figure_done(here))
+}
+
+// A line in a `successive`, whose own record stands at `own`.
+pub fn on_chain(
+    s: &[u8],
+    symbols: &[u32],
+    layers: &[u32],
+    here: Now,
+    own: usize,
+    form: LineForm,
+    at: Where,
+    t: &mut [i64],
+) -> Step
+    requires { ⌜ (length (now s) ≤ 61440) × (length (now symbols) ≤ 65536) × (length (now layers) ≤ 65536) × (here .figures < 4294967295) × (here .points < 4294967295) × (leastPoints ≤ here .points → own + 64 ≤ length (now t)) ⌝ }
+    ensures { λ r. ⌜ ChainLine (pointAct (pointTableOf (here .layered)) (now (s .entry)) (now (symbols .entry)) (now (layers .entry)) here form (now (t .entry))) here own at (now (t .entry)) (now (t .exit)) r ⌝ }
+{
+    let full = [MOST_POINTS <= here.points];
+    let w = here.free;
+    let next = act_at(
+        point_table(here.layered),
+        s,
+        symbols,
+        layers,
+        no_digits(),
+        &full,
+        form,
+        w,
+        t,
+    );
+    match next {
+        Next::Stay => Step::Go(here),
+        Next::Entry(_) => {
+            head(
+                t,
+                w,
+                chain_point_kind(here.layered),
+                here.owner,
+                at.volume,
+                at.line,
+            );
+            Step::Go(more_points(here))
+        }
+        Next::Begin(_) => Step::Stop(5),
+        Next::Shut => close_chain(here, own, t),
+        Next::Refuse(n) => Step::Stop(n),
+    }
+}
+
+// A line in a symbol's `hide`: "43 hide point".
+pub fn on_hide(
+    s: &[u8],
+    symbols: &[u32],
+    layers: &[u32],
+    here: Now,
+    form: LineForm,
+    at: Where,
+    t: &mut [i64],
+) -> Step
+    requires { ⌜ (length (now s) ≤ 61440) × (length (now symbols) ≤ 65536) × (length (now layers) ≤ 65536) × (here .points < 4294967295) ⌝ }
+    ensures { λ r. ⌜ HideLine (pointAct tableSymbolPoints (now (s .entry)) (now (symbols .entry)) (now (layers .entry)) here form (now (t .entry))) here at (now (t .entry)) (now (t .exit)) r ⌝ }
+{
+    let full = [MOST_POINTS <= here.points];
+    let w = here.free;
+    let next = act_at(
+        TABLE_SYMBOL_POINTS,
+        s,
+        symbols,
+        layers,
+        no_digits(),
+        &full,
+        form,
+        w,
+        t,
+    );
+    match next {
+        Next::Stay => Step::Go(here),
+        Next::Entry(_) => {
+            head(t, w, KIND_HIDDEN, here.owner, at.volume, at.line);
+            Step::Go(more_points(here))
+        }
+        Next::Begin(_) => Step::Stop(5),
+        Next::Shut => Step::Go(at_block(here, BLOCK_SYMBOL, 0)),
+        Next::Refuse(n) => Step::Stop(n),
+    }
+}

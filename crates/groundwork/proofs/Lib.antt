@@ -1,0 +1,5 @@
+pub mod ClassDigits
+pub mod Stores
+pub mod MarkScan
+pub mod ScratchCode
+pub mod Unique
