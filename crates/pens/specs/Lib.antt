@@ -8,4 +8,3 @@ pub mod Closing
 pub mod Drawing
 pub mod Writing
 pub mod KeyWriting
-pub mod Volumes

@@ -159,7 +159,7 @@ fn part_closed(pen: Pen) -> Pen
     at_block(pen, 0, BLOCK_PLACED, 0)
 }
 
-pub(crate) fn on_close(s: &[u8], first: bool, pen: Pen, notes: &[u32], out: &mut [u8]) -> Drawn
+pub fn on_close(s: &[u8], first: bool, pen: Pen, notes: &[u32], out: &mut [u8]) -> Drawn
     requires { ⌜ Safe pen (now out) × (length (now notes) ≡ mostRows) ⌝ }
     ensures { λ r. ⌜ Kept (now (out .entry)) (now (out .exit)) r × CloseDone (now (s .entry)) first pen (now (notes .entry)) (now (out .entry)) (now (out .exit)) r ⌝ }
 {

@@ -424,7 +424,7 @@ fn row_line(
     put_figures(table, row, s, rest, pen, true, out)
 }
 
-pub(crate) fn on_key(
+pub fn on_key(
     s: &[u8],
     first: bool,
     key: Span,

@@ -8,7 +8,7 @@ ghost use Rattle.pens.specs.Moves.{moved, begun, amongFigures};
 ghost use Rattle.pens.specs.Noting.{forgotten};
 
 // Another block is open, n bytes further on.
-pub(crate) fn at_block(pen: Pen, n: usize, block: u8, part: u8) -> Pen
+pub fn at_block(pen: Pen, n: usize, block: u8, part: u8) -> Pen
     requires { ⌜ pen .at + n ≤ 18446744073709551615 ⌝ }
     ensures { λ r. ⌜ r ≡ moved pen n block part ⌝ }
 {

@@ -18,11 +18,11 @@ use Rattle.promises.proofs.Round.{written-back}
 use Rattle.leaves.specs.declared.Wrote.{Wrote}
 use Rattle.leaves.specs.declared.Wrote.the-variants as W
 use Rattle.lines.proofs.VolumePlaces.{volumes-laid}
-use Rattle.pens.specs.Volumes.{Fronts, SetPromise}
+use Rattle.volumes.specs.Volumes.{Fronts, SetPromise}
 use Rattle.prints.specs.Printing.{Within}
 use Rattle.pens.proofs.Behind.{full-not}
-use Rattle.pens.proofs.LentOutput.{lent, back, lent-long, back-is}
-use Rattle.pens.proofs.SetWalk.{accepted-so}
+use Rattle.volumes.proofs.LentOutput.{lent, back, lent-long, back-is}
+use Rattle.volumes.proofs.SetWalk.{accepted-so}
 use Rattle.sets.specs.SetReading.{IsAccepted, Judged}
 
 module _ (len : ℕ) (spool : List ℕ) where

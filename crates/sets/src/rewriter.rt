@@ -2,9 +2,9 @@
 use crate::reader::judge;
 use leaves::Wrote;
 use leaves::write::clear;
-use pens::volumes::put_set;
 use rules::Answer;
 use rules::Refusal;
+use volumes::put_set;
 ghost use mathlib.Core.Path.{_≡_};
 ghost use lib.ListN.{length};
 ghost use Rattle.rules.specs.Answers.{rewriteAnswer, rewriteOutput};
