@@ -1,14 +1,15 @@
 # make rules   prove the definitions of document 01 and compute its sample rulings
 # make test    the gate: layout, samples, sentences, the C side, the reference, programs, broken rules refused, then every proof, must-fail edit and
 #              program from nothing (rt ci)
-# make samples the sample spools and their listed answers are what their scripts make: a second
+# make samples the sample spools, their listed answers and the questions about them are what their scripts make: a second
 # make sentences   tools/explain says what it must of the listed answers: seconds
 # make programs    accread, accfix (built without proof) and the example host, on inputs and outputs that fail too: under a minute
 # make c-side  header, example host and drivers compile without a warning, and the header's prototypes are the code's: seconds
 # make reference   the tests of tests/reference, which answers the samples and vectors as they are listed: seconds
 # make edits-found   every edit of a wrong program still finds its lines, no two are the same, those that PROMISES names are there: a second
 # make answer SPOOL=FILE   build accread where it is not built, and say in a sentence what it answers for a spool
-# make compared   the questions that the gate's program asks, and the reference's answers to them, every number among them: a few seconds
+# make compared   all that the gate's program asked is asked and must answer: samples, vectors, and questions of the reference, every number
+#              among its answers: seconds
 # make accread prove the reader and build target/bin/accread: ten to fifteen minutes
 # make accfix  prove the rewriter and build target/bin/accfix
 # make host    prove the C side and build target/staticlib/libhost.a and target/host (examples/host.c)
@@ -51,11 +52,10 @@ layout:
 broken-rules:
 	tools/broken-rules
 
-# The sample spools, and what the program of crates/samples reads and must write, are what the scripts make of the listed answers.
+# The sample spools, and the kept questions and answers of the program of crates/asked, are what the scripts make of the listed answers.
 samples:
 	tools/make-samples --check
 	tools/frame-samples --check
-	tools/frame-rewritten --check
 
 sentences:
 	tools/explain-test
@@ -74,7 +74,7 @@ edits-found:
 	tools/more-edits --check
 	tools/promised
 
-# What the program of crates/compared reads and must print. Emulated it takes about half a minute for these.
+# What the program of crates/asked reads and must print: the kept questions, and these. Emulated it takes about half a minute for them.
 compared:
 	tools/frame-compared 20000 1997
 

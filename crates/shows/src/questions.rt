@@ -1,12 +1,12 @@
-// Questions on standard input, answered one after the other: what the programs that do so have in common.
+// Questions on standard input, answered one after the other: their numbers and their spools.
 ghost use mathlib.Core.Path.{_≡_};
 ghost use Prim.Native.Nat.{_+_, _*_};
 
 // More questions than this are not read. (A program that is proved to end must stop somewhere.)
-pub const MOST_QUESTIONS: usize = 65536;
+pub const MOST_QUESTIONS: usize = 1048576;
 
-// A length that no spool has.
-pub const END: usize = 65536;
+// A length that no spool has: four bytes tell no such number.
+pub const END: usize = 4294967296;
 
 // Two bytes, high first.
 pub fn pair(high: u8, low: u8) -> usize

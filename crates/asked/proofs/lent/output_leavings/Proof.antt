@@ -1,0 +1,54 @@
+use borrow.Author.Needs.{needs}
+use Prim.Native.Nat.{_≤_, _-_}
+use lib.ListN.{length}
+use Rattle.asked.proofs.lent.output_leavings.Statement.{statement}
+use Rattle.asked.proofs.lent.output_leavings.Tie as tie
+
+abbrev Inv-loop : tie.InvT-loop
+Inv-loop from out i₀ t4 i = i ≤ length out
+
+abbrev μ-loop : tie.MeasureT-loop
+μ-loop from out i₀ t4 i = length out - i
+
+loop-holds : tie.Need-loop-holds Inv-loop μ-loop
+loop-holds c = search needs
+
+shared-slice-read-if2 : tie.Need-shared-slice-read-if2 Inv-loop μ-loop
+shared-slice-read-if2 c = search needs
+
+slice-aggregate-write-all : tie.Need-slice-aggregate-write-all Inv-loop μ-loop
+slice-aggregate-write-all c = search needs
+
+write-all-requires : tie.Need-write-all-requires Inv-loop μ-loop
+write-all-requires c κs = search needs
+
+returns : tie.Need-returns Inv-loop μ-loop
+returns c = search needs
+
+add-i : tie.Need-add-i Inv-loop μ-loop
+add-i c = search needs
+
+loop-less : tie.Need-loop-less Inv-loop μ-loop
+loop-less c = search needs
+
+loop-again : tie.Need-loop-again Inv-loop μ-loop
+loop-again c = search needs
+
+returns-2 : tie.Need-returns-2 Inv-loop μ-loop
+returns-2 c = search needs
+
+pub output-leavings-spec : {M : Type 1} → statement M
+output-leavings-spec =
+    tie.close
+    (tie.spec
+    Inv-loop
+    μ-loop
+    loop-holds
+    shared-slice-read-if2
+    slice-aggregate-write-all
+    write-all-requires
+    returns
+    add-i
+    loop-less
+    loop-again
+    returns-2)
