@@ -1,7 +1,8 @@
 # make rules   prove the definitions of document 01 and compute its sample rulings
-# make test    the gate: layout, samples, sentences, the C side, the reference, programs, broken rules refused, then every proof, must-fail edit and
-#              program from nothing (rt ci)
+# make test    the gate: layout, samples, keys, sentences, the C side, the reference, programs, broken rules refused, then every proof, must-fail
+#              edit and program from nothing (rt ci)
 # make samples the sample spools, their listed answers and the questions about them are what their scripts make: a second
+# make keys    the code and proofs that go by the tables' keys are what tools/make-keys makes of the definitions' rows: a second
 # make sentences   tools/explain says what it must of the listed answers: seconds
 # make programs    accread, accfix (built without proof) and the example host, on inputs and outputs that fail too: under a minute
 # make c-side  header, example host and drivers compile without a warning, and the header's prototypes are the code's: seconds
@@ -20,7 +21,7 @@
 # make compare N=100000 SEED=1   the library's answers beside those of tests/reference, on N questions; LIBRARY=FILE takes a built one
 # make sanitize   a thousand questions under AddressSanitizer, UndefinedBehaviorSanitizer and valgrind: about two minutes
 
-.PHONY: rules accread accfix answer host test layout samples sentences programs c-side reference compared edits-found broken-rules edits bench \
+.PHONY: rules accread accfix answer host test layout samples keys sentences programs c-side reference compared edits-found broken-rules edits bench \
 	bench-spools native-bench stack compare sanitize
 
 # The spools that the reader is timed on; the first is the mixed floor that the others are compared with.
@@ -57,6 +58,10 @@ samples:
 	tools/make-samples --check
 	tools/frame-samples --check
 
+# The keys' code and proofs are what the script makes of the definitions' rows.
+keys:
+	tools/make-keys --check
+
 sentences:
 	tools/explain-test
 
@@ -79,7 +84,7 @@ compared:
 	tools/frame-compared 20000 1997
 
 # rt proves in batches that wait for their slowest: four at a time keep two processors busy.
-test: layout samples sentences c-side reference programs compared edits-found broken-rules
+test: layout samples keys sentences c-side reference programs compared edits-found broken-rules
 	RT_JOBS=4 rt ci
 
 edits:

@@ -5,8 +5,8 @@ import sys
 def settle(script, folder, files):
     """Writes the files into the folder; with --check on the command line, fails where one there is another or is missing."""
     if "--check" not in sys.argv[1:]:
-        folder.mkdir(parents=True, exist_ok=True)
         for name, content in files.items():
+            (folder / name).parent.mkdir(parents=True, exist_ok=True)
             (folder / name).write_bytes(content)
         print(f"{script}: {len(files)} files written into {folder.name}/")
         return

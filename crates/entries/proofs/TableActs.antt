@@ -15,7 +15,7 @@ use Rattle.rules.specs.declared.Opener.{Opener}
 use Rattle.rules.specs.declared.Equation.{Equation}
 use Rattle.rules.specs.declared.LineForm.{LineForm}
 use Rattle.rules.specs.declared.LineForm.the-variants as L
-use Rattle.rules.specs.Base.{all, within}
+use Rattle.rules.specs.Base.{all, within, hasNumber}
 use Rattle.rules.specs.RefusalNumbers.{Got, got, bad, unless, mapG, andThen}
 use Rattle.rules.specs.RangeClass.{reaches}
 use Rattle.rules.specs.Lines.{Rest, Shape, opener, noContent, content, opening, formless, shapeOf, hasForm, keyed, bytesAt, formIn}
@@ -65,18 +65,17 @@ all-at q [] i e h = absurd (omega arith)
 all-at q (r ∷ t) zero e h = and-left (q r) (all q t) e
 all-at q (r ∷ t) (suc i) e h = all-at q t i (and-right (q r) (all q t) e) (omega arith)
 
--- all rows but one
-abbrev allBut : (Rule → Bool) → ℕ → List Rule → Bool
-allBut q j [] = true
-allBut q zero (r ∷ t) = all q t
-allBut q (suc j) (r ∷ t) = q r && allBut q j t
+-- all rows but those of the numbers js, where the first row's number is n
+abbrev allBut : (Rule → Bool) → List ℕ → ℕ → List Rule → Bool
+allBut q js n [] = true
+allBut q js n (r ∷ t) = (hasNumber n js || q r) && allBut q js (suc n) t
 
-but-at : (q : Rule → Bool) (j : ℕ) (t : List Rule) (i : ℕ) → allBut q j t ≡ true → i < length t → (i ≡ j → ⊥) → q (ruleAt t i) ≡ true
-but-at q j [] i e h n = absurd (omega arith)
-but-at q zero (r ∷ t) zero e h n = absurd (n refl)
-but-at q zero (r ∷ t) (suc i) e h n = all-at q t i e (omega arith)
-but-at q (suc j) (r ∷ t) zero e h n = and-left (q r) (allBut q j t) e
-but-at q (suc j) (r ∷ t) (suc i) e h n = but-at q j t i (and-right (q r) (allBut q j t) e) (omega arith) (λ (p : i ≡ j). n (ap suc p))
+but-at : (q : Rule → Bool) (js : List ℕ) (t : List Rule) (n i j : ℕ) → j ≡ n + i → allBut q js n t ≡ true → i < length t → hasNumber j js ≡ false → q (ruleAt t i) ≡ true
+but-at q js [] n i j s e h m = absurd (omega arith)
+but-at q js (r ∷ t) n zero j s e h m =
+    let k : n ≡ j = omega (arith, s) in
+    rw (k, m) at (and-left (hasNumber n js || q r) (allBut q js (suc n) t) e)
+but-at q js (r ∷ t) n (suc i) j s e h m = but-at q js t (suc n) i j (omega (arith, s)) (and-right (hasNumber n js || q r) (allBut q js (suc n) t) e) (omega arith) m
 
 -- ── which rows are required ──
 abbrev isOptional : Rule → Bool
@@ -117,29 +116,13 @@ module _ (d : Digits) (i : ℕ) where
   pub plain-wanted : (n : ℕ) → needsNone n ≡ false → (n ≡ 2 → ⊥) → (n ≡ 18 → ⊥) → (n ≡ 7 → ⊥) → (n ≡ 9 → ⊥) → i < length (tableOf n) → true ≡ wanted d (ruleAt (tableOf n) i)
   plain-wanted n e a b c f h = sym (always d (ruleAt (tableOf n) i) (all-at isPlain (tableOf n) i (rw (e, ne-eqb n 2 a, ne-eqb n 18 b, ne-eqb n 7 c, ne-eqb n 9 f) at (plain-all n)) h))
 
-  pub range-wanted : i < length (tableOf 2) → eqb i 0 ≡ wanted d (ruleAt (tableOf 2) i)
-  unfolding tableOf rangeTable
-  range-wanted h = go i h
-    where
-      go : (i : ℕ) → i < 6 → eqb i 0 ≡ wanted d (ruleAt rangeTable i)
-      go zero h = sym (reaches-none d)
-      go (suc i) h = ne-eqb (suc i) 0 (λ e. omega arith) ∙ sym (unwanted d (ruleAt rangeTable (suc i)) (but-at isOptional 0 rangeTable (suc i) refl h (λ e. omega arith)))
+-- in a table with rows of both sorts: those that are not told apart by their numbers
+module _ (d : Digits) (i : ℕ) (t : List Rule) (js : List ℕ) where
+  pub others-wanted : allBut isPlain js 0 t ≡ true → i < length t → hasNumber i js ≡ false → true ≡ wanted d (ruleAt t i)
+  others-wanted e h m = sym (always d (ruleAt t i) (but-at isPlain js t 0 i i (omega arith) e h m))
 
-  pub drawing-wanted : i < 8 → (i ≡ 6 → ⊥) → true ≡ wanted d (ruleAt (tableOf 7) i)
-  unfolding tableOf drawingTable
-  drawing-wanted h n = sym (always d (ruleAt drawingTable i) (but-at isPlain 6 drawingTable i refl h n))
-
-  pub symbol-wanted : i < 4 → (i ≡ 3 → ⊥) → true ≡ wanted d (ruleAt (tableOf 9) i)
-  unfolding tableOf symbolTable
-  symbol-wanted h n = sym (always d (ruleAt symbolTable i) (but-at isPlain 3 symbolTable i refl h n))
-
-  pub placed-first : i ≡ 0 → true ≡ wanted d (ruleAt (tableOf 18) i)
-  unfolding tableOf placedTable
-  placed-first e = rw e (sym (reaches-none d))
-
-  pub placed-other : i < 6 → (i ≡ 0 → ⊥) → (i ≡ 2 → ⊥) → (i ≡ 3 → ⊥) → (i ≡ 4 → ⊥) → (i ≡ 5 → ⊥) → false ≡ wanted d (ruleAt (tableOf 18) i)
-  unfolding tableOf placedTable
-  placed-other h a b c e f = let q : i ≡ 1 = omega arith in rw q
+  pub others-unwanted : allBut isOptional js 0 t ≡ true → i < length t → hasNumber i js ≡ false → false ≡ wanted d (ruleAt t i)
+  others-unwanted e h m = sym (unwanted d (ruleAt t i) (but-at isOptional js t 0 i i (omega arith) e h m))
 
 -- ── all that is required ──
 pub there-full : (d : Digits) (r : Rule) (b : Bool) → b ≡ true → true ≡ present d r b

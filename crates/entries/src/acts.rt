@@ -2,8 +2,11 @@
 use crate::Next;
 use crate::Rest;
 use crate::names::part;
+use crate::required::drawing_wants;
+use crate::required::placed_wants;
+use crate::required::range_wants;
+use crate::required::symbol_wants;
 use crate::row_lines::act_row;
-use crate::row_lines::reaches;
 use crate::shapes::key_of;
 use crate::shapes::rest_of;
 use crate::shapes::shape_for;
@@ -33,52 +36,6 @@ ghost use Rattle.tables.specs.Tables.{tableOf};
 ghost use Rattle.entries.specs.Names.{knownIn};
 ghost use Rattle.entries.specs.Shapes.{restIn};
 ghost use Rattle.entries.specs.Acts.{roomy, nextOf, Acts, wanted, needsNone};
-ghost use Rattle.tables.specs.Numbering.{tableDrawing, tableSymbol, tablePlaced};
-
-// DRAWING_FORMAT's rows: floor_height from 001 on.
-fn drawing_wants(row: usize, d: Digits) -> bool
-    requires { ⌜ row < 8 ⌝ }
-    ensures { λ r. ⌜ r ≡ wanted d (ruleAt (tableOf tableDrawing) row) ⌝ }
-{
-    if row == 6 {
-        return reaches(d, Digits { middle: 0, last: 1 });
-    }
-    true
-}
-
-// A symbol's rows: wall from 002 on.
-fn symbol_wants(row: usize, d: Digits) -> bool
-    requires { ⌜ row < 4 ⌝ }
-    ensures { λ r. ⌜ r ≡ wanted d (ruleAt (tableOf tableSymbol) row) ⌝ }
-{
-    if row == 3 {
-        return reaches(d, Digits { middle: 0, last: 2 });
-    }
-    true
-}
-
-// A placed symbol's rows, by the digits from which on each is required.
-fn placed_wants(row: usize, d: Digits) -> bool
-    requires { ⌜ row < 6 ⌝ }
-    ensures { λ r. ⌜ r ≡ wanted d (ruleAt (tableOf tablePlaced) row) ⌝ }
-{
-    if row == 0 {
-        return true;
-    }
-    if row == 2 {
-        return reaches(d, Digits { middle: 0, last: 3 });
-    }
-    if row == 3 {
-        return reaches(d, Digits { middle: 0, last: 4 });
-    }
-    if row == 4 {
-        return reaches(d, Digits { middle: 0, last: 5 });
-    }
-    if row == 5 {
-        return reaches(d, Digits { middle: 1, last: 0 });
-    }
-    false
-}
 
 // Blocks that need not have any of their rows: those outside all blocks, of definitions, layers, figures and points.
 fn needs_none(table: u8) -> bool
@@ -105,7 +62,7 @@ fn wants(table: u8, row: usize, d: Digits) -> bool
         return false;
     }
     if table == TABLE_RANGE {
-        return row == 0;
+        return range_wants(row, d);
     }
     if table == TABLE_PLACED {
         return placed_wants(row, d);

@@ -3,6 +3,7 @@ pub mod acts;
 mod contents;
 pub mod names;
 mod parts;
+mod required;
 pub mod row_lines;
 pub mod shapes;
 mod values;

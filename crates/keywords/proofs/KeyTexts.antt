@@ -7,9 +7,7 @@ use lib.ListN.{length}
 use borrow.Author.Tests.{le-leb}
 use Rattle.leaves.specs.Writing.{Puts}
 use Rattle.leaves.specs.declared.Wrote.the-variants as W
-use mathlib.Core.Bool.{false}
 use Rattle.rules.specs.Rows.{Rule}
-use Rattle.rules.specs.Figures.{layerTable, figureTable}
 use Rattle.keywords.specs.Keys.{keyAt}
 
 -- a row's number that is none of the numbers up to n
@@ -26,15 +24,3 @@ key-none t j before h = rw (no-key t j h) (nothing before)
   where
     nothing : (b : List ℕ) → Puts [] b b (W.Bytes 0)
     nothing b = record { answer = sym (rw (le-leb 0 (length b) zero-le)); memory = sym (rw (le-leb 0 (length b) zero-le)) }
-
--- a symbol's figures have the keys of a layer's, but for the placed symbol
-pub figure-same : (j : ℕ) → (j ≡ 6 → ⊥) → keyAt (layerTable false) j ≡ keyAt figureTable j
-unfolding layerTable figureTable
-figure-same zero e = refl
-figure-same (suc zero) e = refl
-figure-same (suc (suc zero)) e = refl
-figure-same (suc (suc (suc zero))) e = refl
-figure-same (suc (suc (suc (suc zero)))) e = refl
-figure-same (suc (suc (suc (suc (suc zero))))) e = refl
-figure-same (suc (suc (suc (suc (suc (suc zero)))))) e = absurd (e refl)
-figure-same (suc (suc (suc (suc (suc (suc (suc j))))))) e = refl

@@ -1,4 +1,5 @@
 // The keys of document 01, written: each from the byte string that it is compared with.
+// Made by tools/make-keys from the definitions' rows: change those, or the script.
 use leaves::Wrote;
 use leaves::write::put;
 use tables::TABLE_BASE;
@@ -79,14 +80,14 @@ use tables::keys::TIME;
 use tables::keys::TYPE;
 use tables::keys::VER;
 use tables::keys::WALL;
-ghost use mathlib.Core.Bool.{true, false};
+ghost use mathlib.Core.Bool.{false, true};
 ghost use Rattle.rules.specs.Blocks.{topTable, fileTable, rangeTable, baseTable, elecTable, symTable, laterTable, drawingTable, definesTable, symbolTable, elementTable};
-ghost use Rattle.rules.specs.Figures.{layerTable, pointTable, textTable, placedTable};
+ghost use Rattle.rules.specs.Figures.{layerTable, figureTable, pointTable, textTable, placedTable};
 ghost use Rattle.leaves.specs.Writing.{Puts};
 ghost use Rattle.keywords.specs.Keys.{keyAt};
 ghost use Rattle.tables.specs.Tables.{tableOf};
 
-// Outside all blocks.
+// Outside all blocks; the order of the blocks is judged by the reader.
 fn top_key(row: u8, out: &mut [u8]) -> Wrote
     ensures { λ r. ⌜ Puts (keyAt topTable row) (now (out .entry)) (now (out .exit)) r ⌝ }
 {
@@ -105,7 +106,7 @@ fn top_key(row: u8, out: &mut [u8]) -> Wrote
     Wrote::Bytes(0)
 }
 
-// FILE_FORMAT of the first volume.
+// FILE_FORMAT of the first volume: its record and the volume's behind it.
 fn file_key(row: u8, out: &mut [u8]) -> Wrote
     ensures { λ r. ⌜ Puts (keyAt fileTable row) (now (out .entry)) (now (out .exit)) r ⌝ }
 {
@@ -185,7 +186,7 @@ fn range_key(row: u8, out: &mut [u8]) -> Wrote
     Wrote::Bytes(0)
 }
 
-// `base`.
+// `base=001:{`.
 fn base_key(row: u8, out: &mut [u8]) -> Wrote
     ensures { λ r. ⌜ Puts (keyAt baseTable row) (now (out .entry)) (now (out .exit)) r ⌝ }
 {
@@ -195,7 +196,7 @@ fn base_key(row: u8, out: &mut [u8]) -> Wrote
     Wrote::Bytes(0)
 }
 
-// `elec`.
+// `elec=001:{`.
 fn elec_key(row: u8, out: &mut [u8]) -> Wrote
     ensures { λ r. ⌜ Puts (keyAt elecTable row) (now (out .entry)) (now (out .exit)) r ⌝ }
 {
@@ -211,7 +212,7 @@ fn elec_key(row: u8, out: &mut [u8]) -> Wrote
     Wrote::Bytes(0)
 }
 
-// `sym`.
+// `sym=001:{`.
 fn sym_key(row: u8, out: &mut [u8]) -> Wrote
     ensures { λ r. ⌜ Puts (keyAt symTable row) (now (out .entry)) (now (out .exit)) r ⌝ }
 {
@@ -224,7 +225,7 @@ fn sym_key(row: u8, out: &mut [u8]) -> Wrote
     Wrote::Bytes(0)
 }
 
-// FILE_FORMAT of a later volume.
+// FILE_FORMAT of later volumes.
 fn later_key(row: u8, out: &mut [u8]) -> Wrote
     ensures { λ r. ⌜ Puts (keyAt laterTable row) (now (out .entry)) (now (out .exit)) r ⌝ }
 {
@@ -246,7 +247,7 @@ fn later_key(row: u8, out: &mut [u8]) -> Wrote
     Wrote::Bytes(0)
 }
 
-// DRAWING_FORMAT.
+// DRAWING_FORMAT; its range is arc.
 fn drawing_key(row: u8, out: &mut [u8]) -> Wrote
     ensures { λ r. ⌜ Puts (keyAt drawingTable row) (now (out .entry)) (now (out .exit)) r ⌝ }
 {
@@ -277,7 +278,7 @@ fn drawing_key(row: u8, out: &mut [u8]) -> Wrote
     Wrote::Bytes(0)
 }
 
-// SYMBOL_DEFINE.
+// SYMBOL_DEFINE; its range is S_elec.
 fn defines_key(row: u8, out: &mut [u8]) -> Wrote
     ensures { λ r. ⌜ Puts (keyAt definesTable row) (now (out .entry)) (now (out .exit)) r ⌝ }
 {
@@ -290,7 +291,7 @@ fn defines_key(row: u8, out: &mut [u8]) -> Wrote
     Wrote::Bytes(0)
 }
 
-// A symbol's block.
+// E_symbol in SYMBOL_DEFINE; its range is S_elec.
 fn symbol_key(row: u8, out: &mut [u8]) -> Wrote
     ensures { λ r. ⌜ Puts (keyAt symbolTable row) (now (out .entry)) (now (out .exit)) r ⌝ }
 {
@@ -319,8 +320,8 @@ fn element_key(row: u8, out: &mut [u8]) -> Wrote
     Wrote::Bytes(0)
 }
 
-// The figures, and a placed symbol among those of a layer.
-fn figure_key(row: u8, out: &mut [u8]) -> Wrote
+// The figures of a layer, and a placed symbol among them.
+fn layer_key(row: u8, out: &mut [u8]) -> Wrote
     ensures { λ r. ⌜ Puts (keyAt (layerTable false) row) (now (out .entry)) (now (out .exit)) r ⌝ }
 {
     if row == 0 {
@@ -343,6 +344,31 @@ fn figure_key(row: u8, out: &mut [u8]) -> Wrote
     }
     if row == 6 {
         return put(&E_SYMBOL, out);
+    }
+    Wrote::Bytes(0)
+}
+
+// The figures of a symbol's `element`.
+fn figure_key(row: u8, out: &mut [u8]) -> Wrote
+    ensures { λ r. ⌜ Puts (keyAt figureTable row) (now (out .entry)) (now (out .exit)) r ⌝ }
+{
+    if row == 0 {
+        return put(&LINE, out);
+    }
+    if row == 1 {
+        return put(&CIRCLE, out);
+    }
+    if row == 2 {
+        return put(&ELLIPSE, out);
+    }
+    if row == 3 {
+        return put(&POINT, out);
+    }
+    if row == 4 {
+        return put(&SUCCESSIVE, out);
+    }
+    if row == 5 {
+        return put(&TEXT, out);
     }
     Wrote::Bytes(0)
 }
@@ -370,7 +396,7 @@ fn lettering_key(row: u8, out: &mut [u8]) -> Wrote
     Wrote::Bytes(0)
 }
 
-// A placed symbol's block.
+// A placed symbol's block; its range is E_sym.
 fn placed_key(row: u8, out: &mut [u8]) -> Wrote
     ensures { λ r. ⌜ Puts (keyAt placedTable row) (now (out .entry)) (now (out .exit)) r ⌝ }
 {
@@ -433,15 +459,12 @@ pub fn put_key(table: u8, row: u8, out: &mut [u8]) -> Wrote
         return element_key(row, out);
     }
     if table == TABLE_LAYER {
-        return figure_key(row, out);
+        return layer_key(row, out);
     }
     if table == TABLE_SINGLE_LAYER {
-        return figure_key(row, out);
+        return layer_key(row, out);
     }
     if table == TABLE_FIGURES {
-        if row == 6 {
-            return Wrote::Bytes(0);
-        }
         return figure_key(row, out);
     }
     if table == TABLE_LAYER_POINTS {

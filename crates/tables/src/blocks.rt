@@ -1,4 +1,5 @@
 // The tables of document 01: for each block the row of a key.
+// Made by tools/make-keys from the definitions' rows: change those, or the script.
 use crate::Found;
 use crate::HOLDS_BLOCK;
 use crate::HOLDS_EITHER;
@@ -89,11 +90,10 @@ ghost use Rattle.rules.specs.Figures.{placedTable};
 ghost use Rattle.tables.specs.Rows.{foundOf, foundForLine};
 ghost use Rattle.tables.specs.Tables.{headerTexts, behindEight};
 
-// several forms, the first one last: type,x,y and the like
+// several forms, two digits each, the first one last: type,x,y and the like
+const WALL_FORMS: u64 = 20_20;
 
-const PLACING: u64 = 22_23_21_21_15;
-
-const WALL: u64 = 20_20;
+const SYMBOL_FORMS: u64 = 22_23_21_21_15;
 
 // the free texts, by their numbers in TEXT_LIMITS
 const CAD: u8 = 0;
@@ -121,9 +121,9 @@ const DRAWER: u8 = 10;
 // sets of bytes
 const LETTERS_AND_DIGITS: u8 = 2;
 
-const CIRCUIT: u8 = 4;
+const CIRCUIT_BYTES: u8 = 4;
 
-// "FILE_FORMAT, DRAWING_FORMAT, SYMBOL_DEFINE, ELEMENT": their order is judged by the reader.
+// Outside all blocks; the order of the blocks is judged by the reader.
 pub(crate) fn top_row(k: &[u8]) -> Found
     ensures { λ r. ⌜ foundForLine (find (now (k .entry)) topTable) ≡ foundOf r ⌝ }
 {
@@ -351,7 +351,7 @@ pub(crate) fn symbol_row(k: &[u8]) -> Found
         return Found::Row(inner(2, HOLDS_BLOCK, 0, 2, 0));
     }
     if is_wall(k) {
-        return Found::Row(with_state(from(may_be_empty(several(3, WALL, 1, 0, 8)), 0, 2), 7));
+        return Found::Row(with_state(from(may_be_empty(several(3, WALL_FORMS, 1, 0, 8)), 0, 2), 7));
     }
     Found::Absent
 }
@@ -371,7 +371,7 @@ pub(crate) fn placed_row(k: &[u8]) -> Found
     ensures { λ r. ⌜ foundForLine (find (now (k .entry)) placedTable) ≡ foundOf r ⌝ }
 {
     if is_symbol(k) {
-        return Found::Row(several(0, PLACING, 4, 0, 5));
+        return Found::Row(several(0, SYMBOL_FORMS, 4, 0, 5));
     }
     if is_text(k) {
         return Found::Row(with_state(from(inner(1, HOLDS_BLOCK, 0, 1, 0), 0, 2), 26));
@@ -390,7 +390,11 @@ pub(crate) fn placed_row(k: &[u8]) -> Found
     }
     if is_circuit(k) {
         return Found::Row(with_state(
-            from(may_be_empty(text(4, HOLDS_WORD, 10, CIRCUIT, 12)), 0, 5),
+            from(
+                may_be_empty(text(4, HOLDS_WORD, 10, CIRCUIT_BYTES, 12)),
+                0,
+                5,
+            ),
             29,
         ));
     }

@@ -1,4 +1,5 @@
 // The keys of document 01: fixed byte strings, each compared with its part of the spool. (What is written of them is written from the same.)
+// Made by tools/make-keys from the definitions' rows: change those, or the script.
 use leaves::bytes::same;
 ghost use mathlib.Core.Path.{_≡_};
 ghost use Rattle.rules.specs.Base.{bytes, same as sameBytes};

@@ -1,4 +1,5 @@
 // The row of a key in the table of a number.
+// Made by tools/make-keys from the definitions' rows: change those, or the script.
 use crate::Found;
 use crate::TABLE_BASE;
 use crate::TABLE_DEFINES;

@@ -1,8 +1,8 @@
+-- Made by tools/make-keys from the definitions' rows: change those, or the script.
 use Prim.Native.Nat.{zero-le}
 use mathlib.Core.Path.{refl}
-use Rattle.rules.specs.Figures.{layerTable}
+use Rattle.rules.specs.Figures.{figureTable}
 use Rattle.keywords.proofs.KeyTexts.{past, key-none}
-use mathlib.Core.Bool.{false}
 use borrow.Author.Needs.{needs}
 use Rattle.keywords.proofs.figure_key.Statement.{statement}
 use Rattle.keywords.proofs.figure_key.Tie as tie
@@ -17,7 +17,7 @@ same-length : tie.Need-same-length
 same-length c = search needs
 
 returns : tie.Need-returns
-unfolding layerTable
+unfolding figureTable
 returns c = rw (c .before .before .before .before .before .if1 .taken) (c .before .before .put .ensures)
 
 slice-aggregate-put-2 : tie.Need-slice-aggregate-put-2
@@ -30,7 +30,7 @@ same-length-2 : tie.Need-same-length-2
 same-length-2 c = search needs
 
 returns-2 : tie.Need-returns-2
-unfolding layerTable
+unfolding figureTable
 returns-2 c = rw (c .before .before .before .before .before .if2 .taken) (c .before .before .put2 .ensures)
 
 slice-aggregate-put-3 : tie.Need-slice-aggregate-put-3
@@ -43,7 +43,7 @@ same-length-3 : tie.Need-same-length-3
 same-length-3 c = search needs
 
 returns-3 : tie.Need-returns-3
-unfolding layerTable
+unfolding figureTable
 returns-3 c = rw (c .before .before .before .before .before .if3 .taken) (c .before .before .put3 .ensures)
 
 slice-aggregate-put-4 : tie.Need-slice-aggregate-put-4
@@ -56,7 +56,7 @@ same-length-4 : tie.Need-same-length-4
 same-length-4 c = search needs
 
 returns-4 : tie.Need-returns-4
-unfolding layerTable
+unfolding figureTable
 returns-4 c = rw (c .before .before .before .before .before .if4 .taken) (c .before .before .put4 .ensures)
 
 slice-aggregate-put-5 : tie.Need-slice-aggregate-put-5
@@ -69,7 +69,7 @@ same-length-5 : tie.Need-same-length-5
 same-length-5 c = search needs
 
 returns-5 : tie.Need-returns-5
-unfolding layerTable
+unfolding figureTable
 returns-5 c = rw (c .before .before .before .before .before .if5 .taken) (c .before .before .put5 .ensures)
 
 slice-aggregate-put-6 : tie.Need-slice-aggregate-put-6
@@ -82,25 +82,12 @@ same-length-6 : tie.Need-same-length-6
 same-length-6 c = search needs
 
 returns-6 : tie.Need-returns-6
-unfolding layerTable
+unfolding figureTable
 returns-6 c = rw (c .before .before .before .before .before .if6 .taken) (c .before .before .put6 .ensures)
 
-slice-aggregate-put-7 : tie.Need-slice-aggregate-put-7
-slice-aggregate-put-7 c = refl
-
-put-requires-7 : tie.Need-put-requires-7
-put-requires-7 c κs = tt
-
-same-length-7 : tie.Need-same-length-7
-same-length-7 c = search needs
-
 returns-7 : tie.Need-returns-7
-unfolding layerTable
-returns-7 c = rw (c .before .before .before .before .before .if7 .taken) (c .before .before .put7 .ensures)
-
-returns-8 : tie.Need-returns-8
-unfolding layerTable
-returns-8 c = key-none (layerTable false) (c .before .before .before .before .before .before .before .before .args .row) (c .before .before .before .before .before .before .before .before .args .out .now) (past _ 6 (past _ 5 (past _ 4 (past _ 3 (past _ 2 (past _ 1 (past _ 0 zero-le (c .before .before .before .before .before .before .if1 .left)) (c .before .before .before .before .before .if2 .left)) (c .before .before .before .before .if3 .left)) (c .before .before .before .if4 .left)) (c .before .before .if5 .left)) (c .before .if6 .left)) (c .if7 .left))
+unfolding figureTable
+returns-7 c = key-none figureTable (c .before .before .before .before .before .before .before .args .row) (c .before .before .before .before .before .before .before .args .out .now) (past _ 5 (past _ 4 (past _ 3 (past _ 2 (past _ 1 (past _ 0 zero-le (c .before .before .before .before .before .if1 .left)) (c .before .before .before .before .if2 .left)) (c .before .before .before .if3 .left)) (c .before .before .if4 .left)) (c .before .if5 .left)) (c .if6 .left))
 
 pub figure-key-spec : {M : Type 1} → statement M
 figure-key-spec =
@@ -130,8 +117,4 @@ figure-key-spec =
     put-requires-6
     same-length-6
     returns-6
-    slice-aggregate-put-7
-    put-requires-7
-    same-length-7
-    returns-7
-    returns-8)
+    returns-7)

@@ -1,3 +1,4 @@
+-- Made by tools/make-keys from the definitions' rows: change those, or the script.
 use Prim.Native.Nat.{zero-le}
 use mathlib.Core.Path.{refl}
 use Rattle.rules.specs.Blocks.{fileTable}

@@ -1,10 +1,10 @@
-use native.Mathlib.Nat.{le-refl}
+-- Made by tools/make-keys from the definitions' rows: change those, or the script.
 use Prim.Native.Nat.{zero-le}
 use mathlib.Core.List.{[]}
 use borrow.Author.Tests.{ne-eqb}
-use Rattle.rules.specs.Figures.{layerTable, figureTable, pointTable, textTable}
+use Rattle.rules.specs.Figures.{layerTable, pointTable, textTable}
 use Rattle.tables.specs.Tables.{tableOf}
-use Rattle.keywords.proofs.KeyTexts.{key-none, figure-same}
+use Rattle.keywords.proofs.KeyTexts.{key-none}
 use borrow.Author.Needs.{needs}
 use Rattle.keywords.proofs.put_key.Statement.{statement}
 use Rattle.keywords.proofs.put_key.Tie as tie
@@ -119,39 +119,35 @@ returns-11 : tie.Need-returns-11
 unfolding tableOf
 returns-11 c = rw (c .before .before .before .before .if11 .taken) (c .before .before .element-key .ensures)
 
-figure-key-requires : tie.Need-figure-key-requires
-figure-key-requires c κs = tt
+layer-key-requires : tie.Need-layer-key-requires
+layer-key-requires c κs = tt
 
 same-length-12 : tie.Need-same-length-12
 same-length-12 c = search needs
 
 returns-12 : tie.Need-returns-12
 unfolding tableOf layerTable
-returns-12 c = rw (c .before .before .before .before .if12 .taken) (c .before .before .figure-key .ensures)
+returns-12 c = rw (c .before .before .before .before .if12 .taken) (c .before .before .layer-key .ensures)
 
-figure-key-requires-2 : tie.Need-figure-key-requires-2
-figure-key-requires-2 c κs = tt
+layer-key-requires-2 : tie.Need-layer-key-requires-2
+layer-key-requires-2 c κs = tt
 
 same-length-13 : tie.Need-same-length-13
 same-length-13 c = search needs
 
 returns-13 : tie.Need-returns-13
 unfolding tableOf layerTable
-returns-13 c = rw (c .before .before .before .before .if13 .taken) (c .before .before .figure-key2 .ensures)
+returns-13 c = rw (c .before .before .before .before .if13 .taken) (c .before .before .layer-key2 .ensures)
 
-returns-14 : tie.Need-returns-14
-unfolding tableOf figureTable
-returns-14 c = rw (c .before .if14 .taken, c .if15 .taken) (key-none figureTable 6 (c .before .before .before .before .before .before .before .before .before .before .before .before .before .before .before .before .args .out .now) (le-refl 6))
-
-figure-key-requires-3 : tie.Need-figure-key-requires-3
-figure-key-requires-3 c κs = tt
+figure-key-requires : tie.Need-figure-key-requires
+figure-key-requires c κs = tt
 
 same-length-14 : tie.Need-same-length-14
 same-length-14 c = search needs
 
-returns-15 : tie.Need-returns-15
+returns-14 : tie.Need-returns-14
 unfolding tableOf
-returns-15 c = rw (c .before .before .before .before .before .if14 .taken, ← figure-same (c .before .before .before .before .before .before .before .before .before .before .before .before .before .before .before .before .before .before .before .before .args .row) (c .before .before .before .before .if15 .left)) (c .before .before .figure-key3 .ensures)
+returns-14 c = rw (c .before .before .before .before .if14 .taken) (c .before .before .figure-key .ensures)
 
 point-key-requires : tie.Need-point-key-requires
 point-key-requires c κs = tt
@@ -159,9 +155,9 @@ point-key-requires c κs = tt
 same-length-15 : tie.Need-same-length-15
 same-length-15 c = search needs
 
-returns-16 : tie.Need-returns-16
+returns-15 : tie.Need-returns-15
 unfolding tableOf pointTable
-returns-16 c = rw (c .before .before .before .before .if16 .taken) (c .before .before .point-key .ensures)
+returns-15 c = rw (c .before .before .before .before .if15 .taken) (c .before .before .point-key .ensures)
 
 point-key-requires-2 : tie.Need-point-key-requires-2
 point-key-requires-2 c κs = tt
@@ -169,9 +165,9 @@ point-key-requires-2 c κs = tt
 same-length-16 : tie.Need-same-length-16
 same-length-16 c = search needs
 
-returns-17 : tie.Need-returns-17
+returns-16 : tie.Need-returns-16
 unfolding tableOf pointTable
-returns-17 c = rw (c .before .before .before .before .if17 .taken) (c .before .before .point-key2 .ensures)
+returns-16 c = rw (c .before .before .before .before .if16 .taken) (c .before .before .point-key2 .ensures)
 
 lettering-key-requires : tie.Need-lettering-key-requires
 lettering-key-requires c κs = tt
@@ -179,9 +175,9 @@ lettering-key-requires c κs = tt
 same-length-17 : tie.Need-same-length-17
 same-length-17 c = search needs
 
-returns-18 : tie.Need-returns-18
+returns-17 : tie.Need-returns-17
 unfolding tableOf textTable
-returns-18 c = rw (c .before .before .before .before .if18 .taken) (c .before .before .lettering-key .ensures)
+returns-17 c = rw (c .before .before .before .before .if17 .taken) (c .before .before .lettering-key .ensures)
 
 lettering-key-requires-2 : tie.Need-lettering-key-requires-2
 lettering-key-requires-2 c κs = tt
@@ -189,9 +185,9 @@ lettering-key-requires-2 c κs = tt
 same-length-18 : tie.Need-same-length-18
 same-length-18 c = search needs
 
-returns-19 : tie.Need-returns-19
+returns-18 : tie.Need-returns-18
 unfolding tableOf textTable
-returns-19 c = rw (c .before .before .before .before .if19 .taken) (c .before .before .lettering-key2 .ensures)
+returns-18 c = rw (c .before .before .before .before .if18 .taken) (c .before .before .lettering-key2 .ensures)
 
 placed-key-requires : tie.Need-placed-key-requires
 placed-key-requires c κs = tt
@@ -199,9 +195,9 @@ placed-key-requires c κs = tt
 same-length-19 : tie.Need-same-length-19
 same-length-19 c = search needs
 
-returns-20 : tie.Need-returns-20
+returns-19 : tie.Need-returns-19
 unfolding tableOf
-returns-20 c = rw (c .before .before .before .before .if20 .taken) (c .before .before .placed-key .ensures)
+returns-19 c = rw (c .before .before .before .before .if19 .taken) (c .before .before .placed-key .ensures)
 
 lettering-key-requires-3 : tie.Need-lettering-key-requires-3
 lettering-key-requires-3 c κs = tt
@@ -209,13 +205,13 @@ lettering-key-requires-3 c κs = tt
 same-length-20 : tie.Need-same-length-20
 same-length-20 c = search needs
 
-returns-21 : tie.Need-returns-21
+returns-20 : tie.Need-returns-20
 unfolding tableOf textTable
-returns-21 c = rw (c .before .before .before .before .if21 .taken) (c .before .before .lettering-key3 .ensures)
+returns-20 c = rw (c .before .before .before .before .if20 .taken) (c .before .before .lettering-key3 .ensures)
 
-returns-22 : tie.Need-returns-22
+returns-21 : tie.Need-returns-21
 unfolding tableOf
-returns-22 c = rw (ne-eqb (c .before .before .before .before .before .before .before .before .before .before .before .before .before .before .before .before .before .before .before .before .before .args .table) 0 (c .before .before .before .before .before .before .before .before .before .before .before .before .before .before .before .before .before .before .before .if1 .left), ne-eqb (c .before .before .before .before .before .before .before .before .before .before .before .before .before .before .before .before .before .before .before .before .before .args .table) 1 (c .before .before .before .before .before .before .before .before .before .before .before .before .before .before .before .before .before .before .if2 .left), ne-eqb (c .before .before .before .before .before .before .before .before .before .before .before .before .before .before .before .before .before .before .before .before .before .args .table) 2 (c .before .before .before .before .before .before .before .before .before .before .before .before .before .before .before .before .before .if3 .left), ne-eqb (c .before .before .before .before .before .before .before .before .before .before .before .before .before .before .before .before .before .before .before .before .before .args .table) 3 (c .before .before .before .before .before .before .before .before .before .before .before .before .before .before .before .before .if4 .left), ne-eqb (c .before .before .before .before .before .before .before .before .before .before .before .before .before .before .before .before .before .before .before .before .before .args .table) 4 (c .before .before .before .before .before .before .before .before .before .before .before .before .before .before .before .if5 .left), ne-eqb (c .before .before .before .before .before .before .before .before .before .before .before .before .before .before .before .before .before .before .before .before .before .args .table) 5 (c .before .before .before .before .before .before .before .before .before .before .before .before .before .before .if6 .left), ne-eqb (c .before .before .before .before .before .before .before .before .before .before .before .before .before .before .before .before .before .before .before .before .before .args .table) 6 (c .before .before .before .before .before .before .before .before .before .before .before .before .before .if7 .left), ne-eqb (c .before .before .before .before .before .before .before .before .before .before .before .before .before .before .before .before .before .before .before .before .before .args .table) 7 (c .before .before .before .before .before .before .before .before .before .before .before .before .if8 .left), ne-eqb (c .before .before .before .before .before .before .before .before .before .before .before .before .before .before .before .before .before .before .before .before .before .args .table) 8 (c .before .before .before .before .before .before .before .before .before .before .before .if9 .left), ne-eqb (c .before .before .before .before .before .before .before .before .before .before .before .before .before .before .before .before .before .before .before .before .before .args .table) 9 (c .before .before .before .before .before .before .before .before .before .before .if10 .left), ne-eqb (c .before .before .before .before .before .before .before .before .before .before .before .before .before .before .before .before .before .before .before .before .before .args .table) 10 (c .before .before .before .before .before .before .before .before .before .if11 .left), ne-eqb (c .before .before .before .before .before .before .before .before .before .before .before .before .before .before .before .before .before .before .before .before .before .args .table) 11 (c .before .before .before .before .before .before .before .before .if12 .left), ne-eqb (c .before .before .before .before .before .before .before .before .before .before .before .before .before .before .before .before .before .before .before .before .before .args .table) 12 (c .before .before .before .before .before .before .before .if13 .left), ne-eqb (c .before .before .before .before .before .before .before .before .before .before .before .before .before .before .before .before .before .before .before .before .before .args .table) 13 (c .before .before .before .before .before .before .if14 .left), ne-eqb (c .before .before .before .before .before .before .before .before .before .before .before .before .before .before .before .before .before .before .before .before .before .args .table) 14 (c .before .before .before .before .before .if16 .left), ne-eqb (c .before .before .before .before .before .before .before .before .before .before .before .before .before .before .before .before .before .before .before .before .before .args .table) 15 (c .before .before .before .before .if17 .left), ne-eqb (c .before .before .before .before .before .before .before .before .before .before .before .before .before .before .before .before .before .before .before .before .before .args .table) 16 (c .before .before .before .if18 .left), ne-eqb (c .before .before .before .before .before .before .before .before .before .before .before .before .before .before .before .before .before .before .before .before .before .args .table) 17 (c .before .before .if19 .left), ne-eqb (c .before .before .before .before .before .before .before .before .before .before .before .before .before .before .before .before .before .before .before .before .before .args .table) 18 (c .before .if20 .left), ne-eqb (c .before .before .before .before .before .before .before .before .before .before .before .before .before .before .before .before .before .before .before .before .before .args .table) 19 (c .if21 .left)) (key-none [] (c .before .before .before .before .before .before .before .before .before .before .before .before .before .before .before .before .before .before .before .before .before .args .row) (c .before .before .before .before .before .before .before .before .before .before .before .before .before .before .before .before .before .before .before .before .before .args .out .now) zero-le)
+returns-21 c = rw (ne-eqb _ _ (c .before .before .before .before .before .before .before .before .before .before .before .before .before .before .before .before .before .before .before .if1 .left), ne-eqb _ _ (c .before .before .before .before .before .before .before .before .before .before .before .before .before .before .before .before .before .before .if2 .left), ne-eqb _ _ (c .before .before .before .before .before .before .before .before .before .before .before .before .before .before .before .before .before .if3 .left), ne-eqb _ _ (c .before .before .before .before .before .before .before .before .before .before .before .before .before .before .before .before .if4 .left), ne-eqb _ _ (c .before .before .before .before .before .before .before .before .before .before .before .before .before .before .before .if5 .left), ne-eqb _ _ (c .before .before .before .before .before .before .before .before .before .before .before .before .before .before .if6 .left), ne-eqb _ _ (c .before .before .before .before .before .before .before .before .before .before .before .before .before .if7 .left), ne-eqb _ _ (c .before .before .before .before .before .before .before .before .before .before .before .before .if8 .left), ne-eqb _ _ (c .before .before .before .before .before .before .before .before .before .before .before .if9 .left), ne-eqb _ _ (c .before .before .before .before .before .before .before .before .before .before .if10 .left), ne-eqb _ _ (c .before .before .before .before .before .before .before .before .before .if11 .left), ne-eqb _ _ (c .before .before .before .before .before .before .before .before .if12 .left), ne-eqb _ _ (c .before .before .before .before .before .before .before .if13 .left), ne-eqb _ _ (c .before .before .before .before .before .before .if14 .left), ne-eqb _ _ (c .before .before .before .before .before .if15 .left), ne-eqb _ _ (c .before .before .before .before .if16 .left), ne-eqb _ _ (c .before .before .before .if17 .left), ne-eqb _ _ (c .before .before .if18 .left), ne-eqb _ _ (c .before .if19 .left), ne-eqb _ _ (c .if20 .left)) (key-none [] (c .before .before .before .before .before .before .before .before .before .before .before .before .before .before .before .before .before .before .before .before .before .args .row) (c .before .before .before .before .before .before .before .before .before .before .before .before .before .before .before .before .before .before .before .before .before .args .out .now) zero-le)
 
 pub put-key-spec : {M : Type 1} → statement M
 put-key-spec =
@@ -254,32 +250,31 @@ put-key-spec =
     element-key-requires
     same-length-11
     returns-11
-    figure-key-requires
+    layer-key-requires
     same-length-12
     returns-12
-    figure-key-requires-2
+    layer-key-requires-2
     same-length-13
     returns-13
-    returns-14
-    figure-key-requires-3
+    figure-key-requires
     same-length-14
-    returns-15
+    returns-14
     point-key-requires
     same-length-15
-    returns-16
+    returns-15
     point-key-requires-2
     same-length-16
-    returns-17
+    returns-16
     lettering-key-requires
     same-length-17
-    returns-18
+    returns-17
     lettering-key-requires-2
     same-length-18
-    returns-19
+    returns-18
     placed-key-requires
     same-length-19
-    returns-20
+    returns-19
     lettering-key-requires-3
     same-length-20
-    returns-21
-    returns-22)
+    returns-20
+    returns-21)

@@ -1,8 +1,8 @@
 use mathlib.Core.Path.{sym, _∙_}
-use Rattle.rules.specs.Blocks.{drawingTable, symbolTable}
+use Rattle.rules.specs.Blocks.{rangeTable, drawingTable, symbolTable}
 use Rattle.rules.specs.Figures.{placedTable}
 use Rattle.tables.specs.Tables.{tableOf}
-use Rattle.entries.proofs.TableActs.{none-wanted, plain-wanted, range-wanted}
+use Rattle.entries.proofs.TableActs.{none-wanted, plain-wanted}
 use borrow.Author.Needs.{needs}
 use Rattle.entries.proofs.acts.wants.Statement.{statement}
 use Rattle.entries.proofs.acts.wants.Tie as tie
@@ -13,8 +13,12 @@ needs-none-requires c κs = search needs
 returns : tie.Need-returns
 returns c = none-wanted (c .before .before .args .d) (c .before .before .args .row) (c .before .before .args .table) (sym (c .before .needs-none .ensures) ∙ c .if1 .taken) (c .before .before .pre)
 
+range-wants-requires : tie.Need-range-wants-requires
+unfolding tableOf rangeTable
+range-wants-requires c κs = rw (c .if2 .taken) at (c .before .before .before .pre)
+
 returns-2 : tie.Need-returns-2
-returns-2 c = rw (c .if2 .taken) (range-wanted (c .before .before .before .args .d) (c .before .before .before .args .row) (rw (c .if2 .taken) at (c .before .before .before .pre)))
+returns-2 c = rw (c .before .if2 .taken) (c .range-wants .ensures)
 
 placed-wants-requires : tie.Need-placed-wants-requires
 unfolding tableOf placedTable
@@ -46,6 +50,7 @@ wants-spec =
     (tie.spec
     needs-none-requires
     returns
+    range-wants-requires
     returns-2
     placed-wants-requires
     returns-3

@@ -1,3 +1,4 @@
+-- Made by tools/make-keys from the definitions' rows: change those, or the script.
 use mathlib.Core.Path.{sym, _∙_}
 use Rattle.tables.specs.Rows.{partsOf}
 use Rattle.rules.specs.Blocks.{baseTable}
@@ -20,4 +21,10 @@ unfolding baseTable
 returns-2 c = rw (sym (c .before .is-b-sym .ensures) ∙ c .if1 .left)
 
 pub base-row-spec : {M : Type 1} → statement M
-base-row-spec = tie.close (tie.spec is-b-sym-requires several-requires returns returns-2)
+base-row-spec =
+    tie.close
+    (tie.spec
+    is-b-sym-requires
+    several-requires
+    returns
+    returns-2)

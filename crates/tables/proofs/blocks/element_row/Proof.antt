@@ -1,3 +1,4 @@
+-- Made by tools/make-keys from the definitions' rows: change those, or the script.
 use mathlib.Core.Path.{sym, _∙_}
 use Rattle.tables.specs.Rows.{partsOf}
 use Rattle.rules.specs.Blocks.{elementTable}
@@ -24,4 +25,10 @@ returns-2 c = rw (sym (c .before .is-layer .ensures) ∙ c .if1 .left)
 
 pub element-row-spec : {M : Type 1} → statement M
 element-row-spec =
-    tie.close (tie.spec is-layer-requires inner-requires times-requires returns returns-2)
+    tie.close
+    (tie.spec
+    is-layer-requires
+    inner-requires
+    times-requires
+    returns
+    returns-2)

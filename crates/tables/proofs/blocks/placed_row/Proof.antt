@@ -1,3 +1,4 @@
+-- Made by tools/make-keys from the definitions' rows: change those, or the script.
 use mathlib.Core.Path.{sym, _∙_}
 use Rattle.tables.specs.Rows.{partsOf}
 use Rattle.rules.specs.Figures.{placedTable}

@@ -1,3 +1,4 @@
+-- Made by tools/make-keys from the definitions' rows: change those, or the script.
 use borrow.Author.Tests.{ne-eqb}
 use Rattle.rules.specs.Figures.{layerTable, figureTable}
 use Rattle.tables.specs.Tables.{tableOf}

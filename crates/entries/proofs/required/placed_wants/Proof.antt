@@ -1,12 +1,18 @@
+-- Made by tools/make-keys from the definitions' rows: change those, or the script.
+use mathlib.Core.List.{[], _∷_}
+use mathlib.Core.Path.{refl, sym}
+use borrow.Author.Tests.{ne-eqb}
 use Rattle.rules.specs.Figures.{placedTable}
+use Rattle.rules.proofs.Rows.{reaches-none}
 use Rattle.tables.specs.Tables.{tableOf}
-use Rattle.entries.proofs.TableActs.{placed-first, placed-other}
+use Rattle.entries.proofs.TableActs.{others-unwanted}
 use borrow.Author.Needs.{needs}
-use Rattle.entries.proofs.acts.placed_wants.Statement.{statement}
-use Rattle.entries.proofs.acts.placed_wants.Tie as tie
+use Rattle.entries.proofs.required.placed_wants.Statement.{statement}
+use Rattle.entries.proofs.required.placed_wants.Tie as tie
 
 returns : tie.Need-returns
-returns c = placed-first (c .before .args .d) (c .before .args .row) (c .if1 .taken)
+unfolding tableOf placedTable
+returns c = rw (c .if1 .taken) (sym (reaches-none (c .before .args .d)))
 
 reaches-requires : tie.Need-reaches-requires
 reaches-requires c κs = search needs
@@ -37,7 +43,8 @@ unfolding tableOf placedTable
 returns-5 c = rw (c .before .if5 .taken) (c .reaches4 .ensures)
 
 returns-6 : tie.Need-returns-6
-returns-6 c = placed-other (c .before .before .before .before .before .args .d) (c .before .before .before .before .before .args .row) (c .before .before .before .before .before .pre) (c .before .before .before .before .if1 .left) (c .before .before .before .if2 .left) (c .before .before .if3 .left) (c .before .if4 .left) (c .if5 .left)
+unfolding tableOf placedTable
+returns-6 c = others-unwanted (c .before .before .before .before .before .args .d) (c .before .before .before .before .before .args .row) placedTable (0 ∷ 2 ∷ 3 ∷ 4 ∷ 5 ∷ []) refl (c .before .before .before .before .before .pre) (rw (ne-eqb _ _ (c .before .before .before .before .if1 .left), ne-eqb _ _ (c .before .before .before .if2 .left), ne-eqb _ _ (c .before .before .if3 .left), ne-eqb _ _ (c .before .if4 .left), ne-eqb _ _ (c .if5 .left)))
 
 pub placed-wants-spec : {M : Type 1} → statement M
 placed-wants-spec =
