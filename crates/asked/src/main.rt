@@ -42,6 +42,36 @@ fn wide(b: u8) -> u64 {
     b as u64
 }
 
+// What stands before a question's spool.
+struct Head {
+    what: u8,
+    cls: u64,
+    numbers: usize,
+    bytes: usize,
+    spool: usize,
+}
+
+// The next question's head; where there is none, one of a spool that is too long for any room.
+fn next_head() -> Head {
+    let mut head = [0u8; HEAD];
+    if io::read_full(0, &mut head) < HEAD {
+        return Head {
+            what: 0,
+            cls: 0,
+            numbers: 0,
+            bytes: 0,
+            spool: END,
+        };
+    }
+    Head {
+        what: head[0],
+        cls: wide(head[1]),
+        numbers: number(head[2], head[3], head[4], head[5]),
+        bytes: number(head[6], head[7], head[8], head[9]),
+        spool: number(head[10], head[11], head[12], head[13]),
+    }
+}
+
 // The length of the question's spool, which is read where it is not the one before; END where there is none.
 fn spool_length(len: usize, before: usize, spool: &mut [u8]) -> usize {
     if len == SAME_SPOOL {
@@ -69,17 +99,10 @@ fn answered(what: u8, cls: u64, spool: &[u8], table: &mut [i64], out: &mut [u8])
 
 // Reads a question, answers it, and gives the length of its spool; END where there is none, no room for it, or nothing known is asked.
 fn question(before: usize, spool: &mut [u8], table: &mut [i64], out: &mut [u8]) -> usize {
-    let mut head = [0u8; HEAD];
-    if io::read_full(0, &mut head) < HEAD {
-        return END;
-    }
-    let numbers = number(head[2], head[3], head[4], head[5]);
-    let bytes = number(head[6], head[7], head[8], head[9]);
-    let len = spool_length(
-        number(head[10], head[11], head[12], head[13]),
-        before,
-        spool,
-    );
+    let head = next_head();
+    let numbers = head.numbers;
+    let bytes = head.bytes;
+    let len = spool_length(head.spool, before, spool);
     if spool.len() < len {
         return END;
     }
@@ -90,8 +113,8 @@ fn question(before: usize, spool: &mut [u8], table: &mut [i64], out: &mut [u8]) 
         return END;
     }
     if answered(
-        head[0],
-        wide(head[1]),
+        head.what,
+        head.cls,
         &spool[..len],
         &mut table[..numbers],
         &mut out[..bytes],
