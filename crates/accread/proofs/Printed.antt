@@ -1,11 +1,10 @@
 -- What main writes, line by line from the reader's answer and table, is `printed` of the spool.
-use Prim.Native.Nat.{ℕ, suc, _-_, _*_}
-use mathlib.Core.List.{List, [], _∷_, _++_, map, append-assoc}
-use mathlib.Core.Path.{_≡_, refl, ap, ap₂, sym, _∙_}
+use Prim.Native.Nat.{ℕ, _*_}
+use mathlib.Core.List.{List, [], _++_, map}
+use mathlib.Core.Path.{_≡_, refl, ap, sym}
 use native.Mathlib.Omega.{arith}
-use lib.IntN.{ℤ, pos}
-use lib.ListN.{replicate, length}
-use lib.Seq.{take-at, drop-at}
+use lib.IntN.{ℤ}
+use lib.ListN.{length}
 use Rattle.rules.specs.declared.Refusal.{Refusal}
 use Rattle.rules.specs.declared.Answer.{Answer}
 use Rattle.rules.specs.declared.Answer.the-variants.{Accepted, Refused}
@@ -15,16 +14,8 @@ use Rattle.rules.specs.LineByLine.{Outcome, refused, accepted}
 use Rattle.rules.specs.RangeClass.{classOf}
 use Rattle.rules.specs.RecordTable.{width}
 use Rattle.rules.specs.Answers.{digitsOr, answerCount, answerWith, recordsIn, readOutcome, readRecords, readAnswer, readTable, ownRecords, printLine, firstLine, printed}
-use Rattle.promises.specs.DemandOne.{Wide, noRecord, oneMore}
-use Rattle.promises.proofs.Answered.{demand-one}
+use Rattle.promises.proofs.Calls.{table-records}
 use Rattle.accread.specs.Printing.{recordLines}
-
-from-table : (rs : List (List ℤ)) → Wide rs → (rest : List ℤ) → recordLines (length rs) (flat rs ++ rest) ≡ flat (map printLine rs)
-from-table [] noRecord rest = refl
-from-table (r ∷ rs) (oneMore h w) rest =
-    ap (λ (t : List ℤ). recordLines (suc (length rs)) t) (append-assoc r (flat rs) rest)
-    ∙ ap₂ (λ (a b : List ℤ). printLine a ++ recordLines (length rs) b) (take-at r (flat rs ++ rest) 32 h) (drop-at r (flat rs ++ rest) 32 h)
-    ∙ ap (λ (s : List ℕ). printLine r ++ s) (from-table rs w rest)
 
 -- a refusal has no records
 no-records : (c : Digits) (o : Outcome) (r : Refusal) → answerWith (length (recordsIn c o)) o ≡ Refused r → recordsIn c o ≡ []
@@ -37,9 +28,7 @@ module _ (class len : ℕ) (spool : List ℕ) where
   refused-none r e = no-records (digitsOr (classOf class)) (readOutcome class len spool) r e
 
   lines : (a : Answer) → readAnswer class len spool ≡ a → recordLines (answerCount a) (readTable class len spool) ≡ flat (map printLine (readRecords class len spool))
-  lines (Accepted n) e =
-      let f = demand-one .reader class len spool .whenAccepted n e in
-      ap₂ recordLines (sym (f .count)) (f .stands) ∙ from-table (readRecords class len spool) (f .wide) (replicate (len - n * width) (pos 0))
+  lines (Accepted n) e = ap (λ (rs : List (List ℤ)). flat (map printLine rs)) (table-records class len spool n e)
   lines (Refused r) e = sym (ap (λ (rs : List (List ℤ)). flat (map printLine rs)) (refused-none r e))
 
 -- the table of main has 256 records

@@ -14,7 +14,9 @@ use Rattle.rules.specs.RecordTable.{width}
 use Rattle.rules.specs.Answers.{answerWith, readOutcome, readRecords, readAnswer, readTable}
 use Rattle.promises.specs.DemandOne.{Wide, noRecord, oneMore}
 use Rattle.promises.specs.DemandThree.{unread}
+use Rattle.promises.specs.TableTexts.{firstRecords}
 use Rattle.promises.specs.ReaderCalls.{eachRecord, LowerCallAccepts, HigherCallRefuses}
+use Rattle.promises.proofs.Widths.{flat-length}
 use Rattle.promises.proofs.Answered.{demand-one}
 use Rattle.promises.proofs.TwoClasses.{lower-accepts, higher-refuses}
 
@@ -27,22 +29,27 @@ accepted-set class len spool n e = go (readOutcome class len spool) (length (rea
     go (refused j v l) k e = absurd (let z : _≡_ {A = ℕ} 0 1 = cc in omega arith)
     go (accepted s) k e = (s, refl)
 
--- records changed in the table are records changed before they were laid into it
-pub each-flat : (f : List ℤ → List ℤ) (rs : List (List ℤ)) (z : List ℤ) → Wide rs → eachRecord f (length rs) (flat rs ++ z) ≡ flat (map f rs) ++ z
-each-flat f [] z noRecord = refl
-each-flat f (r ∷ rs) z (oneMore e w) =
+-- the records of a table are the records that were laid into it
+first-flat : (rs : List (List ℤ)) (z : List ℤ) → Wide rs → firstRecords (length rs) (flat rs ++ z) ≡ rs
+first-flat [] z noRecord = refl
+first-flat (r ∷ rs) z (oneMore e w) =
     let seam : flat (r ∷ rs) ++ z ≡ r ++ (flat rs ++ z) = append-assoc r (flat rs) z in
-    let first = ap (take width) seam ∙ take-at r (flat rs ++ z) width e in
-    let others = ap (drop width) seam ∙ drop-at r (flat rs ++ z) width e in
-    ap₂ (λ a b. f a ++ eachRecord f (length rs) b) first others
-    ∙ ap (λ t. f r ++ t) (each-flat f rs z w) ∙ sym (append-assoc (f r) (flat (map f rs)) z)
+    ap₂ _∷_ (ap (take width) seam ∙ take-at r (flat rs ++ z) width e)
+    (ap (firstRecords (length rs)) (ap (drop width) seam ∙ drop-at r (flat rs ++ z) width e) ∙ first-flat rs z w)
+
+pub table-records : (class len : ℕ) (spool : List ℕ) (n : ℕ) → readAnswer class len spool ≡ Accepted n → firstRecords n (readTable class len spool) ≡ readRecords class len spool
+table-records class len spool n e =
+    let w = demand-one .reader class len spool .whenAccepted n e in
+    ap₂ firstRecords (sym (w .count)) (w .stands) ∙ first-flat (readRecords class len spool) _ (w .wide)
 
 -- the table of an accepted spool, its records changed
 each-table : (f : List ℤ → List ℤ) (class len : ℕ) (spool : List ℕ) (n : ℕ) → readAnswer class len spool ≡ Accepted n
     → eachRecord f n (readTable class len spool) ≡ flat (map f (readRecords class len spool)) ++ replicate (len - n * width) (pos 0)
 each-table f class len spool n e =
     let w = demand-one .reader class len spool .whenAccepted n e in
-    ap₂ (eachRecord f) (sym (w .count)) (w .stands) ∙ each-flat f (readRecords class len spool) _ (w .wide)
+    let rs = readRecords class len spool in
+    ap₂ _++_ (ap (λ us. flat (map f us)) (table-records class len spool n e))
+    (ap (drop (n * width)) (w .stands) ∙ drop-at (flat rs) _ (n * width) (flat-length rs (w .wide) ∙ ap (λ m. m * width) (w .count)))
 
 -- the two calls with one spool and one length
 pub lower-call-accepts : LowerCallAccepts

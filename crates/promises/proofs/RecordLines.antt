@@ -21,7 +21,8 @@ use Rattle.rules.specs.Sets.{Point, Figure, plain, chain, lettering, placed, La
 use Rattle.rules.specs.RecordTable.{numbersOf, stateOf, columns, others, padded, putNumbers, putState, putSlot, firstSlot, otherSlots, putSlots, putParts, putHeld, unreadState, markUnread, start, fileRecords, drawingRecord, layerRecords, ruleAt, pointRecords, figureRecords, innerRecords, symbolRecords, blockRecords, bodyRecords, laterRecords, recordsFrom, recordsOf}
 use Rattle.rules.specs.RecordTable.{View, viewOf, plainView}
 use Rattle.rules.proofs.Chains.{and-left, and-right, by-cond, map-append}
-use Rattle.promises.specs.Acceptance.{Place, place, natural, placeOf}
+use Rattle.promises.specs.Acceptance.{Place, place, placeOf}
+use Rattle.promises.specs.TableTexts.{amountOf}
 
 -- ── the lines of what is held, in volume k ──
 abbrev pub pointPlaces : ℕ → List Point → List Place
@@ -157,7 +158,7 @@ module _ (kind owner k n : ℕ) where
 
   -- as it began
   place-kept : (t : List ℤ) → getD t 2 (pos 0) ≡ pos k → getD t 3 (pos 0) ≡ pos n → placeOf t ≡ place k n
-  place-kept t p q = ap₂ (λ a b. place (natural a) (natural b)) p q
+  place-kept t p q = ap₂ (λ a b. place (amountOf a) (amountOf b)) p q
 
   slots-place : (rs : List Rule) → clear rs ≡ true → (s : Slots) → placeOf (putSlots rs s begun) ≡ place k n
   slots-place rs e s = place-kept (putSlots rs s begun) (slots-miss 2 rs s begun (at-two rs e)) (slots-miss 3 rs s begun (at-three rs e))

@@ -1,12 +1,12 @@
 -- Demand 2 of calls of the reader and the rewriter, proved from their contracts and the theorems of the demands.
 use Prim.Native.Nat.{ℕ, _*_, _≤_}
-use mathlib.Core.List.{List, [], _∷_, _++_, map, append-assoc}
+use mathlib.Core.List.{List, _++_, map}
 use mathlib.Core.Path.{_≡_, refl, sym, _∙_, ap, ap₂, subst}
 use native.Mathlib.Nat.{le-refl}
 use native.Mathlib.Omega.{arith}
 use lib.IntN.{ℤ}
-use lib.ListN.{length, take, drop}
-use lib.Seq.{take-at, drop-at}
+use lib.ListN.{length, take}
+use lib.Seq.{take-at}
 use Rattle.rules.specs.declared.Answer.the-variants.{Accepted}
 use Rattle.rules.specs.Base.{mapO, flat}
 use Rattle.rules.specs.Spool.{namesOf, volumesOf}
@@ -16,13 +16,12 @@ use Rattle.rules.specs.RecordTable.{width, recordsOf}
 use Rattle.rules.specs.Answers.{answerWith, readOutcome, readRecords, readAnswer, readTable, fullClass, rewriteOutcome, written, fitOutput, rewriteAnswer, rewriteOutput}
 use Rattle.promises.specs.DemandTwo.{RoundTrip}
 use Rattle.promises.specs.PlacesApart.{placesApart, bareOutcome}
-use Rattle.promises.specs.DemandOne.{Wide, noRecord, oneMore}
 use Rattle.promises.specs.TableTexts.{firstRecords, textsOf, ShowTexts}
 use Rattle.promises.specs.TextsKept.{textsKept, CallTexts}
 use Rattle.promises.specs.ReaderCalls.{Call}
 use Rattle.promises.specs.RewriterCalls.{Rewriting, ReadsAll, CallsBack, RewriterCalls, AcceptedRewrites}
 use Rattle.promises.proofs.Answered.{demand-one}
-use Rattle.promises.proofs.Calls.{accepted-set}
+use Rattle.promises.proofs.Calls.{accepted-set, table-records}
 use Rattle.promises.proofs.AnyTable.{class15, fits-table, any-table}
 use Rattle.promises.proofs.Round.{accepted-same, room-accepts, written-back, demand-two}
 use Rattle.promises.proofs.ShownTexts.{texts-kept}
@@ -42,19 +41,6 @@ first-bytes : (len : ℕ) (spool : List ℕ) (n : ℕ) → rewriteAnswer len spo
 first-bytes len spool n e =
     let w = demand-one .rewriter len spool .whenAccepted n e in
     ap (take n) (w .stands) ∙ take-at (written spool) _ n (w .count)
-
--- the records of a table are the records that were laid into it
-first-flat : (rs : List (List ℤ)) (z : List ℤ) → Wide rs → firstRecords (length rs) (flat rs ++ z) ≡ rs
-first-flat [] z noRecord = refl
-first-flat (r ∷ rs) z (oneMore e w) =
-    let seam : flat (r ∷ rs) ++ z ≡ r ++ (flat rs ++ z) = append-assoc r (flat rs) z in
-    ap₂ _∷_ (ap (take width) seam ∙ take-at r (flat rs ++ z) width e)
-    (ap (firstRecords (length rs)) (ap (drop width) seam ∙ drop-at r (flat rs ++ z) width e) ∙ first-flat rs z w)
-
-table-records : (class len : ℕ) (spool : List ℕ) (n : ℕ) → readAnswer class len spool ≡ Accepted n → firstRecords n (readTable class len spool) ≡ readRecords class len spool
-table-records class len spool n e =
-    let w = demand-one .reader class len spool .whenAccepted n e in
-    ap₂ firstRecords (sym (w .count)) (w .stands) ∙ first-flat (readRecords class len spool) _ (w .wide)
 
 call-table : (call : Call) (n : ℕ) → call .answer ≡ Accepted n → firstRecords n (call .after) ≡ readRecords (call .class) (length (call .before)) (call .spool)
 call-table call n e =

@@ -6,7 +6,7 @@ use mathlib.Core.List.{List, [], map}
 use mathlib.Core.Option.{none}
 use mathlib.Core.Path.{_≡_}
 use lib.Dec.{eqb, ltb}
-use lib.IntN.{ℤ, pos, negsuc}
+use lib.IntN.{ℤ}
 use lib.ListN.{length, getD}
 use Rattle.rules.specs.declared.Answer.{Answer}
 use Rattle.rules.specs.declared.Answer.the-variants.{Accepted}
@@ -16,6 +16,7 @@ use Rattle.rules.specs.Sets.{Set}
 use Rattle.rules.specs.LineByLine.{Outcome, refused, accepted}
 use Rattle.rules.specs.RecordTable.{recordsOf, width}
 use Rattle.rules.specs.Answers.{outcomeAt, digitsOr, refusal, readAnswer, readRecords, written, rewriteAnswer}
+use Rattle.promises.specs.TableTexts.{numberAt, amountOf}
 
 -- ── the rules of a class, apart from the table ──
 -- the reading with room for whatever records there are: every rule of document 01 but 19
@@ -44,12 +45,8 @@ abbrev pub earlier : Place → Place → Bool
 earlier p q = ltb (p .volume) (q .volume) || (eqb (p .volume) (q .volume) && ltb (p .line) (q .line))
 
 -- the line at which a record was taken: "2 volume from 1, 3 line"
-abbrev pub natural : ℤ → ℕ
-natural (pos n) = n
-natural (negsuc n) = 0
-
 abbrev pub placeOf : List ℤ → Place
-placeOf r = place (natural (getD r 2 (pos 0))) (natural (getD r 3 (pos 0)))
+placeOf r = place (amountOf (numberAt r 2)) (amountOf (numberAt r 3))
 
 -- "19: record doesn't fit the table"
 abbrev pub noRoom : Place → Answer

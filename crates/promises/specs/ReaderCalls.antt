@@ -1,19 +1,21 @@
 -- Demand 3 of the reader itself: two calls of it, of which nothing is known but what its contract says.
-use Prim.Native.Nat.{ℕ, zero, suc}
+use Prim.Native.Nat.{ℕ, _*_}
 use mathlib.Core.Bool.{true}
-use mathlib.Core.List.{List, _++_}
+use mathlib.Core.List.{List, _++_, map}
 use mathlib.Core.Path.{_≡_}
 use lib.IntN.{ℤ}
-use lib.ListN.{length, take, drop}
+use lib.ListN.{length, drop}
 use Rattle.rules.specs.declared.Digits.{Digits}
 use Rattle.rules.specs.declared.Refusal.{Refusal}
 use Rattle.rules.specs.declared.Answer.{Answer}
 use Rattle.rules.specs.declared.Answer.the-variants.{Accepted, Refused}
+use Rattle.rules.specs.Base.{flat}
 use Rattle.rules.specs.Sets.{Set, rangeOf}
 use Rattle.rules.specs.LineByLine.{accepted}
 use Rattle.rules.specs.RecordTable.{width}
 use Rattle.rules.specs.Answers.{readOutcome, readAnswer, readTable}
 use Rattle.promises.specs.DemandThree.{Classes, unread, atOrBefore}
+use Rattle.promises.specs.TableTexts.{firstRecords}
 
 -- ── a call of the reader ──
 -- what was lent, what came back, and the contract of `sets::read`
@@ -28,8 +30,7 @@ pub record Call : Type 0 where
 
 -- the first n records of a table changed, each by itself; what stands behind them stays
 abbrev pub eachRecord : (List ℤ → List ℤ) → ℕ → List ℤ → List ℤ
-eachRecord f zero t = t
-eachRecord f (suc n) t = f (take width t) ++ eachRecord f n (drop width t)
+eachRecord f n t = flat (map f (firstRecords n t)) ++ drop (n * width) t
 
 -- ── two calls ──
 -- "one class not above the other in either digit, same spool, tables of equal length"

@@ -68,7 +68,7 @@ RewriterCalls = (w : Rewriting) (n : ℕ) → w .answer ≡ Accepted n → Calls
 
 -- ── "A set accepted at class 15": by a call of the reader, with a table of any length ──
 -- a rewriting of it with an output not shorter than the spool is accepted, and all of the above is true of it, with as many records
-pub record Rewrites (k : ℕ) (w : Rewriting) : Type 0 where
+pub record RewrittenBack (k : ℕ) (w : Rewriting) : Type 0 where
   pub bytes : ℕ
   pub accepts : w .answer ≡ Accepted bytes
   pub back : CallsBack w bytes
@@ -76,4 +76,4 @@ pub record Rewrites (k : ℕ) (w : Rewriting) : Type 0 where
 
 abbrev pub AcceptedRewrites : Type 0
 AcceptedRewrites = (first : Call) (k : ℕ) → first .class ≡ 15 → first .answer ≡ Accepted k → (w : Rewriting) → w .spool ≡ first .spool
-    → length (w .spool) ≤ length (w .before) → Rewrites k w
+    → length (w .spool) ≤ length (w .before) → RewrittenBack k w

@@ -11,7 +11,7 @@ use borrow.Fn.Kinds.{PK, RK, Out, Dens, resT, endedOf}
 use Rattle.rules.specs.declared.Refusal.{Refusal}
 use Rattle.rules.specs.declared.Answer.the-variants.{Accepted, Refused}
 use Rattle.promises.specs.ReaderCalls.{Call, TwoCalls, Accepts, Refuses}
-use Rattle.promises.specs.RewriterCalls.{Rewriting, CallsBack, Rewrites}
+use Rattle.promises.specs.RewriterCalls.{Rewriting, CallsBack, RewrittenBack}
 use Rattle.promises.specs.SingleCalls.{ReadCall, RewriteCall}
 use Rattle.promises.specs.TextsKept.{Points}
 use Rattle.promises.proofs.OneCall.{read-calls, rewrite-calls}
@@ -63,7 +63,7 @@ rewrites-back κs x r e c n = rewriter-calls (rewrite-call κs x r e c) n
 pub read-rewritten : (κs κs′ : Lfts 2) (x : Dens κs read′.Kinds.ps) (x′ : Dens κs′ rewrite′.Kinds.ps) (r : resT read′.Kinds.r κs .Denot) (r′ : resT rewrite′.Kinds.r κs′ .Denot)
     (e : AtExit (endedOf 2 read′.Kinds.ps read′.Kinds.r) κs) (e′ : AtExit (endedOf 2 rewrite′.Kinds.ps rewrite′.Kinds.r) κs′)
     (c : read′.Reads.Learnt κs x r e) (c′ : rewrite′.Reads.Learnt κs′ x′ r′ e′) (k : ℕ) → read-call κs x r e c .class ≡ 15 → r ≡ Accepted k
-    → now (x′ .0) ≡ now (x .0) → length (now (x′ .0)) ≤ length (now (x′ .1 .0)) → Rewrites k (rewrite-call κs′ x′ r′ e′ c′)
+    → now (x′ .0) ≡ now (x .0) → length (now (x′ .0)) ≤ length (now (x′ .1 .0)) → RewrittenBack k (rewrite-call κs′ x′ r′ e′ c′)
 read-rewritten κs κs′ x x′ r r′ e e′ c c′ k full a = accepted-rewrites (read-call κs x r e c) k full a (rewrite-call κs′ x′ r′ e′ c′)
 
 -- the texts that the records of `read` point at
