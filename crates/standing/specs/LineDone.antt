@@ -218,3 +218,43 @@ pub record LineFits (spool : List ℕ) (form : LineForm) (w : Where) (own : ℕ)
   pub placed : d .now .block ≡ blockPlaced
       → (width ≤ d .now .free) × LentReady (lent (d .tally) (d .serials) (d .marks) (d .inner)) (partAt (d .now .free - width) (d .table))
       × (d .now .figures < 4294967295)
+
+-- ── a line of some blocks ──
+-- A function for some of the blocks is lent what they use. What it needs it needs with any other parts of the desk, what it promises it promises
+-- with all.
+module _ (spool : List ℕ) (form : LineForm) (w : Where) (n : Now) where
+  -- at the top level or in FILE_FORMAT
+  abbrev pub HeadFits : List ℕ → List ℕ → List ℕ → List Bool → List Bool → List Bool → List ℤ → List ℤ → Type 0
+  HeadFits tally symbols layers used usedAll marks header t =
+      (own : ℕ) × (serials : List ℕ) × (inner : List Bool) × LineFits spool form w own (desk n tally symbols layers serials used usedAll marks inner header t)
+
+  abbrev pub HeadDone : List ℕ → List ℕ → List ℕ → List ℕ → List ℕ → List Bool → List Bool → List Bool → List Bool → List Bool → List ℤ → List ℤ
+      → List ℤ → List ℤ → Step → Type 0
+  HeadDone following tally tally₁ symbols layers used used₁ usedAll marks marks₁ header header₁ t t₁ r =
+      (c : Digits) (own : ℕ) (serials : List ℕ) (inner : List Bool)
+      → Done c spool following form w own (desk n tally symbols layers serials used usedAll marks inner header t)
+      (desk n tally₁ symbols layers serials used₁ usedAll marks₁ inner header₁ t₁) r
+
+  -- in DRAWING_FORMAT or in SYMBOL_DEFINE, but for the figures of a symbol
+  abbrev pub SheetFits : List ℕ → List ℕ → List ℕ → List Bool → List ℤ → Type 0
+  SheetFits tally symbols layers marks t =
+      (own : ℕ) × (serials : List ℕ) × (used : List Bool) × (usedAll : List Bool) × (inner : List Bool) × (header : List ℤ)
+      × LineFits spool form w own (desk n tally symbols layers serials used usedAll marks inner header t)
+
+  abbrev pub SheetDone : List ℕ → List ℕ → List ℕ → List ℕ → List ℕ → List ℕ → List Bool → List Bool → List ℤ → List ℤ → Step → Type 0
+  SheetDone tally tally₁ symbols symbols₁ layers layers₁ marks marks₁ t t₁ r =
+      (c : Digits) (following : List ℕ) (own : ℕ) (serials : List ℕ) (used usedAll inner : List Bool) (header : List ℤ)
+      → Done c spool following form w own (desk n tally symbols layers serials used usedAll marks inner header t)
+      (desk n tally₁ symbols₁ layers₁ serials used usedAll marks₁ inner header t₁) r
+
+  -- among figures, or in one
+  abbrev pub FiguresFit : ℕ → List ℕ → List ℕ → List ℕ → List ℕ → List Bool → List Bool → List ℤ → Type 0
+  FiguresFit own tally symbols layers serials marks inner t =
+      (used : List Bool) × (usedAll : List Bool) × (header : List ℤ) × LineFits spool form w own (desk n tally symbols layers serials used usedAll marks inner header t)
+
+  abbrev pub FiguresDone : Digits → ℕ → List ℕ → List ℕ → List ℕ → List ℕ → List ℕ → List ℕ → List Bool → List Bool → List Bool → List Bool → List ℤ
+      → List ℤ → Step → Type 0
+  FiguresDone c own tally tally₁ symbols layers serials serials₁ marks marks₁ inner inner₁ t t₁ r =
+      (following : List ℕ) (used usedAll : List Bool) (header : List ℤ)
+      → Done c spool following form w own (desk n tally symbols layers serials used usedAll marks inner header t)
+      (desk n tally₁ symbols layers serials₁ used usedAll marks₁ inner₁ header t₁) r

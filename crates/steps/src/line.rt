@@ -53,7 +53,7 @@ ghost use Rattle.account.specs.TopLines.{topLent};
 ghost use Rattle.account.specs.FileLines.{FileReady};
 ghost use Rattle.standing.specs.Standing.{desk};
 ghost use Rattle.standing.specs.Reading.{tallyAfter, tallyNamed, symbolsNamed, LineReady, LinePromise};
-ghost use Rattle.standing.specs.LineDone.{Named, SymbolReady, OnTop, OnFile, OnDrawing, OnNames, OnDefines, OnSymbol, OnHide, OnElements, OnFigures, OnChain, OnText, OnPlaced, Done, LineFits};
+ghost use Rattle.standing.specs.LineDone.{Named, SymbolReady, OnTop, OnFile, OnDrawing, OnNames, OnDefines, OnSymbol, OnHide, OnElements, OnFigures, OnChain, OnText, OnPlaced, HeadFits, HeadDone, SheetFits, SheetDone, FiguresFit, FiguresDone};
 ghost use Rattle.account.specs.Numbering.{blockDrawing, blockDefines, blockSymbol, blockElements, blockFigures, tallyElementsHere, tallyTotal, tallySymbols, tallyLayers, tallyLength, mostRows, headerLength};
 ghost use Rattle.rules.specs.RecordTable.{width};
 
@@ -435,24 +435,20 @@ fn in_placed(
 fn head_line(
     s: &[u8],
     following: &[u8],
-    class: Digits,
     here: Now,
     form: LineForm,
     at: Where,
-    own: usize,
     tally: &mut [u32],
     symbols: &[u32],
     layers: &[u32],
-    serials: &[u64],
     used: &mut [bool],
     used_all: &[bool],
     marks: &mut [bool],
-    inner: &[bool],
     header: &mut [i64],
     t: &mut [i64],
 ) -> Step
-    requires { ⌜ LineFits (now s) form at own (desk here (now tally) (now symbols) (now layers) (now serials) (now used) (now «used_all») (now marks) (now inner) (now header) (now t)) × (here .block < blockDrawing) ⌝ }
-    ensures { λ r. ⌜ Done class (now (s .entry)) (now (following .entry)) form at own (desk here (now (tally .entry)) (now (symbols .entry)) (now (layers .entry)) (now (serials .entry)) (now (used .entry)) (now («used_all» .entry)) (now (marks .entry)) (now (inner .entry)) (now (header .entry)) (now (t .entry))) (desk here (now (tally .exit)) (now (symbols .entry)) (now (layers .entry)) (now (serials .entry)) (now (used .exit)) (now («used_all» .entry)) (now (marks .exit)) (now (inner .entry)) (now (header .exit)) (now (t .exit))) r ⌝ }
+    requires { ⌜ HeadFits (now s) form at here (now tally) (now symbols) (now layers) (now used) (now «used_all») (now marks) (now header) (now t) × (here .block < blockDrawing) ⌝ }
+    ensures { λ r. ⌜ HeadDone (now (s .entry)) form at here (now (following .entry)) (now (tally .entry)) (now (tally .exit)) (now (symbols .entry)) (now (layers .entry)) (now (used .entry)) (now (used .exit)) (now («used_all» .entry)) (now (marks .entry)) (now (marks .exit)) (now (header .entry)) (now (header .exit)) (now (t .entry)) (now (t .exit)) r ⌝ }
 {
     if here.block == BLOCK_TOP {
         return at_top(
@@ -488,25 +484,17 @@ fn head_line(
 // A line in DRAWING_FORMAT or in SYMBOL_DEFINE, but for the figures of a symbol.
 fn sheet_line(
     s: &[u8],
-    following: &[u8],
-    class: Digits,
     here: Now,
     form: LineForm,
     at: Where,
-    own: usize,
     tally: &mut [u32],
     symbols: &mut [u32],
     layers: &mut [u32],
-    serials: &[u64],
-    used: &[bool],
-    used_all: &[bool],
     marks: &mut [bool],
-    inner: &[bool],
-    header: &[i64],
     t: &mut [i64],
 ) -> Step
-    requires { ⌜ LineFits (now s) form at own (desk here (now tally) (now symbols) (now layers) (now serials) (now used) (now «used_all») (now marks) (now inner) (now header) (now t)) × (blockDrawing ≤ here .block) × (here .block < blockElements) ⌝ }
-    ensures { λ r. ⌜ Done class (now (s .entry)) (now (following .entry)) form at own (desk here (now (tally .entry)) (now (symbols .entry)) (now (layers .entry)) (now (serials .entry)) (now (used .entry)) (now («used_all» .entry)) (now (marks .entry)) (now (inner .entry)) (now (header .entry)) (now (t .entry))) (desk here (now (tally .exit)) (now (symbols .exit)) (now (layers .exit)) (now (serials .entry)) (now (used .entry)) (now («used_all» .entry)) (now (marks .exit)) (now (inner .entry)) (now (header .entry)) (now (t .exit))) r ⌝ }
+    requires { ⌜ SheetFits (now s) form at here (now tally) (now symbols) (now layers) (now marks) (now t) × (blockDrawing ≤ here .block) × (here .block < blockElements) ⌝ }
+    ensures { λ r. ⌜ SheetDone (now (s .entry)) form at here (now (tally .entry)) (now (tally .exit)) (now (symbols .entry)) (now (symbols .exit)) (now (layers .entry)) (now (layers .exit)) (now (marks .entry)) (now (marks .exit)) (now (t .entry)) (now (t .exit)) r ⌝ }
 {
     if here.block == BLOCK_DRAWING {
         return in_drawing(s, here, form, tally, symbols, layers, marks, t);
@@ -526,7 +514,6 @@ fn sheet_line(
 // A line among figures, or in one.
 fn figure_line(
     s: &[u8],
-    following: &[u8],
     class: Digits,
     here: Now,
     form: LineForm,
@@ -536,15 +523,12 @@ fn figure_line(
     symbols: &[u32],
     layers: &[u32],
     serials: &mut [u64],
-    used: &[bool],
-    used_all: &[bool],
     marks: &mut [bool],
     inner: &mut [bool],
-    header: &[i64],
     t: &mut [i64],
 ) -> Step
-    requires { ⌜ LineFits (now s) form at own (desk here (now tally) (now symbols) (now layers) (now serials) (now used) (now «used_all») (now marks) (now inner) (now header) (now t)) × (blockFigures ≤ here .block) ⌝ }
-    ensures { λ r. ⌜ Done class (now (s .entry)) (now (following .entry)) form at own (desk here (now (tally .entry)) (now (symbols .entry)) (now (layers .entry)) (now (serials .entry)) (now (used .entry)) (now («used_all» .entry)) (now (marks .entry)) (now (inner .entry)) (now (header .entry)) (now (t .entry))) (desk here (now (tally .exit)) (now (symbols .entry)) (now (layers .entry)) (now (serials .exit)) (now (used .entry)) (now («used_all» .entry)) (now (marks .exit)) (now (inner .exit)) (now (header .entry)) (now (t .exit))) r ⌝ }
+    requires { ⌜ FiguresFit (now s) form at here own (now tally) (now symbols) (now layers) (now serials) (now marks) (now inner) (now t) × (blockFigures ≤ here .block) ⌝ }
+    ensures { λ r. ⌜ FiguresDone (now (s .entry)) form at here class own (now (tally .entry)) (now (tally .exit)) (now (symbols .entry)) (now (layers .entry)) (now (serials .entry)) (now (serials .exit)) (now (marks .entry)) (now (marks .exit)) (now (inner .entry)) (now (inner .exit)) (now (t .entry)) (now (t .exit)) r ⌝ }
 {
     if here.block == BLOCK_FIGURES {
         return in_figures(s, here, form, at, tally, symbols, layers, marks, inner, t);
@@ -607,7 +591,6 @@ pub(crate) fn step(
     if here.block > BLOCK_ELEMENTS {
         let did = figure_line(
             s,
-            following,
             class,
             inside,
             form,
@@ -617,11 +600,8 @@ pub(crate) fn step(
             symbols,
             layers,
             serials,
-            used,
-            used_all,
             marks,
             inner,
-            header,
             t,
         );
         return back_step(whole, here, inside.free, did);
@@ -630,42 +610,20 @@ pub(crate) fn step(
         let did = head_line(
             s,
             following,
-            class,
             inside,
             form,
             at,
-            own,
             tally,
             symbols,
             layers,
-            serials,
             used,
             used_all,
             marks,
-            inner,
             header,
             t,
         );
         return back_step(whole, here, inside.free, did);
     }
-    let did = sheet_line(
-        s,
-        following,
-        class,
-        inside,
-        form,
-        at,
-        own,
-        tally,
-        symbols,
-        layers,
-        serials,
-        used,
-        used_all,
-        marks,
-        inner,
-        header,
-        t,
-    );
+    let did = sheet_line(s, inside, form, at, tally, symbols, layers, marks, t);
     back_step(whole, here, inside.free, did)
 }

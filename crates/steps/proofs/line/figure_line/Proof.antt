@@ -6,7 +6,7 @@ use Rattle.steps.proofs.line.figure_line.Statement.{statement}
 use Rattle.steps.proofs.line.figure_line.Tie as tie
 
 in-figures-requires : tie.Need-in-figures-requires
-in-figures-requires c κs = (c .before .before .before .before .before .before .before .before .before .before .before .before .before .before .before .before .pre .0 .short, c .before .before .before .before .before .before .before .before .before .before .before .before .before .before .before .before .pre .0 .named, c .before .before .before .before .before .before .before .before .before .before .before .before .before .before .before .before .pre .0 .figures (c .before .before .before .before .if1 .taken))
+in-figures-requires c κs = (c .before .before .before .before .before .before .before .before .before .before .before .before .before .pre .0 .3 .short, c .before .before .before .before .before .before .before .before .before .before .before .before .before .pre .0 .3 .named, c .before .before .before .before .before .before .before .before .before .before .before .before .before .pre .0 .3 .figures (c .before .before .before .before .if1 .taken))
 
 same-length : tie.Need-same-length
 same-length c = search needs
@@ -21,10 +21,10 @@ same-length-4 : tie.Need-same-length-4
 same-length-4 c = search needs
 
 returns : tie.Need-returns
-returns c = figures (c .before .before .before .before .before .before .before .before .before .before .before .before .if1 .taken) (c .before .before .before .before .before .before .before .in-figures .ensures) refl
+returns c = λ following used usedAll header. figures (c .before .before .before .before .before .before .before .before .before .before .before .before .if1 .taken) (c .before .before .before .before .before .before .before .in-figures .ensures) refl
 
 in-chain-requires : tie.Need-in-chain-requires
-in-chain-requires c κs = (c .before .before .before .before .before .before .before .before .before .before .before .before .before .before .before .before .pre .0 .short, c .before .before .before .before .before .before .before .before .before .before .before .before .before .before .before .before .pre .0 .named, c .before .before .before .before .before .before .before .before .before .before .before .before .before .before .before .before .pre .0 .chain (c .before .before .if2 .taken) .0, c .before .before .before .before .before .before .before .before .before .before .before .before .before .before .before .before .pre .0 .chain (c .before .before .if2 .taken) .1, c .before .before .before .before .before .before .before .before .before .before .before .before .before .before .before .before .pre .0 .chain (c .before .before .if2 .taken) .2)
+in-chain-requires c κs = (c .before .before .before .before .before .before .before .before .before .before .before .before .before .pre .0 .3 .short, c .before .before .before .before .before .before .before .before .before .before .before .before .before .pre .0 .3 .named, c .before .before .before .before .before .before .before .before .before .before .before .before .before .pre .0 .3 .chain (c .before .before .if2 .taken) .0, c .before .before .before .before .before .before .before .before .before .before .before .before .before .pre .0 .3 .chain (c .before .before .if2 .taken) .1, c .before .before .before .before .before .before .before .before .before .before .before .before .before .pre .0 .3 .chain (c .before .before .if2 .taken) .2)
 
 same-length-5 : tie.Need-same-length-5
 same-length-5 c = search needs
@@ -33,10 +33,10 @@ same-length-6 : tie.Need-same-length-6
 same-length-6 c = search needs
 
 returns-2 : tie.Need-returns-2
-returns-2 c = chain (c .before .before .before .before .if2 .taken) (c .before .in-chain .ensures) refl
+returns-2 c = λ following used usedAll header. chain (c .before .before .before .before .if2 .taken) (c .before .in-chain .ensures) refl
 
 in-text-requires : tie.Need-in-text-requires
-in-text-requires c κs = (c .before .before .before .before .before .before .before .before .before .before .before .before .before .before .before .before .before .before .before .pre .0 .short, c .before .before .before .before .before .before .before .before .before .before .before .before .before .before .before .before .before .before .before .pre .0 .named, c .before .before .before .before .before .before .before .before .before .before .before .before .before .before .before .before .before .before .before .pre .0 .text (c .before .before .before .if3 .taken) .1, c .before .before .before .before .before .before .before .before .before .before .before .before .before .before .before .before .before .before .before .pre .0 .lengths .inner, c .before .before .before .before .before .before .before .before .before .before .before .before .before .before .before .before .before .before .before .pre .0 .text (c .before .before .before .if3 .taken) .0, c .before .before .before .before .before .before .before .before .before .before .before .before .before .before .before .before .before .before .before .pre .0 .free)
+in-text-requires c κs = (c .before .before .before .before .before .before .before .before .before .before .before .before .before .before .before .before .pre .0 .3 .short, c .before .before .before .before .before .before .before .before .before .before .before .before .before .before .before .before .pre .0 .3 .named, c .before .before .before .before .before .before .before .before .before .before .before .before .before .before .before .before .pre .0 .3 .text (c .before .before .before .if3 .taken) .1, c .before .before .before .before .before .before .before .before .before .before .before .before .before .before .before .before .pre .0 .3 .lengths .inner, c .before .before .before .before .before .before .before .before .before .before .before .before .before .before .before .before .pre .0 .3 .text (c .before .before .before .if3 .taken) .0, c .before .before .before .before .before .before .before .before .before .before .before .before .before .before .before .before .pre .0 .3 .free)
 
 same-length-7 : tie.Need-same-length-7
 same-length-7 c = search needs
@@ -48,10 +48,10 @@ same-length-9 : tie.Need-same-length-9
 same-length-9 c = search needs
 
 returns-3 : tie.Need-returns-3
-returns-3 c = text (c .before .before .before .before .before .before .before .if3 .taken) (c .before .before .before .in-text .ensures) refl
+returns-3 c = λ following used usedAll header. text (c .before .before .before .before .before .before .before .if3 .taken) (c .before .before .before .in-text .ensures) refl
 
 in-placed-requires : tie.Need-in-placed-requires
-in-placed-requires c κs = (c .before .before .before .before .before .before .before .before .before .before .before .before .before .before .before .before .before .before .before .before .before .before .before .pre .0 .short, c .before .before .before .before .before .before .before .before .before .before .before .before .before .before .before .before .before .before .before .before .before .before .before .pre .0 .named, c .before .before .before .before .before .before .before .before .before .before .before .before .before .before .before .before .before .before .before .before .before .before .before .pre .0 .placed (c .before .before .before .before .before .if4 .taken) .0, c .before .before .before .before .before .before .before .before .before .before .before .before .before .before .before .before .before .before .before .before .before .before .before .pre .0 .free, c .before .before .before .before .before .before .before .before .before .before .before .before .before .before .before .before .before .before .before .before .before .before .before .pre .0 .placed (c .before .before .before .before .before .if4 .taken) .1, c .before .before .before .before .before .before .before .before .before .before .before .before .before .before .before .before .before .before .before .before .before .before .before .pre .0 .placed (c .before .before .before .before .before .if4 .taken) .2)
+in-placed-requires c κs = (c .before .before .before .before .before .before .before .before .before .before .before .before .before .before .before .before .before .before .before .before .pre .0 .3 .short, c .before .before .before .before .before .before .before .before .before .before .before .before .before .before .before .before .before .before .before .before .pre .0 .3 .named, c .before .before .before .before .before .before .before .before .before .before .before .before .before .before .before .before .before .before .before .before .pre .0 .3 .placed (c .before .before .before .before .before .if4 .taken) .0, c .before .before .before .before .before .before .before .before .before .before .before .before .before .before .before .before .before .before .before .before .pre .0 .3 .free, c .before .before .before .before .before .before .before .before .before .before .before .before .before .before .before .before .before .before .before .before .pre .0 .3 .placed (c .before .before .before .before .before .if4 .taken) .1, c .before .before .before .before .before .before .before .before .before .before .before .before .before .before .before .before .before .before .before .before .pre .0 .3 .placed (c .before .before .before .before .before .if4 .taken) .2)
 
 same-length-10 : tie.Need-same-length-10
 same-length-10 c = search needs
@@ -69,10 +69,10 @@ same-length-14 : tie.Need-same-length-14
 same-length-14 c = search needs
 
 returns-4 : tie.Need-returns-4
-returns-4 c = placed (c .before .before .before .before .before .before .before .before .before .before .before .before .before .before .before .if4 .taken) (c .before .before .before .before .before .before .before .before .before .in-placed .ensures) refl
+returns-4 c = λ following used usedAll header. placed (c .before .before .before .before .before .before .before .before .before .before .before .before .before .before .before .if4 .taken) (c .before .before .before .before .before .before .before .before .before .in-placed .ensures) refl
 
 returns-5 : tie.Need-returns-5
-returns-5 c = other (twelve-left _ (c .before .before .before .before .before .before .before .before .before .before .before .before .before .before .before .before .before .before .pre .1) (c .before .before .before .before .before .before .if1 .left) (c .before .before .before .before .if2 .left) (c .before .before .if3 .left) (c .if4 .left)) refl refl
+returns-5 c = λ following used usedAll header. other (twelve-left _ (c .before .before .before .before .before .before .before .before .before .before .before .before .before .before .before .pre .1) (c .before .before .before .before .before .before .if1 .left) (c .before .before .before .before .if2 .left) (c .before .before .if3 .left) (c .if4 .left)) refl refl
 
 pub figure-line-spec : {M : Type 1} → statement M
 figure-line-spec =
