@@ -61,7 +61,7 @@ module _ (c : Digits) (m : ℕ) where
           → ((st′ : State) → Inv (bound c m) st′ → Limited m (setOf st′ .taken) (takenOn c st′ ls) (run (free c) st′ ls) (run (bound c m) st′ ls))
           → Limited m (setOf st .taken) (takenAt (setOf st .taken) l g (λ st′. takenOn c st′ ls)) (thenRun g l (λ st′. run (free c) st′ ls)) (thenRun h l (λ st′. run (bound c m) st′ ls))
       go refuses j ih = record { fits = λ h. refl; full = λ h. absurd (let r = leb-true (setOf st .taken) m (i .room) in omega (arith, h, r)) }
-      go (goes st′ p) j ih =
+      go (goes st′ p w) j ih =
           let w = ih st′ j in
           let k = setOf st′ .taken - setOf st .taken in
           let here = place (l .volume) (l .line) in

@@ -3,12 +3,12 @@ use Prim.Native.Nat.{ℕ, zero, suc, _≤_, _<_}
 use mathlib.Core.Bool.{Bool, true, false, cond}
 use mathlib.Core.List.{List, [], _∷_}
 use mathlib.Core.Option.{Option, none, some}
-use mathlib.Core.Path.{_≡_, refl, ap}
+use mathlib.Core.Path.{_≡_, refl, sym, ap}
 use native.Mathlib.Nat.{le-refl, le-of-eq, le-add-right}
 use native.Mathlib.Omega.{arith}
 use lib.Dec.{leb}
 use lib.ListN.{length}
-use borrow.Author.Tests.{leb-true, leb-false}
+use borrow.Author.Tests.{leb-true, leb-false, le-leb, lt-leb}
 use Rattle.rules.specs.declared.Digits.{Digits}
 use Rattle.rules.specs.RefusalNumbers.{Got, got, bad, unless, mapG, andThen, also}
 use Rattle.rules.specs.Lines.{Rest, Form, ignored, wrong, close, eof, keyed}
@@ -29,7 +29,7 @@ use Rattle.promises.proofs.CountState.{setOf}
 -- the same, or without a limit a state with more than m records, and with it 19
 pub data Alike (m n : ℕ) : Got State → Got State → Type 0 where
   refuses : {k : ℕ} → Alike m n (bad k) (bad k)
-  goes : (st : State) → n ≤ setOf st .taken → Alike m n (got st) (got st)
+  goes : (st : State) → n ≤ setOf st .taken → (n ≤ m → setOf st .taken ≤ m) → Alike m n (got st) (got st)
   over : (st : State) → n ≤ setOf st .taken → m < setOf st .taken → Alike m n (got st) (bad 19)
 
 -- the next volume begins with what was taken
@@ -65,21 +65,21 @@ module _ {m n : ℕ} where
   alike-also : (t : Bool) {g h : Got State} → Alike m n g h → Alike m n (also t 9 g) (also t 9 h)
   alike-also true w = w
   alike-also false refuses = refuses
-  alike-also false (goes st p) = refuses
+  alike-also false (goes st p w) = refuses
   alike-also false (over st p q) = refuses
 
   alike-act : (st : State) (en en′ : ℕ → Value → Got State) (op op′ : ℕ → ℕ → Value → Got State) (cl cl′ : Unit {0} → Got State) (a : Act)
-      → n ≤ setOf st .taken → ((j : ℕ) (v : Value) → Alike m n (en j v) (en′ j v)) → ((i j : ℕ) (v : Value) → Alike m n (op i j v) (op′ i j v)) → Alike m n (cl tt) (cl′ tt)
+      → n ≤ setOf st .taken → (n ≤ m → setOf st .taken ≤ m) → ((j : ℕ) (v : Value) → Alike m n (en j v) (en′ j v)) → ((i j : ℕ) (v : Value) → Alike m n (op i j v) (op′ i j v)) → Alike m n (cl tt) (cl′ tt)
       → Alike m n (byAct st en op cl a) (byAct st en′ op′ cl′ a)
-  alike-act st en en′ op op′ cl cl′ stay p q r w = goes st p
-  alike-act st en en′ op op′ cl cl′ (entry j v) p q r w = q j v
-  alike-act st en en′ op op′ cl cl′ (begin i j v) p q r w = r i j v
-  alike-act st en en′ op op′ cl cl′ shut p q r w = w
-  alike-act st en en′ op op′ cl cl′ (refuse k) p q r w = refuses
+  alike-act st en en′ op op′ cl cl′ stay p i q r w = goes st p i
+  alike-act st en en′ op op′ cl cl′ (entry j v) p i q r w = q j v
+  alike-act st en en′ op op′ cl cl′ (begin k j v) p i q r w = r k j v
+  alike-act st en en′ op op′ cl cl′ shut p i q r w = w
+  alike-act st en en′ op op′ cl cl′ (refuse k) p i q r w = refuses
 
-  alike-shut : (p : ℕ) (whole : Got State) (back : ℕ → State) → Alike m n whole whole → ((q : ℕ) → n ≤ setOf (back q) .taken) → Alike m n (shutPart p whole back) (shutPart p whole back)
-  alike-shut zero whole back w h = w
-  alike-shut (suc p) whole back w h = goes _ (h _)
+  alike-shut : (p : ℕ) (whole : Got State) (back : ℕ → State) → Alike m n whole whole → ((q : ℕ) → n ≤ setOf (back q) .taken) → ((q : ℕ) → n ≤ m → setOf (back q) .taken ≤ m) → Alike m n (shutPart p whole back) (shutPart p whole back)
+  alike-shut zero whole back w h g = w
+  alike-shut (suc p) whole back w h g = goes _ (h _) (g _)
 
   alike-skip : (k : Skip) (g h : Got State) → Alike m n g g → Alike m n h h → Alike m n (bySkip k g h) (bySkip k g h)
   alike-skip passes g h p q = p
@@ -91,15 +91,19 @@ module _ {m n : ℕ} where
   alike-room k st p e = go (leb k m) refl
     where
       go : (t : Bool) → leb k m ≡ t → Alike m n (got st) (unless t 19 (got st))
-      go true r = goes st (rw (← e) p)
+      go true r = goes st (rw (← e) p) (λ _. rw (← e) (leb-true k m r))
       go false r = over st (rw (← e) p) (rw (← e) (leb-false k m r))
 
   alike-next : {g h : Got State} → Alike m n g h → Alike m n (mapG nextVolume g) (mapG nextVolume h)
   alike-next refuses = refuses
-  alike-next (goes st p) = goes (nextVolume st) (rw (same-taken st) p)
+  alike-next (goes st p w) = goes (nextVolume st) (rw (same-taken st) p) (rw (same-taken st) w)
   alike-next (over st p q) = over (nextVolume st) (rw (same-taken st) p) (rw (same-taken st) q)
 
-ruleset alikes = (refuses, goes, alike-unless, alike-cond, alike-then, alike-act, alike-shut, alike-skip, alike-room, le-refl, le-add-right)
+-- a line that takes none
+pub as-was : {m n : ℕ} → n ≤ m → n ≤ m
+as-was h = h
+
+ruleset alikes = (refuses, goes, as-was, alike-unless, alike-cond, alike-then, alike-act, alike-shut, alike-skip, alike-room, le-refl, le-add-right)
 
 -- the reading with no limit, and with a table of m records
 abbrev pub free : Digits → Env
@@ -198,6 +202,19 @@ module _ (c : Digits) (m : ℕ) (l : Line) where
   pub alike-step : (st : State) → Alike m (setOf st .taken) (step (free c) l st) (step (bound c m) l st)
   alike-step st = alike-cond (l .last) _ _ _ _ (alike-next (alike-also (completes l st) (alike-in st))) (alike-in st)
 
+  -- with a limit a line is as without one, and 19 where more than m records were taken
+  abbrev pub capped : Got State → Got State
+  capped (got st) = unless (leb (setOf st .taken) m) 19 (got st)
+  capped (bad k) = bad k
+
+  pub limited : (st : State) → setOf st .taken ≤ m → stepIn (bound c m) l st ≡ capped (stepIn (free c) l st)
+  limited st h = go (alike-in st)
+    where
+      go : {g g′ : Got State} → Alike m (setOf st .taken) g g′ → g′ ≡ capped g
+      go refuses = refl
+      go (goes st′ p w) = sym (ap (λ (t : Bool). unless t 19 (got st′)) (le-leb (setOf st′ .taken) m (w h)))
+      go (over st′ p q) = sym (ap (λ (t : Bool). unless t 19 (got st′)) (lt-leb (setOf st′ .taken) m q))
+
 -- ── all lines ──
 -- without a limit: the count never falls, and a table that holds it in the end changes nothing
 lift : (c : Digits) (m : ℕ) (ls : List Line) (s : State) (t : Set) → run (free c) s ls ≡ accepted t → (setOf s .taken ≤ t .taken) × (t .taken ≤ m → run (bound c m) s ls ≡ accepted t)
@@ -209,7 +226,7 @@ lift c m (l ∷ ls) s t q = go (alike-step c m l s) (λ st. lift c m ls st t) q
         → thenRun g l (λ st. run (free c) st ls) ≡ accepted t
         → (setOf s .taken ≤ t .taken) × (t .taken ≤ m → thenRun h l (λ st. run (bound c m) st ls) ≡ accepted t)
     go refuses ih q = not-accepted q
-    go (goes st p) ih q = let w = ih st q in (omega (arith, p, w .0), w .1)
+    go (goes st p i) ih q = let w = ih st q in (omega (arith, p, w .0), w .1)
     go (over st p r) ih q = let w = ih st q in (omega (arith, p, w .0), λ f. absurd (omega (arith, f, r, w .0)))
 
 -- a table that holds what was taken in the end accepts, with the same set
@@ -226,7 +243,7 @@ limit-drop c m (l ∷ ls) s t q = go (alike-step c m l s) (λ st. limit-drop c m
     go : {g h : Got State} → Alike m (setOf s .taken) g h → ((st : State) → run (bound c m) st ls ≡ accepted t → run (free c) st ls ≡ accepted t)
         → thenRun h l (λ st. run (bound c m) st ls) ≡ accepted t → thenRun g l (λ st. run (free c) st ls) ≡ accepted t
     go refuses ih q = not-accepted q
-    go (goes st p) ih q = ih st q
+    go (goes st p i) ih q = ih st q
     go (over st p r) ih q = not-accepted q
 
 -- ── what was taken ──

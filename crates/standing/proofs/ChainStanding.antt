@@ -62,7 +62,7 @@ unfolding pointTable
 type-of [] kind owner volume line = refl
 type-of (n ∷ v) kind owner volume line = refl
 
-chain-figure : (c : Digits) (s : Set) (h : Home) (n : ℕ) (ps : List Point)
+pub chain-figure : (c : Digits) (s : Set) (h : Home) (n : ℕ) (ps : List Point)
     → homeFigure c s h (chain n ps) ≡ chainRecord (homeMore h) (homeOwner s h) (homeVolume s h) n ps ∷ pointRecords (17 + homeMore h) (homeOwner s h) (homeVolume s h) ps
 chain-figure c s (inElement y) n ps = refl
 chain-figure c s (inLayer m) n ps = refl

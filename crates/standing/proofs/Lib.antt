@@ -2,11 +2,14 @@ pub mod Puts
 pub mod Openers
 pub mod Marks
 pub mod LaidTables
+pub mod KeptLaws
 pub mod MoreRecords
 pub mod Standings
 pub mod RowRecords
 pub mod HomeFacts
 pub mod ChainStanding
+pub mod ChainKept
+pub mod ClosesKept
 pub mod LineOrigins
 pub mod SlotLengths
 pub mod RecordStores
@@ -15,6 +18,7 @@ pub mod HeldParts
 pub mod FileHeld
 pub mod FileGoes
 pub mod TextStanding
+pub mod TextKept
 pub mod PointEntries
 pub mod HideStanding
 pub mod BegunFigures

@@ -74,7 +74,7 @@ unfolding textTable
 same-rows b o t = refl
 
 -- ── a text's record ──
-text-length : (more owner volume line : ℕ) (o : Slots) → length (textRecord more owner volume line o) ≡ 32
+pub text-length : (more owner volume line : ℕ) (o : Slots) → length (textRecord more owner volume line o) ≡ 32
 text-length more owner volume line o = length-slots (textRows true) o (start (15 + more) owner volume line)
 
 -- one more line of it
@@ -86,7 +86,7 @@ text-entry b o j v more owner volume line e k =
     ∙ own-line (textRows b) o j v f (e ∙ sym (two-rows b)) (k .row) (mark-free o j (k .free)) (k .fill) (clear-rows b) (housed-rows b)
     ∙ same-rows b (set o j (some v)) f
 
-text-figure : (c : Digits) (s : Set) (h : Home) (n : ℕ) (o : Slots) → homeFigure c s h (lettering n o) ≡ textRecord (homeMore h) (homeOwner s h) (homeVolume s h) n o ∷ []
+pub text-figure : (c : Digits) (s : Set) (h : Home) (n : ℕ) (o : Slots) → homeFigure c s h (lettering n o) ≡ textRecord (homeMore h) (homeOwner s h) (homeVolume s h) n o ∷ []
 text-figure c s (inElement y) n o = refl
 text-figure c s (inLayer m) n o = refl
 

@@ -4,3 +4,4 @@ pub mod Standing
 pub mod FileStanding
 pub mod Reading
 pub mod LineDone
+pub mod Kept

@@ -1,0 +1,122 @@
+-- What stands on the scratch between two lines, and what of it goes to the table: a record is put there when it is complete, and till then
+-- its place holds zeros.
+use Prim.Native.Nat.{ℕ, _+_, _*_, _/_, _≤_}
+use mathlib.Core.Bool.{true}
+use mathlib.Core.Path.{_≡_}
+use mathlib.Core.List.{List, [], _∷_, _++_, map}
+use lib.IntN.{ℤ}
+use lib.ListN.{length, replicate, drop}
+use lib.Seq.{sets}
+use Rattle.rules.specs.declared.Digits.{Digits}
+use Rattle.rules.specs.Base.{flat}
+use Rattle.rules.specs.Blocks.{symbolTable}
+use Rattle.rules.specs.Figures.{placedTables}
+use Rattle.rules.specs.Sets.{Figure, Symbol, Set, isFirst}
+use Rattle.rules.specs.Machine.{Home, inElement, inLayer, State, top, file, drawing, layerNames, defines, symbol, hide, elements, figures, successive, texts}
+use Rattle.rules.specs.Machine.{placing, skipping, ended, symbolBlock}
+use Rattle.rules.specs.RecordTable.{putSlots, putHeld, start, fileRecords, drawingRecord, layerRecords, pointRecords, firstType, textRecord, innerRecords}
+use Rattle.rules.specs.RecordTable.{width, kindSymbol, kindSuccessive, kindPlaced, kindPoint, kindHidden}
+use Rattle.account.specs.Records.{partAt}
+use Rattle.standing.specs.Laid.{Laid}
+use Rattle.standing.specs.Standing.{setOf}
+use Rattle.standing.specs.SoFar.{volumeOf, closedRecords, frontRecords, layersRecords, homeOwner, homeVolume, homeMore, homeFigure}
+use Rattle.standing.specs.SoFar.{emptyRecord, emptyRecords, topSoFar}
+
+-- ── the records that are open ──
+abbrev pub symbolOwn : Set → Symbol → List ℤ
+symbolOwn s y = putSlots symbolTable (y .own) (start kindSymbol (length (s .symbols)) 1 (y .line))
+
+abbrev pub homeOwn : Set → Home → List ℤ
+homeOwn s (inElement y) = symbolOwn s y
+homeOwn s (inLayer k) = emptyRecord
+
+-- the drawing's or the symbol's own, as far as it is; zeros where neither is open
+abbrev pub ownOpen : State → List ℤ
+ownOpen (top s k) = emptyRecord
+ownOpen (file s n h p) = emptyRecord
+ownOpen (drawing s d) = drawingRecord d
+ownOpen (layerNames s d) = drawingRecord d
+ownOpen (defines s b) = emptyRecord
+ownOpen (symbol s y) = symbolOwn s y
+ownOpen (hide s y ps) = symbolOwn s y
+ownOpen (elements s) = emptyRecord
+ownOpen (figures s h fs) = homeOwn s h
+ownOpen (successive s h fs n ps) = homeOwn s h
+ownOpen (texts s h fs n o) = homeOwn s h
+ownOpen (placing s k fs n o p) = emptyRecord
+ownOpen (skipping s k fs n o d) = emptyRecord
+ownOpen (ended s) = emptyRecord
+
+-- the figure's; a `successive` has its first point's type from that point on, its count at its end
+abbrev pub figureOpen : State → List ℤ
+figureOpen (top s k) = emptyRecord
+figureOpen (file s n h p) = emptyRecord
+figureOpen (drawing s d) = emptyRecord
+figureOpen (layerNames s d) = emptyRecord
+figureOpen (defines s b) = emptyRecord
+figureOpen (symbol s y) = emptyRecord
+figureOpen (hide s y ps) = emptyRecord
+figureOpen (elements s) = emptyRecord
+figureOpen (figures s h fs) = emptyRecord
+figureOpen (successive s h fs n ps) = sets (start (kindSuccessive + homeMore h) (homeOwner s h) (homeVolume s h) n) 4 (firstType ps ∷ [])
+figureOpen (texts s h fs n o) = textRecord (homeMore h) (homeOwner s h) (homeVolume s h) n o
+figureOpen (placing s k fs n (symbolBlock o) p) = putHeld placedTables o (start kindPlaced k (volumeOf s) n)
+figureOpen (skipping s k fs n (symbolBlock o) d) = putHeld placedTables o (start kindPlaced k (volumeOf s) n)
+figureOpen (ended s) = emptyRecord
+
+-- the third record of the scratch is a point's, for the length of its line
+pub record Scratch (t : List ℤ) (st : State) : Type 0 where
+  pub own : partAt 0 t ≡ ownOpen st
+  pub figure : partAt width t ≡ figureOpen st
+  pub rest : drop (width + width) t ≡ emptyRecord
+
+-- ── the table ──
+abbrev pub symbolShut : Set → Symbol → List (List ℤ)
+symbolShut s y = frontRecords s ++ emptyRecord ∷ innerRecords (length (s .symbols)) y
+
+abbrev pub homeShut : Digits → Set → Home → List (List ℤ)
+homeShut c s (inElement y) = symbolShut s y
+homeShut c s (inLayer k) = layersRecords c s
+
+abbrev pub figuresShut : Digits → Set → Home → List Figure → List (List ℤ)
+figuresShut c s h fs = homeShut c s h ++ flat (map (homeFigure c s h) fs)
+
+-- the records taken so far: those that are complete, and zeros for those that are open
+abbrev pub shutSoFar : Digits → State → List (List ℤ)
+shutSoFar c (top s k) = topSoFar c s k
+shutSoFar c (file s n h p) = closedRecords c s ++ emptyRecords (isFirst s)
+shutSoFar c (drawing s d) = fileRecords true 1 (s .now) ++ emptyRecord ∷ layerRecords 0 (d .layers)
+shutSoFar c (layerNames s d) = fileRecords true 1 (s .now) ++ emptyRecord ∷ layerRecords 0 (d .layers)
+shutSoFar c (defines s b) = frontRecords s
+shutSoFar c (symbol s y) = symbolShut s y
+shutSoFar c (hide s y ps) = symbolShut s y ++ pointRecords kindHidden (length (s .symbols)) 1 ps
+shutSoFar c (elements s) = layersRecords c s
+shutSoFar c (figures s h fs) = figuresShut c s h fs
+shutSoFar c (successive s h fs n ps) =
+    figuresShut c s h fs ++ emptyRecord ∷ pointRecords (kindPoint + homeMore h) (homeOwner s h) (homeVolume s h) ps
+shutSoFar c (texts s h fs n o) = figuresShut c s h fs ++ emptyRecord ∷ []
+shutSoFar c (placing s k fs n o p) = figuresShut c s (inLayer k) fs ++ emptyRecord ∷ []
+shutSoFar c (skipping s k fs n o d) = figuresShut c s (inLayer k) fs ++ emptyRecord ∷ []
+shutSoFar c (ended s) = closedRecords c s
+
+-- so many records were taken, no more than the limit; a table of that length holds them. (The rewriter lends none.)
+pub record Kept (c : Digits) (limit : ℕ) (table : List ℤ) (records : ℕ) (st : State) : Type 0 where
+  pub taken : setOf st .taken ≡ records
+  pub fits : records ≤ limit
+  pub size : length (flat (shutSoFar c st)) ≡ width * records
+  pub laid : length table / width ≡ limit → Laid table (shutSoFar c st) (width * records)
+
+-- ── a line ──
+-- t: the scratch behind the block's part of the line. It took so many records, and the one with this number is complete: it stands on the
+-- scratch at `from`.
+pub record Fills (c : Digits) (st st′ : State) (more from number : ℕ) (t : List ℤ) : Type 0 where
+  pub fore : List (List ℤ)
+  pub behind : List (List ℤ)
+  pub before : shutSoFar c st ++ replicate more emptyRecord ≡ fore ++ emptyRecord ∷ behind
+  pub after : shutSoFar c st′ ≡ fore ++ partAt from t ∷ behind
+  pub size : length (flat fore) ≡ width * number
+  pub long : length (partAt from t) ≡ width
+
+-- none is complete
+abbrev pub Opens : Digits → State → State → ℕ → Type 0
+Opens c st st′ more = shutSoFar c st′ ≡ shutSoFar c st ++ replicate more emptyRecord
