@@ -3,7 +3,7 @@ use Prim.Native.Nat.{ℕ, _+_, _*_, _-_}
 use mathlib.Core.Bool.{Bool, true, false, cond}
 use mathlib.Core.Path.{_≡_}
 use mathlib.Core.List.{List}
-use lib.Dec.{ltb}
+use lib.Dec.{eqb, ltb}
 use lib.IntN.{ℤ, pos}
 use lib.ListN.{getD, set}
 use Rattle.rules.specs.declared.LineForm.{LineForm}
@@ -66,9 +66,13 @@ pointPut n kind table at j v t =
 abbrev pub chainPlace : Now → ℕ
 chainPlace n = n .free - width * (n .points + 1)
 
--- "14 successive (first point's type, point count)"
+-- "14 successive (first point's type, point count)": the type comes from its first point's record, at that point's line
+abbrev pub chainTyped : Now → ℕ → List ℤ → List ℤ
+chainTyped n own t = cond (eqb (n .points) 0) (set t (own + 4) (getD t (n .free + 4) (pos 0))) t
+
+-- the count at its end
 abbrev pub chainClosed : Now → ℕ → List ℤ → List ℤ
-chainClosed n own t = set (set t (own + 4) (getD t (own + 36) (pos 0))) (own + 5) (pos (n .points))
+chainClosed n own t = set t (own + 5) (pos (n .points))
 
 -- "successive: block of 3 to 100 point"
 abbrev pub chainEnd : Now → Step
@@ -84,7 +88,7 @@ chainStep n (refuse k) = S.Stop k
 -- the table after the line, where its own record stands at `own`; after a refusal nothing is said of it
 abbrev pub ChainTable : Now → ℕ → Where → List ℤ → List ℤ → Act → Type 0
 ChainTable n own at t₀ t₁ stay = t₁ ≡ t₀
-ChainTable n own at t₀ t₁ (entry j v) = t₁ ≡ pointPut n (chainKind (n .layered)) (pointTableOf (n .layered)) at j v t₀
+ChainTable n own at t₀ t₁ (entry j v) = t₁ ≡ chainTyped n own (pointPut n (chainKind (n .layered)) (pointTableOf (n .layered)) at j v t₀)
 ChainTable n own at t₀ t₁ (begin i j v) = Unit {0}
 ChainTable n own at t₀ t₁ shut = ltb (n .points) leastPoints ≡ false → t₁ ≡ chainClosed n own t₀
 ChainTable n own at t₀ t₁ (refuse k) = Unit {0}

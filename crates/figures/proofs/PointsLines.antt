@@ -6,11 +6,11 @@ use mathlib.Core.Path.{_≡_, refl, sym, _∙_, ap, subst}
 use native.Mathlib.Omega.{arith}
 use lib.Dec.{leb, ltb}
 use lib.IntN.{ℤ, pos}
-use lib.ListN.{length, getD, set, length-set}
+use lib.ListN.{length, getD, set}
 use mir.Syntax.{w64}
 use mir.Val.{toZ, ofZ, SFits}
 use mir.Facts.{toZ-ofZ}
-use borrow.Author.Tests.{lt-ltb, le-ltb}
+use borrow.Author.Tests.{lt-ltb, le-ltb, eq-eqb, ne-eqb}
 use Rattle.rules.specs.declared.Digits.{Digits}
 use Rattle.rules.specs.Base.{all}
 use Rattle.rules.specs.Lines.{Form}
@@ -31,7 +31,7 @@ use Rattle.account.specs.declared.Step.the-variants as S
 use Rattle.account.specs.Records.{hasRoom}
 use Rattle.leaves.proofs.Ints.{pos-back}
 use Rattle.account.specs.Account.{atBlock, figureDone, taking, headAt, TakenAt, ActsAt}
-use Rattle.account.specs.Points.{pointTableOf, chainKind, morePoints, chainEnd, chainClosed, ChainLine, HideLine}
+use Rattle.account.specs.Points.{pointTableOf, chainKind, morePoints, chainEnd, chainTyped, chainClosed, ChainLine, HideLine}
 use Rattle.figures.proofs.BlocksActs.{told}
 
 -- ── the table of points ──
@@ -72,13 +72,13 @@ module _ (n : Now) (at : Where) (t₀ t₁ : List ℤ) (a : Act) (x : Next) wher
     pub chain-stay : x ≡ N.Stay → ChainLine line n own at t₀ t₁ (S.Go n)
     chain-stay e = subst (Chains t₁ (S.Go n)) (sym (told N.Stay line (sym e ∙ m .eq))) (λ h. record { answer = refl; table = h }) (m .table)
 
-    pub chain-entry : (kind : ℕ) (t₂ : List ℤ) (y : Now) (j : ℕ) → kind ≡ chainKind (n .layered) → t₂ ≡ headAt (n .free) kind (n .owner) at t₁ → y ≡ morePoints n → x ≡ N.Entry j
-        → ChainLine line n own at t₀ t₂ (S.Go y)
-    chain-entry kind t₂ y j k g r e =
+    pub chain-entry : (kind : ℕ) (t₂ t₃ : List ℤ) (y : Now) (j : ℕ) → kind ≡ chainKind (n .layered) → t₂ ≡ headAt (n .free) kind (n .owner) at t₁ → t₃ ≡ chainTyped n own t₂ → y ≡ morePoints n
+        → x ≡ N.Entry j → ChainLine line n own at t₀ t₃ (S.Go y)
+    chain-entry kind t₂ t₃ y j k g f r e =
         let (v, q) = told (N.Entry j) line (sym e ∙ m .eq) in
-        subst (Chains t₂ (S.Go y)) (sym q) (λ h. record {
+        subst (Chains t₃ (S.Go y)) (sym q) (λ h. record {
           answer = ap (λ (z : Now). S.Go z) r;
-          table = g ∙ ap (λ (i : ℕ). headAt (n .free) i (n .owner) at t₁) k ∙ ap (headAt (n .free) (chainKind (n .layered)) (n .owner) at) h;
+          table = f ∙ ap (chainTyped n own) (g ∙ ap (λ (i : ℕ). headAt (n .free) i (n .owner) at t₁) k ∙ ap (headAt (n .free) (chainKind (n .layered)) (n .owner) at) h);
         }) (m .table)
 
     pub chain-begin : (t₂ : List ℤ) (i : Inner) → x ≡ N.Begin i → ChainLine line n own at t₀ t₂ (S.Stop 5)
@@ -122,10 +122,14 @@ chain-short n h = sym (ap (λ (b : Bool). cond b (S.Stop 8) (S.Go (figureDone n)
 pub chain-long : (n y : Now) → leastPoints ≤ n .points → y ≡ figureDone n → S.Go y ≡ chainEnd n
 chain-long n y h e = ap (λ (z : Now). S.Go z) e ∙ sym (ap (λ (b : Bool). cond b (S.Stop 8) (S.Go (figureDone n))) (le-ltb (n .points) leastPoints h))
 
-pub chain-stores : (n : Now) (own : ℕ) (t : List ℤ) → SFits w64 (getD t (own + 36) (pos 0)) → n .points < 100000000000
-    → set (set t (own + 4) (toZ w64 (ofZ w64 (getD t (own + 36) (pos 0))))) (own + 5) (toZ w64 (n .points)) ≡ chainClosed n own t
-chain-stores n own t f h = rw (toZ-ofZ f, pos-back (n .points) h)
+pub chain-counted : (n : Now) (own : ℕ) (t : List ℤ) → n .points < 100000000000 → set t (own + 5) (toZ w64 (n .points)) ≡ chainClosed n own t
+chain-counted n own t h = rw (pos-back (n .points) h)
 
--- the second store still lies within the table
-pub chain-within : (own : ℕ) (t : List ℤ) (z : ℤ) → own + 64 ≤ length t → own + 5 < length (set t (own + 4) z)
-chain-within own t z h = omega (arith, length-set t (own + 4) z, h)
+-- ── its first point's type ──
+pub typed-first : (n : Now) (own : ℕ) (t : List ℤ) → SFits w64 (getD t (n .free + 4) (pos 0)) → n .points ≤ 0
+    → set t (own + 4) (toZ w64 (ofZ w64 (getD t (n .free + 4) (pos 0)))) ≡ chainTyped n own t
+typed-first n own t f h =
+    ap (set t (own + 4)) (toZ-ofZ f) ∙ sym (ap (λ (b : Bool). cond b (set t (own + 4) (getD t (n .free + 4) (pos 0))) t) (eq-eqb (n .points) 0 (omega (arith, h))))
+
+pub typed-before : (n : Now) (own : ℕ) (t : List ℤ) → 0 < n .points → t ≡ chainTyped n own t
+typed-before n own t h = sym (ap (λ (b : Bool). cond b (set t (own + 4) (getD t (n .free + 4) (pos 0))) t) (ne-eqb (n .points) 0 (λ e. omega (arith, e, h))))

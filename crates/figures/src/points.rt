@@ -22,7 +22,7 @@ ghost use Prim.Native.Nat.{_+_, _≤_, _<_};
 ghost use lib.Dec.{ltb};
 ghost use lib.ListN.{length};
 ghost use Rattle.rules.specs.Figures.{leastPoints};
-ghost use Rattle.account.specs.Points.{pointTableOf, chainKind, pointAct, morePoints, chainEnd, chainClosed, ChainLine, HideLine};
+ghost use Rattle.account.specs.Points.{pointTableOf, chainKind, pointAct, morePoints, chainEnd, chainTyped, chainClosed, ChainLine, HideLine};
 ghost use Rattle.tables.specs.Numbering.{tableSymbolPoints};
 ghost use Rattle.rules.specs.RecordTable.{width};
 
@@ -31,6 +31,12 @@ const KIND_POINT_IN_SYMBOL: u8 = KIND_POINT + IN_SYMBOL;
 
 // "block of 3 to 100 point"; "`hide` (0 to 100 points, H)"
 const MOST_POINTS: u32 = 100;
+
+// Where a point's type stands in its record, and the first point's in the record of its `successive`.
+const PLACE_TYPE: usize = 4;
+
+// Behind it there, how many points it has.
+const PLACE_COUNT: usize = 5;
 
 // "In layers no coordinate is negative but the two centres; in symbols any sign."
 fn point_table(layered: bool) -> u8
@@ -69,16 +75,26 @@ fn more_points(now: Now) -> Now
     }
 }
 
-// "14 successive (first point's type, point count)": they go to its own record, the first point's record is the next.
+// "14 successive (first point's type, point count)": the type goes to its own record at its first point's line, from that point's record.
+fn type_chain(here: Now, own: usize, t: &mut [i64])
+    requires { ⌜ (own + width ≤ length (now t)) × (here .free + width ≤ length (now t)) ⌝ }
+    ensures { λ _. ⌜ now (t .exit) ≡ chainTyped here own (now (t .entry)) ⌝ }
+{
+    if here.points > 0 {
+        return;
+    }
+    t[own + PLACE_TYPE] = t[here.free + PLACE_TYPE];
+}
+
+// The count goes there at its end.
 fn close_chain(here: Now, own: usize, t: &mut [i64]) -> Step
-    requires { ⌜ (here .figures < 4294967295) × (here .points < 4294967295) × (leastPoints ≤ here .points → own + 64 ≤ length (now t)) ⌝ }
+    requires { ⌜ (here .figures < 4294967295) × (here .points < 4294967295) × (own + width ≤ length (now t)) ⌝ }
     ensures { λ r. ⌜ (r ≡ chainEnd here) × (ltb (here .points) leastPoints ≡ false → now (t .exit) ≡ chainClosed here own (now (t .entry))) ⌝ }
 {
     if here.points < 3 {
         return Step::Stop(8);
     }
-    t[own + 4] = t[own + 36];
-    t[own + 5] = here.points as i64;
+    t[own + PLACE_COUNT] = here.points as i64;
     Step::Go(figure_done(here))
 }
 
@@ -93,7 +109,7 @@ pub fn on_chain(
     at: Where,
     t: &mut [i64],
 ) -> Step
-    requires { ⌜ (length (now s) ≤ 61440) × (length (now symbols) ≤ 65536) × (length (now layers) ≤ 65536) × (here .figures < 4294967295) × (here .points < 4294967295) × (leastPoints ≤ here .points → own + 64 ≤ length (now t)) ⌝ }
+    requires { ⌜ (length (now s) ≤ 61440) × (length (now symbols) ≤ 65536) × (length (now layers) ≤ 65536) × (here .figures < 4294967295) × (here .points < 4294967295) × (own + width ≤ length (now t)) ⌝ }
     ensures { λ r. ⌜ ChainLine (pointAct (pointTableOf (here .layered)) (now (s .entry)) (now (symbols .entry)) (now (layers .entry)) here form (now (t .entry))) here own at (now (t .entry)) (now (t .exit)) r ⌝ }
 {
     let full = [MOST_POINTS <= here.points];
@@ -120,6 +136,7 @@ pub fn on_chain(
                 at.volume,
                 at.line,
             );
+            type_chain(here, own, t);
             Step::Go(more_points(here))
         }
         Next::Begin(_) => Step::Stop(5),

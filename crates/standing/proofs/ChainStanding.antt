@@ -5,8 +5,8 @@ use mathlib.Core.List.{List, [], _∷_, _++_, append-assoc}
 use mathlib.Core.Option.{some}
 use mathlib.Core.Path.{_≡_, refl, sym, _∙_, ap, subst}
 use native.Mathlib.Omega.{arith}
-use borrow.Author.Tests.{leb-true, le-leb, lt-leb, ltb-true, ltb-false}
-use lib.Dec.{ltb}
+use borrow.Author.Tests.{leb-true, le-leb, lt-leb, ne-eqb, ltb-true, ltb-false}
+use lib.Dec.{eqb, ltb}
 use lib.IntN.{ℤ, pos}
 use lib.ListN.{length, getD, set, take, length-append}
 use Rattle.rules.specs.declared.Digits.{Digits}
@@ -27,20 +27,19 @@ use Rattle.account.specs.declared.Where.{Where}
 use Rattle.account.specs.declared.Step.{Step}
 use Rattle.account.specs.declared.Step.the-variants as S
 use Rattle.standing.specs.Laid.{Laid}
-use Rattle.account.specs.Records.{hasRoom, withPart}
+use Rattle.account.specs.Records.{hasRoom}
 use Rattle.account.specs.Account.{taking, figureDone}
-use Rattle.standing.specs.SoFar.{homeOwner, homeVolume, homeMore, homeFigure, figuresSoFar, soFar}
+use Rattle.standing.specs.SoFar.{homeOwner, homeVolume, homeMore, homeFigure, figuresSoFar, chainSoFar, soFar}
 use Rattle.standing.specs.Standing.{Desk, usedOf, inside, InChain, Stands, Under, LineHere, StepOut}
-use Rattle.account.specs.Points.{pointTableOf, chainKind, pointAct, morePoints, pointPut, chainPlace, chainClosed, chainStep, ChainTable, ChainLine}
+use Rattle.account.specs.Points.{pointTableOf, chainKind, pointAct, morePoints, pointPut, chainPlace, chainTyped, chainClosed, chainStep, ChainTable, ChainLine}
 use Rattle.standing.proofs.Openers.{isBegin, no-begin}
-use Rattle.standing.proofs.LaidTables.{laid-same, laid-part, laid-within, laid-change}
+use Rattle.standing.proofs.LaidTables.{laid-same}
 use Rattle.standing.proofs.MoreRecords.{more-points, more-figures, figures-taken}
 use Rattle.standing.proofs.Standings.{has-room, sight, deskWith, stands-on, known, stands-still}
 use Rattle.standing.proofs.HomeFacts.{home-layered, home-owner, home-volume, home-on, home-stays}
 use Rattle.standing.proofs.FigureSights.{plain-serials}
-use Rattle.standing.proofs.RecordStores.{store-part, laid-get, points-size}
+use Rattle.standing.proofs.RecordStores.{laid-store, laid-get, points-size}
 use Rattle.standing.proofs.PointEntries.{point-rows, plain-points, point-few, point-laid}
-use Rattle.account.proofs.Lent.{with-same}
 use Rattle.rules.proofs.RecordLengths.{length-slot}
 
 chain-kind : (h : Home) → chainKind (isLayer h) ≡ 17 + homeMore h
@@ -50,7 +49,7 @@ chain-kind (inLayer m) = refl
 -- the count of records says nothing of what they are, nor of the set
 same-chain : (kind : ℕ) (c : Digits) (s : Set) (h : Home) (fs : List Figure) (n : ℕ) (ps : List Point) → soFar c (successive s h fs n ps) ≡ soFar c (successive (withRecords (kind ∷ []) s) h fs n ps)
 same-chain kind c s (inElement y) fs n ps = refl
-same-chain kind c s (inLayer m) fs n ps = ap (λ (r : List (List ℤ)). r ++ start 14 m (homeVolume s (inLayer m)) n ∷ pointRecords 17 m (homeVolume s (inLayer m)) ps) (sym (figures-taken c s (kind ∷ []) (inLayer m) fs))
+same-chain kind c s (inLayer m) fs n ps = ap (λ (r : List (List ℤ)). r ++ chainSoFar s (inLayer m) n ps ∷ pointRecords 17 m (homeVolume s (inLayer m)) ps) (sym (figures-taken c s (kind ∷ []) (inLayer m) fs))
 
 same-sight : (kind : ℕ) (s : Set) (h : Home) (fs : List Figure) (n : ℕ) (ps ps′ : List Point) → sight (successive s h fs n ps) ≡ sight (successive (withRecords (kind ∷ []) s) h fs n ps′)
 same-sight kind s (inElement y) fs n ps ps′ = refl
@@ -61,6 +60,32 @@ type-of : (v : List Num) (kind owner volume line : ℕ) → getD (putSlot (ruleA
 unfolding pointTable
 type-of [] kind owner volume line = refl
 type-of (n ∷ v) kind owner volume line = refl
+
+-- at that point's line it goes to the record of the `successive`, which stands before those of its points
+module _ (s : Set) (h : Home) (n : ℕ) (p : Point) (fore : List (List ℤ)) (t : List ℤ) (w : ℕ) where
+  abbrev points : List Point → List (List ℤ)
+  points ps = pointRecords (17 + homeMore h) (homeOwner s h) (homeVolume s h) ps
+
+  typed-laid : (ps : List Point) (count own free : ℕ) → count ≡ length ps → own ≡ length (flat fore) → free ≡ length (flat fore) + (32 + 32 * length ps)
+      → Laid t (fore ++ chainSoFar s h n ps ∷ points (ps ++ p ∷ [])) w
+      → Laid (cond (eqb count 0) (set t (own + 4) (getD t (free + 4) (pos 0))) t) (fore ++ chainSoFar s h n (ps ++ p ∷ []) ∷ points (ps ++ p ∷ [])) w
+  typed-laid [] count own free e o f l =
+      let begun : List ℤ = chainSoFar s h n [] in
+      let r : List ℤ = putSlot (ruleAt (pointTable true) 0) (some (nums (p .values))) (start (17 + homeMore h) (homeOwner s h) (homeVolume s h) (p .line)) in
+      let at : ℕ = length (flat fore) in
+      let up : free + 4 ≡ (at + 32) + 4 = omega (arith, f) in
+      let long : length (flat (fore ++ begun ∷ [])) ≡ at + 32 = ap length (flat-append fore (begun ∷ [])) ∙ length-append (flat fore) (begun ++ []) in
+      let read : getD t (free + 4) (pos 0) ≡ firstType (p ∷ []) =
+      ap (λ (m : ℕ). getD t m (pos 0)) up
+      ∙ laid-get t (fore ++ begun ∷ []) r [] w (at + 32) 4 (laid-same t _ _ w (sym (append-assoc fore (begun ∷ []) (r ∷ []))) l) long
+      (omega (arith, length-slot (ruleAt (pointTable true) 0) (some (nums (p .values))) (start (17 + homeMore h) (homeOwner s h) (homeVolume s h) (p .line))))
+      ∙ type-of (p .values) (17 + homeMore h) (homeOwner s h) (homeVolume s h) (p .line) in
+      let put : cond (eqb count 0) (set t (own + 4) (getD t (free + 4) (pos 0))) t ≡ set t (at + 4) (firstType (p ∷ [])) =
+      ap (λ (m : ℕ). cond (eqb m 0) (set t (own + 4) (getD t (free + 4) (pos 0))) t) e ∙ ap (λ (m : ℕ). set t (m + 4) (getD t (free + 4) (pos 0))) o ∙ ap (set t (at + 4)) read in
+      subst (λ (u : List ℤ). Laid u (fore ++ chainSoFar s h n (p ∷ []) ∷ points (p ∷ [])) w) (sym put) (laid-store t fore begun (points (p ∷ [])) w 4 (firstType (p ∷ [])) l refl (omega arith))
+  typed-laid (q ∷ qs) count own free e o f l =
+      subst (λ (b : Bool). Laid (cond b (set t (own + 4) (getD t (free + 4) (pos 0))) t) (fore ++ chainSoFar s h n (q ∷ qs) ∷ points ((q ∷ qs) ++ p ∷ [])) w)
+      (sym (ne-eqb count 0 (λ z. omega (arith, z, e)))) l
 
 pub chain-figure : (c : Digits) (s : Set) (h : Home) (n : ℕ) (ps : List Point)
     → homeFigure c s h (chain n ps) ≡ chainRecord (homeMore h) (homeOwner s h) (homeVolume s h) n ps ∷ pointRecords (17 + homeMore h) (homeOwner s h) (homeVolume s h) ps
@@ -102,6 +127,24 @@ module _ (c : Digits) (spool : List ℕ) (k : ℕ) (FileHere : Desk → Set → 
   later : at ≤ to
   later = omega (arith, x .bytes)
 
+  -- where its own record stands, and those of its points
+  abbrev fore : List (List ℤ)
+  fore = figuresSoFar c s h fs
+
+  abbrev begun : List ℤ
+  begun = chainSoFar s h n ps
+
+  abbrev pts : List (List ℤ)
+  pts = pointRecords (17 + homeMore h) (homeOwner s h) (homeVolume s h) ps
+
+  size : d .now .free ≡ length (flat fore) + (32 + 32 * length ps)
+  size =
+      sym (z .laid .size) ∙ ap length (flat-append fore (begun ∷ pts)) ∙ length-append (flat fore) (begun ++ flat pts)
+      ∙ ap (λ (m : ℕ). length (flat fore) + m) (length-append begun (flat pts) ∙ ap (λ (m : ℕ). 32 + m) (points-size (17 + homeMore h) (homeOwner s h) (homeVolume s h) ps))
+
+  place : chainPlace (d .now) ≡ length (flat fore)
+  place = omega (arith, size, inc .points)
+
   module _ (t₁ : List ℤ) where
     abbrev Out : Step → Type 0
     Out r = StepOut c spool k FileHere e l to st (deskWith d (d .now) (d .marks) (d .inner) t₁) r
@@ -121,30 +164,42 @@ module _ (c : Digits) (spool : List ℕ) (k : ℕ) (FileHere : Desk → Set → 
       abbrev kind : ℕ
       kind = 17 + homeMore h
 
-      module _ (b : hasRoom (d .now .free) (d .table) ≡ true) (q : t₁ ≡ pointPut (d .now) (chainKind (d .now .layered)) (pointTableOf (d .now .layered)) w j v (d .table)) where
-        -- as the code has it, and as the state says
-        put : t₁ ≡ pointPut (d .now) kind (pointTableOf (isLayer h)) w j v (d .table)
+      module _ (b : hasRoom (d .now .free) (d .table) ≡ true)
+          (q : t₁ ≡ chainTyped (d .now) (chainPlace (d .now)) (pointPut (d .now) (chainKind (d .now .layered)) (pointTableOf (d .now .layered)) w j v (d .table))) where
+        -- with the point's record: as the code has it, and as the state says
+        abbrev pointed : List ℤ
+        pointed = pointPut (d .now) (chainKind (d .now .layered)) (pointTableOf (d .now .layered)) w j v (d .table)
+
+        put : pointed ≡ pointPut (d .now) kind (pointTableOf (isLayer h)) w j v (d .table)
         put =
             let lay : d .now .layered ≡ isLayer h = home-layered spool k (d .now) (d .marks) (d .inner) s h (inc .home) in
-            q ∙ ap (λ (y : Bool). pointPut (d .now) (chainKind y) (pointTableOf y) w j v (d .table)) lay ∙ ap (λ (m : ℕ). pointPut (d .now) m (pointTableOf (isLayer h)) w j v (d .table)) (chain-kind h)
+            ap (λ (y : Bool). pointPut (d .now) (chainKind y) (pointTableOf y) w j v (d .table)) lay ∙ ap (λ (m : ℕ). pointPut (d .now) m (pointTableOf (isLayer h)) w j v (d .table)) (chain-kind h)
 
         abbrev made : List (List ℤ)
         made = pointRecords kind (homeOwner s h) (homeVolume s h) (p ∷ [])
 
-        grown : soFar c st ++ made ≡ soFar c st′
-        grown =
-            append-assoc (figuresSoFar c s h fs) (start (14 + homeMore h) (homeOwner s h) (homeVolume s h) n ∷ pointRecords kind (homeOwner s h) (homeVolume s h) ps) made
-            ∙ ap (λ (y : List (List ℤ)). figuresSoFar c s h fs ++ start (14 + homeMore h) (homeOwner s h) (homeVolume s h) n ∷ y) (sym (more-points kind (homeOwner s h) (homeVolume s h) ps p))
-            ∙ same-chain (kindIn h kindPoint) c s h fs n (ps ++ p ∷ [])
+        abbrev more : List (List ℤ)
+        more = pointRecords kind (homeOwner s h) (homeVolume s h) (ps ++ p ∷ [])
+
+        grown : soFar c st ++ made ≡ fore ++ begun ∷ more
+        grown = append-assoc fore (begun ∷ pts) made ∙ ap (λ (y : List (List ℤ)). fore ++ begun ∷ y) (sym (more-points kind (homeOwner s h) (homeVolume s h) ps p))
+
+        laid : Laid t₁ (soFar c st′) (d .now .free + 32)
+        laid =
+            let there : Laid pointed (fore ++ begun ∷ more) (d .now .free + 32) =
+            laid-same pointed (soFar c st ++ made) (fore ++ begun ∷ more) (d .now .free + 32) grown
+            (point-laid (isLayer h) (knownOf s) (length ps) (l .form) j v a (d .table) (soFar c st) (d .now) (z .laid) (leb-true (d .now .free + 32) (length (d .table)) b) w kind (homeOwner s h) (homeVolume s h) (l .line)
+            (home-owner spool k (d .now) (d .marks) (d .inner) s h (inc .home)) (x .volume ∙ home-volume spool k (d .now) (d .marks) (d .inner) s h (inc .home)) (x .line) pointed put) in
+            subst (λ (t : List ℤ). Laid t (soFar c st′) (d .now .free + 32)) (sym q)
+            (laid-same _ _ _ _ (same-chain (kindIn h kindPoint) c s h fs n (ps ++ p ∷ []))
+            (typed-laid s h n p fore pointed (d .now .free + 32) ps (d .now .points) (chainPlace (d .now)) (d .now .free) (inc .points) place size there))
 
         on-entry : Out (S.Go (morePoints (d .now)))
         on-entry = (
           st′,
           ap (byAct _ _ _ _) a ∙ ap (λ (y : Bool). unless y 19 (got st′)) (has-room c d e (s .taken) u (z .taken) ∙ b),
           stands-on c spool k FileHere d at to st st′ z (morePoints (d .now)) (d .marks) (d .inner) t₁ (same-sight (kindIn h kindPoint) s h fs n ps (ps ++ p ∷ [])) (z .lengths .marks) (z .lengths .inner)
-              (laid-same t₁ (soFar c st ++ made) (soFar c st′) (d .now .free + 32) grown
-              (point-laid (isLayer h) (knownOf s) (length ps) (l .form) j v a (d .table) (soFar c st) (d .now) (z .laid) (leb-true (d .now .free + 32) (length (d .table)) b) w kind (homeOwner s h) (homeVolume s h) (l .line)
-              (home-owner spool k (d .now) (d .marks) (d .inner) s h (inc .home)) (x .volume ∙ home-volume spool k (d .now) (d .marks) (d .inner) s h (inc .home)) (x .line) t₁ put))
+              laid
               (omega (arith, z .taken)) (omega (arith, z .counted, later)) (omega (arith, z .named, later)) (omega (arith, z .numbered, later)) (
                 z .block .0,
                 record {
@@ -168,63 +223,15 @@ module _ (c : Digits) (spool : List ℕ) (k : ℕ) (FileHere : Desk → Set → 
 
     -- its end
     module _ (a : did ≡ shut) (b : ltb (d .now .points) leastPoints ≡ false) (q : t₁ ≡ chainClosed (d .now) (chainPlace (d .now)) (d .table)) where
-      abbrev fore : List (List ℤ)
-      fore = figuresSoFar c s h fs
-
-      abbrev begun : List ℤ
-      begun = start (14 + homeMore h) (homeOwner s h) (homeVolume s h) n
-
-      abbrev pts : List (List ℤ)
-      pts = pointRecords (17 + homeMore h) (homeOwner s h) (homeVolume s h) ps
+      abbrev closed : List ℤ
+      closed = chainRecord (homeMore h) (homeOwner s h) (homeVolume s h) n ps
 
       many : 3 ≤ length ps
       many = omega (arith, ltb-false (d .now .points) 3 b, inc .points)
 
-      size : d .now .free ≡ length (flat fore) + (32 + 32 * length ps)
-      size =
-          sym (z .laid .size) ∙ ap length (flat-append fore (begun ∷ pts)) ∙ length-append (flat fore) (begun ++ flat pts)
-          ∙ ap (λ (m : ℕ). length (flat fore) + m) (length-append begun (flat pts) ∙ ap (λ (m : ℕ). 32 + m) (points-size (17 + homeMore h) (homeOwner s h) (homeVolume s h) ps))
-
-      place : chainPlace (d .now) ≡ length (flat fore)
-      place = omega (arith, size, inc .points)
-
-      abbrev f : ℕ
-      f = length (flat fore)
-
-      first-type : getD (d .table) (f + 36) (pos 0) ≡ firstType ps
-      first-type = go ps refl
-        where
-          go : (qs : List Point) → ps ≡ qs → getD (d .table) (f + 36) (pos 0) ≡ firstType ps
-          go [] e = absurd (omega (arith, many, ap length e))
-          go (p ∷ qs) e =
-              let r : List ℤ = putSlot (ruleAt (pointTable true) 0) (some (nums (p .values))) (start (17 + homeMore h) (homeOwner s h) (homeVolume s h) (p .line)) in
-              let rest : List (List ℤ) = pointRecords (17 + homeMore h) (homeOwner s h) (homeVolume s h) qs in
-              let same : soFar c st ≡ (fore ++ begun ∷ []) ++ r ∷ rest =
-              ap (λ (y : List Point). fore ++ begun ∷ pointRecords (17 + homeMore h) (homeOwner s h) (homeVolume s h) y) e ∙ sym (append-assoc fore (begun ∷ []) (r ∷ rest)) in
-              let long : length (flat (fore ++ begun ∷ [])) ≡ f + 32 = ap length (flat-append fore (begun ∷ [])) ∙ length-append (flat fore) (begun ++ []) in
-              let up : f + 36 ≡ (f + 32) + 4 = omega arith in
-              ap (λ (m : ℕ). getD (d .table) m (pos 0)) up
-              ∙ laid-get (d .table) (fore ++ begun ∷ []) r rest (d .now .free) (f + 32) 4 (laid-same (d .table) (soFar c st) ((fore ++ begun ∷ []) ++ r ∷ rest) (d .now .free) same (z .laid)) long
-              (omega (arith, length-slot (ruleAt (pointTable true) 0) (some (nums (p .values))) (start (17 + homeMore h) (homeOwner s h) (homeVolume s h) (p .line))))
-              ∙ type-of (p .values) (17 + homeMore h) (homeOwner s h) (homeVolume s h) (p .line) ∙ ap firstType (sym e)
-
-      abbrev closed : List ℤ
-      closed = chainRecord (homeMore h) (homeOwner s h) (homeVolume s h) n ps
-
-      within : f + 32 ≤ length (d .table)
-      within = laid-within (d .table) fore begun pts (d .now .free) f (z .laid) refl refl
-
-      put-closed : t₁ ≡ withPart f closed (d .table)
-      put-closed =
-          let t : List ℤ = d .table in
-          let back : t ≡ withPart f begun t = sym (ap (λ (y : List ℤ). withPart f y t) (sym (laid-part t fore begun pts (d .now .free) f (z .laid) refl refl)) ∙ with-same f t) in
-          let o : ℕ → ℤ → ℕ → List ℤ = λ m y i. set (set t (m + 4) y) (m + 5) (pos i) in
-          q ∙ ap (λ (m : ℕ). o m (getD t (m + 36) (pos 0)) (d .now .points)) place
-          ∙ ap (λ (y : ℤ). o f y (d .now .points)) first-type
-          ∙ ap (λ (i : ℕ). o f (firstType ps) i) (inc .points)
-          ∙ ap (λ (y : List ℤ). set (set y (f + 4) (firstType ps)) (f + 5) (pos (length ps))) back
-          ∙ ap (λ (y : List ℤ). set y (f + 5) (pos (length ps))) (store-part begun t f 4 (firstType ps) (omega (arith, within)) refl (omega arith))
-          ∙ store-part (set begun 4 (firstType ps)) t f 5 (pos (length ps)) (omega (arith, within)) refl (omega arith)
+      -- its count
+      counted : t₁ ≡ set (d .table) (length (flat fore) + 5) (pos (length ps))
+      counted = q ∙ ap (λ (m : ℕ). set (d .table) (m + 5) (pos (d .now .points))) place ∙ ap (λ (i : ℕ). set (d .table) (length (flat fore) + 5) (pos i)) (inc .points)
 
       on-shut : Out (S.Go (figureDone (d .now)))
       on-shut =
@@ -234,7 +241,7 @@ module _ (c : Digits) (spool : List ℕ) (k : ℕ) (FileHere : Desk → Set → 
             ap (byAct _ _ _ _) a ∙ ap (λ (y : Bool). unless y 8 (got st′)) (le-leb 3 (length ps) many),
             stands-on c spool k FileHere d at to st st′ z (figureDone (d .now)) (d .marks) (d .inner) t₁ (closed-sight s h fs n ps) (z .lengths .marks) (z .lengths .inner)
                 (laid-same t₁ (fore ++ closed ∷ pts) (soFar c st′) (d .now .free) grown
-                (subst (λ (t : List ℤ). Laid t (fore ++ closed ∷ pts) (d .now .free)) (sym put-closed) (laid-change (d .table) fore begun pts (d .now .free) f (z .laid) refl refl closed refl)))
+                (subst (λ (t : List ℤ). Laid t (fore ++ closed ∷ pts) (d .now .free)) (sym counted) (laid-store (d .table) fore begun pts (d .now .free) 5 (pos (length ps)) (z .laid) refl (omega arith))))
                 (z .taken) (omega (arith, z .counted, x .bytes, length-append fs (chain n ps ∷ []))) (omega (arith, z .named, later)) (omega (arith, z .numbered, later))
                 (refl, home-stays spool k (d .now) (figureDone (d .now)) (d .marks) (d .inner) (d .inner) s h refl refl refl (inc .home), ap (λ (m : ℕ). m + 1) (inc .figures) ∙ sym (length-append fs (chain n ps ∷ []))),
           )

@@ -15,7 +15,7 @@ use Rattle.rules.specs.Blocks.{drawingTable, symbolTable}
 use Rattle.rules.specs.Figures.{placedTables}
 use Rattle.rules.specs.RecordTable.{start, pointRecords, textRecord, putHeld, drawingRecord, layerRecords, fileRecords, innerRecords, putSlots}
 use Rattle.rules.proofs.Chains.{flat-append}
-use Rattle.standing.specs.SoFar.{volumeOf, closedRecords, frontRecords, emptyRecords, homeMore, homeOwner, homeVolume, figuresSoFar, soFar}
+use Rattle.standing.specs.SoFar.{volumeOf, closedRecords, frontRecords, emptyRecords, homeMore, homeOwner, homeVolume, figuresSoFar, chainSoFar, soFar}
 use Rattle.standing.specs.Laid.{Laid}
 use Rattle.standing.specs.Standing.{Desk}
 use Rattle.standing.specs.FileStanding.{InFile}
@@ -47,7 +47,7 @@ module _ (c : Digits) (spool : List ℕ) (k : ℕ) (d : Desk) (at : ℕ) (st : S
     where
       go : (st : State) → OpenBlocks.InAChain st → Standing c spool k d at st → 32 * (d .now .points + 1) ≤ d .now .free
       go _ (OpenBlocks.here s h fs n ps) z =
-          let begun : List ℤ = start (14 + homeMore h) (homeOwner s h) (homeVolume s h) n in
+          let begun : List ℤ = chainSoFar s h n ps in
           let pts : List (List ℤ) = pointRecords (17 + homeMore h) (homeOwner s h) (homeVolume s h) ps in
           let fore : List (List ℤ) = figuresSoFar c s h fs in
           omega (

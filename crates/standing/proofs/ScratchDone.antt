@@ -116,7 +116,7 @@ module _ (d : Desk) (table : List ℤ) (long : length (d .table) ≡ 96) (seen :
       hide = y .hide;
       elements = y .elements;
       figures = y .figures;
-      chain = λ b. (y .chain b .0, y .chain b .1, λ _. omega (arith, fresh-long));
+      chain = λ b. (y .chain b .0, y .chain b .1, omega (arith, fresh-long));
       text = λ b. (omega (arith, least-at n (length table) f room 10 b (λ e. absurd (omega (arith, e)))), y .text b .1);
       placed = λ b.
           let z = y .placed b in

@@ -27,7 +27,7 @@ use Rattle.account.specs.declared.Step.the-variants as S
 use Rattle.account.specs.Records.{hasRoom, partAt, withPart}
 use Rattle.account.specs.Account.{atBlock, figureDone, taking}
 use Rattle.standing.specs.Reading.{tallyAfter}
-use Rattle.account.specs.Points.{pointTableOf, chainKind, morePoints, pointPut, chainPlace, chainClosed, ChainLine, HideLine}
+use Rattle.account.specs.Points.{pointTableOf, chainKind, morePoints, pointPut, chainPlace, chainTyped, chainClosed, ChainLine, HideLine}
 use Rattle.account.specs.TextLines.{textTableOf, textStep, TextLine}
 use Rattle.account.specs.FigureLines.{homeTable, homeRows, homeRule, lineKind, blockKind, figureAt, moreFigures, figureOpened, figuresClosed, FigureLine}
 use Rattle.account.specs.ElementLines.{layerOpened, elementStep, agrees, ElementLine}
@@ -110,19 +110,37 @@ module _ (spool : List ℕ) (form : LineForm) (n : Now) (tally symbols layers : 
     abbrev Chain : Act → List ℤ → Step → Type 0
     Chain a u x = ChainLine a n (chainPlace n) w table u x
 
+    abbrev pointed : Now → ℕ → Value → List ℤ → List ℤ
+    pointed m j v u = pointPut m (chainKind (m .layered)) (pointTableOf (m .layered)) w j v u
+
+    -- the first point's type goes to the record of its `successive`
+    typed-long : (own : ℕ) (u : List ℤ) → length (chainTyped n own u) ≡ length u
+    typed-long own u = go (eqb (n .points) 0)
+      where
+        go : (c : Bool) → length (cond c (set u (own + 4) (getD u (n .free + 4) (pos 0))) u) ≡ length u
+        go true = length-set u (own + 4) (getD u (n .free + 4) (pos 0))
+        go false = refl
+
+    typed-fore : (m : Now) (k own : ℕ) (u : List ℤ) → k ≤ own → take k (chainTyped m own u) ≡ take k u
+    typed-fore m k own u h = go (eqb (m .points) 0)
+      where
+        go : (c : Bool) → take k (cond c (set u (own + 4) (getD u (m .free + 4) (pos 0))) u) ≡ take k u
+        go true = take-set-le k u (own + 4) (getD u (m .free + 4) (pos 0)) (omega (arith, h))
+        go false = refl
+
     chain-entry : (j : ℕ) (v : Value) → hasRoom (n .free) table ≡ true → ChainLine (entry j v) n′ 32 w t t₁ r → Moved (Chain (entry j v)) (length table) t₁ (putBack n f r)
     chain-entry j v e y =
         moved-as (Chain (entry j v)) (length table) t₁ (putBack n f r) (S.Go (morePoints n))
         (ap (putBack n f) (y .answer) ∙ ap (λ (m : Now). S.Go m) (back-on n f (morePoints n′) 32 (opens-not 9 b refl) refl))
         (record {
-          table = pointPut n (chainKind (n .layered)) (pointTableOf (n .layered)) w j v table;
+          table = chainTyped n (chainPlace n) (pointed n j v table);
           did = record { answer = refl; table = refl };
           own = (
-            at-long n w (chainKind (n .layered)) (ruleAt (tableOf (pointTableOf (n .layered))) j) v table (has-room e),
+            typed-long (chainPlace n) (pointed n j v table) ∙ at-long n w (chainKind (n .layered)) (ruleAt (tableOf (pointTableOf (n .layered))) j) v table (has-room e),
             λ o.
                 own-kept n (morePoints n) t t₁ table _ (seen o) refl (omega arith) (λ _. omega (arith, seen o .fore-chain b)) (λ z. absurd (omega (arith, z, b)))
-                (ap (take 32) (y .table) ∙ at-fore n′ w (chainKind (n .layered)) (ruleAt (tableOf (pointTableOf (n .layered))) j) v t 32 (omega (arith, least-at n (length table) f room 9 b (λ z. absurd (omega (arith, z))))) within-scratch)
-                (at-fore n w (chainKind (n .layered)) (ruleAt (tableOf (pointTableOf (n .layered))) j) v table (n .own + 32) (seen o .fore) fit),
+                (ap (take 32) (y .table) ∙ typed-fore n′ 32 32 (pointed n′ j v t) (omega arith) ∙ at-fore n′ w (chainKind (n .layered)) (ruleAt (tableOf (pointTableOf (n .layered))) j) v t 32 (omega (arith, least-at n (length table) f room 9 b (λ z. absurd (omega (arith, z))))) within-scratch)
+                (typed-fore n (n .own + 32) (chainPlace n) (pointed n j v table) (seen o .fore-chain b) ∙ at-fore n w (chainKind (n .layered)) (ruleAt (tableOf (pointTableOf (n .layered))) j) v table (n .own + 32) (seen o .fore) fit),
           );
         })
 
@@ -144,14 +162,10 @@ module _ (spool : List ℕ) (form : LineForm) (n : Now) (tally symbols layers : 
     closed = chainClosed n (chainPlace n) table
 
     closed-long : length closed ≡ length table
-    closed-long =
-        length-set (set table (chainPlace n + 4) (getD table (chainPlace n + 36) (pos 0))) (chainPlace n + 5) (pos (n .points))
-        ∙ length-set table (chainPlace n + 4) (getD table (chainPlace n + 36) (pos 0))
+    closed-long = length-set table (chainPlace n + 5) (pos (n .points))
 
     closed-fore : (k own : ℕ) (u : List ℤ) → k ≤ own → take k (chainClosed n own u) ≡ take k u
-    closed-fore k own u h =
-        take-set-le k (set u (own + 4) (getD u (own + 36) (pos 0))) (own + 5) (pos (n .points)) (omega (arith, h))
-        ∙ take-set-le k u (own + 4) (getD u (own + 36) (pos 0)) (omega (arith, h))
+    closed-fore k own u h = take-set-le k u (own + 5) (pos (n .points)) (omega (arith, h))
 
     chain-shut : ChainLine shut n′ 32 w t t₁ r → Moved (Chain shut) (length table) t₁ (putBack n f r)
     chain-shut y = go (ltb (n .points) leastPoints) refl

@@ -160,7 +160,7 @@ module _ (c : Digits) (spool : List ℕ) (k : ℕ) (form : LineForm) (w : Where)
     chain = λ b. (
       chain-figures b,
       places.chain-points c spool k d at st z b,
-      λ g. omega (arith, g, o b, places.chain-place c spool k d at st z b, places.free-within c spool k d at st z),
+      omega (arith, o b, places.chain-place c spool k d at st z b, places.free-within c spool k d at st z),
     );
     text = λ b. (places.text-place c spool k d at st z b, text-figures b);
     placed = λ b. (places.placed-place c spool k d at st z b, placed-lent b .0, placed-lent b .1);

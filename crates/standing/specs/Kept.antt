@@ -6,7 +6,6 @@ use mathlib.Core.Path.{_≡_}
 use mathlib.Core.List.{List, [], _∷_, _++_, map}
 use lib.IntN.{ℤ}
 use lib.ListN.{length, replicate, drop}
-use lib.Seq.{sets}
 use Rattle.rules.specs.declared.Digits.{Digits}
 use Rattle.rules.specs.Base.{flat}
 use Rattle.rules.specs.Blocks.{symbolTable}
@@ -14,13 +13,13 @@ use Rattle.rules.specs.Figures.{placedTables}
 use Rattle.rules.specs.Sets.{Figure, Symbol, Set, isFirst}
 use Rattle.rules.specs.Machine.{Home, inElement, inLayer, State, top, file, drawing, layerNames, defines, symbol, hide, elements, figures, successive, texts}
 use Rattle.rules.specs.Machine.{placing, skipping, ended, symbolBlock}
-use Rattle.rules.specs.RecordTable.{putSlots, putHeld, start, fileRecords, drawingRecord, layerRecords, pointRecords, firstType, textRecord, innerRecords}
-use Rattle.rules.specs.RecordTable.{width, kindSymbol, kindSuccessive, kindPlaced, kindPoint, kindHidden}
+use Rattle.rules.specs.RecordTable.{putSlots, putHeld, start, fileRecords, drawingRecord, layerRecords, pointRecords, textRecord, innerRecords}
+use Rattle.rules.specs.RecordTable.{width, kindSymbol, kindPlaced, kindPoint, kindHidden}
 use Rattle.account.specs.Records.{partAt}
 use Rattle.standing.specs.Laid.{Laid}
 use Rattle.standing.specs.Standing.{setOf}
 use Rattle.standing.specs.SoFar.{volumeOf, closedRecords, frontRecords, layersRecords, homeOwner, homeVolume, homeMore, homeFigure}
-use Rattle.standing.specs.SoFar.{emptyRecord, emptyRecords, topSoFar}
+use Rattle.standing.specs.SoFar.{chainSoFar, emptyRecord, emptyRecords, topSoFar}
 
 -- ── the records that are open ──
 abbrev pub symbolOwn : Set → Symbol → List ℤ
@@ -47,7 +46,7 @@ ownOpen (placing s k fs n o p) = emptyRecord
 ownOpen (skipping s k fs n o d) = emptyRecord
 ownOpen (ended s) = emptyRecord
 
--- the figure's; a `successive` has its first point's type from that point on, its count at its end
+-- the figure's
 abbrev pub figureOpen : State → List ℤ
 figureOpen (top s k) = emptyRecord
 figureOpen (file s n h p) = emptyRecord
@@ -58,7 +57,7 @@ figureOpen (symbol s y) = emptyRecord
 figureOpen (hide s y ps) = emptyRecord
 figureOpen (elements s) = emptyRecord
 figureOpen (figures s h fs) = emptyRecord
-figureOpen (successive s h fs n ps) = sets (start (kindSuccessive + homeMore h) (homeOwner s h) (homeVolume s h) n) 4 (firstType ps ∷ [])
+figureOpen (successive s h fs n ps) = chainSoFar s h n ps
 figureOpen (texts s h fs n o) = textRecord (homeMore h) (homeOwner s h) (homeVolume s h) n o
 figureOpen (placing s k fs n (symbolBlock o) p) = putHeld placedTables o (start kindPlaced k (volumeOf s) n)
 figureOpen (skipping s k fs n (symbolBlock o) d) = putHeld placedTables o (start kindPlaced k (volumeOf s) n)

@@ -12,7 +12,6 @@ use Rattle.rules.specs.Lines.{Form, formIn}
 use Rattle.rules.specs.RangeClass.{digits, digitsOf}
 use Rattle.rules.specs.Values.{Known}
 use Rattle.rules.specs.Rows.{Act, shut, act}
-use Rattle.rules.specs.Figures.{leastPoints}
 use Rattle.tables.specs.Tables.{tableOf}
 use Rattle.entries.specs.Names.{knownIn}
 use Rattle.account.specs.declared.Now.{Now}
@@ -213,7 +212,7 @@ pub record LineFits (spool : List ℕ) (form : LineForm) (w : Where) (own : ℕ)
   pub figures : d .now .block ≡ blockFigures → getD (d .tally) tallyElementsHere 0 + d .now .figures < 4294967295
   pub chain :
       d .now .block ≡ blockChain
-      → (d .now .figures < 4294967295) × (d .now .points < 4294967295) × (leastPoints ≤ d .now .points → own + 64 ≤ length (d .table))
+      → (d .now .figures < 4294967295) × (d .now .points < 4294967295) × (own + width ≤ length (d .table))
   pub text : d .now .block ≡ blockText → (width ≤ d .now .free) × (d .now .figures < 4294967295)
   pub placed : d .now .block ≡ blockPlaced
       → (width ≤ d .now .free) × LentReady (lent (d .tally) (d .serials) (d .marks) (d .inner)) (partAt (d .now .free - width) (d .table))

@@ -4,15 +4,15 @@ use mathlib.Core.Bool.{Bool, true, false}
 use mathlib.Core.List.{List, [], _∷_, _++_, map}
 use lib.IntN.{ℤ, pos}
 use lib.ListN.{length, replicate}
+use lib.Seq.{sets}
 use Rattle.rules.specs.declared.Digits.{Digits}
 use Rattle.rules.specs.Base.{flat}
-use Rattle.rules.specs.RangeClass.{digits}
 use Rattle.rules.specs.Blocks.{symbolTable}
 use Rattle.rules.specs.Figures.{placedTables}
-use Rattle.rules.specs.Sets.{Figure, Drawing, Symbol, Set, isFirst}
+use Rattle.rules.specs.Sets.{Point, Figure, Drawing, Symbol, Set, isFirst}
 use Rattle.rules.specs.Machine.{Home, inElement, inLayer, State, top, file, drawing, layerNames, defines, symbol, hide, elements, figures, successive, texts}
 use Rattle.rules.specs.Machine.{placing, skipping, ended, symbolBlock}
-use Rattle.rules.specs.RecordTable.{putSlots, putHeld, start, fileRecords, drawingRecord, layerRecords, pointRecords, textRecord, figureRecords, innerRecords}
+use Rattle.rules.specs.RecordTable.{putSlots, putHeld, start, fileRecords, drawingRecord, layerRecords, pointRecords, firstType, textRecord, figureRecords, innerRecords}
 use Rattle.rules.specs.RecordTable.{symbolRecords, bodyRecords, recordsFrom, width, kindSymbol, kindSuccessive, kindPlaced, kindPoint, inSymbol, kindHidden}
 use Rattle.rules.specs.RecordTable.{viewOf, plainView}
 
@@ -69,6 +69,10 @@ homeFigure c s (inLayer k) f = figureRecords (viewOf c s) 0 k (volumeOf s) f
 abbrev pub figuresSoFar : Digits → Set → Home → List Figure → List (List ℤ)
 figuresSoFar c s h fs = homeRecords c s h ++ flat (map (homeFigure c s h) fs)
 
+-- a `successive`'s own record has its first point's type from that point on, its count when it closes
+abbrev pub chainSoFar : Set → Home → ℕ → List Point → List ℤ
+chainSoFar s h n ps = sets (start (kindSuccessive + homeMore h) (homeOwner s h) (homeVolume s h) n) 4 (firstType ps ∷ [])
+
 -- a record whose numbers come later
 abbrev pub emptyRecord : List ℤ
 emptyRecord = replicate width (pos 0)
@@ -98,8 +102,7 @@ soFar c (hide s y ps) = symbolSoFar s y ++ pointRecords kindHidden (length (s .s
 soFar c (elements s) = layersRecords c s
 soFar c (figures s h fs) = figuresSoFar c s h fs
 soFar c (successive s h fs n ps) =
-    figuresSoFar c s h fs
-    ++ start (kindSuccessive + homeMore h) (homeOwner s h) (homeVolume s h) n ∷ pointRecords (kindPoint + homeMore h) (homeOwner s h) (homeVolume s h) ps
+    figuresSoFar c s h fs ++ chainSoFar s h n ps ∷ pointRecords (kindPoint + homeMore h) (homeOwner s h) (homeVolume s h) ps
 soFar c (texts s h fs n o) = figuresSoFar c s h fs ++ textRecord (homeMore h) (homeOwner s h) (homeVolume s h) n o ∷ []
 soFar c (placing s k fs n (symbolBlock o) p) = figuresSoFar c s (inLayer k) fs ++ putHeld placedTables o (start kindPlaced k (volumeOf s) n) ∷ []
 soFar c (skipping s k fs n (symbolBlock o) d) = figuresSoFar c s (inLayer k) fs ++ putHeld placedTables o (start kindPlaced k (volumeOf s) n) ∷ []

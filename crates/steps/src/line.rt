@@ -43,7 +43,6 @@ ghost use mathlib.Core.Bool.{true};
 ghost use Prim.Native.Nat.{_+_, _-_, _≤_, _<_};
 ghost use lib.Dec.{eqb};
 ghost use lib.ListN.{length, getD};
-ghost use Rattle.rules.specs.Figures.{leastPoints};
 ghost use Rattle.account.specs.declared.Now.{Now};
 ghost use Rattle.account.specs.declared.Step.the-variants as S;
 ghost use Rattle.account.specs.Records.{partAt};
@@ -358,7 +357,7 @@ fn in_chain(
     layers: &[u32],
     t: &mut [i64],
 ) -> Step
-    requires { ⌜ (length (now s) ≤ 61440) × Named (now tally) (now symbols) (now layers) × (here .figures < 4294967295) × (here .points < 4294967295) × (leastPoints ≤ here .points → own + 64 ≤ length (now t)) ⌝ }
+    requires { ⌜ (length (now s) ≤ 61440) × Named (now tally) (now symbols) (now layers) × (here .figures < 4294967295) × (here .points < 4294967295) × (own + width ≤ length (now t)) ⌝ }
     ensures { λ r. ⌜ OnChain (now (s .entry)) form here (now (tally .entry)) (now (symbols .entry)) (now (layers .entry)) own at (now (t .entry)) (now (t .exit)) r ⌝ }
 {
     let ns = tally[TALLY_SYMBOLS] as usize;

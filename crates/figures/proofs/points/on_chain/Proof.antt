@@ -31,8 +31,11 @@ chain-point-kind-requires c κs = search needs
 head-requires : tie.Need-head-requires
 head-requires c κs = omega (arith, (entry-room _ _ _ _ _ _ (c .before .before .before .before .before .act-at .ensures) _ (c .before .before .enum-told2 .given .1)), c .before .before .before .before .before .act-at .kept .1 .1 .1 .1 .1 .1 .1 .1 .0)
 
+type-chain-requires : tie.Need-type-chain-requires
+type-chain-requires c κs = (omega (arith, c .before .before .before .before .before .before .before .before .before .before .before .before .before .before .before .before .before .pre .5, c .before .before .before .before .before .before .before .before .act-at .kept .1 .1 .1 .1 .1 .1 .1 .1 .0, c .before .before .head .kept .0), omega (arith, (entry-room _ _ _ _ _ _ (c .before .before .before .before .before .before .before .before .act-at .ensures) _ (c .before .before .before .before .before .enum-told2 .given .1)), c .before .before .before .before .before .before .before .before .act-at .kept .1 .1 .1 .1 .1 .1 .1 .1 .0, c .before .before .head .kept .0))
+
 more-points-requires : tie.Need-more-points-requires
-more-points-requires c κs = (omega (arith, (entry-room _ _ _ _ _ _ (c .before .before .before .before .before .before .before .act-at .ensures) _ (c .before .before .before .before .enum-told2 .given .1)), c .before .before .before .before .before .before .before .before .before .before .before .before .before .before .before .before .good), c .before .before .before .before .before .before .before .before .before .before .before .before .before .before .before .before .pre .4)
+more-points-requires c κs = (omega (arith, (entry-room _ _ _ _ _ _ (c .before .before .before .before .before .before .before .before .before .before .act-at .ensures) _ (c .before .before .before .before .before .before .before .enum-told2 .given .1)), c .before .before .before .before .before .before .before .before .before .before .before .before .before .before .before .before .before .before .before .good), c .before .before .before .before .before .before .before .before .before .before .before .before .before .before .before .before .before .before .before .pre .4)
 
 enum-told-3 : tie.Need-enum-told-3
 enum-told-3 c = search needs
@@ -41,7 +44,7 @@ enum-told-4 : tie.Need-enum-told-4
 enum-told-4 c = search needs
 
 close-chain-requires : tie.Need-close-chain-requires
-close-chain-requires c κs = (c .before .before .before .before .before .before .before .before .before .before .before .before .before .pre .3, c .before .before .before .before .before .before .before .before .before .before .before .before .before .pre .4, λ e. omega (arith, c .before .before .before .before .before .before .before .before .before .before .before .before .before .pre .5 e, c .before .before .before .before .act-at .kept .1 .1 .1 .1 .1 .1 .1 .1 .0))
+close-chain-requires c κs = (c .before .before .before .before .before .before .before .before .before .before .before .before .before .pre .3, c .before .before .before .before .before .before .before .before .before .before .before .before .before .pre .4, omega (arith, c .before .before .before .before .before .before .before .before .before .before .before .before .before .pre .5, c .before .before .before .before .act-at .kept .1 .1 .1 .1 .1 .1 .1 .1 .0))
 
 enum-known-next : tie.Need-enum-known-next
 enum-known-next c = search needs
@@ -56,7 +59,7 @@ same-length-2 : tie.Need-same-length-2
 same-length-2 c = search needs
 
 returns-2 : tie.Need-returns-2
-returns-2 c = chain-entry (c .before .before .before .before .before .before .before .before .before .before .before .before .before .before .before .before .before .args .here) (c .before .before .before .before .before .before .before .before .before .before .before .before .before .before .before .before .before .args .at) (c .before .before .before .before .before .before .before .before .before .before .before .before .before .before .before .before .before .args .t .now) _ _ _ (c .before .before .before .before .before .before .before .before .before .before .before .before .before .before .before .before .before .args .own) (point-acts (c .before .before .before .before .before .before .before .before .before .before .before .before .before .before .before .before .before .args .here .layered) (c .before .before .before .before .before .before .before .before .before .before .before .before .point-table .result) (c .before .before .before .before .before .before .before .before .before .before .before .no-digits .result) (knownIn (c .before .before .before .before .before .before .before .before .before .before .before .before .before .before .before .before .before .args .s .now) (c .before .before .before .before .before .before .before .before .before .before .before .before .before .before .before .before .before .args .symbols .now) (c .before .before .before .before .before .before .before .before .before .before .before .before .before .before .before .before .before .args .layers .now)) (formIn (c .before .before .before .before .before .before .before .before .before .before .before .before .before .before .before .before .before .args .s .now) (c .before .before .before .before .before .before .before .before .before .before .before .before .before .before .before .before .before .args .form)) (c .before .before .before .before .before .before .before .before .before .before .before .before .before .before .before .before .before .args .here .points) (c .before .before .before .before .before .before .before .before .before .before .before .before .before .before .before .before .before .args .here .free) (c .before .before .before .before .before .before .before .before .before .before .before .before .before .before .before .before .before .args .t .now) _ _ (c .before .before .before .before .before .before .before .before .before .before .before .before .point-table .ensures) (c .before .before .before .before .before .before .before .before .before .before .before .no-digits .ensures) (c .before .before .before .before .before .before .before .before .act-at .ensures)) (c .before .before .before .chain-point-kind .result) _ _ _ (c .before .before .before .chain-point-kind .ensures) (c .before .before .head .ensures) (c .more-points .ensures) (c .before .before .before .before .before .enum-told2 .given .1)
+returns-2 c = chain-entry (c .before .before .before .before .before .before .before .before .before .before .before .before .before .before .before .before .before .before .before .before .args .here) (c .before .before .before .before .before .before .before .before .before .before .before .before .before .before .before .before .before .before .before .before .args .at) (c .before .before .before .before .before .before .before .before .before .before .before .before .before .before .before .before .before .before .before .before .args .t .now) _ _ _ (c .before .before .before .before .before .before .before .before .before .before .before .before .before .before .before .before .before .before .before .before .args .own) (point-acts (c .before .before .before .before .before .before .before .before .before .before .before .before .before .before .before .before .before .before .before .before .args .here .layered) (c .before .before .before .before .before .before .before .before .before .before .before .before .before .before .before .point-table .result) (c .before .before .before .before .before .before .before .before .before .before .before .before .before .before .no-digits .result) (knownIn (c .before .before .before .before .before .before .before .before .before .before .before .before .before .before .before .before .before .before .before .before .args .s .now) (c .before .before .before .before .before .before .before .before .before .before .before .before .before .before .before .before .before .before .before .before .args .symbols .now) (c .before .before .before .before .before .before .before .before .before .before .before .before .before .before .before .before .before .before .before .before .args .layers .now)) (formIn (c .before .before .before .before .before .before .before .before .before .before .before .before .before .before .before .before .before .before .before .before .args .s .now) (c .before .before .before .before .before .before .before .before .before .before .before .before .before .before .before .before .before .before .before .before .args .form)) (c .before .before .before .before .before .before .before .before .before .before .before .before .before .before .before .before .before .before .before .before .args .here .points) (c .before .before .before .before .before .before .before .before .before .before .before .before .before .before .before .before .before .before .before .before .args .here .free) (c .before .before .before .before .before .before .before .before .before .before .before .before .before .before .before .before .before .before .before .before .args .t .now) _ _ (c .before .before .before .before .before .before .before .before .before .before .before .before .before .before .before .point-table .ensures) (c .before .before .before .before .before .before .before .before .before .before .before .before .before .before .no-digits .ensures) (c .before .before .before .before .before .before .before .before .before .before .before .act-at .ensures)) (c .before .before .before .before .before .before .chain-point-kind .result) _ _ _ _ (c .before .before .before .before .before .before .chain-point-kind .ensures) (c .before .before .before .before .before .head .ensures) (c .before .before .type-chain .ensures) (c .more-points .ensures) (c .before .before .before .before .before .before .before .before .enum-told2 .given .1)
 
 same-length-3 : tie.Need-same-length-3
 same-length-3 c = search needs
@@ -88,6 +91,7 @@ on-chain-spec =
     enum-told-2
     chain-point-kind-requires
     head-requires
+    type-chain-requires
     more-points-requires
     enum-told-3
     enum-told-4
