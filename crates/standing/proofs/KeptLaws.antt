@@ -4,7 +4,7 @@ use mathlib.Core.List.{List, [], _∷_, _++_, append-assoc, append-nil}
 use mathlib.Core.Path.{_≡_, refl, sym, _∙_, ap, subst}
 use native.Mathlib.Omega.{arith}
 use lib.IntN.{ℤ}
-use lib.ListN.{length, replicate, length-append}
+use lib.ListN.{length, take, drop, replicate, length-append, length-replicate}
 use Rattle.rules.specs.declared.Digits.{Digits}
 use Rattle.rules.specs.Base.{flat}
 use Rattle.rules.specs.Machine.{State}
@@ -12,9 +12,9 @@ use Rattle.account.specs.Records.{partAt, withPart}
 use Rattle.standing.specs.Laid.{Laid}
 use Rattle.standing.specs.SoFar.{emptyRecord}
 use Rattle.standing.specs.Standing.{setOf}
-use Rattle.standing.specs.Kept.{shutSoFar, Kept, Fills, Opens}
+use Rattle.standing.specs.Kept.{shutSoFar, Kept, Fills, FillsAll, Opens, withNumbers}
 use Rattle.rules.proofs.Chains.{flat-append}
-use Rattle.standing.proofs.LaidTables.{laid-same, laid-empty, laid-change}
+use Rattle.standing.proofs.LaidTables.{laid-same, laid-empty, laid-changes}
 
 -- so many records more, of zeros
 laid-more : (more : ℕ) (t : List ℤ) (rs : List (List ℤ)) (w : ℕ) → Laid t rs w → w + 32 * more ≤ length t → Laid t (rs ++ replicate more emptyRecord) (w + 32 * more)
@@ -33,12 +33,26 @@ size-empty (suc m) = length-append emptyRecord (flat (replicate m emptyRecord)) 
 size-more : (rs : List (List ℤ)) (more : ℕ) → length (flat (rs ++ replicate more emptyRecord)) ≡ length (flat rs) + 32 * more
 size-more rs more = ap length (flat-append rs (replicate more emptyRecord)) ∙ length-append (flat rs) (flat (replicate more emptyRecord)) ∙ omega (arith, size-empty more)
 
--- another record in its place
-size-with : (fore : List (List ℤ)) (u v : List ℤ) (bs : List (List ℤ)) → length u ≡ length v → length (flat (fore ++ u ∷ bs)) ≡ length (flat (fore ++ v ∷ bs))
-size-with fore u v bs e =
-    let one : (w : List ℤ) → length (flat (fore ++ w ∷ bs)) ≡ length (flat fore) + (length w + length (flat bs)) =
-    λ w. ap length (flat-append fore (w ∷ bs)) ∙ length-append (flat fore) (w ++ flat bs) ∙ ap (λ (n : ℕ). length (flat fore) + n) (length-append w (flat bs)) in
-    omega (arith, one u, one v, e)
+-- others in their place
+size-with : (fore us vs bs : List (List ℤ)) → length (flat us) ≡ length (flat vs) → length (flat (fore ++ (us ++ bs))) ≡ length (flat (fore ++ (vs ++ bs)))
+size-with fore us vs bs e =
+    let one : (ws : List (List ℤ)) → length (flat (fore ++ (ws ++ bs))) ≡ length (flat fore) + (length (flat ws) + length (flat bs)) =
+    λ ws. ap length (flat-append fore (ws ++ bs)) ∙ length-append (flat fore) (flat (ws ++ bs))
+    ∙ ap (λ (n : ℕ). length (flat fore) + n) (ap length (flat-append ws bs) ∙ length-append (flat ws) (flat bs)) in
+    omega (arith, one us, one vs, e)
+
+-- one record is a list of one
+fills-all : (c : Digits) (st st′ : State) (more from number : ℕ) (t : List ℤ) → Fills c st st′ more from number t → FillsAll c st st′ more number (partAt from t)
+fills-all c st st′ more from number t f = record {
+  fore = f .fore;
+  made = partAt from t ∷ [];
+  behind = f .behind;
+  before = f .before;
+  after = f .after;
+  are = append-nil (partAt from t);
+  size = f .size;
+  long = f .long;
+}
 
 module _ (c : Digits) (limit : ℕ) (table : List ℤ) (records more : ℕ) (st st′ : State) (k : Kept c limit table records st) (taken : setOf st′ .taken ≡ records + more) (fits : records + more ≤ limit) where
   grown : length table / 32 ≡ limit → Laid table (shutSoFar c st ++ replicate more emptyRecord) (32 * (records + more))
@@ -53,21 +67,33 @@ module _ (c : Digits) (limit : ℕ) (table : List ℤ) (records more : ℕ) (st 
   pub kept-opens : Opens c st st′ more → Kept c limit table (records + more) st′
   kept-opens o = record { taken = taken; fits = fits; size = ap (λ (rs : List (List ℤ)). length (flat rs)) o ∙ sized; laid = λ w. laid-same table _ _ _ (sym o) (grown w) }
 
-  -- one that makes a record complete puts it at its number's place, where there is a table
+  -- one that makes records complete puts them at their numbers' places, where there is a table
+  pub kept-fills-all : (number : ℕ) (us table₁ : List ℤ) → FillsAll c st st′ more number us → length table₁ ≡ length table
+      → (length table / 32 ≡ limit → table₁ ≡ withNumbers (32 * number) us table) → Kept c limit table₁ (records + more) st′
+  kept-fills-all number us table₁ f long put =
+      let zs : List (List ℤ) = replicate (length (f .made)) emptyRecord in
+      let same : length (flat (f .made)) ≡ length (flat zs) = ap length (f .are) ∙ f .long ∙ sym (size-empty (length (f .made))) in
+      record {
+        taken = taken;
+        fits = fits;
+        size =
+            ap (λ (rs : List (List ℤ)). length (flat rs)) (f .after) ∙ size-with (f .fore) (f .made) zs (f .behind) same
+            ∙ ap (λ (rs : List (List ℤ)). length (flat rs)) (sym (f .before)) ∙ sized;
+        laid = λ w.
+            let v : length table / 32 ≡ limit = ap (λ (n : ℕ). n / 32) (sym long) ∙ w in
+            subst (λ (u : List ℤ). Laid u (shutSoFar c st′) (32 * (records + more))) (ap (λ (u : List ℤ). withNumbers (32 * number) u table) (f .are) ∙ sym (put v))
+            (laid-same _ _ _ _ (sym (f .after))
+            (laid-changes table (f .fore) zs (f .made) (f .behind) (32 * (records + more)) (32 * number) (laid-same table _ _ _ (f .before) (grown v)) (f .size) same
+            (sym (length-replicate (length (f .made)) emptyRecord))));
+      }
+
+  -- .. and so of one
   pub kept-fills : (from number : ℕ) (t table₁ : List ℤ) → Fills c st st′ more from number t → length table₁ ≡ length table
       → (length table / 32 ≡ limit → table₁ ≡ withPart (32 * number) (partAt from t) table) → Kept c limit table₁ (records + more) st′
-  kept-fills from number t table₁ f long put = record {
-    taken = taken;
-    fits = fits;
-    size =
-        ap (λ (rs : List (List ℤ)). length (flat rs)) (f .after) ∙ size-with (f .fore) (partAt from t) emptyRecord (f .behind) (f .long)
-        ∙ ap (λ (rs : List (List ℤ)). length (flat rs)) (sym (f .before)) ∙ sized;
-    laid = λ w.
-        let v : length table / 32 ≡ limit = ap (λ (n : ℕ). n / 32) (sym long) ∙ w in
-        subst (λ (u : List ℤ). Laid u (shutSoFar c st′) (32 * (records + more))) (sym (put v))
-        (laid-same _ _ _ _ (sym (f .after))
-        (laid-change table (f .fore) emptyRecord (f .behind) (32 * (records + more)) (32 * number) (laid-same table _ _ _ (f .before) (grown v)) (f .size) refl (partAt from t) (f .long)));
-  }
+  kept-fills from number t table₁ f long put =
+      let u : List ℤ = partAt from t in
+      kept-fills-all number u table₁ (fills-all c st st′ more from number t f) long
+      (λ w. put w ∙ ap (λ (n : ℕ). take (32 * number) table ++ (u ++ drop (32 * number + n) table)) (sym (f .long)))
 
 -- a record of one line is complete where it is taken: it is the next one
 pub fills-one : (c : Digits) (records : ℕ) (st st′ : State) → length (flat (shutSoFar c st)) ≡ 32 * records → (from : ℕ) (t : List ℤ) → length (partAt from t) ≡ 32

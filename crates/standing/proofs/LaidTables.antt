@@ -11,6 +11,7 @@ use Rattle.rules.specs.RecordTable.{tableOf}
 use Rattle.rules.proofs.Chains.{flat-append}
 use Rattle.account.specs.Records.{partAt, withPart}
 use Rattle.standing.specs.Laid.{Laid}
+use Rattle.standing.specs.Kept.{withNumbers}
 use Rattle.account.proofs.Lent.{with-same}
 
 -- ── a part of a list ──
@@ -86,6 +87,43 @@ module _ (t : List ℤ) (rs : List (List ℤ)) (w : ℕ) (l : Laid t rs w) where
       many = omega (arith, l .many, length-append rs (replicate 32 (pos 0) ∷ []));
     }
 
+-- ── records with other numbers ──
+module _ (t : List ℤ) (fore us vs bs : List (List ℤ)) (w a : ℕ) (l : Laid t (fore ++ (us ++ bs)) w) (ha : length (flat fore) ≡ a) (same : length (flat vs) ≡ length (flat us)) (few : length vs ≡ length us) where
+  abbrev zs : List ℤ
+  zs = replicate (l .rest) (pos 0)
+
+  -- the records before these, these, and what stands behind
+  parts : (rs : List (List ℤ)) (z : List ℤ) → flat (fore ++ (rs ++ bs)) ++ z ≡ flat fore ++ (flat rs ++ (flat bs ++ z))
+  parts rs z =
+      ap (λ (x : List ℤ). x ++ z) (flat-append fore (rs ++ bs)) ∙ append-assoc (flat fore) (flat (rs ++ bs)) z
+      ∙ ap (λ (x : List ℤ). flat fore ++ (x ++ z)) (flat-append rs bs) ∙ ap (λ (x : List ℤ). flat fore ++ x) (append-assoc (flat rs) (flat bs) z)
+
+  size-of : (rs : List (List ℤ)) → length (flat (fore ++ (rs ++ bs))) ≡ length (flat fore) + (length (flat rs) + length (flat bs))
+  size-of rs =
+      ap length (flat-append fore (rs ++ bs) ∙ ap (λ (x : List ℤ). flat fore ++ x) (flat-append rs bs)) ∙ length-append (flat fore) (flat rs ++ flat bs)
+      ∙ ap (λ (n : ℕ). length (flat fore) + n) (length-append (flat rs) (flat bs))
+
+  count-of : (rs : List (List ℤ)) → length (fore ++ (rs ++ bs)) ≡ length fore + (length rs + length bs)
+  count-of rs = length-append fore (rs ++ bs) ∙ ap (λ (n : ℕ). length fore + n) (length-append rs bs)
+
+  old : t ≡ flat fore ++ (flat us ++ (flat bs ++ zs))
+  old = l .eq ∙ parts us zs
+
+  back : drop (a + length (flat vs)) t ≡ flat bs ++ zs
+  back =
+      ap (drop (a + length (flat vs))) old ∙ sym (drop-drop (length (flat vs)) a (flat fore ++ (flat us ++ (flat bs ++ zs))))
+      ∙ ap (drop (length (flat vs))) (drop-at (flat fore) (flat us ++ (flat bs ++ zs)) a ha) ∙ drop-at (flat us) (flat bs ++ zs) (length (flat vs)) (sym same)
+
+  pub laid-changes : Laid (withNumbers a (flat vs) t) (fore ++ (vs ++ bs)) w
+  laid-changes = record {
+    rest = l .rest;
+    eq =
+        ap (λ (x : List ℤ). x ++ (flat vs ++ drop (a + length (flat vs)) t)) (ap (take a) old ∙ take-at (flat fore) (flat us ++ (flat bs ++ zs)) a ha)
+        ∙ ap (λ (x : List ℤ). flat fore ++ (flat vs ++ x)) back ∙ sym (parts vs zs);
+    size = omega (arith, size-of vs, size-of us, l .size, same);
+    many = omega (arith, l .many, count-of vs, count-of us, few);
+  }
+
 -- ── a record with other numbers ──
 module _ (t : List ℤ) (fore : List (List ℤ)) (u : List ℤ) (bs : List (List ℤ)) (w a : ℕ) (l : Laid t (fore ++ u ∷ bs) w) (ha : length (flat fore) ≡ a) (hu : length u ≡ 32) where
   apart : t ≡ flat fore ++ (u ++ (flat bs ++ replicate (l .rest) (pos 0)))
@@ -98,16 +136,12 @@ module _ (t : List ℤ) (fore : List (List ℤ)) (u : List ℤ) (bs : List (List
   laid-within =
       omega (arith, ap length apart, length-append (flat fore) (u ++ (flat bs ++ replicate (l .rest) (pos 0))), length-append u (flat bs ++ replicate (l .rest) (pos 0)), ha, hu)
 
-  same-size : (x : List ℤ) → length x ≡ 32 → length (flat (fore ++ x ∷ bs)) ≡ length (flat fore) + (length x + length (flat bs))
-  same-size x k = ap length (flat-append fore (x ∷ bs)) ∙ length-append (flat fore) (x ++ flat bs) ∙ ap (λ (n : ℕ). length (flat fore) + n) (length-append x (flat bs))
-
   pub laid-change : (x : List ℤ) → length x ≡ 32 → Laid (withPart a x t) (fore ++ x ∷ bs) w
-  laid-change x k = record {
-    rest = l .rest;
-    eq = ap (withPart a x) apart ∙ with-of (flat fore) u (flat bs ++ replicate (l .rest) (pos 0)) a ha hu x ∙ sym (split fore x bs (replicate (l .rest) (pos 0)));
-    size = omega (arith, same-size x k, same-size u hu, l .size, k, hu);
-    many = omega (arith, l .many, length-append fore (x ∷ bs), length-append fore (u ∷ bs));
-  }
+  laid-change x k =
+      let put : withNumbers a (x ++ []) t ≡ withPart a x t =
+      ap (λ (y : List ℤ). withNumbers a y t) (append-nil x) ∙ ap (λ (n : ℕ). take a t ++ (x ++ drop (a + n) t)) k in
+      subst (λ (y : List ℤ). Laid y (fore ++ x ∷ bs) w) put
+      (laid-changes t fore (u ∷ []) (x ∷ []) bs w a l ha (ap length (append-nil x) ∙ k ∙ sym hu ∙ ap length (sym (append-nil u))) refl)
 
 -- ── the whole table ──
 pub laid-table : (t : List ℤ) (rs : List (List ℤ)) (w : ℕ) → Laid t rs w → t ≡ tableOf (length t) rs

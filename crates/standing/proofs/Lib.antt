@@ -10,6 +10,7 @@ pub mod HomeFacts
 pub mod ChainStanding
 pub mod ChainKept
 pub mod ClosesKept
+pub mod FileKept
 pub mod LineOrigins
 pub mod SlotLengths
 pub mod RecordStores

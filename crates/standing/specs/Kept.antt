@@ -5,7 +5,7 @@ use mathlib.Core.Bool.{true}
 use mathlib.Core.Path.{_≡_}
 use mathlib.Core.List.{List, [], _∷_, _++_, map}
 use lib.IntN.{ℤ}
-use lib.ListN.{length, replicate, drop}
+use lib.ListN.{length, replicate, take, drop}
 use Rattle.rules.specs.declared.Digits.{Digits}
 use Rattle.rules.specs.Base.{flat}
 use Rattle.rules.specs.Blocks.{symbolTable}
@@ -115,6 +115,22 @@ pub record Fills (c : Digits) (st st′ : State) (more from number : ℕ) (t : L
   pub after : shutSoFar c st′ ≡ fore ++ partAt from t ∷ behind
   pub size : length (flat fore) ≡ width * number
   pub long : length (partAt from t) ≡ width
+
+-- The same of any number of records that are complete at once, the one with this number and those behind it: `us` are their numbers, one
+-- record's behind another's.
+pub record FillsAll (c : Digits) (st st′ : State) (more number : ℕ) (us : List ℤ) : Type 0 where
+  pub fore : List (List ℤ)
+  pub made : List (List ℤ)
+  pub behind : List (List ℤ)
+  pub before : shutSoFar c st ++ replicate more emptyRecord ≡ fore ++ (replicate (length made) emptyRecord ++ behind)
+  pub after : shutSoFar c st′ ≡ fore ++ (made ++ behind)
+  pub are : flat made ≡ us
+  pub size : length (flat fore) ≡ width * number
+  pub long : length us ≡ width * length made
+
+-- numbers put over those of the table, from place n on
+abbrev pub withNumbers : ℕ → List ℤ → List ℤ → List ℤ
+withNumbers n us t = take n t ++ (us ++ drop (n + length us) t)
 
 -- none is complete
 abbrev pub Opens : Digits → State → State → ℕ → Type 0
