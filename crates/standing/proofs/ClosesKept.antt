@@ -68,7 +68,7 @@ placed-fills c s m fs n o records all t₀ t₁ x put =
 
 -- ── of one line ──
 -- the count of records says nothing of what they are
-shut-taken : (c : Digits) (s : Set) (ks : List ℕ) (h : Home) (fs : List Figure) → figuresShut c (withRecords ks s) h fs ≡ figuresShut c s h fs
+pub shut-taken : (c : Digits) (s : Set) (ks : List ℕ) (h : Home) (fs : List Figure) → figuresShut c (withRecords ks s) h fs ≡ figuresShut c s h fs
 shut-taken c s ks (inElement y) fs = refl
 shut-taken c s ks (inLayer m) fs = figures-taken c s ks (inLayer m) fs
 

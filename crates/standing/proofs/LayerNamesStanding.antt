@@ -41,7 +41,7 @@ use Rattle.standing.proofs.Standings.{has-room, stands-on}
 use Rattle.standing.proofs.HeadRecords.{head-put}
 
 -- ── a layer's record ──
-layer-length : (n : ℕ) (y : Layer) → length (layerRecord n y) ≡ 32
+pub layer-length : (n : ℕ) (y : Layer) → length (layerRecord n y) ≡ 32
 layer-length n y = length-sets (start 5 n 1 (y .line)) 5 (pos (getD (y .id) 0 0) ∷ pos (value (drop 2 (y .id))) ∷ padded 2 (numbers (y .name)))
 
 -- put over zeros

@@ -11,6 +11,7 @@ pub mod ChainStanding
 pub mod ChainKept
 pub mod ClosesKept
 pub mod FileKept
+pub mod LinesKept
 pub mod LineOrigins
 pub mod SlotLengths
 pub mod RecordStores

@@ -83,6 +83,14 @@ module _ (b : Bool) (known : Known) (count : ℕ) (f : Form) (j : ℕ) (v : Valu
       let q : ruleAt rows 0 ≡ g .rule = ap (ruleAt rows) (sym point-first) ∙ row-at (g .row) _ in
       entry-nums known rows (digits 0 0) (rowsAtLimit count rows) f j v g (subst (λ (r : Rule). isValues (r .holds) ≡ true) q (values-row b .0)) (subst (λ (r : Rule). r .may ≡ false) q (values-row b .1))
 
+  -- its numbers put over zeros, and its head before them
+  pub point-made : (kind owner volume line : ℕ)
+      → sets (putLine (ruleAt rows j) 0 v zeros) 0 (pos kind ∷ pos owner ∷ pos volume ∷ pos line ∷ []) ≡ putSlot (ruleAt (pointTable true) 0) (some (nums (numsOf v))) (start kind owner volume line)
+  point-made kind owner volume line =
+      ap (λ (i : ℕ). sets (putLine (ruleAt rows i) 0 v zeros) 0 (pos kind ∷ pos owner ∷ pos volume ∷ pos line ∷ [])) point-first
+      ∙ point-record b v kind owner volume line (subst (λ (i : ℕ). fills (ruleAt rows i .holds) (numbers v) ≡ true) point-first (point-taken .fill))
+      ∙ ap (λ (y : Value). putSlot (ruleAt (pointTable true) 0) (some y) (start kind owner volume line)) point-nums
+
   module _ (t : List ℤ) (rs : List (List ℤ)) (n : Now) (l : Laid t rs (n .free)) (room : n .free + 32 ≤ length t) (w : Where) (kind owner volume line : ℕ)
       (ow : n .owner ≡ owner) (vo : w .volume ≡ volume) (li : w .line ≡ line) where
     abbrev pub pointMade : List ℤ
@@ -91,11 +99,9 @@ module _ (b : Bool) (known : Known) (count : ℕ) (f : Form) (j : ℕ) (v : Valu
     -- its record, and the table with it
     pub point-put : pointPut n kind (pointTableOf b) w j v t ≡ withPart (n .free) pointMade t
     point-put =
-        let rule : ruleAt (tableOf (pointTableOf b)) j ≡ ruleAt rows 0 = ap (λ (y : List Rule). ruleAt y j) (point-rows b) ∙ ap (ruleAt rows) point-first in
         line-put n w kind owner volume line (ruleAt (tableOf (pointTableOf b)) j) v t rs l room ow vo li
-        ∙ ap (λ (r : Rule). withPart (n .free) (sets (putLine r 0 v zeros) 0 (pos kind ∷ pos owner ∷ pos volume ∷ pos line ∷ [])) t) rule
-        ∙ ap (λ (y : List ℤ). withPart (n .free) y t) (point-record b v kind owner volume line (subst (λ (i : ℕ). fills (ruleAt rows i .holds) (numbers v) ≡ true) point-first (point-taken .fill)))
-        ∙ ap (λ (y : Value). withPart (n .free) (putSlot (ruleAt (pointTable true) 0) (some y) (start kind owner volume line)) t) point-nums
+        ∙ ap (λ (y : List Rule). withPart (n .free) (sets (putLine (ruleAt y j) 0 v zeros) 0 (pos kind ∷ pos owner ∷ pos volume ∷ pos line ∷ [])) t) (point-rows b)
+        ∙ ap (λ (y : List ℤ). withPart (n .free) y t) (point-made kind owner volume line)
 
     pub point-laid : (t₁ : List ℤ) → t₁ ≡ pointPut n kind (pointTableOf b) w j v t → Laid t₁ (rs ++ pointMade ∷ []) (n .free + 32)
     point-laid t₁ q =
