@@ -51,7 +51,7 @@ unfolding tableOf
 defines-rows = refl
 
 -- its record when it opens
-blank-record : (owner line : ℕ) → putSlots symbolTable (blank symbolTable) (start 4 owner 1 line) ≡ start 4 owner 1 line
+pub blank-record : (owner line : ℕ) → putSlots symbolTable (blank symbolTable) (start 4 owner 1 line) ≡ start 4 owner 1 line
 unfolding symbolTable
 blank-record owner line = refl
 

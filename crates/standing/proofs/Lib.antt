@@ -12,6 +12,8 @@ pub mod ChainKept
 pub mod ClosesKept
 pub mod FileKept
 pub mod LinesKept
+pub mod ScratchKept
+pub mod OpenersKept
 pub mod LineOrigins
 pub mod SlotLengths
 pub mod RecordStores

@@ -58,7 +58,7 @@ unfolding topTable
 four-rows = refl
 
 -- DRAWING_FORMAT, with nothing read of it
-begun-drawing : (line : ℕ) → drawingRecord (record { line = line; own = blank drawingTable; layers = [] }) ≡ start 3 0 1 line
+pub begun-drawing : (line : ℕ) → drawingRecord (record { line = line; own = blank drawingTable; layers = [] }) ≡ start 3 0 1 line
 unfolding drawingTable
 begun-drawing line = refl
 

@@ -135,3 +135,13 @@ withNumbers n us t = take n t ++ (us ++ drop (n + length us) t)
 -- none is complete
 abbrev pub Opens : Digits → State → State → ℕ → Type 0
 Opens c st st′ more = shutSoFar c st′ ≡ shutSoFar c st ++ replicate more emptyRecord
+
+-- .. and this stands on the scratch behind the line
+pub record Begins (c : Digits) (st st′ : State) (more : ℕ) (t : List ℤ) : Type 0 where
+  pub opens : Opens c st st′ more
+  pub scratch : Scratch t st′
+
+-- a line that takes no record and makes none complete: the table's list stays as it is
+pub record Enters (c : Digits) (st st′ : State) (t : List ℤ) : Type 0 where
+  pub same : shutSoFar c st′ ≡ shutSoFar c st
+  pub scratch : Scratch t st′

@@ -1,0 +1,59 @@
+-- The scratch with another record in one of its three parts.
+use mathlib.Core.List.{List, _++_, append-nil}
+use mathlib.Core.Path.{_≡_, sym, _∙_, ap}
+use native.Mathlib.Omega.{arith}
+use lib.IntN.{ℤ}
+use lib.ListN.{length, take, drop, length-take, length-drop, drop-of-length-le}
+use lib.Seq.{take-at, drop-at, drop-drop}
+use Rattle.rules.specs.Machine.{State}
+use Rattle.account.specs.Records.{partAt, withPart}
+use Rattle.standing.specs.SoFar.{emptyRecord}
+use Rattle.standing.specs.Kept.{ownOpen, figureOpen, Scratch}
+use Rattle.standing.proofs.LaidTables.{part-of, behind-of}
+use Rattle.standing.proofs.ForeParts.{part-fore, fore-part}
+
+-- it is three records long
+pub scratch-long : (t : List ℤ) (st : State) → Scratch t st → length t ≡ 96
+scratch-long t st x = omega (arith, ap length (x .rest), length-drop 64 t)
+
+-- what is said of one state is said of another in which the same is open
+pub scratch-same : (t : List ℤ) (st st′ : State) → Scratch t st → ownOpen st ≡ ownOpen st′ → figureOpen st ≡ figureOpen st′ → Scratch t st′
+scratch-same t st st′ x own figure = record { own = x .own ∙ own; figure = x .figure ∙ figure; rest = x .rest }
+
+-- ── a part put, where the others are as they should be ──
+module _ (t : List ℤ) (long : length t ≡ 96) (st : State) where
+  -- the drawing's or the symbol's
+  pub put-own : (u : List ℤ) → u ≡ ownOpen st → length u ≡ 32 → partAt 32 t ≡ figureOpen st → drop 64 t ≡ emptyRecord → Scratch (withPart 0 u t) st
+  put-own u is k figure rest = record {
+    own = take-at u (drop 32 t) 32 k ∙ is;
+    figure = ap (take 32) (drop-at u (drop 32 t) 32 k) ∙ figure;
+    rest = sym (drop-drop 32 32 (u ++ drop 32 t)) ∙ ap (drop 32) (drop-at u (drop 32 t) 32 k) ∙ drop-drop 32 32 t ∙ rest;
+  }
+
+  -- the figure's
+  pub put-figure : (u : List ℤ) → u ≡ figureOpen st → length u ≡ 32 → partAt 0 t ≡ ownOpen st → drop 64 t ≡ emptyRecord → Scratch (withPart 32 u t) st
+  put-figure u is k own rest =
+      let first : length (take 32 t) ≡ 32 = omega (arith, length-take 32 t, long) in
+      record {
+        own = take-at (take 32 t) (u ++ drop 64 t) 32 first ∙ own;
+        figure = part-of (take 32 t) u (drop 64 t) 32 first k ∙ is;
+        rest = behind-of (take 32 t) u (drop 64 t) 32 first k ∙ rest;
+      }
+
+  -- the point's is zeros again when it is in the table
+  pub put-point : partAt 0 t ≡ ownOpen st → partAt 32 t ≡ figureOpen st → Scratch (withPart 64 emptyRecord t) st
+  put-point own figure = record {
+    own = part-fore 0 (withPart 64 emptyRecord t) t (fore-part 32 64 emptyRecord t (omega arith) (omega (arith, long))) ∙ own;
+    figure = part-fore 32 (withPart 64 emptyRecord t) t (fore-part 64 64 emptyRecord t (omega arith) (omega (arith, long))) ∙ figure;
+    rest =
+        drop-at (take 64 t) (emptyRecord ++ drop 96 t) 64 (omega (arith, length-take 64 t, long))
+        ∙ ap (λ (u : List ℤ). emptyRecord ++ u) (drop-of-length-le t {i = 96} (omega (arith, long))) ∙ append-nil emptyRecord;
+  }
+
+-- ── .. behind a line that leaves the others alone ──
+module _ (t : List ℤ) (st st′ : State) (x : Scratch t st) (u : List ℤ) (k : length u ≡ 32) where
+  pub scratch-own : u ≡ ownOpen st′ → figureOpen st ≡ figureOpen st′ → Scratch (withPart 0 u t) st′
+  scratch-own is figure = put-own t (scratch-long t st x) st′ u is k (x .figure ∙ figure) (x .rest)
+
+  pub scratch-figure : u ≡ figureOpen st′ → ownOpen st ≡ ownOpen st′ → Scratch (withPart 32 u t) st′
+  scratch-figure is own = put-figure t (scratch-long t st x) st′ u is k (x .own ∙ own) (x .rest)
