@@ -59,11 +59,11 @@ unfolding drawingTable
 housed-rows = refl
 
 -- ── the drawing's record ──
-drawing-length : (g : Drawing) → length (drawingRecord g) ≡ 32
+pub drawing-length : (g : Drawing) → length (drawingRecord g) ≡ 32
 drawing-length g = length-slots drawingTable (g .own) (start 3 0 1 (g .line))
 
 -- one more line of it
-drawing-entry : (g : Drawing) (j : ℕ) (v : Value) → length (g .own) ≡ 8 → Taken drawingTable (rowsThere (g .own)) j v
+pub drawing-entry : (g : Drawing) (j : ℕ) (v : Value) → length (g .own) ≡ 8 → Taken drawingTable (rowsThere (g .own)) j v
     → putLine (ruleAt drawingTable j) 0 v (drawingRecord g) ≡ drawingRecord (withOwn (set (g .own) j (some v)) g)
 drawing-entry g j v e k =
     own-line drawingTable (g .own) j v (start 3 0 1 (g .line)) (e ∙ sym eight-rows) (k .row) (mark-free (g .own) j (k .free)) (k .fill) clear-rows housed-rows

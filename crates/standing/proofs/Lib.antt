@@ -14,6 +14,7 @@ pub mod FileKept
 pub mod LinesKept
 pub mod ScratchKept
 pub mod OpenersKept
+pub mod EntriesKept
 pub mod LineOrigins
 pub mod SlotLengths
 pub mod RecordStores

@@ -19,6 +19,7 @@ use Rattle.rules.specs.Machine.{inLayer, State, placing, symbolBlock}
 use Rattle.rules.specs.RecordTable.{ruleAt, start, putHeld}
 use Rattle.entries.specs.Acts.{putLine}
 use Rattle.account.specs.declared.Now.{Now}
+use Rattle.account.specs.Placing.{Shaped}
 use Rattle.standing.specs.Laid.{Laid}
 use Rattle.account.specs.Records.{partAt, withPart}
 use Rattle.standing.specs.SoFar.{volumeOf, figuresSoFar, soFar}
@@ -32,6 +33,14 @@ use Rattle.standing.proofs.Standings.{sight, deskWith, stands-on}
 use Rattle.rules.proofs.RecordLengths.{length-held}
 use Rattle.standing.proofs.PlacedFacts.{clear-placed, figure-serial}
 use Rattle.standing.proofs.OwnLines.{housed, line-value}
+
+-- a line of the part q entered into the record
+pub placed-entry : (o : Held) (q j : ℕ) (v : Value) (b : List ℤ) → Shaped 0 placedTables o → q < 2 → Taken (getD placedTables q []) (rowsThere (partOf o q)) j v → all housed (getD placedTables q []) ≡ true
+    → putLine (ruleAt (getD placedTables q []) j) 0 v (putHeld placedTables o b) ≡ putHeld placedTables (enter o q j v) b
+placed-entry o q j v b p h w r =
+    let t : List Rule = getD placedTables q [] in
+    line-value (ruleAt t j) v (putHeld placedTables o b) (all-at housed t j (w .row) r) (w .fill)
+    ∙ sym (held-set placedTables o q j v b p h (w .row) (mark-free (partOf o q) j (w .free)) (w .fill) clear-placed)
 
 -- ── what is lent, and given back ──
 abbrev pub lentOf : Desk → Lent
@@ -83,10 +92,7 @@ module _ (c : Digits) (spool : List ℕ) (k : ℕ) (FileHere : Desk → Set → 
   -- a line of the part q entered
   pub record-entered : (q j : ℕ) (v : Value) (u : List ℤ) → q < 2 → Taken (getD placedTables q []) (rowsThere (partOf o q)) j v → all housed (getD placedTables q []) ≡ true
       → u ≡ putLine (ruleAt (getD placedTables q []) j) 0 v (partAt place (d .table)) → u ≡ putHeld placedTables (enter o q j v) begun
-  record-entered q j v u h w r e =
-      let t : List Rule = getD placedTables q [] in
-      e ∙ ap (putLine (ruleAt t j) 0 v) record-is ∙ line-value (ruleAt t j) v (putHeld placedTables o begun) (all-at housed t j (w .row) r) (w .fill)
-      ∙ sym (held-set placedTables o q j v begun (z .block .1 .shaped) h (w .row) (mark-free (partOf o q) j (w .free)) (w .fill) clear-placed)
+  record-entered q j v u h w r e = e ∙ ap (putLine (ruleAt (getD placedTables q []) j) 0 v) record-is ∙ placed-entry o q j v begun (z .block .1 .shaped) h w r
 
   -- the range that the code goes by
   pub range-is : digitsOf (getD (d .tally) 1 0) ≡ rangeOf s

@@ -1,6 +1,6 @@
 -- The scratch with another record in one of its three parts.
 use mathlib.Core.List.{List, _++_, append-nil}
-use mathlib.Core.Path.{_≡_, sym, _∙_, ap}
+use mathlib.Core.Path.{_≡_, refl, sym, _∙_, ap, subst}
 use native.Mathlib.Omega.{arith}
 use lib.IntN.{ℤ}
 use lib.ListN.{length, take, drop, length-take, length-drop, drop-of-length-le}
@@ -9,7 +9,7 @@ use Rattle.rules.specs.Machine.{State}
 use Rattle.account.specs.Records.{partAt, withPart}
 use Rattle.standing.specs.SoFar.{emptyRecord}
 use Rattle.standing.specs.Kept.{ownOpen, figureOpen, Scratch}
-use Rattle.standing.proofs.LaidTables.{part-of, behind-of}
+use Rattle.standing.proofs.LaidTables.{part-of, behind-of, with-of}
 use Rattle.standing.proofs.ForeParts.{part-fore, fore-part}
 
 -- it is three records long
@@ -57,3 +57,9 @@ module _ (t : List ℤ) (st st′ : State) (x : Scratch t st) (u : List ℤ) (k 
 
   pub scratch-figure : u ≡ figureOpen st′ → ownOpen st ≡ ownOpen st′ → Scratch (withPart 32 u t) st′
   scratch-figure is own = put-figure t (scratch-long t st x) st′ u is k (x .own ∙ own) (x .rest)
+
+  -- zeros again, whatever the line put there: its record is in the table
+  pub scratch-cleared : ownOpen st ≡ ownOpen st′ → emptyRecord ≡ figureOpen st′ → Scratch (withPart 32 emptyRecord (withPart 32 u t)) st′
+  scratch-cleared own none =
+      let first : length (take 32 t) ≡ 32 = omega (arith, length-take 32 t, scratch-long t st x) in
+      subst (λ (y : List ℤ). Scratch y st′) (sym (with-of (take 32 t) u (drop 64 t) 32 first k emptyRecord)) (put-figure t (scratch-long t st x) st′ emptyRecord none refl (x .own ∙ own) (x .rest))

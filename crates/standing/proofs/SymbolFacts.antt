@@ -23,13 +23,15 @@ use Rattle.rules.specs.RecordTable.{numbersOf, firstOr0, others, firstSlot, oth
 use Rattle.rules.specs.RecordTable.{plainView}
 use Rattle.rules.proofs.Chains.{clash, and-left, and-right}
 use Rattle.tables.specs.Tables.{tableOf}
+use Rattle.entries.specs.Acts.{putLine}
 use Rattle.account.specs.Placing.{clearTable}
+use Rattle.account.proofs.RowsTaken.{Taken}
 use Rattle.standing.specs.Standing.{isText}
 use Rattle.account.specs.SymbolLines.{asPlace, isPlace, nameOf, isNamed}
 use Rattle.standing.proofs.Openers.{plainKind}
 use Rattle.standing.proofs.RowOpeners.{isOpens}
-use Rattle.standing.proofs.OwnLines.{housed}
-use Rattle.standing.proofs.Marks.{must-row}
+use Rattle.standing.proofs.OwnLines.{housed, own-line}
+use Rattle.standing.proofs.Marks.{must-row, mark-free}
 use Rattle.rules.proofs.RecordLengths.{length-slots}
 
 -- ── what is computed of the table ──
@@ -48,6 +50,11 @@ symbol-clear = refl
 pub symbol-housed : all housed symbolTable ≡ true
 unfolding symbolTable
 symbol-housed = refl
+
+-- one more line of a symbol's record
+pub symbol-entry : (o : Slots) (j : ℕ) (v : Value) (b : List ℤ) → length o ≡ 4 → Taken symbolTable (rowsThere o) j v
+    → putLine (ruleAt symbolTable j) 0 v (putSlots symbolTable o b) ≡ putSlots symbolTable (set o j (some v)) b
+symbol-entry o j v b e k = own-line symbolTable o j v b (e ∙ sym symbol-length) (k .row) (mark-free o j (k .free)) (k .fill) symbol-clear symbol-housed
 
 pub name-row : (ruleAt symbolTable 0 .holds ≡ word 32 lettersAndDigits) × (ruleAt symbolTable 0 .may ≡ false) × (length (ruleAt symbolTable 0 .key) ≡ 4)
 unfolding symbolTable

@@ -42,14 +42,14 @@ use Rattle.standing.proofs.RowOpeners.{isOpens, entry-opens, begin-row}
 use Rattle.standing.proofs.LineOrigins.{From, entry-from, begin-from}
 use Rattle.standing.proofs.LineSizes.{line-size, begin-size, shut-close}
 use Rattle.standing.proofs.WordPlaces.{name-back, WordRead, word-read}
-use Rattle.standing.proofs.OwnLines.{own-line, was-none}
+use Rattle.standing.proofs.OwnLines.{was-none}
 use Rattle.standing.proofs.Marks.{marks-set, mark-free}
 use Rattle.account.proofs.RowsTaken.{Taken, entry-taken, begin-taken}
 use Rattle.standing.proofs.LaidTables.{laid-part, laid-change, laid-same, with-back}
 use Rattle.standing.proofs.MoreRecords.{ownRecord, symbol-more}
 use Rattle.rules.proofs.RecordLengths.{length-slots}
 use Rattle.standing.proofs.Standings.{deskWith, stands-on, known, stands-still}
-use Rattle.standing.proofs.SymbolFacts.{symbol-rows, symbol-length, symbol-clear, symbol-housed, name-row, element-key, hide-key, wall-row, Opened, opened-rows, same-order, name-slot, record-name, name-of, named-below, must-hold, text-is, element, hidden}
+use Rattle.standing.proofs.SymbolFacts.{symbol-rows, symbol-length, symbol-entry, name-row, element-key, hide-key, wall-row, Opened, opened-rows, same-order, name-slot, record-name, name-of, named-below, must-hold, text-is, element, hidden}
 
 -- ── what is lent on return ──
 -- a symbol's record that was lent, on return
@@ -158,7 +158,7 @@ module _ (c : Digits) (spool : List ℕ) (short : length spool ≤ 61440) (k : �
       put : rec₁ ≡ ownRecord n y′
       put =
           q ∙ ap (λ (t : List Rule). putLine (ruleAt t j) 0 v symbolRecord) symbol-rows ∙ ap (putLine (ruleAt symbolTable j) 0 v) own-part
-          ∙ own-line symbolTable (y .own) j v base (iny .slots ∙ sym symbol-length) (taken .row) was-free (taken .fill) symbol-clear symbol-housed
+          ∙ symbol-entry (y .own) j v base (iny .slots) taken
 
       laid′ : Laid t₁ (symbolSoFar s y′) (d .now .free)
       laid′ =

@@ -78,7 +78,7 @@ pub text-length : (more owner volume line : ℕ) (o : Slots) → length (textRec
 text-length more owner volume line o = length-slots (textRows true) o (start (15 + more) owner volume line)
 
 -- one more line of it
-text-entry : (b : Bool) (o : Slots) (j : ℕ) (v : Value) (more owner volume line : ℕ) → length o ≡ 2 → Taken (textRows b) (rowsThere o) j v
+pub text-entry : (b : Bool) (o : Slots) (j : ℕ) (v : Value) (more owner volume line : ℕ) → length o ≡ 2 → Taken (textRows b) (rowsThere o) j v
     → putLine (ruleAt (textRows b) j) 0 v (textRecord more owner volume line o) ≡ textRecord more owner volume line (set o j (some v))
 text-entry b o j v more owner volume line e k =
     let f : List ℤ = start (15 + more) owner volume line in
