@@ -15,6 +15,7 @@ pub mod LinesKept
 pub mod ScratchKept
 pub mod OpenersKept
 pub mod EntriesKept
+pub mod OwnKept
 pub mod LineOrigins
 pub mod SlotLengths
 pub mod RecordStores

@@ -145,3 +145,42 @@ pub record Begins (c : Digits) (st st′ : State) (more : ℕ) (t : List ℤ) : 
 pub record Enters (c : Digits) (st st′ : State) (t : List ℤ) : Type 0 where
   pub same : shutSoFar c st′ ≡ shutSoFar c st
   pub scratch : Scratch t st′
+
+-- ── the number of the record that is put when a block of the top level or a symbol closes ──
+abbrev pub HomeOwnAt : ℕ → Set → Home → Type 0
+HomeOwnAt own s (inElement y) = length (flat (frontRecords s)) ≡ width * own
+HomeOwnAt own s (inLayer k) = Unit {0}
+
+-- so many records stand before FILE_FORMAT's, the drawing's, the symbol's that is open; where none is open, nothing is said
+abbrev pub OwnAt : Digits → ℕ → State → Type 0
+OwnAt c own (top s k) = Unit {0}
+OwnAt c own (file s n h p) = length (flat (closedRecords c s)) ≡ width * own
+OwnAt c own (drawing s d) = length (flat (fileRecords true 1 (s .now))) ≡ width * own
+OwnAt c own (layerNames s d) = length (flat (fileRecords true 1 (s .now))) ≡ width * own
+OwnAt c own (defines s b) = Unit {0}
+OwnAt c own (symbol s y) = length (flat (frontRecords s)) ≡ width * own
+OwnAt c own (hide s y ps) = length (flat (frontRecords s)) ≡ width * own
+OwnAt c own (elements s) = Unit {0}
+OwnAt c own (figures s h fs) = HomeOwnAt own s h
+OwnAt c own (successive s h fs n ps) = HomeOwnAt own s h
+OwnAt c own (texts s h fs n o) = HomeOwnAt own s h
+OwnAt c own (placing s k fs n o p) = Unit {0}
+OwnAt c own (skipping s k fs n o d) = Unit {0}
+OwnAt c own (ended s) = Unit {0}
+
+-- the number behind a line in this block: the next record's where such a block may open (the top level, SYMBOL_DEFINE), as it was elsewhere
+abbrev pub ownAfter : State → ℕ → ℕ → ℕ
+ownAfter (top s k) records own = records
+ownAfter (file s n h p) records own = own
+ownAfter (drawing s d) records own = own
+ownAfter (layerNames s d) records own = own
+ownAfter (defines s b) records own = records
+ownAfter (symbol s y) records own = own
+ownAfter (hide s y ps) records own = own
+ownAfter (elements s) records own = own
+ownAfter (figures s h fs) records own = own
+ownAfter (successive s h fs n ps) records own = own
+ownAfter (texts s h fs n o) records own = own
+ownAfter (placing s k fs n o p) records own = own
+ownAfter (skipping s k fs n o d) records own = own
+ownAfter (ended s) records own = own
