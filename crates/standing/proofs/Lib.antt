@@ -16,6 +16,7 @@ pub mod ScratchKept
 pub mod OpenersKept
 pub mod EntriesKept
 pub mod OwnKept
+pub mod ClearedKept
 pub mod LineOrigins
 pub mod SlotLengths
 pub mod RecordStores

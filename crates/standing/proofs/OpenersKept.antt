@@ -79,7 +79,7 @@ layer-opens c s k t x = record { same = append-nil (shutSoFar c (elements s)); s
 
 -- ── figures that are blocks ──
 -- the count of records says nothing of what is open
-own-taken : (s : Set) (ks : List ℕ) (h : Home) → homeOwn s h ≡ homeOwn (withRecords ks s) h
+pub own-taken : (s : Set) (ks : List ℕ) (h : Home) → homeOwn s h ≡ homeOwn (withRecords ks s) h
 own-taken s ks (inElement y) = refl
 own-taken s ks (inLayer k) = refl
 

@@ -2,8 +2,8 @@
 use mathlib.Core.List.{List, _++_, append-nil}
 use mathlib.Core.Path.{_≡_, refl, sym, _∙_, ap, subst}
 use native.Mathlib.Omega.{arith}
-use lib.IntN.{ℤ}
-use lib.ListN.{length, take, drop, length-take, length-drop, drop-of-length-le}
+use lib.IntN.{ℤ, pos}
+use lib.ListN.{length, take, drop, replicate, length-take, length-drop, drop-of-length-le}
 use lib.Seq.{take-at, drop-at, drop-drop}
 use Rattle.rules.specs.Machine.{State}
 use Rattle.account.specs.Records.{partAt, withPart}
@@ -15,6 +15,10 @@ use Rattle.standing.proofs.ForeParts.{part-fore, fore-part}
 -- it is three records long
 pub scratch-long : (t : List ℤ) (st : State) → Scratch t st → length t ≡ 96
 scratch-long t st x = omega (arith, ap length (x .rest), length-drop 64 t)
+
+-- where nothing is open it is zeros
+pub scratch-zeros : (st : State) → emptyRecord ≡ ownOpen st → emptyRecord ≡ figureOpen st → Scratch (replicate 96 (pos 0)) st
+scratch-zeros st own figure = record { own = own; figure = figure; rest = refl }
 
 -- what is said of one state is said of another in which the same is open
 pub scratch-same : (t : List ℤ) (st st′ : State) → Scratch t st → ownOpen st ≡ ownOpen st′ → figureOpen st ≡ figureOpen st′ → Scratch t st′
