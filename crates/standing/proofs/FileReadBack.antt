@@ -1,13 +1,13 @@
 -- What FILE_FORMAT's records say when it closes: the ranges, date, time and counts, read back from their places.
 use Prim.Native.Nat.{ℕ, zero, suc, _+_, _-_, _<_}
 use mathlib.Core.Bool.{Bool, true, false}
-use mathlib.Core.List.{List, [], _∷_, _++_, append-assoc}
+use mathlib.Core.List.{List, [], _∷_, _++_, append-assoc, append-nil}
 use mathlib.Core.Option.{Option, none}
-use mathlib.Core.Path.{_≡_, refl, sym, _∙_, ap}
+use mathlib.Core.Path.{_≡_, refl, sym, _∙_, ap, subst}
 use native.Mathlib.Omega.{arith}
 use lib.IntN.{ℤ, pos, natAbs}
-use lib.ListN.{length, getD, take, drop, replicate, length-append}
-use lib.Seq.{paste, take-at, drop-at, drop-drop, getD-take}
+use lib.ListN.{length, getD, take, drop, length-append}
+use lib.Seq.{paste, getD-take}
 use Rattle.rules.specs.Base.{flat}
 use Rattle.rules.specs.Values.{Value, amountAt}
 use Rattle.rules.specs.Rows.{Slots, Held, partOf, slotValue, numberOf}
@@ -15,10 +15,12 @@ use Rattle.rules.specs.Blocks.{fileTable, rangeTable, baseTable, elecTable, sym
 use Rattle.rules.specs.RecordTable.{numbersOf, firstOr0, columns, firstSlot, otherSlots, putHeld, ruleAt}
 use Rattle.rules.proofs.Chains.{flat-append}
 use Rattle.standing.specs.Laid.{Laid}
+use Rattle.standing.specs.Kept.{withNumbers}
 use Rattle.account.specs.FileLines.{Header, isCount, countAt, fileWidth}
 use Rattle.standing.specs.FileStanding.{fileHead, isNumbers}
 use Rattle.account.proofs.FileCounts.{header-count}
 use Rattle.standing.proofs.FileEntries.{count-back}
+use Rattle.standing.proofs.LaidTables.{laid-same, laid-changes}
 
 -- ── a slot by its number ──
 abbrev behind : ℕ → Slots → Slots
@@ -81,34 +83,16 @@ module _ (k n : ℕ) (h : Held) (t : List ℤ) (g : Header t) (f : take 32 t ≡
 
 -- ── the records, over the empty ones ──
 module _ (t : List ℤ) (fore us vs : List (List ℤ)) (w m : ℕ) (l : Laid t (fore ++ us) w) (a : length (flat us) ≡ m) (h : List ℤ) (b : flat vs ≡ take m h) (d : length (take m h) ≡ m) (e : length vs ≡ length us) where
-  abbrev zs : List ℤ
-  zs = replicate (l .rest) (pos 0)
+  before : length (flat fore) ≡ w - m
+  before = omega (arith, l .size, ap length (flat-append fore us), length-append (flat fore) (flat us), a)
 
-  abbrev f : ℕ
-  f = length (flat fore)
-
-  size : f + m ≡ w
-  size = omega (arith, l .size, ap length (flat-append fore us), length-append (flat fore) (flat us), a)
-
-  cut : t ≡ flat fore ++ (flat us ++ zs)
-  cut = l .eq ∙ ap (λ (x : List ℤ). x ++ zs) (flat-append fore us) ∙ append-assoc (flat fore) (flat us) zs
-
-  front : take (w - m) t ≡ flat fore
-  front = ap (take (w - m)) cut ∙ take-at (flat fore) (flat us ++ zs) (w - m) (omega (arith, size))
-
-  back : drop (w - m + m) t ≡ zs
-  back =
-      let p : w - m + m ≡ f + m = omega (arith, size) in
-      ap (λ (i : ℕ). drop i t) p ∙ ap (drop (f + m)) cut ∙ sym (drop-drop m f (flat fore ++ (flat us ++ zs))) ∙ ap (drop m) (drop-at (flat fore) (flat us ++ zs) f refl) ∙ drop-at (flat us) zs m a
+  put : withNumbers (w - m) (flat vs) t ≡ paste t (w - m) h m
+  put =
+      ap (λ (x : List ℤ). withNumbers (w - m) x t) b ∙ ap (λ (n : ℕ). take (w - m) t ++ (take m h ++ drop (w - m + n) t)) d
+      ∙ sym (append-assoc (take (w - m) t) (take m h) (drop (w - m + m) t))
 
   pub laid-paste : Laid (paste t (w - m) h m) (fore ++ vs) w
-  laid-paste = record {
-    rest = l .rest;
-    eq =
-        ap (λ (x : List ℤ). x ++ take m h ++ drop (w - m + m) t) front
-        ∙ ap (λ (x : List ℤ). flat fore ++ take m h ++ x) back
-        ∙ ap (λ (x : List ℤ). flat fore ++ x ++ zs) (sym b)
-        ∙ ap (λ (x : List ℤ). x ++ zs) (sym (flat-append fore vs));
-    size = omega (arith, ap length (flat-append fore vs), length-append (flat fore) (flat vs), ap length b, d, size);
-    many = omega (arith, l .many, length-append fore us, length-append fore vs, e);
-  }
+  laid-paste =
+      subst (λ (x : List ℤ). Laid x (fore ++ vs) w) put
+      (laid-same _ _ _ w (ap (λ (r : List (List ℤ)). fore ++ r) (append-nil vs))
+      (laid-changes t fore us vs [] w (w - m) (laid-same t _ _ w (ap (λ (r : List (List ℤ)). fore ++ r) (sym (append-nil us))) l) before (ap length b ∙ d ∙ sym a) e))

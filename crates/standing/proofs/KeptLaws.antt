@@ -14,7 +14,7 @@ use Rattle.standing.specs.SoFar.{emptyRecord}
 use Rattle.standing.specs.Standing.{setOf}
 use Rattle.standing.specs.Kept.{shutSoFar, Kept, Fills, FillsAll, Opens, withNumbers}
 use Rattle.rules.proofs.Chains.{flat-append}
-use Rattle.standing.proofs.LaidTables.{laid-same, laid-empty, laid-changes}
+use Rattle.standing.proofs.LaidTables.{flat-size, laid-same, laid-empty, laid-changes}
 
 -- so many records more, of zeros
 laid-more : (more : ℕ) (t : List ℤ) (rs : List (List ℤ)) (w : ℕ) → Laid t rs w → w + 32 * more ≤ length t → Laid t (rs ++ replicate more emptyRecord) (w + 32 * more)
@@ -32,14 +32,6 @@ size-empty (suc m) = length-append emptyRecord (flat (replicate m emptyRecord)) 
 
 size-more : (rs : List (List ℤ)) (more : ℕ) → length (flat (rs ++ replicate more emptyRecord)) ≡ length (flat rs) + 32 * more
 size-more rs more = ap length (flat-append rs (replicate more emptyRecord)) ∙ length-append (flat rs) (flat (replicate more emptyRecord)) ∙ omega (arith, size-empty more)
-
--- others in their place
-size-with : (fore us vs bs : List (List ℤ)) → length (flat us) ≡ length (flat vs) → length (flat (fore ++ (us ++ bs))) ≡ length (flat (fore ++ (vs ++ bs)))
-size-with fore us vs bs e =
-    let one : (ws : List (List ℤ)) → length (flat (fore ++ (ws ++ bs))) ≡ length (flat fore) + (length (flat ws) + length (flat bs)) =
-    λ ws. ap length (flat-append fore (ws ++ bs)) ∙ length-append (flat fore) (flat (ws ++ bs))
-    ∙ ap (λ (n : ℕ). length (flat fore) + n) (ap length (flat-append ws bs) ∙ length-append (flat ws) (flat bs)) in
-    omega (arith, one us, one vs, e)
 
 -- one record is a list of one
 fills-all : (c : Digits) (st st′ : State) (more from number : ℕ) (t : List ℤ) → Fills c st st′ more from number t → FillsAll c st st′ more number (partAt from t)
@@ -77,7 +69,7 @@ module _ (c : Digits) (limit : ℕ) (table : List ℤ) (records more : ℕ) (st 
         taken = taken;
         fits = fits;
         size =
-            ap (λ (rs : List (List ℤ)). length (flat rs)) (f .after) ∙ size-with (f .fore) (f .made) zs (f .behind) same
+            ap (λ (rs : List (List ℤ)). length (flat rs)) (f .after) ∙ omega (arith, flat-size (f .fore) (f .made) (f .behind), flat-size (f .fore) zs (f .behind), same)
             ∙ ap (λ (rs : List (List ℤ)). length (flat rs)) (sym (f .before)) ∙ sized;
         laid = λ w.
             let v : length table / 32 ≡ limit = ap (λ (n : ℕ). n / 32) (sym long) ∙ w in

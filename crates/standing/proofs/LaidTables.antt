@@ -88,6 +88,12 @@ module _ (t : List ℤ) (rs : List (List ℤ)) (w : ℕ) (l : Laid t rs w) where
     }
 
 -- ── records with other numbers ──
+-- how many numbers there are, by those before, these, and those behind
+pub flat-size : (fore rs bs : List (List ℤ)) → length (flat (fore ++ (rs ++ bs))) ≡ length (flat fore) + (length (flat rs) + length (flat bs))
+flat-size fore rs bs =
+    ap length (flat-append fore (rs ++ bs) ∙ ap (λ (x : List ℤ). flat fore ++ x) (flat-append rs bs)) ∙ length-append (flat fore) (flat rs ++ flat bs)
+    ∙ ap (λ (n : ℕ). length (flat fore) + n) (length-append (flat rs) (flat bs))
+
 module _ (t : List ℤ) (fore us vs bs : List (List ℤ)) (w a : ℕ) (l : Laid t (fore ++ (us ++ bs)) w) (ha : length (flat fore) ≡ a) (same : length (flat vs) ≡ length (flat us)) (few : length vs ≡ length us) where
   abbrev zs : List ℤ
   zs = replicate (l .rest) (pos 0)
@@ -97,11 +103,6 @@ module _ (t : List ℤ) (fore us vs bs : List (List ℤ)) (w a : ℕ) (l : Laid 
   parts rs z =
       ap (λ (x : List ℤ). x ++ z) (flat-append fore (rs ++ bs)) ∙ append-assoc (flat fore) (flat (rs ++ bs)) z
       ∙ ap (λ (x : List ℤ). flat fore ++ (x ++ z)) (flat-append rs bs) ∙ ap (λ (x : List ℤ). flat fore ++ x) (append-assoc (flat rs) (flat bs) z)
-
-  size-of : (rs : List (List ℤ)) → length (flat (fore ++ (rs ++ bs))) ≡ length (flat fore) + (length (flat rs) + length (flat bs))
-  size-of rs =
-      ap length (flat-append fore (rs ++ bs) ∙ ap (λ (x : List ℤ). flat fore ++ x) (flat-append rs bs)) ∙ length-append (flat fore) (flat rs ++ flat bs)
-      ∙ ap (λ (n : ℕ). length (flat fore) + n) (length-append (flat rs) (flat bs))
 
   count-of : (rs : List (List ℤ)) → length (fore ++ (rs ++ bs)) ≡ length fore + (length rs + length bs)
   count-of rs = length-append fore (rs ++ bs) ∙ ap (λ (n : ℕ). length fore + n) (length-append rs bs)
@@ -120,7 +121,7 @@ module _ (t : List ℤ) (fore us vs bs : List (List ℤ)) (w a : ℕ) (l : Laid 
     eq =
         ap (λ (x : List ℤ). x ++ (flat vs ++ drop (a + length (flat vs)) t)) (ap (take a) old ∙ take-at (flat fore) (flat us ++ (flat bs ++ zs)) a ha)
         ∙ ap (λ (x : List ℤ). flat fore ++ (flat vs ++ x)) back ∙ sym (parts vs zs);
-    size = omega (arith, size-of vs, size-of us, l .size, same);
+    size = omega (arith, flat-size fore vs bs, flat-size fore us bs, l .size, same);
     many = omega (arith, l .many, count-of vs, count-of us, few);
   }
 
