@@ -30,7 +30,8 @@ use Rattle.rules.proofs.Runs.{not-accepted, finish-ended}
 use Rattle.rules.proofs.Rows.{row-below}
 use Rattle.promises.specs.Acceptance.{Place, place, placeOf}
 use Rattle.promises.proofs.RecordLines.{pointPlaces, figurePlaces, figuresPlaces, symbolPlaces, symbolsPlaces, drawnPlaces, headPlaces, blockPlaces, bodyPlaces, laterPlaces, frontPlaces, setPlaces, records-at}
-use Rattle.promises.proofs.CountActs.{on-byAct, on-taking, on-shut, on-skip, Begun, act-begin}
+use Rattle.rules.proofs.OnActs.{on-byAct, on-taking, on-shut, on-skip}
+use Rattle.promises.proofs.CountActs.{Begun, act-begin}
 use Rattle.promises.proofs.CountState.{number, volumeOf, filePlaces, openPlaces, within, front, homePlaces, inFigures, shown, Inv, Adds, still, took, slotted-set, slotted-figs, slotted-dots, slotted-blank, SymbolOpens, symbol-begun}
 
 -- ── lists of places ──

@@ -1,46 +1,16 @@
 -- What an act leads to, and what one that opens a block says of its row.
-use Prim.Native.Nat.{ℕ, zero, suc, _+_}
+use Prim.Native.Nat.{ℕ}
 use mathlib.Core.Bool.{Bool, true, false, cond}
 use mathlib.Core.List.{List}
 use mathlib.Core.Path.{_≡_, refl, ap, subst}
 use lib.ListN.{getD}
 use Rattle.rules.specs.declared.Digits.{Digits}
-use Rattle.rules.specs.RefusalNumbers.{Got, got, bad, unless}
+use Rattle.rules.specs.RefusalNumbers.{Got, got, bad}
 use Rattle.rules.specs.Lines.{Rest, Form, ignored, wrong, close, eof, keyed, Shape, opener, noContent, content, opening, formless, hasForm, shapeOf}
-use Rattle.rules.specs.RangeClass.{Skip, passes, deeper, noForm}
 use Rattle.rules.specs.Values.{Value, empty, Known, readKind}
 use Rattle.rules.specs.Rows.{Rule, Found, absent, found, find, Act, stay, entry, begin, shut, refuse, orRefuse, innerOf, shapeFor, readShape, actRow, actFound, complete, act}
-use Rattle.rules.specs.Sets.{Set}
-use Rattle.rules.specs.Machine.{Env, State, byAct, roomFor, shutPart}
-use Rattle.rules.specs.PlacedSymbol.{bySkip}
-use Rattle.rules.proofs.Chains.{clash, by-cond, never, unless-got, map-got, On, on-unless}
+use Rattle.rules.proofs.Chains.{clash, by-cond, never, unless-got, map-got}
 use Rattle.rules.proofs.Rows.{Row, found-row, row-did}
-
--- ── acts ──
-module _ (P : State → Type 0) where
-  pub on-byAct : (now : State) (entered : ℕ → Value → Got State) (opened : ℕ → ℕ → Value → Got State) (closed : Unit {0} → Got State) (a : Act)
-      → P now
-      → ((j : ℕ) (v : Value) → On P (entered j v))
-      → ((i j : ℕ) (v : Value) → a ≡ begin i j v → On P (opened i j v))
-      → On P (closed tt)
-      → On P (byAct now entered opened closed a)
-  on-byAct now entered opened closed stay p q r s = p
-  on-byAct now entered opened closed (entry j v) p q r s = q j v
-  on-byAct now entered opened closed (begin i j v) p q r s = r i j v refl
-  on-byAct now entered opened closed shut p q r s = s
-  on-byAct now entered opened closed (refuse n) p q r s = tt
-
-  pub on-taking : (e : Env) (n : ℕ) (s : Set) (g : Got State) → (roomFor (e .limit) (s .taken + n) ≡ true → On P g) → On P (unless (roomFor (e .limit) (s .taken + n)) 19 g)
-  on-taking e n s g h = on-unless P (roomFor (e .limit) (s .taken + n)) 19 g h
-
-  pub on-shut : (p : ℕ) (whole : Got State) (back : ℕ → State) → On P whole → ((q : ℕ) → P (back q)) → On P (shutPart p whole back)
-  on-shut zero whole back w b = w
-  on-shut (suc p) whole back w b = b _
-
-  pub on-skip : (k : Skip) (now inside : Got State) → On P now → On P inside → On P (bySkip k now inside)
-  on-skip passes now inside p q = p
-  on-skip deeper now inside p q = q
-  on-skip noForm now inside p q = tt
 
 -- an act that opens a block: the row that it stands for, which block, and that the row is not full
 pub record Begun (t : List Rule) (full : List Bool) (i j : ℕ) : Type 0 where

@@ -1,4 +1,5 @@
 pub mod Chains
+pub mod OnActs
 pub mod RecordLengths
 pub mod Rows
 pub mod Runs

@@ -10,41 +10,24 @@ use lib.ListN.{length, getD, set}
 use Rattle.rules.specs.Base.{isNil, among, hasNumber}
 use Rattle.rules.specs.RefusalNumbers.{Got, got, bad, unless, also}
 use Rattle.rules.specs.Lines.{Rest, Form, ignored, wrong, close, eof, keyed, freeShapeOf}
-use Rattle.rules.specs.RangeClass.{Skip, passes, deeper, noForm, digits, digitsOf, reaches, exceeds, both, skipOf, mostDepth}
-use Rattle.rules.specs.Values.{Value, amountAt, isLayerId}
-use Rattle.rules.specs.Rows.{Found, absent, found, find, Slots, Held, partOf, rowsThere, rowsAtLimit, Act, stay, entry, begin, shut, refuse, actRow, actUnknown, act}
+use Rattle.rules.specs.RangeClass.{digits, digitsOf, reaches, exceeds, both, skipOf, mostDepth}
+use Rattle.rules.specs.Values.{amountAt, isLayerId}
+use Rattle.rules.specs.Rows.{Found, absent, found, find, Slots, Held, partOf, rowsThere, rowsAtLimit, Act, actRow, actUnknown, act}
 use Rattle.rules.specs.Blocks.{topTable, fileTables, drawingTable, mostLayers, definesTable, symbolTable, elementTable}
 use Rattle.rules.specs.Figures.{leastPoints, pointTable, textTable, placedTable, placedTables}
 use Rattle.rules.specs.Sets.{Point, Figure, Drawing, Symbol, Set, nothingYet, symbolOwn, isFirst, arcOf, rangeOf, defineRange, knownOf, usedIn}
 use Rattle.rules.specs.VolumesAndTotals.{chained, dated, countedHere, countedAll, layersUsed}
-use Rattle.rules.specs.Machine.{Line, Env, Home, inElement, inLayer, State, top, file, drawing, layerNames, defines, symbol, hide, elements, figures, successive, texts, placing, skipping, ended, byAct, roomFor, openTop, onTop, shutPart, onFile, onDrawing, layerValue, onLayerNames, newName, openSymbol, onSymbol, onDefines, onHide, onElements, isLayer, homeTable, closeFigures, openPlaced, openFigure, onFigures, onSuccessive, onTexts}
-use Rattle.rules.specs.PlacedSymbol.{bySkip, onUnknown, newSerial, onPlaced, onPlacedKey, onPlacing, skipShut, onSkipping}
+use Rattle.rules.specs.Machine.{Line, Env, Home, inElement, inLayer, State, top, file, drawing, layerNames, defines, symbol, hide, elements, figures, successive, texts, placing, skipping, ended, roomFor, openTop, onTop, onFile, onDrawing, layerValue, onLayerNames, newName, openSymbol, onSymbol, onDefines, onHide, onElements, isLayer, homeTable, closeFigures, openPlaced, openFigure, onFigures, onSuccessive, onTexts}
+use Rattle.rules.specs.PlacedSymbol.{onUnknown, newSerial, onPlaced, onPlacedKey, onPlacing, skipShut, onSkipping}
 use Rattle.rules.specs.LineByLine.{stepIn, completes, nextVolume, step, accepted, thenRun, run}
 use Rattle.rules.specs.Machine.{symbolBlock, fileKinds, Owned}
+use Rattle.rules.proofs.OnActs.{on-byAct, on-shut, on-skip}
 use Rattle.rules.proofs.Chains.{On, on-unless, on-cond, on-map, on-then, on-also, on-weaken}
 use Rattle.rules.proofs.Runs.{not-accepted, finish-ended}
 use Rattle.standing.specs.Standing.{setOf}
 
 abbrev pub takenIn : State → ℕ
 takenIn st = setOf st .taken
-
-module _ (P : State → Type 0) where
-  on-act : (here : State) (entered : ℕ → Value → Got State) (opened : ℕ → ℕ → Value → Got State) (closed : Unit {0} → Got State) (a : Act)
-      → P here → ((j : ℕ) (v : Value) → On P (entered j v)) → ((i j : ℕ) (v : Value) → On P (opened i j v)) → On P (closed tt) → On P (byAct here entered opened closed a)
-  on-act here entered opened closed stay p q r s = p
-  on-act here entered opened closed (entry j v) p q r s = q j v
-  on-act here entered opened closed (begin i j v) p q r s = r i j v
-  on-act here entered opened closed shut p q r s = s
-  on-act here entered opened closed (refuse n) p q r s = tt
-
-  on-shut : (p : ℕ) (whole : Got State) (back : ℕ → State) → On P whole → ((q : ℕ) → P (back q)) → On P (shutPart p whole back)
-  on-shut zero whole back w b = w
-  on-shut (suc p) whole back w b = b _
-
-  on-skip : (k : Skip) (here inside : Got State) → On P here → On P inside → On P (bySkip k here inside)
-  on-skip passes here inside p q = p
-  on-skip deeper here inside p q = q
-  on-skip noForm here inside p q = tt
 
 module _ (e : Env) (l : Line) (s : Set) where
   abbrev pub Few : State → Type 0
@@ -76,15 +59,15 @@ module _ (e : Env) (l : Line) (s : Set) where
       on-unless Few (layersUsed s) 14 _ λ _.
       on-unless Few (countedAll s) 17 _ λ _. none-taken
   few-top k (keyed key c) =
-      on-act Few _ _ _ _ (act (knownOf s) topTable (digits 0 0) (rowsAtLimit 0 topTable) (keyed key c)) none-taken (λ j v. tt) (λ i j v. on-unless Few (eqb j k) 9 _ λ _. few-open j) tt
+      on-byAct Few _ _ _ _ (act (knownOf s) topTable (digits 0 0) (rowsAtLimit 0 topTable) (keyed key c)) none-taken (λ j v. tt) (λ i j v _. on-unless Few (eqb j k) 9 _ λ _. few-open j) tt
 
   few-file : (n : ℕ) (h : Held) (p : ℕ) (f : Form) → On Few (onFile l s n h p f)
   few-file n h p f =
-      on-act Few _ _ _ _ (act (knownOf s) (getD (fileTables (isFirst s)) p []) (digits 0 0) (rowsThere (partOf h p)) f) none-taken (λ j v. none-taken) (λ i j v. none-taken)
+      on-byAct Few _ _ _ _ (act (knownOf s) (getD (fileTables (isFirst s)) p []) (digits 0 0) (rowsThere (partOf h p)) f) none-taken (λ j v. none-taken) (λ i j v _. none-taken)
       (on-shut Few p _ _ (on-unless Few (chained (isFirst s) (l .next) h && dated s (isFirst s) h) 16 _ λ _. none-taken) (λ q. none-taken))
 
   few-drawing : (d : Drawing) (f : Form) → On Few (onDrawing s d f)
-  few-drawing d f = on-act Few _ _ _ _ (act (knownOf s) drawingTable (digitsOf (arcOf s)) (rowsThere (d .own)) f) none-taken (λ j v. none-taken) (λ i j v. none-taken) none-taken
+  few-drawing d f = on-byAct Few _ _ _ _ (act (knownOf s) drawingTable (digitsOf (arcOf s)) (rowsThere (d .own)) f) none-taken (λ j v. none-taken) (λ i j v _. none-taken) none-taken
 
   few-layers : (d : Drawing) (f : Form) → On Few (onLayerNames e l s d f)
   few-layers d ignored = none-taken
@@ -99,9 +82,9 @@ module _ (e : Env) (l : Line) (s : Set) where
 
   few-defines : (b : Bool) (f : Form) → On Few (onDefines e l s b f)
   few-defines b f =
-      on-act Few _ _ _ _ (act (knownOf s) definesTable (digitsOf (defineRange s)) (b ∷ false ∷ []) f) none-taken
+      on-byAct Few _ _ _ _ (act (knownOf s) definesTable (digitsOf (defineRange s)) (b ∷ false ∷ []) f) none-taken
       (λ j v. on-unless Few (isNil (s .symbols)) 6 _ λ _. none-taken)
-      (λ i j v. on-unless Few (not b) 6 _ λ _. taken 1 _ (omega arith) refl)
+      (λ i j v _. on-unless Few (not b) 6 _ λ _. taken 1 _ (omega arith) refl)
       (on-unless Few (b || not (isNil (s .symbols))) 8 _ λ _. none-taken)
 
   few-inner : (y : Symbol) (i : ℕ) → On Few (openSymbol s y i)
@@ -111,19 +94,19 @@ module _ (e : Env) (l : Line) (s : Set) where
 
   few-symbol : (y : Symbol) (f : Form) → On Few (onSymbol s y f)
   few-symbol y f =
-      on-act Few _ _ _ _ (act (knownOf s) symbolTable (digitsOf (defineRange s)) (rowsThere (y .own)) f) none-taken
+      on-byAct Few _ _ _ _ (act (knownOf s) symbolTable (digitsOf (defineRange s)) (rowsThere (y .own)) f) none-taken
       (λ j v. on-unless Few (newName s (symbolOwn (set (y .own) j (some v)) y)) 15 _ λ _. none-taken)
-      (λ i j v. few-inner (symbolOwn (set (y .own) j (some v)) y) i)
+      (λ i j v _. few-inner (symbolOwn (set (y .own) j (some v)) y) i)
       none-taken
 
   few-hide : (y : Symbol) (ps : List Point) (f : Form) → On Few (onHide e l s y ps f)
   few-hide y ps f =
-      on-act Few _ _ _ _ (act (knownOf s) (pointTable false) (digits 0 0) (rowsAtLimit (length ps) (pointTable false)) f) none-taken (λ j v. taken 1 _ (omega arith) refl) (λ i j v. tt) none-taken
+      on-byAct Few _ _ _ _ (act (knownOf s) (pointTable false) (digits 0 0) (rowsAtLimit (length ps) (pointTable false)) f) none-taken (λ j v. taken 1 _ (omega arith) refl) (λ i j v _. tt) none-taken
 
   few-elements : (f : Form) → On Few (onElements s f)
   few-elements f =
-      on-act Few _ _ _ _ (act (knownOf s) elementTable (digits 0 0) (rowsAtLimit 0 elementTable) f) none-taken (λ j v. tt)
-      (λ i j v. on-unless Few (not (hasNumber (amountAt v 0) (usedIn (s .now)))) 14 _ λ _. none-taken)
+      on-byAct Few _ _ _ _ (act (knownOf s) elementTable (digits 0 0) (rowsAtLimit 0 elementTable) f) none-taken (λ j v. tt)
+      (λ i j v _. on-unless Few (not (hasNumber (amountAt v 0) (usedIn (s .now)))) 14 _ λ _. none-taken)
       (on-unless Few (countedHere s) 17 _ λ _. none-taken)
 
   few-closed : (h : Home) (fs : List Figure) → On Few (closeFigures s h fs)
@@ -142,25 +125,25 @@ module _ (e : Env) (l : Line) (s : Set) where
 
   few-figures : (h : Home) (fs : List Figure) (f : Form) → On Few (onFigures e l s h fs f)
   few-figures h fs f =
-      on-act Few _ _ _ _ (act (knownOf s) (homeTable s h) (rangeOf s) (rowsAtLimit 0 (homeTable s h)) f) none-taken (λ j v. taken 1 _ (omega arith) refl) (λ i j v. few-figure h fs i) (few-closed h fs)
+      on-byAct Few _ _ _ _ (act (knownOf s) (homeTable s h) (rangeOf s) (rowsAtLimit 0 (homeTable s h)) f) none-taken (λ j v. taken 1 _ (omega arith) refl) (λ i j v _. few-figure h fs i) (few-closed h fs)
 
   few-chain : (h : Home) (fs : List Figure) (n : ℕ) (ps : List Point) (f : Form) → On Few (onSuccessive e l s h fs n ps f)
   few-chain h fs n ps f =
-      on-act Few _ _ _ _ (act (knownOf s) (pointTable (isLayer h)) (digits 0 0) (rowsAtLimit (length ps) (pointTable (isLayer h))) f) none-taken (λ j v. taken 1 _ (omega arith) refl) (λ i j v. tt)
+      on-byAct Few _ _ _ _ (act (knownOf s) (pointTable (isLayer h)) (digits 0 0) (rowsAtLimit (length ps) (pointTable (isLayer h))) f) none-taken (λ j v. taken 1 _ (omega arith) refl) (λ i j v _. tt)
       (on-unless Few (leb leastPoints (length ps)) 8 _ λ _. none-taken)
 
   few-texts : (h : Home) (fs : List Figure) (n : ℕ) (o : Slots) (f : Form) → On Few (onTexts s h fs n o f)
-  few-texts h fs n o f = on-act Few _ _ _ _ (act (knownOf s) (textTable (isLayer h) 4 12) (digits 0 0) (rowsThere o) f) none-taken (λ j v. none-taken) (λ i j v. tt) none-taken
+  few-texts h fs n o f = on-byAct Few _ _ _ _ (act (knownOf s) (textTable (isLayer h) 4 12) (digits 0 0) (rowsThere o) f) none-taken (λ j v. none-taken) (λ i j v _. tt) none-taken
 
   few-placed : (k : ℕ) (fs : List Figure) (n : ℕ) (o : Held) (p : ℕ) (a : Act) → On Few (onPlaced s k fs n o p a)
   few-placed k fs n o p a =
-      on-act Few _ _ _ _ a none-taken (λ j v. on-unless Few (newSerial s fs v) 15 _ λ _. none-taken) (λ i j v. none-taken) (on-shut Few p _ _ none-taken (λ q. none-taken))
+      on-byAct Few _ _ _ _ a none-taken (λ j v. on-unless Few (newSerial s fs v) 15 _ λ _. none-taken) (λ i j v _. none-taken) (on-shut Few p _ _ none-taken (λ q. none-taken))
 
   few-unknown : (k : ℕ) (fs : List Figure) (n : ℕ) (o : Held) (key : List ℕ) (c : Rest) → On Few (onUnknown e s k fs n o key c)
   few-unknown k fs n o key c =
       on-cond Few (exceeds (rangeOf s) (e .class)) _ _
       (λ _. on-skip Few (skipOf key c) _ _ none-taken none-taken)
-      (λ _. on-act Few _ _ _ _ (actUnknown c) none-taken (λ j v. tt) (λ i j v. tt) tt)
+      (λ _. on-byAct Few _ _ _ _ (actUnknown c) none-taken (λ j v. tt) (λ i j v _. tt) tt)
 
   few-key : (k : ℕ) (fs : List Figure) (n : ℕ) (o : Held) (key : List ℕ) (c : Rest) (f : Found) → On Few (onPlacedKey e s k fs n o key c f)
   few-key k fs n o key c absent = few-unknown k fs n o key c

@@ -10,42 +10,24 @@ use lib.IntN.{ℤ}
 use lib.ListN.{length, getD, set}
 use Rattle.rules.specs.declared.Digits.{Digits}
 use Rattle.rules.specs.Base.{flat, isNil, among, hasNumber}
-use Rattle.rules.specs.RefusalNumbers.{Got, got}
+use Rattle.rules.specs.RefusalNumbers.{got}
 use Rattle.rules.specs.Lines.{Rest, Form, ignored, wrong, close, eof, keyed, freeShapeOf}
-use Rattle.rules.specs.RangeClass.{digits, digitsOf, reaches, exceeds, both, Skip, passes, deeper, noForm, skipOf, mostDepth}
-use Rattle.rules.specs.Values.{Value, amountAt, isLayerId}
-use Rattle.rules.specs.Rows.{Slots, Found, absent, found, find, Held, partOf, rowsThere, rowsAtLimit, Act, stay, entry, begin, shut, refuse, actRow, actUnknown, act}
+use Rattle.rules.specs.RangeClass.{digits, digitsOf, reaches, exceeds, both, skipOf, mostDepth}
+use Rattle.rules.specs.Values.{amountAt, isLayerId}
+use Rattle.rules.specs.Rows.{Slots, Found, absent, found, find, Held, partOf, rowsThere, rowsAtLimit, Act, actRow, actUnknown, act}
 use Rattle.rules.specs.Blocks.{topTable, fileTables, drawingTable, mostLayers, definesTable, symbolTable, elementTable}
 use Rattle.rules.specs.Figures.{leastPoints, pointTable, textTable, placedTable, placedTables}
 use Rattle.rules.specs.Sets.{Point, Figure, Drawing, Symbol, Set, isFirst, withRecords, arcOf, rangeOf, defineRange, knownOf, usedIn, symbolOwn}
 use Rattle.rules.specs.VolumesAndTotals.{chained, dated, countedHere, countedAll, layersUsed}
 use Rattle.rules.specs.Machine.{Line, inLastVolume, Env, Home, inElement, inLayer, isLayer, State, top, file, drawing, layerNames, defines, symbol, hide, elements, figures, successive, texts, placing, skipping, ended, symbolBlock, pastElement}
-use Rattle.rules.specs.Machine.{byAct, roomFor, kindIn, fileKinds, openTop, onTop, shutPart, onFile, onDrawing, layerValue, onLayerNames, onDefines, newName, openSymbol, onSymbol, onHide, onElements, homeTable, closeFigures, openPlaced, openFigure, onFigures, onSuccessive, onTexts}
+use Rattle.rules.specs.Machine.{roomFor, kindIn, fileKinds, openTop, onTop, onFile, onDrawing, layerValue, onLayerNames, onDefines, newName, openSymbol, onSymbol, onHide, onElements, homeTable, closeFigures, openPlaced, openFigure, onFigures, onSuccessive, onTexts}
 use Rattle.rules.specs.RecordTable.{kindLine, kindSuccessive, kindText, kindPoint}
-use Rattle.rules.specs.PlacedSymbol.{bySkip, onUnknown, newSerial, onPlaced, onPlacedKey, onPlacing, skipShut, onSkipping}
+use Rattle.rules.specs.PlacedSymbol.{onUnknown, newSerial, onPlaced, onPlacedKey, onPlacing, skipShut, onSkipping}
 use Rattle.rules.specs.LineByLine.{stepIn}
+use Rattle.rules.proofs.OnActs.{on-byAct, on-shut, on-skip}
 use Rattle.rules.proofs.Chains.{On, on-unless, on-cond, on-then, on-got}
 use Rattle.standing.specs.Kept.{shutSoFar, HomeOwnAt, OwnAt, ownAfter}
 use Rattle.standing.proofs.MoreRecords.{closed-taken}
-
--- ── what holds of every state that an act may lead to ──
-module _ (P : State → Type 0) where
-  on-act : (now : State) (entered : ℕ → Value → Got State) (opened : ℕ → ℕ → Value → Got State) (closed : Unit {0} → Got State) (a : Act)
-      → P now → ((j : ℕ) (v : Value) → On P (entered j v)) → ((i j : ℕ) (v : Value) → On P (opened i j v)) → On P (closed tt) → On P (byAct now entered opened closed a)
-  on-act now entered opened closed stay p q r s = p
-  on-act now entered opened closed (entry j v) p q r s = q j v
-  on-act now entered opened closed (begin i j v) p q r s = r i j v
-  on-act now entered opened closed shut p q r s = s
-  on-act now entered opened closed (refuse n) p q r s = tt
-
-  on-shut : (p : ℕ) (whole : Got State) (back : ℕ → State) → On P whole → ((q : ℕ) → P (back q)) → On P (shutPart p whole back)
-  on-shut zero whole back w b = w
-  on-shut (suc p) whole back w b = b _
-
-  on-skip : (k : Skip) (now inside : Got State) → On P now → On P inside → On P (bySkip k now inside)
-  on-skip passes now inside p q = p
-  on-skip deeper now inside p q = q
-  on-skip noForm now inside p q = tt
 
 -- ── line by line ──
 module _ (c : Digits) (e : Env) (l : Line) (records : ℕ) where
@@ -70,15 +52,15 @@ module _ (c : Digits) (e : Env) (l : Line) (records : ℕ) where
       on-unless (OwnAt c records) (layersUsed s) 14 _ λ _.
       on-unless (OwnAt c records) (countedAll s) 17 _ λ _. tt
   own-top s k (keyed key r) size =
-      on-act (OwnAt c records) _ _ _ _ (act (knownOf s) topTable (digits 0 0) (rowsAtLimit 0 topTable) (keyed key r)) tt (λ j v. tt)
-      (λ i j v. on-unless (OwnAt c records) (eqb j k) 9 _ λ q. own-open s j (subst (λ (m : ℕ). Sized (top s m)) (sym (eqb-true j k q)) size))
+      on-byAct (OwnAt c records) _ _ _ _ (act (knownOf s) topTable (digits 0 0) (rowsAtLimit 0 topTable) (keyed key r)) tt (λ j v. tt)
+      (λ i j v _. on-unless (OwnAt c records) (eqb j k) 9 _ λ q. own-open s j (subst (λ (m : ℕ). Sized (top s m)) (sym (eqb-true j k q)) size))
       tt
 
   own-defines : (s : Set) (non : Bool) (f : Form) → Sized (defines s non) → On (OwnAt c records) (onDefines e l s non f)
   own-defines s non f size =
-      on-act (OwnAt c records) _ _ _ _ (act (knownOf s) definesTable (digitsOf (defineRange s)) (non ∷ false ∷ []) f) tt
+      on-byAct (OwnAt c records) _ _ _ _ (act (knownOf s) definesTable (digitsOf (defineRange s)) (non ∷ false ∷ []) f) tt
       (λ j v. on-unless (OwnAt c records) (isNil (s .symbols)) 6 _ λ _. tt)
-      (λ i j v. on-unless (OwnAt c records) (not non) 6 _ λ _. on-unless (OwnAt c records) (roomFor (e .limit) (s .taken + 1)) 19 _ λ _. size)
+      (λ i j v _. on-unless (OwnAt c records) (not non) 6 _ λ _. on-unless (OwnAt c records) (roomFor (e .limit) (s .taken + 1)) 19 _ λ _. size)
       (on-unless (OwnAt c records) (non || not (isNil (s .symbols))) 8 _ λ _. tt)
 
   -- elsewhere it stays
@@ -88,11 +70,11 @@ module _ (c : Digits) (e : Env) (l : Line) (records : ℕ) where
 
     own-file : (s : Set) (n : ℕ) (h : Held) (p : ℕ) (f : Form) → P (file s n h p) → On P (onFile l s n h p f)
     own-file s n h p f i =
-        on-act P _ _ _ _ (act (knownOf s) (getD (fileTables (isFirst s)) p []) (digits 0 0) (rowsThere (partOf h p)) f) i (λ j v. i) (λ m j v. i)
+        on-byAct P _ _ _ _ (act (knownOf s) (getD (fileTables (isFirst s)) p []) (digits 0 0) (rowsThere (partOf h p)) f) i (λ j v. i) (λ m j v _. i)
         (on-shut P p _ _ (on-unless P (chained (isFirst s) (l .next) h && dated s (isFirst s) h) 16 _ λ _. tt) (λ q. i))
 
     own-drawing : (s : Set) (d : Drawing) (f : Form) → P (drawing s d) → On P (onDrawing s d f)
-    own-drawing s d f i = on-act P _ _ _ _ (act (knownOf s) drawingTable (digitsOf (arcOf s)) (rowsThere (d .own)) f) i (λ j v. i) (λ m j v. i) tt
+    own-drawing s d f i = on-byAct P _ _ _ _ (act (knownOf s) drawingTable (digitsOf (arcOf s)) (rowsThere (d .own)) f) i (λ j v. i) (λ m j v _. i) tt
 
     own-layers : (s : Set) (d : Drawing) (f : Form) → P (layerNames s d) → On P (onLayerNames e l s d f)
     own-layers s d ignored i = i
@@ -113,18 +95,18 @@ module _ (c : Digits) (e : Env) (l : Line) (records : ℕ) where
 
     own-symbol : (s : Set) (y : Symbol) (f : Form) → P (symbol s y) → On P (onSymbol s y f)
     own-symbol s y f i =
-        on-act P _ _ _ _ (act (knownOf s) symbolTable (digitsOf (defineRange s)) (rowsThere (y .own)) f) i
-        (λ j v. on-unless P (newName s (symbolOwn (set (y .own) j (some v)) y)) 15 _ λ _. i) (λ m j v. own-part s (symbolOwn (set (y .own) j (some v)) y) m i) tt
+        on-byAct P _ _ _ _ (act (knownOf s) symbolTable (digitsOf (defineRange s)) (rowsThere (y .own)) f) i
+        (λ j v. on-unless P (newName s (symbolOwn (set (y .own) j (some v)) y)) 15 _ λ _. i) (λ m j v _. own-part s (symbolOwn (set (y .own) j (some v)) y) m i) tt
 
     own-hide : (s : Set) (y : Symbol) (ps : List Point) (f : Form) → P (hide s y ps) → On P (onHide e l s y ps f)
     own-hide s y ps f i =
-        on-act P _ _ _ _ (act (knownOf s) (pointTable false) (digits 0 0) (rowsAtLimit (length ps) (pointTable false)) f) i
-        (λ j v. on-unless P (roomFor (e .limit) (s .taken + 1)) 19 _ λ _. i) (λ m j v. tt) i
+        on-byAct P _ _ _ _ (act (knownOf s) (pointTable false) (digits 0 0) (rowsAtLimit (length ps) (pointTable false)) f) i
+        (λ j v. on-unless P (roomFor (e .limit) (s .taken + 1)) 19 _ λ _. i) (λ m j v _. tt) i
 
     own-elements : (s : Set) (f : Form) → On P (onElements s f)
     own-elements s f =
-        on-act P _ _ _ _ (act (knownOf s) elementTable (digits 0 0) (rowsAtLimit 0 elementTable) f) tt (λ j v. tt)
-        (λ m j v. on-unless P (not (hasNumber (amountAt v 0) (usedIn (s .now)))) 14 _ λ _. tt) (on-unless P (countedHere s) 17 _ λ _. tt)
+        on-byAct P _ _ _ _ (act (knownOf s) elementTable (digits 0 0) (rowsAtLimit 0 elementTable) f) tt (λ j v. tt)
+        (λ m j v _. on-unless P (not (hasNumber (amountAt v 0) (usedIn (s .now)))) 14 _ λ _. tt) (on-unless P (countedHere s) 17 _ λ _. tt)
 
     -- figures: one more record was taken
     own-home : (ks : List ℕ) (s : Set) (h : Home) → HomeOwnAt own s h → HomeOwnAt own (withRecords ks s) h
@@ -147,25 +129,25 @@ module _ (c : Digits) (e : Env) (l : Line) (records : ℕ) where
 
     own-figures : (s : Set) (h : Home) (fs : List Figure) (f : Form) → HomeOwnAt own s h → On P (onFigures e l s h fs f)
     own-figures s h fs f i =
-        on-act P _ _ _ _ (act (knownOf s) (homeTable s h) (rangeOf s) (rowsAtLimit 0 (homeTable s h)) f) i
-        (λ j v. on-unless P (roomFor (e .limit) (s .taken + 1)) 19 _ λ _. own-home (kindIn h (kindLine + j) ∷ []) s h i) (λ m j v. own-block s h fs m i) (own-close s h fs i)
+        on-byAct P _ _ _ _ (act (knownOf s) (homeTable s h) (rangeOf s) (rowsAtLimit 0 (homeTable s h)) f) i
+        (λ j v. on-unless P (roomFor (e .limit) (s .taken + 1)) 19 _ λ _. own-home (kindIn h (kindLine + j) ∷ []) s h i) (λ m j v _. own-block s h fs m i) (own-close s h fs i)
 
     own-chain : (s : Set) (h : Home) (fs : List Figure) (n : ℕ) (ps : List Point) (f : Form) → HomeOwnAt own s h → On P (onSuccessive e l s h fs n ps f)
     own-chain s h fs n ps f i =
-        on-act P _ _ _ _ (act (knownOf s) (pointTable (isLayer h)) (digits 0 0) (rowsAtLimit (length ps) (pointTable (isLayer h))) f) i
-        (λ j v. on-unless P (roomFor (e .limit) (s .taken + 1)) 19 _ λ _. own-home (kindIn h kindPoint ∷ []) s h i) (λ m j v. tt) (on-unless P (leb leastPoints (length ps)) 8 _ λ _. i)
+        on-byAct P _ _ _ _ (act (knownOf s) (pointTable (isLayer h)) (digits 0 0) (rowsAtLimit (length ps) (pointTable (isLayer h))) f) i
+        (λ j v. on-unless P (roomFor (e .limit) (s .taken + 1)) 19 _ λ _. own-home (kindIn h kindPoint ∷ []) s h i) (λ m j v _. tt) (on-unless P (leb leastPoints (length ps)) 8 _ λ _. i)
 
     own-texts : (s : Set) (h : Home) (fs : List Figure) (n : ℕ) (o : Slots) (f : Form) → HomeOwnAt own s h → On P (onTexts s h fs n o f)
-    own-texts s h fs n o f i = on-act P _ _ _ _ (act (knownOf s) (textTable (isLayer h) 4 12) (digits 0 0) (rowsThere o) f) i (λ j v. i) (λ m j v. tt) i
+    own-texts s h fs n o f i = on-byAct P _ _ _ _ (act (knownOf s) (textTable (isLayer h) 4 12) (digits 0 0) (rowsThere o) f) i (λ j v. i) (λ m j v _. tt) i
 
     -- a placed symbol stands in a layer
     placed-act : (s : Set) (k : ℕ) (fs : List Figure) (n : ℕ) (o : Held) (p : ℕ) (a : Act) → On P (onPlaced s k fs n o p a)
-    placed-act s k fs n o p a = on-act P _ _ _ _ a tt (λ j v. on-unless P (newSerial s fs v) 15 _ λ _. tt) (λ m j v. tt) (on-shut P p _ _ tt (λ q. tt))
+    placed-act s k fs n o p a = on-byAct P _ _ _ _ a tt (λ j v. on-unless P (newSerial s fs v) 15 _ λ _. tt) (λ m j v _. tt) (on-shut P p _ _ tt (λ q. tt))
 
     placed-unknown : (s : Set) (k : ℕ) (fs : List Figure) (n : ℕ) (o : Held) (key : List ℕ) (r : Rest) → On P (onUnknown e s k fs n o key r)
     placed-unknown s k fs n o key r =
         on-cond P (exceeds (rangeOf s) (e .class)) _ _ (λ _. on-skip P (skipOf key r) _ _ tt tt)
-        (λ _. on-act P _ _ _ _ (actUnknown r) tt (λ j v. tt) (λ m j v. tt) tt)
+        (λ _. on-byAct P _ _ _ _ (actUnknown r) tt (λ j v. tt) (λ m j v _. tt) tt)
 
     placed-key : (s : Set) (k : ℕ) (fs : List Figure) (n : ℕ) (o : Held) (key : List ℕ) (r : Rest) (f : Found) → On P (onPlacedKey e s k fs n o key r f)
     placed-key s k fs n o key r absent = placed-unknown s k fs n o key r

@@ -27,7 +27,8 @@ use Rattle.rules.specs.Machine.{symbolBlock, fileKinds, Owned, kindIn}
 use Rattle.rules.specs.RecordTable.{kindDrawing, kindSymbol, kindLayer, kindLine, kindSuccessive, kindText, kindPlaced, kindPoint, kindHidden}
 use Rattle.rules.proofs.Chains.{On, on-unless, on-cond, on-then, on-got, and-left, clash, then-got}
 use Rattle.rules.proofs.Rows.{Row, row-below}
-use Rattle.promises.proofs.CountActs.{on-byAct, on-taking, on-shut, on-skip, act-begin}
+use Rattle.rules.proofs.OnActs.{on-byAct, on-taking, on-shut, on-skip}
+use Rattle.promises.proofs.CountActs.{act-begin}
 use Rattle.volumes.specs.Volumes.{through}
 use Rattle.volumes.proofs.FrontSteps.{unread}
 use Rattle.volumes.proofs.Openings.{opensKind, act-opens, row-test}
