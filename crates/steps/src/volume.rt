@@ -9,7 +9,7 @@ use account::Step;
 use account::Through;
 use account::Volume;
 use account::Where;
-use figures::skip::skip_block;
+use elements::skip::skip_block;
 use groundwork::blocks::at_block;
 use groundwork::walk::next_line;
 use leaves::truth::both;

@@ -1,0 +1,93 @@
+-- Where a function of this crate states its whole answer, or all that it leaves in what it is lent, there is one (as `Unique` in leaves has
+-- it: FUNCTION-unique in the contract's own words, FUNCTION-code of the contract as the code has it).
+use Prim.Native.Nat.{ℕ}
+use mathlib.Core.Bool.{Bool, true, false}
+use mathlib.Core.List.{List}
+use mathlib.Core.Path.{_≡_, sym, _∙_, ap}
+use lib.Dec.{eqb}
+use lib.IntN.{ℤ}
+use denote.Ref.{now}
+use Rattle.rules.specs.declared.Digits.{Digits}
+use Rattle.rules.specs.Lines.{Rest, Form, ignored, wrong, close, eof, keyed, formIn}
+use Rattle.rules.specs.RangeClass.{digitsOf, reaches, skipOf}
+use Rattle.rules.specs.Rows.{Rule, Found, absent, found, find, Act, stay, entry, begin, shut, refuse}
+use Rattle.rules.specs.Values.{Known}
+use Rattle.tables.specs.Tables.{tableOf}
+use Rattle.entries.specs.declared.Next.the-variants as N
+use Rattle.entries.specs.Names.{knownIn}
+use Rattle.leaves.proofs.Unique.{One}
+use Rattle.account.specs.declared.Now.{Now}
+use Rattle.account.specs.declared.Skipped.{Skipped}
+use Rattle.account.specs.declared.Step.{Step}
+use Rattle.account.specs.ElementLines.{tallied}
+use Rattle.account.specs.PlacedLines.{Lent, lent, ownNumber, placedStep, RowLine, FoundLine, KeyLine, OwnLine, PlacedLine}
+use Rattle.account.specs.SkippedLines.{skippedAs}
+use Rattle.elements.proofs.element.count_layer as count-layer′
+use Rattle.elements.proofs.element.on_elements as on-elements′
+use Rattle.elements.proofs.figures.on_figures as on-figures′
+use Rattle.elements.proofs.placed.on_placed as on-placed′
+use Rattle.elements.proofs.points.on_chain as on-chain′
+use Rattle.elements.proofs.points.on_hide as on-hide′
+use Rattle.elements.proofs.texts.on_text as on-text′
+
+-- ── the tally ──
+pub count-layer-unique : (n : Now) (tally tally₁ tally₂ : List ℕ) → tally₁ ≡ tallied tally (n .figures) → tally₂ ≡ tallied tally (n .figures) → tally₁ ≡ tally₂
+count-layer-unique n tally tally₁ tally₂ c₁ c₂ = c₁ ∙ sym c₂
+
+count-layer-code : One count-layer′.Kinds.ps count-layer′.Kinds.r count-layer′.Reads.Learnt (λ κs r e. now (e .1 .0))
+count-layer-code κs x r₁ r₂ e₁ e₂ = count-layer-unique (x .0) (now (x .1 .0)) (now (e₁ .1 .0)) (now (e₂ .1 .0))
+
+-- ── the lines of a block ──
+-- Their answers; of what is lent nothing is said after a refusal.
+on-hide-answer : One on-hide′.Kinds.ps on-hide′.Kinds.r on-hide′.Reads.Learnt (λ κs r e. r)
+on-hide-answer κs x r₁ r₂ e₁ e₂ c₁ c₂ = c₁ .answer ∙ sym (c₂ .answer)
+
+on-elements-answer : One on-elements′.Kinds.ps on-elements′.Kinds.r on-elements′.Reads.Learnt (λ κs r e. r)
+on-elements-answer κs x r₁ r₂ e₁ e₂ c₁ c₂ = c₁ .answer ∙ sym (c₂ .answer)
+
+on-figures-answer : One on-figures′.Kinds.ps on-figures′.Kinds.r on-figures′.Reads.Learnt (λ κs r e. r)
+on-figures-answer κs x r₁ r₂ e₁ e₂ c₁ c₂ = c₁ .answer ∙ sym (c₂ .answer)
+
+on-chain-answer : One on-chain′.Kinds.ps on-chain′.Kinds.r on-chain′.Reads.Learnt (λ κs r e. r)
+on-chain-answer κs x r₁ r₂ e₁ e₂ c₁ c₂ = c₁ .answer ∙ sym (c₂ .answer)
+
+on-text-answer : One on-text′.Kinds.ps on-text′.Kinds.r on-text′.Reads.Learnt (λ κs r e. r)
+on-text-answer κs x r₁ r₂ e₁ e₂ c₁ c₂ = c₁ .answer ∙ sym (c₂ .answer)
+
+-- a placed symbol: a serial number that stands twice is told by the record, which its own line has put it into
+module _ (known : Known) (class range : Digits) (n : Now) (x₀ x₁ x₂ : Lent) (rec₀ rec₁ rec₂ : List ℤ) (r₁ r₂ : Step) where
+  row-answer : (a : Act) → RowLine n x₀ x₁ rec₀ rec₁ r₁ a → RowLine n x₀ x₂ rec₀ rec₂ r₂ a → r₁ ≡ r₂
+  row-answer stay c₁ c₂ = c₁ .did .answer ∙ sym (c₂ .did .answer)
+  row-answer (entry j v) c₁ c₂ =
+      c₁ .did .answer ∙ (ap (λ t. placedStep n x₀ (ownNumber t) (N.Entry j)) (c₁ .entered ∙ sym (c₂ .entered)) ∙ sym (c₂ .did .answer))
+  row-answer (begin i j v) c₁ c₂ = c₁ .did .answer ∙ sym (c₂ .did .answer)
+  row-answer shut c₁ c₂ = c₁ .did .answer ∙ sym (c₂ .did .answer)
+  row-answer (refuse k) c₁ c₂ = c₁ .did .answer ∙ sym (c₂ .did .answer)
+
+  found-answer : (k : Skipped) (c : Rest) (j : ℕ) (w : Rule) (b : Bool)
+      → FoundLine known class range n x₀ x₁ rec₀ rec₁ r₁ k c j w b → FoundLine known class range n x₀ x₂ rec₀ rec₂ r₂ k c j w b → r₁ ≡ r₂
+  found-answer k c j w true c₁ c₂ = row-answer _ c₁ c₂
+  found-answer k c j w false c₁ c₂ = c₁ .answer ∙ sym (c₂ .answer)
+
+  key-answer : (k : Skipped) (c : Rest) (f : Found)
+      → KeyLine known class range n x₀ x₁ rec₀ rec₁ r₁ k c f → KeyLine known class range n x₀ x₂ rec₀ rec₂ r₂ k c f → r₁ ≡ r₂
+  key-answer k c absent c₁ c₂ = c₁ .answer ∙ sym (c₂ .answer)
+  key-answer k c (found j w) c₁ c₂ = found-answer k c j w (reaches class (w .least)) c₁ c₂
+
+  own-answer : (f : Form) → OwnLine known class range n x₀ x₁ rec₀ rec₁ r₁ f → OwnLine known class range n x₀ x₂ rec₀ rec₂ r₂ f → r₁ ≡ r₂
+  own-answer ignored c₁ c₂ = c₁ .0 ∙ sym (c₂ .0)
+  own-answer (wrong m) c₁ c₂ = c₁ ∙ sym c₂
+  own-answer close c₁ c₂ = c₁ .0 .answer ∙ sym (c₂ .0 .answer)
+  own-answer eof c₁ c₂ = c₁ ∙ sym c₂
+  own-answer (keyed k c) c₁ c₂ = key-answer (skippedAs (skipOf k c)) c (find k (tableOf 18)) c₁ c₂
+
+  placed-answer : (b : Bool) (f : Form) → PlacedLine known class range n x₀ x₁ rec₀ rec₁ r₁ b f → PlacedLine known class range n x₀ x₂ rec₀ rec₂ r₂ b f → r₁ ≡ r₂
+  placed-answer true f c₁ c₂ = c₁ .0 .answer ∙ sym (c₂ .0 .answer)
+  placed-answer false f c₁ c₂ = own-answer f c₁ c₂
+
+on-placed-answer : One on-placed′.Kinds.ps on-placed′.Kinds.r on-placed′.Reads.Learnt (λ κs r e. r)
+on-placed-answer κs x r₁ r₂ e₁ e₂ =
+    let rest = x .1 .1 .1 .1 .1 .1 .1 in
+    placed-answer (knownIn (now (x .0)) (now (x .1 .0)) (now (x .1 .1 .0))) (x .1 .1 .1 .0) (digitsOf (x .1 .1 .1 .1 .0)) (x .1 .1 .1 .1 .1 .0)
+    (lent (now (rest .0)) (now (rest .1 .0)) (now (rest .1 .1 .0)) (now (rest .1 .1 .1 .0)))
+    _ _ (now (rest .1 .1 .1 .1 .0)) _ _ r₁ r₂ (eqb (x .1 .1 .1 .1 .1 .0 .part) 1) (formIn (now (x .0)) (x .1 .1 .1 .1 .1 .1 .0))
