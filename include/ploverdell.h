@@ -12,8 +12,8 @@
  * - What is lent to be written (table, out, *count) overlaps nothing else that the same call is lent, the spool among it.
  * - A table, and *count, is aligned to 8 bytes, as C aligns an int64_t.
  * - Nobody else writes what is lent, and nobody reads the table, the output or *count, till the call returns.
- * - The stack has room. Measured (bench/FIGURES.md): 85,440 bytes for ploverdell_check, 65,536 of them its table; 20,016 for
- *   ploverdell_read and 23,288 for ploverdell_rewrite beside what is lent. A thread of 96 KB holds each.
+ * - The stack has room. Measured (bench/FIGURES.md): 85,948 bytes for ploverdell_check, 65,536 of them its table; 20,476 for
+ *   ploverdell_read and 20,992 for ploverdell_rewrite beside what is lent. A thread of 96 KB holds each.
  * Calls share nothing and keep nothing, so any number of them may run at once, in as many threads. */
 #ifndef PLOVERDELL_H
 #define PLOVERDELL_H

@@ -26,12 +26,11 @@ use Rattle.account.specs.declared.Now.{Now}
 use Rattle.account.specs.declared.Where.{Where}
 use Rattle.account.specs.declared.Step.{Step}
 use Rattle.account.specs.declared.Step.the-variants as S
-use Rattle.account.specs.Records.{hasRoom}
 use Rattle.account.specs.Account.{atBlock, headAt}
 use Rattle.account.specs.TopLines.{layersOf}
 use Rattle.tables.specs.Numbering.{tableDrawing}
 use Rattle.account.specs.Numbering.{blockTop, blockDrawing, blockLayerNames, tallyLayers}
-use Rattle.rules.specs.RecordTable.{width, kindLayer}
+use Rattle.rules.specs.RecordTable.{kindLayer}
 
 -- ── DRAWING_FORMAT ──
 -- "`floor_height`, exactly when arc is 001": the range of this table is arc; the marks are those of its eight rows
@@ -78,62 +77,60 @@ layerTaken n =
       part = n .part;
       layered = n .layered;
       owner = n .owner;
-      own = n .own;
-      free = n .free + width;
+      records = n .records + 1;
       figures = n .figures;
       points = n .points;
     }
 
 -- "5 layer: letter's byte, number, name", with the name's two numbers
-abbrev pub layerPut : ℕ → ℕ → Where → List ℕ → List ℤ → List ℤ → List ℤ
-layerPut w n at id name t = sets (headAt w kindLayer n at t) (w + 5) (pos (getD id 0 0) ∷ pos (value (drop 2 id)) ∷ name)
+abbrev pub layerPut : ℕ → Where → List ℕ → List ℤ → List ℤ → List ℤ
+layerPut n at id name rec = sets (headAt 0 kindLayer n at rec) 5 (pos (getD id 0 0) ∷ pos (value (drop 2 id)) ∷ name)
 
 -- on return: one more layer, its name behind the others, its record
-pub record LayerIn (s : List ℕ) (w : ℕ) (at : Where) (id : List ℕ) (name : List ℤ) (tally₀ tally₁ layers₀ layers₁ : List ℕ) (t₀ t₁ : List ℤ) : Type 0 where
+pub record LayerIn (s : List ℕ) (at : Where) (id : List ℕ) (name : List ℤ) (tally₀ tally₁ layers₀ layers₁ : List ℕ) (rec₀ rec₁ : List ℤ) : Type 0 where
   pub tally : tally₁ ≡ set tally₀ tallyLayers (layersOf tally₀ + 1)
   pub names : namesIn s (take (layersOf tally₀ + 1) layers₁) ≡ namesIn s (take (layersOf tally₀) layers₀) ++ (id ∷ [])
-  pub table : t₁ ≡ layerPut w (layersOf tally₀) at id name t₀
+  pub rec : rec₁ ≡ layerPut (layersOf tally₀) at id name rec₀
 
 -- "A misspelt id is 6"; every content is a layer's name; one line too many is 11, a layer declared twice 14
-abbrev pub layerGot : List ℕ → List ℕ → List ℕ → ℕ → List ℤ → List ℕ → Rest → Got Value
-layerGot s tally layers w t id c =
+abbrev pub layerGot : List ℕ → List ℕ → List ℕ → List ℕ → Rest → Got Value
+layerGot s tally layers id c =
     unless (isLayerId id) 6
     (andThen (layerValue id (freeShapeOf c)) λ v.
     unless (ltb (layersOf tally) mostLayers) 11
     (unless (not (among id (namesIn s (take (layersOf tally) layers)))) 14
-    (unless (hasRoom w t) 19
-    (got v))))
+    (got v)))
 
 abbrev pub layerStep : Now → Got Value → Step
 layerStep n (got v) = S.Go (layerTaken n)
 layerStep n (bad k) = S.Stop k
 
 -- after a refusal nothing is said of what was lent
-abbrev pub LayerOn : List ℕ → ℕ → Where → List ℕ → List ℕ → List ℕ → List ℕ → List ℕ → List ℤ → List ℤ → Got Value → Type 0
-LayerOn s w at id tally₀ tally₁ layers₀ layers₁ t₀ t₁ (got v) = LayerIn s w at id (padded 2 (numbers v)) tally₀ tally₁ layers₀ layers₁ t₀ t₁
-LayerOn s w at id tally₀ tally₁ layers₀ layers₁ t₀ t₁ (bad k) = Unit {0}
+abbrev pub LayerOn : List ℕ → Where → List ℕ → List ℕ → List ℕ → List ℕ → List ℕ → List ℤ → List ℤ → Got Value → Type 0
+LayerOn s at id tally₀ tally₁ layers₀ layers₁ rec₀ rec₁ (got v) = LayerIn s at id (padded 2 (numbers v)) tally₀ tally₁ layers₀ layers₁ rec₀ rec₁
+LayerOn s at id tally₀ tally₁ layers₀ layers₁ rec₀ rec₁ (bad k) = Unit {0}
 
-pub record LayerLine (s : List ℕ) (n : Now) (at : Where) (id : List ℕ) (tally₀ tally₁ layers₀ layers₁ : List ℕ) (t₀ t₁ : List ℤ) (g : Got Value)
+pub record LayerLine (s : List ℕ) (n : Now) (at : Where) (id : List ℕ) (tally₀ tally₁ layers₀ layers₁ : List ℕ) (rec₀ rec₁ : List ℤ) (g : Got Value)
     (r : Step) : Type 0 where
   pub answer : r ≡ layerStep n g
-  pub lent : LayerOn s (n .free) at id tally₀ tally₁ layers₀ layers₁ t₀ t₁ g
+  pub lent : LayerOn s at id tally₀ tally₁ layers₀ layers₁ rec₀ rec₁ g
 
 -- ── a line in `layer_name` ──
-abbrev pub namesStep : List ℕ → Now → List ℕ → List ℕ → List ℤ → Form → Step
-namesStep s n tally layers t ignored = S.Go n
-namesStep s n tally layers t (wrong m) = S.Stop m
-namesStep s n tally layers t close = S.Go (atBlock n blockDrawing 0)
-namesStep s n tally layers t eof = S.Stop 9
-namesStep s n tally layers t (keyed k c) = layerStep n (layerGot s tally layers (n .free) t k c)
+abbrev pub namesStep : List ℕ → Now → List ℕ → List ℕ → Form → Step
+namesStep s n tally layers ignored = S.Go n
+namesStep s n tally layers (wrong m) = S.Stop m
+namesStep s n tally layers close = S.Go (atBlock n blockDrawing 0)
+namesStep s n tally layers eof = S.Stop 9
+namesStep s n tally layers (keyed k c) = layerStep n (layerGot s tally layers k c)
 
 abbrev pub NamesOn : List ℕ → Now → Where → List ℕ → List ℕ → List ℕ → List ℕ → List ℤ → List ℤ → Form → Type 0
-NamesOn s n at tally₀ tally₁ layers₀ layers₁ t₀ t₁ ignored = (tally₁ ≡ tally₀) × (layers₁ ≡ layers₀) × (t₁ ≡ t₀)
-NamesOn s n at tally₀ tally₁ layers₀ layers₁ t₀ t₁ (wrong m) = Unit {0}
-NamesOn s n at tally₀ tally₁ layers₀ layers₁ t₀ t₁ close = (tally₁ ≡ tally₀) × (layers₁ ≡ layers₀) × (t₁ ≡ t₀)
-NamesOn s n at tally₀ tally₁ layers₀ layers₁ t₀ t₁ eof = Unit {0}
-NamesOn s n at tally₀ tally₁ layers₀ layers₁ t₀ t₁ (keyed k c) =
-    LayerOn s (n .free) at k tally₀ tally₁ layers₀ layers₁ t₀ t₁ (layerGot s tally₀ layers₀ (n .free) t₀ k c)
+NamesOn s n at tally₀ tally₁ layers₀ layers₁ rec₀ rec₁ ignored = (tally₁ ≡ tally₀) × (layers₁ ≡ layers₀) × (rec₁ ≡ rec₀)
+NamesOn s n at tally₀ tally₁ layers₀ layers₁ rec₀ rec₁ (wrong m) = Unit {0}
+NamesOn s n at tally₀ tally₁ layers₀ layers₁ rec₀ rec₁ close = (tally₁ ≡ tally₀) × (layers₁ ≡ layers₀) × (rec₁ ≡ rec₀)
+NamesOn s n at tally₀ tally₁ layers₀ layers₁ rec₀ rec₁ eof = Unit {0}
+NamesOn s n at tally₀ tally₁ layers₀ layers₁ rec₀ rec₁ (keyed k c) =
+    LayerOn s at k tally₀ tally₁ layers₀ layers₁ rec₀ rec₁ (layerGot s tally₀ layers₀ k c)
 
-pub record NamesLine (s : List ℕ) (n : Now) (at : Where) (f : Form) (tally₀ tally₁ layers₀ layers₁ : List ℕ) (t₀ t₁ : List ℤ) (r : Step) : Type 0 where
-  pub answer : r ≡ namesStep s n tally₀ layers₀ t₀ f
-  pub lent : NamesOn s n at tally₀ tally₁ layers₀ layers₁ t₀ t₁ f
+pub record NamesLine (s : List ℕ) (n : Now) (at : Where) (f : Form) (tally₀ tally₁ layers₀ layers₁ : List ℕ) (rec₀ rec₁ : List ℤ) (r : Step) : Type 0 where
+  pub answer : r ≡ namesStep s n tally₀ layers₀ f
+  pub lent : NamesOn s n at tally₀ tally₁ layers₀ layers₁ rec₀ rec₁ f

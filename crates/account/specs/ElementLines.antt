@@ -16,7 +16,7 @@ use Rattle.account.specs.Numbering.{blockTop, blockFigures, tallyHere, t
 -- ── a layer opens ──
 -- it has no figures yet
 abbrev pub layerOpened : Now → ℕ → Now
-layerOpened n layer = record { block = blockFigures; part = 0; layered = true; owner = layer; own = n .own; free = n .free; figures = 0; points = 0 }
+layerOpened n layer = record { block = blockFigures; part = 0; layered = true; owner = layer; records = n .records; figures = 0; points = 0 }
 
 -- "14: layer used twice"
 abbrev pub openLayer : Now → ℕ → List Bool → Step

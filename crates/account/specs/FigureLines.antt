@@ -1,4 +1,4 @@
--- A line among the figures of a layer or of a symbol's `element`: what it answers, and what it leaves in the table and the marks.
+-- A line among the figures of a layer or of a symbol's `element`: what it answers, and what it leaves in the lent record and the marks.
 use Prim.Native.Nat.{ℕ, _+_}
 use mathlib.Core.Bool.{Bool, false, cond}
 use mathlib.Core.Path.{_≡_}
@@ -9,16 +9,14 @@ use lib.ListN.{length, replicate}
 use Rattle.rules.specs.Rows.{Rule, Act, stay, entry, begin, shut, refuse}
 use Rattle.rules.specs.RecordTable.{ruleAt}
 use Rattle.tables.specs.Tables.{tableOf}
-use Rattle.entries.specs.Acts.{putLine}
 use Rattle.account.specs.declared.Now.{Now}
 use Rattle.account.specs.declared.Where.{Where}
 use Rattle.account.specs.declared.Step.{Step}
 use Rattle.account.specs.declared.Step.the-variants as S
-use Rattle.account.specs.Records.{partAt, withPart}
-use Rattle.account.specs.Account.{atBlock, headAt}
+use Rattle.account.specs.Account.{atBlock, recordMade}
 use Rattle.tables.specs.Numbering.{tableLayer, tableSingleLayer, tableFigures}
 use Rattle.account.specs.Numbering.{blockSymbol, blockElements, blockFigures}
-use Rattle.rules.specs.RecordTable.{width, kindLine, inSymbol}
+use Rattle.rules.specs.RecordTable.{kindLine, inSymbol}
 
 -- ── the table ──
 -- the figures that may stand here: "E_symbol: placed symbol, in layers only", "At range 001 it is `E_symbol=`"
@@ -40,10 +38,6 @@ lineKind layered row = cond layered (kindLine + row) (kindLine + inSymbol + row)
 abbrev pub blockKind : Bool → ℕ → ℕ
 blockKind layered block = cond layered (13 + block) (33 + block)
 
--- the next record, with the line's values and its head
-abbrev pub figureAt : Now → Where → ℕ → Rule → Rattle.rules.specs.Values.Value → List ℤ → List ℤ
-figureAt n at kind r v t = headAt (n .free) kind (n .owner) at (withPart (n .free) (putLine r 0 v (partAt (n .free) t)) t)
-
 -- ── what is open ──
 abbrev pub moreFigures : Now → Now
 moreFigures n =
@@ -52,8 +46,7 @@ moreFigures n =
       part = n .part;
       layered = n .layered;
       owner = n .owner;
-      own = n .own;
-      free = n .free + width;
+      records = n .records + 1;
       figures = n .figures + 1;
       points = n .points;
     }
@@ -66,8 +59,7 @@ figureOpened n i =
       part = 0;
       layered = n .layered;
       owner = n .owner;
-      own = n .own;
-      free = n .free + width;
+      records = n .records + 1;
       figures = n .figures;
       points = 0;
     }
@@ -84,13 +76,13 @@ figureStep n (begin i j v) = S.Go (figureOpened n i)
 figureStep n shut = figuresClosed n
 figureStep n (refuse k) = S.Stop k
 
--- the lent table after the line; after a refusal nothing is said of it
-abbrev pub FigureTable : Now → ℕ → Where → List ℤ → List ℤ → Act → Type 0
-FigureTable n range at t₀ t₁ stay = t₁ ≡ t₀
-FigureTable n range at t₀ t₁ (entry j v) = t₁ ≡ figureAt n at (lineKind (n .layered) j) (homeRule (n .layered) range j) v t₀
-FigureTable n range at t₀ t₁ (begin i j v) = t₁ ≡ figureAt n at (blockKind (n .layered) i) (homeRule (n .layered) range j) v t₀
-FigureTable n range at t₀ t₁ shut = t₁ ≡ t₀
-FigureTable n range at t₀ t₁ (refuse k) = Unit {0}
+-- the lent record after the line; after a refusal nothing is said of it
+abbrev pub FigureRecord : Now → ℕ → Where → List ℤ → List ℤ → Act → Type 0
+FigureRecord n range at rec₀ rec₁ stay = rec₁ ≡ rec₀
+FigureRecord n range at rec₀ rec₁ (entry j v) = rec₁ ≡ recordMade (lineKind (n .layered) j) n at (homeRule (n .layered) range j) v rec₀
+FigureRecord n range at rec₀ rec₁ (begin i j v) = rec₁ ≡ recordMade (blockKind (n .layered) i) n at (homeRule (n .layered) range j) v rec₀
+FigureRecord n range at rec₀ rec₁ shut = rec₁ ≡ rec₀
+FigureRecord n range at rec₀ rec₁ (refuse k) = Unit {0}
 
 -- the marks of the rows of a block: none stands when it opens
 abbrev pub unmarkedIf : Bool → List Bool → List Bool
@@ -105,8 +97,8 @@ MarksFor block m₀ m₁ shut = m₁ ≡ m₀
 MarksFor block m₀ m₁ (refuse k) = m₁ ≡ m₀
 
 -- what `on_figures` promises: a placed symbol has the first marks, a text the inner ones
-pub record FigureLine (a : Act) (n : Now) (range : ℕ) (at : Where) (t₀ t₁ : List ℤ) (m₀ m₁ inner₀ inner₁ : List Bool) (r : Step) : Type 0 where
+pub record FigureLine (a : Act) (n : Now) (range : ℕ) (at : Where) (rec₀ rec₁ : List ℤ) (m₀ m₁ inner₀ inner₁ : List Bool) (r : Step) : Type 0 where
   pub answer : r ≡ figureStep n a
-  pub table : FigureTable n range at t₀ t₁ a
+  pub rec : FigureRecord n range at rec₀ rec₁ a
   pub marks : MarksFor 3 m₀ m₁ a
   pub inner : MarksFor 2 inner₀ inner₁ a

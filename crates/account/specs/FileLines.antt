@@ -6,7 +6,7 @@ use mathlib.Core.List.{List, [], _∷_, map}
 use lib.Dec.{eqb, ltb}
 use lib.IntN.{ℤ, pos, negsuc, natAbs}
 use lib.ListN.{length, getD, set, take, drop}
-use lib.Seq.{sets, paste}
+use lib.Seq.{sets}
 use Rattle.rules.specs.Base.{all, same}
 use Rattle.rules.specs.Lines.{span, bytesAt}
 use Rattle.rules.specs.Values.{capital}
@@ -128,18 +128,14 @@ abbrev pub closedTally : Bool → List ℤ → List ℕ → List ℕ
 closedTally true h tally = firstTally h tally
 closedTally false h tally = laterTally h tally
 
--- "1 header", and "2 volume: this_line, this_ele; after the header": they were taken at the opening line
+-- "1 header", and "2 volume: this_line, this_ele; after the header"
 abbrev pub fileWidth : Bool → ℕ
 fileWidth true = width + width
 fileWidth false = width
 
-abbrev pub closedTable : Bool → Now → List ℤ → List ℤ → List ℤ
-closedTable first n h t = paste t (n .free - fileWidth first) h (fileWidth first)
-
-pub record FileClosed (s following : List ℕ) (first : Bool) (n : Now) (h : List ℤ) (tally₀ tally₁ : List ℕ) (t₀ t₁ : List ℤ) (r : Step) : Type 0 where
+pub record FileClosed (s following : List ℕ) (first : Bool) (n : Now) (h : List ℤ) (tally₀ tally₁ : List ℕ) (r : Step) : Type 0 where
   pub answer : r ≡ closedFile s following first n tally₀ h
   pub tally : agrees s following first tally₀ h ≡ true → tally₁ ≡ closedTally first h tally₀
-  pub table : agrees s following first tally₀ h ≡ true → t₁ ≡ closedTable first n h t₀
 
 -- ── a line ──
 abbrev pub shutFile : ℕ → Step → Now → Step
@@ -168,31 +164,27 @@ FileHeader first p h₀ h₁ (begin i j v) = h₁ ≡ putLine (ruleAt (tableOf (
 FileHeader first p h₀ h₁ shut = h₁ ≡ h₀
 FileHeader first p h₀ h₁ (refuse k) = Unit {0}
 
--- FILE_FORMAT's own close changes the tally and the table, where the volume agrees with the set; no other line does
-abbrev pub Shut : {A : Type 0} → ℕ → Bool → A → A → A → Type 0
+-- FILE_FORMAT's own close changes the tally, where the volume agrees with the set; no other line does
+abbrev pub Shut : ℕ → Bool → List ℕ → List ℕ → List ℕ → Type 0
 Shut zero b x₀ x₁ x = b ≡ true → x₁ ≡ x
 Shut (suc p) b x₀ x₁ x = x₁ ≡ x₀
 
-abbrev pub AtShut : {A : Type 0} → ℕ → Bool → A → A → A → Act → Type 0
+abbrev pub AtShut : ℕ → Bool → List ℕ → List ℕ → List ℕ → Act → Type 0
 AtShut p b x₀ x₁ x stay = x₁ ≡ x₀
 AtShut p b x₀ x₁ x (entry j v) = x₁ ≡ x₀
 AtShut p b x₀ x₁ x (begin i j v) = x₁ ≡ x₀
 AtShut p b x₀ x₁ x shut = Shut p b x₀ x₁ x
 AtShut p b x₀ x₁ x (refuse k) = Unit {0}
 
-pub record FileLine (a : Act) (s following : List ℕ) (first : Bool) (n : Now) (tally₀ tally₁ : List ℕ) (m₀ m₁ : List Bool) (h₀ h₁ t₀ t₁ : List ℤ)
-    (r : Step) : Type 0 where
+pub record FileLine (a : Act) (s following : List ℕ) (first : Bool) (n : Now) (tally₀ tally₁ : List ℕ) (m₀ m₁ : List Bool) (h₀ h₁ : List ℤ) (r : Step) : Type 0 where
   pub answer : r ≡ fileStep s following first n tally₀ h₀ a
   pub tally : AtShut (n .part) (agrees s following first tally₀ h₀) tally₀ tally₁ (closedTally first h₀ tally₀) a
   pub marks : FileMarks (n .part) m₀ m₁ a
   pub header : FileHeader first (n .part) h₀ h₁ a
-  pub table : AtShut (n .part) (agrees s following first tally₀ h₀) t₀ t₁ (closedTable first n h₀ t₀) a
 
 -- what a line finds
-pub record FileReady (first : Bool) (n : Now) (tally : List ℕ) (m : List Bool) (h t : List ℤ) : Type 0 where
+pub record FileReady (first : Bool) (n : Now) (tally : List ℕ) (m : List Bool) (h : List ℤ) : Type 0 where
   pub part : PartOpen first (n .part)
   pub twelve : length tally ≡ tallyLength
   pub marks : length m ≡ mostRows
   pub header : Header h
-  pub taken : fileWidth first ≤ n .free
-  pub inside : n .free ≤ length t

@@ -14,4 +14,4 @@ pub mod ElementLines
 pub mod FigureLines
 pub mod SymbolLines
 pub mod PlacedLines
-pub mod TableApart
+pub mod Putting

@@ -96,9 +96,13 @@ mostRows = 28
 abbrev pub headerLength : ℕ
 headerLength = 70
 
--- the scratch of three records (`TableApart`)
+-- the scratch of three records: the open drawing's or symbol's own, the open figure's or a line's, a point's of the open `successive`
 abbrev pub scratchLength : ℕ
 scratchLength = 96
+
+-- what a line of a `successive` is lent of it: its own record and the point's
+abbrev pub chainLength : ℕ
+chainLength = 64
 
 -- the symbols' names, no spool has more
 abbrev pub mostSymbols : ℕ

@@ -19,11 +19,10 @@ use Rattle.account.specs.declared.Now.{Now}
 use Rattle.account.specs.declared.Step.{Step}
 use Rattle.account.specs.declared.Step.the-variants as S
 use Rattle.account.specs.declared.Where.{Where}
-use Rattle.account.specs.Records.{hasRoom}
 use Rattle.account.specs.Account.{atBlock, headAt}
 use Rattle.tables.specs.Numbering.{tableSymbol}
 use Rattle.account.specs.Numbering.{blockTop, blockDefines, blockSymbol, blockHide, blockFigures}
-use Rattle.rules.specs.RecordTable.{width, kindSymbol}
+use Rattle.rules.specs.RecordTable.{kindSymbol}
 
 -- ── SYMBOL_DEFINE ──
 -- `NON=` was read
@@ -36,11 +35,11 @@ nonRead n count = cond (eqb count 0) (S.Go (atBlock n blockDefines 1)) (S.Stop 6
 
 -- a symbol is begun: its record, and nothing in it
 abbrev pub symbolOpened : Now → ℕ → Now
-symbolOpened n count = record { block = blockSymbol; part = 0; layered = false; owner = count; own = n .free; free = n .free + width; figures = 0; points = 0 }
+symbolOpened n count = record { block = blockSymbol; part = 0; layered = false; owner = count; records = n .records + 1; figures = 0; points = 0 }
 
--- 6 where `NON=` was read; "19: record doesn't fit the table"
-abbrev pub openSymbol : Now → ℕ → Bool → Step
-openSymbol n count room = cond (nonIn n) (S.Stop 6) (cond room (S.Go (symbolOpened n count)) (S.Stop 19))
+-- 6 where `NON=` was read
+abbrev pub openSymbol : Now → ℕ → Step
+openSymbol n count = cond (nonIn n) (S.Stop 6) (S.Go (symbolOpened n count))
 
 -- `NON=` or a symbol was read; neither is 8
 abbrev pub definedIn : Now → ℕ → Bool
@@ -49,38 +48,37 @@ definedIn n count = nonIn n || not (eqb count 0)
 abbrev pub closeDefines : Now → ℕ → Step
 closeDefines n count = cond (definedIn n count) (S.Go (atBlock n blockTop 3)) (S.Stop 8)
 
-abbrev pub definesStep : Now → ℕ → Bool → Act → Step
-definesStep n count room stay = S.Go n
-definesStep n count room (entry j v) = nonRead n count
-definesStep n count room (begin i j v) = openSymbol n count room
-definesStep n count room shut = closeDefines n count
-definesStep n count room (refuse k) = S.Stop k
+abbrev pub definesStep : Now → ℕ → Act → Step
+definesStep n count stay = S.Go n
+definesStep n count (entry j v) = nonRead n count
+definesStep n count (begin i j v) = openSymbol n count
+definesStep n count shut = closeDefines n count
+definesStep n count (refuse k) = S.Stop k
 
--- the marks and the table after the opening of a symbol that was not refused: "4 symbol"; nothing of it has been
-pub record SymbolBegun (n : Now) (count : ℕ) (at : Where) (m₀ m₁ : List Bool) (t₀ t₁ : List ℤ) : Type 0 where
+-- the marks and the lent record after the opening of a symbol that was not refused: "4 symbol"; nothing of it has been
+pub record SymbolBegun (count : ℕ) (at : Where) (m₀ m₁ : List Bool) (rec₀ rec₁ : List ℤ) : Type 0 where
   pub marks : m₁ ≡ replicate (length m₀) false
-  pub table : t₁ ≡ headAt (n .free) kindSymbol count at t₀
+  pub rec : rec₁ ≡ headAt 0 kindSymbol count at rec₀
 
-pub record Untouched (m₀ m₁ : List Bool) (t₀ t₁ : List ℤ) : Type 0 where
+pub record Untouched (m₀ m₁ : List Bool) (rec₀ rec₁ : List ℤ) : Type 0 where
   pub marks : m₁ ≡ m₀
-  pub table : t₁ ≡ t₀
+  pub rec : rec₁ ≡ rec₀
 
 -- after a refusal nothing is said of them
-abbrev pub OpenedOr : Bool → Bool → Type 0 → Type 0
-OpenedOr true room a = Unit {0}
-OpenedOr false true a = a
-OpenedOr false false a = Unit {0}
+abbrev pub OpenedOr : Bool → Type 0 → Type 0
+OpenedOr true a = Unit {0}
+OpenedOr false a = a
 
-abbrev pub DefinesTable : Now → ℕ → Where → List Bool → List Bool → List ℤ → List ℤ → Act → Type 0
-DefinesTable n count at m₀ m₁ t₀ t₁ stay = Untouched m₀ m₁ t₀ t₁
-DefinesTable n count at m₀ m₁ t₀ t₁ (entry j v) = Untouched m₀ m₁ t₀ t₁
-DefinesTable n count at m₀ m₁ t₀ t₁ (begin i j v) = OpenedOr (nonIn n) (hasRoom (n .free) t₀) (SymbolBegun n count at m₀ m₁ t₀ t₁)
-DefinesTable n count at m₀ m₁ t₀ t₁ shut = Untouched m₀ m₁ t₀ t₁
-DefinesTable n count at m₀ m₁ t₀ t₁ (refuse k) = Unit {0}
+abbrev pub DefinesRecord : Now → ℕ → Where → List Bool → List Bool → List ℤ → List ℤ → Act → Type 0
+DefinesRecord n count at m₀ m₁ rec₀ rec₁ stay = Untouched m₀ m₁ rec₀ rec₁
+DefinesRecord n count at m₀ m₁ rec₀ rec₁ (entry j v) = Untouched m₀ m₁ rec₀ rec₁
+DefinesRecord n count at m₀ m₁ rec₀ rec₁ (begin i j v) = OpenedOr (nonIn n) (SymbolBegun count at m₀ m₁ rec₀ rec₁)
+DefinesRecord n count at m₀ m₁ rec₀ rec₁ shut = Untouched m₀ m₁ rec₀ rec₁
+DefinesRecord n count at m₀ m₁ rec₀ rec₁ (refuse k) = Unit {0}
 
-pub record DefinesLine (a : Act) (n : Now) (count : ℕ) (at : Where) (m₀ m₁ : List Bool) (t₀ t₁ : List ℤ) (r : Step) : Type 0 where
-  pub answer : r ≡ definesStep n count (hasRoom (n .free) t₀) a
-  pub table : DefinesTable n count at m₀ m₁ t₀ t₁ a
+pub record DefinesLine (a : Act) (n : Now) (count : ℕ) (at : Where) (m₀ m₁ : List Bool) (rec₀ rec₁ : List ℤ) (r : Step) : Type 0 where
+  pub answer : r ≡ definesStep n count a
+  pub rec : DefinesRecord n count at m₀ m₁ rec₀ rec₁ a
 
 -- ── a symbol ──
 -- a number of a record as a place in the spool, or as a length; every such number is below 65,536
@@ -117,8 +115,8 @@ symbolEntry s symbols n j rec = cond (eqb j 0 && not (isNew s symbols (nameOf re
 -- `element` is open, or `hide`
 abbrev pub symbolPart : Now → ℕ → Now
 symbolPart n i =
-    cond (eqb i 1) (record { block = blockFigures; part = 0; layered = false; owner = n .owner; own = n .own; free = n .free; figures = 0; points = 0 })
-    (record { block = blockHide; part = 0; layered = false; owner = n .owner; own = n .own; free = n .free; figures = n .figures; points = 0 })
+    cond (eqb i 1) (record { block = blockFigures; part = 0; layered = false; owner = n .owner; records = n .records; figures = 0; points = 0 })
+    (record { block = blockHide; part = 0; layered = false; owner = n .owner; records = n .records; figures = n .figures; points = 0 })
 
 -- the record after the line of row j
 abbrev pub symbolPut : List ℤ → ℕ → Value → List ℤ

@@ -3,7 +3,7 @@ use Prim.Native.Nat.{ℕ, zero, suc, _+_}
 use mathlib.Core.Bool.{Bool, true, false, _&&_}
 use mathlib.Core.Path.{_≡_}
 use mathlib.Core.List.{List}
-use lib.Dec.{eqb, leb}
+use lib.Dec.{eqb}
 use lib.IntN.{ℤ, pos}
 use lib.ListN.{length, getD, take, replicate}
 use Rattle.rules.specs.Base.{all}
@@ -65,14 +65,14 @@ pub record TopLent : Type 0 where
   pub marks : List Bool
   pub used : List Bool
   pub header : List ℤ
-  pub table : List ℤ
+  pub rec : List ℤ
 
 abbrev pub topLent : List Bool → List Bool → List ℤ → List ℤ → TopLent
-topLent marks used header table = record { marks = marks; used = used; header = header; table = table }
+topLent marks used header rec = record { marks = marks; used = used; header = header; rec = rec }
 
--- its own record is the next one, and it takes so many numbers
-abbrev pub recordTaken : Now → ℕ → ℕ → Now
-recordTaken n block size = record { block = block; part = 0; layered = false; owner = 0; own = n .free; free = n .free + size; figures = 0; points = 0 }
+-- it takes so many records
+abbrev pub recordsTaken : Now → ℕ → ℕ → Now
+recordsTaken n block more = record { block = block; part = 0; layered = false; owner = 0; records = n .records + more; figures = 0; points = 0 }
 
 abbrev pub unmarked : List Bool → List Bool
 unmarked marks = replicate (length marks) false
@@ -83,61 +83,58 @@ headerBegun true at h = headAt width kindVolume 0 at (headAt 0 kindHeader 0 at (
 headerBegun false at h = headAt 0 kindVolume 0 at (replicate (length h) (pos 0))
 
 -- FILE_FORMAT takes two records in the first volume, and one in others
-abbrev pub fileSize : Bool → ℕ
-fileSize true = width + width
-fileSize false = width
-
-abbrev pub takingNow : Now → ℕ → ℕ → List ℤ → Got Now
-takingNow n block size t = unless (leb (n .free + size) (length t)) 19 (got (recordTaken n block size))
+abbrev pub fileTakes : Bool → ℕ
+fileTakes true = 2
+fileTakes false = 1
 
 -- the blocks by the rows of the table: FILE_FORMAT, DRAWING_FORMAT, SYMBOL_DEFINE, ELEMENT
-abbrev pub openedNow : Bool → Now → List ℤ → ℕ → Got Now
-openedNow first n t zero = takingNow n blockFile (fileSize first) t
-openedNow first n t (suc zero) = takingNow n blockDrawing width t
-openedNow first n t (suc (suc zero)) = got (atBlock n blockDefines 0)
-openedNow first n t (suc (suc (suc j))) = got (atBlock n blockElements 0)
+abbrev pub openedNow : Bool → Now → ℕ → Now
+openedNow first n zero = recordsTaken n blockFile (fileTakes first)
+openedNow first n (suc zero) = recordsTaken n blockDrawing 1
+openedNow first n (suc (suc zero)) = atBlock n blockDefines 0
+openedNow first n (suc (suc (suc j))) = atBlock n blockElements 0
 
-abbrev pub openedLent : Bool → Now → Where → ℕ → TopLent → TopLent
-openedLent first n at zero l = topLent (unmarked (l .marks)) (l .used) (headerBegun first at (l .header)) (l .table)
-openedLent first n at (suc zero) l = topLent (unmarked (l .marks)) (l .used) (l .header) (headAt (n .free) kindDrawing 0 at (l .table))
-openedLent first n at (suc (suc zero)) l = l
-openedLent first n at (suc (suc (suc j))) l = topLent (l .marks) (unmarked (l .used)) (l .header) (l .table)
+abbrev pub openedLent : Bool → Where → ℕ → TopLent → TopLent
+openedLent first at zero l = topLent (unmarked (l .marks)) (l .used) (headerBegun first at (l .header)) (l .rec)
+openedLent first at (suc zero) l = topLent (unmarked (l .marks)) (l .used) (l .header) (headAt 0 kindDrawing 0 at (l .rec))
+openedLent first at (suc (suc zero)) l = l
+openedLent first at (suc (suc (suc j))) l = topLent (l .marks) (unmarked (l .used)) (l .header) (l .rec)
 
 -- "FILE_FORMAT, DRAWING_FORMAT, SYMBOL_DEFINE, ELEMENT, each once in this order"
-abbrev pub blockNow : Bool → Now → List ℤ → ℕ → Got Now
-blockNow first n t j = unless (eqb j (n .part)) 9 (openedNow first n t j)
+abbrev pub blockNow : Bool → Now → ℕ → Got Now
+blockNow first n j = unless (eqb j (n .part)) 9 (got (openedNow first n j))
 
 -- ── a line ──
 -- with a key, by what its act is
-abbrev pub keyNow : Bool → Now → List ℤ → Act → Got Now
-keyNow first n t stay = got n
-keyNow first n t (entry j v) = bad 5
-keyNow first n t (begin i j v) = blockNow first n t j
-keyNow first n t shut = bad 9
-keyNow first n t (refuse k) = bad k
+abbrev pub keyNow : Bool → Now → Act → Got Now
+keyNow first n stay = got n
+keyNow first n (entry j v) = bad 5
+keyNow first n (begin i j v) = blockNow first n j
+keyNow first n shut = bad 9
+keyNow first n (refuse k) = bad k
 
-abbrev pub keyLent : Bool → Now → Where → TopLent → Act → TopLent
-keyLent first n at l stay = l
-keyLent first n at l (entry j v) = l
-keyLent first n at l (begin i j v) = openedLent first n at j l
-keyLent first n at l shut = l
-keyLent first n at l (refuse k) = l
+abbrev pub keyLent : Bool → Where → TopLent → Act → TopLent
+keyLent first at l stay = l
+keyLent first at l (entry j v) = l
+keyLent first at l (begin i j v) = openedLent first at j l
+keyLent first at l shut = l
+keyLent first at l (refuse k) = l
 
 -- no row stands once: a block that comes twice is out of its order
 abbrev pub topAct : Known → Form → Act
 topAct k f = act k (tableOf tableTop) (digits 0 0) (replicate 4 false) f
 
 -- with any form
-abbrev pub topNow : Known → Bool → Now → Where → List ℕ → List Bool → List ℤ → Form → Got Now
-topNow k first n at tally used t ignored = got n
-topNow k first n at tally used t (wrong m) = bad m
-topNow k first n at tally used t close = bad 9
-topNow k first n at tally used t eof = eofNow n at tally used
-topNow k first n at tally used t (keyed key c) = keyNow first n t (topAct k (keyed key c))
+abbrev pub topNow : Known → Bool → Now → Where → List ℕ → List Bool → Form → Got Now
+topNow k first n at tally used ignored = got n
+topNow k first n at tally used (wrong m) = bad m
+topNow k first n at tally used close = bad 9
+topNow k first n at tally used eof = eofNow n at tally used
+topNow k first n at tally used (keyed key c) = keyNow first n (topAct k (keyed key c))
 
-abbrev pub topLentBy : Known → Bool → Now → Where → TopLent → Form → TopLent
-topLentBy k first n at l ignored = l
-topLentBy k first n at l (wrong m) = l
-topLentBy k first n at l close = l
-topLentBy k first n at l eof = l
-topLentBy k first n at l (keyed key c) = keyLent first n at l (topAct k (keyed key c))
+abbrev pub topLentBy : Known → Bool → Where → TopLent → Form → TopLent
+topLentBy k first at l ignored = l
+topLentBy k first at l (wrong m) = l
+topLentBy k first at l close = l
+topLentBy k first at l eof = l
+topLentBy k first at l (keyed key c) = keyLent first at l (topAct k (keyed key c))

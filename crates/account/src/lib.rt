@@ -1,5 +1,6 @@
 // What the reading of a set remembers between two lines, and, in specs/, what one line of each block does to it, as the code says it.
 use rules::Digits;
+use rules::LineForm;
 use rules::Refusal;
 use rules::Span;
 
@@ -60,13 +61,19 @@ pub struct Now {
     pub layered: bool,
     // the number of that layer or symbol
     pub owner: u32,
-    // the place of the drawing's or the symbol's own record
-    pub own: usize,
-    // the place of the next record
-    pub free: usize,
+    // how many records were taken so far
+    pub records: usize,
     // how many figures the layer or symbol has so far, and how many points the chain or `hide`
     pub figures: u32,
     pub points: u32,
+}
+
+// A line as it is read: what is open, its form, its place, and the class.
+pub struct LineAt {
+    pub here: Now,
+    pub form: LineForm,
+    pub at: Where,
+    pub class: Digits,
 }
 
 // The tally of a set, twelve numbers: the ranges arc, E_sym and S_elec;
@@ -103,8 +110,11 @@ pub const MOST_ROWS: usize = 28;
 // FILE_FORMAT's numbers;
 pub const HEADER_LENGTH: usize = 70;
 
-// the scratch of three records;
+// the scratch of three records: the open drawing's or symbol's own, the open figure's or a line's, a point's of the open `successive`;
 pub const SCRATCH_LENGTH: usize = 96;
+
+// and what a line of a `successive` is lent of it, its own record and the point's;
+pub const CHAIN_LENGTH: usize = 64;
 
 // the symbols' names, no spool has more;
 pub const MOST_SYMBOLS: usize = 1280;
@@ -117,6 +127,13 @@ pub enum Step {
     Go(Now),
     Skip(Now),
     Stop(u8),
+}
+
+// What a line made complete: nothing, the record that stands on the scratch at this place, or FILE_FORMAT's.
+pub enum Complete {
+    Nothing,
+    Record(usize),
+    Header,
 }
 
 // A block read to its end, or the refusal.

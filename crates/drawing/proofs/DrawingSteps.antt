@@ -46,7 +46,6 @@ use Rattle.account.specs.declared.Now.{Now}
 use Rattle.account.specs.declared.Where.{Where}
 use Rattle.account.specs.declared.Step.{Step}
 use Rattle.account.specs.declared.Step.the-variants as S
-use Rattle.account.specs.Records.{hasRoom}
 use Rattle.account.specs.Account.{atBlock, headAt}
 use Rattle.account.specs.TopLines.{Answered, layersOf}
 use Rattle.account.specs.DrawingLines.{drawingAct, drawingNow, drawingMarks, drawingPut, nameOf, layerTaken, layerPut, LayerIn, layerGot, layerStep, LayerOn, LayerLine, NamesLine}
@@ -229,29 +228,26 @@ names-more s (m ∷ ns) zero p h = refl
 names-more s (m ∷ ns) (suc n) p h = ap (λ (us : List (List ℕ)). nameIn s m ∷ us) (names-more s ns n p (omega arith))
 
 -- ── a layer's record ──
-module _ (u : List ℤ) (w : ℕ) (h : w + 32 ≤ length u) (a b c : ℤ) where
-  pub store-2 : w + 6 < length (set u (w + 5) a)
-  store-2 = omega (arith, length-set u (w + 5) a)
+module _ (u : List ℤ) (h : length u ≡ 32) (a b c : ℤ) where
+  pub store-2 : 6 < length (set u 5 a)
+  store-2 = omega (arith, length-set u 5 a)
 
-  pub store-3 : w + 7 < length (set (set u (w + 5) a) (w + 6) b)
-  store-3 = omega (arith, length-set u (w + 5) a, length-set (set u (w + 5) a) (w + 6) b)
+  pub store-3 : 7 < length (set (set u 5 a) 6 b)
+  store-3 = omega (arith, length-set u 5 a, length-set (set u 5 a) 6 b)
 
-  pub store-4 : w + 8 < length (set (set (set u (w + 5) a) (w + 6) b) (w + 7) c)
-  store-4 = omega (arith, length-set u (w + 5) a, length-set (set u (w + 5) a) (w + 6) b, length-set (set (set u (w + 5) a) (w + 6) b) (w + 7) c)
+  pub store-4 : 8 < length (set (set (set u 5 a) 6 b) 7 c)
+  store-4 = omega (arith, length-set u 5 a, length-set (set u 5 a) 6 b, length-set (set (set u 5 a) 6 b) 7 c)
 
-pub layer-stores : (t u : List ℤ) (w number : ℕ) (at : Where) (id : List ℕ) (b c d : ℕ) → isLayerId id ≡ true → b ≡ value (drop 2 id) → c < 100000000000 → d < 100000000000 → u ≡ headAt w 5 number at t
-    → set (set (set (set u (w + 5) (toZ w64 (getD id 0 0))) (w + 6) (toZ w64 b)) (w + 7) (toZ w64 c)) (w + 8) (toZ w64 d) ≡ layerPut w number at id (pos c ∷ pos d ∷ []) t
-layer-stores t u w number at id b c d i q hc hd e =
-    let e1 : w + 6 ≡ suc (w + 5) = omega arith in
-    let e2 : w + 7 ≡ suc (suc (w + 5)) = omega arith in
-    let e3 : w + 8 ≡ suc (suc (suc (w + 5))) = omega arith in
-    rw (pos-back (getD id 0 0) (letter-fits id i), pos-back b (digits-fit id b i q), pos-back c hc, pos-back d hd, e1, e2, e3)
-    (ap (λ (v : List ℤ). sets v (w + 5) (pos (getD id 0 0) ∷ pos b ∷ pos c ∷ pos d ∷ [])) e ∙ ap (λ (n : ℕ). sets (headAt w 5 number at t) (w + 5) (pos (getD id 0 0) ∷ pos n ∷ pos c ∷ pos d ∷ [])) q)
+pub layer-stores : (rec u : List ℤ) (number : ℕ) (at : Where) (id : List ℕ) (b c d : ℕ) → isLayerId id ≡ true → b ≡ value (drop 2 id) → c < 100000000000 → d < 100000000000 → u ≡ headAt 0 5 number at rec
+    → set (set (set (set u 5 (toZ w64 (getD id 0 0))) 6 (toZ w64 b)) 7 (toZ w64 c)) 8 (toZ w64 d) ≡ layerPut number at id (pos c ∷ pos d ∷ []) rec
+layer-stores rec u number at id b c d i q hc hd e =
+    rw (pos-back (getD id 0 0) (letter-fits id i), pos-back b (digits-fit id b i q), pos-back c hc, pos-back d hd)
+    (ap (λ (v : List ℤ). sets v 5 (pos (getD id 0 0) ∷ pos b ∷ pos c ∷ pos d ∷ [])) e ∙ ap (λ (n : ℕ). sets (headAt 0 5 number at rec) 5 (pos (getD id 0 0) ∷ pos n ∷ pos c ∷ pos d ∷ [])) q)
 
-pub layer-in : (s : List ℕ) (w : ℕ) (at : Where) (key : Span) (name : List ℤ) (tally layers : List ℕ) (t t₁ : List ℤ) (id : List ℕ) → length s ≤ 61440 → length layers ≡ 64 → layersOf tally < 64
-    → isLayerId (bytesAt s key) ≡ true → id ≡ bytesAt s key → t₁ ≡ layerPut w (layersOf tally) at id name t
-    → LayerIn s w at (bytesAt s key) name tally (set tally 10 (layersOf tally + 1)) layers (set layers (layersOf tally) (key .at + 327680)) t t₁
-layer-in s w at key name tally layers t t₁ id l n c i e h =
+pub layer-in : (s : List ℕ) (at : Where) (key : Span) (name : List ℤ) (tally layers : List ℕ) (rec rec₁ : List ℤ) (id : List ℕ) → length s ≤ 61440 → length layers ≡ 64 → layersOf tally < 64
+    → isLayerId (bytesAt s key) ≡ true → id ≡ bytesAt s key → rec₁ ≡ layerPut (layersOf tally) at id name rec
+    → LayerIn s at (bytesAt s key) name tally (set tally 10 (layersOf tally + 1)) layers (set layers (layersOf tally) (key .at + 327680)) rec rec₁
+layer-in s at key name tally layers rec rec₁ id l n c i e h =
     let one-more : layersOf tally + 1 ≡ suc (layersOf tally) = omega arith in
     record {
       tally = refl;
@@ -259,70 +255,60 @@ layer-in s w at key name tally layers t t₁ id l n c i e h =
           ap (λ (m : ℕ). namesIn s (take m (set layers (layersOf tally) (key .at + 327680)))) one-more
           ∙ names-more s layers (layersOf tally) (key .at + 327680) (omega (arith, n, c))
           ∙ ap (λ (k : List ℕ). namesIn s (take (layersOf tally) layers) ++ (k ∷ [])) (id-name s key l i);
-      table = h ∙ ap (λ (k : List ℕ). layerPut w (layersOf tally) at k name t) e;
+      rec = h ∙ ap (λ (k : List ℕ). layerPut (layersOf tally) at k name rec) e;
     }
 
-pub no-record : (b : Bool) (n : Now) → b ≡ false → unless b 19 (got n) ≡ bad 19
-no-record b n e = rw e
-
-pub a-record : (b : Bool) (n : Now) → b ≡ true → unless b 19 (got n) ≡ got n
-a-record b n e = rw e
-
 -- ── a layer's line ──
-module _ (s : List ℕ) (n : Now) (at : Where) (id : List ℕ) (c : Rest) (tally layers : List ℕ) (t : List ℤ) where
+module _ (s : List ℕ) (n : Now) (at : Where) (id : List ℕ) (c : Rest) (tally layers : List ℕ) (rec : List ℤ) where
   abbrev judgement : Got Value
-  judgement = layerGot s tally layers (n .free) t id c
+  judgement = layerGot s tally layers id c
 
-  layer-refused : (k : ℕ) (tally₁ layers₁ : List ℕ) (t₁ : List ℤ) → judgement ≡ bad k → LayerLine s n at id tally tally₁ layers layers₁ t t₁ judgement (S.Stop k)
-  layer-refused k tally₁ layers₁ t₁ e = record { answer = sym (ap (layerStep n) e); lent = subst (LayerOn s (n .free) at id tally tally₁ layers layers₁ t t₁) (sym e) tt }
+  layer-refused : (k : ℕ) (tally₁ layers₁ : List ℕ) (rec₁ : List ℤ) → judgement ≡ bad k → LayerLine s n at id tally tally₁ layers layers₁ rec rec₁ judgement (S.Stop k)
+  layer-refused k tally₁ layers₁ rec₁ e = record { answer = sym (ap (layerStep n) e); lent = subst (LayerOn s at id tally tally₁ layers layers₁ rec rec₁) (sym e) tt }
 
-  pub layer-misspelt : (tally₁ layers₁ : List ℕ) (t₁ : List ℤ) → isLayerId id ≡ false → LayerLine s n at id tally tally₁ layers layers₁ t t₁ judgement (S.Stop 6)
-  layer-misspelt tally₁ layers₁ t₁ e = layer-refused 6 tally₁ layers₁ t₁ (rw e)
+  pub layer-misspelt : (tally₁ layers₁ : List ℕ) (rec₁ : List ℤ) → isLayerId id ≡ false → LayerLine s n at id tally tally₁ layers layers₁ rec rec₁ judgement (S.Stop 6)
+  layer-misspelt tally₁ layers₁ rec₁ e = layer-refused 6 tally₁ layers₁ rec₁ (rw e)
 
-  pub layer-unnamed : (tally₁ layers₁ : List ℕ) (t₁ : List ℤ) (k : ℕ) → isLayerId id ≡ true → N.Bad k ≡ nameOf (layerValue [] (freeShapeOf c)) → LayerLine s n at id tally tally₁ layers layers₁ t t₁ judgement (S.Stop k)
-  layer-unnamed tally₁ layers₁ t₁ k i e = layer-refused k tally₁ layers₁ t₁ (rw (i, value-bad id (freeShapeOf c) k e))
+  pub layer-unnamed : (tally₁ layers₁ : List ℕ) (rec₁ : List ℤ) (k : ℕ) → isLayerId id ≡ true → N.Bad k ≡ nameOf (layerValue [] (freeShapeOf c)) → LayerLine s n at id tally tally₁ layers layers₁ rec rec₁ judgement (S.Stop k)
+  layer-unnamed tally₁ layers₁ rec₁ k i e = layer-refused k tally₁ layers₁ rec₁ (rw (i, value-bad id (freeShapeOf c) k e))
 
   module _ (i : isLayerId id ≡ true) (p : Span) (e : N.Is p ≡ nameOf (layerValue [] (freeShapeOf c))) where
     abbrev named : Named id (freeShapeOf c) p
     named = value-is id (freeShapeOf c) p e
 
-    pub layer-excess : (tally₁ layers₁ : List ℕ) (t₁ : List ℤ) → 64 ≤ layersOf tally → LayerLine s n at id tally tally₁ layers layers₁ t t₁ judgement (S.Stop 11)
-    layer-excess tally₁ layers₁ t₁ h = layer-refused 11 tally₁ layers₁ t₁ (rw (i, named .read, le-ltb (layersOf tally) 64 h))
+    pub layer-excess : (tally₁ layers₁ : List ℕ) (rec₁ : List ℤ) → 64 ≤ layersOf tally → LayerLine s n at id tally tally₁ layers layers₁ rec rec₁ judgement (S.Stop 11)
+    layer-excess tally₁ layers₁ rec₁ h = layer-refused 11 tally₁ layers₁ rec₁ (rw (i, named .read, le-ltb (layersOf tally) 64 h))
 
-    pub layer-twice : (tally₁ layers₁ : List ℕ) (t₁ : List ℤ) → layersOf tally < 64 → among id (namesIn s (take (layersOf tally) layers)) ≡ true → LayerLine s n at id tally tally₁ layers layers₁ t t₁ judgement (S.Stop 14)
-    layer-twice tally₁ layers₁ t₁ h a = layer-refused 14 tally₁ layers₁ t₁ (rw (i, named .read, lt-ltb (layersOf tally) 64 h, a))
+    pub layer-twice : (tally₁ layers₁ : List ℕ) (rec₁ : List ℤ) → layersOf tally < 64 → among id (namesIn s (take (layersOf tally) layers)) ≡ true → LayerLine s n at id tally tally₁ layers layers₁ rec rec₁ judgement (S.Stop 14)
+    layer-twice tally₁ layers₁ rec₁ h a = layer-refused 14 tally₁ layers₁ rec₁ (rw (i, named .read, lt-ltb (layersOf tally) 64 h, a))
 
-    pub layer-takes : (tally₁ layers₁ : List ℕ) (t₁ : List ℤ) (r : Step) → layersOf tally < 64 → among id (namesIn s (take (layersOf tally) layers)) ≡ false
-        → Answered (unless (hasRoom (n .free) t) 19 (got (layerTaken n))) (LayerIn s (n .free) at id (pos (p .at) ∷ pos (p .len) ∷ []) tally tally₁ layers layers₁ t t₁) r
-        → LayerLine s n at id tally tally₁ layers layers₁ t t₁ judgement r
-    layer-takes tally₁ layers₁ t₁ r h a = go (hasRoom (n .free) t) (rw (i, named .read, lt-ltb (layersOf tally) 64 h, a))
-      where
-        go : (b : Bool) → judgement ≡ unless b 19 (got (named .held)) → Answered (unless b 19 (got (layerTaken n))) (LayerIn s (n .free) at id (pos (p .at) ∷ pos (p .len) ∷ []) tally tally₁ layers layers₁ t t₁) r
-            → LayerLine s n at id tally tally₁ layers layers₁ t t₁ judgement r
-        go true q x = record {
-          answer = x .answer ∙ sym (ap (layerStep n) q);
+    pub layer-takes : (tally₁ layers₁ : List ℕ) (rec₁ : List ℤ) (m : Now) → layersOf tally < 64 → among id (namesIn s (take (layersOf tally) layers)) ≡ false
+        → (m ≡ layerTaken n) × LayerIn s at id (pos (p .at) ∷ pos (p .len) ∷ []) tally tally₁ layers layers₁ rec rec₁ → LayerLine s n at id tally tally₁ layers layers₁ rec rec₁ judgement (S.Go m)
+    layer-takes tally₁ layers₁ rec₁ m h a x =
+        let q : judgement ≡ got (named .held) = rw (i, named .read, lt-ltb (layersOf tally) 64 h, a) in
+        record {
+          answer = ap S.Go (x .0) ∙ sym (ap (layerStep n) q);
           lent =
-              subst (LayerOn s (n .free) at id tally tally₁ layers layers₁ t t₁) (sym q)
-              (subst (λ (zs : List ℤ). LayerIn s (n .free) at id zs tally tally₁ layers layers₁ t t₁) (sym (named .two)) (x .lent));
+              subst (LayerOn s at id tally tally₁ layers layers₁ rec rec₁) (sym q)
+              (subst (λ (zs : List ℤ). LayerIn s at id zs tally tally₁ layers layers₁ rec rec₁) (sym (named .two)) (x .1));
         }
-        go false q x = record { answer = x .answer ∙ sym (ap (layerStep n) q); lent = subst (LayerOn s (n .free) at id tally tally₁ layers layers₁ t t₁) (sym q) tt }
 
 -- ── a line in `layer_name` ──
-module _ (s : List ℕ) (n : Now) (at : Where) (f : Form) (tally layers : List ℕ) (t : List ℤ) where
-  pub names-ignored : f ≡ ignored → NamesLine s n at f tally tally layers layers t t (S.Go n)
-  names-ignored e = subst (λ (x : Form). NamesLine s n at x tally tally layers layers t t (S.Go n)) (sym e) (record { answer = refl; lent = (refl, refl, refl) })
+module _ (s : List ℕ) (n : Now) (at : Where) (f : Form) (tally layers : List ℕ) (rec : List ℤ) where
+  pub names-ignored : f ≡ ignored → NamesLine s n at f tally tally layers layers rec rec (S.Go n)
+  names-ignored e = subst (λ (x : Form). NamesLine s n at x tally tally layers layers rec rec (S.Go n)) (sym e) (record { answer = refl; lent = (refl, refl, refl) })
 
-  pub names-close : (m : Now) → f ≡ close → m ≡ atBlock n 2 0 → NamesLine s n at f tally tally layers layers t t (S.Go m)
+  pub names-close : (m : Now) → f ≡ close → m ≡ atBlock n 2 0 → NamesLine s n at f tally tally layers layers rec rec (S.Go m)
   names-close m e q =
-      subst (λ (x : Form). NamesLine s n at x tally tally layers layers t t (S.Go m)) (sym e) (record { answer = ap (λ (x : Now). S.Go x) q; lent = (refl, refl, refl) })
+      subst (λ (x : Form). NamesLine s n at x tally tally layers layers rec rec (S.Go m)) (sym e) (record { answer = ap (λ (x : Now). S.Go x) q; lent = (refl, refl, refl) })
 
-  pub names-eof : f ≡ eof → NamesLine s n at f tally tally layers layers t t (S.Stop 9)
-  names-eof e = subst (λ (x : Form). NamesLine s n at x tally tally layers layers t t (S.Stop 9)) (sym e) (record { answer = refl; lent = tt })
+  pub names-eof : f ≡ eof → NamesLine s n at f tally tally layers layers rec rec (S.Stop 9)
+  names-eof e = subst (λ (x : Form). NamesLine s n at x tally tally layers layers rec rec (S.Stop 9)) (sym e) (record { answer = refl; lent = tt })
 
-  pub names-wrong : (k : ℕ) → f ≡ wrong k → NamesLine s n at f tally tally layers layers t t (S.Stop k)
-  names-wrong k e = subst (λ (x : Form). NamesLine s n at x tally tally layers layers t t (S.Stop k)) (sym e) (record { answer = refl; lent = tt })
+  pub names-wrong : (k : ℕ) → f ≡ wrong k → NamesLine s n at f tally tally layers layers rec rec (S.Stop k)
+  names-wrong k e = subst (λ (x : Form). NamesLine s n at x tally tally layers layers rec rec (S.Stop k)) (sym e) (record { answer = refl; lent = tt })
 
-  pub names-keyed : (id : List ℕ) (c : Rest) (tally₁ layers₁ : List ℕ) (t₁ : List ℤ) (r : Step) → f ≡ keyed id c → LayerLine s n at id tally tally₁ layers layers₁ t t₁ (layerGot s tally layers (n .free) t id c) r
-      → NamesLine s n at f tally tally₁ layers layers₁ t t₁ r
-  names-keyed id c tally₁ layers₁ t₁ r e h =
-      subst (λ (x : Form). NamesLine s n at x tally tally₁ layers layers₁ t t₁ r) (sym e) (record { answer = h .answer; lent = h .lent })
+  pub names-keyed : (id : List ℕ) (c : Rest) (tally₁ layers₁ : List ℕ) (rec₁ : List ℤ) (r : Step) → f ≡ keyed id c → LayerLine s n at id tally tally₁ layers layers₁ rec rec₁ (layerGot s tally layers id c) r
+      → NamesLine s n at f tally tally₁ layers layers₁ rec rec₁ r
+  names-keyed id c tally₁ layers₁ rec₁ r e h =
+      subst (λ (x : Form). NamesLine s n at x tally tally₁ layers layers₁ rec rec₁ r) (sym e) (record { answer = h .answer; lent = h .lent })

@@ -50,23 +50,23 @@ shut-inner : (p : ℕ) (whole : Step) (n : Now) → (p ≡ 0 → ⊥) → shutFi
 shut-inner zero whole n e = absurd (e refl)
 shut-inner (suc p) whole n e = refl
 
-changed-own : {A : Type 0} (p : ℕ) (b : Bool) (x₀ x₁ x : A) → p ≡ 0 → (b ≡ true → x₁ ≡ x) → Shut p b x₀ x₁ x
+changed-own : (p : ℕ) (b : Bool) (x₀ x₁ x : List ℕ) → p ≡ 0 → (b ≡ true → x₁ ≡ x) → Shut p b x₀ x₁ x
 changed-own zero b x₀ x₁ x e h = h
 changed-own (suc p) b x₀ x₁ x e h = absurd (omega (arith, e))
 
-changed-inner : {A : Type 0} (p : ℕ) (b : Bool) (x₀ x : A) → (p ≡ 0 → ⊥) → Shut p b x₀ x₀ x
+changed-inner : (p : ℕ) (b : Bool) (x₀ x : List ℕ) → (p ≡ 0 → ⊥) → Shut p b x₀ x₀ x
 changed-inner zero b x₀ x e = absurd (e refl)
 changed-inner (suc p) b x₀ x e = refl
 
-module _ (k : Known) (f : Form) (s following : List ℕ) (first : Bool) (n : Now) (tally₀ : List ℕ) (m₀ : List Bool) (h₀ t₀ : List ℤ) (y : FileReady first n tally₀ m₀ h₀ t₀) where
+module _ (k : Known) (f : Form) (s following : List ℕ) (first : Bool) (n : Now) (tally₀ : List ℕ) (m₀ : List Bool) (h₀ : List ℤ) (y : FileReady first n tally₀ m₀ h₀) where
   abbrev rows : List Rule
   rows = tableOf (fileTableOf first (n .part))
 
   abbrev done : Act
   done = act k rows (digits 0 0) (partMarks first (n .part) m₀) f
 
-  abbrev Line : List ℕ → List Bool → List ℤ → List ℤ → Step → Act → Type 0
-  Line tally₁ m₁ h₁ t₁ r a = FileLine a s following first n tally₀ tally₁ m₀ m₁ h₀ h₁ t₀ t₁ r
+  abbrev Line : List ℕ → List Bool → List ℤ → Step → Act → Type 0
+  Line tally₁ m₁ h₁ r a = FileLine a s following first n tally₀ tally₁ m₀ m₁ h₀ h₁ r
 
   -- with the numbers that the code found
   module _ (tb from to : ℕ) (d : Digits) (e₁ : tb ≡ fileTableOf first (n .part)) (e₂ : from ≡ marksFrom (n .part)) (e₃ : to ≡ marksTo first (n .part)) (e₄ : d ≡ digits 0 0) where
@@ -87,57 +87,53 @@ module _ (k : Known) (f : Form) (s following : List ℕ) (first : Bool) (n : Now
         let w = begin-taken k rows (digits 0 0) (partMarks first (n .part) m₀) f (b .block) (b .row) (t .0) (t .1) in
         omega (arith, e₂, mark-inside first (n .part) (y .part) m₀ (y .marks) (b .row) (w .row))
 
-    pub line-entry : (j : ℕ) (h₂ : List ℤ) → Took (ruleAt rows) 64 h₀ done h₁ (N.Entry j) → h₂ ≡ keptIn first (n .part) j h₁ → Line tally₀ (set m₀ (from + j) true) h₂ t₀ (S.Go n) done
+    pub line-entry : (j : ℕ) (h₂ : List ℤ) → Took (ruleAt rows) 64 h₀ done h₁ (N.Entry j) → h₂ ≡ keptIn first (n .part) j h₁ → Line tally₀ (set m₀ (from + j) true) h₂ (S.Go n) done
     line-entry j h₂ t q =
-        subst (Line tally₀ (set m₀ (from + j) true) h₂ t₀ (S.Go n)) (sym (t .1))
+        subst (Line tally₀ (set m₀ (from + j) true) h₂ (S.Go n)) (sym (t .1))
         (record {
           answer = refl;
           tally = refl;
           marks = ap (λ (i : ℕ). set m₀ (i + j) true) e₂;
           header = q ∙ ap (keptIn first (n .part) j) (t .2);
-          table = refl;
         })
 
-    pub line-begin : (b : Inner) (r : Now) → Took (ruleAt rows) 64 h₀ done h₁ (N.Begin b) → r ≡ atBlock n 1 (b .block) → Line tally₀ (set m₀ (from + b .row) true) h₁ t₀ (S.Go r) done
+    pub line-begin : (b : Inner) (r : Now) → Took (ruleAt rows) 64 h₀ done h₁ (N.Begin b) → r ≡ atBlock n 1 (b .block) → Line tally₀ (set m₀ (from + b .row) true) h₁ (S.Go r) done
     line-begin b r t q =
-        subst (Line tally₀ (set m₀ (from + b .row) true) h₁ t₀ (S.Go r)) (sym (t .1))
+        subst (Line tally₀ (set m₀ (from + b .row) true) h₁ (S.Go r)) (sym (t .1))
         (record {
           answer = ap S.Go q;
           tally = refl;
           marks = ap (λ (i : ℕ). set m₀ (i + b .row) true) e₂;
           header = t .2;
-          table = refl;
         })
 
   module _ (h₁ : List ℤ) where
-    pub line-stay : Took (ruleAt rows) 64 h₀ done h₁ N.Stay → Line tally₀ m₀ h₁ t₀ (S.Go n) done
-    line-stay t = subst (Line tally₀ m₀ h₁ t₀ (S.Go n)) (sym (t .0)) (record { answer = refl; tally = refl; marks = refl; header = t .1; table = refl })
+    pub line-stay : Took (ruleAt rows) 64 h₀ done h₁ N.Stay → Line tally₀ m₀ h₁ (S.Go n) done
+    line-stay t = subst (Line tally₀ m₀ h₁ (S.Go n)) (sym (t .0)) (record { answer = refl; tally = refl; marks = refl; header = t .1 })
 
     pub shut-header : Took (ruleAt rows) 64 h₀ done h₁ N.Shut → Header h₁
     shut-header t = subst Header (sym (t .1)) (y .header)
 
-    pub line-shut : (tally₁ : List ℕ) (t₁ : List ℤ) (r : Step) → Took (ruleAt rows) 64 h₀ done h₁ N.Shut → n .part ≡ 0 → FileClosed s following first n h₁ tally₀ tally₁ t₀ t₁ r → Line tally₁ m₀ h₁ t₁ r done
-    line-shut tally₁ t₁ r t p c =
-        let w = subst (λ (h : List ℤ). FileClosed s following first n h tally₀ tally₁ t₀ t₁ r) (t .1) c in
-        subst (Line tally₁ m₀ h₁ t₁ r) (sym (t .0))
+    pub line-shut : (tally₁ : List ℕ) (r : Step) → Took (ruleAt rows) 64 h₀ done h₁ N.Shut → n .part ≡ 0 → FileClosed s following first n h₁ tally₀ tally₁ r → Line tally₁ m₀ h₁ r done
+    line-shut tally₁ r t p c =
+        let w = subst (λ (h : List ℤ). FileClosed s following first n h tally₀ tally₁ r) (t .1) c in
+        subst (Line tally₁ m₀ h₁ r) (sym (t .0))
         (record {
           answer = w .answer ∙ sym (shut-own (n .part) (closedFile s following first n tally₀ h₀) n p);
           tally = changed-own (n .part) _ tally₀ tally₁ _ p (w .tally);
           marks = refl;
           header = t .1;
-          table = changed-own (n .part) _ t₀ t₁ _ p (w .table);
         })
 
-    pub line-back : (q : ℕ) (r : Now) → Took (ruleAt rows) 64 h₀ done h₁ N.Shut → (n .part ≡ 0 → ⊥) → q ≡ around (n .part) → r ≡ atBlock n 1 q → Line tally₀ m₀ h₁ t₀ (S.Go r) done
+    pub line-back : (q : ℕ) (r : Now) → Took (ruleAt rows) 64 h₀ done h₁ N.Shut → (n .part ≡ 0 → ⊥) → q ≡ around (n .part) → r ≡ atBlock n 1 q → Line tally₀ m₀ h₁ (S.Go r) done
     line-back q r t p e z =
-        subst (Line tally₀ m₀ h₁ t₀ (S.Go r)) (sym (t .0))
+        subst (Line tally₀ m₀ h₁ (S.Go r)) (sym (t .0))
         (record {
           answer = ap S.Go (z ∙ ap (atBlock n 1) e) ∙ sym (shut-inner (n .part) (closedFile s following first n tally₀ h₀) n p);
           tally = changed-inner (n .part) _ tally₀ _ p;
           marks = refl;
           header = t .1;
-          table = changed-inner (n .part) _ t₀ _ p;
         })
 
-  pub line-refused : (tally₁ : List ℕ) (m₁ : List Bool) (h₁ t₁ : List ℤ) (i : ℕ) → Took (ruleAt rows) 64 h₀ done h₁ (N.Refuse i) → Line tally₁ m₁ h₁ t₁ (S.Stop i) done
-  line-refused tally₁ m₁ h₁ t₁ i t = subst (Line tally₁ m₁ h₁ t₁ (S.Stop i)) (sym t) (record { answer = refl; tally = tt; marks = tt; header = tt; table = tt })
+  pub line-refused : (tally₁ : List ℕ) (m₁ : List Bool) (h₁ : List ℤ) (i : ℕ) → Took (ruleAt rows) 64 h₀ done h₁ (N.Refuse i) → Line tally₁ m₁ h₁ (S.Stop i) done
+  line-refused tally₁ m₁ h₁ i t = subst (Line tally₁ m₁ h₁ (S.Stop i)) (sym t) (record { answer = refl; tally = tt; marks = tt; header = tt })

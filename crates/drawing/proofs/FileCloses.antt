@@ -1,11 +1,10 @@
 -- FILE_FORMAT's close, by what was tested.
-use Prim.Native.Nat.{ℕ, _-_, _≤_}
+use Prim.Native.Nat.{ℕ}
 use mathlib.Core.Bool.{Bool, true, false, cond, _&&_, _||_}
 use mathlib.Core.List.{List, map}
 use mathlib.Core.Path.{_≡_, refl, sym, _∙_, ap, ap₂}
 use lib.IntN.{ℤ, pos, natAbs}
 use lib.ListN.{getD}
-use lib.Seq.{paste}
 use mir.Syntax.{w64}
 use mir.Val.{toZ, ofZ}
 use Rattle.rules.specs.Base.{same}
@@ -16,7 +15,7 @@ use Rattle.account.specs.declared.Now.{Now}
 use Rattle.account.specs.declared.Step.{Step}
 use Rattle.account.specs.declared.Step.the-variants as S
 use Rattle.account.specs.Account.{atBlock}
-use Rattle.account.specs.FileLines.{Header, chainedTo, datedAs, agrees, closedFile, firstTally, laterTally, fileWidth, FileClosed}
+use Rattle.account.specs.FileLines.{Header, chainedTo, datedAs, agrees, closedFile, firstTally, laterTally, FileClosed}
 use Rattle.account.proofs.FileCounts.{header-back}
 
 pub chained-is : (s following : List ℕ) (h : List ℤ) → Header h → (b : Bool) (u : List ℕ) → b ≡ same (map capital u) following
@@ -26,9 +25,9 @@ chained-is s following h g b u e q =
     ∙ ap (λ (v : List ℕ). same (map capital v) following)
     (q ∙ ap₂ (λ (a l : ℕ). bytesAt s (span a l)) (header-back h g 66) (header-back h g 67))
 
-module _ (s following : List ℕ) (n : Now) (h : List ℤ) (tally₀ tally₁ : List ℕ) (t₀ t₁ : List ℤ) where
+module _ (s following : List ℕ) (n : Now) (h : List ℤ) (tally₀ tally₁ : List ℕ) where
   abbrev Closed : Bool → Step → Type 0
-  Closed first r = FileClosed s following first n h tally₀ tally₁ t₀ t₁ r
+  Closed first r = FileClosed s following first n h tally₀ tally₁ r
 
   abbrev named : Bool
   named = chainedTo s following h
@@ -37,7 +36,6 @@ module _ (s following : List ℕ) (n : Now) (h : List ℤ) (tally₀ tally₁ : 
   not-agreed first e = record {
     answer = sym (ap (λ (b : Bool). cond b (S.Go (atBlock n 0 (cond first 1 3))) (S.Stop 16)) e);
     tally = λ a. clash a e;
-    table = λ a. clash a e;
   }
 
   pub unchained : (first : Bool) → false ≡ named → Closed first (S.Stop 16)
@@ -50,27 +48,16 @@ module _ (s following : List ℕ) (n : Now) (h : List ℤ) (tally₀ tally₁ : 
   agreed : (first : Bool) (r : Now) → agrees s following first tally₀ h ≡ true → r ≡ atBlock n 0 (cond first 1 3) → S.Go r ≡ closedFile s following first n tally₀ h
   agreed first r e q = ap S.Go q ∙ sym (ap (λ (b : Bool). cond b (S.Go (atBlock n 0 (cond first 1 3))) (S.Stop 16)) e)
 
-  pub closed-first : (first : Bool) (r : Now) → true ≡ named → first ≡ true → r ≡ atBlock n 0 1 → tally₁ ≡ firstTally h tally₀ → t₁ ≡ paste t₀ (n .free - 64) h 64 → Closed first (S.Go r)
-  closed-first false r e f q a b = clash f refl
-  closed-first true r e f q a b = record {
+  pub closed-first : (first : Bool) (r : Now) → true ≡ named → first ≡ true → r ≡ atBlock n 0 1 → tally₁ ≡ firstTally h tally₀ → Closed first (S.Go r)
+  closed-first false r e f q a = clash f refl
+  closed-first true r e f q a = record {
     answer = agreed true r (ap (λ (b : Bool). b && true) (sym e)) q;
     tally = λ _. a;
-    table = λ _. b;
   }
 
-  pub closed-later : (first : Bool) (r : Now) → true ≡ named → first ≡ false → true ≡ datedAs tally₀ h → r ≡ atBlock n 0 3 → tally₁ ≡ laterTally h tally₀ → t₁ ≡ paste t₀ (n .free - 32) h 32 → Closed first (S.Go r)
-  closed-later true r e f d q a b = clash refl f
-  closed-later false r e f d q a b = record {
+  pub closed-later : (first : Bool) (r : Now) → true ≡ named → first ≡ false → true ≡ datedAs tally₀ h → r ≡ atBlock n 0 3 → tally₁ ≡ laterTally h tally₀ → Closed first (S.Go r)
+  closed-later true r e f d q a = clash refl f
+  closed-later false r e f d q a = record {
     answer = agreed false r (ap₂ (λ (b c : Bool). b && c) (sym e) (sym d)) q;
     tally = λ _. a;
-    table = λ _. b;
   }
-
--- the records lie before the next free place
-pub wide-first : (first : Bool) (x : ℕ) → first ≡ true → fileWidth first ≤ x → 64 ≤ x
-wide-first true x e h = h
-wide-first false x e h = clash e refl
-
-pub wide-later : (first : Bool) (x : ℕ) → first ≡ false → fileWidth first ≤ x → 32 ≤ x
-wide-later true x e h = clash refl e
-wide-later false x e h = h

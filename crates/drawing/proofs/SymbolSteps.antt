@@ -1,5 +1,5 @@
 -- The lines of SYMBOL_DEFINE and of a symbol, by what the code was told of the line.
-use Prim.Native.Nat.{ℕ, zero, suc, _+_, _<_, _≤_}
+use Prim.Native.Nat.{ℕ, zero, suc, _<_, _≤_}
 use mathlib.Core.Bool.{Bool, true, false, cond, _&&_, not}
 use mathlib.Core.List.{List, [], _∷_}
 use mathlib.Core.Option.{Option, none, some}
@@ -30,7 +30,6 @@ use Rattle.account.specs.declared.Now.{Now}
 use Rattle.account.specs.declared.Step.{Step}
 use Rattle.account.specs.declared.Step.the-variants as S
 use Rattle.account.specs.declared.Where.{Where}
-use Rattle.account.specs.Records.{hasRoom}
 use Rattle.account.specs.Account.{atBlock}
 use Rattle.account.specs.SymbolLines.{nonIn, nonRead, symbolOpened, openSymbol, definedIn, closeDefines, SymbolBegun, Untouched, OpenedOr, DefinesLine, nameOf, isNamed, ContentPlaced, isNew, symbolEntry, symbolPart, symbolPut, SymbolLine}
 use Rattle.account.proofs.RowsTaken.{entry-taken, begin-taken}
@@ -73,40 +72,33 @@ module _ (n : Now) (count : ℕ) where
   close-some b m e h q = ap S.Go q ∙ ap closed (sym (not-false b h) ∙ e)
 
   -- what the opening of a symbol says, where it did P
-  abbrev Opening : Bool → Type 0 → Step → Type 0
-  Opening room P r = (r ≡ openSymbol n count room) × OpenedOr (nonIn n) room P
+  abbrev Opening : Type 0 → Step → Type 0
+  Opening P r = (r ≡ openSymbol n count) × OpenedOr (nonIn n) P
 
-  pub open-non : (room : Bool) (P : Type 0) → (n .part ≡ 0 → ⊥) → Opening room P (S.Stop 6)
-  open-non room P h = rw (ne-eqb (n .part) 0 h) (refl, tt)
+  pub open-non : (P : Type 0) → (n .part ≡ 0 → ⊥) → Opening P (S.Stop 6)
+  open-non P h = rw (ne-eqb (n .part) 0 h) (refl, tt)
 
-  pub open-full : (room : Bool) (P : Type 0) → n .part ≡ 0 → room ≡ false → Opening room P (S.Stop 19)
-  open-full room P h e = rw (h, e) (refl, tt)
+  pub open-go : (P : Type 0) (m : Now) → n .part ≡ 0 → m ≡ symbolOpened n count → P → Opening P (S.Go m)
+  open-go P m h q p = rw h (ap S.Go q, p)
 
-  pub open-go : (room : Bool) (P : Type 0) (m : Now) → n .part ≡ 0 → room ≡ true → m ≡ symbolOpened n count → P → Opening room P (S.Go m)
-  open-go room P m h e q p = rw (h, e) (ap S.Go q, p)
+module _ (n : Now) (count : ℕ) (at : Where) (m₀ m₁ : List Bool) (rec₀ rec₁ : List ℤ) (a : Act) (y : Next) (e : y ≡ nextOf a) where
+  as-defines : (b : Act) (r : Step) → a ≡ b → DefinesLine b n count at m₀ m₁ rec₀ rec₁ r → DefinesLine a n count at m₀ m₁ rec₀ rec₁ r
+  as-defines b r q d = subst (λ (x : Act). DefinesLine x n count at m₀ m₁ rec₀ rec₁ r) (sym q) d
 
-pub room-then : (w : ℕ) (t : List ℤ) (b : Bool) → b ≡ hasRoom w t → not b ≡ false → w + 32 ≤ length t
-room-then w t b e h = leb-true (w + 32) (length t) (sym e ∙ not-false b h)
+  pub defines-stay : y ≡ N.Stay → Untouched m₀ m₁ rec₀ rec₁ → DefinesLine a n count at m₀ m₁ rec₀ rec₁ (S.Go n)
+  defines-stay h u = as-defines stay (S.Go n) (told a N.Stay y e h) (record { answer = refl; rec = u })
 
-module _ (n : Now) (count : ℕ) (at : Where) (m₀ m₁ : List Bool) (t₀ t₁ : List ℤ) (a : Act) (y : Next) (e : y ≡ nextOf a) where
-  as-defines : (b : Act) (r : Step) → a ≡ b → DefinesLine b n count at m₀ m₁ t₀ t₁ r → DefinesLine a n count at m₀ m₁ t₀ t₁ r
-  as-defines b r q d = subst (λ (x : Act). DefinesLine x n count at m₀ m₁ t₀ t₁ r) (sym q) d
+  pub defines-entry : (j : ℕ) (r : Step) → y ≡ N.Entry j → r ≡ nonRead n count → Untouched m₀ m₁ rec₀ rec₁ → DefinesLine a n count at m₀ m₁ rec₀ rec₁ r
+  defines-entry j r h q u = let (v, w) = told a (N.Entry j) y e h in as-defines (entry j v) r w (record { answer = q; rec = u })
 
-  pub defines-stay : y ≡ N.Stay → Untouched m₀ m₁ t₀ t₁ → DefinesLine a n count at m₀ m₁ t₀ t₁ (S.Go n)
-  defines-stay h u = as-defines stay (S.Go n) (told a N.Stay y e h) (record { answer = refl; table = u })
+  pub defines-begin : (x : Inner) (r : Step) → y ≡ N.Begin x → r ≡ openSymbol n count → OpenedOr (nonIn n) (SymbolBegun count at m₀ m₁ rec₀ rec₁) → DefinesLine a n count at m₀ m₁ rec₀ rec₁ r
+  defines-begin x r h q u = let (v, w) = told a (N.Begin x) y e h in as-defines (begin (x .block) (x .row) v) r w (record { answer = q; rec = u })
 
-  pub defines-entry : (j : ℕ) (r : Step) → y ≡ N.Entry j → r ≡ nonRead n count → Untouched m₀ m₁ t₀ t₁ → DefinesLine a n count at m₀ m₁ t₀ t₁ r
-  defines-entry j r h q u = let (v, w) = told a (N.Entry j) y e h in as-defines (entry j v) r w (record { answer = q; table = u })
+  pub defines-shut : (r : Step) → y ≡ N.Shut → r ≡ closeDefines n count → Untouched m₀ m₁ rec₀ rec₁ → DefinesLine a n count at m₀ m₁ rec₀ rec₁ r
+  defines-shut r h q u = as-defines shut r (told a N.Shut y e h) (record { answer = q; rec = u })
 
-  pub defines-begin : (x : Inner) (r : Step) → y ≡ N.Begin x → r ≡ openSymbol n count (hasRoom (n .free) t₀)
-      → OpenedOr (nonIn n) (hasRoom (n .free) t₀) (SymbolBegun n count at m₀ m₁ t₀ t₁) → DefinesLine a n count at m₀ m₁ t₀ t₁ r
-  defines-begin x r h q u = let (v, w) = told a (N.Begin x) y e h in as-defines (begin (x .block) (x .row) v) r w (record { answer = q; table = u })
-
-  pub defines-shut : (r : Step) → y ≡ N.Shut → r ≡ closeDefines n count → Untouched m₀ m₁ t₀ t₁ → DefinesLine a n count at m₀ m₁ t₀ t₁ r
-  defines-shut r h q u = as-defines shut r (told a N.Shut y e h) (record { answer = q; table = u })
-
-  pub defines-refuse : (k : ℕ) → y ≡ N.Refuse k → DefinesLine a n count at m₀ m₁ t₀ t₁ (S.Stop k)
-  defines-refuse k h = as-defines (refuse k) (S.Stop k) (told a (N.Refuse k) y e h) (record { answer = refl; table = tt })
+  pub defines-refuse : (k : ℕ) → y ≡ N.Refuse k → DefinesLine a n count at m₀ m₁ rec₀ rec₁ (S.Stop k)
+  defines-refuse k h = as-defines (refuse k) (S.Stop k) (told a (N.Refuse k) y e h) (record { answer = refl; rec = tt })
 
 -- ── a symbol ──
 pub symbol-four : length (tableOf 9) ≡ 4

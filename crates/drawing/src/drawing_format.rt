@@ -17,7 +17,6 @@ use entries::names::part;
 use entries::shapes::shape_for;
 use groundwork::blocks::at_block;
 use groundwork::blocks::digits_of;
-use groundwork::blocks::has_room;
 use groundwork::table::head;
 use leaves::Count;
 use leaves::bytes::is_layer_id;
@@ -27,22 +26,19 @@ use leaves::texts::text_rule;
 use rules::KIND_LAYER;
 use rules::LineForm;
 use rules::Span;
-use rules::WIDTH;
 use tables::TABLE_DRAWING;
 ghost use mathlib.Core.Path.{_≡_};
 ghost use mathlib.Core.Bool.{true};
 ghost use mathlib.Core.List.{[], _∷_};
-ghost use Prim.Native.Nat.{_+_, _≤_, _<_};
+ghost use Prim.Native.Nat.{_≤_, _<_};
 ghost use lib.IntN.{pos};
 ghost use lib.ListN.{length, drop};
-ghost use Rattle.rules.specs.RefusalNumbers.{got, unless};
 ghost use Rattle.rules.specs.Lines.{formIn, freeShapeOf, bytesAt};
 ghost use Rattle.rules.specs.Numbers.{value};
 ghost use Rattle.rules.specs.Values.{isLayerId};
 ghost use Rattle.rules.specs.Machine.{layerValue};
 ghost use Rattle.entries.specs.Names.{knownIn};
 ghost use Rattle.entries.specs.Shapes.{restIn};
-ghost use Rattle.account.specs.Records.{hasRoom};
 ghost use Rattle.account.specs.TopLines.{Answered, layersOf};
 ghost use Rattle.account.specs.DrawingLines.{drawingAct, drawingNow, drawingMarks, drawingPut, nameOf, layerTaken, layerPut, LayerIn, layerGot, LayerLine, NamesLine};
 ghost use Rattle.account.specs.Numbering.{tallyLength, mostRows};
@@ -128,7 +124,7 @@ fn layer_digits(id: &[u8]) -> u64
 }
 
 fn layer_taken(here: Now) -> Now
-    requires { ⌜ here .free + width ≤ 18446744073709551615 ⌝ }
+    requires { ⌜ here .records < 18446744073709551615 ⌝ }
     ensures { λ r. ⌜ r ≡ layerTaken here ⌝ }
 {
     Now {
@@ -136,23 +132,22 @@ fn layer_taken(here: Now) -> Now
         part: here.part,
         layered: here.layered,
         owner: here.owner,
-        own: here.own,
-        free: here.free + WIDTH,
+        records: here.records + 1,
         figures: here.figures,
         points: here.points,
     }
 }
 
 // "5 layer: letter's byte, number, name"
-fn put_layer(number: u32, id: &[u8], name: Span, at: Where, w: usize, t: &mut [i64])
-    requires { ⌜ (isLayerId (now id) ≡ true) × (w + width ≤ length (now t)) ⌝ }
-    ensures { λ _. ⌜ now (t .exit) ≡ layerPut w number at (now (id .entry)) (pos (name .at) ∷ pos (name .len) ∷ []) (now (t .entry)) ⌝ }
+fn put_layer(number: u32, id: &[u8], name: Span, at: Where, rec: &mut [i64])
+    requires { ⌜ (isLayerId (now id) ≡ true) × (length (now rec) ≡ width) ⌝ }
+    ensures { λ _. ⌜ now (rec .exit) ≡ layerPut number at (now (id .entry)) (pos (name .at) ∷ pos (name .len) ∷ []) (now (rec .entry)) ⌝ }
 {
-    head(t, w, KIND_LAYER, number, at.volume, at.line);
-    t[w + 5] = id[0] as i64;
-    t[w + 6] = layer_digits(id) as i64;
-    t[w + 7] = name.at as i64;
-    t[w + 8] = name.len as i64;
+    head(rec, 0, KIND_LAYER, number, at.volume, at.line);
+    rec[5] = id[0] as i64;
+    rec[6] = layer_digits(id) as i64;
+    rec[7] = name.at as i64;
+    rec[8] = name.len as i64;
 }
 
 fn take_layer(
@@ -163,21 +158,17 @@ fn take_layer(
     key: Span,
     name: Span,
     at: Where,
-    t: &mut [i64],
-) -> Step
-    requires { ⌜ (length (now s) ≤ 61440) × (length (now tally) ≡ tallyLength) × (length (now layers) ≡ 64) × (layersOf (now tally) < 64) × (isLayerId (bytesAt (now s) key) ≡ true) ⌝ }
-    ensures { λ r. ⌜ Answered (unless (hasRoom (here .free) (now (t .entry))) 19 (got (layerTaken here))) (LayerIn (now (s .entry)) (here .free) at (bytesAt (now (s .entry)) key) (pos (name .at) ∷ pos (name .len) ∷ []) (now (tally .entry)) (now (tally .exit)) (now (layers .entry)) (now (layers .exit)) (now (t .entry)) (now (t .exit))) r ⌝ }
+    rec: &mut [i64],
+) -> Now
+    requires { ⌜ (length (now s) ≤ 61440) × (length (now tally) ≡ tallyLength) × (length (now layers) ≡ 64) × (layersOf (now tally) < 64) × (isLayerId (bytesAt (now s) key) ≡ true) × (length (now rec) ≡ width) × (here .records < 18446744073709551615) ⌝ }
+    ensures { λ r. ⌜ (r ≡ layerTaken here) × LayerIn (now (s .entry)) at (bytesAt (now (s .entry)) key) (pos (name .at) ∷ pos (name .len) ∷ []) (now (tally .entry)) (now (tally .exit)) (now (layers .entry)) (now (layers .exit)) (now (rec .entry)) (now (rec .exit)) ⌝ }
 {
-    let w = here.free;
-    if !has_room(t, w) {
-        return Step::Stop(19);
-    }
     let count = tally[TALLY_LAYERS];
-    put_layer(count, part(s, key), name, at, w, t);
+    put_layer(count, part(s, key), name, at, rec);
     // an id has five bytes
     layers[count as usize] = key.at + 327680;
     tally[TALLY_LAYERS] = count + 1;
-    Step::Go(layer_taken(here))
+    layer_taken(here)
 }
 
 // "A misspelt id is 6"; one line too many is 11, a layer declared twice 14
@@ -189,10 +180,10 @@ fn layer_line(
     key: Span,
     rest: Rest,
     at: Where,
-    t: &mut [i64],
+    rec: &mut [i64],
 ) -> Step
-    requires { ⌜ (length (now s) ≤ 61440) × (length (now tally) ≡ tallyLength) × (length (now layers) ≡ 64) × (layersOf (now tally) ≤ 64) ⌝ }
-    ensures { λ r. ⌜ LayerLine (now (s .entry)) here at (bytesAt (now (s .entry)) key) (now (tally .entry)) (now (tally .exit)) (now (layers .entry)) (now (layers .exit)) (now (t .entry)) (now (t .exit)) (layerGot (now (s .entry)) (now (tally .entry)) (now (layers .entry)) (here .free) (now (t .entry)) (bytesAt (now (s .entry)) key) (restIn (now (s .entry)) rest)) r ⌝ }
+    requires { ⌜ (length (now s) ≤ 61440) × (length (now tally) ≡ tallyLength) × (length (now layers) ≡ 64) × (layersOf (now tally) ≤ 64) × (length (now rec) ≡ width) × (here .records < 18446744073709551615) ⌝ }
+    ensures { λ r. ⌜ LayerLine (now (s .entry)) here at (bytesAt (now (s .entry)) key) (now (tally .entry)) (now (tally .exit)) (now (layers .entry)) (now (layers .exit)) (now (rec .entry)) (now (rec .exit)) (layerGot (now (s .entry)) (now (tally .entry)) (now (layers .entry)) (bytesAt (now (s .entry)) key) (restIn (now (s .entry)) rest)) r ⌝ }
 {
     if !is_layer_id(part(s, key)) {
         return Step::Stop(6);
@@ -208,7 +199,7 @@ fn layer_line(
             let found = index_of(s, &layers[..count], part(s, key));
             match found {
                 Index::At(_) => Step::Stop(14),
-                Index::None => take_layer(s, tally, layers, here, key, name, at, t),
+                Index::None => Step::Go(take_layer(s, tally, layers, here, key, name, at, rec)),
             }
         }
     }
@@ -222,10 +213,10 @@ pub fn on_layer_names(
     here: Now,
     form: LineForm,
     at: Where,
-    t: &mut [i64],
+    rec: &mut [i64],
 ) -> Step
-    requires { ⌜ (length (now s) ≤ 61440) × (length (now tally) ≡ tallyLength) × (length (now layers) ≡ 64) × (layersOf (now tally) ≤ 64) ⌝ }
-    ensures { λ r. ⌜ NamesLine (now (s .entry)) here at (formIn (now (s .entry)) form) (now (tally .entry)) (now (tally .exit)) (now (layers .entry)) (now (layers .exit)) (now (t .entry)) (now (t .exit)) r ⌝ }
+    requires { ⌜ (length (now s) ≤ 61440) × (length (now tally) ≡ tallyLength) × (length (now layers) ≡ 64) × (layersOf (now tally) ≤ 64) × (length (now rec) ≡ width) × (here .records < 18446744073709551615) ⌝ }
+    ensures { λ r. ⌜ NamesLine (now (s .entry)) here at (formIn (now (s .entry)) form) (now (tally .entry)) (now (tally .exit)) (now (layers .entry)) (now (layers .exit)) (now (rec .entry)) (now (rec .exit)) r ⌝ }
 {
     match form {
         LineForm::Ignored => Step::Go(here),
@@ -233,12 +224,12 @@ pub fn on_layer_names(
         LineForm::Eof => Step::Stop(9),
         LineForm::Opens(o) => {
             let key = o.key;
-            layer_line(s, tally, layers, here, key, Rest::Brace, at, t)
+            layer_line(s, tally, layers, here, key, Rest::Brace, at, rec)
         }
         LineForm::Equals(q) => {
             let key = q.key;
             let rest = q.rest;
-            layer_line(s, tally, layers, here, key, Rest::Equals(rest), at, t)
+            layer_line(s, tally, layers, here, key, Rest::Equals(rest), at, rec)
         }
         LineForm::Refused(r) => Step::Stop(r.number),
     }

@@ -20,14 +20,12 @@ use groundwork::blocks::no_digits;
 use leaves::bytes::capital;
 use rules::LineForm;
 use rules::Span;
-use rules::WIDTH;
 use tables::TABLE_FILE;
 use tables::TABLE_LATER;
 ghost use mathlib.Core.Path.{_≡_};
 ghost use mathlib.Core.List.{map};
-ghost use Prim.Native.Nat.{_+_, _≤_};
+ghost use Prim.Native.Nat.{_≤_};
 ghost use lib.ListN.{length};
-ghost use lib.Seq.{paste};
 ghost use Rattle.rules.specs.Base.{same};
 ghost use Rattle.rules.specs.Lines.{formIn};
 ghost use Rattle.rules.specs.RangeClass.{digits};
@@ -36,7 +34,7 @@ ghost use Rattle.rules.specs.Rows.{act};
 ghost use Rattle.rules.specs.Blocks.{around};
 ghost use Rattle.tables.specs.Tables.{tableOf};
 ghost use Rattle.entries.specs.Names.{knownIn};
-ghost use Rattle.account.specs.FileLines.{fileTableOf, marksFrom, marksTo, partMarks, Header, keptName, keptFirst, keptLater, kept, datedAs, rangesTally, setTally, hereTally, firstTally, laterTally, fileWidth, FileClosed, FileReady, FileLine};
+ghost use Rattle.account.specs.FileLines.{fileTableOf, marksFrom, marksTo, partMarks, Header, keptName, keptFirst, keptLater, kept, datedAs, rangesTally, setTally, hereTally, firstTally, laterTally, FileClosed, FileReady, FileLine};
 ghost use Rattle.account.specs.Numbering.{tallyLength, headerLength};
 
 // Where the marks of a part's rows begin and end: FILE_FORMAT's own, `range`, `base`, `elec`, `sym`.
@@ -173,17 +171,6 @@ fn names(c: &[u8], name: &[u8]) -> bool
     true
 }
 
-fn copy_record(header: &[i64], n: usize, w: usize, t: &mut [i64])
-    requires { ⌜ (n ≤ length (now header)) × (w + n ≤ length (now t)) ⌝ }
-    ensures { λ _. ⌜ now (t .exit) ≡ paste (now (t .entry)) w (now (header .entry)) n ⌝ }
-{
-    let mut i = 0;
-    while i < n {
-        t[w + i] = header[i];
-        i += 1;
-    }
-}
-
 // What the first volume's header says of the set: the ranges; date, time and all_ele.
 fn ranges_tally(header: &[i64], tally: &mut [u32])
     requires { ⌜ Header (now header) × (length (now tally) ≡ tallyLength) ⌝ }
@@ -247,10 +234,9 @@ fn close_file(
     here: Now,
     tally: &mut [u32],
     header: &[i64],
-    t: &mut [i64],
 ) -> Step
-    requires { ⌜ Header (now header) × (length (now tally) ≡ tallyLength) × (fileWidth first ≤ here .free) × (here .free ≤ length (now t)) ⌝ }
-    ensures { λ r. ⌜ FileClosed (now (s .entry)) (now (following .entry)) first here (now (header .entry)) (now (tally .entry)) (now (tally .exit)) (now (t .entry)) (now (t .exit)) r ⌝ }
+    requires { ⌜ Header (now header) × (length (now tally) ≡ tallyLength) ⌝ }
+    ensures { λ r. ⌜ FileClosed (now (s .entry)) (now (following .entry)) first here (now (header .entry)) (now (tally .entry)) (now (tally .exit)) r ⌝ }
 {
     let name = Span {
         at: header[66] as u32,
@@ -260,14 +246,12 @@ fn close_file(
         return Step::Stop(16);
     }
     if first {
-        copy_record(header, 64, here.free - 64, t);
         first_tally(header, tally);
         return Step::Go(at_block(here, BLOCK_TOP, 1));
     }
     if !dated(header, tally) {
         return Step::Stop(16);
     }
-    copy_record(header, WIDTH, here.free - WIDTH, t);
     later_tally(header, tally);
     Step::Go(at_block(here, BLOCK_TOP, 3))
 }
@@ -284,10 +268,9 @@ pub fn on_file(
     tally: &mut [u32],
     marks: &mut [bool],
     header: &mut [i64],
-    t: &mut [i64],
 ) -> Step
-    requires { ⌜ (length (now s) ≤ 61440) × (length (now symbols) ≤ 65536) × (length (now layers) ≤ 65536) × FileReady first here (now tally) (now marks) (now header) (now t) ⌝ }
-    ensures { λ r. ⌜ FileLine (act (knownIn (now (s .entry)) (now (symbols .entry)) (now (layers .entry))) (tableOf (fileTableOf first (here .part))) (digits 0 0) (partMarks first (here .part) (now (marks .entry))) (formIn (now (s .entry)) form)) (now (s .entry)) (now (following .entry)) first here (now (tally .entry)) (now (tally .exit)) (now (marks .entry)) (now (marks .exit)) (now (header .entry)) (now (header .exit)) (now (t .entry)) (now (t .exit)) r ⌝ }
+    requires { ⌜ (length (now s) ≤ 61440) × (length (now symbols) ≤ 65536) × (length (now layers) ≤ 65536) × FileReady first here (now tally) (now marks) (now header) ⌝ }
+    ensures { λ r. ⌜ FileLine (act (knownIn (now (s .entry)) (now (symbols .entry)) (now (layers .entry))) (tableOf (fileTableOf first (here .part))) (digits 0 0) (partMarks first (here .part) (now (marks .entry))) (formIn (now (s .entry)) form)) (now (s .entry)) (now (following .entry)) first here (now (tally .entry)) (now (tally .exit)) (now (marks .entry)) (now (marks .exit)) (now (header .entry)) (now (header .exit)) r ⌝ }
 {
     let from = marks_from(here.part);
     let to = marks_to(first, here.part);
@@ -317,7 +300,7 @@ pub fn on_file(
         }
         Next::Shut => {
             if here.part == 0 {
-                return close_file(s, following, first, here, tally, header, t);
+                return close_file(s, following, first, here, tally, header);
             }
             Step::Go(at_block(here, BLOCK_FILE, around(here.part)))
         }

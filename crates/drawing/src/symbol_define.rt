@@ -15,13 +15,11 @@ use entries::names::index_of;
 use entries::names::part;
 use groundwork::blocks::at_block;
 use groundwork::blocks::digits_of;
-use groundwork::blocks::has_room;
 use groundwork::blocks::unmark;
 use groundwork::table::head;
 use rules::KIND_SYMBOL;
 use rules::LineForm;
 use rules::Span;
-use rules::WIDTH;
 use tables::TABLE_DEFINES;
 use tables::TABLE_SYMBOL;
 ghost use mathlib.Core.Path.{_≡_};
@@ -34,7 +32,6 @@ ghost use Rattle.rules.specs.RangeClass.{digitsOf};
 ghost use Rattle.rules.specs.Rows.{act};
 ghost use Rattle.tables.specs.Tables.{tableOf};
 ghost use Rattle.entries.specs.Names.{knownIn};
-ghost use Rattle.account.specs.Records.{hasRoom};
 ghost use Rattle.account.specs.SymbolLines.{nonIn, nonRead, symbolOpened, openSymbol, SymbolBegun, OpenedOr, definedIn, closeDefines, DefinesLine, nameOf, isNamed, ContentPlaced, isNew, symbolEntry, symbolPart, SymbolLine, nameNumber};
 ghost use Rattle.tables.specs.Numbering.{tableDefines, tableSymbol};
 ghost use Rattle.account.specs.Numbering.{tallySymbols, tallyLength, mostRows};
@@ -52,7 +49,7 @@ fn non_read(here: Now, count: usize) -> Step
 
 // A symbol is begun: its record, and nothing in it.
 fn symbol_opened(here: Now, count: u32) -> Now
-    requires { ⌜ here .free + width ≤ 18446744073709551615 ⌝ }
+    requires { ⌜ here .records < 18446744073709551615 ⌝ }
     ensures { λ r. ⌜ r ≡ symbolOpened here count ⌝ }
 {
     Now {
@@ -60,25 +57,20 @@ fn symbol_opened(here: Now, count: u32) -> Now
         part: 0,
         layered: false,
         owner: count,
-        own: here.free,
-        free: here.free + WIDTH,
+        records: here.records + 1,
         figures: 0,
         points: 0,
     }
 }
 
-fn open_symbol(here: Now, count: usize, at: Where, marks: &mut [bool], t: &mut [i64]) -> Step
-    requires { ⌜ count ≤ 65536 ⌝ }
-    ensures { λ r. ⌜ (r ≡ openSymbol here count (hasRoom (here .free) (now (t .entry)))) × OpenedOr (nonIn here) (hasRoom (here .free) (now (t .entry))) (SymbolBegun here count at (now (marks .entry)) (now (marks .exit)) (now (t .entry)) (now (t .exit))) ⌝ }
+fn open_symbol(here: Now, count: usize, at: Where, marks: &mut [bool], rec: &mut [i64]) -> Step
+    requires { ⌜ (count ≤ 65536) × (length (now rec) ≡ width) × (here .records < 18446744073709551615) ⌝ }
+    ensures { λ r. ⌜ (r ≡ openSymbol here count) × OpenedOr (nonIn here) (SymbolBegun count at (now (marks .entry)) (now (marks .exit)) (now (rec .entry)) (now (rec .exit))) ⌝ }
 {
     if here.part != 0 {
         return Step::Stop(6);
     }
-    let w = here.free;
-    if !has_room(t, w) {
-        return Step::Stop(19);
-    }
-    head(t, w, KIND_SYMBOL, count as u32, at.volume, at.line);
+    head(rec, 0, KIND_SYMBOL, count as u32, at.volume, at.line);
     unmark(marks);
     Step::Go(symbol_opened(here, count as u32))
 }
@@ -113,10 +105,10 @@ pub fn on_defines(
     form: LineForm,
     at: Where,
     marks: &mut [bool],
-    t: &mut [i64],
+    rec: &mut [i64],
 ) -> Step
-    requires { ⌜ (length (now s) ≤ 61440) × (length (now symbols) ≤ 65536) × (length (now layers) ≤ 65536) ⌝ }
-    ensures { λ r. ⌜ DefinesLine (act (knownIn (now (s .entry)) (now (symbols .entry)) (now (layers .entry))) (tableOf tableDefines) (digitsOf range) (nonIn here ∷ false ∷ []) (formIn (now (s .entry)) form)) here (length (now (symbols .entry))) at (now (marks .entry)) (now (marks .exit)) (now (t .entry)) (now (t .exit)) r ⌝ }
+    requires { ⌜ (length (now s) ≤ 61440) × (length (now symbols) ≤ 65536) × (length (now layers) ≤ 65536) × (length (now rec) ≡ width) × (here .records < 18446744073709551615) ⌝ }
+    ensures { λ r. ⌜ DefinesLine (act (knownIn (now (s .entry)) (now (symbols .entry)) (now (layers .entry))) (tableOf tableDefines) (digitsOf range) (nonIn here ∷ false ∷ []) (formIn (now (s .entry)) form)) here (length (now (symbols .entry))) at (now (marks .entry)) (now (marks .exit)) (now (rec .entry)) (now (rec .exit)) r ⌝ }
 {
     let full = [here.part != 0, false];
     let count = symbols.len();
@@ -135,7 +127,7 @@ pub fn on_defines(
     match next {
         Next::Stay => Step::Go(here),
         Next::Entry(_) => non_read(here, count),
-        Next::Begin(_) => open_symbol(here, count, at, marks, t),
+        Next::Begin(_) => open_symbol(here, count, at, marks, rec),
         Next::Shut => close_defines(here, count),
         Next::Refuse(n) => Step::Stop(n),
     }
@@ -193,8 +185,7 @@ fn symbol_part(here: Now, block: u8) -> Now
             part: 0,
             layered: false,
             owner: here.owner,
-            own: here.own,
-            free: here.free,
+            records: here.records,
             figures: 0,
             points: 0,
         };
@@ -204,8 +195,7 @@ fn symbol_part(here: Now, block: u8) -> Now
         part: 0,
         layered: false,
         owner: here.owner,
-        own: here.own,
-        free: here.free,
+        records: here.records,
         figures: here.figures,
         points: 0,
     }

@@ -13,7 +13,6 @@ use account::Where;
 use entries::Next;
 use entries::acts::act;
 use groundwork::blocks::at_block;
-use groundwork::blocks::has_room;
 use groundwork::blocks::no_digits;
 use groundwork::blocks::unmark;
 use groundwork::serials::all_marked;
@@ -26,12 +25,12 @@ use rules::LineForm;
 use rules::WIDTH;
 use tables::TABLE_TOP;
 ghost use mathlib.Core.Path.{_≡_};
-ghost use Prim.Native.Nat.{_+_, _≤_};
+ghost use Prim.Native.Nat.{_+_, _<_, _≤_};
 ghost use lib.ListN.{length};
 ghost use Rattle.rules.specs.Lines.{formIn};
 ghost use Rattle.entries.specs.Names.{knownIn};
 ghost use Rattle.account.specs.Account.{headAt};
-ghost use Rattle.account.specs.TopLines.{stepOf, layersOf, eofNow, topLent, recordTaken, headerBegun, topAct, Answered, takingNow, fileSize, unmarked, blockNow, openedLent, keyNow, keyLent, topNow, topLentBy};
+ghost use Rattle.account.specs.TopLines.{stepOf, layersOf, eofNow, topLent, recordsTaken, headerBegun, topAct, Answered, fileTakes, unmarked, blockNow, openedLent, keyNow, keyLent, topNow, topLentBy};
 ghost use Rattle.account.specs.Numbering.{blockFile, blockDrawing, tallyLength, headerLength};
 ghost use Rattle.rules.specs.RecordTable.{width, kindDrawing};
 
@@ -56,23 +55,23 @@ fn at_eof(here: Now, at: Where, tally: &[u32], used_all: &[bool]) -> Step
     Step::Go(at_block(here, BLOCK_ENDED, 0))
 }
 
-fn record_taken(here: Now, block: u8, size: usize) -> Now
-    requires { ⌜ here .free + size ≤ 18446744073709551615 ⌝ }
-    ensures { λ r. ⌜ r ≡ recordTaken here block size ⌝ }
+// The block takes so many records.
+fn records_taken(here: Now, block: u8, more: usize) -> Now
+    requires { ⌜ here .records + more ≤ 18446744073709551615 ⌝ }
+    ensures { λ r. ⌜ r ≡ recordsTaken here block more ⌝ }
 {
     Now {
         block: block,
         part: 0,
         layered: false,
         owner: 0,
-        own: here.free,
-        free: here.free + size,
+        records: here.records + more,
         figures: 0,
         points: 0,
     }
 }
 
-// The header's record and the volume's are begun, apart from the table.
+// The header's record and the volume's are begun.
 fn begin_header(first: bool, at: Where, header: &mut [i64])
     requires { ⌜ length (now header) ≡ headerLength ⌝ }
     ensures { λ _. ⌜ now (header .exit) ≡ headerBegun first at (now (header .entry)) ⌝ }
@@ -87,42 +86,25 @@ fn begin_header(first: bool, at: Where, header: &mut [i64])
 }
 
 // FILE_FORMAT takes two records in the first volume, the header's and the volume's, and one in others.
-fn open_file(
-    here: Now,
-    first: bool,
-    at: Where,
-    marks: &mut [bool],
-    header: &mut [i64],
-    t: &[i64],
-) -> Step
-    requires { ⌜ length (now header) ≡ headerLength ⌝ }
-    ensures { λ r. ⌜ Answered (takingNow here blockFile (fileSize first) (now (t .entry))) ((now (marks .exit) ≡ unmarked (now (marks .entry))) × (now (header .exit) ≡ headerBegun first at (now (header .entry)))) r ⌝ }
+fn open_file(here: Now, first: bool, at: Where, marks: &mut [bool], header: &mut [i64]) -> Now
+    requires { ⌜ (length (now header) ≡ headerLength) × (here .records + 2 ≤ 18446744073709551615) ⌝ }
+    ensures { λ r. ⌜ (r ≡ recordsTaken here blockFile (fileTakes first)) × (now (marks .exit) ≡ unmarked (now (marks .entry))) × (now (header .exit) ≡ headerBegun first at (now (header .entry))) ⌝ }
 {
-    let w = here.free;
-    if !has_room(t, w) {
-        return Step::Stop(19);
-    }
     unmark(marks);
     begin_header(first, at, header);
-    if !first {
-        return Step::Go(record_taken(here, BLOCK_FILE, WIDTH));
+    if first {
+        return records_taken(here, BLOCK_FILE, 2);
     }
-    if !has_room(t, w + WIDTH) {
-        return Step::Stop(19);
-    }
-    Step::Go(record_taken(here, BLOCK_FILE, 64))
+    records_taken(here, BLOCK_FILE, 1)
 }
 
-fn open_drawing(here: Now, at: Where, marks: &mut [bool], t: &mut [i64]) -> Step
-    ensures { λ r. ⌜ Answered (takingNow here blockDrawing width (now (t .entry))) ((now (marks .exit) ≡ unmarked (now (marks .entry))) × (now (t .exit) ≡ headAt (here .free) kindDrawing 0 at (now (t .entry)))) r ⌝ }
+fn open_drawing(here: Now, at: Where, marks: &mut [bool], rec: &mut [i64]) -> Now
+    requires { ⌜ (length (now rec) ≡ width) × (here .records < 18446744073709551615) ⌝ }
+    ensures { λ r. ⌜ (r ≡ recordsTaken here blockDrawing 1) × (now (marks .exit) ≡ unmarked (now (marks .entry))) × (now (rec .exit) ≡ headAt 0 kindDrawing 0 at (now (rec .entry))) ⌝ }
 {
-    let w = here.free;
-    if !has_room(t, w) {
-        return Step::Stop(19);
-    }
-    head(t, w, KIND_DRAWING, 0, at.volume, at.line);
+    head(rec, 0, KIND_DRAWING, 0, at.volume, at.line);
     unmark(marks);
-    Step::Go(record_taken(here, BLOCK_DRAWING, WIDTH))
+    records_taken(here, BLOCK_DRAWING, 1)
 }
 
 // "FILE_FORMAT, DRAWING_FORMAT, SYMBOL_DEFINE, ELEMENT, each once in this order"
@@ -134,19 +116,19 @@ fn open_block(
     marks: &mut [bool],
     used: &mut [bool],
     header: &mut [i64],
-    t: &mut [i64],
+    rec: &mut [i64],
 ) -> Step
-    requires { ⌜ length (now header) ≡ headerLength ⌝ }
-    ensures { λ r. ⌜ Answered (blockNow first here (now (t .entry)) block) ((topLent (now (marks .exit)) (now (used .exit)) (now (header .exit)) (now (t .exit))) ≡ openedLent first here at block (topLent (now (marks .entry)) (now (used .entry)) (now (header .entry)) (now (t .entry)))) r ⌝ }
+    requires { ⌜ (length (now header) ≡ headerLength) × (length (now rec) ≡ width) × (here .records + 2 ≤ 18446744073709551615) ⌝ }
+    ensures { λ r. ⌜ Answered (blockNow first here block) ((topLent (now (marks .exit)) (now (used .exit)) (now (header .exit)) (now (rec .exit))) ≡ openedLent first at block (topLent (now (marks .entry)) (now (used .entry)) (now (header .entry)) (now (rec .entry)))) r ⌝ }
 {
     if block != here.part {
         return Step::Stop(9);
     }
     if block == 0 {
-        return open_file(here, first, at, marks, header, t);
+        return Step::Go(open_file(here, first, at, marks, header));
     }
     if block == 1 {
-        return open_drawing(here, at, marks, t);
+        return Step::Go(open_drawing(here, at, marks, rec));
     }
     if block == 2 {
         return Step::Go(at_block(here, BLOCK_DEFINES, 0));
@@ -169,10 +151,10 @@ pub fn on_top(
     used: &mut [bool],
     used_all: &[bool],
     header: &mut [i64],
-    t: &mut [i64],
+    rec: &mut [i64],
 ) -> Step
-    requires { ⌜ (length (now s) ≤ 61440) × (length (now symbols) ≤ 65536) × (length (now layers) ≤ 65536) × (length (now tally) ≡ tallyLength) × (layersOf (now tally) ≤ length (now «used_all»)) × (length (now header) ≡ headerLength) ⌝ }
-    ensures { λ r. ⌜ Answered (topNow (knownIn (now (s .entry)) (now (symbols .entry)) (now (layers .entry))) first here at (now (tally .entry)) (now («used_all» .entry)) (now (t .entry)) (formIn (now (s .entry)) form)) ((topLent (now (marks .exit)) (now (used .exit)) (now (header .exit)) (now (t .exit))) ≡ topLentBy (knownIn (now (s .entry)) (now (symbols .entry)) (now (layers .entry))) first here at (topLent (now (marks .entry)) (now (used .entry)) (now (header .entry)) (now (t .entry))) (formIn (now (s .entry)) form)) r ⌝ }
+    requires { ⌜ (length (now s) ≤ 61440) × (length (now symbols) ≤ 65536) × (length (now layers) ≤ 65536) × (length (now tally) ≡ tallyLength) × (layersOf (now tally) ≤ length (now «used_all»)) × (length (now header) ≡ headerLength) × (length (now rec) ≡ width) × (here .records + 2 ≤ 18446744073709551615) ⌝ }
+    ensures { λ r. ⌜ Answered (topNow (knownIn (now (s .entry)) (now (symbols .entry)) (now (layers .entry))) first here at (now (tally .entry)) (now («used_all» .entry)) (formIn (now (s .entry)) form)) ((topLent (now (marks .exit)) (now (used .exit)) (now (header .exit)) (now (rec .exit))) ≡ topLentBy (knownIn (now (s .entry)) (now (symbols .entry)) (now (layers .entry))) first at (topLent (now (marks .entry)) (now (used .entry)) (now (header .entry)) (now (rec .entry))) (formIn (now (s .entry)) form)) r ⌝ }
 {
     match form {
         LineForm::Ignored => Step::Go(here),
@@ -189,7 +171,7 @@ pub fn on_top(
             marks,
             used,
             header,
-            t,
+            rec,
         ),
         LineForm::Equals(_) => top_key(
             s,
@@ -202,7 +184,7 @@ pub fn on_top(
             marks,
             used,
             header,
-            t,
+            rec,
         ),
         LineForm::Refused(r) => Step::Stop(r.number),
     }
@@ -219,10 +201,10 @@ fn top_key(
     marks: &mut [bool],
     used: &mut [bool],
     header: &mut [i64],
-    t: &mut [i64],
+    rec: &mut [i64],
 ) -> Step
-    requires { ⌜ (length (now s) ≤ 61440) × (length (now symbols) ≤ 65536) × (length (now layers) ≤ 65536) × (length (now header) ≡ headerLength) ⌝ }
-    ensures { λ r. ⌜ Answered (keyNow first here (now (t .entry)) (topAct (knownIn (now (s .entry)) (now (symbols .entry)) (now (layers .entry))) (formIn (now (s .entry)) form))) ((topLent (now (marks .exit)) (now (used .exit)) (now (header .exit)) (now (t .exit))) ≡ keyLent first here at (topLent (now (marks .entry)) (now (used .entry)) (now (header .entry)) (now (t .entry))) (topAct (knownIn (now (s .entry)) (now (symbols .entry)) (now (layers .entry))) (formIn (now (s .entry)) form))) r ⌝ }
+    requires { ⌜ (length (now s) ≤ 61440) × (length (now symbols) ≤ 65536) × (length (now layers) ≤ 65536) × (length (now header) ≡ headerLength) × (length (now rec) ≡ width) × (here .records + 2 ≤ 18446744073709551615) ⌝ }
+    ensures { λ r. ⌜ Answered (keyNow first here (topAct (knownIn (now (s .entry)) (now (symbols .entry)) (now (layers .entry))) (formIn (now (s .entry)) form))) ((topLent (now (marks .exit)) (now (used .exit)) (now (header .exit)) (now (rec .exit))) ≡ keyLent first at (topLent (now (marks .entry)) (now (used .entry)) (now (header .entry)) (now (rec .entry))) (topAct (knownIn (now (s .entry)) (now (symbols .entry)) (now (layers .entry))) (formIn (now (s .entry)) form))) r ⌝ }
 {
     let full = [false; 4];
     let mut nothing = [0i64; 1];
@@ -240,7 +222,7 @@ fn top_key(
     match next {
         Next::Stay => Step::Go(here),
         Next::Entry(_) => Step::Stop(5),
-        Next::Begin(inner) => open_block(here, first, at, inner.row, marks, used, header, t),
+        Next::Begin(inner) => open_block(here, first, at, inner.row, marks, used, header, rec),
         Next::Shut => Step::Stop(9),
         Next::Refuse(n) => Step::Stop(n),
     }

@@ -1,11 +1,9 @@
 -- What the answer to a line tells of its act.
-use Prim.Native.Nat.{ℕ, _+_, _<_, _≤_}
-use mathlib.Core.Bool.{Bool, true, false}
+use Prim.Native.Nat.{_<_}
+use mathlib.Core.Bool.{Bool}
 use mathlib.Core.List.{List}
-use mathlib.Core.Path.{_≡_, refl, sym, _∙_, subst}
-use lib.IntN.{ℤ}
+use mathlib.Core.Path.{_≡_, refl, sym, subst}
 use lib.ListN.{length}
-use borrow.Author.Tests.{leb-true}
 use Rattle.rules.specs.declared.Digits.{Digits}
 use Rattle.rules.specs.Lines.{Form}
 use Rattle.rules.specs.Values.{Known, Value}
@@ -13,8 +11,6 @@ use Rattle.rules.specs.Rows.{Rule, Act, stay, entry, begin, shut, refuse, act}
 use Rattle.entries.specs.Acts.{nextOf}
 use Rattle.entries.specs.declared.Next.{Next}
 use Rattle.entries.specs.declared.Next.the-variants as N
-use Rattle.account.specs.Records.{hasRoom}
-use Rattle.account.specs.Account.{taking, ActsAt}
 use Rattle.account.proofs.RowsTaken.{TableTaken, act-taken}
 
 -- ── the act ──
@@ -52,28 +48,3 @@ own-row t full (refuse k) h = tt
 
 pub row-of : (k : Known) (t : List Rule) (d : Digits) (full : List Bool) (f : Form) (y : Next) → y ≡ nextOf (act k t d full f) → RowOf t y
 row-of k t d full f y e = subst (RowOf t) (sym e) (own-row t full (act k t d full f) (act-taken k t d full f))
-
--- ── its room ──
-abbrev RoomOf : Bool → Next → Type 0
-RoomOf b N.Stay = Unit {0}
-RoomOf b (N.Entry j) = b ≡ true
-RoomOf b (N.Begin x) = b ≡ true
-RoomOf b N.Shut = Unit {0}
-RoomOf b (N.Refuse k) = Unit {0}
-
-own-room : (b : Bool) (a : Act) → RoomOf b (nextOf (taking b a))
-own-room true stay = tt
-own-room true (entry j v) = refl
-own-room true (begin i j v) = refl
-own-room true shut = tt
-own-room true (refuse k) = tt
-own-room false stay = tt
-own-room false (entry j v) = tt
-own-room false (begin i j v) = tt
-own-room false shut = tt
-own-room false (refuse k) = tt
-
-module _ (rule : ℕ → Rule) (n : ℕ) (t₀ : List ℤ) (a : Act) (t₁ : List ℤ) (x : Next) (m : ActsAt rule n t₀ a t₁ x) where
-  -- a line that took a record had room for it
-  pub entry-room : (j : ℕ) → x ≡ N.Entry j → n + 32 ≤ length t₀
-  entry-room j e = leb-true (n + 32) (length t₀) (subst (RoomOf (hasRoom n t₀)) (sym (m .eq) ∙ e) (own-room (hasRoom n t₀) a))

@@ -34,7 +34,8 @@ use Rattle.account.specs.declared.Now.{Now}
 use Rattle.account.specs.declared.Step.{Step}
 use Rattle.account.specs.declared.Step.the-variants as S
 use Rattle.account.specs.ElementLines.{LayerOpens, ElementCloses, ElementLine}
-use Rattle.elements.proofs.FigureActs.{act-of, act-begun}
+use Rattle.elements.proofs.BlocksActs.{told}
+use Rattle.elements.proofs.FigureActs.{act-begun}
 
 -- ── ELEMENT's table ──
 pub element-long : _≡_ {A = ℕ} 1 (length (tableOf 10))
@@ -152,10 +153,10 @@ module _ (n : Now) (t₀ : List ℕ) (u₀ l₀ : List Bool) where
   Still r a = ElementLine a n t₀ t₀ u₀ u₀ l₀ l₀ r
 
   pub elements-stay : (a : Act) → N.Stay ≡ nextOf a → Still (S.Go n) a
-  elements-stay a e = subst (Still (S.Go n)) (sym (act-of N.Stay a e)) (record { answer = refl; tally = refl; used = refl; all = refl })
+  elements-stay a e = subst (Still (S.Go n)) (sym (told N.Stay a e)) (record { answer = refl; tally = refl; used = refl; all = refl })
 
   pub elements-entry : (a : Act) (j : ℕ) → N.Entry j ≡ nextOf a → Still (S.Stop 5) a
-  elements-entry a j e = subst (Still (S.Stop 5)) (sym (act-of (N.Entry j) a e .1)) (record { answer = refl; tally = refl; used = refl; all = refl })
+  elements-entry a j e = subst (Still (S.Stop 5)) (sym (told (N.Entry j) a e .1)) (record { answer = refl; tally = refl; used = refl; all = refl })
 
   pub elements-begin : (a : Act) (z : ℤ) (u₁ l₁ : List Bool) (r : Step) → Opening a z → LayerOpens n (natAbs (toZ w64 (ofZ w64 z))) u₀ u₁ l₀ l₁ r → ElementLine a n t₀ t₀ u₀ u₁ l₀ l₁ r
   elements-begin a z u₁ l₁ r o w =
@@ -164,7 +165,7 @@ module _ (n : Now) (t₀ : List ℕ) (u₀ l₀ : List Bool) where
 
   pub elements-shut : (a : Act) (t₁ : List ℕ) (r : Step) → N.Shut ≡ nextOf a → ElementCloses n t₀ t₁ r → ElementLine a n t₀ t₁ u₀ u₀ l₀ l₀ r
   elements-shut a t₁ r e h =
-      subst (λ (a : Act). ElementLine a n t₀ t₁ u₀ u₀ l₀ l₀ r) (sym (act-of N.Shut a e)) (record { answer = h .answer; tally = h .tally; used = refl; all = refl })
+      subst (λ (a : Act). ElementLine a n t₀ t₁ u₀ u₀ l₀ l₀ r) (sym (told N.Shut a e)) (record { answer = h .answer; tally = h .tally; used = refl; all = refl })
 
   pub elements-refuse : (a : Act) (k : ℕ) → N.Refuse k ≡ nextOf a → Still (S.Stop k) a
-  elements-refuse a k e = subst (Still (S.Stop k)) (sym (act-of (N.Refuse k) a e)) (record { answer = refl; tally = refl; used = refl; all = refl })
+  elements-refuse a k e = subst (Still (S.Stop k)) (sym (told (N.Refuse k) a e)) (record { answer = refl; tally = refl; used = refl; all = refl })

@@ -1,5 +1,5 @@
--- From the answer about a line back to its act; a line that opens a block; and a line among the figures.
-use Prim.Native.Nat.{ℕ, _+_, _<_, _≤_}
+-- A line that opens a block; and a line among the figures, from what `act` promises to the line's own contract.
+use Prim.Native.Nat.{ℕ, _<_, _≤_}
 use mathlib.Core.Bool.{Bool, true, false, cond}
 use mathlib.Core.List.{List, [], _∷_}
 use mathlib.Core.Path.{_≡_, refl, sym, _∙_, ap, subst}
@@ -20,7 +20,7 @@ use Rattle.rules.specs.Figures.{layerTable, figureTable}
 use Rattle.rules.proofs.Chains.{by-cond, clash, map-got, never}
 use Rattle.rules.proofs.Rows.{Row, found-row, isRefusal, row-all, row-did}
 use Rattle.tables.specs.Tables.{tableOf}
-use Rattle.entries.specs.Acts.{roomy, nextOf}
+use Rattle.entries.specs.Acts.{roomy, nextOf, Entered, Acts}
 use Rattle.entries.specs.declared.Inner.{Inner}
 use Rattle.entries.specs.declared.Next.{Next}
 use Rattle.entries.specs.declared.Next.the-variants as N
@@ -28,55 +28,9 @@ use Rattle.account.specs.declared.Now.{Now}
 use Rattle.account.specs.declared.Where.{Where}
 use Rattle.account.specs.declared.Step.{Step}
 use Rattle.account.specs.declared.Step.the-variants as S
-use Rattle.account.specs.Records.{hasRoom}
-use Rattle.account.specs.Account.{roomlessAct, taking, TakenAt, headAt, ActsAt}
+use Rattle.account.specs.Account.{headAt}
 use Rattle.account.specs.FigureLines.{homeTable, homeRows, homeRule, lineKind, blockKind, moreFigures, figureOpened, figuresClosed, unmarkedIf, FigureLine}
-use Rattle.account.proofs.RowsTaken.{entry-taken}
-
--- ── from the answer back to the act ──
-abbrev pub ActOf : Next → Act → Type 0
-ActOf N.Stay a = a ≡ stay
-ActOf (N.Entry j) a = (v : Value) × (a ≡ entry j v)
-ActOf (N.Begin b) a = (v : Value) × (a ≡ begin (b .block) (b .row) v)
-ActOf N.Shut a = a ≡ shut
-ActOf (N.Refuse k) a = a ≡ refuse k
-
-own-act : (a : Act) → ActOf (nextOf a) a
-own-act stay = refl
-own-act (entry j v) = (v, refl)
-own-act (begin i j v) = (v, refl)
-own-act shut = refl
-own-act (refuse k) = refl
-
-pub act-of : (n : Next) (a : Act) → n ≡ nextOf a → ActOf n a
-act-of n a e = subst (λ (m : Next). ActOf m a) (sym e) (own-act a)
-
--- a line that takes a record has room for it
-abbrev takes : Act → Bool
-takes stay = false
-takes (entry j v) = true
-takes (begin i j v) = true
-takes shut = false
-takes (refuse k) = false
-
-roomless-takes : (a : Act) → takes (roomlessAct a) ≡ false
-roomless-takes stay = refl
-roomless-takes (entry j v) = refl
-roomless-takes (begin i j v) = refl
-roomless-takes shut = refl
-roomless-takes (refuse k) = refl
-
-room-for : (room : Bool) (a b : Act) → taking room a ≡ b → takes b ≡ true → (room ≡ true) × (a ≡ b)
-room-for true a b e h = (refl, e)
-room-for false a b e h = clash (ap takes e ∙ h) (roomless-takes a)
-
-pub entry-room : (w : ℕ) (t : List ℤ) (a : Act) (j : ℕ) → N.Entry j ≡ nextOf (taking (hasRoom w t) a) → w + 32 ≤ length t
-entry-room w t a j e =
-    let (v, q) = act-of (N.Entry j) (taking (hasRoom w t) a) e in leb-true (w + 32) (length t) (room-for (hasRoom w t) a (entry j v) q refl .0)
-
-pub begin-room : (w : ℕ) (t : List ℤ) (a : Act) (b : Inner) → N.Begin b ≡ nextOf (taking (hasRoom w t) a) → w + 32 ≤ length t
-begin-room w t a b e =
-    let (v, q) = act-of (N.Begin b) (taking (hasRoom w t) a) e in leb-true (w + 32) (length t) (room-for (hasRoom w t) a (begin (b .block) (b .row) v) q refl .0)
+use Rattle.elements.proofs.BlocksActs.{told, row-of}
 
 -- ── a line that opens a block: its row, and what it holds ──
 pub record Begun (k : Known) (t : List Rule) (i j : ℕ) (v : Value) : Type 0 where
@@ -164,9 +118,9 @@ home-long true range = go (eqb range 1)
     go false = refl
 home-long false range = refl
 
-pub home-room : (layered : Bool) (range : ℕ) → all (roomy 0 32) (tableOf (homeTable layered range)) ≡ true
+pub home-room : (layered : Bool) (range table n : ℕ) → table ≡ homeTable layered range → n ≡ 32 → all (roomy 0 n) (tableOf table) ≡ true
 unfolding tableOf layerTable figureTable
-home-room layered range = by-home (λ n. all (roomy 0 32) (tableOf n) ≡ true) refl refl refl layered range
+home-room layered range table n e h = rw (e, h) (by-home (λ t. all (roomy 0 32) (tableOf t) ≡ true) refl refl refl layered range)
 
 home-inner : (layered : Bool) (range : ℕ) → all (λ r. leb (innerOf (r .holds)) 3) (tableOf (homeTable layered range)) ≡ true
 unfolding tableOf layerTable figureTable
@@ -188,60 +142,59 @@ home-lent false m e = rw e
 pub home-lent-long : (layered : Bool) (range t m : ℕ) → t ≡ homeTable layered range → m ≡ homeRows layered → length (take m sevenFree) ≡ length (tableOf t)
 home-lent-long layered range t m e h = rw (e, h, home-free layered) (home-long layered range)
 
-pub home-acts : (layered : Bool) (range t m : ℕ) (d : Digits) (k : Known) (f : Form) (w : ℕ) (t₀ t₁ : List ℤ) (next : Next)
-    → t ≡ homeTable layered range → m ≡ homeRows layered → d ≡ digitsOf range → ActsAt (ruleAt (tableOf t)) w t₀ (act k (tableOf t) d (take m sevenFree) f) t₁ next
-    → ActsAt (homeRule layered range) w t₀ (act k (tableOf (homeTable layered range)) (digitsOf range) (replicate (homeRows layered) false) f) t₁ next
-home-acts layered range t m d k f w t₀ t₁ next e h q x =
+pub home-acts : (layered : Bool) (range t m : ℕ) (d : Digits) (k : Known) (f : Form) (rec₀ rec₁ : List ℤ) (next : Next)
+    → t ≡ homeTable layered range → m ≡ homeRows layered → d ≡ digitsOf range → Acts (ruleAt (tableOf t)) 0 rec₀ (act k (tableOf t) d (take m sevenFree) f) rec₁ next
+    → Acts (homeRule layered range) 0 rec₀ (act k (tableOf (homeTable layered range)) (digitsOf range) (replicate (homeRows layered) false) f) rec₁ next
+home-acts layered range t m d k f rec₀ rec₁ next e h q x =
     subst (λ (u : List Bool). Acted (homeTable layered range) (digitsOf range) u) (ap (λ (m : ℕ). take m sevenFree) h ∙ home-free layered)
     (subst (λ (d : Digits). Acted (homeTable layered range) d (take m sevenFree)) q (subst (λ (t : ℕ). Acted t d (take m sevenFree)) e x))
   where
     Acted : ℕ → Digits → List Bool → Type 0
-    Acted t d u = ActsAt (ruleAt (tableOf t)) w t₀ (act k (tableOf t) d u f) t₁ next
+    Acted t d u = Acts (ruleAt (tableOf t)) 0 rec₀ (act k (tableOf t) d u f) rec₁ next
 
-module _ (k : Known) (layered : Bool) (range : ℕ) (d : Digits) (full : List Bool) (f : Form) (room : Bool) where
+module _ (k : Known) (layered : Bool) (range : ℕ) (d : Digits) (full : List Bool) (f : Form) where
   abbrev a : Act
   a = act k (tableOf (homeTable layered range)) d full f
 
-  pub entry-row : (j : ℕ) → N.Entry j ≡ nextOf (taking room a) → j < 7
+  pub entry-row : (j : ℕ) → N.Entry j ≡ nextOf a → j < 7
   entry-row j e =
-      let (v, q) = act-of (N.Entry j) (taking room a) e in
-      let p = room-for room a (entry j v) q refl .1 in
-      omega (arith, entry-taken k (tableOf (homeTable layered range)) d full f j v p .row, home-long layered range, rows-seven layered)
+      let w : j < length (tableOf (homeTable layered range)) = row-of k (tableOf (homeTable layered range)) d full f (N.Entry j) e in
+      omega (arith, w, home-long layered range, rows-seven layered)
 
-  pub begin-block : (b : Inner) → N.Begin b ≡ nextOf (taking room a) → b .block ≤ 3
+  pub begin-block : (b : Inner) → N.Begin b ≡ nextOf a → b .block ≤ 3
   begin-block b e =
-      let (v, q) = act-of (N.Begin b) (taking room a) e in
-      let w = act-begun k (tableOf (homeTable layered range)) d full f (b .block) (b .row) v (room-for room a (begin (b .block) (b .row) v) q refl .1) in
+      let (v, q) = told (N.Begin b) a e in
+      let w = act-begun k (tableOf (homeTable layered range)) d full f (b .block) (b .row) v q in
       omega (arith, leb-true (innerOf (w .rule .holds)) 3 (row-all (λ r. leb (innerOf (r .holds)) 3) (w .row) (home-inner layered range)), w .inner)
 
 -- ── the line ──
-module _ (n : Now) (range : ℕ) (at : Where) (t₀ t₁ : List ℤ) (m₀ i₀ : List Bool) where
+module _ (n : Now) (range : ℕ) (at : Where) (rec₀ rec₁ : List ℤ) (m₀ i₀ : List Bool) where
   abbrev Line : Act → List ℤ → List Bool → List Bool → Step → Type 0
-  Line a t m i r = FigureLine a n range at t₀ t m₀ m i₀ i r
+  Line a rec₂ m i r = FigureLine a n range at rec₀ rec₂ m₀ m i₀ i r
 
-  abbrev At : Act → Type 0
-  At a = TakenAt (homeRule (n .layered) range) (n .free) t₀ t₁ a
+  abbrev Put : Act → Type 0
+  Put a = Entered (homeRule (n .layered) range) 0 rec₀ a rec₁
 
-  pub figures-stay : (a : Act) → N.Stay ≡ nextOf a → At a → Line a t₁ m₀ i₀ (S.Go n)
-  figures-stay a e = subst (λ (a : Act). At a → Line a t₁ m₀ i₀ (S.Go n)) (sym (act-of N.Stay a e)) λ h. record { answer = refl; table = h; marks = refl; inner = refl }
+  pub figures-stay : (a : Act) → N.Stay ≡ nextOf a → Put a → Line a rec₁ m₀ i₀ (S.Go n)
+  figures-stay a e = subst (λ (a : Act). Put a → Line a rec₁ m₀ i₀ (S.Go n)) (sym (told N.Stay a e)) λ h. record { answer = refl; rec = h; marks = refl; inner = refl }
 
-  pub figures-entry : (a : Act) (t₂ : List ℤ) (j : ℕ) (r : Now) → N.Entry j ≡ nextOf a → At a → t₂ ≡ headAt (n .free) (lineKind (n .layered) j) (n .owner) at t₁ → r ≡ moreFigures n
-      → Line a t₂ m₀ i₀ (S.Go r)
-  figures-entry a t₂ j r e x p q =
-      let (v, w) = act-of (N.Entry j) a e in
-      subst (λ (a : Act). At a → Line a t₂ m₀ i₀ (S.Go r)) (sym w)
-      (λ h. record { answer = ap S.Go q; table = p ∙ ap (headAt (n .free) (lineKind (n .layered) j) (n .owner) at) h; marks = refl; inner = refl }) x
+  pub figures-entry : (a : Act) (rec₂ : List ℤ) (j : ℕ) (r : Now) → N.Entry j ≡ nextOf a → Put a → rec₂ ≡ headAt 0 (lineKind (n .layered) j) (n .owner) at rec₁ → r ≡ moreFigures n
+      → Line a rec₂ m₀ i₀ (S.Go r)
+  figures-entry a rec₂ j r e x p q =
+      let (v, w) = told (N.Entry j) a e in
+      subst (λ (a : Act). Put a → Line a rec₂ m₀ i₀ (S.Go r)) (sym w)
+      (λ h. record { answer = ap S.Go q; rec = p ∙ ap (headAt 0 (lineKind (n .layered) j) (n .owner) at) h; marks = refl; inner = refl }) x
 
-  pub figures-begin : (a : Act) (b : Inner) (t₂ : List ℤ) (m₁ i₁ : List Bool) (r : Now) → N.Begin b ≡ nextOf a → At a
-      → t₂ ≡ headAt (n .free) (blockKind (n .layered) (b .block)) (n .owner) at t₁ → m₁ ≡ unmarkedIf (eqb (b .block) 3) m₀ → i₁ ≡ unmarkedIf (eqb (b .block) 2) i₀
-      → r ≡ figureOpened n (b .block) → Line a t₂ m₁ i₁ (S.Go r)
-  figures-begin a b t₂ m₁ i₁ r e x p y z q =
-      let (v, w) = act-of (N.Begin b) a e in
-      subst (λ (a : Act). At a → Line a t₂ m₁ i₁ (S.Go r)) (sym w)
-      (λ h. record { answer = ap S.Go q; table = p ∙ ap (headAt (n .free) (blockKind (n .layered) (b .block)) (n .owner) at) h; marks = y; inner = z }) x
+  pub figures-begin : (a : Act) (b : Inner) (rec₂ : List ℤ) (m₁ i₁ : List Bool) (r : Now) → N.Begin b ≡ nextOf a → Put a
+      → rec₂ ≡ headAt 0 (blockKind (n .layered) (b .block)) (n .owner) at rec₁ → m₁ ≡ unmarkedIf (eqb (b .block) 3) m₀ → i₁ ≡ unmarkedIf (eqb (b .block) 2) i₀
+      → r ≡ figureOpened n (b .block) → Line a rec₂ m₁ i₁ (S.Go r)
+  figures-begin a b rec₂ m₁ i₁ r e x p y z q =
+      let (v, w) = told (N.Begin b) a e in
+      subst (λ (a : Act). Put a → Line a rec₂ m₁ i₁ (S.Go r)) (sym w)
+      (λ h. record { answer = ap S.Go q; rec = p ∙ ap (headAt 0 (blockKind (n .layered) (b .block)) (n .owner) at) h; marks = y; inner = z }) x
 
-  pub figures-shut : (a : Act) (r : Step) → N.Shut ≡ nextOf a → At a → r ≡ figuresClosed n → Line a t₁ m₀ i₀ r
-  figures-shut a r e x q = subst (λ (a : Act). At a → Line a t₁ m₀ i₀ r) (sym (act-of N.Shut a e)) (λ h. record { answer = q; table = h; marks = refl; inner = refl }) x
+  pub figures-shut : (a : Act) (r : Step) → N.Shut ≡ nextOf a → Put a → r ≡ figuresClosed n → Line a rec₁ m₀ i₀ r
+  figures-shut a r e x q = subst (λ (a : Act). Put a → Line a rec₁ m₀ i₀ r) (sym (told N.Shut a e)) (λ h. record { answer = q; rec = h; marks = refl; inner = refl }) x
 
-  pub figures-refuse : (a : Act) (k : ℕ) → N.Refuse k ≡ nextOf a → Line a t₁ m₀ i₀ (S.Stop k)
-  figures-refuse a k e = subst (λ (a : Act). Line a t₁ m₀ i₀ (S.Stop k)) (sym (act-of (N.Refuse k) a e)) (record { answer = refl; table = tt; marks = refl; inner = refl })
+  pub figures-refuse : (a : Act) (k : ℕ) → N.Refuse k ≡ nextOf a → Line a rec₁ m₀ i₀ (S.Stop k)
+  figures-refuse a k e = subst (λ (a : Act). Line a rec₁ m₀ i₀ (S.Stop k)) (sym (told (N.Refuse k) a e)) (record { answer = refl; rec = tt; marks = refl; inner = refl })

@@ -1,5 +1,5 @@
--- A line among points: from what `act_at` promises to the line's own contract.
-use Prim.Native.Nat.{ℕ, _+_, _<_, _≤_}
+-- A line among points: from what `act` promises to the line's own contract.
+use Prim.Native.Nat.{ℕ, _<_, _≤_}
 use mathlib.Core.Bool.{Bool, true, false, cond}
 use mathlib.Core.List.{List, [], _∷_}
 use mathlib.Core.Path.{_≡_, refl, sym, _∙_, ap, subst}
@@ -20,7 +20,7 @@ use Rattle.rules.specs.Rows.{rowsAtLimit, Act, act}
 use Rattle.rules.specs.RecordTable.{ruleAt}
 use Rattle.rules.specs.Figures.{leastPoints, pointTable}
 use Rattle.tables.specs.Tables.{tableOf}
-use Rattle.entries.specs.Acts.{roomy}
+use Rattle.entries.specs.Acts.{roomy, Entered, Acts}
 use Rattle.entries.specs.declared.Inner.{Inner}
 use Rattle.entries.specs.declared.Next.{Next}
 use Rattle.entries.specs.declared.Next.the-variants as N
@@ -28,92 +28,110 @@ use Rattle.account.specs.declared.Now.{Now}
 use Rattle.account.specs.declared.Where.{Where}
 use Rattle.account.specs.declared.Step.{Step}
 use Rattle.account.specs.declared.Step.the-variants as S
-use Rattle.account.specs.Records.{hasRoom}
 use Rattle.leaves.proofs.Ints.{pos-back}
-use Rattle.account.specs.Account.{atBlock, figureDone, taking, headAt, TakenAt, ActsAt}
-use Rattle.account.specs.Points.{pointTableOf, chainKind, morePoints, chainEnd, chainTyped, chainClosed, ChainLine, HideLine}
-use Rattle.elements.proofs.BlocksActs.{told}
+use Rattle.account.specs.Records.{partAt, withPart}
+use Rattle.account.specs.Account.{atBlock, figureDone, headAt}
+use Rattle.account.specs.Points.{pointTableOf, chainKind, morePoints, PointRecord, PointLine, chainEnd, chainTyped, chainClosed, ChainLine, hideStep, HideLine}
+use Rattle.account.proofs.Lent.{with-same}
+use Rattle.elements.proofs.BlocksActs.{Told, told}
 
 -- ── the table of points ──
-pub points-one : (b : Bool) → 1 ≡ length (tableOf (pointTableOf b))
-unfolding tableOf pointTable
-points-one true = refl
-points-one false = refl
+by-points : (P : ℕ → Type 0) → P 14 → P 15 → (b : Bool) (table : ℕ) → table ≡ pointTableOf b → P table
+by-points P x y true table e = subst P (sym e) x
+by-points P x y false table e = subst P (sym e) y
 
-pub points-room : (b : Bool) → all (roomy 0 32) (tableOf (pointTableOf b)) ≡ true
+pub points-one : (b : Bool) (table : ℕ) → table ≡ pointTableOf b → 1 ≡ length (tableOf table)
 unfolding tableOf pointTable
-points-room true = refl
-points-room false = refl
+points-one b table e = by-points (λ t. 1 ≡ length (tableOf t)) refl refl b table e
+
+pub points-room : (b : Bool) (table n : ℕ) → table ≡ pointTableOf b → n ≡ 32 → all (roomy 0 n) (tableOf table) ≡ true
+unfolding tableOf pointTable
+points-room b table n e h = rw h (by-points (λ t. all (roomy 0 32) (tableOf t) ≡ true) refl refl b table e)
 
 -- "block of 3 to 100 point": the code's own mark
-points-full : (b : Bool) (n : ℕ) → leb 100 n ∷ [] ≡ rowsAtLimit n (tableOf (pointTableOf b))
+points-full : (b : Bool) (table n : ℕ) → table ≡ pointTableOf b → leb 100 n ∷ [] ≡ rowsAtLimit n (tableOf table)
 unfolding tableOf pointTable
-points-full true n = refl
-points-full false n = refl
+points-full b table n e = by-points (λ t. leb 100 n ∷ [] ≡ rowsAtLimit n (tableOf t)) refl refl b table e
 
-pub point-acts : (b : Bool) (table : ℕ) (d : Digits) (k : Known) (f : Form) (points free : ℕ) (t₀ t₁ : List ℤ) (x : Next) → table ≡ pointTableOf b → d ≡ digits 0 0
-    → ActsAt (ruleAt (tableOf table)) free t₀ (act k (tableOf table) d (leb 100 points ∷ []) f) t₁ x
-    → ActsAt (ruleAt (tableOf (pointTableOf b))) free t₀ (act k (tableOf (pointTableOf b)) (digits 0 0) (rowsAtLimit points (tableOf (pointTableOf b))) f) t₁ x
-point-acts b table d k f points free t₀ t₁ x e q m =
-    subst (λ (full : List Bool). ActsAt (ruleAt (tableOf (pointTableOf b))) free t₀ (act k (tableOf (pointTableOf b)) (digits 0 0) full f) t₁ x) (points-full b points)
-    (subst (λ (d : Digits). ActsAt (ruleAt (tableOf (pointTableOf b))) free t₀ (act k (tableOf (pointTableOf b)) d (leb 100 points ∷ []) f) t₁ x) q
-    (subst (λ (table : ℕ). ActsAt (ruleAt (tableOf table)) free t₀ (act k (tableOf table) d (leb 100 points ∷ []) f) t₁ x) e m))
+pub point-acts : (b : Bool) (table : ℕ) (d : Digits) (k : Known) (f : Form) (points : ℕ) (rec₀ rec₁ : List ℤ) (x : Next) → table ≡ pointTableOf b → d ≡ digits 0 0
+    → Acts (ruleAt (tableOf table)) 0 rec₀ (act k (tableOf table) d (leb 100 points ∷ []) f) rec₁ x
+    → Acts (ruleAt (tableOf table)) 0 rec₀ (act k (tableOf table) (digits 0 0) (rowsAtLimit points (tableOf table)) f) rec₁ x
+point-acts b table d k f points rec₀ rec₁ x e q m =
+    subst (λ (full : List Bool). Acts (ruleAt (tableOf table)) 0 rec₀ (act k (tableOf table) (digits 0 0) full f) rec₁ x) (points-full b table points e)
+    (subst (λ (d : Digits). Acts (ruleAt (tableOf table)) 0 rec₀ (act k (tableOf table) d (leb 100 points ∷ []) f) rec₁ x) q m)
 
--- ── by the answer ──
-module _ (n : Now) (at : Where) (t₀ t₁ : List ℤ) (a : Act) (x : Next) where
-  abbrev line : Act
-  line = taking (hasRoom (n .free) t₀) a
+-- ── a point ──
+module _ (n : Now) (kind table : ℕ) (at : Where) (rec₀ rec₁ : List ℤ) (a : Act) (x : Next) (m : Acts (ruleAt (tableOf table)) 0 rec₀ a rec₁ x) where
+  abbrev Points : List ℤ → Act → Type 0
+  Points rec₂ c = Entered (ruleAt (tableOf table)) 0 rec₀ c rec₁ → PointRecord n kind table at rec₀ rec₂ c
 
-  -- in a `successive`
-  module _ (own : ℕ) (m : ActsAt (ruleAt (tableOf (pointTableOf (n .layered)))) (n .free) t₀ a t₁ x) where
-    abbrev Chains : List ℤ → Step → Act → Type 0
-    Chains t₂ r c = TakenAt (ruleAt (tableOf (pointTableOf (n .layered)))) (n .free) t₀ t₁ c → ChainLine c n own at t₀ t₂ r
+  pub point-stay : x ≡ N.Stay → PointLine a n kind table at rec₀ rec₁ x
+  point-stay e = record { answer = m .eq; rec = subst (Points rec₁) (sym (told N.Stay a (sym e ∙ m .eq))) (λ h. h) (m .entered) }
 
-    pub chain-stay : x ≡ N.Stay → ChainLine line n own at t₀ t₁ (S.Go n)
-    chain-stay e = subst (Chains t₁ (S.Go n)) (sym (told N.Stay line (sym e ∙ m .eq))) (λ h. record { answer = refl; table = h }) (m .table)
+  pub point-entry : (rec₂ : List ℤ) (j : ℕ) → rec₂ ≡ headAt 0 kind (n .owner) at rec₁ → x ≡ N.Entry j → PointLine a n kind table at rec₀ rec₂ x
+  point-entry rec₂ j g e =
+      let (v, q) = told (N.Entry j) a (sym e ∙ m .eq) in
+      record { answer = m .eq; rec = subst (Points rec₂) (sym q) (λ h. g ∙ ap (headAt 0 kind (n .owner) at) h) (m .entered) }
 
-    pub chain-entry : (kind : ℕ) (t₂ t₃ : List ℤ) (y : Now) (j : ℕ) → kind ≡ chainKind (n .layered) → t₂ ≡ headAt (n .free) kind (n .owner) at t₁ → t₃ ≡ chainTyped n own t₂ → y ≡ morePoints n
-        → x ≡ N.Entry j → ChainLine line n own at t₀ t₃ (S.Go y)
-    chain-entry kind t₂ t₃ y j k g f r e =
-        let (v, q) = told (N.Entry j) line (sym e ∙ m .eq) in
-        subst (Chains t₃ (S.Go y)) (sym q) (λ h. record {
-          answer = ap (λ (z : Now). S.Go z) r;
-          table = f ∙ ap (chainTyped n own) (g ∙ ap (λ (i : ℕ). headAt (n .free) i (n .owner) at t₁) k ∙ ap (headAt (n .free) (chainKind (n .layered)) (n .owner) at) h);
-        }) (m .table)
+  pub point-begin : (i : Inner) → x ≡ N.Begin i → PointLine a n kind table at rec₀ rec₁ x
+  point-begin i e =
+      let (v, q) = told (N.Begin i) a (sym e ∙ m .eq) in record { answer = m .eq; rec = subst (PointRecord n kind table at rec₀ rec₁) (sym q) tt }
 
-    pub chain-begin : (t₂ : List ℤ) (i : Inner) → x ≡ N.Begin i → ChainLine line n own at t₀ t₂ (S.Stop 5)
-    chain-begin t₂ i e =
-        let (v, q) = told (N.Begin i) line (sym e ∙ m .eq) in subst (Chains t₂ (S.Stop 5)) (sym q) (λ h. record { answer = refl; table = tt }) (m .table)
+  pub point-shut : x ≡ N.Shut → PointLine a n kind table at rec₀ rec₁ x
+  point-shut e = record { answer = m .eq; rec = subst (Points rec₁) (sym (told N.Shut a (sym e ∙ m .eq))) (λ h. h) (m .entered) }
 
-    pub chain-shut : (t₂ : List ℤ) (r : Step) → r ≡ chainEnd n → (ltb (n .points) leastPoints ≡ false → t₂ ≡ chainClosed n own t₁) → x ≡ N.Shut → ChainLine line n own at t₀ t₂ r
-    chain-shut t₂ r g f e =
-        subst (Chains t₂ r) (sym (told N.Shut line (sym e ∙ m .eq))) (λ h. record { answer = g; table = λ s. f s ∙ ap (chainClosed n own) h }) (m .table)
+  pub point-refuse : (k : ℕ) → x ≡ N.Refuse k → PointLine a n kind table at rec₀ rec₁ x
+  point-refuse k e = record { answer = m .eq; rec = subst (PointRecord n kind table at rec₀ rec₁) (sym (told (N.Refuse k) a (sym e ∙ m .eq))) tt }
 
-    pub chain-refuse : (t₂ : List ℤ) (k : ℕ) → x ≡ N.Refuse k → ChainLine line n own at t₀ t₂ (S.Stop k)
-    chain-refuse t₂ k e = subst (Chains t₂ (S.Stop k)) (sym (told (N.Refuse k) line (sym e ∙ m .eq))) (λ h. record { answer = refl; table = tt }) (m .table)
+-- ── a line in a `successive`, by the answer: the point's record is lent to it behind the chain's own ──
+module _ (n : Now) (at : Where) (t₀ rec₁ t₁ : List ℤ) (a : Act) (x : Next)
+    (p : PointLine a n (chainKind (n .layered)) (pointTableOf (n .layered)) at (partAt 32 t₀) rec₁ x) (l : t₁ ≡ withPart 32 rec₁ t₀) where
+  abbrev Chains : List ℤ → Step → Act → Type 0
+  Chains t₂ r c = PointRecord n (chainKind (n .layered)) (pointTableOf (n .layered)) at (partAt 32 t₀) rec₁ c → ChainLine c n at t₀ t₂ r
 
-  -- in a `hide`
-  module _ (m : ActsAt (ruleAt (tableOf 15)) (n .free) t₀ a t₁ x) where
-    abbrev Hides : List ℤ → Step → Act → Type 0
-    Hides t₂ r c = TakenAt (ruleAt (tableOf 15)) (n .free) t₀ t₁ c → HideLine c n at t₀ t₂ r
+  -- where the point's record is as it was
+  same-lent : rec₁ ≡ partAt 32 t₀ → t₁ ≡ t₀
+  same-lent h = l ∙ ap (λ (u : List ℤ). withPart 32 u t₀) h ∙ with-same 32 t₀
 
-    pub hide-stay : x ≡ N.Stay → HideLine line n at t₀ t₁ (S.Go n)
-    hide-stay e = subst (Hides t₁ (S.Go n)) (sym (told N.Stay line (sym e ∙ m .eq))) (λ h. record { answer = refl; table = h }) (m .table)
+  pub chain-stay : x ≡ N.Stay → ChainLine a n at t₀ t₁ (S.Go n)
+  chain-stay e = subst (Chains t₁ (S.Go n)) (sym (told N.Stay a (sym e ∙ p .answer))) (λ h. record { answer = refl; records = same-lent h }) (p .rec)
 
-    pub hide-entry : (t₂ : List ℤ) (y : Now) (j : ℕ) → t₂ ≡ headAt (n .free) 43 (n .owner) at t₁ → y ≡ morePoints n → x ≡ N.Entry j → HideLine line n at t₀ t₂ (S.Go y)
-    hide-entry t₂ y j g r e =
-        let (v, q) = told (N.Entry j) line (sym e ∙ m .eq) in
-        subst (Hides t₂ (S.Go y)) (sym q) (λ h. record { answer = ap (λ (z : Now). S.Go z) r; table = g ∙ ap (headAt (n .free) 43 (n .owner) at) h }) (m .table)
+  pub chain-entry : (t₂ : List ℤ) (y : Now) (j : ℕ) → t₂ ≡ chainTyped n t₁ → y ≡ morePoints n → x ≡ N.Entry j → ChainLine a n at t₀ t₂ (S.Go y)
+  chain-entry t₂ y j f r e =
+      let (v, q) = told (N.Entry j) a (sym e ∙ p .answer) in
+      subst (Chains t₂ (S.Go y)) (sym q)
+      (λ h. record { answer = ap (λ (z : Now). S.Go z) r; records = f ∙ ap (chainTyped n) (l ∙ ap (λ (u : List ℤ). withPart 32 u t₀) h) }) (p .rec)
 
-    pub hide-begin : (t₂ : List ℤ) (i : Inner) → x ≡ N.Begin i → HideLine line n at t₀ t₂ (S.Stop 5)
-    hide-begin t₂ i e =
-        let (v, q) = told (N.Begin i) line (sym e ∙ m .eq) in subst (Hides t₂ (S.Stop 5)) (sym q) (λ h. record { answer = refl; table = tt }) (m .table)
+  pub chain-begin : (t₂ : List ℤ) (i : Inner) → x ≡ N.Begin i → ChainLine a n at t₀ t₂ (S.Stop 5)
+  chain-begin t₂ i e =
+      let (v, q) = told (N.Begin i) a (sym e ∙ p .answer) in subst (Chains t₂ (S.Stop 5)) (sym q) (λ h. record { answer = refl; records = tt }) (p .rec)
 
-    pub hide-shut : (y : Now) → y ≡ atBlock n 5 0 → x ≡ N.Shut → HideLine line n at t₀ t₁ (S.Go y)
-    hide-shut y g e = subst (Hides t₁ (S.Go y)) (sym (told N.Shut line (sym e ∙ m .eq))) (λ h. record { answer = ap (λ (z : Now). S.Go z) g; table = h }) (m .table)
+  pub chain-shut : (t₂ : List ℤ) (r : Step) → r ≡ chainEnd n → (ltb (n .points) leastPoints ≡ false → t₂ ≡ chainClosed n t₁) → x ≡ N.Shut → ChainLine a n at t₀ t₂ r
+  chain-shut t₂ r g f e =
+      subst (Chains t₂ r) (sym (told N.Shut a (sym e ∙ p .answer))) (λ h. record { answer = g; records = λ s. f s ∙ ap (chainClosed n) (same-lent h) }) (p .rec)
 
-    pub hide-refuse : (t₂ : List ℤ) (k : ℕ) → x ≡ N.Refuse k → HideLine line n at t₀ t₂ (S.Stop k)
-    hide-refuse t₂ k e = subst (Hides t₂ (S.Stop k)) (sym (told (N.Refuse k) line (sym e ∙ m .eq))) (λ h. record { answer = refl; table = tt }) (m .table)
+  pub chain-refuse : (t₂ : List ℤ) (k : ℕ) → x ≡ N.Refuse k → ChainLine a n at t₀ t₂ (S.Stop k)
+  chain-refuse t₂ k e = subst (Chains t₂ (S.Stop k)) (sym (told (N.Refuse k) a (sym e ∙ p .answer))) (λ h. record { answer = refl; records = tt }) (p .rec)
+
+-- ── a line in a `hide`, by the answer ──
+module _ (n : Now) (at : Where) (rec₀ rec₁ : List ℤ) (a : Act) (x : Next) (p : PointLine a n 43 15 at rec₀ rec₁ x) where
+  hides : (y : Next) (r : Step) → ((c : Act) → Told y c → r ≡ hideStep n c) → x ≡ y → HideLine a n at rec₀ rec₁ r
+  hides y r f e = record { answer = f a (told y a (sym e ∙ p .answer)); rec = p .rec }
+
+  pub hide-stay : x ≡ N.Stay → HideLine a n at rec₀ rec₁ (S.Go n)
+  hide-stay = hides N.Stay (S.Go n) (λ c q. sym (ap (hideStep n) q))
+
+  pub hide-entry : (y : Now) (j : ℕ) → y ≡ morePoints n → x ≡ N.Entry j → HideLine a n at rec₀ rec₁ (S.Go y)
+  hide-entry y j r = hides (N.Entry j) (S.Go y) (λ c q. ap (λ (z : Now). S.Go z) r ∙ sym (ap (hideStep n) (q .1)))
+
+  pub hide-begin : (i : Inner) → x ≡ N.Begin i → HideLine a n at rec₀ rec₁ (S.Stop 5)
+  hide-begin i = hides (N.Begin i) (S.Stop 5) (λ c q. sym (ap (hideStep n) (q .1)))
+
+  pub hide-shut : (y : Now) → y ≡ atBlock n 5 0 → x ≡ N.Shut → HideLine a n at rec₀ rec₁ (S.Go y)
+  hide-shut y r = hides N.Shut (S.Go y) (λ c q. ap (λ (z : Now). S.Go z) r ∙ sym (ap (hideStep n) q))
+
+  pub hide-refuse : (k : ℕ) → x ≡ N.Refuse k → HideLine a n at rec₀ rec₁ (S.Stop k)
+  hide-refuse k = hides (N.Refuse k) (S.Stop k) (λ c q. sym (ap (hideStep n) q))
 
 -- ── the end of a `successive` ──
 pub chain-short : (n : Now) → n .points < leastPoints → S.Stop 8 ≡ chainEnd n
@@ -122,14 +140,12 @@ chain-short n h = sym (ap (λ (b : Bool). cond b (S.Stop 8) (S.Go (figureDone n)
 pub chain-long : (n y : Now) → leastPoints ≤ n .points → y ≡ figureDone n → S.Go y ≡ chainEnd n
 chain-long n y h e = ap (λ (z : Now). S.Go z) e ∙ sym (ap (λ (b : Bool). cond b (S.Stop 8) (S.Go (figureDone n))) (le-ltb (n .points) leastPoints h))
 
-pub chain-counted : (n : Now) (own : ℕ) (t : List ℤ) → n .points < 100000000000 → set t (own + 5) (toZ w64 (n .points)) ≡ chainClosed n own t
-chain-counted n own t h = rw (pos-back (n .points) h)
+pub chain-counted : (n : Now) (t : List ℤ) → n .points < 100000000000 → set t 5 (toZ w64 (n .points)) ≡ chainClosed n t
+chain-counted n t h = rw (pos-back (n .points) h)
 
 -- ── its first point's type ──
-pub typed-first : (n : Now) (own : ℕ) (t : List ℤ) → SFits w64 (getD t (n .free + 4) (pos 0)) → n .points ≤ 0
-    → set t (own + 4) (toZ w64 (ofZ w64 (getD t (n .free + 4) (pos 0)))) ≡ chainTyped n own t
-typed-first n own t f h =
-    ap (set t (own + 4)) (toZ-ofZ f) ∙ sym (ap (λ (b : Bool). cond b (set t (own + 4) (getD t (n .free + 4) (pos 0))) t) (eq-eqb (n .points) 0 (omega (arith, h))))
+pub typed-first : (n : Now) (t : List ℤ) → SFits w64 (getD t 36 (pos 0)) → n .points ≤ 0 → set t 4 (toZ w64 (ofZ w64 (getD t 36 (pos 0)))) ≡ chainTyped n t
+typed-first n t f h = ap (set t 4) (toZ-ofZ f) ∙ sym (ap (λ (b : Bool). cond b (set t 4 (getD t 36 (pos 0))) t) (eq-eqb (n .points) 0 (omega (arith, h))))
 
-pub typed-before : (n : Now) (own : ℕ) (t : List ℤ) → 0 < n .points → t ≡ chainTyped n own t
-typed-before n own t h = sym (ap (λ (b : Bool). cond b (set t (own + 4) (getD t (n .free + 4) (pos 0))) t) (ne-eqb (n .points) 0 (λ e. omega (arith, e, h))))
+pub typed-before : (n : Now) (t : List ℤ) → 0 < n .points → t ≡ chainTyped n t
+typed-before n t h = sym (ap (λ (b : Bool). cond b (set t 4 (getD t 36 (pos 0))) t) (ne-eqb (n .points) 0 (λ e. omega (arith, e, h))))

@@ -42,8 +42,7 @@ fn open_layer(was: Now, layer: u32, used: &mut [bool], used_all: &mut [bool]) ->
         part: 0,
         layered: true,
         owner: layer,
-        own: was.own,
-        free: was.free,
+        records: was.records,
         figures: 0,
         points: 0,
     })

@@ -6,7 +6,7 @@ use account::Now;
 use account::Step;
 use account::Where;
 use entries::Next;
-use groundwork::blocks::act_at;
+use entries::acts::act;
 use groundwork::blocks::at_block;
 use groundwork::blocks::digits_of;
 use groundwork::blocks::unmark;
@@ -14,21 +14,18 @@ use groundwork::table::head;
 use rules::IN_SYMBOL;
 use rules::KIND_LINE;
 use rules::LineForm;
-use rules::WIDTH;
 use tables::TABLE_FIGURES;
 use tables::TABLE_LAYER;
 use tables::TABLE_SINGLE_LAYER;
 ghost use mathlib.Core.Path.{_≡_};
 ghost use mathlib.Core.Bool.{false};
-ghost use Prim.Native.Nat.{_+_, _≤_, _<_};
+ghost use Prim.Native.Nat.{_≤_, _<_};
 ghost use lib.ListN.{length, replicate};
 ghost use Rattle.rules.specs.Lines.{formIn};
 ghost use Rattle.rules.specs.RangeClass.{digitsOf};
 ghost use Rattle.rules.specs.Rows.{act};
 ghost use Rattle.tables.specs.Tables.{tableOf};
 ghost use Rattle.entries.specs.Names.{knownIn};
-ghost use Rattle.account.specs.Records.{hasRoom};
-ghost use Rattle.account.specs.Account.{taking};
 ghost use Rattle.account.specs.FigureLines.{homeTable, homeRows, lineKind, blockKind, moreFigures, figureOpened, figuresClosed, unmarkedIf, FigureLine};
 ghost use Rattle.rules.specs.RecordTable.{width};
 
@@ -80,7 +77,7 @@ fn block_kind(layered: bool, block: u8) -> u8
 }
 
 fn more_figures(now: Now) -> Now
-    requires { ⌜ (now .free + width ≤ 18446744073709551615) × (now .figures < 4294967295) ⌝ }
+    requires { ⌜ (now .records < 18446744073709551615) × (now .figures < 4294967295) ⌝ }
     ensures { λ r. ⌜ r ≡ moreFigures now ⌝ }
 {
     Now {
@@ -88,8 +85,7 @@ fn more_figures(now: Now) -> Now
         part: now.part,
         layered: now.layered,
         owner: now.owner,
-        own: now.own,
-        free: now.free + WIDTH,
+        records: now.records + 1,
         figures: now.figures + 1,
         points: now.points,
     }
@@ -97,7 +93,7 @@ fn more_figures(now: Now) -> Now
 
 // A figure that is a block: 9 `successive`, 10 text, 11 a placed symbol.
 fn figure_opened(now: Now, block: u8) -> Now
-    requires { ⌜ (block ≤ 3) × (now .free + width ≤ 18446744073709551615) ⌝ }
+    requires { ⌜ (block ≤ 3) × (now .records < 18446744073709551615) ⌝ }
     ensures { λ r. ⌜ r ≡ figureOpened now block ⌝ }
 {
     Now {
@@ -105,8 +101,7 @@ fn figure_opened(now: Now, block: u8) -> Now
         part: 0,
         layered: now.layered,
         owner: now.owner,
-        own: now.own,
-        free: now.free + WIDTH,
+        records: now.records + 1,
         figures: now.figures,
         points: 0,
     }
@@ -134,7 +129,7 @@ fn unmark_if(opens: bool, marks: &mut [bool])
     }
 }
 
-// A line among the figures.
+// A line among the figures: the record that it takes is lent.
 pub fn on_figures(
     s: &[u8],
     symbols: &[u32],
@@ -145,15 +140,14 @@ pub fn on_figures(
     at: Where,
     marks: &mut [bool],
     inner_marks: &mut [bool],
-    t: &mut [i64],
+    rec: &mut [i64],
 ) -> Step
-    requires { ⌜ (length (now s) ≤ 61440) × (length (now symbols) ≤ 65536) × (length (now layers) ≤ 65536) × (was .figures < 4294967295) ⌝ }
-    ensures { λ r. ⌜ FigureLine (taking (hasRoom (was .free) (now (t .entry))) (act (knownIn (now (s .entry)) (now (symbols .entry)) (now (layers .entry))) (tableOf (homeTable (was .layered) range)) (digitsOf range) (replicate (homeRows (was .layered)) false) (formIn (now (s .entry)) form))) was range at (now (t .entry)) (now (t .exit)) (now (marks .entry)) (now (marks .exit)) (now («inner_marks» .entry)) (now («inner_marks» .exit)) r ⌝ }
+    requires { ⌜ (length (now s) ≤ 61440) × (length (now symbols) ≤ 65536) × (length (now layers) ≤ 65536) × (was .figures < 4294967295) × (was .records < 18446744073709551615) × (length (now rec) ≡ width) ⌝ }
+    ensures { λ r. ⌜ FigureLine (act (knownIn (now (s .entry)) (now (symbols .entry)) (now (layers .entry))) (tableOf (homeTable (was .layered) range)) (digitsOf range) (replicate (homeRows (was .layered)) false) (formIn (now (s .entry)) form)) was range at (now (rec .entry)) (now (rec .exit)) (now (marks .entry)) (now (marks .exit)) (now («inner_marks» .entry)) (now («inner_marks» .exit)) r ⌝ }
 {
     let full = [false; 7];
     let rows = home_rows(was.layered);
-    let w = was.free;
-    let next = act_at(
+    let next = act(
         home_table(was.layered, range),
         s,
         symbols,
@@ -161,15 +155,15 @@ pub fn on_figures(
         digits_of(range),
         &full[..rows],
         form,
-        w,
-        t,
+        0,
+        rec,
     );
     match next {
         Next::Stay => Step::Go(was),
         Next::Entry(row) => {
             head(
-                t,
-                w,
+                rec,
+                0,
                 line_kind(was.layered, row),
                 was.owner,
                 at.volume,
@@ -179,8 +173,8 @@ pub fn on_figures(
         }
         Next::Begin(inner) => {
             head(
-                t,
-                w,
+                rec,
+                0,
                 block_kind(was.layered, inner.block),
                 was.owner,
                 at.volume,

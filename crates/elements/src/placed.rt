@@ -284,7 +284,7 @@ fn on_placed_own(
     )
 }
 
-// A line in a placed symbol: its record is the last one taken.
+// A line in a placed symbol: its record is lent.
 pub fn on_placed(
     s: &[u8],
     symbols: &[u32],

@@ -1,10 +1,11 @@
 // The points of a `successive` and of a symbol's `hide`.
 use account::BLOCK_SYMBOL;
+use account::CHAIN_LENGTH;
 use account::Now;
 use account::Step;
 use account::Where;
 use entries::Next;
-use groundwork::blocks::act_at;
+use entries::acts::act;
 use groundwork::blocks::at_block;
 use groundwork::blocks::figure_done;
 use groundwork::blocks::no_digits;
@@ -17,12 +18,13 @@ use rules::WIDTH;
 use tables::TABLE_LAYER_POINTS;
 use tables::TABLE_SYMBOL_POINTS;
 ghost use mathlib.Core.Path.{_≡_};
-ghost use mathlib.Core.Bool.{false};
-ghost use Prim.Native.Nat.{_+_, _≤_, _<_};
+ghost use mathlib.Core.Bool.{Bool, false};
+ghost use Prim.Native.Nat.{_≤_, _<_};
 ghost use lib.Dec.{ltb};
 ghost use lib.ListN.{length};
 ghost use Rattle.rules.specs.Figures.{leastPoints};
-ghost use Rattle.account.specs.Points.{pointTableOf, chainKind, pointAct, morePoints, chainEnd, chainTyped, chainClosed, ChainLine, HideLine};
+ghost use Rattle.account.specs.Points.{pointTableOf, chainKind, pointAct, morePoints, chainEnd, chainTyped, chainClosed, PointLine, ChainLine, HideLine};
+ghost use Rattle.account.specs.Numbering.{chainLength};
 ghost use Rattle.tables.specs.Numbering.{tableSymbolPoints};
 ghost use Rattle.rules.specs.RecordTable.{width};
 
@@ -60,7 +62,7 @@ fn chain_point_kind(layered: bool) -> u8
 
 // One more point.
 fn more_points(now: Now) -> Now
-    requires { ⌜ (now .free + width ≤ 18446744073709551615) × (now .points < 4294967295) ⌝ }
+    requires { ⌜ (now .records < 18446744073709551615) × (now .points < 4294967295) ⌝ }
     ensures { λ r. ⌜ r ≡ morePoints now ⌝ }
 {
     Now {
@@ -68,79 +70,96 @@ fn more_points(now: Now) -> Now
         part: now.part,
         layered: now.layered,
         owner: now.owner,
-        own: now.own,
-        free: now.free + WIDTH,
+        records: now.records + 1,
         figures: now.figures,
         points: now.points + 1,
     }
 }
 
+// A line in a block of points. The point's record is lent.
+fn point_line(
+    table: u8,
+    kind: u8,
+    s: &[u8],
+    symbols: &[u32],
+    layers: &[u32],
+    here: Now,
+    form: LineForm,
+    at: Where,
+    rec: &mut [i64],
+) -> Next
+    requires { ⌜ (length (now s) ≤ 61440) × (length (now symbols) ≤ 65536) × (length (now layers) ≤ 65536) × (length (now rec) ≡ width) × ((layered : Bool) × (table ≡ pointTableOf layered)) ⌝ }
+    ensures { λ r. ⌜ PointLine (pointAct table (now (s .entry)) (now (symbols .entry)) (now (layers .entry)) here form) here kind table at (now (rec .entry)) (now (rec .exit)) r ⌝ }
+{
+    let full = [MOST_POINTS <= here.points];
+    let next = act(table, s, symbols, layers, no_digits(), &full, form, 0, rec);
+    match next {
+        Next::Stay => next,
+        Next::Entry(_) => {
+            head(rec, 0, kind, here.owner, at.volume, at.line);
+            next
+        }
+        Next::Begin(_) => next,
+        Next::Shut => next,
+        Next::Refuse(_) => next,
+    }
+}
+
 // "14 successive (first point's type, point count)": the type goes to its own record at its first point's line, from that point's record.
-fn type_chain(here: Now, own: usize, t: &mut [i64])
-    requires { ⌜ (own + width ≤ length (now t)) × (here .free + width ≤ length (now t)) ⌝ }
-    ensures { λ _. ⌜ now (t .exit) ≡ chainTyped here own (now (t .entry)) ⌝ }
+fn type_chain(here: Now, t: &mut [i64])
+    requires { ⌜ length (now t) ≡ chainLength ⌝ }
+    ensures { λ _. ⌜ now (t .exit) ≡ chainTyped here (now (t .entry)) ⌝ }
 {
     if here.points > 0 {
         return;
     }
-    t[own + PLACE_TYPE] = t[here.free + PLACE_TYPE];
+    t[PLACE_TYPE] = t[WIDTH + PLACE_TYPE];
 }
 
 // The count goes there at its end.
-fn close_chain(here: Now, own: usize, t: &mut [i64]) -> Step
-    requires { ⌜ (here .figures < 4294967295) × (here .points < 4294967295) × (own + width ≤ length (now t)) ⌝ }
-    ensures { λ r. ⌜ (r ≡ chainEnd here) × (ltb (here .points) leastPoints ≡ false → now (t .exit) ≡ chainClosed here own (now (t .entry))) ⌝ }
+fn close_chain(here: Now, t: &mut [i64]) -> Step
+    requires { ⌜ (here .figures < 4294967295) × (here .points < 4294967295) × (length (now t) ≡ chainLength) ⌝ }
+    ensures { λ r. ⌜ (r ≡ chainEnd here) × (ltb (here .points) leastPoints ≡ false → now (t .exit) ≡ chainClosed here (now (t .entry))) ⌝ }
 {
     if here.points < 3 {
         return Step::Stop(8);
     }
-    t[own + PLACE_COUNT] = here.points as i64;
+    t[PLACE_COUNT] = here.points as i64;
     Step::Go(figure_done(here))
 }
 
-// A line in a `successive`, whose own record stands at `own`.
+// A line in a `successive`. It is lent two records: its own, and behind it the point's.
 pub fn on_chain(
     s: &[u8],
     symbols: &[u32],
     layers: &[u32],
     here: Now,
-    own: usize,
     form: LineForm,
     at: Where,
     t: &mut [i64],
 ) -> Step
-    requires { ⌜ (length (now s) ≤ 61440) × (length (now symbols) ≤ 65536) × (length (now layers) ≤ 65536) × (here .figures < 4294967295) × (here .points < 4294967295) × (own + width ≤ length (now t)) ⌝ }
-    ensures { λ r. ⌜ ChainLine (pointAct (pointTableOf (here .layered)) (now (s .entry)) (now (symbols .entry)) (now (layers .entry)) here form (now (t .entry))) here own at (now (t .entry)) (now (t .exit)) r ⌝ }
+    requires { ⌜ (length (now s) ≤ 61440) × (length (now symbols) ≤ 65536) × (length (now layers) ≤ 65536) × (here .figures < 4294967295) × (here .points < 4294967295) × (here .records < 18446744073709551615) × (length (now t) ≡ chainLength) ⌝ }
+    ensures { λ r. ⌜ ChainLine (pointAct (pointTableOf (here .layered)) (now (s .entry)) (now (symbols .entry)) (now (layers .entry)) here form) here at (now (t .entry)) (now (t .exit)) r ⌝ }
 {
-    let full = [MOST_POINTS <= here.points];
-    let w = here.free;
-    let next = act_at(
+    let next = point_line(
         point_table(here.layered),
+        chain_point_kind(here.layered),
         s,
         symbols,
         layers,
-        no_digits(),
-        &full,
+        here,
         form,
-        w,
-        t,
+        at,
+        &mut t[WIDTH..CHAIN_LENGTH],
     );
     match next {
         Next::Stay => Step::Go(here),
         Next::Entry(_) => {
-            head(
-                t,
-                w,
-                chain_point_kind(here.layered),
-                here.owner,
-                at.volume,
-                at.line,
-            );
-            type_chain(here, own, t);
+            type_chain(here, t);
             Step::Go(more_points(here))
         }
         Next::Begin(_) => Step::Stop(5),
-        Next::Shut => close_chain(here, own, t),
+        Next::Shut => close_chain(here, t),
         Next::Refuse(n) => Step::Stop(n),
     }
 }
@@ -153,30 +172,25 @@ pub fn on_hide(
     here: Now,
     form: LineForm,
     at: Where,
-    t: &mut [i64],
+    rec: &mut [i64],
 ) -> Step
-    requires { ⌜ (length (now s) ≤ 61440) × (length (now symbols) ≤ 65536) × (length (now layers) ≤ 65536) × (here .points < 4294967295) ⌝ }
-    ensures { λ r. ⌜ HideLine (pointAct tableSymbolPoints (now (s .entry)) (now (symbols .entry)) (now (layers .entry)) here form (now (t .entry))) here at (now (t .entry)) (now (t .exit)) r ⌝ }
+    requires { ⌜ (length (now s) ≤ 61440) × (length (now symbols) ≤ 65536) × (length (now layers) ≤ 65536) × (here .points < 4294967295) × (here .records < 18446744073709551615) × (length (now rec) ≡ width) ⌝ }
+    ensures { λ r. ⌜ HideLine (pointAct tableSymbolPoints (now (s .entry)) (now (symbols .entry)) (now (layers .entry)) here form) here at (now (rec .entry)) (now (rec .exit)) r ⌝ }
 {
-    let full = [MOST_POINTS <= here.points];
-    let w = here.free;
-    let next = act_at(
+    let next = point_line(
         TABLE_SYMBOL_POINTS,
+        KIND_HIDDEN,
         s,
         symbols,
         layers,
-        no_digits(),
-        &full,
+        here,
         form,
-        w,
-        t,
+        at,
+        rec,
     );
     match next {
         Next::Stay => Step::Go(here),
-        Next::Entry(_) => {
-            head(t, w, KIND_HIDDEN, here.owner, at.volume, at.line);
-            Step::Go(more_points(here))
-        }
+        Next::Entry(_) => Step::Go(more_points(here)),
         Next::Begin(_) => Step::Stop(5),
         Next::Shut => Step::Go(at_block(here, BLOCK_SYMBOL, 0)),
         Next::Refuse(n) => Step::Stop(n),

@@ -29,7 +29,7 @@ fn text_table(in_layer: bool) -> u8
     TABLE_SYMBOL_TEXT
 }
 
-// A line in a text: its record is the last one taken.
+// A line in a text: its record is lent.
 pub fn on_text(
     s: &[u8],
     symbols: &[u32],

@@ -1,5 +1,5 @@
 pub mod ClassDigits
 pub mod Stores
 pub mod MarkScan
-pub mod ScratchCode
+pub mod PutRecords
 pub mod Unique

@@ -17,14 +17,13 @@ use Rattle.account.specs.declared.Step.{Step}
 use Rattle.account.specs.declared.Volume.{Volume}
 use Rattle.account.specs.Account.{atBlock}
 use Rattle.account.specs.Classes.{classIn}
-use Rattle.account.specs.TableApart.{lentNow, chainAt, freshFor, backStep}
+use Rattle.account.specs.Putting.{withinLimit, completed, numberFor, putBy, clearedBy, ownAfter}
 use Rattle.account.specs.Walk.{seenFrom}
 use Rattle.groundwork.proofs.blocks.at_block as at-block′
 use Rattle.groundwork.proofs.classes.class_of as class-of′
-use Rattle.groundwork.proofs.scratch.back_step as back-step′
-use Rattle.groundwork.proofs.scratch.chain_at as chain-at′
-use Rattle.groundwork.proofs.scratch.lent_now as lent-now′
-use Rattle.groundwork.proofs.scratch.make_fresh as make-fresh′
+use Rattle.groundwork.proofs.putting.own_after as own-after′
+use Rattle.groundwork.proofs.putting.put_done as put-done′
+use Rattle.groundwork.proofs.putting.within as within′
 use Rattle.groundwork.proofs.table.clear as clear′
 use Rattle.groundwork.proofs.walk.next_line as next-line′
 
@@ -48,33 +47,39 @@ next-line-unique body v p r₁ r₂ c₁ c₂ = c₁ ∙ sym c₂
 next-line-code : One next-line′.Kinds.ps next-line′.Kinds.r next-line′.Reads.Learnt (λ κs r e. r)
 next-line-code κs x r₁ r₂ e₁ e₂ = next-line-unique (now (x .0)) (x .1 .0) (x .1 .1 .0) r₁ r₂
 
--- ── the table, and the numbers lent in its place ──
+-- ── the table ──
 pub clear-unique : (t t₁ t₂ : List ℤ) → t₁ ≡ replicate (length t) (pos 0) → t₂ ≡ replicate (length t) (pos 0) → t₁ ≡ t₂
 clear-unique t t₁ t₂ c₁ c₂ = c₁ ∙ sym c₂
 
 clear-code : One clear′.Kinds.ps clear′.Kinds.r clear′.Reads.Learnt (λ κs r e. now (e .0))
 clear-code κs x r₁ r₂ e₁ e₂ = clear-unique (now (x .0)) (now (e₁ .0)) (now (e₂ .0))
 
-pub lent-now-unique : (whole : Bool) (n : Now) (limit : ℕ) (r₁ r₂ : Now) → r₁ ≡ lentNow whole n limit → r₂ ≡ lentNow whole n limit → r₁ ≡ r₂
-lent-now-unique whole n limit r₁ r₂ c₁ c₂ = c₁ ∙ sym c₂
+-- ── a record on its way there ──
+pub within-unique : (limit : ℕ) (did r₁ r₂ : Step) → r₁ ≡ withinLimit limit did → r₂ ≡ withinLimit limit did → r₁ ≡ r₂
+within-unique limit did r₁ r₂ c₁ c₂ = c₁ ∙ sym c₂
 
-lent-now-code : One lent-now′.Kinds.ps lent-now′.Kinds.r lent-now′.Reads.Learnt (λ κs r e. r)
-lent-now-code κs x r₁ r₂ e₁ e₂ = lent-now-unique (x .0) (x .1 .0) (x .1 .1 .0) r₁ r₂
+within-code : One within′.Kinds.ps within′.Kinds.r within′.Reads.Learnt (λ κs r e. r)
+within-code κs x r₁ r₂ e₁ e₂ = within-unique (x .0) (x .1 .0) r₁ r₂
 
-pub chain-at-unique : (whole : Bool) (n : Now) (r₁ r₂ : ℕ) → r₁ ≡ chainAt whole n → r₂ ≡ chainAt whole n → r₁ ≡ r₂
-chain-at-unique whole n r₁ r₂ c₁ c₂ = c₁ ∙ sym c₂
+pub own-after-unique : (was : Now) (own r₁ r₂ : ℕ) → r₁ ≡ ownAfter was own → r₂ ≡ ownAfter was own → r₁ ≡ r₂
+own-after-unique was own r₁ r₂ c₁ c₂ = c₁ ∙ sym c₂
 
-chain-at-code : One chain-at′.Kinds.ps chain-at′.Kinds.r chain-at′.Reads.Learnt (λ κs r e. r)
-chain-at-code κs x r₁ r₂ e₁ e₂ = chain-at-unique (x .0) (x .1 .0) r₁ r₂
+own-after-code : One own-after′.Kinds.ps own-after′.Kinds.r own-after′.Reads.Learnt (λ κs r e. r)
+own-after-code κs x r₁ r₂ e₁ e₂ = own-after-unique (x .0) (x .1 .0) r₁ r₂
 
-pub make-fresh-unique : (whole : Bool) (n : Now) (t t₁ t₂ : List ℤ) → t₁ ≡ freshFor whole n t → t₂ ≡ freshFor whole n t → t₁ ≡ t₂
-make-fresh-unique whole n t t₁ t₂ c₁ c₂ = c₁ ∙ sym c₂
+-- the scratch and the table
+pub put-done-scratch : (was is : Now) (s s₁ s₂ : List ℤ) → s₁ ≡ clearedBy (completed was is) s → s₂ ≡ clearedBy (completed was is) s → s₁ ≡ s₂
+put-done-scratch was is s s₁ s₂ c₁ c₂ = c₁ ∙ sym c₂
 
-make-fresh-code : One make-fresh′.Kinds.ps make-fresh′.Kinds.r make-fresh′.Reads.Learnt (λ κs r e. now (e .1 .1 .0))
-make-fresh-code κs x r₁ r₂ e₁ e₂ = make-fresh-unique (x .0) (x .1 .0) (now (x .1 .1 .0)) (now (e₁ .1 .1 .0)) (now (e₂ .1 .1 .0))
+put-done-scratch-code : One put-done′.Kinds.ps put-done′.Kinds.r put-done′.Reads.Learnt (λ κs r e. now (e .1 .1 .1 .1 .1 .0))
+put-done-scratch-code κs x r₁ r₂ e₁ e₂ c₁ c₂ =
+    put-done-scratch (x .1 .0) (x .1 .1 .0) (now (x .1 .1 .1 .1 .1 .0)) (now (e₁ .1 .1 .1 .1 .1 .0)) (now (e₂ .1 .1 .1 .1 .1 .0)) (c₁ .0) (c₂ .0)
 
-pub back-step-unique : (whole : Bool) (n : Now) (free : ℕ) (did r₁ r₂ : Step) → r₁ ≡ backStep whole n free did → r₂ ≡ backStep whole n free did → r₁ ≡ r₂
-back-step-unique whole n free did r₁ r₂ c₁ c₂ = c₁ ∙ sym c₂
+pub put-done-table : (first : Bool) (was is : Now) (own : ℕ) (h s t t₁ t₂ : List ℤ) → t₁ ≡ putBy (completed was is) first (numberFor was is own) h s t
+    → t₂ ≡ putBy (completed was is) first (numberFor was is own) h s t → t₁ ≡ t₂
+put-done-table first was is own h s t t₁ t₂ c₁ c₂ = c₁ ∙ sym c₂
 
-back-step-code : One back-step′.Kinds.ps back-step′.Kinds.r back-step′.Reads.Learnt (λ κs r e. r)
-back-step-code κs x r₁ r₂ e₁ e₂ = back-step-unique (x .0) (x .1 .0) (x .1 .1 .0) (x .1 .1 .1 .0) r₁ r₂
+put-done-table-code : One put-done′.Kinds.ps put-done′.Kinds.r put-done′.Reads.Learnt (λ κs r e. now (e .1 .1 .1 .1 .1 .1 .0))
+put-done-table-code κs x r₁ r₂ e₁ e₂ c₁ c₂ =
+    put-done-table (x .0) (x .1 .0) (x .1 .1 .0) (x .1 .1 .1 .0) (now (x .1 .1 .1 .1 .0)) (now (x .1 .1 .1 .1 .1 .0)) (now (x .1 .1 .1 .1 .1 .1 .0))
+    (now (e₁ .1 .1 .1 .1 .1 .1 .0)) (now (e₂ .1 .1 .1 .1 .1 .1 .0)) (c₁ .1) (c₂ .1)

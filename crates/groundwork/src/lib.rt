@@ -1,8 +1,8 @@
-// What the code of every block stands on: the lent table or the scratch in its place, what is open, marks and numbers looked through, the
-// digits of classes, and the next line.
+// What the code of every block stands on: what is open, marks and numbers looked through, the digits of classes, the next line, and the way of a
+// record to the table.
 pub mod blocks;
 pub mod classes;
-pub mod scratch;
+pub mod putting;
 pub mod serials;
 pub mod table;
 pub mod walk;

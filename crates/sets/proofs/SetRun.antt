@@ -1,26 +1,24 @@
 -- The volumes of a set read one after the other: how far the reading has come, and what one more volume makes of it.
 use Prim.Native.Nat.{ℕ, zero, suc, _+_, _-_, _*_, _/_, _≤_, _<_}
-use mathlib.Core.Bool.{Bool, true, false}
+use mathlib.Core.Bool.{Bool}
 use mathlib.Core.List.{List, [], _∷_, _++_}
 use mathlib.Core.Option.{Option, none, some}
 use mathlib.Core.Path.{_≡_, refl, sym, _∙_, ap, subst}
 use native.Mathlib.Omega.{arith}
-use lib.Dec.{eqb}
 use lib.IntN.{ℤ, pos}
-use lib.ListN.{length, getD, take, drop, replicate, length-drop, length-replicate}
+use lib.ListN.{length, getD, take, drop, replicate, length-drop}
 use lib.Seq.{drop-drop}
-use borrow.Author.Tests.{lt-ltb, le-ltb, eqb-true, eqb-false}
+use borrow.Author.Tests.{lt-ltb, le-ltb}
 use Rattle.rules.specs.declared.Digits.{Digits}
 use Rattle.rules.specs.declared.Refusal.{Refusal}
 use Rattle.rules.specs.Base.{isNil}
-use Rattle.rules.proofs.Chains.{clash}
 use Rattle.rules.specs.Spool as P
 use Rattle.rules.specs.Spool.{volumesOf}
 use Rattle.rules.specs.Lines.{span, bytesAt}
 use Rattle.rules.specs.Sets.{Set, nothingYet}
 use Rattle.rules.specs.Machine.{Line, Env, top, ended}
 use Rattle.rules.specs.LineByLine.{refused, accepted, run}
-use Rattle.rules.specs.RecordTable.{recordsFrom, recordsOf, tableOf}
+use Rattle.rules.specs.RecordTable.{recordsFrom, recordsOf, tableOf, width}
 use Rattle.rules.specs.Answers.{nextName, linesOfVolume, outcomeOfLines, outcomeOfVolumes, outcomeOf}
 use Rattle.lines.specs.VolumePlaces.{noLayout, layoutOf}
 use Rattle.lines.specs.VolumeNames.{nameAt}
@@ -35,16 +33,16 @@ use Rattle.account.specs.declared.Volume.{Volume}
 use Rattle.account.specs.declared.Through.{Through}
 use Rattle.account.specs.declared.Through.the-variants as T
 use Rattle.account.specs.Walk.{endOf, At}
-use Rattle.standing.specs.Standing.{Desk, deskNow, deskTable, Under}
-use Rattle.account.specs.TableApart.{symbolOpen, Seen, whole, apart}
+use Rattle.standing.specs.Standing.{Desk}
 use Rattle.standing.specs.FileStanding.{InFile}
-use Rattle.standing.specs.Reading.{Standing, startOf, nextNumber, nextState, VolumeReady, VolumeOut, VolumePromise}
-use Rattle.sets.specs.SetReading.{envOf, nameBehind, LentFor}
+use Rattle.standing.specs.Reading.{Standing, startOf, nextNumber, nextState, Kept, limitedTo, VolumeReady, VolumeOut, VolumePromise}
+use Rattle.sets.specs.SetReading.{nothingNow, nameBehind}
+use Rattle.promises.proofs.Limits.{taken-counts}
 use Rattle.standing.proofs.LaidTables.{laid-table}
-use Rattle.steps.proofs.VolumeRun.{stands-later, seen-long}
+use Rattle.steps.proofs.VolumeRun.{stands-later}
 use Rattle.sets.proofs.SetRunTaken.{few-taken}
 use Rattle.sets.proofs.SetRunVolumes.{Grown, volumes-grow, next-nil, over-few}
-use Rattle.sets.proofs.SetRunStart.{Begins, begin-stands}
+use Rattle.sets.proofs.SetRunStart.{firstDesk, begin-stands, begin-kept}
 
 -- ── the outcome, by what the volumes say ──
 pub outcome-is : (e : Env) (spool : List ℕ) → outcomeOf e spool ≡ outcomeOfVolumes e (volumesOf spool)
@@ -75,27 +73,26 @@ outcome-unsound e spool vs z n h = outcome-is e spool ∙ ap (outcomeOfVolumes e
 pub outcome-lined : (e : Env) (spool : List ℕ) (vs : List P.Volume) → volumesOf spool ≡ some vs → (h : AllLined vs) → outcomeOf e spool ≡ run e (top nothingYet 0) (linesOver 1 vs h)
 outcome-lined e spool vs z h = outcome-is e spool ∙ ap (outcomeOfVolumes e) z ∙ ap (outcomeOfLines e) (lined-listed 1 vs h)
 
--- len: how long the table is; lent: how many numbers are lent for it
-module _ (c : Digits) (spool : List ℕ) (len lent : ℕ) (l : Layout) where
+-- limit: how many records the table has room for; lent: how many numbers are lent for it
+module _ (c : Digits) (spool : List ℕ) (limit lent : ℕ) (l : Layout) where
   abbrev e : Env
-  e = envOf c len
+  e = limitedTo c limit
 
   -- before the volume with number i + 1, or behind the last
-  pub record Came (i : ℕ) (d : Desk) : Type 0 where
+  pub record Came (i : ℕ) (d : Desk) (t : List ℤ) : Type 0 where
     pub laid : l ≡ layoutOf (volumesOf spool)
     pub all : List P.Volume
     pub are : volumesOf spool ≡ some all
     pub lined : AllLined all
-    pub long : length (d .table) ≡ lent
-    pub table : List ℤ
-    pub seen : Seen (d .now) (d .table) len table
+    pub long : length t ≡ lent
     pub left : List P.Volume
     pub drops : drop i all ≡ left
     pub lines : AllLined left
     pub set : Set
     pub at : ℕ
     pub grown : Grown at left
-    pub stands : Standing c spool (nextNumber (isNil left) i) (deskTable d table) at (nextState (isNil left) set)
+    pub stands : Standing c spool (nextNumber (isNil left) i) d at (nextState (isNil left) set)
+    pub kept : Kept c limit t (d .now .records) (nextState (isNil left) set)
     pub eq : run e (top nothingYet 0) (linesOver 1 all lined) ≡ run e (nextState (isNil left) set) (linesOver (i + 1) left lines)
 
   pub came-none : l ≡ layoutOf (volumesOf spool) → l .count ≡ 0 → outcomeOf e spool ≡ refused 2 0 0
@@ -105,66 +102,32 @@ module _ (c : Digits) (spool : List ℕ) (len lent : ℕ) (l : Layout) where
   came-unsound q h zero w g = absurd (g refl)
   came-unsound q h (suc n) w g = let (vs, z) = some-volumes spool l q h in outcome-unsound e spool vs z n (ap (firstUnsound spool) (sym q) ∙ sym w)
 
-  -- the table that is lent, or one of zeros that is thought of
-  first-table : (d : Desk) → Begins d → LentFor len (d .table) → (table : List ℤ) × Seen (d .now) (d .table) len table × Begins (deskTable d table)
-  first-table d b f = go (eqb (length (d .table)) len) refl
-    where
-      go : (x : Bool) → eqb (length (d .table)) len ≡ x → (table : List ℤ) × Seen (d .now) (d .table) len table × Begins (deskTable d table)
-      go true e = (d .table, whole refl (sym (eqb-true (length (d .table)) len e)), b)
-      go false e =
-          let (a, h) = f (eqb-false (length (d .table)) len e) in
-          let zeros : List ℤ = replicate len (pos 0) in
-          let long : length zeros ≡ len = length-replicate len (pos 0) in (
-            zeros,
-            apart a (sym long) h (λ o. clash o (ap symbolOpen (b .now))),
-            record {
-              now = b .now;
-              tally = b .tally;
-              lengths = record {
-                symbols = b .lengths .symbols;
-                layers = b .lengths .layers;
-                serials = b .lengths .serials;
-                used = b .lengths .used;
-                usedAll = b .lengths .usedAll;
-                marks = b .lengths .marks;
-                inner = b .lengths .inner;
-                header = b .lengths .header;
-              };
-              unused = b .unused;
-              table = ap (λ (n : ℕ). replicate n (pos 0)) (sym long);
-            },
-          )
-
-  pub came-first : l ≡ layoutOf (volumesOf spool) → (l .count ≡ 0 → ⊥) → firstUnsound spool l ≡ 0 → (d : Desk) → length (d .table) ≡ lent → Begins d → LentFor len (d .table) → Came 0 d
-  came-first q h w d t b f =
+  pub came-first : l ≡ layoutOf (volumesOf spool) → (l .count ≡ 0 → ⊥) → firstUnsound spool l ≡ 0 → (n : Now) → n ≡ nothingNow → (t : List ℤ) → length t ≡ lent
+      → t ≡ replicate (length t) (pos 0) → Came 0 (firstDesk n) t
+  came-first q h w n b t k f =
       let (vs, z) = some-volumes spool l q h in
-      let n = sound-volumes spool vs z (ap (firstUnsound spool) (sym q) ∙ w) in
-      go vs z n (first-table d b f)
+      subst (λ (x : Now). Came 0 (firstDesk x) t) (sym b) (go vs z (sound-volumes spool vs z (ap (firstUnsound spool) (sym q) ∙ w)))
     where
-      go : (vs : List P.Volume) → volumesOf spool ≡ some vs → AllLined vs → (table : List ℤ) × Seen (d .now) (d .table) len table × Begins (deskTable d table) → Came 0 d
-      go [] z n x = absurd (let y = volumes-laid spool [] z in omega (arith, y .some-volume))
-      go (v ∷ us) z n x = record {
+      go : (vs : List P.Volume) → volumesOf spool ≡ some vs → AllLined vs → Came 0 (firstDesk nothingNow) t
+      go [] z y = absurd (let x = volumes-laid spool [] z in omega (arith, x .some-volume))
+      go (v ∷ us) z y = record {
         laid = q;
         all = v ∷ us;
         are = z;
-        lined = n;
-        long = t;
-        table = x .0;
-        seen = x .1;
+        lined = y;
+        long = k;
         left = v ∷ us;
         drops = refl;
-        lines = n;
+        lines = y;
         set = nothingYet;
         at = 0;
         grown = volumes-grow spool (v ∷ us) z;
-        stands = begin-stands c spool (deskTable d (x .0)) (InFile spool 1 (deskTable d (x .0))) 0 (x .2);
+        stands = begin-stands c spool;
+        kept = begin-kept c limit t f;
         eq = refl;
       }
 
-  module _ (i : ℕ) (d : Desk) (w : Came i d) where
-    abbrev D : Desk
-    D = deskTable d (w .table)
-
+  module _ (i : ℕ) (d : Desk) (t : List ℤ) (w : Came i d t) where
     count-is : l .count ≡ length (w .all)
     count-is = ap (λ (x : Layout). x .count) (w .laid) ∙ volumes-laid spool (w .all) (w .are) .count
 
@@ -192,23 +155,25 @@ module _ (c : Digits) (spool : List ℕ) (len lent : ℕ) (l : Layout) where
         pub drops : drop i (w .all) ≡ one ∷ more
         pub lines : AllLined (one ∷ more)
         pub grown : Grown (w .at) (one ∷ more)
-        pub stands : Standing c spool (i + 1) D (w .at) (top (w .set) 0)
+        pub stands : Standing c spool (i + 1) d (w .at) (top (w .set) 0)
+        pub kept : Kept c limit t (d .now .records) (top (w .set) 0)
         pub eq : run e (top nothingYet 0) (linesOver 1 (w .all) (w .lined)) ≡ run e (top (w .set) 0) (linesOver (i + 1) (one ∷ more) lines)
         pub held : VolumeIn spool l i one
 
       pub here : Here
-      here = go (w .left) (w .drops) (w .lines) (w .grown) (w .stands) (w .eq)
+      here = go (w .left) (w .drops) (w .lines) (w .grown) (w .stands) (w .kept) (w .eq)
         where
-          go : (us : List P.Volume) → drop i (w .all) ≡ us → (y : AllLined us) → Grown (w .at) us → Standing c spool (nextNumber (isNil us) i) D (w .at) (nextState (isNil us) (w .set))
-              → run e (top nothingYet 0) (linesOver 1 (w .all) (w .lined)) ≡ run e (nextState (isNil us) (w .set)) (linesOver (i + 1) us y) → Here
-          go [] z y g s q = absurd (omega (arith, length-drop i (w .all), ap length z, count-is, h))
-          go (v ∷ us) z y g s q = record {
+          go : (us : List P.Volume) → drop i (w .all) ≡ us → (y : AllLined us) → Grown (w .at) us → Standing c spool (nextNumber (isNil us) i) d (w .at) (nextState (isNil us) (w .set))
+              → Kept c limit t (d .now .records) (nextState (isNil us) (w .set)) → run e (top nothingYet 0) (linesOver 1 (w .all) (w .lined)) ≡ run e (nextState (isNil us) (w .set)) (linesOver (i + 1) us y) → Here
+          go [] z y g s m q = absurd (omega (arith, length-drop i (w .all), ap length z, count-is, h))
+          go (v ∷ us) z y g s m q = record {
             one = v;
             more = us;
             drops = z;
             lines = y;
             grown = g;
             stands = s;
+            kept = m;
             eq = q;
             held = subst (λ (x : Layout). VolumeIn spool x i v) (sym (w .laid)) (volume-in spool (w .all) (w .are) i v us z);
           }
@@ -229,11 +194,8 @@ module _ (c : Digits) (spool : List ℕ) (len lent : ℕ) (l : Layout) where
               let y : VolumeIn spool l (i + 1) v = subst (λ (x : Layout). VolumeIn spool x (i + 1) v) (sym (w .laid)) (volume-in spool (w .all) (w .are) (i + 1) v us (more-drops ∙ z)) in
               rw (lt-ltb (i + 1) (l .count) (y .counted)) (ap (nameAt spool) (y .place) ∙ y .name)
 
-      stands-here : Standing c spool (i + 1) D start (top (w .set) 0)
-      stands-here = stands-later c spool (i + 1) D (InFile spool (i + 1) D) (w .at) start (top (w .set) 0) (omega (arith, here .held .place, here .grown .0)) (here .stands)
-
-      under : Under c D e
-      under = record { class = refl; limit = ap (λ (n : ℕ). some (n / 32)) (seen-long (d .now) (d .table) len (w .table) (w .seen)) }
+      stands-here : Standing c spool (i + 1) d start (top (w .set) 0)
+      stands-here = stands-later c spool (i + 1) d (InFile spool (i + 1) d) (w .at) start (top (w .set) 0) (omega (arith, here .held .place, here .grown .0)) (here .stands)
 
       -- the run, with this volume's lines in front
       abbrev more-lines : List Line
@@ -262,23 +224,23 @@ module _ (c : Digits) (spool : List ℕ) (len lent : ℕ) (l : Layout) where
               low = omega arith;
             }
 
-        pub volume-ready : VolumeReady c spool body vol len d
-        volume-ready = record { set = w .set; lines = here .lines .0 .lines; at = at-start; table = w .table; seen = w .seen; stands = stands-here }
+        pub volume-ready : limit + 2 ≤ 18446744073709551615 → VolumeReady c spool body vol limit d t
+        volume-ready m = record { set = w .set; lines = here .lines .0 .lines; at = at-start; stands = stands-here; kept = here .kept; countable = m }
 
-        module _ (following : List ℕ) (f : following ≡ nameBehind spool (l .places) (l .count) i) (d₁ : Desk) (r : Through) (promise : VolumePromise c spool body vol len following d d₁ r) where
-          out : VolumeOut c spool body vol (isNil (nextName (here .more))) len e (top (w .set) 0) (linesOfVolume (i + 1) (nextName (here .more)) start (here .lines .0 .lines)) more-lines d₁ r
-          out =
-              subst (λ (x : List ℕ). VolumeOut c spool body vol (isNil x) len e (top (w .set) 0) (linesOfVolume (i + 1) x start (here .lines .0 .lines)) more-lines d₁ r) (f ∙ behind-is)
-              (promise (w .table) e (w .set) (here .lines .0 .lines) more-lines (w .seen) under at-start stands-here)
+        module _ (following : List ℕ) (f : following ≡ nameBehind spool (l .places) (l .count) i) (d₁ : Now → Desk) (t₁ : List ℤ) (r : Through)
+            (promise : VolumePromise c spool body vol limit following d t d₁ t₁ r) where
+          abbrev Out : List ℕ → Through → Type 0
+          Out x = VolumeOut c spool body vol (isNil x) limit (top (w .set) 0) (linesOfVolume (i + 1) x start (here .lines .0 .lines)) more-lines d₁ t₁
+
+          out : Out (nextName (here .more)) r
+          out = subst (λ (x : List ℕ). Out x r) (f ∙ behind-is) (promise (w .set) (here .lines .0 .lines) more-lines at-start stands-here (here .kept))
 
           pub stops : (x : Refusal) → r ≡ T.Stop x → outcomeOf e spool ≡ refused (x .number) (x .volume) (x .line)
-          stops x q =
-              outcome-lined e spool (w .all) (w .are) (w .lined) ∙ run-here
-              ∙ subst (VolumeOut c spool body vol (isNil (nextName (here .more))) len e (top (w .set) 0) (linesOfVolume (i + 1) (nextName (here .more)) start (here .lines .0 .lines)) more-lines d₁) q out
+          stops x q = outcome-lined e spool (w .all) (w .are) (w .lined) ∙ run-here ∙ subst (Out (nextName (here .more))) q out
 
-          pub goes : (n : Now) → r ≡ T.Go n → length (d₁ .table) ≡ length (d .table) → Came (i + 1) (deskNow d₁ n)
-          goes n q t =
-              let (s, T, x, z, o) = subst (VolumeOut c spool body vol (isNil (nextName (here .more))) len e (top (w .set) 0) (linesOfVolume (i + 1) (nextName (here .more)) start (here .lines .0 .lines)) more-lines d₁) q out in
+          pub goes : (n : Now) → r ≡ T.Go n → length t₁ ≡ length t → d₁ n .now ≡ n → Came (i + 1) (d₁ n) t₁
+          goes n q m is =
+              let (s, x, z, o) = subst (Out (nextName (here .more))) q out in
               let last : isNil (nextName (here .more)) ≡ isNil (here .more) = next-nil (here .one .place + length (here .one .body)) (here .more) (here .grown .2) in
               let k : suc (i + 1) ≡ i + 1 + 1 = omega arith in
               let y = here .held in
@@ -288,16 +250,15 @@ module _ (c : Digits) (spool : List ℕ) (len lent : ℕ) (l : Layout) where
                 all = w .all;
                 are = w .are;
                 lined = w .lined;
-                long = t ∙ w .long;
-                table = T;
-                seen = o;
+                long = m ∙ w .long;
                 left = here .more;
                 drops = more-drops;
                 lines = here .lines .1;
                 set = s;
                 at = endOf body vol;
                 grown = subst (λ (m : ℕ). Grown m (here .more)) at-end (here .grown .2);
-                stands = subst (λ (b : Bool). Standing c spool (nextNumber b (i + 1)) (deskNow (deskTable d₁ T) n) (endOf body vol) (nextState b s)) last z;
+                stands = subst (λ (b : Bool). Standing c spool (nextNumber b (i + 1)) (d₁ n) (endOf body vol) (nextState b s)) last z;
+                kept = subst (λ (m : Now). Kept c limit t₁ (m .records) (nextState (isNil (here .more)) s)) (sym is) (subst (λ (b : Bool). Kept c limit t₁ (n .records) (nextState b s)) last o);
                 eq =
                     run-here ∙ x ∙ ap (λ (b : Bool). run e (nextState b s) more-lines) last
                     ∙ ap (λ (m : ℕ). run e (nextState (isNil (here .more)) s) (linesOver m (here .more) (here .lines .1))) k;
@@ -312,8 +273,8 @@ module _ (c : Digits) (spool : List ℕ) (len lent : ℕ) (l : Layout) where
           go [] z = z
           go (v ∷ us) z = absurd (omega (arith, left-long, ap length z, h))
 
-      stands-ended : Standing c spool i D (w .at) (ended (w .set))
-      stands-ended = subst (λ (us : List P.Volume). Standing c spool (nextNumber (isNil us) i) D (w .at) (nextState (isNil us) (w .set))) none-left (w .stands)
+      kept-ended : Kept c limit t (d .now .records) (ended (w .set))
+      kept-ended = subst (λ (us : List P.Volume). Kept c limit t (d .now .records) (nextState (isNil us) (w .set))) none-left (w .kept)
 
       run-ended : run e (top nothingYet 0) (linesOver 1 (w .all) (w .lined)) ≡ accepted (w .set)
       run-ended = w .eq ∙ go (w .left) none-left (w .lines)
@@ -325,29 +286,21 @@ module _ (c : Digits) (spool : List ℕ) (len lent : ℕ) (l : Layout) where
       pub accepts : outcomeOf e spool ≡ accepted (w .set)
       accepts = outcome-lined e spool (w .all) (w .are) (w .lined) ∙ run-ended
 
-      pub counts-records : d .now .free / 32 ≡ length (recordsOf c (w .set))
-      unfolding recordsOf
-      counts-records = omega (arith, stands-ended .laid .many)
+      pub counts-records : d .now .records ≡ length (recordsOf c (w .set))
+      counts-records = sym (taken-counts c c (some limit) (linesOver 1 (w .all) (w .lined)) (w .set) run-ended ∙ kept-ended .taken)
 
-      lays-thought : w .table ≡ tableOf len (recordsOf c (w .set))
+      -- where there is a table
+      pub lays-records : lent / width ≡ limit → t ≡ tableOf lent (recordsOf c (w .set))
       unfolding recordsOf
-      lays-thought =
-          laid-table (w .table) (recordsFrom c (w .set) (w .set .volumes)) (d .now .free) (stands-ended .laid)
-          ∙ ap (λ (n : ℕ). tableOf n (recordsFrom c (w .set) (w .set .volumes))) (sym (seen-long (d .now) (d .table) len (w .table) (w .seen)))
-
-      -- where the table is the one that is lent
-      pub lays-records : lent ≡ len → d .table ≡ tableOf len (recordsOf c (w .set))
-      lays-records y = go (w .seen)
-        where
-          go : Seen (d .now) (d .table) len (w .table) → d .table ≡ tableOf len (recordsOf c (w .set))
-          go (whole x q) = x ∙ lays-thought
-          go (apart x q g o) = absurd (omega (arith, x, g, w .long, y))
+      lays-records h =
+          laid-table t (recordsFrom c (w .set) (w .set .volumes)) (width * d .now .records) (kept-ended .laid (ap (λ (n : ℕ). n / width) (w .long) ∙ h))
+          ∙ ap (λ (n : ℕ). tableOf n (recordsFrom c (w .set) (w .set .volumes))) (w .long)
 
       -- each line takes two records at most
-      pub few-records : d .now .free / 32 < 4294967296
+      pub few-records : d .now .records < 4294967296
       few-records =
           let y = volumes-laid spool (w .all) (w .are) in
           let a : w .set .taken ≤ 2 * length (linesOver 1 (w .all) (w .lined)) = few-taken e (linesOver 1 (w .all) (w .lined)) (w .set) run-ended in
           let b : 0 + 2 * length (linesOver 1 (w .all) (w .lined)) ≤ length spool + 2 * length (w .all) =
           over-few spool 1 0 (w .all) (w .lined) (y .placed) (volumes-grow spool (w .all) (w .are)) (omega arith) in
-          omega (arith, a, b, y .few, y .spool, stands-ended .taken)
+          omega (arith, a, b, y .few, y .spool, kept-ended .taken)

@@ -16,7 +16,8 @@ use Rattle.rules.specs.RecordTable.{recordsOf, tableOf, width}
 use Rattle.rules.specs.Answers.{outcomeOf, outcomeAt, digitsOr, recordsIn, answerWith, refusal, readOutcome, readRecords, readAnswer, readTable}
 use Rattle.account.specs.declared.Class.the-variants as C
 use Rattle.account.specs.Classes.{classIn}
-use Rattle.sets.specs.SetReading.{envOf, SetOut}
+use Rattle.standing.specs.Reading.{limitedTo}
+use Rattle.sets.specs.SetReading.{SetOut}
 use Rattle.standing.proofs.LaidTables.{laid-table, laid-none}
 
 -- a table without records
@@ -63,21 +64,21 @@ module _ (class len : ℕ) (spool : List ℕ) where
   reads-none t q h = refused-reads 1 0 0 t (outcome-read ∙ ap (λ (o : Option Digits). outcomeAt o (some (len / width)) spool) (class-none (classOf class) q)) h
 
   module _ (c : Digits) (q : C.Is c ≡ classIn (classOf class)) where
-    outcome-class : readOutcome class len spool ≡ outcomeOf (envOf c len) spool
+    outcome-class : readOutcome class len spool ≡ outcomeOf (limitedTo c (len / width)) spool
     outcome-class = outcome-read ∙ ap (λ (o : Option Digits). outcomeAt o (some (len / width)) spool) (class-some (classOf class) c q)
 
     -- t₁: the table that the set left, t: cleared
-    pub reads-refused : (f : Refusal) (t₀ t₁ t : List ℤ) → length t₀ ≡ len → length t₁ ≡ length t₀ → SetOut c spool len t₀ t₁ (A.Refused f) → t ≡ replicate (length t₁) (pos 0) → Reads (A.Refused f) t
+    pub reads-refused : (f : Refusal) (t₀ t₁ t : List ℤ) → length t₀ ≡ len → length t₁ ≡ length t₀ → SetOut c spool (len / width) t₀ t₁ (A.Refused f) → t ≡ replicate (length t₁) (pos 0) → Reads (A.Refused f) t
     reads-refused f t₀ t₁ t h k z u = refused-reads (f .number) (f .volume) (f .line) t (outcome-class ∙ z) (u ∙ ap (λ (n : ℕ). replicate n (pos 0)) (k ∙ h))
 
-    pub reads-accepted : (n : ℕ) (t₀ t : List ℤ) → length t₀ ≡ len → SetOut c spool len t₀ t (A.Accepted n) → Reads (A.Accepted n) t
+    pub reads-accepted : (n : ℕ) (t₀ t : List ℤ) → length t₀ ≡ len → SetOut c spool (len / width) t₀ t (A.Accepted n) → Reads (A.Accepted n) t
     reads-accepted n t₀ t h z =
         let (s, p, m, u) = z in
         let o : readOutcome class len spool ≡ accepted s = outcome-class ∙ p in
         let r : readRecords class len spool ≡ recordsOf c s =
         records-read ∙ ap (recordsIn (digitsOr (classOf class))) o ∙ ap (λ (o : Option Digits). recordsOf (digitsOr o) s) (class-some (classOf class) c q) in (
           ap A.Accepted (m ∙ ap length (sym r)) ∙ sym (answer-read ∙ ap (answerWith (length (readRecords class len spool))) o),
-          u h ∙ ap (tableOf len) (sym r) ∙ sym table-read,
+          u (ap (λ (m : ℕ). m / width) h) ∙ ap (λ (m : ℕ). tableOf m (recordsOf c s)) h ∙ ap (tableOf len) (sym r) ∙ sym table-read,
         )
 
 -- a table that was cleared is all zeros

@@ -24,7 +24,7 @@ use Rattle.rules.specs.Machine.{symbolBlock, fileKinds, Owned}
 use Rattle.rules.proofs.OnActs.{on-byAct, on-shut, on-skip}
 use Rattle.rules.proofs.Chains.{On, on-unless, on-cond, on-map, on-then, on-also, on-weaken}
 use Rattle.rules.proofs.Runs.{not-accepted, finish-ended}
-use Rattle.standing.specs.Standing.{setOf}
+use Rattle.promises.proofs.CountState.{setOf}
 
 abbrev pub takenIn : State → ℕ
 takenIn st = setOf st .taken

@@ -1,12 +1,9 @@
 // The reader.
 use account::BLOCK_TOP;
 use account::Class;
-use account::HEADER_LENGTH;
-use account::MOST_ROWS;
 use account::MOST_SERIALS;
 use account::MOST_SYMBOLS;
 use account::Now;
-use account::SCRATCH_LENGTH;
 use account::TALLY_LENGTH;
 use account::Through;
 use account::Volume;
@@ -23,11 +20,11 @@ use rules::Span;
 use rules::WIDTH;
 use steps::read_volume;
 ghost use mathlib.Core.Path.{_≡_};
-ghost use Prim.Native.Nat.{_≤_, _<_};
+ghost use Prim.Native.Nat.{_+_, _≤_, _<_};
 ghost use lib.IntN.{pos};
 ghost use lib.ListN.{length, replicate};
 ghost use Rattle.rules.specs.Answers.{readAnswer, readTable};
-ghost use Rattle.sets.specs.SetReading.{nothingNow, nameBehind, LentFor, SetOut, Judged};
+ghost use Rattle.sets.specs.SetReading.{nothingNow, nameBehind, SetOut, Judged};
 
 fn nothing_yet() -> Now
     ensures { λ r. ⌜ r ≡ nothingNow ⌝ }
@@ -37,8 +34,7 @@ fn nothing_yet() -> Now
         part: 0,
         layered: false,
         owner: 0,
-        own: 0,
-        free: 0,
+        records: 0,
         figures: 0,
         points: 0,
     }
@@ -55,9 +51,10 @@ fn name_behind(s: &[u8], places: [u32; 12], count: usize, i: usize) -> &[u8]
     volume_name(s, places[i + 1])
 }
 
-// The volumes one after the other, into a table of zeros, or with a scratch of zeros in its place.
+// The volumes one after the other. Their records go into a table of zeros that has room for so many; where `t` is shorter, they are counted
+// and not kept.
 fn read_set(s: &[u8], class: Digits, limit: usize, t: &mut [i64]) -> Answer
-    requires { ⌜ (now t ≡ replicate (length (now t)) (pos 0)) × LentFor limit (now t) ⌝ }
+    requires { ⌜ (now t ≡ replicate (length (now t)) (pos 0)) × (limit + 2 ≤ 18446744073709551615) ⌝ }
     ensures { λ r. ⌜ SetOut class (now (s .entry)) limit (now (t .entry)) (now (t .exit)) r ⌝ }
 {
     let l = volumes(s);
@@ -81,11 +78,7 @@ fn read_set(s: &[u8], class: Digits, limit: usize, t: &mut [i64]) -> Answer
     let mut symbols = [0u32; MOST_SYMBOLS];
     let mut layers = [0u32; 64];
     let mut serials = [0u64; MOST_SERIALS];
-    let mut used = [false; 64];
     let mut used_all = [false; 64];
-    let mut marks = [false; MOST_ROWS];
-    let mut inner = [false; 2];
-    let mut header = [0i64; HEADER_LENGTH];
     let places = l.places;
     let lengths = l.lengths;
     let mut here = nothing_yet();
@@ -115,11 +108,7 @@ fn read_set(s: &[u8], class: Digits, limit: usize, t: &mut [i64]) -> Answer
             &mut symbols,
             &mut layers,
             &mut serials,
-            &mut used,
             &mut used_all,
-            &mut marks,
-            &mut inner,
-            &mut header,
             limit,
             t,
         );
@@ -133,7 +122,7 @@ fn read_set(s: &[u8], class: Digits, limit: usize, t: &mut [i64]) -> Answer
         }
         i += 1;
     }
-    Answer::Accepted((here.free / WIDTH) as u32)
+    Answer::Accepted(here.records as u32)
 }
 
 // A spool, a range class and a lent table: the answer, and the records in the table. Refused, the table is all zeros; accepted, it is zero
@@ -141,7 +130,7 @@ fn read_set(s: &[u8], class: Digits, limit: usize, t: &mut [i64]) -> Answer
 pub fn read(s: &[u8], class: u64, t: &mut [i64]) -> Answer
     ensures { λ r. ⌜ (r ≡ readAnswer class (length (now (t .entry))) (now (s .entry))) × (now (t .exit) ≡ readTable class (length (now (t .entry))) (now (s .entry))) ⌝ }
 {
-    let limit = t.len();
+    let limit = t.len() / WIDTH;
     clear(t);
     match class_of(class) {
         Class::Not => Answer::Refused(Refusal {
@@ -162,11 +151,13 @@ pub fn read(s: &[u8], class: u64, t: &mut [i64]) -> Answer
     }
 }
 
-// A spool at the full class, whose records are not kept: how many they would be, or the refusal. A spool has room for fewer lines than a
-// table of 65,536 records has for theirs.
+// More records than any spool has: a line is two bytes long at least, and takes two records at most.
+const MOST_RECORDS: usize = 65536;
+
+// A spool at the full class, whose records are counted and not kept: how many they are, or the refusal.
 pub(crate) fn judge(s: &[u8]) -> Answer
     ensures { λ r. ⌜ Judged (now (s .entry)) r ⌝ }
 {
-    let mut scratch = [0i64; SCRATCH_LENGTH];
-    read_set(s, Digits { middle: 1, last: 5 }, 2097152, &mut scratch)
+    let mut nothing = [0i64; 1];
+    read_set(s, Digits { middle: 1, last: 5 }, MOST_RECORDS, &mut nothing)
 }

@@ -1,28 +1,24 @@
--- A figure on one line, and one that is a block and has just begun: what the set says of it, its records so far, and its marks.
+-- A figure on one line, and one that is a block and has just begun: what the set says of it, its kind, and its marks.
 use Prim.Native.Nat.{ℕ, _+_}
 use mathlib.Core.Bool.{Bool, true, false}
 use mathlib.Core.List.{List, [], _∷_, _++_, append-nil}
 use mathlib.Core.Path.{_≡_, refl, sym, _∙_, ap}
 use native.Mathlib.Omega.{arith}
-use lib.IntN.{ℤ, pos}
+use lib.IntN.{pos}
 use lib.ListN.{length, set, take, replicate}
-use Rattle.rules.specs.declared.Digits.{Digits}
 use Rattle.rules.specs.Values.{Num, nums}
 use Rattle.rules.specs.Rows.{Rule, blank, partOf, rowsThere}
 use Rattle.rules.specs.Blocks.{blankHeld}
 use Rattle.rules.specs.Figures.{textTable, placedTable, placedTables}
 use Rattle.rules.specs.Sets.{Figure, plain, placed, Set, withRecords, figureSerial}
 use Rattle.rules.specs.Machine.{Home, inElement, inLayer, isLayer, elements, figures, successive, texts, placing, symbolBlock}
-use Rattle.rules.specs.RecordTable.{start, putState, putHeld, textRecord}
+use Rattle.rules.specs.RecordTable.{putState}
 use Rattle.entries.specs.Acts.{putLine}
 use Rattle.account.specs.Placing.{Shaped}
-use Rattle.standing.specs.SoFar.{homeOwner, homeVolume, homeMore, soFar}
+use Rattle.standing.specs.SoFar.{homeMore, emptyRecord}
 use Rattle.standing.specs.Standing.{homeUsed, serialsWith, serialBytes}
 use Rattle.account.specs.FigureLines.{blockKind}
-use Rattle.standing.proofs.FigureRows.{text-begun, placed-begun}
-use Rattle.standing.proofs.MoreRecords.{figures-taken}
 use Rattle.standing.proofs.FigureSights.{plain-serials}
-use Rattle.standing.proofs.RowRecords.{zeros}
 use Rattle.standing.proofs.Standings.{Sight, sight}
 
 -- ── what a begun or a plain figure leaves alone ──
@@ -60,28 +56,9 @@ pub text-kind : (h : Home) → blockKind (isLayer h) 2 ≡ 15 + homeMore h
 text-kind (inElement y) = refl
 text-kind (inLayer m) = refl
 
--- ── a figure that is a block, just begun ──
-pub chain-begun : (kind : ℕ) (c : Digits) (s : Set) (h : Home) (fs : List Figure) (n : ℕ)
-    → soFar c (figures s h fs) ++ start (14 + homeMore h) (homeOwner s h) (homeVolume s h) n ∷ [] ≡ soFar c (successive (withRecords (kind ∷ []) s) h fs n [])
-chain-begun kind c s (inElement y) fs n = refl
-chain-begun kind c s (inLayer m) fs n = ap (λ (r : List (List ℤ)). r ++ start 14 m (homeVolume s (inLayer m)) n ∷ []) (sym (figures-taken c s (kind ∷ []) (inLayer m) fs))
-
-pub texts-begun : (kind : ℕ) (c : Digits) (s : Set) (h : Home) (fs : List Figure) (n : ℕ)
-    → soFar c (figures s h fs) ++ start (15 + homeMore h) (homeOwner s h) (homeVolume s h) n ∷ [] ≡ soFar c (texts (withRecords (kind ∷ []) s) h fs n (blank (textTable (isLayer h) 4 12)))
-texts-begun kind c s (inElement y) fs n = ap (λ (r : List ℤ). soFar c (figures s (inElement y) fs) ++ r ∷ []) (sym (text-begun false 20 (homeOwner s (inElement y)) 1 n))
-texts-begun kind c s (inLayer m) fs n =
-    ap (λ (r : List ℤ). soFar c (figures s (inLayer m) fs) ++ r ∷ []) (sym (text-begun true 0 m (homeVolume s (inLayer m)) n))
-    ∙ ap (λ (r : List (List ℤ)). r ++ textRecord 0 m (homeVolume s (inLayer m)) n (blank (textTable true 4 12)) ∷ []) (sym (figures-taken c s (kind ∷ []) (inLayer m) fs))
-
-pub placed-so-far : (kind : ℕ) (c : Digits) (s : Set) (m : ℕ) (fs : List Figure) (n : ℕ)
-    → soFar c (figures s (inLayer m) fs) ++ start 16 m (homeVolume s (inLayer m)) n ∷ [] ≡ soFar c (placing (withRecords (kind ∷ []) s) m fs n (symbolBlock (blankHeld placedTables)) 0)
-placed-so-far kind c s m fs n =
-    ap (λ (r : List ℤ). soFar c (figures s (inLayer m) fs) ++ r ∷ []) (sym (placed-begun m (homeVolume s (inLayer m)) n))
-    ∙ ap (λ (r : List (List ℤ)). r ++ putHeld placedTables (blankHeld placedTables) (start 16 m (homeVolume s (inLayer m)) n) ∷ []) (sym (figures-taken c s (kind ∷ []) (inLayer m) fs))
-
 -- a line that holds nothing leaves its record empty but for its head
-pub empty-line : (r : Rule) → r .state ≡ 0 → putLine r 0 (nums []) zeros ≡ zeros
-empty-line r q = ap (λ (m : ℕ). putState m (pos 2) zeros) q
+pub empty-line : (r : Rule) → r .state ≡ 0 → putLine r 0 (nums []) emptyRecord ≡ emptyRecord
+empty-line r q = ap (λ (m : ℕ). putState m (pos 2) emptyRecord) q
 
 -- ── marks ──
 pub two-unmarked : (b : Bool) (i : List Bool) → length i ≡ 2 → replicate (length i) false ≡ rowsThere (blank (textTable b 4 12))

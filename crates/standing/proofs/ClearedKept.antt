@@ -3,18 +3,20 @@ use Prim.Native.Nat.{ℕ}
 use mathlib.Core.Bool.{false}
 use mathlib.Core.List.{List, [], _∷_, _++_}
 use mathlib.Core.Path.{_≡_, refl, _∙_}
+use native.Mathlib.Omega.{arith}
 use lib.IntN.{ℤ}
-use lib.ListN.{length, set}
+use lib.ListN.{length, set, take, drop, length-take}
 use Rattle.rules.specs.Rows.{Slots, Held}
 use Rattle.rules.specs.Sets.{Point, Figure, chain, lettering, placed, Layer, Drawing, Symbol, Set, withDrawing, withSymbol, withLayer, withRecords}
-use Rattle.rules.specs.Machine.{Home, inElement, inLayer, top, file, drawing, layerNames, defines, symbol, hide, figures, successive, texts, placing, symbolBlock}
+use Rattle.rules.specs.Machine.{Home, inElement, inLayer, State, top, file, drawing, layerNames, defines, symbol, hide, figures, successive, texts, placing, symbolBlock}
 use Rattle.rules.specs.RecordTable.{firstType}
 use Rattle.account.specs.Records.{partAt, withPart}
 use Rattle.standing.specs.SoFar.{emptyRecord}
 use Rattle.standing.specs.Kept.{homeOwn, figureOpen, Scratch}
+use Rattle.standing.proofs.LaidTables.{part-of}
 use Rattle.standing.proofs.FileKept.{fileClosed}
 use Rattle.standing.proofs.OpenersKept.{own-taken}
-use Rattle.standing.proofs.ScratchKept.{scratch-same, scratch-own, scratch-figure, scratch-cleared, put-point}
+use Rattle.standing.proofs.ScratchKept.{scratch-long, scratch-same, scratch-own, scratch-figure, scratch-cleared, put-point}
 
 -- ── at a `}` ──
 pub file-cleared : (s : Set) (n : ℕ) (h : Held) (p : ℕ) (t : List ℤ) → Scratch t (file s n h p) → Scratch t (fileClosed s n h)
@@ -39,6 +41,10 @@ pub placed-cleared : (s : Set) (m : ℕ) (fs : List Figure) (n : ℕ) (o : Held)
 placed-cleared s m fs n o p t u k x = scratch-cleared t (placing s m fs n (symbolBlock o) p) (figures s (inLayer m) (fs ++ placed n o ∷ [])) x u k refl refl
 
 -- ── at its own line ──
+-- the record that the line made
+pub line-there : (t u : List ℤ) (st : State) → length u ≡ 32 → Scratch t st → partAt 32 (withPart 32 u t) ≡ u
+line-there t u st k x = part-of (take 32 t) u (drop 64 t) 32 (omega (arith, length-take 32 t, scratch-long t st x)) k
+
 pub line-cleared : (s : Set) (ks : List ℕ) (h : Home) (fs fs′ : List Figure) (t u : List ℤ) → length u ≡ 32 → Scratch t (figures s h fs)
     → Scratch (withPart 32 emptyRecord (withPart 32 u t)) (figures (withRecords ks s) h fs′)
 line-cleared s ks h fs fs′ t u k x = scratch-cleared t (figures s h fs) (figures (withRecords ks s) h fs′) x u k (own-taken s ks h) refl

@@ -1,7 +1,7 @@
 -- A line in SYMBOL_DEFINE: from the code's answer to the step that the definitions make.
-use Prim.Native.Nat.{ℕ, zero, suc, _+_, _*_, _≤_, _<_}
+use Prim.Native.Nat.{ℕ, zero, suc, _+_, _≤_, _<_}
 use mathlib.Core.Bool.{Bool, true, false, cond, _||_, not}
-use mathlib.Core.List.{List, [], _∷_, _++_}
+use mathlib.Core.List.{List, [], _∷_}
 use mathlib.Core.Option.{none}
 use mathlib.Core.Path.{_≡_, refl, sym, _∙_, ap, subst}
 use native.Mathlib.Omega.{arith}
@@ -9,7 +9,6 @@ use lib.Dec.{eqb}
 use lib.IntN.{ℤ}
 use lib.ListN.{length, getD, take, replicate, length-replicate}
 use lib.Seq.{length-take-le}
-use borrow.Author.Tests.{leb-true}
 use Rattle.rules.specs.declared.Digits.{Digits}
 use Rattle.rules.specs.declared.LineForm.{LineForm}
 use Rattle.rules.specs.Base.{isNil}
@@ -20,9 +19,9 @@ use Rattle.rules.specs.Values.{Known, Value}
 use Rattle.rules.specs.Rows.{Rule, Held, blank, rowsThere, Act, stay, entry, begin, shut, refuse, act}
 use Rattle.rules.specs.Blocks.{definesTable, symbolTable}
 use Rattle.rules.specs.Sets.{Symbol, Contents, Set, knownOf, defineRange, withRecords}
-use Rattle.rules.specs.Machine.{Line, Env, State, top, defines, symbol, byAct, roomFor, newName}
+use Rattle.rules.specs.Machine.{Line, State, top, defines, symbol, byAct, newName, newSymbol}
 use Rattle.rules.specs.LineByLine.{stepIn}
-use Rattle.rules.specs.RecordTable.{ruleAt, putSlots, start, kindSymbol}
+use Rattle.rules.specs.RecordTable.{ruleAt, start, kindSymbol}
 use Rattle.rules.proofs.Chains.{clash}
 use Rattle.rules.proofs.Rows.{row-at, row-below}
 use Rattle.tables.specs.Tables.{tableOf}
@@ -31,34 +30,31 @@ use Rattle.account.specs.declared.Now.{Now}
 use Rattle.account.specs.declared.Where.{Where}
 use Rattle.account.specs.declared.Step.{Step}
 use Rattle.account.specs.declared.Step.the-variants as S
-use Rattle.standing.specs.Laid.{Laid}
-use Rattle.account.specs.Records.{hasRoom}
+use Rattle.account.specs.declared.Complete.the-variants as C
+use Rattle.account.specs.Records.{partAt, withPart}
+use Rattle.account.specs.Putting.{completed}
 use Rattle.account.specs.Account.{atBlock, headAt}
-use Rattle.standing.specs.SoFar.{volumeOf, frontRecords, baseRecords, soFar}
-use Rattle.standing.specs.Standing.{Desk, setOf, openFigures, nameBytes, serialBytes, Inside, First, InSymbol, CharsHere, isText, Stands, Under, LineHere, StepOut, symbolBytes, formSize}
-use Rattle.account.specs.SymbolLines.{nonIn, nonRead, symbolOpened, openSymbol, closeDefines, definesStep, SymbolBegun, Untouched, OpenedOr, DefinesTable, DefinesLine}
+use Rattle.standing.specs.SoFar.{volumeOf}
+use Rattle.standing.specs.Kept.{Scratch, Begins, Enters}
+use Rattle.standing.specs.Standing.{Desk, setOf, openFigures, nameBytes, serialBytes, Inside, First, InSymbol, CharsHere, isText, Stands, unlimited, LineHere, Counted, StepOut, symbolBytes, formSize}
+use Rattle.account.specs.SymbolLines.{nonIn, nonRead, symbolOpened, openSymbol, closeDefines, definesStep, SymbolBegun, Untouched, OpenedOr, DefinesRecord, DefinesLine}
 use Rattle.standing.proofs.Openers.{plainKind}
 use Rattle.standing.proofs.LineOrigins.{From, begin-from}
 use Rattle.standing.proofs.LineSizes.{begin-size}
-use Rattle.standing.proofs.LaidTables.{laid-same}
-use Rattle.standing.proofs.HeadRecords.{head-laid}
-use Rattle.standing.proofs.Standings.{has-room, sight, deskWith, stands-on, known, nil-count}
+use Rattle.standing.proofs.LaidTables.{with-back}
+use Rattle.standing.proofs.HeadRecords.{head-put}
+use Rattle.standing.proofs.Standings.{sight, deskWith, stands-on, known, nil-count}
+use Rattle.standing.proofs.Completing.{completed-by, completed-none, goes-entering, goes-opening}
+use Rattle.standing.proofs.OpenersKept.{symbol-opens}
+use Rattle.standing.proofs.EntriesKept.{stays, non-enters, defines-close}
 use Rattle.standing.proofs.RowOpeners.{begin-row}
 
 -- ── what is computed of the tables ──
-pub defines-rows : tableOf 8 ≡ definesTable
+defines-rows : tableOf 8 ≡ definesTable
 unfolding tableOf
 defines-rows = refl
 
--- its record when it opens
-pub blank-record : (owner line : ℕ) → putSlots symbolTable (blank symbolTable) (start 4 owner 1 line) ≡ start 4 owner 1 line
-unfolding symbolTable
-blank-record owner line = refl
-
-abbrev pub blankSymbol : ℕ → Symbol
-blankSymbol line = record { line = line; own = blank symbolTable; figures = []; hidden = []; hideFirst = false }
-
-blank-bytes : (line : ℕ) → symbolBytes (blankSymbol line) ≡ 12
+blank-bytes : (line : ℕ) → symbolBytes (newSymbol line) ≡ 12
 unfolding symbolTable
 blank-bytes line = refl
 
@@ -70,7 +66,7 @@ blank-marks : rowsThere (blank symbolTable) ≡ replicate 4 false
 unfolding symbolTable
 blank-marks = refl
 
-blank-new : (s : Set) (line : ℕ) → newName s (blankSymbol line) ≡ true
+blank-new : (s : Set) (line : ℕ) → newName s (newSymbol line) ≡ true
 unfolding symbolTable
 blank-new s line = refl
 
@@ -101,8 +97,8 @@ volume-here k s f = f .volume ∙ go (s .volumes) (f .first)
     go [] e = refl
     go (v ∷ vs) e = clash e refl
 
-module _ (c : Digits) (spool : List ℕ) (k : ℕ) (FileHere : Desk → Set → ℕ → Held → ℕ → Type 0) (d : Desk) (at to : ℕ) (e : Env) (l : Line) (w : Where) (form : LineForm) (u : Under c d e)
-    (x : LineHere spool k at to form w l) (s : Set) (b : Bool) (z : Stands c spool k d (FileHere d) at (defines s b)) where
+module _ (c : Digits) (spool : List ℕ) (k : ℕ) (FileHere : Desk → Set → ℕ → Held → ℕ → Type 0) (d : Desk) (at to own : ℕ) (l : Line) (w : Where) (form : LineForm)
+    (x : LineHere spool k at to form w l) (s : Set) (b : Bool) (z : Stands c spool k d (FileHere d) at (defines s b)) (y : Counted c own d (defines s b)) where
   abbrev st : State
   st = defines s b
 
@@ -144,42 +140,55 @@ module _ (c : Digits) (spool : List ℕ) (k : ℕ) (FileHere : Desk → Set → 
   later : at ≤ to
   later = omega (arith, x .bytes)
 
-  module _ (m₁ : List Bool) (t₁ : List ℤ) where
+  -- m₁, rec₁: the marks and the lent record on return
+  module _ (m₁ : List Bool) (rec₁ : List ℤ) where
+    abbrev t₁ : List ℤ
+    t₁ = withPart 0 rec₁ (d .scratch)
+
+    abbrev desk₁ : Desk
+    desk₁ = deskWith d (d .now) m₁ (d .inner) t₁
+
     abbrev Out : Step → Type 0
-    Out r = StepOut c spool k FileHere e l to st (deskWith d (d .now) m₁ (d .inner) t₁) r
+    Out r = StepOut c spool k FileHere own l to st desk₁ r
+
+    abbrev Same : Type 0
+    Same = Untouched (d .marks) m₁ (partAt 0 (d .scratch)) rec₁
 
     -- nothing but what is open, and the place in the spool
-    kept : (st′ : State) (n : Now) → sight st ≡ sight st′ → Untouched (d .marks) m₁ (d .table) t₁ → n .free ≡ d .now .free → soFar c st ≡ soFar c st′
-        → 32 * setOf st′ .taken ≡ d .now .free
-        → openFigures st′ ≡ 0 → nameBytes st′ ≡ 0 → serialBytes st′ ≡ 20
+    kept : (st′ : State) (n : Now) → stepIn (unlimited c) l st ≡ got st′ → completed (d .now) n ≡ C.Nothing → n .records ≡ d .now .records → setOf st′ .taken ≡ s .taken → sight st ≡ sight st′ → Same
+        → Enters c st st′ (d .scratch) → openFigures st′ ≡ 0 → nameBytes st′ ≡ 0 → serialBytes st′ ≡ 20
         → Inside c spool k (deskWith d n m₁ (d .inner) t₁) (FileHere (deskWith d n m₁ (d .inner) t₁)) st′
-        → Stands c spool k (deskWith d n m₁ (d .inner) t₁) (FileHere (deskWith d n m₁ (d .inner) t₁)) to st′
-    kept st′ n v q f r t a g h i =
-        stands-on c spool k FileHere d at to st st′ z n m₁ (d .inner) t₁ v (ap length (q .marks) ∙ z .lengths .marks) (z .lengths .inner)
-        (subst (λ (y : ℕ). Laid t₁ (soFar c st′) y) (sym f) (subst (λ (y : List ℤ). Laid y (soFar c st′) (d .now .free)) (sym (q .table)) (laid-same (d .table) (soFar c st) (soFar c st′) (d .now .free) r (z .laid))))
-        (t ∙ sym f) (omega (arith, z .counted, later, a)) (omega (arith, z .named, later, g)) (omega (arith, z .numbered, later, h)) i
+        → Out (S.Go n)
+    kept st′ n step done records taken v q entered a g h i =
+        goes-entering c spool k FileHere own l to st desk₁ n st′ step done records taken (entered .same)
+        (stands-on c spool k FileHere d at to st st′ z n m₁ (d .inner) t₁ v (ap length (q .marks) ∙ z .lengths .marks) (z .lengths .inner)
+        (subst (λ (t : List ℤ). Scratch t st′) (sym (with-back 0 rec₁ (d .scratch) (q .rec))) (entered .scratch))
+        (omega (arith, z .counted, later, a)) (omega (arith, z .named, later, g)) (omega (arith, z .numbered, later, h)) i)
 
-    on-stay : did ≡ stay → Untouched (d .marks) m₁ (d .table) t₁ → Out (S.Go (d .now))
-    on-stay a q = (st, ap (byAct _ _ _ _) a, kept st (d .now) refl q refl refl (z .taken) refl refl refl (z .block))
+    on-stay : did ≡ stay → Same → Out (S.Go (d .now))
+    on-stay a q =
+        kept st (d .now) (ap (byAct _ _ _ _) a) (completed-none (d .now) (d .now) refl refl) refl refl refl q (stays c st (d .scratch) (z .scratch)) refl refl refl (z .block)
 
     -- `NON=`
-    on-entry : (j : ℕ) (v : Value) → did ≡ entry j v → Untouched (d .marks) m₁ (d .table) t₁ → Out (nonRead (d .now) namesLent)
+    on-entry : (j : ℕ) (v : Value) → did ≡ entry j v → Same → Out (nonRead (d .now) namesLent)
     on-entry j v a q = go (isNil (s .symbols)) (ap (byAct _ _ _ _) a) none-yet
       where
-        go : (y : Bool) → stepIn e l st ≡ unless y 6 (got (defines s true)) → eqb namesLent 0 ≡ y → Out (nonRead (d .now) namesLent)
+        go : (y : Bool) → stepIn (unlimited c) l st ≡ unless y 6 (got (defines s true)) → eqb namesLent 0 ≡ y → Out (nonRead (d .now) namesLent)
         go true p h =
             subst Out (ap (λ (y : Bool). cond y (S.Go (atBlock (d .now) 4 1)) (S.Stop 6)) (sym h))
-            (defines s true, p, kept (defines s true) (atBlock (d .now) 4 1) refl q refl refl (z .taken) refl refl refl (refl, refl, first))
+            (kept (defines s true) (atBlock (d .now) 4 1) p (completed-none (d .now) (atBlock (d .now) 4 1) (z .block .0) refl) refl refl refl q (non-enters c s b true (d .scratch) (z .scratch))
+            refl refl refl (refl, refl, first))
         go false p h = subst Out (ap (λ (y : Bool). cond y (S.Go (atBlock (d .now) 4 1)) (S.Stop 6)) (sym h)) p
 
     -- the block closes
-    on-shut : did ≡ shut → Untouched (d .marks) m₁ (d .table) t₁ → Out (closeDefines (d .now) namesLent)
+    on-shut : did ≡ shut → Same → Out (closeDefines (d .now) namesLent)
     on-shut a q = go (b || not (isNil (s .symbols))) (ap (byAct _ _ _ _) a) (ap (λ (y : Bool). y || not (eqb namesLent 0)) non ∙ ap (λ (y : Bool). b || not y) none-yet)
       where
-        go : (y : Bool) → stepIn e l st ≡ unless y 8 (got (top s 3)) → (nonIn (d .now) || not (eqb namesLent 0)) ≡ y → Out (closeDefines (d .now) namesLent)
+        go : (y : Bool) → stepIn (unlimited c) l st ≡ unless y 8 (got (top s 3)) → (nonIn (d .now) || not (eqb namesLent 0)) ≡ y → Out (closeDefines (d .now) namesLent)
         go true p h =
             subst Out (ap (λ (y : Bool). cond y (S.Go (atBlock (d .now) 0 3)) (S.Stop 8)) (sym h))
-            (top s 3, p, kept (top s 3) (atBlock (d .now) 0 3) refl q refl (ap (baseRecords c s) (sym (first .first))) (z .taken) refl refl refl (refl, refl, (volume-here k s first, first .blocks)))
+            (kept (top s 3) (atBlock (d .now) 0 3) p (completed-by (d .now) (atBlock (d .now) 0 3) 4 0 (z .block .0) refl) refl refl refl q
+            (defines-close c s b (d .scratch) (first .first) (z .scratch)) refl refl refl (refl, refl, (volume-here k s first, first .blocks)))
         go false p h = subst Out (ap (λ (y : Bool). cond y (S.Go (atBlock (d .now) 0 3)) (S.Stop 8)) (sym h)) p
 
     on-refuse : (m : ℕ) → did ≡ refuse m → Out (S.Stop m)
@@ -199,28 +208,31 @@ module _ (c : Digits) (spool : List ℕ) (k : ℕ) (FileHere : Desk → Set → 
           omega (arith, x .bytes, opener-key j (omega (arith, row-below (from .row), two-rows)) (begin-row (knownOf s) definesTable (digitsOf (defineRange s)) (b ∷ false ∷ []) (l .form) j i v from .0), r)
 
       abbrev y₀ : Symbol
-      y₀ = blankSymbol (l .line)
+      y₀ = newSymbol (l .line)
 
       abbrev st′ : State
       st′ = symbol (withRecords (kindSymbol ∷ []) s) y₀
 
-      step : stepIn e l st ≡ unless (not b) 6 (unless (roomFor (e .limit) (s .taken + 1)) 19 (got st′))
+      step : stepIn (unlimited c) l st ≡ unless (not b) 6 (got st′)
       step = ap (byAct _ _ _ _) a
 
-      module _ (room : hasRoom (d .now .free) (d .table) ≡ true) (q : SymbolBegun (d .now) namesLent w (d .marks) m₁ (d .table) t₁) where
-        fits : d .now .free + 32 ≤ length (d .table)
-        fits = leb-true (d .now .free + 32) (length (d .table)) room
+      module _ (q : SymbolBegun namesLent w (d .marks) m₁ (partAt 0 (d .scratch)) rec₁) where
+        abbrev n : Now
+        n = symbolOpened (d .now) namesLent
 
-        made : start 4 namesLent (w .volume) (w .line) ≡ putSlots symbolTable (blank symbolTable) (start 4 (length (s .symbols)) 1 (l .line))
+        made : rec₁ ≡ start 4 (length (s .symbols)) 1 (l .line)
         made =
-            ap (λ (m : ℕ). start 4 m (w .volume) (w .line)) counted ∙ ap (λ (m : ℕ). start 4 (length (s .symbols)) m (w .line)) (x .volume ∙ first .volume)
-            ∙ ap (start 4 (length (s .symbols)) 1) (x .line) ∙ sym (blank-record (length (s .symbols)) (l .line))
+            q .rec ∙ ap (λ (m : ℕ). headAt 0 4 m w (partAt 0 (d .scratch))) counted
+            ∙ head-put 4 (length (s .symbols)) 1 (l .line) w (partAt 0 (d .scratch)) (z .scratch .own) (x .volume ∙ first .volume) (x .line)
 
-        opened : InSymbol spool k (symbolOpened (d .now) namesLent) m₁ (d .inner) (withRecords (kindSymbol ∷ []) s) y₀
+        begun : Begins c st st′ 1 t₁
+        begun =
+            subst (λ (r : List ℤ). Begins c st st′ 1 (withPart 0 r (d .scratch))) (sym made) (symbol-opens c s b (l .line) (d .scratch) (z .scratch))
+
+        opened : InSymbol spool k n m₁ (d .inner) (withRecords (kindSymbol ∷ []) s) y₀
         opened = record {
           phase = record { volume = first .volume; first = first .first; blocks = first .blocks };
           owner = counted;
-          own = sym (z .laid .size);
           slots = blank-slots;
           marked = ap (take 4) (q .marks) ∙ ap (λ (m : ℕ). take 4 (replicate m false)) (z .lengths .marks) ∙ sym blank-marks;
           fresh = blank-new s (l .line);
@@ -230,39 +242,33 @@ module _ (c : Digits) (spool : List ℕ) (k : ℕ) (FileHere : Desk → Set → 
           hide-first = λ h. refl;
         }
 
-        on-open : Stands c spool k (deskWith d (symbolOpened (d .now) namesLent) m₁ (d .inner) t₁) (FileHere (deskWith d (symbolOpened (d .now) namesLent) m₁ (d .inner) t₁)) to st′
-        on-open =
-            stands-on c spool k FileHere d at to st st′ z (symbolOpened (d .now) namesLent) m₁ (d .inner) t₁ refl
-            (ap length (q .marks) ∙ length-replicate (length (d .marks)) false ∙ z .lengths .marks) (z .lengths .inner)
-            (subst (λ (t : List ℤ). Laid t (soFar c st′) (d .now .free + 32)) (sym (q .table))
-            (subst (λ (r : List ℤ). Laid (headAt (d .now .free) 4 namesLent w (d .table)) (frontRecords s ++ r ∷ []) (d .now .free + 32)) made
-            (head-laid (d .table) (soFar c st) (d .now .free) (z .laid) fits 4 namesLent w)))
-            (omega (arith, z .taken)) (omega (arith, z .counted, later)) (omega (arith, z .named, long, blank-bytes (l .line))) (omega (arith, z .numbered, later)) (refl, opened)
+        on-open : stepIn (unlimited c) l st ≡ got st′ → Out (S.Go n)
+        on-open p =
+            goes-opening c spool k FileHere own l to st desk₁ n st′ p (completed-by (d .now) n 4 5 (z .block .0) refl) 1 refl refl (begun .opens)
+            (stands-on c spool k FileHere d at to st st′ z n m₁ (d .inner) t₁ refl
+            (ap length (q .marks) ∙ length-replicate (length (d .marks)) false ∙ z .lengths .marks) (z .lengths .inner) (begun .scratch)
+            (omega (arith, z .counted, later)) (omega (arith, z .named, long, blank-bytes (l .line))) (omega (arith, z .numbered, later)) (refl, opened))
 
-      on-begin : OpenedOr (nonIn (d .now)) (hasRoom (d .now .free) (d .table)) (SymbolBegun (d .now) namesLent w (d .marks) m₁ (d .table) t₁)
-          → Out (openSymbol (d .now) namesLent (hasRoom (d .now .free) (d .table)))
-      on-begin o = go (nonIn (d .now)) (hasRoom (d .now .free) (d .table)) refl refl o
+      on-begin : OpenedOr (nonIn (d .now)) (SymbolBegun namesLent w (d .marks) m₁ (partAt 0 (d .scratch)) rec₁) → Out (openSymbol (d .now) namesLent)
+      on-begin o = go (nonIn (d .now)) refl o
         where
-          does : (y r : Bool) → nonIn (d .now) ≡ y → hasRoom (d .now .free) (d .table) ≡ r → stepIn e l st ≡ unless (not y) 6 (unless r 19 (got st′))
-          does y r p h =
-              step ∙ ap (λ (g : Bool). unless (not g) 6 (unless (roomFor (e .limit) (s .taken + 1)) 19 (got st′))) (sym non ∙ p)
-              ∙ ap (λ (g : Bool). unless (not y) 6 (unless g 19 (got st′))) (has-room c d e (s .taken) u (z .taken) ∙ h)
+          does : (y : Bool) → nonIn (d .now) ≡ y → stepIn (unlimited c) l st ≡ unless (not y) 6 (got st′)
+          does y p = step ∙ ap (λ (g : Bool). unless (not g) 6 (got st′)) (sym non ∙ p)
 
-          go : (y r : Bool) → nonIn (d .now) ≡ y → hasRoom (d .now .free) (d .table) ≡ r → OpenedOr y r (SymbolBegun (d .now) namesLent w (d .marks) m₁ (d .table) t₁)
-              → Out (cond y (S.Stop 6) (cond r (S.Go (symbolOpened (d .now) namesLent)) (S.Stop 19)))
-          go true r p h o = does true r p h
-          go false true p h o = (st′, does false true p h, on-open h o)
-          go false false p h o = does false false p h
+          go : (y : Bool) → nonIn (d .now) ≡ y → OpenedOr y (SymbolBegun namesLent w (d .marks) m₁ (partAt 0 (d .scratch)) rec₁)
+              → Out (cond y (S.Stop 6) (S.Go (symbolOpened (d .now) namesLent)))
+          go true p o = does true p
+          go false p o = on-open o (does false p)
 
-  pub defines-line : (m₁ : List Bool) (t₁ : List ℤ) (r : Step) → DefinesLine definesAct (d .now) namesLent w (d .marks) m₁ (d .table) t₁ r
-      → StepOut c spool k FileHere e l to (defines s b) (deskWith d (d .now) m₁ (d .inner) t₁) r
-  defines-line m₁ t₁ r h =
-      subst (Out m₁ t₁) (sym (h .answer ∙ ap (definesStep (d .now) namesLent (hasRoom (d .now .free) (d .table))) defines-act))
-      (go did refl (subst (DefinesTable (d .now) namesLent w (d .marks) m₁ (d .table) t₁) defines-act (h .table)))
+  pub defines-line : (m₁ : List Bool) (rec₁ : List ℤ) (r : Step) → DefinesLine definesAct (d .now) namesLent w (d .marks) m₁ (partAt 0 (d .scratch)) rec₁ r
+      → StepOut c spool k FileHere own l to (defines s b) (deskWith d (d .now) m₁ (d .inner) (withPart 0 rec₁ (d .scratch))) r
+  defines-line m₁ rec₁ r h =
+      subst (Out m₁ rec₁) (sym (h .answer ∙ ap (definesStep (d .now) namesLent) defines-act))
+      (go did refl (subst (DefinesRecord (d .now) namesLent w (d .marks) m₁ (partAt 0 (d .scratch)) rec₁) defines-act (h .rec)))
     where
-      go : (a : Act) → did ≡ a → DefinesTable (d .now) namesLent w (d .marks) m₁ (d .table) t₁ a → Out m₁ t₁ (definesStep (d .now) namesLent (hasRoom (d .now .free) (d .table)) a)
-      go stay p q = on-stay m₁ t₁ p q
-      go (entry j v) p q = on-entry m₁ t₁ j v p q
-      go (begin i j v) p q = on-begin m₁ t₁ i j v p q
-      go shut p q = on-shut m₁ t₁ p q
-      go (refuse n) p q = on-refuse m₁ t₁ n p
+      go : (a : Act) → did ≡ a → DefinesRecord (d .now) namesLent w (d .marks) m₁ (partAt 0 (d .scratch)) rec₁ a → Out m₁ rec₁ (definesStep (d .now) namesLent a)
+      go stay p q = on-stay m₁ rec₁ p q
+      go (entry j v) p q = on-entry m₁ rec₁ j v p q
+      go (begin i j v) p q = on-begin m₁ rec₁ i j v p q
+      go shut p q = on-shut m₁ rec₁ p q
+      go (refuse n) p q = on-refuse m₁ rec₁ n p

@@ -17,21 +17,23 @@ use Rattle.rules.specs.Rows.{Rule, Held, rowsAtLimit, Act, stay, entry, begin, 
 use Rattle.rules.specs.Blocks.{elementTable}
 use Rattle.rules.specs.Sets.{Layer, Set, withVolume, knownOf, serialsIn, elementsOf, usedIn}
 use Rattle.rules.specs.VolumesAndTotals.{countedHere}
-use Rattle.rules.specs.Machine.{Line, Env, inLayer, State, top, elements, figures, byAct}
+use Rattle.rules.specs.Machine.{Line, inLayer, State, top, elements, figures, byAct}
 use Rattle.rules.proofs.Chains.{clash, nil-snoc, total-more}
 use Rattle.tables.specs.Tables.{tableOf}
 use Rattle.entries.specs.Names.{knownIn}
+use Rattle.account.specs.declared.Now.{Now}
 use Rattle.account.specs.declared.Where.{Where}
 use Rattle.account.specs.declared.Step.{Step}
 use Rattle.account.specs.declared.Step.the-variants as S
 use Rattle.account.specs.Account.{atBlock}
-use Rattle.standing.specs.SoFar.{layersRecords, soFar}
-use Rattle.standing.specs.Standing.{Desk, closedSerials, tallyOf, Stands, Under, LineHere, StepOut}
+use Rattle.standing.specs.Kept.{Enters}
+use Rattle.standing.specs.Standing.{Desk, closedSerials, tallyOf, Stands, LineHere, Counted, StepOut}
 use Rattle.account.specs.ElementLines.{layerOpened, agrees, elementStep, ElementTally, LayersInUse, ElementLine}
 use Rattle.standing.proofs.Openers.{isEntry, no-entry}
-use Rattle.standing.proofs.LaidTables.{laid-same}
-use Rattle.standing.proofs.MoreRecords.{volume-closed}
 use Rattle.standing.proofs.Standings.{known, lengths-kept, stands-still}
+use Rattle.standing.proofs.Completing.{completed-by, goes-still, goes-entering}
+use Rattle.standing.proofs.OpenersKept.{layer-opens}
+use Rattle.standing.proofs.EntriesKept.{elements-close}
 use Rattle.standing.proofs.UsedLayers.{element-rows, element-full, element-opens, layer-known, used-more}
 use Rattle.standing.proofs.ClosedLayers.{closed-serials, closed-tally, closed-used}
 
@@ -52,11 +54,11 @@ elementDesk d t used all = record {
   marks = d .marks;
   inner = d .inner;
   header = d .header;
-  table = d .table;
+  scratch = d .scratch;
 }
 
-module _ (c : Digits) (spool : List ℕ) (k : ℕ) (FileHere : Desk → Set → ℕ → Held → ℕ → Type 0) (d : Desk) (at to : ℕ) (e : Env) (l : Line) (w : Where) (form : LineForm) (u : Under c d e)
-    (x : LineHere spool k at to form w l) (s : Set) (z : Stands c spool k d (FileHere d) at (elements s)) where
+module _ (c : Digits) (spool : List ℕ) (k : ℕ) (FileHere : Desk → Set → ℕ → Held → ℕ → Type 0) (d : Desk) (at to own : ℕ) (l : Line) (w : Where) (form : LineForm)
+    (x : LineHere spool k at to form w l) (s : Set) (z : Stands c spool k d (FileHere d) at (elements s)) (y : Counted c own d (elements s)) where
   abbrev st : State
   st = elements s
 
@@ -64,7 +66,7 @@ module _ (c : Digits) (spool : List ℕ) (k : ℕ) (FileHere : Desk → Set → 
   did = act (knownOf s) elementTable (digits 0 0) (rowsAtLimit 0 elementTable) (l .form)
 
   -- is the definitions' act
-  pub element-act : elementAct spool d form ≡ did
+  element-act : elementAct spool d form ≡ did
   element-act =
       ap (λ (m : Known). act m (tableOf 10) (digits 0 0) (false ∷ []) (formIn spool form)) (known c spool k FileHere d at to st st z refl)
       ∙ ap (λ (t : List Rule). act (knownOf s) t (digits 0 0) (false ∷ []) (formIn spool form)) element-rows
@@ -75,11 +77,13 @@ module _ (c : Digits) (spool : List ℕ) (k : ℕ) (FileHere : Desk → Set → 
   later = omega (arith, x .bytes)
 
   abbrev OutOf : List ℕ → List Bool → List Bool → Step → Type 0
-  OutOf t used all r = StepOut c spool k FileHere e l to st (elementDesk d t used all) r
+  OutOf t used all r = StepOut c spool k FileHere own l to st (elementDesk d t used all) r
 
   -- ── nothing but the place in the spool ──
   on-stay : did ≡ stay → OutOf (d .tally) (d .used) (d .usedAll) (S.Go (d .now))
-  on-stay a = (st, ap (byAct _ _ _ _) a, stands-still c spool k FileHere d at to st z later (d .tally) (d .marks) (d .inner) (d .header) (d .table) refl refl refl refl refl)
+  on-stay a =
+      goes-still c spool k FileHere own l to st (elementDesk d (d .tally) (d .used) (d .usedAll)) (d .now) st (ap (byAct _ _ _ _) a) refl refl refl refl
+      (stands-still c spool k FileHere d at to st z later (d .tally) (d .marks) (d .inner) (d .header) (d .scratch) refl refl refl refl refl)
 
   -- ── a layer opens ──
   module _ (i j : ℕ) (v : Value) (a : did ≡ begin i j v) where
@@ -108,39 +112,40 @@ module _ (c : Digits) (spool : List ℕ) (k : ℕ) (FileHere : Desk → Set → 
 
     on-begin : getD (d .used) m false ≡ false → OutOf (d .tally) (set (d .used) m true) (set (d .usedAll) m true) (S.Go (layerOpened (d .now) m))
     on-begin b =
-        let same : serialsIn s ≡ serialsIn s ++ [] = sym (append-nil (serialsIn s)) in (
-          st′,
-          ap (byAct _ _ _ _) a ∙ ap (λ (y : Bool). unless (not y) 14 (got st′)) (sym known-used ∙ b),
-          record {
-            lengths = record {
-              symbols = z .lengths .symbols;
-              layers = z .lengths .layers;
-              serials = z .lengths .serials;
-              used = length-set (d .used) m true ∙ z .lengths .used;
-              usedAll = length-set (d .usedAll) m true ∙ z .lengths .usedAll;
-              marks = z .lengths .marks;
-              inner = z .lengths .inner;
-              header = z .lengths .header;
-            };
-            laid = laid-same (d .table) (soFar c st) (soFar c st′) (d .now .free) (sym (append-nil (layersRecords c s))) (z .laid);
-            taken = z .taken;
-            here = z .here;
-            this = z .this;
-            tally = z .tally ∙ ap (λ (n : List ℕ). tallyOf s (z .here) (length (s .drawing .layers)) (length n)) same;
-            symbols = z .symbols;
-            layers = z .layers;
-            few-layers = z .few-layers;
-            serials = subst (λ (n : List ℕ). take (length n) (d .serials) ≡ n) same (z .serials);
-            used = λ h n q. used-more (d .used) used m (omega (arith, few, z .lengths .used)) n (z .used refl n q);
-            used-all = λ n q.
-                used-more (d .usedAll) (flat (map usedIn (s .volumes)) ++ used) m (omega (arith, few, z .lengths .usedAll)) n (z .used-all n q)
-                ∙ ap (hasNumber n) (append-assoc (flat (map usedIn (s .volumes))) used (m ∷ []));
-            counted = omega (arith, z .counted, later);
-            named = omega (arith, z .named, later);
-            numbered = omega (arith, z .numbered, later, ap length same);
-            block = (refl, (z .block .1, refl, refl, few), refl);
-          },
-        )
+        let same : serialsIn s ≡ serialsIn s ++ [] = sym (append-nil (serialsIn s)) in
+        let opened : Enters c st st′ (d .scratch) = layer-opens c s m (d .scratch) (z .scratch) in
+        let now : Now = layerOpened (d .now) m in
+        goes-entering c spool k FileHere own l to st (elementDesk d (d .tally) (set (d .used) m true) (set (d .usedAll) m true)) now st′
+        (ap (byAct _ _ _ _) a ∙ ap (λ (y : Bool). unless (not y) 14 (got st′)) (sym known-used ∙ b)) (completed-by (d .now) now 7 8 (z .block .0) refl) refl refl (opened .same)
+        (record {
+          lengths = record {
+            symbols = z .lengths .symbols;
+            layers = z .lengths .layers;
+            serials = z .lengths .serials;
+            used = length-set (d .used) m true ∙ z .lengths .used;
+            usedAll = length-set (d .usedAll) m true ∙ z .lengths .usedAll;
+            marks = z .lengths .marks;
+            inner = z .lengths .inner;
+            header = z .lengths .header;
+            scratch = z .lengths .scratch;
+          };
+          scratch = opened .scratch;
+          here = z .here;
+          this = z .this;
+          tally = z .tally ∙ ap (λ (n : List ℕ). tallyOf s (z .here) (length (s .drawing .layers)) (length n)) same;
+          symbols = z .symbols;
+          layers = z .layers;
+          few-layers = z .few-layers;
+          serials = subst (λ (n : List ℕ). take (length n) (d .serials) ≡ n) same (z .serials);
+          used = λ h n q. used-more (d .used) used m (omega (arith, few, z .lengths .used)) n (z .used refl n q);
+          used-all = λ n q.
+              used-more (d .usedAll) (flat (map usedIn (s .volumes)) ++ used) m (omega (arith, few, z .lengths .usedAll)) n (z .used-all n q)
+              ∙ ap (hasNumber n) (append-assoc (flat (map usedIn (s .volumes))) used (m ∷ []));
+          counted = omega (arith, z .counted, later);
+          named = omega (arith, z .named, later);
+          numbered = omega (arith, z .numbered, later, ap length same);
+          block = (refl, (z .block .1, refl, refl, few), refl);
+        })
 
   -- ── its end ──
   agrees-here : agrees (d .tally) ≡ countedHere s
@@ -156,28 +161,29 @@ module _ (c : Digits) (spool : List ℕ) (k : ℕ) (FileHere : Desk → Set → 
 
     on-shut : agrees (d .tally) ≡ true → OutOf (set (d .tally) 8 (getD (d .tally) 8 0 + getD (d .tally) 7 0)) (d .used) (d .usedAll) (S.Go (atBlock (d .now) 0 4))
     on-shut b =
-        let same : serialsIn s ≡ closedSerials (withVolume s) = sym (closed-serials s) in (
-          st″,
-          ap (byAct _ _ _ _) a ∙ ap (λ (y : Bool). unless y 17 (got st″)) (sym agrees-here ∙ b),
-          record {
-            lengths = lengths-kept d (atBlock (d .now) 0 4) (set (d .tally) 8 (getD (d .tally) 8 0 + getD (d .tally) 7 0)) (d .marks) (d .inner) (d .header) (d .table) (z .lengths) (z .lengths .marks) (z .lengths .inner) (z .lengths .header);
-            laid = laid-same (d .table) (soFar c st) (soFar c st″) (d .now .free) (sym (volume-closed c s)) (z .laid);
-            taken = z .taken;
-            here = z .here;
-            this = λ h. clash h refl;
-            tally = ap (λ (t : List ℕ). set t 8 (getD t 8 0 + getD t 7 0)) (z .tally) ∙ sym (closed-tally s (z .here) (length (s .drawing .layers)));
-            symbols = z .symbols;
-            layers = z .layers;
-            few-layers = z .few-layers;
-            serials = subst (λ (n : List ℕ). take (length n) (d .serials) ≡ n) same (z .serials);
-            used = λ h. clash h refl;
-            used-all = λ n q. z .used-all n q ∙ ap (hasNumber n) (closed-used s);
-            counted = omega (arith, z .counted, later, total-more elementsOf (s .volumes) (s .now));
-            named = omega (arith, z .named, later);
-            numbered = omega (arith, z .numbered, later, ap length same);
-            block = (refl, refl, (omega (arith, z .block .1, length-append (s .volumes) (s .now ∷ [])), refl, nil-snoc (s .volumes) (s .now)));
-          },
-        )
+        let same : serialsIn s ≡ closedSerials (withVolume s) = sym (closed-serials s) in
+        let closed : Enters c st st″ (d .scratch) = elements-close c s (d .scratch) (z .scratch) in
+        let tally : List ℕ = set (d .tally) 8 (getD (d .tally) 8 0 + getD (d .tally) 7 0) in
+        let now : Now = atBlock (d .now) 0 4 in
+        goes-entering c spool k FileHere own l to st (elementDesk d tally (d .used) (d .usedAll)) now st″ (ap (byAct _ _ _ _) a ∙ ap (λ (y : Bool). unless y 17 (got st″)) (sym agrees-here ∙ b))
+        (completed-by (d .now) now 7 0 (z .block .0) refl) refl refl (closed .same)
+        (record {
+          lengths = lengths-kept d now tally (d .marks) (d .inner) (d .header) (d .scratch) (z .lengths) (z .lengths .marks) (z .lengths .inner) (z .lengths .header) (z .lengths .scratch);
+          scratch = closed .scratch;
+          here = z .here;
+          this = λ h. clash h refl;
+          tally = ap (λ (t : List ℕ). set t 8 (getD t 8 0 + getD t 7 0)) (z .tally) ∙ sym (closed-tally s (z .here) (length (s .drawing .layers)));
+          symbols = z .symbols;
+          layers = z .layers;
+          few-layers = z .few-layers;
+          serials = subst (λ (n : List ℕ). take (length n) (d .serials) ≡ n) same (z .serials);
+          used = λ h. clash h refl;
+          used-all = λ n q. z .used-all n q ∙ ap (hasNumber n) (closed-used s);
+          counted = omega (arith, z .counted, later, total-more elementsOf (s .volumes) (s .now));
+          named = omega (arith, z .named, later);
+          numbered = omega (arith, z .numbered, later, ap length same);
+          block = (refl, refl, (omega (arith, z .block .1, length-append (s .volumes) (s .now ∷ [])), refl, nil-snoc (s .volumes) (s .now)));
+        })
 
   -- ── by what the code promises ──
   module _ (t₁ : List ℕ) (u₁ a₁ : List Bool) where

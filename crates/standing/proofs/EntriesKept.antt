@@ -27,11 +27,9 @@ use Rattle.standing.specs.Kept.{ownOpen, figureOpen, shutSoFar, Scratch,
 use Rattle.standing.proofs.OwnLines.{housed}
 use Rattle.standing.proofs.SlotLengths.{length-line}
 use Rattle.standing.proofs.MoreRecords.{element-more, hide-more, layer-closed, volume-closed, shown}
-use Rattle.standing.proofs.DrawingStanding.{drawing-length, drawing-entry}
+use Rattle.standing.proofs.OpenRecords.{drawing-length, drawing-entry, textRows, text-length, text-entry, placed-entry}
 use Rattle.standing.proofs.SymbolFacts.{symbol-entry, same-order}
-use Rattle.standing.proofs.TextStanding.{textRows, text-length, text-entry}
 use Rattle.standing.proofs.PlacedFacts.{placed-places, text-places}
-use Rattle.standing.proofs.PlacedTables.{placed-entry}
 use Rattle.standing.proofs.ScratchKept.{scratch-same, scratch-own, scratch-figure}
 
 -- the record at `from` with one more line of it

@@ -25,11 +25,11 @@ use Rattle.rules.proofs.Chains.{clash}
 use Rattle.tables.specs.Tables.{tableOf}
 use Rattle.entries.specs.Acts.{putLine}
 use Rattle.account.specs.Placing.{fills}
-use Rattle.standing.specs.SoFar.{homeOwner, homeVolume, homeFigure}
+use Rattle.standing.specs.SoFar.{homeOwner, homeVolume, homeFigure, emptyRecord}
 use Rattle.account.specs.FigureLines.{homeTable, homeRows, lineKind}
 use Rattle.standing.proofs.LineOrigins.{isValues}
 use Rattle.standing.proofs.RowOpeners.{isOpens}
-use Rattle.standing.proofs.RowRecords.{zeros, row-record}
+use Rattle.standing.proofs.RowRecords.{row-record}
 
 -- ── the table ──
 layer-rows : (b : Bool) → tableOf (cond b 12 11) ≡ layerTable b
@@ -63,7 +63,7 @@ abbrev pub mostBlock : Home → ℕ
 mostBlock (inElement y) = 2
 mostBlock (inLayer k) = 3
 
-pub layer-figure-rows : (b : Bool) → all (figureRow 3) (layerTable b) ≡ true
+layer-figure-rows : (b : Bool) → all (figureRow 3) (layerTable b) ≡ true
 unfolding layerTable
 layer-figure-rows true = refl
 layer-figure-rows false = refl
@@ -96,7 +96,7 @@ single-record c t v owner volume line = refl
 
 layer-line : (c d : Digits) (b : Bool) → (b ≡ true → d ≡ digits 0 1) → (j : ℕ) (v : List Num) (owner volume line : ℕ) → isValues (ruleAt (layerTable b) j .holds) ≡ true
     → fills (ruleAt (layerTable b) j .holds) (numbers (nums v)) ≡ true
-    → sets (putLine (ruleAt (layerTable b) j) 0 (nums v) zeros) 0 (pos (lineKind true j) ∷ pos owner ∷ pos volume ∷ pos line ∷ []) ≡ lineRecord (record { class = c; symbols = d; table = layerTable b }) 0 owner volume line j v
+    → sets (putLine (ruleAt (layerTable b) j) 0 (nums v) emptyRecord) 0 (pos (lineKind true j) ∷ pos owner ∷ pos volume ∷ pos line ∷ []) ≡ lineRecord (record { class = c; symbols = d; table = layerTable b }) 0 owner volume line j v
 unfolding layerTable
 layer-line c d b q zero v o vo li i f = row-record (ruleAt (layerTable b) 0) 3 (nums v) 10 o vo li refl (omega arith) refl refl refl f
 layer-line c d b q (suc zero) v o vo li i f = row-record (ruleAt (layerTable b) 1) 3 (nums v) 11 o vo li refl (omega arith) refl refl refl f
@@ -112,7 +112,7 @@ layer-line c d b q (suc (suc (suc (suc (suc (suc (suc j))))))) v o vo li i f = c
 
 element-line : (j : ℕ) (v : List Num) (owner volume line : ℕ) → isValues (ruleAt figureTable j .holds) ≡ true
     → fills (ruleAt figureTable j .holds) (numbers (nums v)) ≡ true
-    → sets (putLine (ruleAt figureTable j) 0 (nums v) zeros) 0 (pos (lineKind false j) ∷ pos owner ∷ pos volume ∷ pos line ∷ []) ≡ lineRecord plainView 20 owner volume line j v
+    → sets (putLine (ruleAt figureTable j) 0 (nums v) emptyRecord) 0 (pos (lineKind false j) ∷ pos owner ∷ pos volume ∷ pos line ∷ []) ≡ lineRecord plainView 20 owner volume line j v
 unfolding figureTable
 element-line zero v o vo li i f = row-record (ruleAt figureTable 0) 3 (nums v) 30 o vo li refl (omega arith) refl refl refl f
 element-line (suc zero) v o vo li i f = row-record (ruleAt figureTable 1) 3 (nums v) 31 o vo li refl (omega arith) refl refl refl f
@@ -124,7 +124,7 @@ element-line (suc (suc (suc (suc (suc (suc j)))))) v o vo li i f = clash i refl
 
 abbrev pub lineMade : Set → Home → ℕ → ℕ → List Num → List ℤ
 lineMade s h line j v =
-    sets (putLine (ruleAt (M.homeTable s h) j) 0 (nums v) zeros) 0 (pos (lineKind (isLayer h) j) ∷ pos (homeOwner s h) ∷ pos (homeVolume s h) ∷ pos line ∷ [])
+    sets (putLine (ruleAt (M.homeTable s h) j) 0 (nums v) emptyRecord) 0 (pos (lineKind (isLayer h) j) ∷ pos (homeOwner s h) ∷ pos (homeVolume s h) ∷ pos line ∷ [])
 
 pub line-record : (c : Digits) (s : Set) (h : Home) (line j : ℕ) (v : List Num) → isValues (ruleAt (M.homeTable s h) j .holds) ≡ true
     → fills (ruleAt (M.homeTable s h) j .holds) (numbers (nums v)) ≡ true → lineMade s h line j v ∷ [] ≡ homeFigure c s h (plain line j v)

@@ -1,35 +1,30 @@
--- FILE_FORMAT's close: its test, its records in the table, and what the header says of the set.
-use Prim.Native.Nat.{ℕ, suc, _-_, _≤_}
+-- FILE_FORMAT's close: its test, and what the header says of the set.
+use Prim.Native.Nat.{ℕ, _≤_}
 use mathlib.Core.Bool.{Bool, true, false, _&&_}
-use mathlib.Core.List.{List, [], _∷_, _++_, append-nil}
-use mathlib.Core.Path.{_≡_, refl, sym, _∙_, ap, ap₂, subst}
+use mathlib.Core.List.{List, [], _∷_}
+use mathlib.Core.Path.{_≡_, refl, sym, _∙_, ap, ap₂}
 use native.Mathlib.Omega.{arith}
 use lib.Dec.{eqb}
 use lib.IntN.{ℤ}
-use lib.ListN.{length, getD, take, drop, take-append-drop}
-use lib.Seq.{paste}
+use lib.ListN.{length, getD}
 use Rattle.rules.specs.declared.Digits.{Digits}
-use Rattle.rules.specs.Base.{isNil, same, flat, total}
+use Rattle.rules.specs.Base.{isNil, same, total}
 use Rattle.rules.specs.Rows.{Held}
-use Rattle.rules.specs.Blocks.{fileTables}
 use Rattle.rules.specs.Sets.{Drawing, Symbol, Contents, Set, withNow, arcOf, symbolRange, defineRange, elementsOf}
 use Rattle.rules.specs.VolumesAndTotals.{chained, dated}
 use Rattle.rules.specs.Machine.{Line, top, file}
-use Rattle.rules.specs.RecordTable.{putHeld, fileRecords}
 use Rattle.rules.proofs.Chains.{clash}
-use Rattle.standing.specs.Laid.{Laid}
 use Rattle.account.specs.Account.{atBlock}
-use Rattle.standing.specs.SoFar.{emptyRecords, closedRecords}
 use Rattle.standing.specs.Standing.{Desk, deskNow, closedSerials, thisOf, fileNumber, Stands}
 use Rattle.account.specs.FileLines.{countAt, chainedTo, datedAs, agrees, firstTally, laterTally}
-use Rattle.standing.specs.FileStanding.{fileHead, InFile}
-use Rattle.rules.proofs.RecordLengths.{length-held}
-use Rattle.standing.proofs.FileReadBack.{arc-back, sym-back, elec-back, date-back, time-back, all-back, this-back, later-back, laid-paste}
+use Rattle.standing.specs.FileStanding.{InFile}
+use Rattle.standing.proofs.FileReadBack.{arc-back, sym-back, elec-back, date-back, time-back, all-back, this-back, later-back}
 use Rattle.standing.proofs.Standings.{deskKept, lengths-kept}
+use Rattle.standing.proofs.ClearedKept.{file-cleared}
 
--- the same things lent, but for the tally, the marks, the header and the table
-abbrev pub fileDesk : Desk → List ℕ → List Bool → List ℤ → List ℤ → Desk
-fileDesk d tally marks header t = deskKept d (d .now) tally marks (d .inner) header t
+-- the same things lent, but for the tally, the marks and the header
+abbrev pub fileDesk : Desk → List ℕ → List Bool → List ℤ → Desk
+fileDesk d tally marks header = deskKept d (d .now) tally marks (d .inner) header (d .scratch)
 
 module _ (c : Digits) (spool : List ℕ) (k : ℕ) (d : Desk) (at to : ℕ) (dr : Drawing) (sy : List Symbol) (nw : Contents) (taken n : ℕ) (h : Held) (p : ℕ) where
   abbrev pub setWith : List Contents → Set
@@ -56,29 +51,20 @@ module _ (c : Digits) (spool : List ℕ) (k : ℕ) (d : Desk) (at to : ℕ) (dr 
     agree-is (y ∷ vs) z = ap₂ _&&_ (chain-is (y ∷ vs) z) (date-is y vs z)
 
   -- ── the state behind it ──
-  module _ (later : at ≤ to) (tally₁ : List ℕ) (m₁ : List Bool) (h₁ t₁ : List ℤ) (em : m₁ ≡ d .marks) (eh : h₁ ≡ d .header) where
+  module _ (later : at ≤ to) (tally₁ : List ℕ) (m₁ : List Bool) (h₁ : List ℤ) (em : m₁ ≡ d .marks) (eh : h₁ ≡ d .header) where
     abbrev desk : ℕ → Desk
-    desk m = deskNow (fileDesk d tally₁ m₁ h₁ t₁) (atBlock (d .now) 0 m)
+    desk m = deskNow (fileDesk d tally₁ m₁ h₁) (atBlock (d .now) 0 m)
 
-    -- "1 header", and "2 volume: this_line, this_ele; after the header"
-    pub closed-first : (z : Here []) → tally₁ ≡ firstTally (d .header) (d .tally) → t₁ ≡ paste (d .table) (d .now .free - 64) (d .header) 64
-        → Stands c spool k (desk 1) (InFile spool k (desk 1)) to (top (headed []) 1)
-    closed-first z et eq =
+    pub closed-first : (z : Here []) → tally₁ ≡ firstTally (d .header) (d .tally) → Stands c spool k (desk 1) (InFile spool k (desk 1)) to (top (headed []) 1)
+    closed-first z et =
         let f : InFile spool k d (setWith []) n h p = z .block .1 in
         let hd : List ℤ = d .header in
         let s′ : Set = headed [] in
         let one : k ≡ 1 = f .volume in
-        let recs : List ℤ = putHeld (fileTables true) h (fileHead true 1 n) in
-        let fill : recs ≡ take 64 hd = sym (f .filled ∙ ap (λ (i : ℕ). putHeld (fileTables true) h (fileHead true i n)) one) in
-        let flat-is : flat (fileRecords true 1 (s′ .now)) ≡ take 64 hd = ap (λ (u : List ℤ). take 32 recs ++ u) (append-nil (drop 32 recs)) ∙ take-append-drop 32 recs ∙ fill in
         let said : ℕ → ℕ → ℕ → ℕ → ℕ → ℕ → ℕ → List ℕ = λ a b c d e f g. a ∷ b ∷ c ∷ d ∷ e ∷ f ∷ g ∷ 0 ∷ 0 ∷ length sy ∷ length (dr .layers) ∷ 0 ∷ [] in
         record {
-          lengths = lengths-kept d (atBlock (d .now) 0 1) tally₁ m₁ (d .inner) h₁ t₁ (z .lengths) (ap length em ∙ z .lengths .marks) (z .lengths .inner) (ap length eh ∙ z .lengths .header);
-          laid =
-              subst (λ (t : List ℤ). Laid t (fileRecords true 1 (s′ .now)) (d .now .free)) (sym eq)
-              (laid-paste (d .table) [] (emptyRecords true) (fileRecords true 1 (s′ .now)) (d .now .free) 64 (z .laid) refl hd flat-is
-              (ap length (sym fill) ∙ length-held (fileTables true) h (fileHead true 1 n)) refl);
-          taken = z .taken;
+          lengths = lengths-kept d (atBlock (d .now) 0 1) tally₁ m₁ (d .inner) h₁ (d .scratch) (z .lengths) (ap length em ∙ z .lengths .marks) (z .lengths .inner) (ap length eh ∙ z .lengths .header) (z .lengths .scratch);
+          scratch = file-cleared (setWith []) n h p (d .scratch) (z .scratch);
           here = thisOf s′;
           this = λ _. refl;
           tally =
@@ -99,22 +85,15 @@ module _ (c : Digits) (spool : List ℕ) (k : ℕ) (d : Desk) (at to : ℕ) (dr 
           block = (refl, refl, (record { volume = one; first = refl; blocks = refl }, record { layers = f .bare refl .layers; symbols = f .bare refl .symbols }));
         }
 
-    pub closed-later : (y : Contents) (vs : List Contents) (z : Here (y ∷ vs)) → tally₁ ≡ laterTally (d .header) (d .tally) → t₁ ≡ paste (d .table) (d .now .free - 32) (d .header) 32
+    pub closed-later : (y : Contents) (vs : List Contents) (z : Here (y ∷ vs)) → tally₁ ≡ laterTally (d .header) (d .tally)
         → Stands c spool k (desk 3) (InFile spool k (desk 3)) to (top (headed (y ∷ vs)) 3)
-    closed-later y vs z et eq =
+    closed-later y vs z et =
         let f : InFile spool k d (setWith (y ∷ vs)) n h p = z .block .1 in
         let hd : List ℤ = d .header in
         let s′ : Set = headed (y ∷ vs) in
-        let m : ℕ = suc (suc (length vs)) in
-        let recs : List ℤ = putHeld (fileTables false) h (fileHead false m n) in
-        let fill : recs ≡ take 32 hd = sym (f .filled ∙ ap (λ (i : ℕ). putHeld (fileTables false) h (fileHead false i n)) (f .volume)) in
         record {
-          lengths = lengths-kept d (atBlock (d .now) 0 3) tally₁ m₁ (d .inner) h₁ t₁ (z .lengths) (ap length em ∙ z .lengths .marks) (z .lengths .inner) (ap length eh ∙ z .lengths .header);
-          laid =
-              subst (λ (t : List ℤ). Laid t (closedRecords c s′ ++ fileRecords false m (s′ .now)) (d .now .free)) (sym eq)
-              (laid-paste (d .table) (closedRecords c s′) (emptyRecords false) (fileRecords false m (s′ .now)) (d .now .free) 32 (z .laid) refl hd (append-nil recs ∙ fill)
-              (ap length (sym fill) ∙ length-held (fileTables false) h (fileHead false m n)) refl);
-          taken = z .taken;
+          lengths = lengths-kept d (atBlock (d .now) 0 3) tally₁ m₁ (d .inner) h₁ (d .scratch) (z .lengths) (ap length em ∙ z .lengths .marks) (z .lengths .inner) (ap length eh ∙ z .lengths .header) (z .lengths .scratch);
+          scratch = file-cleared (setWith (y ∷ vs)) n h p (d .scratch) (z .scratch);
           here = thisOf s′;
           this = λ _. refl;
           tally =

@@ -109,7 +109,7 @@ module _ (j : ℕ) (h : Held) (v : Value) (h₀ h₁ : List ℤ) (g : Header h�
   time-by false (suc p) o sh tk e y f a = absurd (omega (arith, o .later refl))
 
 -- ── what FILE_FORMAT holds then ──
-module _ (spool : List ℕ) (k : ℕ) (d : Desk) (s : Set) (n : ℕ) (h : Held) (p : ℕ) (f : InFile spool k d s n h p) (tally₁ : List ℕ) (m₁ : List Bool) (h₁ t₁ : List ℤ) (now : Now) where
+module _ (spool : List ℕ) (k : ℕ) (d : Desk) (s : Set) (n : ℕ) (h : Held) (p : ℕ) (f : InFile spool k d s n h p) (tally₁ : List ℕ) (m₁ : List Bool) (h₁ : List ℤ) (now : Now) where
   abbrev first : Bool
   first = isFirst s
 
@@ -117,7 +117,7 @@ module _ (spool : List ℕ) (k : ℕ) (d : Desk) (s : Set) (n : ℕ) (h : Held) 
   rows = getD (fileTables first) p []
 
   abbrev Then : Held → ℕ → Type 0
-  Then h q = InFile spool k (deskNow (fileDesk d tally₁ m₁ h₁ t₁) now) s n h q
+  Then h q = InFile spool k (deskNow (fileDesk d tally₁ m₁ h₁) now) s n h q
 
   -- the same, with another part open
   pub part-moved : (q : ℕ) → now .part ≡ q → PartOpen first q → m₁ ≡ d .marks → h₁ ≡ d .header → Then h q

@@ -1,7 +1,7 @@
--- FILE_FORMAT as it opens: its records stay empty till it closes, nothing is held yet, and the header kept apart says no more than the head of its records.
-use Prim.Native.Nat.{ℕ, zero, suc, _<_, _+_, _≤_}
+-- FILE_FORMAT as it opens: nothing is held yet, and the header kept apart says no more than the head of its records.
+use Prim.Native.Nat.{ℕ, zero, suc, _<_}
 use mathlib.Core.Bool.{Bool, true, false}
-use mathlib.Core.List.{List, [], _∷_, map, _++_, append-assoc}
+use mathlib.Core.List.{List, [], _∷_, map}
 use mathlib.Core.Option.{none}
 use mathlib.Core.Path.{_≡_, refl, sym, _∙_, ap, subst}
 use native.Mathlib.Omega.{arith}
@@ -20,22 +20,11 @@ use Rattle.rules.proofs.Chains.{clash}
 use Rattle.account.specs.declared.Where.{Where}
 use Rattle.account.specs.Placing.{Shaped}
 use Rattle.account.specs.Account.{headAt}
-use Rattle.standing.specs.SoFar.{volumeOf, emptyRecord, emptyRecords}
+use Rattle.standing.specs.SoFar.{volumeOf}
 use Rattle.standing.specs.Standing.{Desk, Bare}
-use Rattle.account.specs.TopLines.{headerBegun, fileSize}
+use Rattle.account.specs.TopLines.{headerBegun}
 use Rattle.account.specs.FileLines.{partMarks, Header, isCount, countAt, fileWidth}
 use Rattle.standing.specs.FileStanding.{fileHead, isNumbers, InFile}
-use Rattle.standing.specs.Laid.{Laid}
-use Rattle.standing.proofs.LaidTables.{laid-same, laid-empty}
-
--- ── its records ──
-pub file-laid : (first : Bool) (t : List ℤ) (rs : List (List ℤ)) (w : ℕ) → Laid t rs w → w + fileSize first ≤ length t → Laid t (rs ++ emptyRecords first) (w + fileSize first)
-file-laid false t rs w l h = laid-empty t rs w l h
-file-laid true t rs w l h =
-    let e : w + 32 + 32 ≡ w + 64 = omega arith in
-    subst (λ (n : ℕ). Laid t (rs ++ emptyRecords true) n) e
-    (laid-same t ((rs ++ emptyRecord ∷ []) ++ emptyRecord ∷ []) (rs ++ emptyRecords true) (w + 32 + 32) (append-assoc rs (emptyRecord ∷ []) (emptyRecord ∷ []))
-    (laid-empty t (rs ++ emptyRecord ∷ []) (w + 32) (laid-empty t rs w l (omega (arith, h))) (omega (arith, h))))
 
 -- ── the header kept apart: seventy numbers ──
 abbrev begun : Bool → Where → List ℤ

@@ -1,26 +1,21 @@
 -- What FILE_FORMAT's records say when it closes: the ranges, date, time and counts, read back from their places.
-use Prim.Native.Nat.{ℕ, zero, suc, _+_, _-_, _<_}
+use Prim.Native.Nat.{ℕ, zero, suc, _<_}
 use mathlib.Core.Bool.{Bool, true, false}
-use mathlib.Core.List.{List, [], _∷_, _++_, append-assoc, append-nil}
+use mathlib.Core.List.{List, [], _∷_}
 use mathlib.Core.Option.{Option, none}
-use mathlib.Core.Path.{_≡_, refl, sym, _∙_, ap, subst}
+use mathlib.Core.Path.{_≡_, refl, sym, _∙_, ap}
 use native.Mathlib.Omega.{arith}
 use lib.IntN.{ℤ, pos, natAbs}
-use lib.ListN.{length, getD, take, drop, length-append}
-use lib.Seq.{paste, getD-take}
-use Rattle.rules.specs.Base.{flat}
+use lib.ListN.{getD, take}
+use lib.Seq.{getD-take}
 use Rattle.rules.specs.Values.{Value, amountAt}
 use Rattle.rules.specs.Rows.{Slots, Held, partOf, slotValue, numberOf}
 use Rattle.rules.specs.Blocks.{fileTable, rangeTable, baseTable, elecTable, symTable, laterTable, fileTables}
 use Rattle.rules.specs.RecordTable.{numbersOf, firstOr0, columns, firstSlot, otherSlots, putHeld, ruleAt}
-use Rattle.rules.proofs.Chains.{flat-append}
-use Rattle.standing.specs.Laid.{Laid}
-use Rattle.standing.specs.Kept.{withNumbers}
 use Rattle.account.specs.FileLines.{Header, isCount, countAt, fileWidth}
 use Rattle.standing.specs.FileStanding.{fileHead, isNumbers}
 use Rattle.account.proofs.FileCounts.{header-count}
 use Rattle.standing.proofs.FileEntries.{count-back}
-use Rattle.standing.proofs.LaidTables.{laid-same, laid-changes}
 
 -- ── a slot by its number ──
 abbrev behind : ℕ → Slots → Slots
@@ -80,19 +75,3 @@ module _ (k n : ℕ) (h : Held) (t : List ℤ) (g : Header t) (f : take 32 t ≡
   pub later-back : countAt t 6 ≡ numberOf "this_ele" laterTable (partOf h 0)
   unfolding laterTable
   later-back = read-back false k n h t g f c 6 0 1 (omega arith) refl refl
-
--- ── the records, over the empty ones ──
-module _ (t : List ℤ) (fore us vs : List (List ℤ)) (w m : ℕ) (l : Laid t (fore ++ us) w) (a : length (flat us) ≡ m) (h : List ℤ) (b : flat vs ≡ take m h) (d : length (take m h) ≡ m) (e : length vs ≡ length us) where
-  before : length (flat fore) ≡ w - m
-  before = omega (arith, l .size, ap length (flat-append fore us), length-append (flat fore) (flat us), a)
-
-  put : withNumbers (w - m) (flat vs) t ≡ paste t (w - m) h m
-  put =
-      ap (λ (x : List ℤ). withNumbers (w - m) x t) b ∙ ap (λ (n : ℕ). take (w - m) t ++ (take m h ++ drop (w - m + n) t)) d
-      ∙ sym (append-assoc (take (w - m) t) (take m h) (drop (w - m + m) t))
-
-  pub laid-paste : Laid (paste t (w - m) h m) (fore ++ vs) w
-  laid-paste =
-      subst (λ (x : List ℤ). Laid x (fore ++ vs) w) put
-      (laid-same _ _ _ w (ap (λ (r : List (List ℤ)). fore ++ r) (append-nil vs))
-      (laid-changes t fore us vs [] w (w - m) (laid-same t _ _ w (ap (λ (r : List (List ℤ)). fore ++ r) (sym (append-nil us))) l) before (ap length b ∙ d ∙ sym a) e))

@@ -25,11 +25,10 @@ module _ (spool : List ℕ) (k : ℕ) (n : Now) (ms is : List Bool) (s : Set) wh
 -- ── from line to line ──
 module _ (spool : List ℕ) (k : ℕ) (n n′ : Now) (ms is is′ : List Bool) (s : Set) (ks : List ℕ) where
   -- records taken, and another place in the same symbol
-  pub symbol-on : (y : Symbol) → n′ .owner ≡ n .owner → n′ .own ≡ n .own → InSymbol spool k n ms is s y → InSymbol spool k n′ ms is′ (withRecords ks s) y
-  symbol-on y a b x = record {
+  pub symbol-on : (y : Symbol) → n′ .owner ≡ n .owner → InSymbol spool k n ms is s y → InSymbol spool k n′ ms is′ (withRecords ks s) y
+  symbol-on y a x = record {
     phase = record { volume = x .phase .volume; first = x .phase .first; blocks = x .phase .blocks };
     owner = a ∙ x .owner;
-    own = b ∙ x .own;
     slots = x .slots;
     marked = x .marked;
     fresh = x .fresh;
@@ -39,17 +38,16 @@ module _ (spool : List ℕ) (k : ℕ) (n n′ : Now) (ms is is′ : List Bool) (
     hide-first = x .hide-first;
   }
 
-  pub home-on : (h : Home) → n′ .layered ≡ n .layered → n′ .owner ≡ n .owner → n′ .own ≡ n .own → InHome spool k n ms is s h → InHome spool k n′ ms is′ (withRecords ks s) h
-  home-on (inElement y) l a b x = (symbol-on y a b (x .0), l ∙ x .1, x .2, x .3, x .4)
-  home-on (inLayer i) l a b x = (x .0, l ∙ x .1, a ∙ x .2, x .3)
+  pub home-on : (h : Home) → n′ .layered ≡ n .layered → n′ .owner ≡ n .owner → InHome spool k n ms is s h → InHome spool k n′ ms is′ (withRecords ks s) h
+  home-on (inElement y) l a x = (symbol-on y a (x .0), l ∙ x .1, x .2, x .3, x .4)
+  home-on (inLayer i) l a x = (x .0, l ∙ x .1, a ∙ x .2, x .3)
 
 -- another place in the same symbol or layer, and no record taken
 module _ (spool : List ℕ) (k : ℕ) (n n′ : Now) (ms is is′ : List Bool) (s : Set) where
-  pub symbol-stays : (y : Symbol) → n′ .owner ≡ n .owner → n′ .own ≡ n .own → InSymbol spool k n ms is s y → InSymbol spool k n′ ms is′ s y
-  symbol-stays y a b x = record {
+  pub symbol-stays : (y : Symbol) → n′ .owner ≡ n .owner → InSymbol spool k n ms is s y → InSymbol spool k n′ ms is′ s y
+  symbol-stays y a x = record {
     phase = x .phase;
     owner = a ∙ x .owner;
-    own = b ∙ x .own;
     slots = x .slots;
     marked = x .marked;
     fresh = x .fresh;
@@ -59,6 +57,6 @@ module _ (spool : List ℕ) (k : ℕ) (n n′ : Now) (ms is is′ : List Bool) (
     hide-first = x .hide-first;
   }
 
-  pub home-stays : (h : Home) → n′ .layered ≡ n .layered → n′ .owner ≡ n .owner → n′ .own ≡ n .own → InHome spool k n ms is s h → InHome spool k n′ ms is′ s h
-  home-stays (inElement y) l a b x = (symbol-stays y a b (x .0), l ∙ x .1, x .2, x .3, x .4)
-  home-stays (inLayer i) l a b x = (x .0, l ∙ x .1, a ∙ x .2, x .3)
+  pub home-stays : (h : Home) → n′ .layered ≡ n .layered → n′ .owner ≡ n .owner → InHome spool k n ms is s h → InHome spool k n′ ms is′ s h
+  home-stays (inElement y) l a x = (symbol-stays y a (x .0), l ∙ x .1, x .2, x .3, x .4)
+  home-stays (inLayer i) l a x = (x .0, l ∙ x .1, a ∙ x .2, x .3)

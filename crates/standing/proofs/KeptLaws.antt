@@ -8,11 +8,12 @@ use lib.ListN.{length, take, drop, replicate, length-append, length-replicate}
 use Rattle.rules.specs.declared.Digits.{Digits}
 use Rattle.rules.specs.Base.{flat}
 use Rattle.rules.specs.Machine.{State}
-use Rattle.account.specs.Records.{partAt, withPart}
+use Rattle.account.specs.Records.{partAt, withPart, withNumbers}
 use Rattle.standing.specs.Laid.{Laid}
 use Rattle.standing.specs.SoFar.{emptyRecord}
 use Rattle.standing.specs.Standing.{setOf}
-use Rattle.standing.specs.Kept.{shutSoFar, Kept, Fills, FillsAll, Opens, withNumbers}
+use Rattle.standing.specs.Kept.{shutSoFar, Fills, FillsAll, Opens}
+use Rattle.standing.specs.Reading.{Kept}
 use Rattle.rules.proofs.Chains.{flat-append}
 use Rattle.standing.proofs.LaidTables.{flat-size, laid-same, laid-empty, laid-changes}
 
@@ -26,7 +27,7 @@ laid-more (suc m) t rs w l h =
     (laid-more m t (rs ++ emptyRecord ∷ []) (w + 32) (laid-empty t rs w l (omega (arith, h))) (omega (arith, h))))
 
 -- what they come to
-size-empty : (more : ℕ) → length (flat (replicate more emptyRecord)) ≡ 32 * more
+pub size-empty : (more : ℕ) → length (flat (replicate more emptyRecord)) ≡ 32 * more
 size-empty zero = refl
 size-empty (suc m) = length-append emptyRecord (flat (replicate m emptyRecord)) ∙ omega (arith, size-empty m)
 
@@ -34,7 +35,7 @@ size-more : (rs : List (List ℤ)) (more : ℕ) → length (flat (rs ++ replicat
 size-more rs more = ap length (flat-append rs (replicate more emptyRecord)) ∙ length-append (flat rs) (flat (replicate more emptyRecord)) ∙ omega (arith, size-empty more)
 
 -- one record is a list of one
-fills-all : (c : Digits) (st st′ : State) (more from number : ℕ) (t : List ℤ) → Fills c st st′ more from number t → FillsAll c st st′ more number (partAt from t)
+pub fills-all : (c : Digits) (st st′ : State) (more from number : ℕ) (t : List ℤ) → Fills c st st′ more from number t → FillsAll c st st′ more number (partAt from t)
 fills-all c st st′ more from number t f = record {
   fore = f .fore;
   made = partAt from t ∷ [];
@@ -52,7 +53,7 @@ module _ (c : Digits) (limit : ℕ) (table : List ℤ) (records more : ℕ) (st 
       let e : 32 * records + 32 * more ≡ 32 * (records + more) = omega arith in
       subst (Laid table (shutSoFar c st ++ replicate more emptyRecord)) e (laid-more more table (shutSoFar c st) (32 * records) (k .laid w) (omega (arith, w, fits)))
 
-  sized : length (flat (shutSoFar c st ++ replicate more emptyRecord)) ≡ 32 * (records + more)
+  pub sized : length (flat (shutSoFar c st ++ replicate more emptyRecord)) ≡ 32 * (records + more)
   sized = omega (arith, size-more (shutSoFar c st) more, k .size)
 
   -- a line that makes none complete leaves the table as it is

@@ -9,9 +9,8 @@ use lib.Seq.{take-at, drop-at, drop-drop}
 use Rattle.rules.specs.Base.{flat}
 use Rattle.rules.specs.RecordTable.{tableOf}
 use Rattle.rules.proofs.Chains.{flat-append}
-use Rattle.account.specs.Records.{partAt, withPart}
+use Rattle.account.specs.Records.{partAt, withPart, withNumbers}
 use Rattle.standing.specs.Laid.{Laid}
-use Rattle.standing.specs.Kept.{withNumbers}
 use Rattle.account.proofs.Lent.{with-same}
 
 -- ── a part of a list ──

@@ -3,8 +3,10 @@ pub mod Openers
 pub mod Marks
 pub mod LaidTables
 pub mod KeptLaws
+pub mod PutKept
 pub mod MoreRecords
 pub mod Standings
+pub mod Completing
 pub mod RowRecords
 pub mod HomeFacts
 pub mod ChainStanding
@@ -19,7 +21,6 @@ pub mod OwnKept
 pub mod ClearedKept
 pub mod LineOrigins
 pub mod SlotLengths
-pub mod RecordStores
 pub mod FigureSights
 pub mod HeldParts
 pub mod FileHeld
@@ -42,6 +43,7 @@ pub mod ValueSizes
 pub mod HeadRecords
 pub mod WordPlaces
 pub mod OwnLines
+pub mod OpenRecords
 pub mod UsedLayers
 pub mod ElementStanding
 pub mod PlacedFacts
@@ -67,10 +69,4 @@ pub mod FileReadBack
 pub mod StepParts
 pub mod StepDone
 pub mod ForeParts
-pub mod ScratchPlaces
-pub mod ScratchFigures
-pub mod ScratchSheet
-pub mod ScratchSymbols
-pub mod ScratchPlaced
 pub mod OpenPlaces
-pub mod ScratchDone

@@ -6,7 +6,7 @@ use mathlib.Core.Option.{some}
 use mathlib.Core.Path.{_≡_, refl, sym, _∙_, ap}
 use native.Mathlib.Omega.{arith}
 use lib.IntN.{ℤ}
-use lib.ListN.{length}
+use lib.ListN.{length, length-append}
 use Rattle.rules.specs.declared.Digits.{Digits}
 use Rattle.rules.specs.Base.{flat}
 use Rattle.rules.specs.Values.{nums}
@@ -19,7 +19,7 @@ use Rattle.account.specs.Records.{partAt}
 use Rattle.standing.specs.SoFar.{homeOwner, homeVolume, homeMore, emptyRecord}
 use Rattle.standing.specs.Kept.{figuresShut, symbolShut, shutSoFar, Fills}
 use Rattle.standing.proofs.MoreRecords.{more-layers, more-points}
-use Rattle.standing.proofs.LayerNamesStanding.{layer-length}
+use Rattle.standing.proofs.OpenRecords.{layer-length}
 use Rattle.standing.proofs.KeptLaws.{fills-one}
 use Rattle.standing.proofs.ClosesKept.{shut-taken}
 
@@ -38,8 +38,13 @@ layer-fills c s d y records all t put =
 abbrev pub pointRecord : ℕ → ℕ → ℕ → Point → List ℤ
 pointRecord kind owner volume p = putSlot (ruleAt (pointTable true) 0) (some (nums (p .values))) (start kind owner volume (p .line))
 
-point-long : (kind owner volume : ℕ) (p : Point) → length (pointRecord kind owner volume p) ≡ 32
+pub point-long : (kind owner volume : ℕ) (p : Point) → length (pointRecord kind owner volume p) ≡ 32
 point-long kind owner volume p = length-slot (ruleAt (pointTable true) 0) (some (nums (p .values))) (start kind owner volume (p .line))
+
+pub points-size : (kind owner volume : ℕ) (ps : List Point) → length (flat (pointRecords kind owner volume ps)) ≡ 32 * length ps
+points-size kind owner volume [] = refl
+points-size kind owner volume (p ∷ ps) =
+    omega (arith, length-append (pointRecord kind owner volume p) (flat (pointRecords kind owner volume ps)), point-long kind owner volume p, points-size kind owner volume ps)
 
 -- one more behind others
 behind-points : (fore : List (List ℤ)) (kind owner volume : ℕ) (ps : List Point) (p : Point) (u : List ℤ) → u ≡ pointRecord kind owner volume p
@@ -55,7 +60,7 @@ hidden-fills c s y ps p records all t put =
     (behind-points (symbolShut s y) kindHidden (length (s .symbols)) 1 ps p (partAt 32 t) put)
 
 -- how many were taken says nothing of a chain
-pub chain-taken : (c : Digits) (s : Set) (ks : List ℕ) (h : Home) (fs : List Figure) (n : ℕ) (ps : List Point)
+chain-taken : (c : Digits) (s : Set) (ks : List ℕ) (h : Home) (fs : List Figure) (n : ℕ) (ps : List Point)
     → shutSoFar c (successive (withRecords ks s) h fs n ps) ≡ shutSoFar c (successive s h fs n ps)
 chain-taken c s ks (inElement y) fs n ps = refl
 chain-taken c s ks (inLayer m) fs n ps =

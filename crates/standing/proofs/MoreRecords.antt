@@ -10,17 +10,17 @@ use lib.IntN.{ℤ}
 use lib.ListN.{length}
 use Rattle.rules.specs.declared.Digits.{Digits}
 use Rattle.rules.specs.Base.{flat}
-use Rattle.rules.specs.RangeClass.{digits, digitsOf}
+use Rattle.rules.specs.RangeClass.{digitsOf}
 use Rattle.rules.specs.Values.{nums}
-use Rattle.rules.specs.Rows.{Rule, Held, partOf, numberOf}
-use Rattle.rules.specs.Blocks.{symbolTable, elecTable}
+use Rattle.rules.specs.Rows.{Held, partOf, numberOf}
+use Rattle.rules.specs.Blocks.{elecTable}
 use Rattle.rules.specs.Figures.{layerTable, pointTable}
-use Rattle.rules.specs.Sets.{Point, Figure, Layer, Drawing, Symbol, LayerBlock, Contents, Set, isFirst, symbolRange, withBlock, withRecords, withVolume, withSymbol, withLayer, symbolFigures, symbolHidden, firstContents, headOr}
+use Rattle.rules.specs.Sets.{Point, Figure, Layer, Drawing, Symbol, LayerBlock, Contents, Set, isFirst, symbolRange, withBlock, withRecords, withVolume, withSymbol, symbolFigures, symbolHidden, firstContents, headOr}
 use Rattle.rules.specs.Machine.{Home, inElement, inLayer}
-use Rattle.rules.specs.RecordTable.{putSlot, putSlots, ruleAt, start, fileRecords, drawingRecord, layerRecord, layerRecords, pointRecords, figureRecords, innerRecords, symbolRecords, blockRecords, bodyRecords, laterRecords, recordsFrom}
+use Rattle.rules.specs.RecordTable.{putSlot, ruleAt, start, fileRecords, drawingRecord, layerRecord, layerRecords, pointRecords, figureRecords, innerRecords, symbolRecords, blockRecords, bodyRecords, laterRecords, recordsFrom}
 use Rattle.rules.specs.RecordTable.{View, viewOf, plainView}
 use Rattle.rules.proofs.Chains.{flat-append, map-append}
-use Rattle.standing.specs.SoFar.{volumeOf, closedRecords, sheetRecords, frontRecords, baseRecords, layersRecords, symbolSoFar, homeRecords, homeFigure, figuresSoFar}
+use Rattle.standing.specs.SoFar.{volumeOf, closedRecords, sheetRecords, frontRecords, baseRecords, layersRecords, ownRecord, symbolSoFar, homeRecords, homeFigure, figuresSoFar}
 
 abbrev Records : Type 0
 Records = List (List ℤ)
@@ -48,15 +48,7 @@ more-layers n [] l = ap (λ (m : ℕ). layerRecord m l ∷ []) (omega arith)
 more-layers n (k ∷ ls) l =
     ap (λ (u : Records). layerRecord n k ∷ u) (more-layers (suc n) ls l ∙ ap (λ (m : ℕ). layerRecords (suc n) ls ++ layerRecord m l ∷ []) (omega arith))
 
-pub layer-more : (s : Set) (d : Drawing) (l : Layer) → sheetRecords s (withLayer l d) ≡ sheetRecords s d ++ layerRecord (length (d .layers)) l ∷ []
-layer-more s d l =
-    ap (λ (u : Records). fileRecords true 1 (s .now) ++ drawingRecord d ∷ u) (more-layers 0 (d .layers) l ∙ ap (λ (m : ℕ). layerRecords 0 (d .layers) ++ layerRecord m l ∷ []) (from-zero (length (d .layers))))
-    ∙ sym (append-assoc (fileRecords true 1 (s .now)) (drawingRecord d ∷ layerRecords 0 (d .layers)) (layerRecord (length (d .layers)) l ∷ []))
-
 -- ── symbols ──
-abbrev pub ownRecord : ℕ → Symbol → List ℤ
-ownRecord n y = putSlots symbolTable (y .own) (start 4 n 1 (y .line))
-
 pub more-symbols : (n : ℕ) (ys : List Symbol) (y : Symbol) → symbolRecords n (ys ++ y ∷ []) ≡ symbolRecords n ys ++ ownRecord (n + length ys) y ∷ innerRecords (n + length ys) y
 more-symbols n [] y =
     ap (λ (u : Records). ownRecord n y ∷ u) (append-nil (innerRecords n y)) ∙ ap (λ (m : ℕ). ownRecord m y ∷ innerRecords m y) (omega arith)

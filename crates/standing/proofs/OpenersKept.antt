@@ -17,8 +17,7 @@ use Rattle.account.specs.Records.{withPart}
 use Rattle.standing.specs.SoFar.{volumeOf, closedRecords, sheetRecords, baseRecords, homeOwner, homeVolume, homeMore, emptyRecord, emptyRecords}
 use Rattle.standing.specs.Kept.{homeOwn, shutSoFar, figureOpen, Scratch, Begins, Enters}
 use Rattle.standing.proofs.MoreRecords.{closed-taken}
-use Rattle.standing.proofs.TopStanding.{begun-drawing}
-use Rattle.standing.proofs.DefinesStanding.{blank-record}
+use Rattle.standing.proofs.OpenRecords.{begun-drawing, blank-record}
 use Rattle.standing.proofs.FigureRows.{text-begun, placed-begun}
 use Rattle.standing.proofs.ClosesKept.{shut-taken}
 use Rattle.standing.proofs.ScratchKept.{scratch-same, scratch-own, scratch-figure}

@@ -26,7 +26,7 @@ use Rattle.rules.specs.PlacedSymbol.{onUnknown, newSerial, onPlaced, onPlacedKe
 use Rattle.rules.specs.LineByLine.{stepIn}
 use Rattle.rules.proofs.OnActs.{on-byAct, on-shut, on-skip}
 use Rattle.rules.proofs.Chains.{On, on-unless, on-cond, on-then, on-got}
-use Rattle.standing.specs.Kept.{shutSoFar, HomeOwnAt, OwnAt, ownAfter}
+use Rattle.standing.specs.Kept.{shutSoFar, HomeOwnAt, OwnAt, ownBehind}
 use Rattle.standing.proofs.MoreRecords.{closed-taken}
 
 -- ── line by line ──
@@ -174,7 +174,7 @@ module _ (c : Digits) (e : Env) (l : Line) (records : ℕ) where
     own-skipping s k fs n o d eof = tt
     own-skipping s k fs n o d (keyed key r) = on-skip P (skipOf key r) _ _ tt (on-unless P (ltb d mostDepth) 18 _ λ _. tt)
 
-    own-line : (st : State) → P st → Sized st → On (OwnAt c (ownAfter st records own)) (stepIn e l st)
+    own-line : (st : State) → P st → Sized st → On (OwnAt c (ownBehind st records own)) (stepIn e l st)
     own-line (top s k) i size = own-top s k (l .form) size
     own-line (file s n h p) i size = own-file s n h p (l .form) i
     own-line (drawing s d) i size = own-drawing s d (l .form) i
@@ -191,5 +191,5 @@ module _ (c : Digits) (e : Env) (l : Line) (records : ℕ) where
     own-line (ended s) i size = tt
 
     -- the number is right behind any line that is taken
-    pub own-kept : (st st′ : State) → OwnAt c own st → length (flat (shutSoFar c st)) ≡ 32 * records → stepIn e l st ≡ got st′ → OwnAt c (ownAfter st records own) st′
-    own-kept st st′ i size did = on-got (OwnAt c (ownAfter st records own)) (stepIn e l st) st′ (own-line st i size) did
+    pub own-kept : (st st′ : State) → OwnAt c own st → length (flat (shutSoFar c st)) ≡ 32 * records → stepIn e l st ≡ got st′ → OwnAt c (ownBehind st records own) st′
+    own-kept st st′ i size did = on-got (OwnAt c (ownBehind st records own)) (stepIn e l st) st′ (own-line st i size) did

@@ -1,5 +1,5 @@
 -- A line of a key that the class knows, directly in a placed symbol: from the code's answer to the step that the definitions make.
-use Prim.Native.Nat.{ℕ, suc, _+_, _*_, _-_, _≤_, _<_}
+use Prim.Native.Nat.{ℕ, suc, _+_, _*_, _≤_, _<_}
 use mathlib.Core.Bool.{Bool, true, false, cond, _&&_, not}
 use mathlib.Core.List.{List, [], _∷_, _++_, append-nil}
 use mathlib.Core.Option.{Option, none, some}
@@ -21,33 +21,37 @@ use Rattle.rules.specs.Values.{serialsOf as numbersOf}
 use Rattle.rules.specs.Rows.{Rule, found, find, Slots, Held, partOf, enter, rowsThere, slotValue, shapeFor, innerOf, Act, stay, entry, begin, shut, refuse, actRow, actFound, act}
 use Rattle.rules.specs.Figures.{placedTable, placedTables}
 use Rattle.rules.specs.Sets.{Figure, ownSerial, Set, rangeOf, knownOf}
-use Rattle.rules.specs.Machine.{Line, Env, inLayer, State, placing, byAct, symbolBlock}
+use Rattle.rules.specs.Machine.{Line, inLayer, State, placing, byAct, symbolBlock}
 use Rattle.rules.specs.PlacedSymbol.{noneOf, newSerial, onPlaced}
 use Rattle.rules.specs.LineByLine.{stepIn}
-use Rattle.rules.specs.RecordTable.{ruleAt, putHeld}
+use Rattle.rules.specs.RecordTable.{ruleAt}
 use Rattle.rules.proofs.Chains.{clash}
 use Rattle.rules.proofs.Rows.{found-row, row-at, row-below, row-did}
 use Rattle.tables.specs.Tables.{tableOf}
 use Rattle.entries.specs.Names.{knownIn}
 use Rattle.entries.specs.Acts.{putLine, nextOf, Entered}
+use Rattle.account.specs.declared.Now.{Now}
 use Rattle.account.specs.declared.Where.{Where}
 use Rattle.account.specs.declared.Step.{Step}
 use Rattle.account.specs.declared.Step.the-variants as S
-use Rattle.account.specs.Records.{partAt}
+use Rattle.account.specs.Records.{partAt, withPart}
 use Rattle.account.specs.Account.{atBlock}
 use Rattle.account.specs.PlacedLines.{Lent, lent, serialCount, ownNumber, inUse, clashes, lentAfter, lentInside, placedStep, PlacedLent, RowLine}
-use Rattle.standing.specs.Standing.{Desk, layersOf, serialsWith, serialsOf, tallyOf, formSize, restSize, rowBytes, serialDue, InPlaced, Stands, deskNow, Under, LineHere, StandsAt, StepOut}
+use Rattle.standing.specs.Standing.{Desk, layersOf, serialsWith, serialsOf, tallyOf, formSize, restSize, rowBytes, serialDue, InPlaced, Stands, deskNow, unlimited, LineHere, StandsAt, StepOut}
+use Rattle.standing.specs.Kept.{Scratch}
 use Rattle.account.proofs.RowsTaken.{Taken, entry-taken, begin-taken}
 use Rattle.standing.proofs.LineOrigins.{From, entry-from, begin-from, ContentKind, ContentRead, serials-content, content-read}
 use Rattle.standing.proofs.LineSizes.{line-size, read-shut}
 use Rattle.standing.proofs.ValueSizes.{values-size}
 use Rattle.standing.proofs.Marks.{marks-set, mark-free}
+use Rattle.standing.proofs.ForeParts.{part-long}
+use Rattle.standing.proofs.ScratchKept.{scratch-long}
+use Rattle.standing.proofs.Completing.{goes-still}
 use Rattle.standing.proofs.Standings.{known}
-use Rattle.rules.proofs.RecordLengths.{length-held}
 use Rattle.standing.proofs.HomeFacts.{home-stays}
 use Rattle.account.proofs.PlacedLaws.{own-is}
-use Rattle.standing.proofs.PlacedFacts.{isSerials, placed-rows, placed-rows-six, placed-places, serial-rule, symbol-rule, other-rule, entry-plain, begin-inner, blank-marks, figure-serial, opening-row, serials-linked}
-use Rattle.standing.proofs.PlacedTables.{lentOf, lentDesk, begun, record-is, record-laid, record-entered, range-is, placing-on}
+use Rattle.standing.proofs.PlacedFacts.{isSerials, placed-rows, placed-rows-six, serial-rule, symbol-rule, other-rule, entry-plain, begin-inner, blank-marks, figure-serial, opening-row, serials-linked}
+use Rattle.standing.proofs.PlacedTables.{lentOf, lentDesk, record-kept, record-entered, range-is, placing-on}
 use Rattle.standing.proofs.OwnLines.{was-none}
 use Rattle.standing.proofs.HeldParts.{shaped-enter, enter-own, enter-other}
 use Rattle.standing.proofs.RowOpeners.{begin-row}
@@ -60,7 +64,7 @@ one-of n used = go (hasNumber n used)
     go true = refl
     go false = refl
 
-module _ (c : Digits) (spool : List ℕ) (k : ℕ) (FileHere : Desk → Set → ℕ → Held → ℕ → Type 0) (d : Desk) (at to : ℕ) (e : Env) (l : Line) (w : Where) (form : LineForm) (u : Under c d e)
+module _ (c : Digits) (spool : List ℕ) (k : ℕ) (FileHere : Desk → Set → ℕ → Held → ℕ → Type 0) (d : Desk) (at to own : ℕ) (l : Line) (w : Where) (form : LineForm)
     (x : LineHere spool k at to form w l) (s : Set) (m : ℕ) (fs : List Figure) (n : ℕ) (o : Held) (z : Stands c spool k d (FileHere d) at (placing s m fs n (symbolBlock o) 0)) where
   abbrev st : State
   st = placing s m fs n (symbolBlock o) 0
@@ -75,10 +79,7 @@ module _ (c : Digits) (spool : List ℕ) (k : ℕ) (FileHere : Desk → Set → 
   later = omega (arith, x .bytes)
 
   abbrev rec₀ : List ℤ
-  rec₀ = partAt (d .now .free - 32) (d .table)
-
-  abbrev begun₀ : List ℤ
-  begun₀ = begun c spool k FileHere d at to s m fs n o 0 z
+  rec₀ = partAt 32 (d .scratch)
 
   six : length (partOf o 0) ≡ 6
   six = inp .shaped .1 ∙ placed-rows-six
@@ -97,7 +98,7 @@ module _ (c : Digits) (spool : List ℕ) (k : ℕ) (FileHere : Desk → Set → 
 
   in-entered : (i : ℕ) (v : Value) → i < 6 → InPlaced spool k (d .now) (set (d .marks) i true) (d .inner) s m fs (enter o 0 i v) 0
   in-entered i v h = record {
-    home = home-stays spool k (d .now) (d .now) (d .marks) (d .inner) (d .inner) s (inLayer m) refl refl refl (inp .home);
+    home = home-stays spool k (d .now) (d .now) (d .marks) (d .inner) (d .inner) s (inLayer m) refl refl (inp .home);
     figures = inp .figures;
     part = inp .part;
     parts = inp .parts;
@@ -112,8 +113,8 @@ module _ (c : Digits) (spool : List ℕ) (k : ℕ) (FileHere : Desk → Set → 
   pub same-stands : (x₁ : Lent) (rec₁ : List ℤ) → x₁ ≡ lentOf d → rec₁ ≡ rec₀ → StandsAt c spool k FileHere (deskNow (lentDesk d x₁ rec₁) (d .now)) to st
   same-stands x₁ rec₁ y q =
       subst (λ (t : Lent). StandsAt c spool k FileHere (deskNow (lentDesk d t rec₁) (d .now)) to st) (sym y)
-      (placing-on c spool k FileHere d at to s m fs n o 0 z (d .now) (d .marks) (d .inner) rec₁ o 0 later (omega (arith, later)) refl (z .lengths .marks) (z .lengths .inner)
-      (q ∙ record-is c spool k FileHere d at to s m fs n o 0 z) refl (z .block .0) inp)
+      (placing-on c spool k FileHere d at to s m fs n o 0 z (d .now) (d .marks) (d .inner) rec₁ o 0 later (omega (arith, later)) (z .lengths .marks) (z .lengths .inner)
+      (record-kept c spool k FileHere d at to s m fs n o 0 z 0 rec₁ q) refl (z .block .0) inp)
 
   -- ── a line of the row `serial` ──
   module _ (v : Value) (q : ℕ) (ps : List ℕ) (is : v ≡ linked q ps) (free : getD (partOf o 0) 5 none ≡ none) where
@@ -148,7 +149,7 @@ module _ (c : Digits) (spool : List ℕ) (k : ℕ) (FileHere : Desk → Set → 
     grown : length (serialsOf st′) ≡ length (serialsOf st) + 1
     grown = ap length one-more ∙ length-append (serialsWith s fs) (q ∷ []) ∙ ap (λ (y : List ℕ). length y + 1) (sym none-yet)
 
-    module _ (size : 8 ≤ formSize (l .form)) (rec₁ : List ℤ) (put : rec₁ ≡ putHeld placedTables o′ begun₀) where
+    module _ (size : 8 ≤ formSize (l .form)) (rec₁ : List ℤ) (put : Scratch (withPart 32 rec₁ (d .scratch)) st′) where
       -- what `symbol=` has taken
       abbrev symbol-bytes : Held → ℕ
       symbol-bytes h = rowBytes 17 (getD (partOf h 0) 0 none)
@@ -173,9 +174,9 @@ module _ (c : Digits) (spool : List ℕ) (k : ℕ) (FileHere : Desk → Set → 
           marks = length-set (d .marks) 5 true ∙ z .lengths .marks;
           inner = z .lengths .inner;
           header = z .lengths .header;
+          scratch = scratch-long (withPart 32 rec₁ (d .scratch)) st′ put;
         };
-        laid = record-laid c spool k FileHere d at to s m fs n o 0 z rec₁ (putHeld placedTables o′ begun₀) put (length-held placedTables o′ begun₀);
-        taken = z .taken;
+        scratch = put;
         here = z .here;
         this = z .this;
         tally = ap (λ (t : List ℕ). set t 11 (serialCount t + 1)) (z .tally) ∙ ap (tallyOf s (z .here) (length (layersOf st))) (sym grown);
@@ -202,7 +203,7 @@ module _ (c : Digits) (spool : List ℕ) (k : ℕ) (FileHere : Desk → Set → 
     abbrev did : Act
     did = actRow (knownOf s) (rangeOf s) (getD full row false) row rule rest
 
-    abbrev pub rowAct : Act
+    abbrev rowAct : Act
     rowAct =
         actRow (knownIn spool (take (getD (d .tally) 9 0) (d .symbols)) (take (getD (d .tally) 10 0) (d .layers))) (digitsOf (getD (d .tally) 1 0)) (getD (d .marks) row false) row rule rest
 
@@ -216,9 +217,12 @@ module _ (c : Digits) (spool : List ℕ) (k : ℕ) (FileHere : Desk → Set → 
     whole : act (knownOf s) placedTable (rangeOf s) full (l .form) ≡ did
     whole = ap (act (knownOf s) placedTable (rangeOf s) full) keyed-so ∙ ap (actFound (knownOf s) (rangeOf s) full rest) place
 
-    module _ (h : stepIn e l st ≡ onPlaced s m fs n o 0 did) (x₁ : Lent) (rec₁ : List ℤ) where
+    module _ (h : stepIn (unlimited c) l st ≡ onPlaced s m fs n o 0 did) (x₁ : Lent) (rec₁ : List ℤ) where
+      abbrev d₁ : Desk
+      d₁ = lentDesk d x₁ rec₁
+
       abbrev Out : Step → Type 0
-      Out r = StepOut c spool k FileHere e l to st (lentDesk d x₁ rec₁) r
+      Out r = StepOut c spool k FileHere own l to st d₁ r
 
       -- ── a line entered ──
       module _ (i : ℕ) (v : Value) (a : did ≡ entry i v) (q : rec₁ ≡ putLine (ruleAt (tableOf 18) i) 0 v rec₀) where
@@ -234,12 +238,11 @@ module _ (c : Digits) (spool : List ℕ) (k : ℕ) (FileHere : Desk → Set → 
         below : i < 6
         below = omega (arith, taken .row, placed-rows-six)
 
-        put-entry : rec₁ ≡ putHeld placedTables (enter o 0 i v) begun₀
-        put-entry =
-            record-entered c spool k FileHere d at to s m fs n o 0 z 0 i v rec₁ (omega arith) taken placed-places (q ∙ ap (λ (t : List Rule). putLine (ruleAt t i) 0 v rec₀) placed-rows)
-
         abbrev st″ : State
         st″ = placing s m fs n (symbolBlock (enter o 0 i v)) 0
+
+        put-entry : Scratch (withPart 32 rec₁ (d .scratch)) st″
+        put-entry = record-entered c spool k FileHere d at to s m fs n o 0 z 0 0 i v rec₁ (omega arith) taken (q ∙ ap (λ (t : List Rule). putLine (ruleAt t i) 0 v rec₀) placed-rows)
 
         -- `symbol=` is paid by its line
         paid : at + rowBytes 17 (getD (partOf (enter o 0 i v) 0) 0 none) ≤ to + rowBytes 17 (getD (partOf o 0) 0 none)
@@ -265,14 +268,12 @@ module _ (c : Digits) (spool : List ℕ) (k : ℕ) (FileHere : Desk → Set → 
             let plain : numbersOf v ≡ [] =
             entry-plain (knownOf s) i i (from .rule) (shapeFor (from .rule) (from .rest)) v (subst (λ (r : Rule). isSerials (r .holds) ≡ false) is-rule (other-rule i below b)) (from .did .read) in
             let lent-is : x₁ ≡ lent (d .tally) (d .serials) (set (d .marks) i true) (d .inner) =
-            y ∙ ap (λ (t : Bool). lent (cond t (set (d .tally) 11 (serialCount (d .tally) + 1)) (d .tally)) (cond t (set (d .serials) (serialCount (d .tally)) (ownNumber rec₁)) (d .serials)) (set (d .marks) i true) (d .inner)) b in (
-              st″,
-              h ∙ ap (byAct _ _ _ _) a ∙ ap (λ (t : List ℕ). unless (noneOf (ownSerial t) (serialsWith s fs)) 15 (got st″)) plain,
-              subst (λ (t : Lent). StandsAt c spool k FileHere (deskNow (lentDesk d t rec₁) (d .now)) to st″) (sym lent-is)
-                  (placing-on c spool k FileHere d at to s m fs n o 0 z (d .now) (set (d .marks) i true) (d .inner) rec₁ (enter o 0 i v) 0 later paid refl (length-set (d .marks) i true ∙ z .lengths .marks) (z .lengths .inner) put-entry
-                  (sym (other-slot i 5 v (λ t. eqb-false i 5 b (sym t))))
-                  (z .block .0) (in-entered i v below)),
-            )
+            y ∙ ap (λ (t : Bool). lent (cond t (set (d .tally) 11 (serialCount (d .tally) + 1)) (d .tally)) (cond t (set (d .serials) (serialCount (d .tally)) (ownNumber rec₁)) (d .serials)) (set (d .marks) i true) (d .inner)) b in
+            goes-still c spool k FileHere own l to st d₁ (d .now) st″ (h ∙ ap (byAct _ _ _ _) a ∙ ap (λ (t : List ℕ). unless (noneOf (ownSerial t) (serialsWith s fs)) 15 (got st″)) plain) refl refl refl refl
+            (subst (λ (t : Lent). StandsAt c spool k FileHere (deskNow (lentDesk d t rec₁) (d .now)) to st″) (sym lent-is)
+            (placing-on c spool k FileHere d at to s m fs n o 0 z (d .now) (set (d .marks) i true) (d .inner) rec₁ (enter o 0 i v) 0 later paid (length-set (d .marks) i true ∙ z .lengths .marks) (z .lengths .inner) put-entry
+            (sym (other-slot i 5 v (λ t. eqb-false i 5 b (sym t))))
+            (z .block .0) (in-entered i v below)))
 
         -- of the row `serial`
         module _ (five : i ≡ 5) where
@@ -297,46 +298,45 @@ module _ (c : Digits) (spool : List ℕ) (k : ℕ) (FileHere : Desk → Set → 
           size =
               omega (arith, line-size (knownOf s) placedTable (rangeOf s) full (l .form) i (entry i v) from, ap (λ (r : Rule). length (r .key)) five-rule, serial-rule .2, content .long)
 
-          abbrev own : ℕ
-          own = linked-so .0
+          abbrev serial : ℕ
+          serial = linked-so .0
 
           free : getD (partOf o 0) 5 none ≡ none
           free = ap (λ (y : ℕ). getD (partOf o 0) y none) (sym five) ∙ mark-free (partOf o 0) i (taken .free)
 
-          number : ownNumber rec₁ ≡ own
+          number : ownNumber rec₁ ≡ serial
           number =
               ap ownNumber
               (q ∙ ap (λ (y : ℕ). putLine (ruleAt (tableOf 18) y) 0 v rec₀) five ∙ ap (λ (y : Value). putLine (ruleAt (tableOf 18) 5) 0 y rec₀) (linked-so .2))
-              ∙ own-is rec₀ own (linked-so .1) (ap length (record-is c spool k FileHere d at to s m fs n o 0 z) ∙ length-held placedTables o begun₀)
+              ∙ own-is rec₀ serial (linked-so .1) (part-long 32 (d .scratch) (omega (arith, z .lengths .scratch)))
 
-          used-so : inUse (d .tally) (d .serials) own ≡ hasNumber own (serialsWith s fs)
-          used-so = in-use v own (linked-so .1) (linked-so .2) free
+          used-so : inUse (d .tally) (d .serials) serial ≡ hasNumber serial (serialsWith s fs)
+          used-so = in-use v serial (linked-so .1) (linked-so .2) free
 
-          new-so : newSerial s fs v ≡ not (hasNumber own (serialsWith s fs))
-          new-so = is-new v own (linked-so .1) (linked-so .2) free
+          new-so : newSerial s fs v ≡ not (hasNumber serial (serialsWith s fs))
+          new-so = is-new v serial (linked-so .1) (linked-so .2) free
 
-          on-used : inUse (d .tally) (d .serials) own ≡ true → Out (S.Stop 15)
+          on-used : inUse (d .tally) (d .serials) serial ≡ true → Out (S.Stop 15)
           on-used b = h ∙ ap (byAct _ _ _ _) a ∙ ap (λ (t : Bool). unless t 15 (got st″)) (new-so ∙ ap not (sym used-so ∙ b))
 
-          on-new : inUse (d .tally) (d .serials) own ≡ false → x₁ ≡ lentAfter (lentOf d) 5 own → Out (S.Go (d .now))
-          on-new b y = (
-            st″,
-            h ∙ ap (byAct _ _ _ _) a ∙ ap (λ (t : Bool). unless t 15 (got st″)) (new-so ∙ ap not (sym used-so ∙ b)),
-            subst (λ (t : ℕ). StandsAt c spool k FileHere (deskNow (lentDesk d x₁ rec₁) (d .now)) to (placing s m fs n (symbolBlock (enter o 0 t v)) 0)) (sym five)
-                (subst (λ (t : Lent). StandsAt c spool k FileHere (deskNow (lentDesk d t rec₁) (d .now)) to (placing s m fs n (symbolBlock (enter o 0 5 v)) 0)) (sym y)
-                (serial-stands v own (linked-so .1) (linked-so .2) free size rec₁ (put-entry ∙ ap (λ (t : ℕ). putHeld placedTables (enter o 0 t v) begun₀) five))),
-          )
+          on-new : inUse (d .tally) (d .serials) serial ≡ false → x₁ ≡ lentAfter (lentOf d) 5 serial → Out (S.Go (d .now))
+          on-new b y =
+              goes-still c spool k FileHere own l to st d₁ (d .now) st″ (h ∙ ap (byAct _ _ _ _) a ∙ ap (λ (t : Bool). unless t 15 (got st″)) (new-so ∙ ap not (sym used-so ∙ b))) refl refl refl refl
+              (subst (λ (t : ℕ). StandsAt c spool k FileHere (deskNow d₁ (d .now)) to (placing s m fs n (symbolBlock (enter o 0 t v)) 0)) (sym five)
+              (subst (λ (t : Lent). StandsAt c spool k FileHere (deskNow (lentDesk d t rec₁) (d .now)) to (placing s m fs n (symbolBlock (enter o 0 5 v)) 0)) (sym y)
+              (serial-stands v serial (linked-so .1) (linked-so .2) free size rec₁
+              (subst (λ (t : ℕ). Scratch (withPart 32 rec₁ (d .scratch)) (placing s m fs n (symbolBlock (enter o 0 t v)) 0)) five put-entry))))
 
-          by-use : (t : Bool) → inUse (d .tally) (d .serials) own ≡ t → (t ≡ false → x₁ ≡ lentAfter (lentOf d) 5 own) → Out (cond t (S.Stop 15) (S.Go (d .now)))
+          by-use : (t : Bool) → inUse (d .tally) (d .serials) serial ≡ t → (t ≡ false → x₁ ≡ lentAfter (lentOf d) 5 serial) → Out (cond t (S.Stop 15) (S.Go (d .now)))
           by-use true b y = on-used b
           by-use false b y = on-new b (y refl)
 
           on-serial : clashes (lentOf d) i (ownNumber rec₁) ≡ inUse (d .tally) (d .serials) (ownNumber rec₁) → (clashes (lentOf d) i (ownNumber rec₁) ≡ false → x₁ ≡ lentAfter (lentOf d) i (ownNumber rec₁))
               → Out (cond (clashes (lentOf d) i (ownNumber rec₁)) (S.Stop 15) (S.Go (d .now)))
           on-serial t y =
-              let same : clashes (lentOf d) i (ownNumber rec₁) ≡ inUse (d .tally) (d .serials) own = t ∙ ap (inUse (d .tally) (d .serials)) number in
+              let same : clashes (lentOf d) i (ownNumber rec₁) ≡ inUse (d .tally) (d .serials) serial = t ∙ ap (inUse (d .tally) (d .serials)) number in
               subst Out (ap (λ (b : Bool). cond b (S.Stop 15) (S.Go (d .now))) (sym same))
-              (by-use (inUse (d .tally) (d .serials) own) refl
+              (by-use (inUse (d .tally) (d .serials) serial) refl
               (λ f. y (same ∙ f) ∙ ap (λ (j : ℕ). lentAfter (lentOf d) j (ownNumber rec₁)) five ∙ ap (lentAfter (lentOf d) 5) number))
 
         on-entry : (b : Bool) → eqb i 5 ≡ b → (clashes (lentOf d) i (ownNumber rec₁) ≡ false → x₁ ≡ lentAfter (lentOf d) i (ownNumber rec₁))
@@ -356,33 +356,33 @@ module _ (c : Digits) (spool : List ℕ) (k : ℕ) (FileHere : Desk → Set → 
           let one : j ≡ 1 = opening-row j below opening in
           let part-so : i ≡ 1 = inner-so ∙ ap (λ (y : ℕ). innerOf (ruleAt placedTable y .holds)) one ∙ begin-inner in
           let o′ : Held = enter o 0 j v in
-          let own : partOf o′ 0 ≡ set (partOf o 0) j (some v) = enter-own o 0 j v (inp .shaped .0) in
+          let now : Now = atBlock (d .now) 11 1 in
+          let st₁ : State = placing s m fs n (symbolBlock o′) 1 in
+          let row-in : partOf o′ 0 ≡ set (partOf o 0) j (some v) = enter-own o 0 j v (inp .shaped .0) in
           let there : isNone (getD (partOf o′ 0) 1 none) ≡ false =
-          ap (λ (t : Slots). isNone (getD t 1 none)) own ∙ ap (λ (t : ℕ). isNone (getD (set (partOf o 0) t (some v)) 1 none)) one
+          ap (λ (t : Slots). isNone (getD t 1 none)) row-in ∙ ap (λ (t : ℕ). isNone (getD (set (partOf o 0) t (some v)) 1 none)) one
           ∙ ap isNone (getD-set-same (partOf o 0) 1 (some v) none (omega (arith, six))) in
-          let free : isNone (getD (partOf o 0) 1 none) ≡ true = ap (λ (t : ℕ). isNone (getD (partOf o 0) t none)) (sym one) ∙ ap isNone (mark-free (partOf o 0) j (taken .free)) in (
-            placing s m fs n (symbolBlock o′) 1,
-            h ∙ ap (byAct _ _ _ _) a ∙ ap (λ (t : ℕ). got (placing s m fs n (symbolBlock o′) t)) part-so,
-            subst (λ (t : Lent). StandsAt c spool k FileHere (deskNow (lentDesk d t rec₁) (atBlock (d .now) 11 1)) to (placing s m fs n (symbolBlock o′) 1)) (sym y)
-                (placing-on c spool k FileHere d at to s m fs n o 0 z (atBlock (d .now) 11 1) (set (d .marks) j true) (replicate (length (d .inner)) false) rec₁ o′ 1 later (omega (arith, later, ap (rowBytes 17) (other-slot j 0 v (λ t. omega (arith, t, one))))) refl
-                (length-set (d .marks) j true ∙ z .lengths .marks) (length-replicate (length (d .inner)) false ∙ z .lengths .inner)
-                (record-entered c spool k FileHere d at to s m fs n o 0 z 0 j v rec₁ (omega arith) taken placed-places (q ∙ ap (λ (t : List Rule). putLine (ruleAt t j) 0 v rec₀) placed-rows))
-                (sym (other-slot j 5 v (λ t. omega (arith, t, one)))) refl
-                (record {
-                  home = home-stays spool k (d .now) (atBlock (d .now) 11 1) (d .marks) (d .inner) (d .inner) s (inLayer m) refl refl refl (inp .home);
-                  figures = inp .figures;
-                  part = refl;
-                  parts = omega arith;
-                  shaped = shaped-enter placedTables 0 o 0 j v (inp .shaped);
-                  marked = marked-more j v below;
-                  inner = λ t. blank-marks (length (d .inner)) (z .lengths .inner) ∙ ap rowsThere (sym (text-kept j v ∙ inp .unopened free));
-                  unopened = λ t. clash t there;
-                  opened = λ t. there;
-                })),
-          )
+          let free : isNone (getD (partOf o 0) 1 none) ≡ true = ap (λ (t : ℕ). isNone (getD (partOf o 0) t none)) (sym one) ∙ ap isNone (mark-free (partOf o 0) j (taken .free)) in
+          goes-still c spool k FileHere own l to st d₁ now st₁ (h ∙ ap (byAct _ _ _ _) a ∙ ap (λ (t : ℕ). got (placing s m fs n (symbolBlock o′) t)) part-so) (z .block .0) refl refl refl
+          (subst (λ (t : Lent). StandsAt c spool k FileHere (deskNow (lentDesk d t rec₁) now) to st₁) (sym y)
+          (placing-on c spool k FileHere d at to s m fs n o 0 z now (set (d .marks) j true) (replicate (length (d .inner)) false) rec₁ o′ 1 later (omega (arith, later, ap (rowBytes 17) (other-slot j 0 v (λ t. omega (arith, t, one)))))
+          (length-set (d .marks) j true ∙ z .lengths .marks) (length-replicate (length (d .inner)) false ∙ z .lengths .inner)
+          (record-entered c spool k FileHere d at to s m fs n o 0 z 1 0 j v rec₁ (omega arith) taken (q ∙ ap (λ (t : List Rule). putLine (ruleAt t j) 0 v rec₀) placed-rows))
+          (sym (other-slot j 5 v (λ t. omega (arith, t, one)))) refl
+          (record {
+            home = home-stays spool k (d .now) now (d .marks) (d .inner) (d .inner) s (inLayer m) refl refl (inp .home);
+            figures = inp .figures;
+            part = refl;
+            parts = omega arith;
+            shaped = shaped-enter placedTables 0 o 0 j v (inp .shaped);
+            marked = marked-more j v below;
+            inner = λ t. blank-marks (length (d .inner)) (z .lengths .inner) ∙ ap rowsThere (sym (text-kept j v ∙ inp .unopened free));
+            unopened = λ t. clash t there;
+            opened = λ t. there;
+          })))
 
       on-stay : did ≡ stay → x₁ ≡ lentOf d → rec₁ ≡ rec₀ → Out (S.Go (d .now))
-      on-stay a y q = (st, h ∙ ap (byAct _ _ _ _) a, same-stands x₁ rec₁ y q)
+      on-stay a y q = goes-still c spool k FileHere own l to st d₁ (d .now) st (h ∙ ap (byAct _ _ _ _) a) refl refl refl refl (same-stands x₁ rec₁ y q)
 
       by-act : (a : Act) → did ≡ a → Entered (ruleAt (tableOf 18)) 0 rec₀ a rec₁ → PlacedLent (lentOf d) x₁ (ownNumber rec₁) (nextOf a) → Out (placedStep (d .now) (lentOf d) (ownNumber rec₁) (nextOf a))
       by-act stay a q y = on-stay a y q

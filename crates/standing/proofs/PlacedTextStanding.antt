@@ -1,5 +1,5 @@
 -- A line in the text of a placed symbol: from the code's answer to the step that the definitions make.
-use Prim.Native.Nat.{ℕ, _-_, _≤_}
+use Prim.Native.Nat.{ℕ, _≤_}
 use mathlib.Core.Bool.{Bool, true, not}
 use mathlib.Core.List.{List, []}
 use mathlib.Core.Option.{Option, none}
@@ -18,32 +18,34 @@ use Rattle.rules.specs.Values.{Known, Value, serialsOf}
 use Rattle.rules.specs.Rows.{Rule, Slots, Held, partOf, enter, rowsThere, shapeFor, Act, stay, entry, begin, shut, refuse, act}
 use Rattle.rules.specs.Figures.{textTable, placedTables}
 use Rattle.rules.specs.Sets.{Figure, Set, knownOf, ownSerial}
-use Rattle.rules.specs.Machine.{Line, Env, inLayer, State, placing, byAct, symbolBlock}
+use Rattle.rules.specs.Machine.{Line, inLayer, State, placing, byAct, symbolBlock}
 use Rattle.rules.specs.PlacedSymbol.{noneOf}
-use Rattle.rules.specs.RecordTable.{ruleAt, putHeld}
+use Rattle.rules.specs.RecordTable.{ruleAt}
 use Rattle.rules.proofs.Chains.{clash}
 use Rattle.rules.proofs.Rows.{row-all}
 use Rattle.tables.specs.Tables.{tableOf}
 use Rattle.entries.specs.Names.{knownIn}
 use Rattle.entries.specs.Acts.{putLine, Entered}
+use Rattle.account.specs.declared.Now.{Now}
 use Rattle.account.specs.declared.Where.{Where}
 use Rattle.account.specs.declared.Step.{Step}
 use Rattle.account.specs.declared.Step.the-variants as S
 use Rattle.account.specs.Records.{partAt, withPart}
 use Rattle.account.specs.Account.{atBlock}
 use Rattle.account.specs.PlacedLines.{placedTextStep, PlacedTextMarks, PlacedTextLine}
-use Rattle.standing.specs.Standing.{Desk, serialsWith, rowBytes, InPlaced, Stands, Under, LineHere, StepOut}
+use Rattle.standing.specs.Standing.{Desk, serialsWith, rowBytes, InPlaced, Stands, LineHere, StepOut}
 use Rattle.standing.proofs.Openers.{isBegin, no-begin}
 use Rattle.account.proofs.RowsTaken.{Taken, entry-taken}
 use Rattle.standing.proofs.LineOrigins.{From, entry-from}
 use Rattle.standing.proofs.Marks.{marks-set}
+use Rattle.standing.proofs.Completing.{goes-still}
 use Rattle.standing.proofs.Standings.{deskWith, known}
 use Rattle.standing.proofs.HomeFacts.{home-stays}
-use Rattle.standing.proofs.PlacedFacts.{isSerials, text-rows, plain-text, text-places, text-rule, entry-plain}
-use Rattle.standing.proofs.PlacedTables.{begun, record-is, record-entered, placing-on}
+use Rattle.standing.proofs.PlacedFacts.{isSerials, text-rows, plain-text, text-rule, entry-plain}
+use Rattle.standing.proofs.PlacedTables.{record-kept, record-entered, placing-on}
 use Rattle.standing.proofs.HeldParts.{shaped-enter, enter-own, enter-other}
 
-module _ (c : Digits) (spool : List ℕ) (k : ℕ) (FileHere : Desk → Set → ℕ → Held → ℕ → Type 0) (d : Desk) (at to : ℕ) (e : Env) (l : Line) (w : Where) (form : LineForm) (u : Under c d e)
+module _ (c : Digits) (spool : List ℕ) (k : ℕ) (FileHere : Desk → Set → ℕ → Held → ℕ → Type 0) (d : Desk) (at to own : ℕ) (l : Line) (w : Where) (form : LineForm)
     (x : LineHere spool k at to form w l) (s : Set) (m : ℕ) (fs : List Figure) (n : ℕ) (o : Held) (z : Stands c spool k d (FileHere d) at (placing s m fs n (symbolBlock o) 1)) where
   abbrev st : State
   st = placing s m fs n (symbolBlock o) 1
@@ -58,7 +60,7 @@ module _ (c : Digits) (spool : List ℕ) (k : ℕ) (FileHere : Desk → Set → 
   inp = z .block .1
 
   -- the act that the code goes by
-  abbrev pub textAct : Act
+  abbrev textAct : Act
   textAct = act (knownIn spool (take (getD (d .tally) 9 0) (d .symbols)) (take (getD (d .tally) 10 0) (d .layers))) (tableOf 19) (digits 0 0) (d .inner) (formIn spool form)
 
   text-act : textAct ≡ did
@@ -72,35 +74,34 @@ module _ (c : Digits) (spool : List ℕ) (k : ℕ) (FileHere : Desk → Set → 
   later = omega (arith, x .bytes)
 
   abbrev rec₀ : List ℤ
-  rec₀ = partAt (d .now .free - 32) (d .table)
+  rec₀ = partAt 32 (d .scratch)
 
   module _ (is : List Bool) (rec₁ : List ℤ) where
-    abbrev Out : Step → Type 0
-    Out r = StepOut c spool k FileHere e l to st (deskWith d (d .now) (d .marks) is (withPart (d .now .free - 32) rec₁ (d .table))) r
+    abbrev d₁ : Desk
+    d₁ = deskWith d (d .now) (d .marks) is (withPart 32 rec₁ (d .scratch))
 
-    same-record : rec₁ ≡ rec₀ → rec₁ ≡ putHeld placedTables o (begun c spool k FileHere d at to s m fs n o 1 z)
-    same-record q = q ∙ record-is c spool k FileHere d at to s m fs n o 1 z
+    abbrev Out : Step → Type 0
+    Out r = StepOut c spool k FileHere own l to st d₁ r
 
     long : is ≡ d .inner → length is ≡ 2
     long q = ap length q ∙ z .lengths .inner
 
     on-stay : did ≡ stay → is ≡ d .inner → rec₁ ≡ rec₀ → Out (S.Go (d .now))
-    on-stay a i q = (
-      st,
-      ap (byAct _ _ _ _) a,
-      placing-on c spool k FileHere d at to s m fs n o 1 z (d .now) (d .marks) is rec₁ o 1 later (omega (arith, later)) refl (z .lengths .marks) (long i) (same-record q) refl (z .block .0)
-          (record {
-            home = inp .home;
-            figures = inp .figures;
-            part = inp .part;
-            parts = inp .parts;
-            shaped = inp .shaped;
-            marked = inp .marked;
-            inner = λ y. i ∙ inp .inner y;
-            unopened = inp .unopened;
-            opened = inp .opened;
-          }),
-    )
+    on-stay a i q =
+        goes-still c spool k FileHere own l to st d₁ (d .now) st (ap (byAct _ _ _ _) a) refl refl refl refl
+        (placing-on c spool k FileHere d at to s m fs n o 1 z (d .now) (d .marks) is rec₁ o 1 later (omega (arith, later)) (z .lengths .marks) (long i)
+        (record-kept c spool k FileHere d at to s m fs n o 1 z 1 rec₁ q) refl (z .block .0)
+        (record {
+          home = inp .home;
+          figures = inp .figures;
+          part = inp .part;
+          parts = inp .parts;
+          shaped = inp .shaped;
+          marked = inp .marked;
+          inner = λ y. i ∙ inp .inner y;
+          unopened = inp .unopened;
+          opened = inp .opened;
+        }))
 
     -- one of its two lines
     on-entry : (j : ℕ) (v : Value) → did ≡ entry j v → is ≡ set (d .inner) j true → rec₁ ≡ putLine (ruleAt (tableOf 19) j) 0 v rec₀ → Out (S.Go (d .now))
@@ -110,47 +111,47 @@ module _ (c : Digits) (spool : List ℕ) (k : ℕ) (FileHere : Desk → Set → 
         let plain : serialsOf v ≡ [] =
         entry-plain (knownOf s) j j (f .rule) (shapeFor (f .rule) (f .rest)) v (not-true (isSerials (f .rule .holds)) (row-all (λ r. not (isSerials (r .holds))) (f .row) text-rule)) (f .did .read) in
         let o′ : Held = enter o 1 j v in
-        let own : partOf o′ 0 ≡ partOf o 0 = enter-other o 1 0 j v (λ y. omega (arith, y)) in
-        let first : Slots → Option Value = λ y. getD y 1 none in (
-          placing s m fs n (symbolBlock o′) 1,
-          ap (byAct _ _ _ _) a ∙ ap (λ (y : List ℕ). unless (noneOf (ownSerial y) (serialsWith s fs)) 15 (got (placing s m fs n (symbolBlock o′) 1))) plain,
-          placing-on c spool k FileHere d at to s m fs n o 1 z (d .now) (d .marks) is rec₁ o′ 1 later (omega (arith, later, ap (λ (y : Slots). rowBytes 17 (getD y 0 none)) own)) refl (z .lengths .marks) (ap length i ∙ length-set (d .inner) j true ∙ z .lengths .inner)
-              (record-entered c spool k FileHere d at to s m fs n o 1 z 1 j v rec₁ (omega arith) taken text-places (q ∙ ap (λ (y : List Rule). putLine (ruleAt y j) 0 v rec₀) text-rows))
-              (ap (λ (y : Slots). getD y 5 none) (sym own)) (z .block .0)
-              (record {
-                home = inp .home;
-                figures = inp .figures;
-                part = inp .part;
-                parts = inp .parts;
-                shaped = shaped-enter placedTables 0 o 1 j v (inp .shaped);
-                marked = inp .marked ∙ ap rowsThere (sym own);
-                inner = λ y. i ∙ ap (λ (b : List Bool). set b j true) (inp .inner refl) ∙ sym (marks-set (partOf o 1) j v) ∙ ap rowsThere (sym (enter-own o 1 j v (inp .shaped .2 .0)));
-                unopened = λ y. clash (ap (λ (b : Slots). isNone (first b)) (sym own) ∙ y) (inp .opened refl);
-                opened = λ y. ap (λ (b : Slots). isNone (first b)) own ∙ inp .opened refl;
-              }),
-        )
+        let st′ : State = placing s m fs n (symbolBlock o′) 1 in
+        let same : partOf o′ 0 ≡ partOf o 0 = enter-other o 1 0 j v (λ y. omega (arith, y)) in
+        let first : Slots → Option Value = λ y. getD y 1 none in
+        goes-still c spool k FileHere own l to st d₁ (d .now) st′ (ap (byAct _ _ _ _) a ∙ ap (λ (y : List ℕ). unless (noneOf (ownSerial y) (serialsWith s fs)) 15 (got st′)) plain) refl refl refl refl
+        (placing-on c spool k FileHere d at to s m fs n o 1 z (d .now) (d .marks) is rec₁ o′ 1 later (omega (arith, later, ap (λ (y : Slots). rowBytes 17 (getD y 0 none)) same)) (z .lengths .marks)
+        (ap length i ∙ length-set (d .inner) j true ∙ z .lengths .inner)
+        (record-entered c spool k FileHere d at to s m fs n o 1 z 1 1 j v rec₁ (omega arith) taken (q ∙ ap (λ (y : List Rule). putLine (ruleAt y j) 0 v rec₀) text-rows))
+        (ap (λ (y : Slots). getD y 5 none) (sym same)) (z .block .0)
+        (record {
+          home = inp .home;
+          figures = inp .figures;
+          part = inp .part;
+          parts = inp .parts;
+          shaped = shaped-enter placedTables 0 o 1 j v (inp .shaped);
+          marked = inp .marked ∙ ap rowsThere (sym same);
+          inner = λ y. i ∙ ap (λ (b : List Bool). set b j true) (inp .inner refl) ∙ sym (marks-set (partOf o 1) j v) ∙ ap rowsThere (sym (enter-own o 1 j v (inp .shaped .2 .0)));
+          unopened = λ y. clash (ap (λ (b : Slots). isNone (first b)) (sym same) ∙ y) (inp .opened refl);
+          opened = λ y. ap (λ (b : Slots). isNone (first b)) same ∙ inp .opened refl;
+        }))
 
     on-begin : (i j : ℕ) (v : Value) → did ≡ begin i j v → Out (S.Stop 5)
     on-begin i j v a = clash (ap isBegin a) (no-begin (knownOf s) rows (digits 0 0) (rowsThere (partOf o 1)) (l .form) plain-text)
 
     -- its end: the placed symbol is open again
     on-shut : did ≡ shut → is ≡ d .inner → rec₁ ≡ rec₀ → Out (S.Go (atBlock (d .now) 11 0))
-    on-shut a i q = (
-      placing s m fs n (symbolBlock o) 0,
-      ap (byAct _ _ _ _) a,
-      placing-on c spool k FileHere d at to s m fs n o 1 z (atBlock (d .now) 11 0) (d .marks) is rec₁ o 0 later (omega (arith, later)) refl (z .lengths .marks) (long i) (same-record q) refl refl
-          (record {
-            home = home-stays spool k (d .now) (atBlock (d .now) 11 0) (d .marks) (d .inner) is s (inLayer m) refl refl refl (inp .home);
-            figures = inp .figures;
-            part = refl;
-            parts = omega arith;
-            shaped = inp .shaped;
-            marked = inp .marked;
-            inner = λ y. absurd (omega (arith, y));
-            unopened = inp .unopened;
-            opened = λ y. absurd (omega (arith, y));
-          }),
-    )
+    on-shut a i q =
+        let now : Now = atBlock (d .now) 11 0 in
+        goes-still c spool k FileHere own l to st d₁ now (placing s m fs n (symbolBlock o) 0) (ap (byAct _ _ _ _) a) (z .block .0) refl refl refl
+        (placing-on c spool k FileHere d at to s m fs n o 1 z now (d .marks) is rec₁ o 0 later (omega (arith, later)) (z .lengths .marks) (long i)
+        (record-kept c spool k FileHere d at to s m fs n o 1 z 0 rec₁ q) refl refl
+        (record {
+          home = home-stays spool k (d .now) now (d .marks) (d .inner) is s (inLayer m) refl refl (inp .home);
+          figures = inp .figures;
+          part = refl;
+          parts = omega arith;
+          shaped = inp .shaped;
+          marked = inp .marked;
+          inner = λ y. absurd (omega (arith, y));
+          unopened = inp .unopened;
+          opened = λ y. absurd (omega (arith, y));
+        }))
 
     on-refuse : (i : ℕ) → did ≡ refuse i → Out (S.Stop i)
     on-refuse i a = ap (byAct _ _ _ _) a

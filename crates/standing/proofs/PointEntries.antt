@@ -1,7 +1,7 @@
--- A line that enters a point, in a `successive` or in a symbol's `hide`: what it holds, and its record in the table.
-use Prim.Native.Nat.{ℕ, _+_, _≤_, _<_}
+-- A line that enters a point, in a `successive` or in a symbol's `hide`: what it holds, and its record.
+use Prim.Native.Nat.{ℕ, _<_}
 use mathlib.Core.Bool.{Bool, true, false}
-use mathlib.Core.List.{List, [], _∷_, _++_}
+use mathlib.Core.List.{List, [], _∷_}
 use mathlib.Core.Option.{some}
 use mathlib.Core.Path.{_≡_, refl, sym, _∙_, ap, subst}
 use native.Mathlib.Omega.{arith}
@@ -23,15 +23,13 @@ use Rattle.entries.specs.Acts.{putLine}
 use Rattle.account.specs.declared.Now.{Now}
 use Rattle.account.specs.declared.Where.{Where}
 use Rattle.account.specs.Placing.{fills}
-use Rattle.standing.specs.Laid.{Laid}
-use Rattle.account.specs.Records.{withPart}
+use Rattle.standing.specs.SoFar.{emptyRecord}
 use Rattle.account.specs.Points.{pointTableOf, pointPut}
 use Rattle.standing.proofs.Openers.{plainKind}
 use Rattle.account.proofs.RowsTaken.{Taken, entry-taken}
 use Rattle.standing.proofs.LineOrigins.{isValues, entry-from, entry-nums}
-use Rattle.standing.proofs.LaidTables.{laid-more}
-use Rattle.standing.proofs.RowRecords.{zeros, row-record}
-use Rattle.rules.proofs.RecordLengths.{length-slot}
+use Rattle.standing.proofs.RowRecords.{row-record}
+use Rattle.standing.proofs.LinesKept.{pointRecord}
 use Rattle.standing.proofs.HeadRecords.{line-put}
 
 -- ── what is computed of the table of points ──
@@ -44,21 +42,21 @@ pub plain-points : (b : Bool) → all (λ r. plainKind (r .holds)) (pointTable b
 unfolding pointTable
 plain-points b = refl
 
-pub one-row : (b : Bool) → length (pointTable b) ≡ 1
+one-row : (b : Bool) → length (pointTable b) ≡ 1
 unfolding pointTable
 one-row b = refl
 
 -- a point's record
-pub point-record : (b : Bool) (v : Value) (kind owner volume line : ℕ) → fills (ruleAt (pointTable b) 0 .holds) (numbers v) ≡ true
-    → sets (putLine (ruleAt (pointTable b) 0) 0 v zeros) 0 (pos kind ∷ pos owner ∷ pos volume ∷ pos line ∷ []) ≡ putSlot (ruleAt (pointTable true) 0) (some v) (start kind owner volume line)
+point-record : (b : Bool) (v : Value) (kind owner volume line : ℕ) → fills (ruleAt (pointTable b) 0 .holds) (numbers v) ≡ true
+    → sets (putLine (ruleAt (pointTable b) 0) 0 v emptyRecord) 0 (pos kind ∷ pos owner ∷ pos volume ∷ pos line ∷ []) ≡ putSlot (ruleAt (pointTable true) 0) (some v) (start kind owner volume line)
 unfolding pointTable
 point-record b v kind owner volume line f = row-record (ruleAt (pointTable b) 0) 3 v kind owner volume line refl (omega arith) refl refl refl f
 
-pub values-row : (b : Bool) → (isValues (ruleAt (pointTable b) 0 .holds) ≡ true) × (ruleAt (pointTable b) 0 .may ≡ false)
+values-row : (b : Bool) → (isValues (ruleAt (pointTable b) 0 .holds) ≡ true) × (ruleAt (pointTable b) 0 .may ≡ false)
 unfolding pointTable
 values-row b = (refl, refl)
 
-pub full-row : (b : Bool) (n : ℕ) → getD (rowsAtLimit n (pointTable b)) 0 false ≡ leb 100 n
+full-row : (b : Bool) (n : ℕ) → getD (rowsAtLimit n (pointTable b)) 0 false ≡ leb 100 n
 unfolding pointTable
 full-row b n = refl
 
@@ -84,26 +82,17 @@ module _ (b : Bool) (known : Known) (count : ℕ) (f : Form) (j : ℕ) (v : Valu
       entry-nums known rows (digits 0 0) (rowsAtLimit count rows) f j v g (subst (λ (r : Rule). isValues (r .holds) ≡ true) q (values-row b .0)) (subst (λ (r : Rule). r .may ≡ false) q (values-row b .1))
 
   -- its numbers put over zeros, and its head before them
-  pub point-made : (kind owner volume line : ℕ)
-      → sets (putLine (ruleAt rows j) 0 v zeros) 0 (pos kind ∷ pos owner ∷ pos volume ∷ pos line ∷ []) ≡ putSlot (ruleAt (pointTable true) 0) (some (nums (numsOf v))) (start kind owner volume line)
+  point-made : (kind owner volume line : ℕ)
+      → sets (putLine (ruleAt rows j) 0 v emptyRecord) 0 (pos kind ∷ pos owner ∷ pos volume ∷ pos line ∷ []) ≡ putSlot (ruleAt (pointTable true) 0) (some (nums (numsOf v))) (start kind owner volume line)
   point-made kind owner volume line =
-      ap (λ (i : ℕ). sets (putLine (ruleAt rows i) 0 v zeros) 0 (pos kind ∷ pos owner ∷ pos volume ∷ pos line ∷ [])) point-first
+      ap (λ (i : ℕ). sets (putLine (ruleAt rows i) 0 v emptyRecord) 0 (pos kind ∷ pos owner ∷ pos volume ∷ pos line ∷ [])) point-first
       ∙ point-record b v kind owner volume line (subst (λ (i : ℕ). fills (ruleAt rows i .holds) (numbers v) ≡ true) point-first (point-taken .fill))
       ∙ ap (λ (y : Value). putSlot (ruleAt (pointTable true) 0) (some y) (start kind owner volume line)) point-nums
 
-  module _ (t : List ℤ) (rs : List (List ℤ)) (n : Now) (l : Laid t rs (n .free)) (room : n .free + 32 ≤ length t) (w : Where) (kind owner volume line : ℕ)
-      (ow : n .owner ≡ owner) (vo : w .volume ≡ volume) (li : w .line ≡ line) where
-    abbrev pub pointMade : List ℤ
-    pointMade = putSlot (ruleAt (pointTable true) 0) (some (nums (numsOf v))) (start kind owner volume line)
-
-    -- its record, and the table with it
-    pub point-put : pointPut n kind (pointTableOf b) w j v t ≡ withPart (n .free) pointMade t
-    point-put =
-        line-put n w kind owner volume line (ruleAt (tableOf (pointTableOf b)) j) v t rs l room ow vo li
-        ∙ ap (λ (y : List Rule). withPart (n .free) (sets (putLine (ruleAt y j) 0 v zeros) 0 (pos kind ∷ pos owner ∷ pos volume ∷ pos line ∷ [])) t) (point-rows b)
-        ∙ ap (λ (y : List ℤ). withPart (n .free) y t) (point-made kind owner volume line)
-
-    pub point-laid : (t₁ : List ℤ) → t₁ ≡ pointPut n kind (pointTableOf b) w j v t → Laid t₁ (rs ++ pointMade ∷ []) (n .free + 32)
-    point-laid t₁ q =
-        subst (λ (y : List ℤ). Laid y (rs ++ pointMade ∷ []) (n .free + 32)) (sym (q ∙ point-put))
-        (laid-more t rs (n .free) l room pointMade (length-slot (ruleAt (pointTable true) 0) (some (nums (numsOf v))) (start kind owner volume line)))
+  -- .. as its line makes it, where the lent record is zeros
+  pub point-put : (n : Now) (w : Where) (kind owner volume line : ℕ) (rec : List ℤ) → rec ≡ emptyRecord → n .owner ≡ owner → w .volume ≡ volume → w .line ≡ line
+      → pointPut n kind (pointTableOf b) w j v rec ≡ pointRecord kind owner volume (record { line = line; values = numsOf v })
+  point-put n w kind owner volume line rec none o a i =
+      line-put n w kind owner volume line (ruleAt (tableOf (pointTableOf b)) j) v rec none o a i
+      ∙ ap (λ (y : List Rule). sets (putLine (ruleAt y j) 0 v emptyRecord) 0 (pos kind ∷ pos owner ∷ pos volume ∷ pos line ∷ [])) (point-rows b)
+      ∙ point-made kind owner volume line

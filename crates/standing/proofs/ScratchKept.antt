@@ -4,7 +4,7 @@ use mathlib.Core.Path.{_≡_, refl, sym, _∙_, ap, subst}
 use native.Mathlib.Omega.{arith}
 use lib.IntN.{ℤ, pos}
 use lib.ListN.{length, take, drop, replicate, length-append, length-take, length-drop, drop-of-length-le}
-use lib.Seq.{take-at, drop-at, take-append-le, drop-append-le, drop-drop}
+use lib.Seq.{take-at, drop-at, drop-drop}
 use Rattle.rules.specs.Machine.{State}
 use Rattle.account.specs.Records.{partAt, withPart}
 use Rattle.standing.specs.SoFar.{emptyRecord}
@@ -56,28 +56,26 @@ module _ (t : List ℤ) (long : length t ≡ 96) (st : State) where
 
 -- A chain is lent two parts at once, its own and the point's: r, on return.
 module _ (t : List ℤ) (long : length t ≡ 96) (r : List ℤ) (k : length r ≡ 64) where
-  abbrev pub twoBack : List ℤ
-  twoBack = take 32 t ++ (r ++ drop 96 t)
+  abbrev pub chainBack : List ℤ
+  chainBack = take 32 t ++ r
 
   first : length (take 32 t) ≡ 32
   first = omega (arith, length-take 32 t, long)
 
-  pub two-long : length twoBack ≡ 96
-  two-long = omega (arith, length-append (take 32 t) (r ++ drop 96 t), length-append r (drop 96 t), length-drop 96 t, first, k, long)
+  pub chain-long : length chainBack ≡ 96
+  chain-long = omega (arith, length-append (take 32 t) r, first, k)
 
-  pub two-own : partAt 0 twoBack ≡ partAt 0 t
-  two-own = take-at (take 32 t) (r ++ drop 96 t) 32 first
+  pub chain-own : partAt 0 chainBack ≡ partAt 0 t
+  chain-own = take-at (take 32 t) r 32 first
 
-  behind-own : drop 32 twoBack ≡ r ++ drop 96 t
-  behind-own = drop-at (take 32 t) (r ++ drop 96 t) 32 first
+  behind-own : drop 32 chainBack ≡ r
+  behind-own = drop-at (take 32 t) r 32 first
 
-  pub two-figure : partAt 32 twoBack ≡ partAt 0 r
-  two-figure = ap (take 32) behind-own ∙ take-append-le 32 r (drop 96 t) (omega (arith, k))
+  pub chain-figure-part : partAt 32 chainBack ≡ partAt 0 r
+  chain-figure-part = ap (take 32) behind-own
 
-  pub two-point : partAt 64 twoBack ≡ partAt 32 r
-  two-point =
-      ap (take 32) (sym (drop-drop 32 32 twoBack) ∙ ap (drop 32) behind-own ∙ drop-append-le 32 r (drop 96 t) (omega (arith, k)))
-      ∙ take-append-le 32 (drop 32 r) (drop 96 t) (omega (arith, length-drop 32 r, k))
+  pub chain-point : partAt 64 chainBack ≡ partAt 32 r
+  chain-point = ap (take 32) (sym (drop-drop 32 32 chainBack) ∙ ap (drop 32) behind-own)
 
 -- ── .. behind a line that leaves the others alone ──
 module _ (t : List ℤ) (st st′ : State) (x : Scratch t st) (u : List ℤ) (k : length u ≡ 32) where

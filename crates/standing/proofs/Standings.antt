@@ -1,26 +1,25 @@
 -- From line to line: a line that changes nothing of what the set says keeps what the code remembers of it.
-use Prim.Native.Nat.{ℕ, suc, _+_, _*_, _/_, _≤_, _<_}
+use Prim.Native.Nat.{ℕ, suc, _+_, _*_, _≤_, _<_}
 use mathlib.Core.Bool.{Bool, true, false, cond}
 use mathlib.Core.List.{List, [], _∷_, _++_, map}
-use mathlib.Core.Option.{Option}
 use mathlib.Core.Path.{_≡_, refl, _∙_, ap, subst, sym}
 use native.Mathlib.Omega.{arith}
-use lib.Dec.{leb, eqb}
+use lib.Dec.{eqb}
 use lib.IntN.{ℤ}
 use lib.ListN.{length, getD, take, set}
-use borrow.Author.Tests.{leb-true, leb-false, ne-eqb}
+use borrow.Author.Tests.{ne-eqb}
 use Rattle.rules.specs.declared.Digits.{Digits}
 use Rattle.rules.specs.Base.{flat, total, hasNumber, isNil}
 use Rattle.rules.specs.Values.{Known}
 use Rattle.rules.specs.Rows.{Held}
 use Rattle.rules.specs.Sets.{Layer, Set, symbolNameOf, elementsOf, usedIn, knownOf, Contents, isFirst}
-use Rattle.rules.specs.Machine.{Env, State, roomFor}
+use Rattle.rules.specs.Machine.{State}
 use Rattle.entries.specs.Names.{namesIn, knownIn}
 use Rattle.account.specs.declared.Now.{Now}
-use Rattle.standing.specs.Laid.{Laid}
-use Rattle.account.specs.Records.{hasRoom}
-use Rattle.standing.specs.SoFar.{soFar, volumeOf}
-use Rattle.standing.specs.Standing.{Desk, Lengths, setOf, layersOf, serialsOf, usedOf, openFigures, inside, counts, elementsHere, thisOf, tallyOf, nameBytes, serialBytes, Inside, Stands, Under}
+use Rattle.standing.specs.SoFar.{volumeOf}
+use Rattle.standing.specs.Kept.{Scratch}
+use Rattle.standing.specs.Standing.{Desk, Lengths, setOf, layersOf, serialsOf, usedOf, openFigures, inside, counts, elementsHere, thisOf, tallyOf, nameBytes, serialBytes, Inside, Stands}
+use Rattle.standing.proofs.ScratchKept.{scratch-long}
 
 -- ── counts ──
 -- the first volume, by its number and by what the set says
@@ -34,20 +33,6 @@ first-volume k s e = ap (λ (i : ℕ). eqb i 1) e ∙ go (s .volumes)
 pub nil-count : {A : Type 0} (s : List A) → eqb (length s) 0 ≡ isNil s
 nil-count [] = refl
 nil-count (a ∷ s) = ne-eqb (suc (length s)) 0 (λ e. absurd (omega (arith, e)))
-
--- ── room ──
--- "19: record doesn't fit the table": in records, and in numbers
-pub room-for : (m n w len : ℕ) → 32 * n ≡ w → leb (n + m) (len / 32) ≡ leb (w + 32 * m) len
-room-for m n w len h = go (leb (n + m) (len / 32)) refl (leb (w + 32 * m) len) refl
-  where
-    go : (a : Bool) → leb (n + m) (len / 32) ≡ a → (b : Bool) → leb (w + 32 * m) len ≡ b → a ≡ b
-    go true p true q = refl
-    go true p false q = absurd (omega (arith, leb-true (n + m) (len / 32) p, leb-false (w + 32 * m) len q, h))
-    go false p true q = absurd (omega (arith, leb-false (n + m) (len / 32) p, leb-true (w + 32 * m) len q, h))
-    go false p false q = refl
-
-pub has-room : (c : Digits) (d : Desk) (e : Env) (n : ℕ) → Under c d e → 32 * n ≡ d .now .free → roomFor (e .limit) (n + 1) ≡ hasRoom (d .now .free) (d .table)
-has-room c d e n u h = ap (λ (m : Option ℕ). roomFor m (n + 1)) (u .limit) ∙ room-for 1 n (d .now .free) (length (d .table)) h
 
 -- ── what a line leaves alone ──
 -- what a state says of the set, the records and their count apart
@@ -84,12 +69,12 @@ deskKept d n tally marks inner header t = record {
   marks = marks;
   inner = inner;
   header = header;
-  table = t;
+  scratch = t;
 }
 
-pub lengths-kept : (d : Desk) (n : Now) (tally : List ℕ) (marks inner : List Bool) (header t : List ℤ) → Lengths d → length marks ≡ 28 → length inner ≡ 2 → length header ≡ 70
+pub lengths-kept : (d : Desk) (n : Now) (tally : List ℕ) (marks inner : List Bool) (header t : List ℤ) → Lengths d → length marks ≡ 28 → length inner ≡ 2 → length header ≡ 70 → length t ≡ 96
     → Lengths (deskKept d n tally marks inner header t)
-lengths-kept d n tally marks inner header t l lm li lh = record {
+lengths-kept d n tally marks inner header t l lm li lh lt = record {
   symbols = l .symbols;
   layers = l .layers;
   serials = l .serials;
@@ -98,24 +83,24 @@ lengths-kept d n tally marks inner header t l lm li lh = record {
   marks = lm;
   inner = li;
   header = lh;
+  scratch = lt;
 }
 
--- the same things lent, but for the marks of the open block and the table
+-- the same things lent, but for the marks of the open block and the scratch
 abbrev pub deskWith : Desk → Now → List Bool → List Bool → List ℤ → Desk
 deskWith d n marks inner t = deskKept d n (d .tally) marks inner (d .header) t
 
 module _ (c : Digits) (spool : List ℕ) (k : ℕ) (FileHere : Desk → Set → ℕ → Held → ℕ → Type 0) (d : Desk) (at to : ℕ) (st st′ : State) (z : Stands c spool k d (FileHere d) at st) where
   pub stands-with : (n : Now) (marks inner : List Bool) (header t : List ℤ) → sight st ≡ sight st′ → length marks ≡ 28 → length inner ≡ 2 → length header ≡ 70
-      → Laid t (soFar c st′) (n .free) → 32 * setOf st′ .taken ≡ n .free
+      → Scratch t st′
       → total elementsOf (setOf st .volumes) + elementsHere st + openFigures st′ ≤ to
       → 48 * length (setOf st .symbols) + nameBytes st′ ≤ to
       → 42 * length (serialsOf st) + serialBytes st′ ≤ to + 20
       → Inside c spool k (deskKept d n (d .tally) marks inner header t) (FileHere (deskKept d n (d .tally) marks inner header t)) st′
       → Stands c spool k (deskKept d n (d .tally) marks inner header t) (FileHere (deskKept d n (d .tally) marks inner header t)) to st′
-  stands-with n marks inner header t v lm li lh laid taken counted named numbered block = record {
-    lengths = lengths-kept d n (d .tally) marks inner header t (z .lengths) lm li lh;
-    laid = laid;
-    taken = taken;
+  stands-with n marks inner header t v lm li lh scratch counted named numbered block = record {
+    lengths = lengths-kept d n (d .tally) marks inner header t (z .lengths) lm li lh (scratch-long t st′ scratch);
+    scratch = scratch;
     here = z .here;
     this = subst (λ (x : Sight). x .counts ≡ true → z .here ≡ thisOf (x .set)) v (z .this);
     tally = subst (λ (x : Sight). d .tally ≡ tallyOf (x .set) (z .here) (length (x .layers)) (length (x .serials))) v (z .tally);
@@ -132,7 +117,7 @@ module _ (c : Digits) (spool : List ℕ) (k : ℕ) (FileHere : Desk → Set → 
   }
 
   pub stands-on : (n : Now) (marks inner : List Bool) (t : List ℤ) → sight st ≡ sight st′ → length marks ≡ 28 → length inner ≡ 2
-      → Laid t (soFar c st′) (n .free) → 32 * setOf st′ .taken ≡ n .free
+      → Scratch t st′
       → total elementsOf (setOf st .volumes) + elementsHere st + openFigures st′ ≤ to
       → 48 * length (setOf st .symbols) + nameBytes st′ ≤ to
       → 42 * length (serialsOf st) + serialBytes st′ ≤ to + 20
@@ -156,11 +141,11 @@ module _ (c : Digits) (spool : List ℕ) (k : ℕ) (FileHere : Desk → Set → 
 module _ (c : Digits) (spool : List ℕ) (k : ℕ) (FileHere : Desk → Set → ℕ → Held → ℕ → Type 0) (d : Desk) (at to : ℕ) (st : State) (z : Stands c spool k d (FileHere d) at st) where
   stands-later : at ≤ to → Stands c spool k d (FileHere d) to st
   stands-later later =
-      stands-with c spool k FileHere d at to st st z (d .now) (d .marks) (d .inner) (d .header) (d .table) refl (z .lengths .marks) (z .lengths .inner) (z .lengths .header) (z .laid) (z .taken)
+      stands-with c spool k FileHere d at to st st z (d .now) (d .marks) (d .inner) (d .header) (d .scratch) refl (z .lengths .marks) (z .lengths .inner) (z .lengths .header) (z .scratch)
       (omega (arith, z .counted, later)) (omega (arith, z .named, later)) (omega (arith, z .numbered, later)) (z .block)
 
   -- all that was lent comes back as it was
-  pub stands-still : at ≤ to → (tally : List ℕ) (marks inner : List Bool) (header t : List ℤ) → tally ≡ d .tally → marks ≡ d .marks → inner ≡ d .inner → header ≡ d .header → t ≡ d .table
+  pub stands-still : at ≤ to → (tally : List ℕ) (marks inner : List Bool) (header t : List ℤ) → tally ≡ d .tally → marks ≡ d .marks → inner ≡ d .inner → header ≡ d .header → t ≡ d .scratch
       → Stands c spool k (deskKept d (d .now) tally marks inner header t) (FileHere (deskKept d (d .now) tally marks inner header t)) to st
   stands-still later tally marks inner header t et em ei eh eq =
       let n : Now = d .now in

@@ -1,13 +1,13 @@
 -- What the code that cuts the lists and lends the records of a block asks for, and what comes back.
-use Prim.Native.Nat.{ℕ, zero, suc, _+_, _*_, _-_, _≤_, _<_}
+use Prim.Native.Nat.{ℕ, zero, suc, _+_, _-_, _≤_, _<_}
 use mathlib.Core.Bool.{Bool, true, false, cond, _&&_, not}
-use mathlib.Core.List.{List, _++_}
+use mathlib.Core.List.{List, _++_, append-nil}
 use mathlib.Core.Path.{_≡_, refl, sym, _∙_, ap, subst}
 use native.Mathlib.Omega.{arith}
 use lib.Dec.{eqb}
 use lib.IntN.{ℤ}
-use lib.ListN.{length, getD, take, drop, length-take, length-drop, length-append}
-use lib.Seq.{take-append-seam, drop-append-seam}
+use lib.ListN.{length, getD, take, drop, length-take, length-drop, drop-of-length-le}
+use lib.Seq.{take-all, take-append-seam, drop-append-seam}
 use Rattle.rules.specs.Rows.{Act, stay, entry, begin, shut, refuse}
 use Rattle.rules.specs.RecordTable.{ruleAt}
 use Rattle.rules.specs.declared.LineForm.{LineForm}
@@ -22,8 +22,7 @@ use Rattle.account.specs.Account.{atBlock}
 use Rattle.standing.specs.Reading.{tallyAfter, tallyNamed, symbolsNamed}
 use Rattle.account.specs.FigureLines.{moreFigures, figureOpened, figureStep, FigureLine}
 use Rattle.account.specs.SymbolLines.{isNamed, nameOf, isNew, symbolPart, symbolPut, symbolStep, SymbolLine}
-use Rattle.account.specs.PlacedLines.{Lent, LentReady}
-use Rattle.standing.specs.LineDone.{namesOf, idsOf, Named, Lends, symbolAct, SymbolReady, OnSymbol}
+use Rattle.standing.specs.LineDone.{namesOf, idsOf, Named, Lends, LendsChain, symbolAct, SymbolReady, OnSymbol}
 use Rattle.account.proofs.Lent.{lent-part}
 use mir.Syntax.{w64}
 use mir.Val.{Fits}
@@ -45,12 +44,12 @@ six-left (suc (suc (suc (suc (suc zero))))) g h a2 a3 a4 a5 = absurd (a5 refl)
 six-left (suc (suc (suc (suc (suc (suc n)))))) g h a2 a3 a4 a5 = omega (arith, h)
 
 -- ELEMENT's own number is 7
-pub at-most : (n m : ℕ) → m ≡ n → (n ≡ 7 → ⊥) → n ≤ 7 → m < 7
-at-most n m e h g = go (7 - n) (omega (arith, g))
+pub at-most : (n : ℕ) → (n ≡ 7 → ⊥) → n ≤ 7 → n < 7
+at-most n h g = go (7 - n) (omega (arith, g))
   where
-    go : (i : ℕ) → n + i ≡ 7 → m < 7
+    go : (i : ℕ) → n + i ≡ 7 → n < 7
     go zero q = absurd (h (omega (arith, q)))
-    go (suc i) q = omega (arith, q, e)
+    go (suc i) q = omega (arith, q)
 
 -- behind those of ELEMENT
 pub twelve-left : (n : ℕ) → 8 ≤ n → (n ≡ 8 → ⊥) → (n ≡ 9 → ⊥) → (n ≡ 10 → ⊥) → (n ≡ 11 → ⊥) → 12 ≤ n
@@ -101,39 +100,27 @@ module _ {tally symbols layers : List ℕ} (y : Named tally symbols layers) wher
   pub ids-fit : Fits w64 (getD tally 10 0)
   ids-fit = record { fits = omega (arith, ids-count, ids-most) }
 
--- ── a record that was lent ──
--- as the code lends it: the part's length is found by its ends
-pub lends : (n k : ℕ) (t u : List ℤ) (P : List ℤ → List ℤ → Type 0) → k ≡ 32 → P (take k (drop n t)) u → Lends n t (take n t ++ (u ++ drop k (drop n t))) P
-lends n k t u P e h = record { rec = u; did = subst (λ (m : ℕ). P (take m (drop n t)) u) e h; back = lent-part n k t u e }
+-- ── what was lent of the scratch ──
+pub lent-long : (n k : ℕ) (t : List ℤ) → n + k ≤ 96 → length t ≡ 96 → length (take k (drop n t)) ≡ k
+lent-long n k t h e = omega (arith, length-take k (drop n t), length-drop n t, h, e)
 
--- the last record
-pub last-wide : (free : ℕ) → 32 ≤ free → free - (free - 32) ≡ 32
-last-wide free h = omega (arith, h)
+-- a record
+pub lends : (n : ℕ) (t u : List ℤ) (P : List ℤ → List ℤ → Type 0) → P (partAt n t) u → Lends n t (take n t ++ (u ++ drop 32 (drop n t))) P
+lends n t u P h = record { rec = u; did = h; back = lent-part n 32 t u refl }
 
-pub last-long : (free : ℕ) (t : List ℤ) → 32 ≤ free → free ≤ length t → length (take (free - (free - 32)) (drop (free - 32) t)) ≡ 32
-last-long free t h g = omega (arith, last-wide free h, length-take (free - (free - 32)) (drop (free - 32) t), length-drop (free - 32) t, g, h)
-
-pub last-ready : (x : Lent) (free : ℕ) (t : List ℤ) → 32 ≤ free → LentReady x (partAt (free - 32) t) → LentReady x (take (free - (free - 32)) (drop (free - 32) t))
-last-ready x free t h y = subst (λ (n : ℕ). LentReady x (take n (drop (free - 32) t))) (sym (last-wide free h)) y
-
-pub last-fits : (free long : ℕ) → free ≤ long → long * 8 < 9223372036854775808 → Fits w64 ((free - 32) * 8)
-last-fits free long g h = record { fits = omega (arith, g, h) }
-
--- a record by its place
-pub own-wide : (n : ℕ) → n + 32 - n ≡ 32
-own-wide n = omega arith
-
-pub own-long : (n : ℕ) (t : List ℤ) → n + 32 ≤ length t → length (take (n + 32 - n) (drop n t)) ≡ 32
-own-long n t h = omega (arith, own-wide n, length-take (n + 32 - n) (drop n t), length-drop n t, h)
-
-pub own-fits : (n long : ℕ) → n + 32 ≤ long → long * 8 < 9223372036854775808 → Fits w64 (n * 8)
-own-fits n long h g = record { fits = omega (arith, h, g) }
-
-pub own-end-fits : (n long : ℕ) → n + 32 ≤ long → long * 8 < 9223372036854775808 → Fits w64 (n + 32)
-own-end-fits n long h g = record { fits = omega (arith, h, g) }
+-- two records, to the end
+pub lends-chain : (t u : List ℤ) (P : List ℤ → List ℤ → Type 0) → length t ≡ 96 → P (take 64 (drop 32 t)) u → LendsChain t (take 32 t ++ (u ++ drop 64 (drop 32 t))) P
+lends-chain t u P e h = record {
+  recs = u;
+  did = subst (λ (x : List ℤ). P x u) (take-all 64 (drop 32 t) (omega (arith, long))) h;
+  back = ap (λ (x : List ℤ). take 32 t ++ (u ++ x)) (drop-of-length-le (drop 32 t) {i = 64} (omega (arith, long))) ∙ ap (λ (x : List ℤ). take 32 t ++ x) (append-nil u);
+}
+  where
+    long : length (drop 32 t) ≡ 64
+    long = omega (arith, length-drop 32 t, e)
 
 -- the part that was put there is read there
-pub part-back : (n : ℕ) (u t : List ℤ) → n ≤ length t → length u ≡ 32 → partAt n (withPart n u t) ≡ u
+part-back : (n : ℕ) (u t : List ℤ) → n ≤ length t → length u ≡ 32 → partAt n (withPart n u t) ≡ u
 part-back n u t h e =
     let fore : length (take n t) ≡ n = omega (arith, length-take n t, h) in
     let rest : List ℤ = drop (n + 32) t in
@@ -175,7 +162,7 @@ blockAfter (S.Skip n) = 0
 blockAfter (S.Stop n) = 0
 
 -- a line that opens SYMBOL_DEFINE again has closed the symbol, and its record is as it was
-pub symbol-shut : (a : Act) (s symbols : List ℕ) (n : Now) (rec₀ rec₁ : List ℤ) (m : Now) → n .block ≡ 5 → S.Go m ≡ symbolStep s symbols n rec₀ a → Entered (ruleAt (tableOf 9)) 0 rec₀ a rec₁ → m .block ≡ 4
+symbol-shut : (a : Act) (s symbols : List ℕ) (n : Now) (rec₀ rec₁ : List ℤ) (m : Now) → n .block ≡ 5 → S.Go m ≡ symbolStep s symbols n rec₀ a → Entered (ruleAt (tableOf 9)) 0 rec₀ a rec₁ → m .block ≡ 4
     → (a ≡ shut) × (rec₁ ≡ rec₀)
 symbol-shut stay s symbols n rec₀ rec₁ m b e q h = absurd (omega (arith, ap blockAfter e, b, h))
 symbol-shut (entry j v) s symbols n rec₀ rec₁ m b e q h = go (eqb j 0 && not (isNew s symbols (nameOf (symbolPut rec₀ j v)))) e
@@ -193,59 +180,30 @@ symbol-shut (refuse k) s symbols n rec₀ rec₁ m b e q h = absurd (omega (arit
 
 module _ (spool : List ℕ) (form : LineForm) (n : Now) (tally symbols layers : List ℕ) (y : Named tally symbols layers) (b : n .block ≡ 5) (m₀ : List Bool) (t : List ℤ)
     (z : SymbolReady spool form n tally symbols layers m₀ t) (m₁ : List Bool) (rec₁ : List ℤ) (r : Step) where
-  abbrev own : ℕ
-  own = n .own
-
-  abbrev wide : ℕ
-  wide = own + 32 - own
-
   abbrev back : List ℤ
-  back = take own t ++ (rec₁ ++ drop wide (drop own t))
+  back = take 0 t ++ (rec₁ ++ drop 32 (drop 0 t))
 
   abbrev Line : List ℤ → Type 0
   Line rec₀ = SymbolLine (symbolAct spool form n tally symbols layers m₀) spool (namesOf tally symbols) n m₀ m₁ rec₀ rec₁ r
 
-  module _ (h : Line (take wide (drop own t))) (long : length rec₁ ≡ length (take wide (drop own t))) where
-    abbrev long32 : length rec₁ ≡ 32
-    long32 = long ∙ own-long own t (z .own)
-
-    pub symbol-end : own + 32 ≤ length back
-    symbol-end =
-        omega (
-          arith,
-          z .own,
-          long32,
-          own-wide own,
-          length-take own t,
-          length-drop own t,
-          length-drop wide (drop own t),
-          length-append (take own t) (rec₁ ++ drop wide (drop own t)),
-          length-append rec₁ (drop wide (drop own t)),
-        )
-
-    again : take wide (drop own back) ≡ rec₁
-    again =
-        ap (λ (i : ℕ). take i (drop own back)) (own-wide own)
-        ∙ ap (partAt own) (lent-part own wide t rec₁ (own-wide own))
-        ∙ part-back own rec₁ t (omega (arith, z .own)) long32
-
-    line : Line (partAt own t)
-    line = subst (λ (i : ℕ). Line (take i (drop own t))) (own-wide own) h
+  module _ (h : Line (partAt 0 t)) (long : length rec₁ ≡ 32) where
+    again : partAt 0 back ≡ rec₁
+    again = ap (partAt 0) (lent-part 0 32 t rec₁ refl) ∙ part-back 0 rec₁ t (omega arith) long
 
     named : (m : Now) → r ≡ S.Go m → m .block ≡ 4 → isNamed rec₁ ≡ true
     named m e q =
-        let (a, g) = symbol-shut (symbolAct spool form n tally symbols layers m₀) spool (namesOf tally symbols) n (partAt own t) rec₁ m b (sym e ∙ line .answer) (line .put) q in
+        let (a, g) = symbol-shut (symbolAct spool form n tally symbols layers m₀) spool (namesOf tally symbols) n (partAt 0 t) rec₁ m b (sym e ∙ h .answer) (h .put) q in
         ap isNamed g ∙ z .name a
 
-    pub kept-asks : (length tally ≡ 12) × (length symbols ≤ 65536) × (length (take wide (drop own back)) ≡ 32)
-        × ((m : Now) → r ≡ S.Go m → m .block ≡ 4 → (getD tally 9 0 < length symbols) × (isNamed (take wide (drop own back)) ≡ true))
-    kept-asks = (y .twelve, y .few-symbols, ap length again ∙ long32, λ m e q. (z .room, ap isNamed again ∙ named m e q))
+    pub kept-asks : (length tally ≡ 12) × (length symbols ≤ 65536) × (length (partAt 0 back) ≡ 32)
+        × ((m : Now) → r ≡ S.Go m → m .block ≡ 4 → (getD tally 9 0 < length symbols) × (isNamed (partAt 0 back) ≡ true))
+    kept-asks = (y .twelve, y .few-symbols, ap length again ∙ long, λ m e q. (z .room, ap isNamed again ∙ named m e q))
 
-    pub symbol-keeps : (tally₁ symbols₁ : List ℕ) (r₁ : Step) → (r₁ ≡ r) × (tally₁ ≡ tallyNamed tally r) × (symbols₁ ≡ symbolsNamed tally (take wide (drop own back)) symbols r)
+    pub symbol-keeps : (tally₁ symbols₁ : List ℕ) (r₁ : Step) → (r₁ ≡ r) × (tally₁ ≡ tallyNamed tally r) × (symbols₁ ≡ symbolsNamed tally (partAt 0 back) symbols r)
         → OnSymbol spool form n tally symbols layers tally₁ symbols₁ m₀ m₁ t back r₁
     symbol-keeps tally₁ symbols₁ r₁ q =
         subst (λ (x : Step). OnSymbol spool form n tally symbols layers tally₁ symbols₁ m₀ m₁ t back x) (sym (q .0)) (record {
           rec = rec₁;
-          did = (line, q .1, q .2 ∙ ap (λ (u : List ℤ). symbolsNamed tally u symbols r) again);
-          back = lent-part own wide t rec₁ (own-wide own);
+          did = (h, q .1, q .2 ∙ ap (λ (u : List ℤ). symbolsNamed tally u symbols r) again);
+          back = lent-part 0 32 t rec₁ refl;
         })

@@ -1,5 +1,5 @@
 -- What the code needs of what it remembers, in each block that can be open.
-use Prim.Native.Nat.{ℕ, _+_, _-_, _≤_, _<_}
+use Prim.Native.Nat.{ℕ, _+_, _≤_, _<_}
 use mathlib.Core.Bool.{true}
 use mathlib.Core.List.{List}
 use mathlib.Core.Path.{_≡_, sym, ap, subst}
@@ -10,37 +10,22 @@ use Rattle.rules.specs.declared.Digits.{Digits}
 use Rattle.rules.specs.declared.LineForm.{LineForm}
 use Rattle.rules.specs.Lines.{brace, equals, Form, ignored, wrong, close, eof, keyed, formIn}
 use Rattle.rules.specs.Rows.{shut}
-use Rattle.rules.specs.Machine.{Line, Env, State, elements, figures, hide, drawing, symbol}
+use Rattle.rules.specs.Machine.{State}
 use Rattle.account.specs.declared.Where.{Where}
 use Rattle.account.specs.Records.{partAt}
 use Rattle.account.specs.PlacedLines.{LentReady}
 use Rattle.account.specs.SymbolLines.{ContentPlaced, isNamed}
-use Rattle.account.specs.Points.{chainPlace}
 use Rattle.standing.specs.LineDone.{symbolAct, SymbolReady, LineFits}
-use Rattle.standing.specs.Standing.{Desk, setOf, layersOf, Under, LineHere}
+use Rattle.standing.specs.Standing.{Desk, setOf, layersOf}
 use Rattle.standing.specs.FileStanding.{InFile}
-use Rattle.standing.specs.Reading.{Standing, PlacedForm}
+use Rattle.standing.specs.Reading.{Standing, PlacedForm, LineReady}
 use Rattle.account.specs.FileLines.{FileReady}
 use Rattle.standing.proofs.PlacedTables.{lentOf, placed-ready}
 use Rattle.standing.proofs.OpenBlocks
 use Rattle.standing.proofs.OpenPlaces as places
 use Rattle.standing.proofs.SymbolStanding.{name-at-close}
 
--- some state that the desk stands at, before a line that ends within a spool's places
-pub record Ready (c : Digits) (spool : List ℕ) (k : ℕ) (form : LineForm) (w : Where) (d : Desk) : Type 0 where
-  pub at : ℕ
-  pub to : ℕ
-  pub state : State
-  pub env : Env
-  pub line : Line
-  pub stands : Standing c spool k d at state
-  pub under : Under c d env
-  pub here : LineHere spool k at to form w line
-  pub placed : PlacedForm (line .form)
-  pub early : at ≤ 61440
-  pub short : length spool ≤ 61440
-
-module _ (c : Digits) (spool : List ℕ) (k : ℕ) (form : LineForm) (w : Where) (d : Desk) (y : Ready c spool k form w d) where
+module _ (c : Digits) (spool : List ℕ) (k : ℕ) (form : LineForm) (w : Where) (d : Desk) (following : List ℕ) (y : LineReady c spool k form w d following) where
   abbrev at : ℕ
   at = y .at
 
@@ -97,10 +82,10 @@ module _ (c : Digits) (spool : List ℕ) (k : ℕ) (form : LineForm) (w : Where)
       go : (st : State) → OpenBlocks.InElement st → Standing c spool k d at st → getD (d .tally) 8 0 + getD (d .tally) 7 0 ≤ 4294967295
       go _ (OpenBlocks.here s) z = omega (arith, z .counted, early, ap (λ (t : List ℕ). getD t 7 0) (z .tally), ap (λ (t : List ℕ). getD t 8 0) (z .tally))
 
-  placed-lent : d .now .block ≡ 11 → LentReady (lentOf d) (partAt (d .now .free - 32) (d .table)) × (d .now .figures < 4294967295)
+  placed-lent : d .now .block ≡ 11 → LentReady (lentOf d) (partAt 32 (d .scratch)) × (d .now .figures < 4294967295)
   placed-lent b = go st (OpenBlocks.in-placed c spool k d (InFile spool k d) st (z .block) b) z
     where
-      go : (st : State) → OpenBlocks.InAPlaced st → Standing c spool k d at st → LentReady (lentOf d) (partAt (d .now .free - 32) (d .table)) × (d .now .figures < 4294967295)
+      go : (st : State) → OpenBlocks.InAPlaced st → Standing c spool k d at st → LentReady (lentOf d) (partAt 32 (d .scratch)) × (d .now .figures < 4294967295)
       go _ (OpenBlocks.here s m fs n o p) z = placed-ready c spool k (InFile spool k) d at at s m fs n o p z early
 
   -- a symbol that closes
@@ -116,11 +101,11 @@ module _ (c : Digits) (spool : List ℕ) (k : ℕ) (form : LineForm) (w : Where)
       go (keyed i (equals a b)) h = h .0
 
   -- where the line closes it, its record has a name
-  symbol-named : d .now .block ≡ 5 → symbolAct spool form (d .now) (d .tally) (d .symbols) (d .layers) (d .marks) ≡ shut → isNamed (partAt (d .now .own) (d .table)) ≡ true
+  symbol-named : d .now .block ≡ 5 → symbolAct spool form (d .now) (d .tally) (d .symbols) (d .layers) (d .marks) ≡ shut → isNamed (partAt 0 (d .scratch)) ≡ true
   symbol-named b q = go st (OpenBlocks.in-symbol c spool k d (InFile spool k d) st (z .block) b) z
     where
-      go : (st : State) → OpenBlocks.InASymbol st → Standing c spool k d at st → isNamed (partAt (d .now .own) (d .table)) ≡ true
-      go _ (OpenBlocks.here s g) z = name-at-close c spool spool-short k (InFile spool k) d at (y .to) (y .env) (y .line) w form (y .under) (y .here) s g z q
+      go : (st : State) → OpenBlocks.InASymbol st → Standing c spool k d at st → isNamed (partAt 0 (d .scratch)) ≡ true
+      go _ (OpenBlocks.here s g) z = name-at-close c spool spool-short k (InFile spool k) d at (y .to) (y .line) w form (y .here) s g z q
 
   -- the symbol that is open has taken bytes too
   symbol-room : d .now .block ≡ 5 → getD (d .tally) 9 0 < length (d .symbols)
@@ -129,9 +114,8 @@ module _ (c : Digits) (spool : List ℕ) (k : ℕ) (form : LineForm) (w : Where)
       go : (st : State) → OpenBlocks.InASymbol st → Standing c spool k d at st → getD (d .tally) 9 0 < length (d .symbols)
       go _ (OpenBlocks.here s g) z = omega (arith, ap (λ (t : List ℕ). getD t 9 0) (z .tally), z .named, early, z .lengths .symbols)
 
-  symbol-ready : d .now .block ≡ 5 → SymbolReady spool form (d .now) (d .tally) (d .symbols) (d .layers) (d .marks) (d .table)
+  symbol-ready : d .now .block ≡ 5 → SymbolReady spool form (d .now) (d .tally) (d .symbols) (d .layers) (d .marks) (d .scratch)
   symbol-ready b = record {
-    own = places.symbol-own c spool k d at st z b;
     marks = z .lengths .marks;
     content = content-placed;
     room = symbol-room b;
@@ -139,8 +123,8 @@ module _ (c : Digits) (spool : List ℕ) (k : ℕ) (form : LineForm) (w : Where)
   }
 
   -- ── any block ──
-  pub line-fits : w .volume ≡ k → (own : ℕ) → (d .now .block ≡ 9 → own ≡ chainPlace (d .now)) → LineFits spool form w own d
-  line-fits vk own o = record {
+  pub line-fits : w .volume ≡ k → LineFits spool form w d
+  line-fits vk = record {
     short = spool-short;
     named = record {
       twelve = places.tally-long c spool k d at st z;
@@ -150,18 +134,13 @@ module _ (c : Digits) (spool : List ℕ) (k : ℕ) (form : LineForm) (w : Where)
       few-layers = omega (arith, z .lengths .layers);
     };
     lengths = z .lengths;
-    free = places.free-within c spool k d at st z;
-    file = λ b. subst (λ (i : ℕ). FileReady (eqb i 1) (d .now) (d .tally) (d .marks) (d .header) (d .table)) (sym vk) (places.file-ready c spool k d at st z b);
-    drawing = places.drawing-own c spool k d at st z;
+    countable = y .countable;
+    file = λ b. subst (λ (i : ℕ). FileReady (eqb i 1) (d .now) (d .tally) (d .marks) (d .header)) (sym vk) (places.file-ready c spool k d at st z b);
     symbol = symbol-ready;
     hide = places.hide-points c spool k d at st z;
     elements = element-sum;
     figures = figures-few;
-    chain = λ b. (
-      chain-figures b,
-      places.chain-points c spool k d at st z b,
-      omega (arith, o b, places.chain-place c spool k d at st z b, places.free-within c spool k d at st z),
-    );
-    text = λ b. (places.text-place c spool k d at st z b, text-figures b);
-    placed = λ b. (places.placed-place c spool k d at st z b, placed-lent b .0, placed-lent b .1);
+    chain = λ b. (chain-figures b, places.chain-points c spool k d at st z b);
+    text = text-figures;
+    placed = placed-lent;
   }

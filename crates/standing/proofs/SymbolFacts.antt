@@ -43,11 +43,11 @@ pub symbol-length : length symbolTable ≡ 4
 unfolding symbolTable
 symbol-length = refl
 
-pub symbol-clear : clearTable symbolTable ≡ true
+symbol-clear : clearTable symbolTable ≡ true
 unfolding symbolTable
 symbol-clear = refl
 
-pub symbol-housed : all housed symbolTable ≡ true
+symbol-housed : all housed symbolTable ≡ true
 unfolding symbolTable
 symbol-housed = refl
 

@@ -1,7 +1,7 @@
 -- A line in a symbol of SYMBOL_DEFINE: from the code's answer to the step that the definitions make.
 use Prim.Native.Nat.{ℕ, suc, _+_, _*_, _≤_, _<_}
 use mathlib.Core.Bool.{Bool, true, false, cond, _&&_, _||_, not}
-use mathlib.Core.List.{List, [], _∷_, _++_, map, append-nil}
+use mathlib.Core.List.{List, [], _∷_, _++_, map}
 use mathlib.Core.Option.{Option, none, some}
 use mathlib.Core.Path.{_≡_, refl, sym, _∙_, ap, subst}
 use native.Mathlib.Omega.{arith}
@@ -21,8 +21,8 @@ use Rattle.rules.specs.Values.{Known, Value, chars, lettersAndDigits, charsOf}
 use Rattle.rules.specs.Rows.{Rule, Held, Slots, rowsThere, slotValue, Act, stay, entry, begin, shut, refuse, complete, act}
 use Rattle.rules.specs.Blocks.{symbolTable}
 use Rattle.rules.specs.Sets.{Symbol, Set, knownOf, defineRange, symbolNameOf, symbolOwn, symbolOrder, withSymbol}
-use Rattle.rules.specs.Machine.{Line, Env, inElement, State, defines, symbol, hide, figures, byAct, newName, openSymbol}
-use Rattle.rules.specs.RecordTable.{ruleAt, start, innerRecords}
+use Rattle.rules.specs.Machine.{Line, inElement, State, defines, symbol, hide, figures, byAct, newName, openSymbol}
+use Rattle.rules.specs.RecordTable.{ruleAt, start}
 use Rattle.rules.proofs.Chains.{clash, map-append}
 use Rattle.rules.proofs.Rows.{row-at}
 use Rattle.tables.specs.Tables.{tableOf}
@@ -32,11 +32,11 @@ use Rattle.account.specs.declared.Now.{Now}
 use Rattle.account.specs.declared.Where.{Where}
 use Rattle.account.specs.declared.Step.{Step}
 use Rattle.account.specs.declared.Step.the-variants as S
-use Rattle.standing.specs.Laid.{Laid}
 use Rattle.account.specs.Records.{partAt, withPart}
 use Rattle.account.specs.Account.{atBlock}
-use Rattle.standing.specs.SoFar.{frontRecords, symbolSoFar, soFar}
-use Rattle.standing.specs.Standing.{Desk, InSymbol, CharsHere, isText, Stands, Under, LineHere, StepOut, rowBytes, symbolWith, symbolBytes, hideBytes, formSize, tallyOf, closedSerials}
+use Rattle.standing.specs.SoFar.{ownRecord, emptyRecord}
+use Rattle.standing.specs.Kept.{Scratch, Enters}
+use Rattle.standing.specs.Standing.{Desk, InSymbol, CharsHere, isText, Stands, LineHere, Counted, StepOut, rowBytes, symbolWith, symbolBytes, hideBytes, formSize, tallyOf, closedSerials}
 use Rattle.account.specs.SymbolLines.{nameOf, isNamed, isNew, symbolEntry, symbolPart, symbolPut, symbolStep, SymbolMarks, SymbolLine, nameNumber}
 use Rattle.standing.proofs.RowOpeners.{isOpens, entry-opens, begin-row}
 use Rattle.standing.proofs.LineOrigins.{From, entry-from, begin-from}
@@ -45,16 +45,19 @@ use Rattle.standing.proofs.WordPlaces.{name-back, WordRead, word-read}
 use Rattle.standing.proofs.OwnLines.{was-none}
 use Rattle.standing.proofs.Marks.{marks-set, mark-free}
 use Rattle.account.proofs.RowsTaken.{Taken, entry-taken, begin-taken}
-use Rattle.standing.proofs.LaidTables.{laid-part, laid-change, laid-same, with-back}
-use Rattle.standing.proofs.MoreRecords.{ownRecord, symbol-more}
-use Rattle.rules.proofs.RecordLengths.{length-slots}
+use Rattle.standing.proofs.LaidTables.{with-back}
 use Rattle.standing.proofs.Standings.{deskWith, stands-on, known, stands-still}
-use Rattle.standing.proofs.SymbolFacts.{symbol-rows, symbol-length, symbol-entry, name-row, element-key, hide-key, wall-row, Opened, opened-rows, same-order, name-slot, record-name, name-of, named-below, must-hold, text-is, element, hidden}
+use Rattle.standing.proofs.SymbolFacts.{symbol-rows, symbol-length, symbol-entry, name-row, element-key, hide-key, wall-row, Opened, opened-rows, name-slot, record-name, name-of, named-below, must-hold, text-is, element, hidden}
+use Rattle.standing.proofs.ScratchKept.{scratch-long}
+use Rattle.standing.proofs.Completing.{completed-by, number-by, goes-still, goes-entering, goes-filling}
+use Rattle.standing.proofs.EntriesKept.{lineIn, symbol-row, element-open, hide-open}
+use Rattle.standing.proofs.ClosesKept.{symbol-fills}
+use Rattle.standing.proofs.ClearedKept.{symbol-cleared}
 
 -- ── what is lent on return ──
 -- a symbol's record that was lent, on return
 abbrev pub recordBack : Desk → List ℤ → List ℤ
-recordBack d rec = withPart (d .now .own) rec (d .table)
+recordBack d rec = withPart 0 rec (d .scratch)
 
 -- a closed symbol's name joins the others
 abbrev pub nameKept : Desk → List Bool → List ℤ → Desk
@@ -69,7 +72,7 @@ nameKept d m rec = record {
   marks = m;
   inner = d .inner;
   header = d .header;
-  table = recordBack d rec;
+  scratch = recordBack d rec;
 }
 
 -- SYMBOL_DEFINE is open again: the symbol is closed
@@ -78,8 +81,22 @@ symbolDesk d m rec (S.Go n) = cond (eqb (n .block) 4) (nameKept d m rec) (deskWi
 symbolDesk d m rec (S.Skip n) = deskWith d (d .now) m (d .inner) (recordBack d rec)
 symbolDesk d m rec (S.Stop n) = deskWith d (d .now) m (d .inner) (recordBack d rec)
 
-module _ (c : Digits) (spool : List ℕ) (short : length spool ≤ 61440) (k : ℕ) (FileHere : Desk → Set → ℕ → Held → ℕ → Type 0) (d : Desk) (at to : ℕ) (e : Env) (l : Line) (w : Where)
-    (form : LineForm) (u : Under c d e) (x : LineHere spool k at to form w l) (s : Set) (y : Symbol) (z : Stands c spool k d (FileHere d) at (symbol s y)) where
+-- ── what a line finds ──
+-- the names that are lent
+abbrev pub symbolNames : Desk → List ℕ
+symbolNames d = take (getD (d .tally) 9 0) (d .symbols)
+
+-- its record
+abbrev pub symbolRecord : Desk → List ℤ
+symbolRecord d = partAt 0 (d .scratch)
+
+-- the act that the code goes by
+abbrev pub symbolAct : List ℕ → Desk → LineForm → Act
+symbolAct spool d form =
+    act (knownIn spool (symbolNames d) (take (getD (d .tally) 10 0) (d .layers))) (tableOf 9) (digitsOf (getD (d .tally) 2 0)) (take 4 (d .marks)) (formIn spool form)
+
+module _ (c : Digits) (spool : List ℕ) (short : length spool ≤ 61440) (k : ℕ) (FileHere : Desk → Set → ℕ → Held → ℕ → Type 0) (d : Desk) (at to : ℕ) (l : Line) (w : Where)
+    (form : LineForm) (x : LineHere spool k at to form w l) (s : Set) (y : Symbol) (z : Stands c spool k d (FileHere d) at (symbol s y)) where
   abbrev st : State
   st = symbol s y
 
@@ -89,18 +106,10 @@ module _ (c : Digits) (spool : List ℕ) (short : length spool ≤ 61440) (k : �
   abbrev did : Act
   did = act (knownOf s) symbolTable (digitsOf (defineRange s)) full (l .form)
 
-  -- the names that are lent, and the act that the code goes by
-  abbrev pub symbolNames : List ℕ
-  symbolNames = take (getD (d .tally) 9 0) (d .symbols)
-
-  abbrev pub symbolAct : Act
-  symbolAct =
-      act (knownIn spool symbolNames (take (getD (d .tally) 10 0) (d .layers))) (tableOf 9) (digitsOf (getD (d .tally) 2 0)) (take 4 (d .marks)) (formIn spool form)
-
   iny : InSymbol spool k (d .now) (d .marks) (d .inner) s y
   iny = z .block .1
 
-  symbol-act : symbolAct ≡ did
+  symbol-act : symbolAct spool d form ≡ did
   symbol-act =
       ap (λ (m : Known). act m (tableOf 9) (digitsOf (getD (d .tally) 2 0)) (take 4 (d .marks)) (formIn spool form)) (known c spool k FileHere d at to st st z refl)
       ∙ ap (λ (t : List Rule). act (knownOf s) t (digitsOf (getD (d .tally) 2 0)) (take 4 (d .marks)) (formIn spool form)) symbol-rows
@@ -114,35 +123,71 @@ module _ (c : Digits) (spool : List ℕ) (short : length spool ≤ 61440) (k : �
   abbrev base : List ℤ
   base = start 4 n 1 (y .line)
 
-  -- its record, as it is lent
-  abbrev pub symbolRecord : List ℤ
-  symbolRecord = partAt (d .now .own) (d .table)
-
-  own-part : symbolRecord ≡ ownRecord n y
-  own-part = laid-part (d .table) (frontRecords s) (ownRecord n y) (innerRecords n y) (d .now .free) (d .now .own) (z .laid) (sym (iny .own)) (length-slots symbolTable (y .own) base)
-
-  names-are : namesIn spool symbolNames ≡ map symbolNameOf (s .symbols)
+  names-are : namesIn spool (symbolNames d) ≡ map symbolNameOf (s .symbols)
   names-are = ap (λ (t : List ℕ). namesIn spool (take (getD t 9 0) (d .symbols))) (z .tally) ∙ z .symbols
 
   later : at ≤ to
   later = omega (arith, x .bytes)
 
-  module _ (m₁ : List Bool) (rec₁ : List ℤ) where
+  -- ── a symbol that closes has a name ──
+  module _ (rec₁ : List ℤ) (a : did ≡ shut) (q : rec₁ ≡ symbolRecord d) where
+    closes : (l .form ≡ close) × (complete (digitsOf (defineRange s)) symbolTable full ≡ true)
+    closes = shut-close (knownOf s) symbolTable (digitsOf (defineRange s)) full (l .form) a
+
+    holds : (isSome (getD (y .own) 0 none) ≡ true) × (isSome (getD (y .own) 1 none) ≡ true) × (isSome (getD (y .own) 2 none) ≡ true)
+    holds = must-hold (digitsOf (defineRange s)) (y .own) (iny .slots) (closes .1)
+
+    text : (i : ℕ) × (b : List ℕ) × (getD (y .own) 0 none ≡ some (chars i b))
+    text = text-is (getD (y .own) 0 none) (holds .0) (iny .is-text)
+
+    abbrev place : ℕ
+    place = text .0
+
+    abbrev bytes : List ℕ
+    bytes = text .1
+
+    lies : (bytes ≡ bytesAt spool (span place (length bytes))) × (place < 65536) × (length bytes < 65536)
+    lies = subst (CharsHere spool) (text .2) (iny .name)
+
+    at-record : (getD rec₁ 5 (pos 0) ≡ pos place) × (getD rec₁ 6 (pos 0) ≡ pos (length bytes))
+    at-record =
+        subst (λ (r : List ℤ). (getD r 5 (pos 0) ≡ pos place) × (getD r 6 (pos 0) ≡ pos (length bytes))) (sym (q ∙ z .scratch .own)) (record-name (y .own) base place bytes refl (text .2))
+
+    -- the number under which its name is kept
+    kept-name : nameIn spool (nameNumber (nameOf rec₁)) ≡ symbolNameOf y
+    kept-name =
+        ap (λ (p : Span). nameIn spool (nameNumber p)) (name-of rec₁ place (length bytes) at-record) ∙ name-back spool place (length bytes) (lies .1) ∙ sym (lies .0)
+        ∙ sym (name-slot y ∙ ap (λ (o : Option Value). charsOf (slotValue o)) (text .2))
+
+    name-below : isNamed rec₁ ≡ true
+    name-below = named-below rec₁ place (length bytes) at-record (lies .1) (lies .2)
+
+  -- where a line closes it, its record has a name
+  pub name-at-close : symbolAct spool d form ≡ shut → isNamed (partAt 0 (d .scratch)) ≡ true
+  name-at-close q = name-below (symbolRecord d) (sym symbol-act ∙ q) refl
+
+  -- m₁, rec₁: the marks and its record on return
+  module _ (own : ℕ) (counts : Counted c own d (symbol s y)) (m₁ : List Bool) (rec₁ : List ℤ) where
     abbrev t₁ : List ℤ
     t₁ = recordBack d rec₁
 
+    abbrev desk₁ : Desk
+    desk₁ = deskWith d (d .now) m₁ (d .inner) t₁
+
     abbrev Out : Step → Type 0
-    Out r = StepOut c spool k FileHere e l to st (deskWith d (d .now) m₁ (d .inner) t₁) r
+    Out r = StepOut c spool k FileHere own l to st desk₁ r
 
     -- nothing but the place in the spool
-    on-stay : did ≡ stay → m₁ ≡ d .marks → rec₁ ≡ symbolRecord → Out (S.Go (d .now))
-    on-stay a p q = (st, ap (byAct _ _ _ _) a, stands-still c spool k FileHere d at to st z later (d .tally) m₁ (d .inner) (d .header) t₁ refl p refl refl (with-back (d .now .own) rec₁ (d .table) q))
+    on-stay : did ≡ stay → m₁ ≡ d .marks → rec₁ ≡ symbolRecord d → Out (S.Go (d .now))
+    on-stay a p q =
+        goes-still c spool k FileHere own l to st desk₁ (d .now) st (ap (byAct _ _ _ _) a) refl refl refl refl
+        (stands-still c spool k FileHere d at to st z later (d .tally) m₁ (d .inner) (d .header) t₁ refl p refl refl (with-back 0 rec₁ (d .scratch) q))
 
     on-refuse : (m : ℕ) → did ≡ refuse m → Out (S.Stop m)
     on-refuse m a = ap (byAct _ _ _ _) a
 
     -- ── a row more ──
-    module _ (j : ℕ) (v : Value) (taken : Taken symbolTable full j v) (qm : m₁ ≡ set (d .marks) j true) (q : rec₁ ≡ putLine (ruleAt (tableOf 9) j) 0 v symbolRecord) where
+    module _ (j : ℕ) (v : Value) (taken : Taken symbolTable full j v) (qm : m₁ ≡ set (d .marks) j true) (q : rec₁ ≡ putLine (ruleAt (tableOf 9) j) 0 v (symbolRecord d)) where
       abbrev own′ : Slots
       own′ = set (y .own) j (some v)
 
@@ -155,16 +200,14 @@ module _ (c : Digits) (spool : List ℕ) (short : length spool ≤ 61440) (k : �
       was-free : getD (y .own) j none ≡ none
       was-free = mark-free (y .own) j (taken .free)
 
-      put : rec₁ ≡ ownRecord n y′
-      put =
-          q ∙ ap (λ (t : List Rule). putLine (ruleAt t j) 0 v symbolRecord) symbol-rows ∙ ap (putLine (ruleAt symbolTable j) 0 v) own-part
-          ∙ symbol-entry (y .own) j v base (iny .slots) taken
+      line-put : rec₁ ≡ putLine (ruleAt symbolTable j) 0 v (symbolRecord d)
+      line-put = q ∙ ap (λ (t : List Rule). putLine (ruleAt t j) 0 v (symbolRecord d)) symbol-rows
 
-      laid′ : Laid t₁ (symbolSoFar s y′) (d .now .free)
-      laid′ =
-          subst (λ (r : List ℤ). Laid (withPart (d .now .own) r (d .table)) (frontRecords s ++ ownRecord n y′ ∷ innerRecords n y) (d .now .free)) (sym put)
-          (laid-change (d .table) (frontRecords s) (ownRecord n y) (innerRecords n y) (d .now .free) (d .now .own) (z .laid) (sym (iny .own)) (length-slots symbolTable (y .own) base) (ownRecord n y′)
-          (length-slots symbolTable own′ base))
+      back : lineIn 0 symbolTable j v (d .scratch) ≡ t₁
+      back = sym (ap (recordBack d) line-put)
+
+      put : rec₁ ≡ ownRecord n y′
+      put = line-put ∙ ap (putLine (ruleAt symbolTable j) 0 v) (z .scratch .own) ∙ symbol-entry (y .own) j v base (iny .slots) taken
 
       marked′ : take 4 m₁ ≡ rowsThere own′
       marked′ = ap (take 4) qm ∙ take-set-lt 4 (d .marks) j true row ∙ ap (λ (b : List Bool). set b j true) (iny .marked) ∙ sym (marks-set (y .own) j v)
@@ -204,26 +247,24 @@ module _ (c : Digits) (spool : List ℕ) (short : length spool ≤ 61440) (k : �
         st′ = symbol s y′
 
         entered : newName s y′ ≡ true → CharsHere spool (getD own′ 0 none) → isText (getD own′ 0 none) ≡ true → 48 * n + symbolBytes y′ ≤ to → Out (S.Go (d .now))
-        entered fresh name text paid = (
-          st′,
-          ap (byAct _ _ _ _) a ∙ ap (λ (b : Bool). unless b 15 (got st′)) fresh,
-          stands-on c spool k FileHere d at to st st′ z (d .now) m₁ (d .inner) t₁ refl long-marks (z .lengths .inner) laid′ (z .taken) (omega (arith, z .counted, later)) paid
-              (omega (arith, z .numbered, later)) (
-                z .block .0,
-                record {
-                  phase = iny .phase;
-                  owner = iny .owner;
-                  own = iny .own;
-                  slots = slots′;
-                  marked = marked′;
-                  fresh = fresh;
-                  name = name;
-                  is-text = text;
-                  element-first = λ h. iny .element-first (was-none (y .own) 1 j v h);
-                  hide-first = λ h. iny .hide-first (was-none (y .own) 2 j v h);
-                },
-              ),
-        )
+        entered fresh name text paid =
+            let on : Enters c st st′ t₁ = subst (Enters c st st′) back (symbol-row c s y (d .scratch) (z .scratch) j v (iny .slots) taken) in
+            goes-still c spool k FileHere own l to st desk₁ (d .now) st′ (ap (byAct _ _ _ _) a ∙ ap (λ (b : Bool). unless b 15 (got st′)) fresh) refl refl refl (on .same)
+            (stands-on c spool k FileHere d at to st st′ z (d .now) m₁ (d .inner) t₁ refl long-marks (z .lengths .inner) (on .scratch) (omega (arith, z .counted, later)) paid
+            (omega (arith, z .numbered, later)) (
+              z .block .0,
+              record {
+                phase = iny .phase;
+                owner = iny .owner;
+                slots = slots′;
+                marked = marked′;
+                fresh = fresh;
+                name = name;
+                is-text = text;
+                element-first = λ h. iny .element-first (was-none (y .own) 1 j v h);
+                hide-first = λ h. iny .hide-first (was-none (y .own) 2 j v h);
+              },
+            ))
 
         from : From (knownOf s) symbolTable (digitsOf (defineRange s)) full (l .form) j (entry j v)
         from = entry-from (knownOf s) symbolTable (digitsOf (defineRange s)) full (l .form) j v a
@@ -267,7 +308,7 @@ module _ (c : Digits) (spool : List ℕ) (short : length spool ≤ 61440) (k : �
               (arith, z .named, long, unread 8 0 first, read 8 0 first, ap (rowBytes 14) (stays 1 (λ p. omega (arith, p, first))), ap (rowBytes 11) (stays 2 (λ p. omega (arith, p, first))))
 
           -- it is new, as the code finds it
-          new : newName s y′ ≡ isNew spool symbolNames (nameOf rec₁)
+          new : newName s y′ ≡ isNew spool (symbolNames d) (nameOf rec₁)
           new =
               let m : List (List ℕ) = map symbolNameOf (s .symbols) in
               let nm : symbolNameOf y′ ≡ held .bytes = name-slot y′ ∙ ap (λ (o : Option Value). charsOf (slotValue o)) slot in
@@ -277,15 +318,15 @@ module _ (c : Digits) (spool : List ℕ) (short : length spool ≤ 61440) (k : �
               ap (λ (b : List ℕ). isNil b || not (among b m)) nm ∙ ap (λ (b : Bool). b || not (among (held .bytes) m)) (held .filled)
               ∙ ap (λ (b : List ℕ). not (among b m)) (sym at-place) ∙ ap (λ (ns : List (List ℕ)). not (among (bytesAt spool (nameOf rec₁)) ns)) (sym names-are)
 
-          on-name : (b : Bool) → isNew spool symbolNames (nameOf rec₁) ≡ b → Out (cond (not b) (S.Stop 15) (S.Go (d .now)))
+          on-name : (b : Bool) → isNew spool (symbolNames d) (nameOf rec₁) ≡ b → Out (cond (not b) (S.Stop 15) (S.Go (d .now)))
           on-name true h = entered (new ∙ h) here (ap isText slot) paid
           on-name false h = ap (byAct _ _ _ _) a ∙ ap (λ (b : Bool). unless b 15 (got st′)) (new ∙ h)
 
-        on-entry : Out (symbolEntry spool symbolNames (d .now) j (symbolPut symbolRecord j v))
-        on-entry = subst (λ (r : List ℤ). Out (symbolEntry spool symbolNames (d .now) j r)) q (go (eqb j 0) refl)
+        on-entry : Out (symbolEntry spool (symbolNames d) (d .now) j (symbolPut (symbolRecord d) j v))
+        on-entry = subst (λ (r : List ℤ). Out (symbolEntry spool (symbolNames d) (d .now) j r)) q (go (eqb j 0) refl)
           where
-            go : (b : Bool) → eqb j 0 ≡ b → Out (cond (b && not (isNew spool symbolNames (nameOf rec₁))) (S.Stop 15) (S.Go (d .now)))
-            go true h = on-name (eqb-true j 0 h) (isNew spool symbolNames (nameOf rec₁)) refl
+            go : (b : Bool) → eqb j 0 ≡ b → Out (cond (b && not (isNew spool (symbolNames d) (nameOf rec₁))) (S.Stop 15) (S.Go (d .now)))
+            go true h = on-name (eqb-true j 0 h) (isNew spool (symbolNames d) (nameOf rec₁)) refl
             go false h = on-other (λ o. absurd (eqb-false j 0 h (sym o)))
 
       -- ── `element` or `hide` is begun ──
@@ -300,13 +341,12 @@ module _ (c : Digits) (spool : List ℕ) (short : length spool ≤ 61440) (k : �
             omega (arith, x .bytes, begin-size (knownOf s) symbolTable (digitsOf (defineRange s)) full (l .form) i j v from-begin, ap (λ (r : Rule). length (r .key)) is-row)
 
         -- the symbol around it
-        around : (n′ : Now) (b : Bool) → n′ .owner ≡ d .now .owner → n′ .own ≡ d .now .own → (0 ≡ j → ⊥)
+        around : (n′ : Now) (b : Bool) → n′ .owner ≡ d .now .owner → (0 ≡ j → ⊥)
             → (isNone (getD own′ 1 none) ≡ true → (y .figures ≡ []) × (b ≡ false → y .hidden ≡ [])) → (isNone (getD own′ 2 none) ≡ true → y .hidden ≡ [])
             → InSymbol spool k n′ m₁ (d .inner) s (symbolOrder b y′)
-        around n′ b g o other f h = record {
+        around n′ b g other f h = record {
           phase = iny .phase;
           owner = g ∙ iny .owner;
-          own = o ∙ iny .own;
           slots = slots′;
           marked = marked′;
           fresh = still-new other;
@@ -331,14 +371,12 @@ module _ (c : Digits) (spool : List ℕ) (short : length spool ≤ 61440) (k : �
             let paid : 48 * n + symbolWith 11 11 y′ ≤ to =
             omega (arith, z .named, long, unread 14 1 r, read 11 1 r, ap (rowBytes 8) (same-slot other), ap (rowBytes 11) (stays 2 (λ p. omega (arith, p, r)))) in
             let f : (y .figures ≡ []) × (y .hideFirst ≡ false → y .hidden ≡ []) = iny .element-first (was 1 r) in
-            subst (λ (m : ℕ). Out (S.Go (symbolPart (d .now) m))) (sym p) (
-              st″,
-              ap (byAct _ _ _ _) a ∙ ap (openSymbol s y′) p,
-              stands-on c spool k FileHere d at to st st″ z (symbolPart (d .now) 1) m₁ (d .inner) t₁ refl long-marks (z .lengths .inner)
-                  (laid-same t₁ (symbolSoFar s y′) (soFar c st″) (d .now .free) (sym (append-nil (symbolSoFar s y′))) laid′) (z .taken) (omega (arith, z .counted, later))
-                  paid (omega (arith, z .numbered, later))
-                  (refl, (around (symbolPart (d .now) 1) (y .hideFirst) refl refl other (λ h. clash h (there 1 r)) (λ h. iny .hide-first (was-none (y .own) 2 j v h)), refl, f .0, f .1, there 1 r), refl),
-            )
+            let n′ : Now = symbolPart (d .now) 1 in
+            let on : Enters c st st″ t₁ = subst (Enters c st st″) back (element-open c s y (d .scratch) (z .scratch) j v (iny .slots) taken) in
+            subst (λ (m : ℕ). Out (S.Go (symbolPart (d .now) m))) (sym p)
+            (goes-entering c spool k FileHere own l to st desk₁ n′ st″ (ap (byAct _ _ _ _) a ∙ ap (openSymbol s y′) p) (completed-by (d .now) n′ 5 8 (z .block .0) refl) refl refl (on .same)
+            (stands-on c spool k FileHere d at to st st″ z n′ m₁ (d .inner) t₁ refl long-marks (z .lengths .inner) (on .scratch) (omega (arith, z .counted, later)) paid (omega (arith, z .numbered, later))
+            (refl, (around n′ (y .hideFirst) refl other (λ h. clash h (there 1 r)) (λ h. iny .hide-first (was-none (y .own) 2 j v h)), refl, f .0, f .1, there 1 r), refl)))
 
         on-hide : i ≡ 2 → j ≡ 2 → Out (S.Go (symbolPart (d .now) i))
         on-hide p r =
@@ -351,25 +389,22 @@ module _ (c : Digits) (spool : List ℕ) (short : length spool ≤ 61440) (k : �
             omega (arith, z .named, long, unread 11 2 r, read 8 2 r, ap (rowBytes 8) (same-slot other), ap (rowBytes 14) (stays 1 (λ p. omega (arith, p, r)))) in
             let none-yet : y .hidden ≡ [] = iny .hide-first (was 2 r) in
             let shown : b ≡ true → y .figures ≡ [] = λ h. iny .element-first (was-none (y .own) 1 j v h) .0 in
-            subst (λ (m : ℕ). Out (S.Go (symbolPart (d .now) m))) (sym p) (
-              st″,
-              ap (byAct _ _ _ _) a ∙ ap (openSymbol s y′) p,
-              stands-on c spool k FileHere d at to st st″ z (symbolPart (d .now) 2) m₁ (d .inner) t₁ refl long-marks (z .lengths .inner)
-                  (laid-same t₁ (symbolSoFar s y′) (soFar c st″) (d .now .free)
-                  (ap (λ (q : List (List ℤ)). frontRecords s ++ ownRecord n y′ ∷ q) (same-order n y′ b none-yet) ∙ sym (append-nil (symbolSoFar s y″))) laid′)
-                  (z .taken) (omega (arith, z .counted, later)) paid (omega (arith, z .numbered, later)) (
-                    refl,
-                    record {
-                      in-symbol = around (symbolPart (d .now) 2) b refl refl other (λ h. (shown h, λ g. none-yet)) (λ h. clash h (there 2 r));
-                      points = refl;
-                      few = omega arith;
-                      hidden = none-yet;
-                      shown = shown;
-                      ordered = refl;
-                      entered = there 2 r;
-                    },
-                  ),
-            )
+            let n′ : Now = symbolPart (d .now) 2 in
+            let on : Enters c st st″ t₁ = subst (Enters c st st″) back (hide-open c s y (d .scratch) (z .scratch) j v (iny .slots) taken b none-yet) in
+            subst (λ (m : ℕ). Out (S.Go (symbolPart (d .now) m))) (sym p)
+            (goes-entering c spool k FileHere own l to st desk₁ n′ st″ (ap (byAct _ _ _ _) a ∙ ap (openSymbol s y′) p) (completed-by (d .now) n′ 5 6 (z .block .0) refl) refl refl (on .same)
+            (stands-on c spool k FileHere d at to st st″ z n′ m₁ (d .inner) t₁ refl long-marks (z .lengths .inner) (on .scratch) (omega (arith, z .counted, later)) paid (omega (arith, z .numbered, later)) (
+              refl,
+              record {
+                in-symbol = around n′ b refl other (λ h. (shown h, λ g. none-yet)) (λ h. clash h (there 2 r));
+                points = refl;
+                few = omega arith;
+                hidden = none-yet;
+                shown = shown;
+                ordered = refl;
+                entered = there 2 r;
+              },
+            )))
 
         on-begin : Out (S.Go (symbolPart (d .now) i))
         on-begin =
@@ -380,47 +415,16 @@ module _ (c : Digits) (spool : List ℕ) (short : length spool ≤ 61440) (k : �
             go (element p r) = on-element p r
             go (hidden p r) = on-hide p r
 
-    -- ── the symbol closes ──
-    module _ (a : did ≡ shut) (qm : m₁ ≡ d .marks) (q : rec₁ ≡ symbolRecord) where
-      closes : (l .form ≡ close) × (complete (digitsOf (defineRange s)) symbolTable full ≡ true)
-      closes = shut-close (knownOf s) symbolTable (digitsOf (defineRange s)) full (l .form) a
-
-      holds : (isSome (getD (y .own) 0 none) ≡ true) × (isSome (getD (y .own) 1 none) ≡ true) × (isSome (getD (y .own) 2 none) ≡ true)
-      holds = must-hold (digitsOf (defineRange s)) (y .own) (iny .slots) (closes .1)
-
-      text : (i : ℕ) × (b : List ℕ) × (getD (y .own) 0 none ≡ some (chars i b))
-      text = text-is (getD (y .own) 0 none) (holds .0) (iny .is-text)
-
-      abbrev place : ℕ
-      place = text .0
-
-      abbrev bytes : List ℕ
-      bytes = text .1
-
-      lies : (bytes ≡ bytesAt spool (span place (length bytes))) × (place < 65536) × (length bytes < 65536)
-      lies = subst (CharsHere spool) (text .2) (iny .name)
-
-      at-record : (getD rec₁ 5 (pos 0) ≡ pos place) × (getD rec₁ 6 (pos 0) ≡ pos (length bytes))
-      at-record =
-          subst (λ (r : List ℤ). (getD r 5 (pos 0) ≡ pos place) × (getD r 6 (pos 0) ≡ pos (length bytes))) (sym (q ∙ own-part)) (record-name (y .own) base place bytes refl (text .2))
-
-      -- the number under which its name is kept
-      kept-name : nameIn spool (nameNumber (nameOf rec₁)) ≡ symbolNameOf y
-      kept-name =
-          ap (λ (p : Span). nameIn spool (nameNumber p)) (name-of rec₁ place (length bytes) at-record) ∙ name-back spool place (length bytes) (lies .1) ∙ sym (lies .0)
-          ∙ sym (name-slot y ∙ ap (λ (o : Option Value). charsOf (slotValue o)) (text .2))
-
-      name-below : isNamed rec₁ ≡ true
-      name-below = named-below rec₁ place (length bytes) at-record (lies .1) (lies .2)
-
+    -- ── the symbol closes: its record is complete ──
+    module _ (a : did ≡ shut) (qm : m₁ ≡ d .marks) (q : rec₁ ≡ symbolRecord d) where
       count : getD (d .tally) 9 0 ≡ n
       count = ap (λ (t : List ℕ). getD t 9 0) (z .tally)
 
       through : 48 * n + 48 ≤ to
       through =
           let take-all : ℕ → Bool → ℕ = λ m b. cond b m 0 in
-          let f : formSize (l .form) ≡ 1 = ap formSize (closes .0) in
-          omega (arith, z .named, x .bytes, f, ap (take-all 8) (holds .0), ap (take-all 14) (holds .1), ap (take-all 11) (holds .2))
+          let f : formSize (l .form) ≡ 1 = ap formSize (closes rec₁ a q .0) in
+          omega (arith, z .named, x .bytes, f, ap (take-all 8) (holds rec₁ a q .0), ap (take-all 14) (holds rec₁ a q .1), ap (take-all 11) (holds rec₁ a q .2))
 
       room : n < length (d .symbols)
       room = omega (arith, z .lengths .symbols, through, x .most)
@@ -442,53 +446,55 @@ module _ (c : Digits) (spool : List ℕ) (short : length spool ≤ 61440) (k : �
           ∙ ap (namesIn spool) (take-suc-set (d .symbols) n number room)
           ∙ map-append (nameIn spool) (take n (d .symbols)) (number ∷ [])
           ∙ ap (λ (ns : List (List ℕ)). ns ++ nameIn spool number ∷ []) (z .symbols)
-          ∙ ap (λ (b : List ℕ). map symbolNameOf (s .symbols) ++ b ∷ []) kept-name
+          ∙ ap (λ (b : List ℕ). map symbolNameOf (s .symbols) ++ b ∷ []) (kept-name rec₁ a q)
           ∙ sym (map-append symbolNameOf (s .symbols) (y ∷ []))
 
-      on-shut : StepOut c spool k FileHere e l to st (nameKept d m₁ rec₁) (S.Go (atBlock (d .now) 4 0))
-      on-shut = (
-        defines s′ false,
-        ap (byAct _ _ _ _) a,
-        record {
-          lengths = record {
-            symbols = length-set (d .symbols) (getD (d .tally) 9 0) number ∙ z .lengths .symbols;
-            layers = z .lengths .layers;
-            serials = z .lengths .serials;
-            used = z .lengths .used;
-            usedAll = z .lengths .usedAll;
-            marks = ap length qm ∙ z .lengths .marks;
-            inner = z .lengths .inner;
-            header = z .lengths .header;
-          };
-          laid =
-              subst (λ (t : List ℤ). Laid t (frontRecords s′) (d .now .free)) (sym (with-back (d .now .own) rec₁ (d .table) q))
-              (laid-same (d .table) (symbolSoFar s y) (frontRecords s′) (d .now .free) (sym (symbol-more s y)) (z .laid));
-          taken = z .taken;
-          here = z .here;
-          this = z .this;
-          tally =
-              ap (λ (t : List ℕ). set t 9 (getD t 9 0 + 1)) (z .tally)
-              ∙ ap (λ (m : ℕ). set (tallyOf s (z .here) (length (s .drawing .layers)) (length (closedSerials s))) 9 m) one-more;
-          symbols = all-names;
-          layers = z .layers;
-          few-layers = z .few-layers;
-          serials = z .serials;
-          used = λ h. clash h refl;
-          used-all = z .used-all;
-          counted = omega (arith, z .counted, later);
-          named = omega (arith, through, one-more);
-          numbered = omega (arith, z .numbered, later);
-          block = (refl, refl, record { volume = iny .phase .volume; first = iny .phase .first; blocks = iny .phase .blocks });
-        },
-      )
+      on-shut : StepOut c spool k FileHere own l to st (nameKept d m₁ rec₁) (S.Go (atBlock (d .now) 4 0))
+      on-shut =
+          let st′ : State = defines s′ false in
+          let n′ : Now = atBlock (d .now) 4 0 in
+          let same : Scratch t₁ st = subst (λ (t : List ℤ). Scratch t st) (sym (with-back 0 rec₁ (d .scratch) q)) (z .scratch) in
+          let t₂ : List ℤ = withPart 0 emptyRecord t₁ in
+          let cleared : Scratch t₂ st′ = symbol-cleared s y t₁ same in
+          goes-filling c spool k FileHere own l to st (nameKept d m₁ rec₁) n′ st′ (ap (byAct _ _ _ _) a) 0 own (completed-by (d .now) n′ 5 4 (z .block .0) refl)
+          (number-by (d .now) n′ own 5 4 (z .block .0) refl) 0 (omega arith) (omega arith) (symbol-fills c s y own t₁ same (counts .own))
+          (record {
+            lengths = record {
+              symbols = length-set (d .symbols) (getD (d .tally) 9 0) number ∙ z .lengths .symbols;
+              layers = z .lengths .layers;
+              serials = z .lengths .serials;
+              used = z .lengths .used;
+              usedAll = z .lengths .usedAll;
+              marks = ap length qm ∙ z .lengths .marks;
+              inner = z .lengths .inner;
+              header = z .lengths .header;
+              scratch = scratch-long t₂ st′ cleared;
+            };
+            scratch = cleared;
+            here = z .here;
+            this = z .this;
+            tally =
+                ap (λ (t : List ℕ). set t 9 (getD t 9 0 + 1)) (z .tally)
+                ∙ ap (λ (m : ℕ). set (tallyOf s (z .here) (length (s .drawing .layers)) (length (closedSerials s))) 9 m) one-more;
+            symbols = all-names;
+            layers = z .layers;
+            few-layers = z .few-layers;
+            serials = z .serials;
+            used = λ h. clash h refl;
+            used-all = z .used-all;
+            counted = omega (arith, z .counted, later);
+            named = omega (arith, through, one-more);
+            numbered = omega (arith, z .numbered, later);
+            block = (refl, refl, record { volume = iny .phase .volume; first = iny .phase .first; blocks = iny .phase .blocks });
+          })
 
     -- ── any line ──
     abbrev OutOf : Step → Type 0
-    OutOf r = StepOut c spool k FileHere e l to st (symbolDesk d m₁ rec₁ r) r
+    OutOf r = StepOut c spool k FileHere own l to st (symbolDesk d m₁ rec₁ r) r
 
     -- the symbol is not closed
     unclosed : (n′ : Now) → eqb (n′ .block) 4 ≡ false → Out (S.Go n′) → OutOf (S.Go n′)
-    unclosed n′ h o = subst (λ (b : Bool). StepOut c spool k FileHere e l to st (cond b (nameKept d m₁ rec₁) (deskWith d (d .now) m₁ (d .inner) t₁)) (S.Go n′)) (sym h) o
+    unclosed n′ h o = subst (λ (b : Bool). StepOut c spool k FileHere own l to st (cond b (nameKept d m₁ rec₁) (deskWith d (d .now) m₁ (d .inner) t₁)) (S.Go n′)) (sym h) o
 
     in-it : eqb (d .now .block) 4 ≡ false
     in-it = ap (λ (m : ℕ). eqb m 4) (z .block .0)
@@ -504,22 +510,23 @@ module _ (c : Digits) (spool : List ℕ) (short : length spool ≤ 61440) (k : �
         go true = refl
         go false = refl
 
-    by-act : (a : Act) → did ≡ a → SymbolMarks (d .marks) m₁ a → Entered (ruleAt (tableOf 9)) 0 symbolRecord a rec₁ → OutOf (symbolStep spool symbolNames (d .now) symbolRecord a)
+    by-act : (a : Act) → did ≡ a → SymbolMarks (d .marks) m₁ a → Entered (ruleAt (tableOf 9)) 0 (symbolRecord d) a rec₁ → OutOf (symbolStep spool (symbolNames d) (d .now) (symbolRecord d) a)
     by-act stay p m q = unclosed (d .now) in-it (on-stay p m q)
     by-act (entry j v) p m q =
-        entry-out (eqb j 0 && not (isNew spool symbolNames (nameOf (symbolPut symbolRecord j v))))
+        entry-out (eqb j 0 && not (isNew spool (symbolNames d) (nameOf (symbolPut (symbolRecord d) j v))))
         (on-entry j v (entry-taken (knownOf s) symbolTable (digitsOf (defineRange s)) full (l .form) j v p) m q p)
     by-act (begin i j v) p m q =
         unclosed (symbolPart (d .now) i) (part-block i) (on-begin j v (begin-taken (knownOf s) symbolTable (digitsOf (defineRange s)) full (l .form) i j v p) m q i p)
     by-act shut p m q = on-shut p m q
     by-act (refuse g) p m q = on-refuse g p
 
-  pub symbol-line : (m₁ : List Bool) (rec₁ : List ℤ) (r : Step) → SymbolLine symbolAct spool symbolNames (d .now) (d .marks) m₁ symbolRecord rec₁ r
-      → StepOut c spool k FileHere e l to (symbol s y) (symbolDesk d m₁ rec₁ r) r
-  symbol-line m₁ rec₁ r h =
-      subst (OutOf m₁ rec₁) (sym (h .answer ∙ ap (symbolStep spool symbolNames (d .now) symbolRecord) symbol-act))
-      (by-act m₁ rec₁ did refl (subst (SymbolMarks (d .marks) m₁) symbol-act (h .marks)) (subst (λ (a : Act). Entered (ruleAt (tableOf 9)) 0 symbolRecord a rec₁) symbol-act (h .put)))
+    any-line : (r : Step) → SymbolLine (symbolAct spool d form) spool (symbolNames d) (d .now) (d .marks) m₁ (symbolRecord d) rec₁ r → OutOf r
+    any-line r h =
+        subst OutOf (sym (h .answer ∙ ap (symbolStep spool (symbolNames d) (d .now) (symbolRecord d)) symbol-act))
+        (by-act did refl (subst (SymbolMarks (d .marks) m₁) symbol-act (h .marks)) (subst (λ (a : Act). Entered (ruleAt (tableOf 9)) 0 (symbolRecord d) a rec₁) symbol-act (h .put)))
 
-  -- where a line closes it, its record has a name
-  pub name-at-close : symbolAct ≡ shut → isNamed symbolRecord ≡ true
-  name-at-close q = name-below (d .marks) symbolRecord (sym symbol-act ∙ q) refl refl
+module _ (c : Digits) (spool : List ℕ) (short : length spool ≤ 61440) (k : ℕ) (FileHere : Desk → Set → ℕ → Held → ℕ → Type 0) (d : Desk) (at to own : ℕ) (l : Line) (w : Where)
+    (form : LineForm) (x : LineHere spool k at to form w l) (s : Set) (y : Symbol) (z : Stands c spool k d (FileHere d) at (symbol s y)) (counts : Counted c own d (symbol s y)) where
+  pub symbol-line : (m₁ : List Bool) (rec₁ : List ℤ) (r : Step) → SymbolLine (symbolAct spool d form) spool (symbolNames d) (d .now) (d .marks) m₁ (symbolRecord d) rec₁ r
+      → StepOut c spool k FileHere own l to (symbol s y) (symbolDesk d m₁ rec₁ r) r
+  symbol-line m₁ rec₁ r h = any-line c spool short k FileHere d at to l w form x s y z own counts m₁ rec₁ r h

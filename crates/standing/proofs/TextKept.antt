@@ -14,7 +14,7 @@ use Rattle.standing.specs.SoFar.{homeOwner, homeVolume, homeMore, homeFi
 use Rattle.standing.specs.Kept.{figuresShut, shutSoFar, homeShut, Scratch, Fills}
 use Rattle.standing.proofs.LaidTables.{flat-more}
 use Rattle.standing.proofs.MoreRecords.{flat-map-more}
-use Rattle.standing.proofs.TextStanding.{text-length, text-figure}
+use Rattle.standing.proofs.OpenRecords.{text-length, text-figure}
 
 module _ (c : Digits) (s : Set) (h : Home) (fs : List Figure) (n : ℕ) (o : Slots) (records : ℕ) (all : length (flat (shutSoFar c (texts s h fs n o))) ≡ 32 * records) (t : List ℤ) (x : Scratch t (texts s h fs n o)) where
   abbrev fore : List (List ℤ)

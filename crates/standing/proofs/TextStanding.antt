@@ -9,45 +9,44 @@ use lib.IntN.{ℤ}
 use lib.ListN.{length, getD, set, take, length-set, length-append}
 use Rattle.rules.specs.declared.Digits.{Digits}
 use Rattle.rules.specs.declared.LineForm.{LineForm}
-use Rattle.rules.specs.Base.{all, flat}
+use Rattle.rules.specs.Base.{all}
 use Rattle.rules.specs.RangeClass.{digits}
 use Rattle.rules.specs.Lines.{formIn}
 use Rattle.rules.specs.Values.{Known, Value}
 use Rattle.rules.specs.Rows.{Rule, Slots, Held, rowsThere, Act, stay, entry, begin, shut, refuse, act}
 use Rattle.rules.specs.Figures.{textTable}
 use Rattle.rules.specs.Sets.{Figure, lettering, Set, knownOf}
-use Rattle.rules.specs.Machine.{Line, Env, Home, inElement, inLayer, isLayer, State, figures, texts, byAct}
-use Rattle.rules.specs.RecordTable.{ruleAt, start, putSlots, textRecord}
+use Rattle.rules.specs.Machine.{Line, Home, isLayer, State, figures, texts, byAct}
+use Rattle.rules.specs.RecordTable.{ruleAt}
 use Rattle.rules.proofs.Chains.{clash}
 use Rattle.tables.specs.Tables.{tableOf}
 use Rattle.entries.specs.Names.{knownIn}
 use Rattle.entries.specs.Acts.{putLine, Entered}
+use Rattle.account.specs.declared.Now.{Now}
 use Rattle.account.specs.declared.Where.{Where}
 use Rattle.account.specs.declared.Step.{Step}
 use Rattle.account.specs.declared.Step.the-variants as S
-use Rattle.account.specs.Placing.{clearTable}
-use Rattle.standing.specs.Laid.{Laid}
 use Rattle.account.specs.Records.{partAt, withPart}
 use Rattle.account.specs.Account.{figureDone}
-use Rattle.standing.specs.SoFar.{homeOwner, homeVolume, homeMore, homeFigure, figuresSoFar, soFar}
-use Rattle.standing.specs.Standing.{Desk, usedOf, inside, InHome, Stands, Under, LineHere, StepOut}
+use Rattle.standing.specs.SoFar.{emptyRecord}
+use Rattle.standing.specs.Kept.{Scratch, Enters, Fills}
+use Rattle.standing.specs.Standing.{Desk, usedOf, inside, InHome, Stands, Counted, LineHere, StepOut}
 use Rattle.account.specs.TextLines.{textTableOf, textStep, textMarks, TextLine}
 use Rattle.standing.proofs.Openers.{isBegin, plainKind, no-begin}
 use Rattle.account.proofs.RowsTaken.{Taken, entry-taken}
-use Rattle.standing.proofs.Marks.{marks-set, mark-free}
-use Rattle.standing.proofs.LaidTables.{flat-more, laid-same, laid-part, laid-change, with-back}
-use Rattle.standing.proofs.MoreRecords.{more-figures}
-use Rattle.rules.proofs.RecordLengths.{length-slots}
+use Rattle.standing.proofs.Marks.{marks-set}
+use Rattle.standing.proofs.LaidTables.{with-back}
+use Rattle.standing.proofs.OpenRecords.{textRows}
+use Rattle.standing.proofs.Completing.{goes-still, goes-filling, completed-by, number-by}
+use Rattle.standing.proofs.EntriesKept.{lineIn, text-row}
+use Rattle.standing.proofs.TextKept.{text-fills}
+use Rattle.standing.proofs.ClearedKept.{text-cleared}
 use Rattle.standing.proofs.Standings.{sight, deskWith, stands-on, known, stands-still}
 use Rattle.standing.proofs.HomeFacts.{home-layered, home-stays}
 use Rattle.standing.proofs.FigureSights.{plain-serials}
-use Rattle.standing.proofs.OwnLines.{housed, own-line}
 
 -- ── what is computed of the table of a text ──
-abbrev pub textRows : Bool → List Rule
-textRows b = textTable b 4 12
-
-pub text-rows : (b : Bool) → tableOf (textTableOf b) ≡ textRows b
+text-rows : (b : Bool) → tableOf (textTableOf b) ≡ textRows b
 unfolding tableOf
 text-rows true = refl
 text-rows false = refl
@@ -56,47 +55,13 @@ plain-rows : (b : Bool) → all (λ r. plainKind (r .holds)) (textRows b) ≡ tr
 unfolding textTable
 plain-rows b = refl
 
-clear-rows : (b : Bool) → clearTable (textRows b) ≡ true
-unfolding textTable
-clear-rows b = refl
-
-two-rows : (b : Bool) → length (textRows b) ≡ 2
-unfolding textTable
-two-rows b = refl
-
-housed-rows : (b : Bool) → all housed (textRows b) ≡ true
-unfolding textTable
-housed-rows b = refl
-
--- where the rows put their numbers goes by neither home
-same-rows : (b : Bool) (o : Slots) (t : List ℤ) → putSlots (textRows b) o t ≡ putSlots (textRows true) o t
-unfolding textTable
-same-rows b o t = refl
-
--- ── a text's record ──
-pub text-length : (more owner volume line : ℕ) (o : Slots) → length (textRecord more owner volume line o) ≡ 32
-text-length more owner volume line o = length-slots (textRows true) o (start (15 + more) owner volume line)
-
--- one more line of it
-pub text-entry : (b : Bool) (o : Slots) (j : ℕ) (v : Value) (more owner volume line : ℕ) → length o ≡ 2 → Taken (textRows b) (rowsThere o) j v
-    → putLine (ruleAt (textRows b) j) 0 v (textRecord more owner volume line o) ≡ textRecord more owner volume line (set o j (some v))
-text-entry b o j v more owner volume line e k =
-    let f : List ℤ = start (15 + more) owner volume line in
-    ap (putLine (ruleAt (textRows b) j) 0 v) (sym (same-rows b o f))
-    ∙ own-line (textRows b) o j v f (e ∙ sym (two-rows b)) (k .row) (mark-free o j (k .free)) (k .fill) (clear-rows b) (housed-rows b)
-    ∙ same-rows b (set o j (some v)) f
-
-pub text-figure : (c : Digits) (s : Set) (h : Home) (n : ℕ) (o : Slots) → homeFigure c s h (lettering n o) ≡ textRecord (homeMore h) (homeOwner s h) (homeVolume s h) n o ∷ []
-text-figure c s (inElement y) n o = refl
-text-figure c s (inLayer m) n o = refl
-
 closed-sight : (s : Set) (h : Home) (fs : List Figure) (n : ℕ) (o : Slots) → sight (texts s h fs n o) ≡ sight (figures s h (fs ++ lettering n o ∷ []))
 closed-sight s h fs n o =
     ap (λ (u : List ℕ). record { set = sight (texts s h fs n o) .set; layers = s .drawing .layers; serials = u; used = usedOf (figures s h fs); inside = inside (figures s h fs); counts = true })
     (plain-serials s h fs (lettering n o) refl)
 
-module _ (c : Digits) (spool : List ℕ) (k : ℕ) (FileHere : Desk → Set → ℕ → Held → ℕ → Type 0) (d : Desk) (at to : ℕ) (e : Env) (l : Line) (w : Where) (form : LineForm) (u : Under c d e)
-    (x : LineHere spool k at to form w l) (s : Set) (h : Home) (fs : List Figure) (n : ℕ) (o : Slots) (z : Stands c spool k d (FileHere d) at (texts s h fs n o)) where
+module _ (c : Digits) (spool : List ℕ) (k : ℕ) (FileHere : Desk → Set → ℕ → Held → ℕ → Type 0) (d : Desk) (at to own : ℕ) (l : Line) (w : Where) (form : LineForm)
+    (x : LineHere spool k at to form w l) (s : Set) (h : Home) (fs : List Figure) (n : ℕ) (o : Slots) (z : Stands c spool k d (FileHere d) at (texts s h fs n o)) (y : Counted c own d (texts s h fs n o)) where
   abbrev st : State
   st = texts s h fs n o
 
@@ -116,10 +81,10 @@ module _ (c : Digits) (spool : List ℕ) (k : ℕ) (FileHere : Desk → Set → 
   the-rows = ap (λ (y : Bool). tableOf (textTableOf y)) (home-layered spool k (d .now) (d .marks) (d .inner) s h home) ∙ text-rows (isLayer h)
 
   -- the act that the code goes by
-  abbrev pub codeAct : Act
+  abbrev codeAct : Act
   codeAct = act (knownIn spool (take (getD (d .tally) 9 0) (d .symbols)) (take (getD (d .tally) 10 0) (d .layers))) codeRows (digits 0 0) (d .inner) (formIn spool form)
 
-  pub text-act : codeAct ≡ did
+  text-act : codeAct ≡ did
   text-act =
       ap (λ (m : Known). act m codeRows (digits 0 0) (d .inner) (formIn spool form)) (known c spool k FileHere d at to st st z refl)
       ∙ ap (λ (t : List Rule). act (knownOf s) t (digits 0 0) (d .inner) (formIn spool form)) the-rows
@@ -129,64 +94,41 @@ module _ (c : Digits) (spool : List ℕ) (k : ℕ) (FileHere : Desk → Set → 
   later : at ≤ to
   later = omega (arith, x .bytes)
 
-  -- ── the record, the last one of the table ──
-  abbrev fore : List (List ℤ)
-  fore = figuresSoFar c s h fs
-
-  abbrev recordWith : Slots → List ℤ
-  recordWith q = textRecord (homeMore h) (homeOwner s h) (homeVolume s h) n q
-
-  abbrev place : ℕ
-  place = d .now .free - 32
-
-  fore-size : length (flat fore) ≡ place
-  fore-size =
-      let m : length (flat fore) + 32 ≡ d .now .free =
-      ap (λ (i : ℕ). length (flat fore) + i) (sym (text-length (homeMore h) (homeOwner s h) (homeVolume s h) n o)) ∙ sym (length-append (flat fore) (recordWith o))
-      ∙ ap length (sym (flat-more fore (recordWith o))) ∙ z .laid .size in
-      omega (arith, m)
-
-  part-now : partAt place (d .table) ≡ recordWith o
-  part-now = laid-part (d .table) fore (recordWith o) [] (d .now .free) place (z .laid) fore-size (text-length (homeMore h) (homeOwner s h) (homeVolume s h) n o)
-
-  laid-with : (q : Slots) → Laid (withPart place (recordWith q) (d .table)) (fore ++ recordWith q ∷ []) (d .now .free)
-  laid-with q =
-      laid-change (d .table) fore (recordWith o) [] (d .now .free) place (z .laid) fore-size (text-length (homeMore h) (homeOwner s h) (homeVolume s h) n o) (recordWith q)
-      (text-length (homeMore h) (homeOwner s h) (homeVolume s h) n q)
-
   -- m₁, rec₁: the marks and the record on return
   module _ (m₁ : List Bool) (rec₁ : List ℤ) where
     abbrev t₁ : List ℤ
-    t₁ = withPart place rec₁ (d .table)
+    t₁ = withPart 32 rec₁ (d .scratch)
+
+    abbrev d₁ : Desk
+    d₁ = deskWith d (d .now) (d .marks) m₁ t₁
 
     abbrev Out : Step → Type 0
-    Out r = StepOut c spool k FileHere e l to st (deskWith d (d .now) (d .marks) m₁ t₁) r
+    Out r = StepOut c spool k FileHere own l to st d₁ r
 
     -- nothing but the place in the spool
-    on-stay : did ≡ stay → m₁ ≡ d .inner → rec₁ ≡ partAt place (d .table) → Out (S.Go (d .now))
-    on-stay a m q = (st, ap (byAct _ _ _ _) a, stands-still c spool k FileHere d at to st z later (d .tally) (d .marks) m₁ (d .header) t₁ refl refl m refl (with-back place rec₁ (d .table) q))
+    on-stay : did ≡ stay → m₁ ≡ d .inner → rec₁ ≡ partAt 32 (d .scratch) → Out (S.Go (d .now))
+    on-stay a m q =
+        goes-still c spool k FileHere own l to st d₁ (d .now) st (ap (byAct _ _ _ _) a) refl refl refl refl
+        (stands-still c spool k FileHere d at to st z later (d .tally) (d .marks) m₁ (d .header) t₁ refl refl m refl (with-back 32 rec₁ (d .scratch) q))
 
     -- one of its lines
-    on-entry : (j : ℕ) (v : Value) → did ≡ entry j v → m₁ ≡ set (d .inner) j true → rec₁ ≡ putLine (ruleAt codeRows j) 0 v (partAt place (d .table)) → Out (S.Go (d .now))
+    on-entry : (j : ℕ) (v : Value) → did ≡ entry j v → m₁ ≡ set (d .inner) j true → rec₁ ≡ putLine (ruleAt codeRows j) 0 v (partAt 32 (d .scratch)) → Out (S.Go (d .now))
     on-entry j v a m q =
-        let o′ : Slots = set o j (some v) in
-        let st′ : State = texts s h fs n o′ in
+        let st′ : State = texts s h fs n (set o j (some v)) in
         let got-it : Taken rows (rowsThere o) j v = entry-taken (knownOf s) rows (digits 0 0) (rowsThere o) (l .form) j v a in
-        let made : rec₁ ≡ recordWith o′ =
-        q ∙ ap (λ (y : List ℤ). putLine (ruleAt codeRows j) 0 v y) part-now ∙ ap (λ (y : List Rule). putLine (ruleAt y j) 0 v (recordWith o)) the-rows
-        ∙ text-entry (isLayer h) o j v (homeMore h) (homeOwner s h) (homeVolume s h) n (z .block .3) got-it in (
-          st′,
-          ap (byAct _ _ _ _) a,
-          stands-on c spool k FileHere d at to st st′ z (d .now) (d .marks) m₁ t₁ refl (z .lengths .marks) (ap length m ∙ length-set (d .inner) j true ∙ z .lengths .inner)
-              (subst (λ (y : List ℤ). Laid (withPart place y (d .table)) (soFar c st′) (d .now .free)) (sym made) (laid-with o′)) (z .taken)
-              (omega (arith, z .counted, later)) (omega (arith, z .named, later)) (omega (arith, z .numbered, later)) (
-                z .block .0,
-                home-stays spool k (d .now) (d .now) (d .marks) (d .inner) m₁ s h refl refl refl home,
-                z .block .2,
-                length-set o j (some v) ∙ z .block .3,
-                m ∙ ap (λ (y : List Bool). set y j true) (z .block .4) ∙ sym (marks-set o j v),
-              ),
-        )
+        let row : Enters c st st′ (lineIn 32 rows j v (d .scratch)) = text-row c s h fs n o (d .scratch) (z .scratch) j v (z .block .3) got-it in
+        let put : lineIn 32 rows j v (d .scratch) ≡ t₁ =
+        ap (λ (i : List ℤ). withPart 32 i (d .scratch)) (ap (λ (i : List Rule). putLine (ruleAt i j) 0 v (partAt 32 (d .scratch))) (sym the-rows) ∙ sym q) in
+        goes-still c spool k FileHere own l to st d₁ (d .now) st′ (ap (byAct _ _ _ _) a) refl refl refl (row .same)
+        (stands-on c spool k FileHere d at to st st′ z (d .now) (d .marks) m₁ t₁ refl (z .lengths .marks) (ap length m ∙ length-set (d .inner) j true ∙ z .lengths .inner)
+        (subst (λ (t : List ℤ). Scratch t st′) put (row .scratch))
+        (omega (arith, z .counted, later)) (omega (arith, z .named, later)) (omega (arith, z .numbered, later)) (
+          z .block .0,
+          home-stays spool k (d .now) (d .now) (d .marks) (d .inner) m₁ s h refl refl home,
+          z .block .2,
+          length-set o j (some v) ∙ z .block .3,
+          m ∙ ap (λ (i : List Bool). set i j true) (z .block .4) ∙ sym (marks-set o j v),
+        ))
 
     on-begin : (i j : ℕ) (v : Value) → did ≡ begin i j v → Out (S.Stop 5)
     on-begin i j v a = clash (ap isBegin a) (no-begin (knownOf s) rows (digits 0 0) (rowsThere o) (l .form) (plain-rows (isLayer h)))
@@ -195,30 +137,31 @@ module _ (c : Digits) (spool : List ℕ) (k : ℕ) (FileHere : Desk → Set → 
     on-refuse m a = ap (byAct _ _ _ _) a
 
     -- its end
-    on-shut : did ≡ shut → m₁ ≡ d .inner → rec₁ ≡ partAt place (d .table) → Out (S.Go (figureDone (d .now)))
+    on-shut : did ≡ shut → m₁ ≡ d .inner → rec₁ ≡ partAt 32 (d .scratch) → Out (S.Go (figureDone (d .now)))
     on-shut a m q =
+        let now : Now = figureDone (d .now) in
         let st′ : State = figures s h (fs ++ lettering n o ∷ []) in
-        let grown : soFar c st ≡ soFar c st′ = sym (more-figures c s h fs (lettering n o) ∙ ap (λ (y : List (List ℤ)). fore ++ y) (text-figure c s h n o)) in (
-          st′,
-          ap (byAct _ _ _ _) a,
-          stands-on c spool k FileHere d at to st st′ z (figureDone (d .now)) (d .marks) m₁ t₁ (closed-sight s h fs n o) (z .lengths .marks) (ap length m ∙ z .lengths .inner)
-              (laid-same t₁ (soFar c st) (soFar c st′) (d .now .free) grown (subst (λ (t : List ℤ). Laid t (soFar c st) (d .now .free)) (sym (with-back place rec₁ (d .table) q)) (z .laid))) (z .taken)
-              (omega (arith, z .counted, x .bytes, length-append fs (lettering n o ∷ []))) (omega (arith, z .named, later)) (omega (arith, z .numbered, later)) (
-                refl,
-                home-stays spool k (d .now) (figureDone (d .now)) (d .marks) (d .inner) m₁ s h refl refl refl home,
-                ap (λ (i : ℕ). i + 1) (z .block .2) ∙ sym (length-append fs (lettering n o ∷ [])),
-              ),
-        )
+        let back : d .scratch ≡ t₁ = sym (with-back 32 rec₁ (d .scratch) q) in
+        goes-filling c spool k FileHere own l to st d₁ now st′ (ap (byAct _ _ _ _) a) 32 (d .now .records - 1) (completed-by (d .now) now 10 8 (z .block .0) refl)
+        (number-by (d .now) now own 10 8 (z .block .0) refl) 0 (omega arith) (omega arith)
+        (subst (Fills c st st′ 0 32 (d .now .records - 1)) back (text-fills c s h fs n o (d .now .records) (y .size) (d .scratch) (z .scratch)))
+        (stands-on c spool k FileHere d at to st st′ z now (d .marks) m₁ (withPart 32 emptyRecord t₁) (closed-sight s h fs n o) (z .lengths .marks) (ap length m ∙ z .lengths .inner)
+        (subst (λ (t : List ℤ). Scratch (withPart 32 emptyRecord t) st′) back (text-cleared s h fs n o (d .scratch) (z .scratch)))
+        (omega (arith, z .counted, x .bytes, length-append fs (lettering n o ∷ []))) (omega (arith, z .named, later)) (omega (arith, z .numbered, later)) (
+          refl,
+          home-stays spool k (d .now) now (d .marks) (d .inner) m₁ s h refl refl home,
+          ap (λ (i : ℕ). i + 1) (z .block .2) ∙ sym (length-append fs (lettering n o ∷ [])),
+        ))
 
-    by-act : (y : Act) → did ≡ y → m₁ ≡ textMarks y (d .inner) → Entered (ruleAt codeRows) 0 (partAt place (d .table)) y rec₁ → Out (textStep (d .now) y)
+    by-act : (f : Act) → did ≡ f → m₁ ≡ textMarks f (d .inner) → Entered (ruleAt codeRows) 0 (partAt 32 (d .scratch)) f rec₁ → Out (textStep (d .now) f)
     by-act stay a m q = on-stay a m q
     by-act (entry j v) a m q = on-entry j v a m q
     by-act (begin i j v) a m q = on-begin i j v a
     by-act shut a m q = on-shut a m q
     by-act (refuse i) a m q = on-refuse i a
 
-    pub text-line : (r : Step) → TextLine codeAct (d .now) (d .inner) m₁ (partAt place (d .table)) rec₁ r → Out r
-    text-line r y =
-        subst Out (sym (y .answer ∙ ap (textStep (d .now)) text-act))
-        (by-act did refl (y .marks ∙ ap (λ (a : Act). textMarks a (d .inner)) text-act)
-        (subst (λ (a : Act). Entered (ruleAt codeRows) 0 (partAt place (d .table)) a rec₁) text-act (y .entered)))
+    pub text-line : (r : Step) → TextLine codeAct (d .now) (d .inner) m₁ (partAt 32 (d .scratch)) rec₁ r → Out r
+    text-line r f =
+        subst Out (sym (f .answer ∙ ap (textStep (d .now)) text-act))
+        (by-act did refl (f .marks ∙ ap (λ (a : Act). textMarks a (d .inner)) text-act)
+        (subst (λ (a : Act). Entered (ruleAt codeRows) 0 (partAt 32 (d .scratch)) a rec₁) text-act (f .entered)))

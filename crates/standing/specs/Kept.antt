@@ -1,6 +1,6 @@
 -- What stands on the scratch between two lines, and what of it goes to the table: a record is put there when it is complete, and till then
 -- its place holds zeros.
-use Prim.Native.Nat.{ℕ, _+_, _*_, _/_, _≤_}
+use Prim.Native.Nat.{ℕ, _+_, _*_}
 use mathlib.Core.Bool.{true}
 use mathlib.Core.Path.{_≡_}
 use mathlib.Core.List.{List, [], _∷_, _++_, map}
@@ -8,25 +8,19 @@ use lib.IntN.{ℤ}
 use lib.ListN.{length, replicate, take, drop}
 use Rattle.rules.specs.declared.Digits.{Digits}
 use Rattle.rules.specs.Base.{flat}
-use Rattle.rules.specs.Blocks.{symbolTable}
 use Rattle.rules.specs.Figures.{placedTables}
 use Rattle.rules.specs.Sets.{Figure, Symbol, Set, isFirst}
 use Rattle.rules.specs.Machine.{Home, inElement, inLayer, State, top, file, drawing, layerNames, defines, symbol, hide, elements, figures, successive, texts}
 use Rattle.rules.specs.Machine.{placing, skipping, ended, symbolBlock}
-use Rattle.rules.specs.RecordTable.{putSlots, putHeld, start, fileRecords, drawingRecord, layerRecords, pointRecords, textRecord, innerRecords}
-use Rattle.rules.specs.RecordTable.{width, kindSymbol, kindPlaced, kindPoint, kindHidden}
+use Rattle.rules.specs.RecordTable.{putHeld, start, fileRecords, drawingRecord, layerRecords, pointRecords, textRecord, innerRecords}
+use Rattle.rules.specs.RecordTable.{width, kindPlaced, kindPoint, kindHidden}
 use Rattle.account.specs.Records.{partAt}
-use Rattle.standing.specs.Laid.{Laid}
-use Rattle.standing.specs.Standing.{setOf}
-use Rattle.standing.specs.SoFar.{volumeOf, closedRecords, frontRecords, layersRecords, homeOwner, homeVolume, homeMore, homeFigure}
+use Rattle.standing.specs.SoFar.{volumeOf, closedRecords, frontRecords, layersRecords, ownRecord, homeOwner, homeVolume, homeMore, homeFigure}
 use Rattle.standing.specs.SoFar.{chainSoFar, emptyRecord, emptyRecords, topSoFar}
 
 -- ── the records that are open ──
-abbrev pub symbolOwn : Set → Symbol → List ℤ
-symbolOwn s y = putSlots symbolTable (y .own) (start kindSymbol (length (s .symbols)) 1 (y .line))
-
 abbrev pub homeOwn : Set → Home → List ℤ
-homeOwn s (inElement y) = symbolOwn s y
+homeOwn s (inElement y) = ownRecord (length (s .symbols)) y
 homeOwn s (inLayer k) = emptyRecord
 
 -- the drawing's or the symbol's own, as far as it is; zeros where neither is open
@@ -36,8 +30,8 @@ ownOpen (file s n h p) = emptyRecord
 ownOpen (drawing s d) = drawingRecord d
 ownOpen (layerNames s d) = drawingRecord d
 ownOpen (defines s b) = emptyRecord
-ownOpen (symbol s y) = symbolOwn s y
-ownOpen (hide s y ps) = symbolOwn s y
+ownOpen (symbol s y) = ownRecord (length (s .symbols)) y
+ownOpen (hide s y ps) = ownRecord (length (s .symbols)) y
 ownOpen (elements s) = emptyRecord
 ownOpen (figures s h fs) = homeOwn s h
 ownOpen (successive s h fs n ps) = homeOwn s h
@@ -98,13 +92,6 @@ shutSoFar c (placing s k fs n o p) = figuresShut c s (inLayer k) fs ++ emptyReco
 shutSoFar c (skipping s k fs n o d) = figuresShut c s (inLayer k) fs ++ emptyRecord ∷ []
 shutSoFar c (ended s) = closedRecords c s
 
--- so many records were taken, no more than the limit; a table of that length holds them. (The rewriter lends none.)
-pub record Kept (c : Digits) (limit : ℕ) (table : List ℤ) (records : ℕ) (st : State) : Type 0 where
-  pub taken : setOf st .taken ≡ records
-  pub fits : records ≤ limit
-  pub size : length (flat (shutSoFar c st)) ≡ width * records
-  pub laid : length table / width ≡ limit → Laid table (shutSoFar c st) (width * records)
-
 -- ── a line ──
 -- t: the scratch behind the block's part of the line. It took so many records, and the one with this number is complete: it stands on the
 -- scratch at `from`.
@@ -127,10 +114,6 @@ pub record FillsAll (c : Digits) (st st′ : State) (more number : ℕ) (us : Li
   pub are : flat made ≡ us
   pub size : length (flat fore) ≡ width * number
   pub long : length us ≡ width * length made
-
--- numbers put over those of the table, from place n on
-abbrev pub withNumbers : ℕ → List ℤ → List ℤ → List ℤ
-withNumbers n us t = take n t ++ (us ++ drop (n + length us) t)
 
 -- none is complete
 abbrev pub Opens : Digits → State → State → ℕ → Type 0
@@ -169,18 +152,18 @@ OwnAt c own (skipping s k fs n o d) = Unit {0}
 OwnAt c own (ended s) = Unit {0}
 
 -- the number behind a line in this block: the next record's where such a block may open (the top level, SYMBOL_DEFINE), as it was elsewhere
-abbrev pub ownAfter : State → ℕ → ℕ → ℕ
-ownAfter (top s k) records own = records
-ownAfter (file s n h p) records own = own
-ownAfter (drawing s d) records own = own
-ownAfter (layerNames s d) records own = own
-ownAfter (defines s b) records own = records
-ownAfter (symbol s y) records own = own
-ownAfter (hide s y ps) records own = own
-ownAfter (elements s) records own = own
-ownAfter (figures s h fs) records own = own
-ownAfter (successive s h fs n ps) records own = own
-ownAfter (texts s h fs n o) records own = own
-ownAfter (placing s k fs n o p) records own = own
-ownAfter (skipping s k fs n o d) records own = own
-ownAfter (ended s) records own = own
+abbrev pub ownBehind : State → ℕ → ℕ → ℕ
+ownBehind (top s k) records own = records
+ownBehind (file s n h p) records own = own
+ownBehind (drawing s d) records own = own
+ownBehind (layerNames s d) records own = own
+ownBehind (defines s b) records own = records
+ownBehind (symbol s y) records own = own
+ownBehind (hide s y ps) records own = own
+ownBehind (elements s) records own = own
+ownBehind (figures s h fs) records own = own
+ownBehind (successive s h fs n ps) records own = own
+ownBehind (texts s h fs n o) records own = own
+ownBehind (placing s k fs n o p) records own = own
+ownBehind (skipping s k fs n o d) records own = own
+ownBehind (ended s) records own = own

@@ -1,14 +1,15 @@
 -- What the reading of a line and of a volume promises.
-use Prim.Native.Nat.{ℕ, _+_, _≤_, _<_}
+use Prim.Native.Nat.{ℕ, _+_, _*_, _/_, _≤_, _<_}
 use mathlib.Core.Bool.{Bool, true, false, cond}
 use lib.Dec.{eqb}
 use mathlib.Core.Path.{_≡_}
 use mathlib.Core.List.{List, _++_}
-use lib.IntN.{ℤ}
-use lib.ListN.{length, getD, set}
+use lib.IntN.{ℤ, pos}
+use lib.ListN.{length, getD, set, replicate}
+use mathlib.Core.Option.{some}
 use Rattle.rules.specs.declared.Digits.{Digits}
 use Rattle.rules.specs.declared.LineForm.{LineForm}
-use Rattle.rules.specs.Base.{isNil}
+use Rattle.rules.specs.Base.{flat, isNil}
 use Rattle.rules.specs.Lines.{Rest, brace, equals, Form, ignored, wrong, close, eof, keyed}
 use Rattle.rules.specs.Sets.{Set}
 use Rattle.rules.specs.Machine.{Line, Env, State, top, ended}
@@ -22,11 +23,14 @@ use Rattle.account.specs.declared.Pos.{Pos}
 use Rattle.account.specs.declared.Through.{Through}
 use Rattle.account.specs.declared.Through.the-variants as T
 use Rattle.account.specs.Walk.{endOf, At}
-use Rattle.standing.specs.Standing.{Desk, Stands, deskNow, deskTable, Under, LineHere, StepOut}
-use Rattle.account.specs.TableApart.{Seen, SeenBy}
+use Rattle.rules.specs.RecordTable.{width}
+use Rattle.account.specs.declared.Now.{Now}
+use Rattle.standing.specs.Laid.{Laid}
+use Rattle.standing.specs.Kept.{shutSoFar}
+use Rattle.standing.specs.Standing.{Desk, desk, setOf, Stands, Counted, LineHere, StepOut}
 use Rattle.account.specs.SymbolLines.{nameOf, nameNumber}
 use Rattle.standing.specs.FileStanding.{InFile}
-use Rattle.account.specs.Numbering.{blockDefines, blockElements, tallyElementsHere, tallySymbols}
+use Rattle.account.specs.Numbering.{blockDefines, blockElements, tallyElementsHere, tallySymbols, mostRows, headerLength, scratchLength}
 
 -- the desk stands at the state st of a reading of volume k, behind the place `at`
 abbrev pub Standing : Digits → List ℕ → ℕ → Desk → ℕ → State → Type 0
@@ -45,30 +49,25 @@ PlacedForm close = Unit {0}
 PlacedForm eof = Unit {0}
 PlacedForm (keyed k r) = PlacedRest r
 
--- some table and state that the desk stands at, before a line that ends within a spool's places
-pub record LineReady (c : Digits) (spool : List ℕ) (k : ℕ) (form : LineForm) (w : Where) (limit : ℕ) (d : Desk) (following : List ℕ) : Type 0 where
+-- some state that the desk stands at, before a line that ends within a spool's places
+pub record LineReady (c : Digits) (spool : List ℕ) (k : ℕ) (form : LineForm) (w : Where) (d : Desk) (following : List ℕ) : Type 0 where
   pub at : ℕ
   pub to : ℕ
   pub state : State
-  pub env : Env
   pub line : Line
-  pub table : List ℤ
-  pub seen : Seen (d .now) (d .table) limit table
-  pub stands : Standing c spool k (deskTable d table) at state
-  pub under : Under c (deskTable d table) env
+  pub stands : Standing c spool k d at state
   pub here : LineHere spool k at to form w line
   pub next : line .next ≡ following
   pub placed : PlacedForm (line .form)
   pub early : at ≤ 61440
   pub short : length spool ≤ 61440
+  pub countable : d .now .records + 2 ≤ 18446744073709551615
 
--- the answer is the step that the definitions make, at any table and state that the desk stands at
-abbrev pub LinePromise : Digits → List ℕ → ℕ → LineForm → Where → ℕ → Desk → Desk → List ℕ → Step → Type 0
-LinePromise c spool k form w limit d₀ d₁ following r =
-    (table : List ℤ) (e : Env) (l : Line) (at to : ℕ) (st : State) → Seen (d₀ .now) (d₀ .table) limit table → Under c (deskTable d₀ table) e
-    → LineHere spool k at to form w l → l .next ≡ following
-    → PlacedForm (l .form) → Standing c spool k (deskTable d₀ table) at st
-    → (table₁ : List ℤ) × StepOut c spool k (InFile spool k) e l to st (deskTable d₁ table₁) r × SeenBy r (d₁ .table) limit table₁
+-- the answer is the step that the definitions make, at any state that the desk stands at
+abbrev pub LinePromise : Digits → List ℕ → ℕ → LineForm → Where → Desk → Desk → List ℕ → Step → Type 0
+LinePromise c spool k form w d₀ d₁ following r =
+    (own : ℕ) (l : Line) (at to : ℕ) (st : State) → LineHere spool k at to form w l → l .next ≡ following → PlacedForm (l .form)
+    → Standing c spool k d₀ at st → Counted c own d₀ st → StepOut c spool k (InFile spool k) own l to st d₁ r
 
 -- a closed layer's figures are counted
 abbrev pub tallyAfter : List ℕ → Step → List ℕ
@@ -109,24 +108,41 @@ abbrev pub nextState : Bool → Set → State
 nextState true s = ended s
 nextState false s = top s 0
 
-pub record VolumeReady (c : Digits) (spool body : List ℕ) (v : Volume) (limit : ℕ) (d : Desk) : Type 0 where
+-- so many records were taken, no more than the limit; a table of that length holds them. (The rewriter lends none.)
+pub record Kept (c : Digits) (limit : ℕ) (table : List ℤ) (records : ℕ) (st : State) : Type 0 where
+  pub taken : setOf st .taken ≡ records
+  pub fits : records ≤ limit
+  pub size : length (flat (shutSoFar c st)) ≡ width * records
+  pub laid : length table / width ≡ limit → Laid table (shutSoFar c st) (width * records)
+
+-- what is lent to a volume; between two volumes no block is open, so it begins with nothing of what a block needs
+abbrev pub volumeDesk : Now → List ℕ → List ℕ → List ℕ → List ℕ → List Bool → Desk
+volumeDesk n tally symbols layers serials usedAll =
+    desk n tally symbols layers serials (replicate 64 false) usedAll (replicate mostRows false) (replicate 2 false) (replicate headerLength (pos 0))
+    (replicate scratchLength (pos 0))
+
+-- the class, and how many records the table holds
+abbrev pub limitedTo : Digits → ℕ → Env
+limitedTo c limit = record { class = c; limit = some limit }
+
+pub record VolumeReady (c : Digits) (spool body : List ℕ) (v : Volume) (limit : ℕ) (d : Desk) (table : List ℤ) : Type 0 where
   pub set : Set
   pub lines : List (List ℕ)
   pub at : At spool body v (startOf (v .at)) lines
-  pub table : List ℤ
-  pub seen : Seen (d .now) (d .table) limit table
-  pub stands : Standing c spool (v .number) (deskTable d table) (v .at) (top set 0)
+  pub stands : Standing c spool (v .number) d (v .at) (top set 0)
+  pub kept : Kept c limit table (d .now .records) (top set 0)
+  pub countable : limit + 2 ≤ 18446744073709551615
 
 -- the volume read to its end, or the refusal
-abbrev pub VolumeOut : Digits → List ℕ → List ℕ → Volume → Bool → ℕ → Env → State → List Line → List Line → Desk → Through → Type 0
-VolumeOut c spool body v last limit e st lines more d (T.Go n) =
-    (s : Set) × (table : List ℤ) × (run e st (lines ++ more) ≡ run e (nextState last s) more)
-    × Standing c spool (nextNumber last (v .number)) (deskNow (deskTable d table) n) (endOf body v) (nextState last s) × Seen n (d .table) limit table
-VolumeOut c spool body v last limit e st lines more d (T.Stop f) = run e st (lines ++ more) ≡ refused (f .number) (f .volume) (f .line)
+abbrev pub VolumeOut : Digits → List ℕ → List ℕ → Volume → Bool → ℕ → State → List Line → List Line → (Now → Desk) → List ℤ → Through → Type 0
+VolumeOut c spool body v last limit st lines more d table (T.Go n) =
+    (s : Set) × (run (limitedTo c limit) st (lines ++ more) ≡ run (limitedTo c limit) (nextState last s) more)
+    × Standing c spool (nextNumber last (v .number)) (d n) (endOf body v) (nextState last s) × Kept c limit table (n .records) (nextState last s)
+VolumeOut c spool body v last limit st lines more d table (T.Stop f) = run (limitedTo c limit) st (lines ++ more) ≡ refused (f .number) (f .volume) (f .line)
 
-abbrev pub VolumePromise : Digits → List ℕ → List ℕ → Volume → ℕ → List ℕ → Desk → Desk → Through → Type 0
-VolumePromise c spool body v limit following d₀ d₁ r =
-    (table : List ℤ) (e : Env) (s : Set) (lines : List (List ℕ)) (more : List Line) → Seen (d₀ .now) (d₀ .table) limit table
-    → Under c (deskTable d₀ table) e → At spool body v (startOf (v .at)) lines
-    → Standing c spool (v .number) (deskTable d₀ table) (v .at) (top s 0)
-    → VolumeOut c spool body v (isNil following) limit e (top s 0) (linesOfVolume (v .number) following (v .at) lines) more d₁ r
+-- d₀: what is lent; d₁: what comes back of it, with what is open then
+abbrev pub VolumePromise : Digits → List ℕ → List ℕ → Volume → ℕ → List ℕ → Desk → List ℤ → (Now → Desk) → List ℤ → Through → Type 0
+VolumePromise c spool body v limit following d₀ table₀ d₁ table₁ r =
+    (s : Set) (lines : List (List ℕ)) (more : List Line) → At spool body v (startOf (v .at)) lines → Standing c spool (v .number) d₀ (v .at) (top s 0)
+    → Kept c limit table₀ (d₀ .now .records) (top s 0)
+    → VolumeOut c spool body v (isNil following) limit (top s 0) (linesOfVolume (v .number) following (v .at) lines) more d₁ table₁ r

@@ -40,9 +40,13 @@ baseRecords c s false = closedRecords c s ++ fileRecords false (volumeOf s) (s .
 abbrev pub layersRecords : Digits → Set → List (List ℤ)
 layersRecords c s = baseRecords c s (isFirst s) ++ bodyRecords (viewOf c s) (volumeOf s) (s .now)
 
+-- a symbol's own, as far as it is
+abbrev pub ownRecord : ℕ → Symbol → List ℤ
+ownRecord n y = putSlots symbolTable (y .own) (start kindSymbol n 1 (y .line))
+
 -- of a symbol that is open, as far as it is
 abbrev pub symbolSoFar : Set → Symbol → List (List ℤ)
-symbolSoFar s y = frontRecords s ++ putSlots symbolTable (y .own) (start kindSymbol (length (s .symbols)) 1 (y .line)) ∷ innerRecords (length (s .symbols)) y
+symbolSoFar s y = frontRecords s ++ ownRecord (length (s .symbols)) y ∷ innerRecords (length (s .symbols)) y
 
 -- ── figures: in a symbol's `element`, or in a layer ──
 abbrev pub homeRecords : Digits → Set → Home → List (List ℤ)

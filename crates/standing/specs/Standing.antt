@@ -1,6 +1,6 @@
 -- What the code remembers of a reading, and what it is worth: how the numbers and marks between two lines stand to the state that the
 -- definitions are in.
-use Prim.Native.Nat.{ℕ, zero, suc, _+_, _*_, _/_, _≤_, _<_}
+use Prim.Native.Nat.{ℕ, zero, suc, _+_, _*_, _≤_, _<_}
 use mathlib.Core.Bool.{Bool, true, false, cond, _&&_}
 use mathlib.Core.Path.{_≡_}
 use mathlib.Core.List.{List, [], _∷_, _++_, map}
@@ -21,7 +21,6 @@ use Rattle.rules.specs.VolumesAndTotals.{ownTable}
 use Rattle.rules.specs.Machine.{Line, inLastVolume, Env, Home, inElement, inLayer, State, top, file, drawing, layerNames, defines, symbol, hide, elements}
 use Rattle.rules.specs.Machine.{figures, successive, texts, placing, skipping, ended, newName, symbolBlock}
 use Rattle.rules.specs.LineByLine.{stepIn}
-use Rattle.rules.specs.RecordTable.{fileRecords}
 use Rattle.entries.specs.Names.{namesIn}
 use Rattle.rules.specs.declared.LineForm.{LineForm}
 use Rattle.account.specs.declared.Now.{Now}
@@ -30,10 +29,14 @@ use Rattle.account.specs.declared.Step.{Step}
 use Rattle.account.specs.declared.Step.the-variants as S
 use Rattle.account.specs.Placing.{Shaped}
 use Rattle.account.specs.SkippedLines.{Skips}
-use Rattle.standing.specs.Laid.{Laid}
-use Rattle.standing.specs.SoFar.{volumeOf, frontRecords, soFar}
+use Rattle.account.specs.declared.Complete.{Complete}
+use Rattle.account.specs.declared.Complete.the-variants as C
+use Rattle.account.specs.FileLines.{fileWidth}
+use Rattle.account.specs.Putting.{completed, numberFor, clearedBy}
+use Rattle.standing.specs.SoFar.{volumeOf}
+use Rattle.standing.specs.Kept.{Scratch, shutSoFar, OwnAt, Opens, Fills, FillsAll}
 use Rattle.account.specs.Numbering.{blockTop, blockFile, blockDrawing, blockLayerNames, blockDefines, blockSymbol, blockHide, blockElements, blockFigures}
-use Rattle.account.specs.Numbering.{blockChain, blockText, blockPlaced, blockEnded, mostRows, headerLength, mostSymbols, mostSerials}
+use Rattle.account.specs.Numbering.{blockChain, blockText, blockPlaced, blockEnded, mostRows, headerLength, scratchLength, mostSymbols, mostSerials}
 use Rattle.rules.specs.RecordTable.{width}
 
 -- ── what is lent from line to line ──
@@ -48,10 +51,10 @@ pub record Desk : Type 0 where
   pub marks : List Bool
   pub inner : List Bool
   pub header : List ℤ
-  pub table : List ℤ
+  pub scratch : List ℤ
 
 abbrev pub desk : Now → List ℕ → List ℕ → List ℕ → List ℕ → List Bool → List Bool → List Bool → List Bool → List ℤ → List ℤ → Desk
-desk n tally symbols layers serials used usedAll marks inner header table = record {
+desk n tally symbols layers serials used usedAll marks inner header scratch = record {
   now = n;
   tally = tally;
   symbols = symbols;
@@ -62,7 +65,7 @@ desk n tally symbols layers serials used usedAll marks inner header table = reco
   marks = marks;
   inner = inner;
   header = header;
-  table = table;
+  scratch = scratch;
 }
 
 -- a symbol takes 48 bytes of a spool at least, a placed symbol with a serial number 42: at most 1,280 names, and 1,463 serials with one free
@@ -76,6 +79,7 @@ pub record Lengths (d : Desk) : Type 0 where
   pub marks : length (d .marks) ≡ mostRows
   pub inner : length (d .inner) ≡ 2
   pub header : length (d .header) ≡ headerLength
+  pub scratch : length (d .scratch) ≡ scratchLength
 
 -- ── what a state says ──
 abbrev pub setOf : State → Set
@@ -353,7 +357,6 @@ module _ (spool : List ℕ) (k : ℕ) (n : Now) (ms is : List Bool) where
   pub record InSymbol (s : Set) (y : Symbol) : Type 0 where
     pub phase : First k s
     pub owner : n .owner ≡ length (s .symbols)
-    pub own : n .own ≡ length (flat (frontRecords s))
     pub slots : length (y .own) ≡ 4
     pub marked : take 4 ms ≡ rowsThere (y .own)
     pub fresh : newName s y ≡ true
@@ -371,7 +374,6 @@ module _ (spool : List ℕ) (k : ℕ) (n : Now) (ms is : List Bool) where
   pub record InDrawing (s : Set) (w : Drawing) : Type 0 where
     pub phase : First k s
     pub bare : Bare s
-    pub own : n .own ≡ length (flat (fileRecords true 1 (s .now)))
     pub slots : length (w .own) ≡ 8
     pub marked : take 8 ms ≡ rowsThere (w .own)
 
@@ -424,8 +426,7 @@ module _ (c : Digits) (spool : List ℕ) (k : ℕ) (d : Desk) where
   -- the reading stands behind the line that ends at `at`
   pub record Stands (FileHere : Set → ℕ → Held → ℕ → Type 0) (at : ℕ) (st : State) : Type 0 where
     pub lengths : Lengths d
-    pub laid : Laid (d .table) (soFar c st) (d .now .free)
-    pub taken : width * setOf st .taken ≡ d .now .free
+    pub scratch : Scratch (d .scratch) st
     pub here : ℕ
     pub this : counts st ≡ true → here ≡ thisOf (setOf st)
     pub tally : d .tally ≡ tallyOf (setOf st) here (length (layersOf st)) (length (serialsOf st))
@@ -453,12 +454,12 @@ deskNow d n = record {
   marks = d .marks;
   inner = d .inner;
   header = d .header;
-  table = d .table;
+  scratch = d .scratch;
 }
 
--- with another table
-abbrev pub deskTable : Desk → List ℤ → Desk
-deskTable d t = record {
+-- with another scratch
+abbrev pub deskScratch : Desk → List ℤ → Desk
+deskScratch d t = record {
   now = d .now;
   tally = d .tally;
   symbols = d .symbols;
@@ -469,13 +470,12 @@ deskTable d t = record {
   marks = d .marks;
   inner = d .inner;
   header = d .header;
-  table = t;
+  scratch = t;
 }
 
--- the class, and how many records the table holds
-pub record Under (c : Digits) (d : Desk) (e : Env) : Type 0 where
-  pub class : e .class ≡ c
-  pub limit : e .limit ≡ some (length (d .table) / width)
+-- a class, and no limit: 19 is said apart (`withinLimit`)
+abbrev pub unlimited : Digits → Env
+unlimited c = record { class = c; limit = none }
 
 -- the line l, as the code has it: in volume k, behind it the place `to`
 pub record LineHere (spool : List ℕ) (k at to : ℕ) (form : LineForm) (w : Where) (l : Line) : Type 0 where
@@ -486,13 +486,45 @@ pub record LineHere (spool : List ℕ) (k at to : ℕ) (form : LineForm) (w : Wh
   pub bytes : at + formSize (l .form) + 2 ≤ to
   pub most : to ≤ 61442
 
+-- what a line that took so many records made complete of those that have their place in the table: `number` is that of the first of them
+abbrev pub Made : Digits → State → State → ℕ → ℕ → List ℤ → List ℤ → Complete → Type 0
+Made c st st′ more number t h C.Nothing = Opens c st st′ more
+Made c st st′ more number t h (C.Record from) = Fills c st st′ more from number t
+Made c st st′ more number t h C.Header = FillsAll c st st′ more number (take (fileWidth (isFirst (setOf st))) h)
+
+-- how many records have their place in the table, and the number of the open block's own
+pub record Counted (c : Digits) (number : ℕ) (d : Desk) (st : State) : Type 0 where
+  pub taken : setOf st .taken ≡ d .now .records
+  pub size : length (flat (shutSoFar c st)) ≡ width * d .now .records
+  pub own : OwnAt c number st
+
 module _ (c : Digits) (spool : List ℕ) (k : ℕ) (FileHere : Desk → Set → ℕ → Held → ℕ → Type 0) where
   abbrev pub StandsAt : Desk → ℕ → State → Type 0
   StandsAt d at st = Stands c spool k d (FileHere d) at st
 
+  -- The line l goes on, and n is open behind it. The scratch is as the line left it: what it made complete goes to the table, and is cleared.
+  pub record Goes (own : ℕ) (l : Line) (to : ℕ) (st : State) (d : Desk) (n : Now) : Type 0 where
+    pub state : State
+    pub step : stepIn (unlimited c) l st ≡ got state
+    pub more : ℕ
+    pub records : n .records ≡ d .now .records + more
+    pub taken : setOf state .taken ≡ setOf st .taken + more
+    pub made : Made c st state more (numberFor (d .now) n own) (d .scratch) (d .header) (completed (d .now) n)
+    pub stands : StandsAt (deskNow (deskScratch d (clearedBy (completed (d .now) n) (d .scratch))) n) to state
+
+  -- it opens a block to be skipped, and n is open behind that
+  pub record Passes (l : Line) (to : ℕ) (st : State) (d : Desk) (n : Now) : Type 0 where
+    pub inside : State
+    pub behind : State
+    pub skips : Skips inside behind
+    pub step : stepIn (unlimited c) l st ≡ got inside
+    pub records : n .records ≡ d .now .records
+    pub taken : setOf behind .taken ≡ setOf st .taken
+    pub same : shutSoFar c behind ≡ shutSoFar c st
+    pub stands : StandsAt (deskNow d n) to behind
+
   -- the code's answer to the line l in the state st, with these things lent back: the step that the definitions make
-  abbrev pub StepOut : Env → Line → ℕ → State → Desk → Step → Type 0
-  StepOut e l to st d (S.Go n) = (st′ : State) × (stepIn e l st ≡ got st′) × StandsAt (deskNow d n) to st′
-  StepOut e l to st d (S.Skip n) =
-      (inside : State) × (behind : State) × Skips inside behind × (stepIn e l st ≡ got inside) × StandsAt (deskNow d n) to behind
-  StepOut e l to st d (S.Stop n) = stepIn e l st ≡ bad n
+  abbrev pub StepOut : ℕ → Line → ℕ → State → Desk → Step → Type 0
+  StepOut own l to st d (S.Go n) = Goes own l to st d n
+  StepOut own l to st d (S.Skip n) = Passes l to st d n
+  StepOut own l to st d (S.Stop m) = stepIn (unlimited c) l st ≡ bad m

@@ -2,15 +2,22 @@
 use crate::line::step;
 use account::BLOCK_ELEMENTS;
 use account::BLOCK_TOP;
+use account::HEADER_LENGTH;
 use account::Left;
+use account::LineAt;
+use account::MOST_ROWS;
 use account::Now;
 use account::Pos;
+use account::SCRATCH_LENGTH;
 use account::Step;
 use account::Through;
 use account::Volume;
 use account::Where;
 use elements::skip::skip_block;
 use groundwork::blocks::at_block;
+use groundwork::putting::own_after;
+use groundwork::putting::put_done;
+use groundwork::putting::within;
 use groundwork::walk::next_line;
 use leaves::truth::both;
 use rules::Digits;
@@ -18,8 +25,7 @@ use rules::LineForm;
 use rules::Refusal;
 ghost use mathlib.Core.Path.{_≡_};
 ghost use Rattle.steps.specs.VolumeLines.{eofForm, closeForm, ignoredForm, afterElement, completesOf, nextNow, lastStep};
-ghost use Rattle.standing.specs.Standing.{desk};
-ghost use Rattle.standing.specs.Reading.{throughOf, stopOf, VolumeReady, VolumePromise};
+ghost use Rattle.standing.specs.Reading.{throughOf, stopOf, volumeDesk, VolumeReady, VolumePromise};
 
 fn is_eof(form: LineForm) -> bool
     ensures { λ r. ⌜ r ≡ eofForm form ⌝ }
@@ -143,7 +149,9 @@ fn closed(v: Volume, line: u32, did: Step) -> Through
     }
 }
 
-// A volume, from its first line to its last: `body` is its part of the spool. The spool is lent beside it, for names that stand elsewhere.
+// A volume, from its first line to its last: `body` is its part of the spool. The spool is lent beside it, for names that stand elsewhere. What
+// only a block needs that is open begins anew in each volume. A line's records stand on the scratch till they are complete; the table has room for
+// `limit` of them, or holds none.
 pub fn read_volume(
     s: &[u8],
     body: &[u8],
@@ -155,20 +163,23 @@ pub fn read_volume(
     symbols: &mut [u32],
     layers: &mut [u32],
     serials: &mut [u64],
-    used: &mut [bool],
     used_all: &mut [bool],
-    marks: &mut [bool],
-    inner: &mut [bool],
-    header: &mut [i64],
     limit: usize,
     t: &mut [i64],
 ) -> Through
-    requires { ⌜ VolumeReady class (now s) (now body) v limit (desk begin (now tally) (now symbols) (now layers) (now serials) (now used) (now «used_all») (now marks) (now inner) (now header) (now t)) ⌝ }
-    ensures { λ r. ⌜ VolumePromise class (now (s .entry)) (now (body .entry)) v limit (now (following .entry)) (desk begin (now (tally .entry)) (now (symbols .entry)) (now (layers .entry)) (now (serials .entry)) (now (used .entry)) (now («used_all» .entry)) (now (marks .entry)) (now (inner .entry)) (now (header .entry)) (now (t .entry))) (desk begin (now (tally .exit)) (now (symbols .exit)) (now (layers .exit)) (now (serials .exit)) (now (used .exit)) (now («used_all» .exit)) (now (marks .exit)) (now (inner .exit)) (now (header .exit)) (now (t .exit))) r ⌝ }
+    requires { ⌜ VolumeReady class (now s) (now body) v limit (volumeDesk begin (now tally) (now symbols) (now layers) (now serials) (now «used_all»)) (now t) ⌝ }
+    ensures { λ r. ⌜ VolumePromise class (now (s .entry)) (now (body .entry)) v limit (now (following .entry)) (volumeDesk begin (now (tally .entry)) (now (symbols .entry)) (now (layers .entry)) (now (serials .entry)) (now («used_all» .entry))) (now (t .entry)) (λ n. volumeDesk n (now (tally .exit)) (now (symbols .exit)) (now (layers .exit)) (now (serials .exit)) (now («used_all» .exit))) (now (t .exit)) r ⌝ }
 {
+    let mut used = [false; 64];
+    let mut marks = [false; MOST_ROWS];
+    let mut inner = [false; 2];
+    let mut header = [0i64; HEADER_LENGTH];
+    let mut scratch = [0i64; SCRATCH_LENGTH];
     let mut here = begin;
+    let mut own = 0;
     let mut at = v.at;
     let mut line = 0;
+    let first = v.number == 1;
     let last_volume = following.len() == 0;
     loop {
         let seen = next_line(body, v, Pos { at: at, line: line });
@@ -182,25 +193,27 @@ pub fn read_volume(
             line: line + 1,
             ends: both(last_volume, seen.last),
         };
-        let did = step(
+        let answer = step(
             s,
             following,
-            class,
-            here,
-            form,
-            place,
+            LineAt {
+                here: here,
+                form: form,
+                at: place,
+                class: class,
+            },
             tally,
             symbols,
             layers,
             serials,
-            used,
+            &mut used,
             used_all,
-            marks,
-            inner,
-            header,
-            limit,
-            t,
+            &mut marks,
+            &mut inner,
+            &mut header,
+            &mut scratch,
         );
+        let did = within(limit, answer);
         at = seen.next;
         line += 1;
         if seen.last {
@@ -208,6 +221,8 @@ pub fn read_volume(
         }
         match did {
             Step::Go(n) => {
+                put_done(first, here, n, own, &header, &mut scratch, t);
+                own = own_after(here, own);
                 here = n;
             }
             Step::Skip(n) => {

@@ -33,13 +33,13 @@ enum-known-form-3 : tie.Need-enum-known-form-3
 enum-known-form-3 c = search needs
 
 returns : tie.Need-returns
-returns c = names-ignored (c .before .before .before .before .before .args .s .now) (c .before .before .before .before .before .args .here) (c .before .before .before .before .before .args .at) (formIn (c .before .before .before .before .before .args .s .now) (c .before .before .before .before .before .args .form)) (c .before .before .before .before .before .args .tally .now) (c .before .before .before .before .before .args .layers .now) (c .before .before .before .before .before .args .t .now) (ap (formIn (c .before .before .before .before .before .args .s .now)) (c .enum-told .given .1))
+returns c = names-ignored (c .before .before .before .before .before .args .s .now) (c .before .before .before .before .before .args .here) (c .before .before .before .before .before .args .at) (formIn (c .before .before .before .before .before .args .s .now) (c .before .before .before .before .before .args .form)) (c .before .before .before .before .before .args .tally .now) (c .before .before .before .before .before .args .layers .now) (c .before .before .before .before .before .args .rec .now) (ap (formIn (c .before .before .before .before .before .args .s .now)) (c .enum-told .given .1))
 
 returns-2 : tie.Need-returns-2
-returns-2 c = names-close (c .before .before .before .before .before .before .args .s .now) (c .before .before .before .before .before .before .args .here) (c .before .before .before .before .before .before .args .at) (formIn (c .before .before .before .before .before .before .args .s .now) (c .before .before .before .before .before .before .args .form)) (c .before .before .before .before .before .before .args .tally .now) (c .before .before .before .before .before .before .args .layers .now) (c .before .before .before .before .before .before .args .t .now) _ (ap (formIn (c .before .before .before .before .before .before .args .s .now)) (c .before .enum-told2 .given .1)) (c .at-block .ensures)
+returns-2 c = names-close (c .before .before .before .before .before .before .args .s .now) (c .before .before .before .before .before .before .args .here) (c .before .before .before .before .before .before .args .at) (formIn (c .before .before .before .before .before .before .args .s .now) (c .before .before .before .before .before .before .args .form)) (c .before .before .before .before .before .before .args .tally .now) (c .before .before .before .before .before .before .args .layers .now) (c .before .before .before .before .before .before .args .rec .now) _ (ap (formIn (c .before .before .before .before .before .before .args .s .now)) (c .before .enum-told2 .given .1)) (c .at-block .ensures)
 
 returns-3 : tie.Need-returns-3
-returns-3 c = names-eof (c .before .before .before .before .before .args .s .now) (c .before .before .before .before .before .args .here) (c .before .before .before .before .before .args .at) (formIn (c .before .before .before .before .before .args .s .now) (c .before .before .before .before .before .args .form)) (c .before .before .before .before .before .args .tally .now) (c .before .before .before .before .before .args .layers .now) (c .before .before .before .before .before .args .t .now) (ap (formIn (c .before .before .before .before .before .args .s .now)) (c .enum-told3 .given .1))
+returns-3 c = names-eof (c .before .before .before .before .before .args .s .now) (c .before .before .before .before .before .args .here) (c .before .before .before .before .before .args .at) (formIn (c .before .before .before .before .before .args .s .now) (c .before .before .before .before .before .args .form)) (c .before .before .before .before .before .args .tally .now) (c .before .before .before .before .before .args .layers .now) (c .before .before .before .before .before .args .rec .now) (ap (formIn (c .before .before .before .before .before .args .s .now)) (c .enum-told3 .given .1))
 
 same-length : tie.Need-same-length
 same-length c = search needs
@@ -51,7 +51,7 @@ same-length-3 : tie.Need-same-length-3
 same-length-3 c = search needs
 
 returns-4 : tie.Need-returns-4
-returns-4 c = names-keyed (c .before .before .before .before .before .before .before .before .before .before .before .before .before .before .before .before .args .s .now) (c .before .before .before .before .before .before .before .before .before .before .before .before .before .before .before .before .args .here) (c .before .before .before .before .before .before .before .before .before .before .before .before .before .before .before .before .args .at) (formIn (c .before .before .before .before .before .before .before .before .before .before .before .before .before .before .before .before .args .s .now) (c .before .before .before .before .before .before .before .before .before .before .before .before .before .before .before .before .args .form)) (c .before .before .before .before .before .before .before .before .before .before .before .before .before .before .before .before .args .tally .now) (c .before .before .before .before .before .before .before .before .before .before .before .before .before .before .before .before .args .layers .now) (c .before .before .before .before .before .before .before .before .before .before .before .before .before .before .before .before .args .t .now) _ _ _ _ _ _ (ap (formIn (c .before .before .before .before .before .before .before .before .before .before .before .before .before .before .before .before .args .s .now)) (c .before .before .before .before .before .before .before .before .before .before .before .form .given .1)) (c .before .before .before .before .before .layer-line .ensures)
+returns-4 c = names-keyed (c .before .before .before .before .before .before .before .before .before .before .before .before .before .before .before .before .args .s .now) (c .before .before .before .before .before .before .before .before .before .before .before .before .before .before .before .before .args .here) (c .before .before .before .before .before .before .before .before .before .before .before .before .before .before .before .before .args .at) (formIn (c .before .before .before .before .before .before .before .before .before .before .before .before .before .before .before .before .args .s .now) (c .before .before .before .before .before .before .before .before .before .before .before .before .before .before .before .before .args .form)) (c .before .before .before .before .before .before .before .before .before .before .before .before .before .before .before .before .args .tally .now) (c .before .before .before .before .before .before .before .before .before .before .before .before .before .before .before .before .args .layers .now) (c .before .before .before .before .before .before .before .before .before .before .before .before .before .before .before .before .args .rec .now) _ _ _ _ _ _ (ap (formIn (c .before .before .before .before .before .before .before .before .before .before .before .before .before .before .before .before .args .s .now)) (c .before .before .before .before .before .before .before .before .before .before .before .form .given .1)) (c .before .before .before .before .before .layer-line .ensures)
 
 same-length-4 : tie.Need-same-length-4
 same-length-4 c = search needs
@@ -63,10 +63,10 @@ same-length-6 : tie.Need-same-length-6
 same-length-6 c = search needs
 
 returns-5 : tie.Need-returns-5
-returns-5 c = names-keyed (c .before .before .before .before .before .before .before .before .before .before .before .before .before .before .before .before .before .args .s .now) (c .before .before .before .before .before .before .before .before .before .before .before .before .before .before .before .before .before .args .here) (c .before .before .before .before .before .before .before .before .before .before .before .before .before .before .before .before .before .args .at) (formIn (c .before .before .before .before .before .before .before .before .before .before .before .before .before .before .before .before .before .args .s .now) (c .before .before .before .before .before .before .before .before .before .before .before .before .before .before .before .before .before .args .form)) (c .before .before .before .before .before .before .before .before .before .before .before .before .before .before .before .before .before .args .tally .now) (c .before .before .before .before .before .before .before .before .before .before .before .before .before .before .before .before .before .args .layers .now) (c .before .before .before .before .before .before .before .before .before .before .before .before .before .before .before .before .before .args .t .now) _ _ _ _ _ _ (ap (formIn (c .before .before .before .before .before .before .before .before .before .before .before .before .before .before .before .before .before .args .s .now)) (c .before .before .before .before .before .before .before .before .before .before .before .before .form2 .given .1)) (c .before .before .before .before .before .layer-line2 .ensures)
+returns-5 c = names-keyed (c .before .before .before .before .before .before .before .before .before .before .before .before .before .before .before .before .before .args .s .now) (c .before .before .before .before .before .before .before .before .before .before .before .before .before .before .before .before .before .args .here) (c .before .before .before .before .before .before .before .before .before .before .before .before .before .before .before .before .before .args .at) (formIn (c .before .before .before .before .before .before .before .before .before .before .before .before .before .before .before .before .before .args .s .now) (c .before .before .before .before .before .before .before .before .before .before .before .before .before .before .before .before .before .args .form)) (c .before .before .before .before .before .before .before .before .before .before .before .before .before .before .before .before .before .args .tally .now) (c .before .before .before .before .before .before .before .before .before .before .before .before .before .before .before .before .before .args .layers .now) (c .before .before .before .before .before .before .before .before .before .before .before .before .before .before .before .before .before .args .rec .now) _ _ _ _ _ _ (ap (formIn (c .before .before .before .before .before .before .before .before .before .before .before .before .before .before .before .before .before .args .s .now)) (c .before .before .before .before .before .before .before .before .before .before .before .before .form2 .given .1)) (c .before .before .before .before .before .layer-line2 .ensures)
 
 returns-6 : tie.Need-returns-6
-returns-6 c = names-wrong (c .before .before .before .before .before .before .args .s .now) (c .before .before .before .before .before .before .args .here) (c .before .before .before .before .before .before .args .at) (formIn (c .before .before .before .before .before .before .args .s .now) (c .before .before .before .before .before .before .args .form)) (c .before .before .before .before .before .before .args .tally .now) (c .before .before .before .before .before .before .args .layers .now) (c .before .before .before .before .before .before .args .t .now) _ (ap (formIn (c .before .before .before .before .before .before .args .s .now)) (c .before .form3 .given .1))
+returns-6 c = names-wrong (c .before .before .before .before .before .before .args .s .now) (c .before .before .before .before .before .before .args .here) (c .before .before .before .before .before .before .args .at) (formIn (c .before .before .before .before .before .before .args .s .now) (c .before .before .before .before .before .before .args .form)) (c .before .before .before .before .before .before .args .tally .now) (c .before .before .before .before .before .before .args .layers .now) (c .before .before .before .before .before .before .args .rec .now) _ (ap (formIn (c .before .before .before .before .before .before .args .s .now)) (c .before .form3 .given .1))
 
 pub on-layer-names-spec : {M : Type 1} → statement M
 on-layer-names-spec =

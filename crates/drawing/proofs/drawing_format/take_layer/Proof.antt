@@ -1,22 +1,8 @@
 use native.Mathlib.Omega.{arith}
-use Prim.Native.Nat.{_+_}
-use lib.ListN.{length}
-use mathlib.Core.Path.{sym, _∙_}
-use borrow.Author.Tests.{not-true, not-false, leb-true}
-use Rattle.drawing.proofs.TopSteps.{refused-line, going-line}
-use Rattle.drawing.proofs.DrawingSteps.{id-place, no-record, a-record, layer-in}
+use Rattle.drawing.proofs.DrawingSteps.{id-place, layer-in}
 use borrow.Author.Needs.{needs}
 use Rattle.drawing.proofs.drawing_format.take_layer.Statement.{statement}
 use Rattle.drawing.proofs.drawing_format.take_layer.Tie as tie
-
-has-room-requires : tie.Need-has-room-requires
-has-room-requires c κs = search needs
-
-same-length : tie.Need-same-length
-same-length c = search needs
-
-returns : tie.Need-returns
-returns c = refused-line _ 19 _ (no-record _ _ (sym (c .before .has-room .ensures) ∙ not-true _ (c .if1 .taken)))
 
 slice-read-count : tie.Need-slice-read-count
 slice-read-count c = search needs
@@ -25,10 +11,10 @@ part-requires : tie.Need-part-requires
 part-requires c κs = search needs
 
 put-layer-requires : tie.Need-put-layer-requires
-put-layer-requires c κs = (rw (c .before .part .ensures) (c .before .before .before .before .before .before .before .before .before .pre .4), leb-true ((c .before .before .before .before .before .before .before .before .before .args .here .free) + 32) (length (c .before .before .before .before .before .before .before .before .before .args .t .now)) (sym (c .before .before .before .before .has-room .ensures) ∙ not-false _ (c .before .before .before .if1 .left)))
+put-layer-requires c κs = (rw (c .before .part .ensures) (c .before .before .before .before .before .before .pre .4), c .before .before .before .before .before .before .pre .5)
 
 add-layers : tie.Need-add-layers
-add-layers c = let h = id-place (c .before .before .before .before .before .before .before .before .before .before .before .before .args .s .now) (c .before .before .before .before .before .before .before .before .before .before .before .before .args .key) (c .before .before .before .before .before .before .before .before .before .before .before .before .pre .4) in record { fits = omega (arith, h, c .before .before .before .before .before .before .before .before .before .before .before .before .pre .0) }
+add-layers c = let h = id-place (c .before .before .before .before .before .before .before .before .before .args .s .now) (c .before .before .before .before .before .before .before .before .before .args .key) (c .before .before .before .before .before .before .before .before .before .pre .4) in record { fits = omega (arith, h, c .before .before .before .before .before .before .before .before .before .pre .0) }
 
 cast-layers : tie.Need-cast-layers
 cast-layers c = search needs
@@ -46,7 +32,10 @@ slice-write-tally : tie.Need-slice-write-tally
 slice-write-tally c = search needs
 
 layer-taken-requires : tie.Need-layer-taken-requires
-layer-taken-requires c κs = let h = leb-true ((c .before .before .before .before .before .before .before .before .before .before .before .before .args .here .free) + 32) (length (c .before .before .before .before .before .before .before .before .before .before .before .before .args .t .now)) (sym (c .before .before .before .before .before .before .before .has-room .ensures) ∙ not-false _ (c .before .before .before .before .before .before .if1 .left)) in omega (arith, h)
+layer-taken-requires c κs = search needs
+
+same-length : tie.Need-same-length
+same-length c = search needs
 
 same-length-2 : tie.Need-same-length-2
 same-length-2 c = search needs
@@ -54,19 +43,13 @@ same-length-2 c = search needs
 same-length-3 : tie.Need-same-length-3
 same-length-3 c = search needs
 
-same-length-4 : tie.Need-same-length-4
-same-length-4 c = search needs
-
-returns-2 : tie.Need-returns-2
-returns-2 c = going-line _ _ _ _ (a-record _ _ (sym (c .before .before .before .before .before .before .before .before .has-room .ensures) ∙ not-false _ (c .before .before .before .before .before .before .before .if1 .left))) (c .layer-taken .ensures) (layer-in (c .before .before .before .before .before .before .before .before .before .before .before .before .before .args .s .now) (c .before .before .before .before .before .before .before .before .before .before .before .before .before .args .here .free) (c .before .before .before .before .before .before .before .before .before .before .before .before .before .args .at) (c .before .before .before .before .before .before .before .before .before .before .before .before .before .args .key) _ (c .before .before .before .before .before .before .before .before .before .before .before .before .before .args .tally .now) (c .before .before .before .before .before .before .before .before .before .before .before .before .before .args .layers .now) (c .before .before .before .before .before .before .before .before .before .before .before .before .before .args .t .now) _ _ (c .before .before .before .before .before .before .before .before .before .before .before .before .before .pre .0) (c .before .before .before .before .before .before .before .before .before .before .before .before .before .pre .2) (c .before .before .before .before .before .before .before .before .before .before .before .before .before .pre .3) (c .before .before .before .before .before .before .before .before .before .before .before .before .before .pre .4) (c .before .before .before .before .before .part .ensures) (c .before .before .before .put-layer .ensures))
+returns : tie.Need-returns
+returns c = (c .layer-taken .ensures, layer-in (c .before .before .before .before .before .before .before .before .before .before .args .s .now) (c .before .before .before .before .before .before .before .before .before .before .args .at) (c .before .before .before .before .before .before .before .before .before .before .args .key) _ (c .before .before .before .before .before .before .before .before .before .before .args .tally .now) (c .before .before .before .before .before .before .before .before .before .before .args .layers .now) (c .before .before .before .before .before .before .before .before .before .before .args .rec .now) _ _ (c .before .before .before .before .before .before .before .before .before .before .pre .0) (c .before .before .before .before .before .before .before .before .before .before .pre .2) (c .before .before .before .before .before .before .before .before .before .before .pre .3) (c .before .before .before .before .before .before .before .before .before .before .pre .4) (c .before .before .before .before .before .part .ensures) (c .before .before .before .put-layer .ensures))
 
 pub take-layer-spec : {M : Type 1} → statement M
 take-layer-spec =
     tie.close
     (tie.spec
-    has-room-requires
-    same-length
-    returns
     slice-read-count
     part-requires
     put-layer-requires
@@ -77,7 +60,7 @@ take-layer-spec =
     add-tally
     slice-write-tally
     layer-taken-requires
+    same-length
     same-length-2
     same-length-3
-    same-length-4
-    returns-2)
+    returns)

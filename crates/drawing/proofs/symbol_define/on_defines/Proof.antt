@@ -42,10 +42,10 @@ enum-known-next : tie.Need-enum-known-next
 enum-known-next c = search needs
 
 returns : tie.Need-returns
-returns c = defines-stay (c .before .before .before .before .before .before .before .before .before .before .before .before .args .here) (length (c .before .before .before .before .before .before .before .before .before .before .before .before .args .symbols .now)) (c .before .before .before .before .before .before .before .before .before .before .before .before .args .at) (c .before .before .before .before .before .before .before .before .before .before .before .before .args .marks .now) _ (c .before .before .before .before .before .before .before .before .before .before .before .before .args .t .now) _ _ (c .before .before .before .act .result) ((rw (c .before .before .before .before .before .before .digits-of .ensures) at (c .before .before .before .act .ensures)) .eq) (c .enum-told .given .1) (record { marks = refl; table = refl })
+returns c = defines-stay (c .before .before .before .before .before .before .before .before .before .before .before .before .args .here) (length (c .before .before .before .before .before .before .before .before .before .before .before .before .args .symbols .now)) (c .before .before .before .before .before .before .before .before .before .before .before .before .args .at) (c .before .before .before .before .before .before .before .before .before .before .before .before .args .marks .now) _ (c .before .before .before .before .before .before .before .before .before .before .before .before .args .rec .now) _ _ (c .before .before .before .act .result) ((rw (c .before .before .before .before .before .before .digits-of .ensures) at (c .before .before .before .act .ensures)) .eq) (c .enum-told .given .1) (record { marks = refl; rec = refl })
 
 returns-2 : tie.Need-returns-2
-returns-2 c = defines-entry (c .before .before .before .before .before .before .before .before .before .before .before .before .before .args .here) (length (c .before .before .before .before .before .before .before .before .before .before .before .before .before .args .symbols .now)) (c .before .before .before .before .before .before .before .before .before .before .before .before .before .args .at) (c .before .before .before .before .before .before .before .before .before .before .before .before .before .args .marks .now) _ (c .before .before .before .before .before .before .before .before .before .before .before .before .before .args .t .now) _ _ (c .before .before .before .before .act .result) ((rw (c .before .before .before .before .before .before .before .digits-of .ensures) at (c .before .before .before .before .act .ensures)) .eq) _ (c .non-read .result) (c .before .enum-told2 .given .1) (c .non-read .ensures) (record { marks = refl; table = refl })
+returns-2 c = defines-entry (c .before .before .before .before .before .before .before .before .before .before .before .before .before .args .here) (length (c .before .before .before .before .before .before .before .before .before .before .before .before .before .args .symbols .now)) (c .before .before .before .before .before .before .before .before .before .before .before .before .before .args .at) (c .before .before .before .before .before .before .before .before .before .before .before .before .before .args .marks .now) _ (c .before .before .before .before .before .before .before .before .before .before .before .before .before .args .rec .now) _ _ (c .before .before .before .before .act .result) ((rw (c .before .before .before .before .before .before .before .digits-of .ensures) at (c .before .before .before .before .act .ensures)) .eq) _ (c .non-read .result) (c .before .enum-told2 .given .1) (c .non-read .ensures) (record { marks = refl; rec = refl })
 
 same-length : tie.Need-same-length
 same-length c = search needs
@@ -54,13 +54,13 @@ same-length-2 : tie.Need-same-length-2
 same-length-2 c = search needs
 
 returns-3 : tie.Need-returns-3
-returns-3 c = defines-begin (c .before .before .before .before .before .before .before .before .before .before .before .before .before .before .before .before .before .before .args .here) (length (c .before .before .before .before .before .before .before .before .before .before .before .before .before .before .before .before .before .before .args .symbols .now)) (c .before .before .before .before .before .before .before .before .before .before .before .before .before .before .before .before .before .before .args .at) (c .before .before .before .before .before .before .before .before .before .before .before .before .before .before .before .before .before .before .args .marks .now) _ (c .before .before .before .before .before .before .before .before .before .before .before .before .before .before .before .before .before .before .args .t .now) _ _ (c .before .before .before .before .before .before .before .before .before .act .result) ((rw (c .before .before .before .before .before .before .before .before .before .before .before .before .digits-of .ensures) at (c .before .before .before .before .before .before .before .before .before .act .ensures)) .eq) _ (c .before .before .before .open-symbol .result) (c .before .before .before .before .before .before .enum-told3 .given .1) (c .before .before .before .open-symbol .ensures .0) (c .before .before .before .open-symbol .ensures .1)
+returns-3 c = defines-begin (c .before .before .before .before .before .before .before .before .before .before .before .before .before .before .before .before .before .before .args .here) (length (c .before .before .before .before .before .before .before .before .before .before .before .before .before .before .before .before .before .before .args .symbols .now)) (c .before .before .before .before .before .before .before .before .before .before .before .before .before .before .before .before .before .before .args .at) (c .before .before .before .before .before .before .before .before .before .before .before .before .before .before .before .before .before .before .args .marks .now) _ (c .before .before .before .before .before .before .before .before .before .before .before .before .before .before .before .before .before .before .args .rec .now) _ _ (c .before .before .before .before .before .before .before .before .before .act .result) ((rw (c .before .before .before .before .before .before .before .before .before .before .before .before .digits-of .ensures) at (c .before .before .before .before .before .before .before .before .before .act .ensures)) .eq) _ (c .before .before .before .open-symbol .result) (c .before .before .before .before .before .before .enum-told3 .given .1) (c .before .before .before .open-symbol .ensures .0) (c .before .before .before .open-symbol .ensures .1)
 
 returns-4 : tie.Need-returns-4
-returns-4 c = defines-shut (c .before .before .before .before .before .before .before .before .before .before .before .before .before .args .here) (length (c .before .before .before .before .before .before .before .before .before .before .before .before .before .args .symbols .now)) (c .before .before .before .before .before .before .before .before .before .before .before .before .before .args .at) (c .before .before .before .before .before .before .before .before .before .before .before .before .before .args .marks .now) _ (c .before .before .before .before .before .before .before .before .before .before .before .before .before .args .t .now) _ _ (c .before .before .before .before .act .result) ((rw (c .before .before .before .before .before .before .before .digits-of .ensures) at (c .before .before .before .before .act .ensures)) .eq) (c .close-defines .result) (c .before .enum-told4 .given .1) (c .close-defines .ensures) (record { marks = refl; table = refl })
+returns-4 c = defines-shut (c .before .before .before .before .before .before .before .before .before .before .before .before .before .args .here) (length (c .before .before .before .before .before .before .before .before .before .before .before .before .before .args .symbols .now)) (c .before .before .before .before .before .before .before .before .before .before .before .before .before .args .at) (c .before .before .before .before .before .before .before .before .before .before .before .before .before .args .marks .now) _ (c .before .before .before .before .before .before .before .before .before .before .before .before .before .args .rec .now) _ _ (c .before .before .before .before .act .result) ((rw (c .before .before .before .before .before .before .before .digits-of .ensures) at (c .before .before .before .before .act .ensures)) .eq) (c .close-defines .result) (c .before .enum-told4 .given .1) (c .close-defines .ensures) (record { marks = refl; rec = refl })
 
 returns-5 : tie.Need-returns-5
-returns-5 c = defines-refuse (c .before .before .before .before .before .before .before .before .before .before .before .before .before .args .here) (length (c .before .before .before .before .before .before .before .before .before .before .before .before .before .args .symbols .now)) (c .before .before .before .before .before .before .before .before .before .before .before .before .before .args .at) (c .before .before .before .before .before .before .before .before .before .before .before .before .before .args .marks .now) _ (c .before .before .before .before .before .before .before .before .before .before .before .before .before .args .t .now) _ _ (c .before .before .before .before .act .result) ((rw (c .before .before .before .before .before .before .before .digits-of .ensures) at (c .before .before .before .before .act .ensures)) .eq) (c .before .next .given .0 .0) (c .before .next .given .1)
+returns-5 c = defines-refuse (c .before .before .before .before .before .before .before .before .before .before .before .before .before .args .here) (length (c .before .before .before .before .before .before .before .before .before .before .before .before .before .args .symbols .now)) (c .before .before .before .before .before .before .before .before .before .before .before .before .before .args .at) (c .before .before .before .before .before .before .before .before .before .before .before .before .before .args .marks .now) _ (c .before .before .before .before .before .before .before .before .before .before .before .before .before .args .rec .now) _ _ (c .before .before .before .before .act .result) ((rw (c .before .before .before .before .before .before .before .digits-of .ensures) at (c .before .before .before .before .act .ensures)) .eq) (c .before .next .given .0 .0) (c .before .next .given .1)
 
 pub on-defines-spec : {M : Type 1} → statement M
 on-defines-spec =

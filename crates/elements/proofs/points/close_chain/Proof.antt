@@ -12,12 +12,6 @@ returns c = (chain-short (c .before .before .args .here) (c .if1 .taken), λ e. 
 cast-t : tie.Need-cast-t
 cast-t c = search needs
 
-add-t6 : tie.Need-add-t6
-add-t6 c = search needs
-
-mul-t7 : tie.Need-mul-t7
-mul-t7 c = search needs
-
 slice-set-from-t : tie.Need-slice-set-from-t
 slice-set-from-t c = search needs
 
@@ -28,17 +22,8 @@ same-length : tie.Need-same-length
 same-length c = search needs
 
 returns-2 : tie.Need-returns-2
-returns-2 c = (chain-long (c .before .before .before .before .args .here) _ (c .before .before .if1 .left) (c .figure-done .ensures), λ e. chain-counted (c .before .before .before .before .args .here) (c .before .before .before .before .args .own) (c .before .before .before .before .args .t .now) (omega (arith, c .before .before .before .before .pre .1)))
+returns-2 c = (chain-long (c .before .before .before .before .args .here) _ (c .before .before .if1 .left) (c .figure-done .ensures), λ e. chain-counted (c .before .before .before .before .args .here) (c .before .before .before .before .args .t .now) (omega (arith, c .before .before .before .before .pre .1)))
 
 pub close-chain-spec : {M : Type 1} → statement M
 close-chain-spec =
-    tie.close
-    (tie.spec
-    returns
-    cast-t
-    add-t6
-    mul-t7
-    slice-set-from-t
-    figure-done-requires
-    same-length
-    returns-2)
+    tie.close (tie.spec returns cast-t slice-set-from-t figure-done-requires same-length returns-2)

@@ -11,10 +11,10 @@ slice-aggregate-read-set : tie.Need-slice-aggregate-read-set
 slice-aggregate-read-set c = search needs
 
 read-set-requires : tie.Need-read-set-requires
-read-set-requires c κs = (refl, λ _. (refl, omega arith))
+read-set-requires c κs = (refl, omega arith)
 
 returns : tie.Need-returns
-returns c = judged (c .before .before .before .before .args .s .now) (replicate 96 (pos 0)) (c .before .read-set .last .1 .1 .1 .0) (c .before .read-set .result) (c .before .read-set .ensures)
+returns c = judged (c .before .before .before .before .args .s .now) (replicate 1 (pos 0)) (c .before .read-set .last .1 .1 .1 .0) (c .before .read-set .result) (c .before .read-set .ensures)
 
 pub judge-spec : {M : Type 1} → statement M
 judge-spec =

@@ -1,4 +1,5 @@
-use Rattle.standing.proofs.StepParts.{tally-9, names-fit, tally-10, ids-fit, names-count, ids-count, names-most, ids-most}
+use native.Mathlib.Omega.{arith}
+use Rattle.standing.proofs.StepParts.{tally-9, tally-10, names-fit, ids-fit, names-count, ids-count, names-most, ids-most, lent-long, lends}
 use borrow.Author.Needs.{needs}
 use Rattle.steps.proofs.line.at_top.Statement.{statement}
 use Rattle.steps.proofs.line.at_top.Tie as tie
@@ -21,8 +22,17 @@ slice-aggregate-on-top c = names-count (c .before .before .before .before .befor
 slice-aggregate-on-top-2 : tie.Need-slice-aggregate-on-top-2
 slice-aggregate-on-top-2 c = ids-count (c .before .before .before .before .before .before .before .before .before .before .before .before .pre .1)
 
+sub-on-top : tie.Need-sub-on-top
+sub-on-top c = omega arith
+
+part-on-top-start : tie.Need-part-on-top-start
+part-on-top-start c = omega arith
+
+part-on-top-end : tie.Need-part-on-top-end
+part-on-top-end c = omega (arith, c .before .before .before .before .before .before .before .before .before .before .before .before .before .before .before .pre .4)
+
 on-top-requires : tie.Need-on-top-requires
-on-top-requires c κs = (c .before .before .before .before .before .before .before .before .before .before .before .before .before .before .before .before .pre .0, names-most (c .before .before .before .before .before .before .before .before .before .before .before .before .before .before .before .before .pre .1), ids-most (c .before .before .before .before .before .before .before .before .before .before .before .before .before .before .before .before .pre .1), c .before .before .before .before .before .before .before .before .before .before .before .before .before .before .before .before .pre .1 .twelve, c .before .before .before .before .before .before .before .before .before .before .before .before .before .before .before .before .pre .2, c .before .before .before .before .before .before .before .before .before .before .before .before .before .before .before .before .pre .3)
+on-top-requires c κs = (c .before .before .before .before .before .before .before .before .before .before .before .before .before .before .before .before .pre .0, names-most (c .before .before .before .before .before .before .before .before .before .before .before .before .before .before .before .before .pre .1), ids-most (c .before .before .before .before .before .before .before .before .before .before .before .before .before .before .before .before .pre .1), c .before .before .before .before .before .before .before .before .before .before .before .before .before .before .before .before .pre .1 .twelve, c .before .before .before .before .before .before .before .before .before .before .before .before .before .before .before .before .pre .2, c .before .before .before .before .before .before .before .before .before .before .before .before .before .before .before .before .pre .3, lent-long 0 32 (c .before .before .before .before .before .before .before .before .before .before .before .before .before .before .before .before .args .t .now) (omega arith) (c .before .before .before .before .before .before .before .before .before .before .before .before .before .before .before .before .pre .4), c .before .before .before .before .before .before .before .before .before .before .before .before .before .before .before .before .pre .5)
 
 same-length : tie.Need-same-length
 same-length c = search needs
@@ -37,7 +47,7 @@ same-length-4 : tie.Need-same-length-4
 same-length-4 c = search needs
 
 returns : tie.Need-returns
-returns c = c .before .before .before .before .before .before .on-top .ensures
+returns c = lends 0 _ _ _ (c .before .before .before .before .before .before .on-top .ensures)
 
 pub at-top-spec : {M : Type 1} → statement M
 at-top-spec =
@@ -49,6 +59,9 @@ at-top-spec =
     cast-nl
     slice-aggregate-on-top
     slice-aggregate-on-top-2
+    sub-on-top
+    part-on-top-start
+    part-on-top-end
     on-top-requires
     same-length
     same-length-2

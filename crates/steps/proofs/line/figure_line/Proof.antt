@@ -1,4 +1,5 @@
 use mathlib.Core.Path.{refl}
+use native.Mathlib.Omega.{arith}
 use Rattle.standing.specs.LineDone.{figures, chain, text, placed, other}
 use Rattle.standing.proofs.StepParts.{twelve-left}
 use borrow.Author.Needs.{needs}
@@ -6,7 +7,7 @@ use Rattle.steps.proofs.line.figure_line.Statement.{statement}
 use Rattle.steps.proofs.line.figure_line.Tie as tie
 
 in-figures-requires : tie.Need-in-figures-requires
-in-figures-requires c κs = (c .before .before .before .before .before .before .before .before .before .before .before .before .before .pre .0 .3 .short, c .before .before .before .before .before .before .before .before .before .before .before .before .before .pre .0 .3 .named, c .before .before .before .before .before .before .before .before .before .before .before .before .before .pre .0 .3 .figures (c .before .before .before .before .if1 .taken))
+in-figures-requires c κs = (c .before .before .before .before .before .before .before .before .before .before .before .before .before .pre .0 .3 .short, c .before .before .before .before .before .before .before .before .before .before .before .before .before .pre .0 .3 .named, c .before .before .before .before .before .before .before .before .before .before .before .before .before .pre .0 .3 .figures (c .before .before .before .before .if1 .taken), c .before .before .before .before .before .before .before .before .before .before .before .before .before .pre .0 .3 .lengths .scratch, omega (arith, c .before .before .before .before .before .before .before .before .before .before .before .before .before .pre .0 .3 .countable))
 
 same-length : tie.Need-same-length
 same-length c = search needs
@@ -24,7 +25,7 @@ returns : tie.Need-returns
 returns c = λ following used usedAll header. figures (c .before .before .before .before .before .before .before .before .before .before .before .before .if1 .taken) (c .before .before .before .before .before .before .before .in-figures .ensures) refl
 
 in-chain-requires : tie.Need-in-chain-requires
-in-chain-requires c κs = (c .before .before .before .before .before .before .before .before .before .before .before .before .before .pre .0 .3 .short, c .before .before .before .before .before .before .before .before .before .before .before .before .before .pre .0 .3 .named, c .before .before .before .before .before .before .before .before .before .before .before .before .before .pre .0 .3 .chain (c .before .before .if2 .taken) .0, c .before .before .before .before .before .before .before .before .before .before .before .before .before .pre .0 .3 .chain (c .before .before .if2 .taken) .1, c .before .before .before .before .before .before .before .before .before .before .before .before .before .pre .0 .3 .chain (c .before .before .if2 .taken) .2)
+in-chain-requires c κs = (c .before .before .before .before .before .before .before .before .before .before .before .before .before .pre .0 .3 .short, c .before .before .before .before .before .before .before .before .before .before .before .before .before .pre .0 .3 .named, c .before .before .before .before .before .before .before .before .before .before .before .before .before .pre .0 .3 .chain (c .before .before .if2 .taken) .0, c .before .before .before .before .before .before .before .before .before .before .before .before .before .pre .0 .3 .chain (c .before .before .if2 .taken) .1, c .before .before .before .before .before .before .before .before .before .before .before .before .before .pre .0 .3 .lengths .scratch, omega (arith, c .before .before .before .before .before .before .before .before .before .before .before .before .before .pre .0 .3 .countable))
 
 same-length-5 : tie.Need-same-length-5
 same-length-5 c = search needs
@@ -36,7 +37,7 @@ returns-2 : tie.Need-returns-2
 returns-2 c = λ following used usedAll header. chain (c .before .before .before .before .if2 .taken) (c .before .in-chain .ensures) refl
 
 in-text-requires : tie.Need-in-text-requires
-in-text-requires c κs = (c .before .before .before .before .before .before .before .before .before .before .before .before .before .before .before .before .pre .0 .3 .short, c .before .before .before .before .before .before .before .before .before .before .before .before .before .before .before .before .pre .0 .3 .named, c .before .before .before .before .before .before .before .before .before .before .before .before .before .before .before .before .pre .0 .3 .text (c .before .before .before .if3 .taken) .1, c .before .before .before .before .before .before .before .before .before .before .before .before .before .before .before .before .pre .0 .3 .lengths .inner, c .before .before .before .before .before .before .before .before .before .before .before .before .before .before .before .before .pre .0 .3 .text (c .before .before .before .if3 .taken) .0, c .before .before .before .before .before .before .before .before .before .before .before .before .before .before .before .before .pre .0 .3 .free)
+in-text-requires c κs = (c .before .before .before .before .before .before .before .before .before .before .before .before .before .before .before .before .pre .0 .3 .short, c .before .before .before .before .before .before .before .before .before .before .before .before .before .before .before .before .pre .0 .3 .named, c .before .before .before .before .before .before .before .before .before .before .before .before .before .before .before .before .pre .0 .3 .text (c .before .before .before .if3 .taken), c .before .before .before .before .before .before .before .before .before .before .before .before .before .before .before .before .pre .0 .3 .lengths .inner, c .before .before .before .before .before .before .before .before .before .before .before .before .before .before .before .before .pre .0 .3 .lengths .scratch)
 
 same-length-7 : tie.Need-same-length-7
 same-length-7 c = search needs
@@ -51,7 +52,7 @@ returns-3 : tie.Need-returns-3
 returns-3 c = λ following used usedAll header. text (c .before .before .before .before .before .before .before .if3 .taken) (c .before .before .before .in-text .ensures) refl
 
 in-placed-requires : tie.Need-in-placed-requires
-in-placed-requires c κs = (c .before .before .before .before .before .before .before .before .before .before .before .before .before .before .before .before .before .before .before .before .pre .0 .3 .short, c .before .before .before .before .before .before .before .before .before .before .before .before .before .before .before .before .before .before .before .before .pre .0 .3 .named, c .before .before .before .before .before .before .before .before .before .before .before .before .before .before .before .before .before .before .before .before .pre .0 .3 .placed (c .before .before .before .before .before .if4 .taken) .0, c .before .before .before .before .before .before .before .before .before .before .before .before .before .before .before .before .before .before .before .before .pre .0 .3 .free, c .before .before .before .before .before .before .before .before .before .before .before .before .before .before .before .before .before .before .before .before .pre .0 .3 .placed (c .before .before .before .before .before .if4 .taken) .1, c .before .before .before .before .before .before .before .before .before .before .before .before .before .before .before .before .before .before .before .before .pre .0 .3 .placed (c .before .before .before .before .before .if4 .taken) .2)
+in-placed-requires c κs = (c .before .before .before .before .before .before .before .before .before .before .before .before .before .before .before .before .before .before .before .before .pre .0 .3 .short, c .before .before .before .before .before .before .before .before .before .before .before .before .before .before .before .before .before .before .before .before .pre .0 .3 .named, c .before .before .before .before .before .before .before .before .before .before .before .before .before .before .before .before .before .before .before .before .pre .0 .3 .placed (c .before .before .before .before .before .if4 .taken) .0, c .before .before .before .before .before .before .before .before .before .before .before .before .before .before .before .before .before .before .before .before .pre .0 .3 .placed (c .before .before .before .before .before .if4 .taken) .1, c .before .before .before .before .before .before .before .before .before .before .before .before .before .before .before .before .before .before .before .before .pre .0 .3 .lengths .scratch)
 
 same-length-10 : tie.Need-same-length-10
 same-length-10 c = search needs

@@ -1,4 +1,5 @@
-use Rattle.standing.proofs.StepParts.{tally-9, names-fit, tally-10, ids-fit, names-count, ids-count, tally-2, names-most, ids-most}
+use native.Mathlib.Omega.{arith}
+use Rattle.standing.proofs.StepParts.{tally-2, tally-9, tally-10, names-fit, ids-fit, names-count, ids-count, names-most, ids-most, lent-long, lends}
 use borrow.Author.Needs.{needs}
 use Rattle.steps.proofs.line.in_defines.Statement.{statement}
 use Rattle.steps.proofs.line.in_defines.Tie as tie
@@ -24,8 +25,17 @@ slice-aggregate-on-defines c = names-count (c .before .before .before .before .b
 slice-aggregate-on-defines-2 : tie.Need-slice-aggregate-on-defines-2
 slice-aggregate-on-defines-2 c = ids-count (c .before .before .before .before .before .before .before .before .before .before .pre .1)
 
+sub-on-defines : tie.Need-sub-on-defines
+sub-on-defines c = omega arith
+
+part-on-defines-start : tie.Need-part-on-defines-start
+part-on-defines-start c = omega arith
+
+part-on-defines-end : tie.Need-part-on-defines-end
+part-on-defines-end c = omega (arith, c .before .before .before .before .before .before .before .before .before .before .before .pre .2)
+
 on-defines-requires : tie.Need-on-defines-requires
-on-defines-requires c κs = (c .before .before .before .before .before .before .before .before .before .before .before .before .pre .0, names-most (c .before .before .before .before .before .before .before .before .before .before .before .before .pre .1), ids-most (c .before .before .before .before .before .before .before .before .before .before .before .before .pre .1))
+on-defines-requires c κs = (c .before .before .before .before .before .before .before .before .before .before .before .before .pre .0, names-most (c .before .before .before .before .before .before .before .before .before .before .before .before .pre .1), ids-most (c .before .before .before .before .before .before .before .before .before .before .before .before .pre .1), lent-long 0 32 (c .before .before .before .before .before .before .before .before .before .before .before .before .args .t .now) (omega arith) (c .before .before .before .before .before .before .before .before .before .before .before .before .pre .2), c .before .before .before .before .before .before .before .before .before .before .before .before .pre .3)
 
 same-length : tie.Need-same-length
 same-length c = search needs
@@ -34,7 +44,7 @@ same-length-2 : tie.Need-same-length-2
 same-length-2 c = search needs
 
 returns : tie.Need-returns
-returns c = c .before .before .before .on-defines .ensures
+returns c = lends 0 _ _ _ (c .before .before .before .on-defines .ensures)
 
 pub in-defines-spec : {M : Type 1} → statement M
 in-defines-spec =
@@ -47,6 +57,9 @@ in-defines-spec =
     shared-slice-read-define
     slice-aggregate-on-defines
     slice-aggregate-on-defines-2
+    sub-on-defines
+    part-on-defines-start
+    part-on-defines-end
     on-defines-requires
     same-length
     same-length-2

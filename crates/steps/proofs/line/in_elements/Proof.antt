@@ -1,4 +1,4 @@
-use Rattle.standing.proofs.StepParts.{tally-9, names-fit, tally-10, ids-fit, names-count, ids-count, names-most, ids-few}
+use Rattle.standing.proofs.StepParts.{tally-9, tally-10, names-fit, ids-fit, names-count, ids-count, names-most, ids-few}
 use borrow.Author.Needs.{needs}
 use Rattle.steps.proofs.line.in_elements.Statement.{statement}
 use Rattle.steps.proofs.line.in_elements.Tie as tie

@@ -1,5 +1,5 @@
 use native.Mathlib.Omega.{arith}
-use Rattle.standing.proofs.StepParts.{tally-9, names-fit, tally-10, ids-fit, names-count, ids-count, tally-1, names-most, ids-most, count-asks, figures-back}
+use Rattle.standing.proofs.StepParts.{tally-1, tally-9, tally-10, names-fit, ids-fit, names-count, ids-count, names-most, ids-most, lent-long, lends, count-asks, figures-back}
 use borrow.Author.Needs.{needs}
 use Rattle.steps.proofs.line.in_figures.Statement.{statement}
 use Rattle.steps.proofs.line.in_figures.Tie as tie
@@ -25,8 +25,17 @@ slice-aggregate-on-figures c = names-count (c .before .before .before .before .b
 slice-aggregate-on-figures-2 : tie.Need-slice-aggregate-on-figures-2
 slice-aggregate-on-figures-2 c = ids-count (c .before .before .before .before .before .before .before .before .before .before .before .pre .1)
 
+sub-on-figures : tie.Need-sub-on-figures
+sub-on-figures c = omega arith
+
+part-on-figures-start : tie.Need-part-on-figures-start
+part-on-figures-start c = omega arith
+
+part-on-figures-end : tie.Need-part-on-figures-end
+part-on-figures-end c = omega (arith, c .before .before .before .before .before .before .before .before .before .before .before .before .before .pre .3)
+
 on-figures-requires : tie.Need-on-figures-requires
-on-figures-requires c κs = (c .before .before .before .before .before .before .before .before .before .before .before .before .before .before .pre .0, names-most (c .before .before .before .before .before .before .before .before .before .before .before .before .before .before .pre .1), ids-most (c .before .before .before .before .before .before .before .before .before .before .before .before .before .before .pre .1), omega (arith, c .before .before .before .before .before .before .before .before .before .before .before .before .before .before .pre .2))
+on-figures-requires c κs = (c .before .before .before .before .before .before .before .before .before .before .before .before .before .before .pre .0, names-most (c .before .before .before .before .before .before .before .before .before .before .before .before .before .before .pre .1), ids-most (c .before .before .before .before .before .before .before .before .before .before .before .before .before .before .pre .1), omega (arith, c .before .before .before .before .before .before .before .before .before .before .before .before .before .before .pre .2), c .before .before .before .before .before .before .before .before .before .before .before .before .before .before .pre .4, lent-long 32 32 (c .before .before .before .before .before .before .before .before .before .before .before .before .before .before .args .t .now) (omega arith) (c .before .before .before .before .before .before .before .before .before .before .before .before .before .before .pre .3))
 
 layer-counted-requires : tie.Need-layer-counted-requires
 layer-counted-requires c κs = count-asks (c .before .before .before .before .before .before .on-figures .ensures) (c .before .before .before .before .before .before .before .before .before .before .before .before .before .before .before .before .before .before .before .before .before .args .tally .now) (c .before .before .before .before .before .before .before .before .before .before .before .before .before .before .before .before .before .before .before .before .before .pre .1 .twelve) (c .before .before .before .before .before .before .before .before .before .before .before .before .before .before .before .before .before .before .before .before .before .pre .2)
@@ -44,7 +53,7 @@ same-length-4 : tie.Need-same-length-4
 same-length-4 c = search needs
 
 returns : tie.Need-returns
-returns c = figures-back (c .before .before .before .before .before .before .before .before .before .on-figures .ensures) (c .before .before .before .before .before .before .before .before .before .before .before .before .before .before .before .before .before .before .before .before .before .before .before .before .args .tally .now) _ (c .before .before .layer-counted .ensures)
+returns c = let q = figures-back (c .before .before .before .before .before .before .before .before .before .on-figures .ensures) (c .before .before .before .before .before .before .before .before .before .before .before .before .before .before .before .before .before .before .before .before .before .before .before .before .args .tally .now) _ (c .before .before .layer-counted .ensures) in (lends 32 _ _ _ (q .0), q .1)
 
 pub in-figures-spec : {M : Type 1} → statement M
 in-figures-spec =
@@ -57,6 +66,9 @@ in-figures-spec =
     slice-read-range
     slice-aggregate-on-figures
     slice-aggregate-on-figures-2
+    sub-on-figures
+    part-on-figures-start
+    part-on-figures-end
     on-figures-requires
     layer-counted-requires
     same-length

@@ -1,4 +1,4 @@
-use Rattle.standing.proofs.StepParts.{tally-9, names-fit, tally-10, ids-fit, names-count, ids-count, names-most, ids-most}
+use Rattle.standing.proofs.StepParts.{tally-9, tally-10, names-fit, ids-fit, names-count, ids-count, names-most, ids-most}
 use borrow.Author.Needs.{needs}
 use Rattle.steps.proofs.line.in_file.Statement.{statement}
 use Rattle.steps.proofs.line.in_file.Tie as tie
@@ -22,7 +22,7 @@ slice-aggregate-on-file-2 : tie.Need-slice-aggregate-on-file-2
 slice-aggregate-on-file-2 c = ids-count (c .before .before .before .before .before .before .before .before .before .before .before .pre .1)
 
 on-file-requires : tie.Need-on-file-requires
-on-file-requires c κs = (c .before .before .before .before .before .before .before .before .before .before .before .before .before .before .before .pre .0, names-most (c .before .before .before .before .before .before .before .before .before .before .before .before .before .before .before .pre .1), ids-most (c .before .before .before .before .before .before .before .before .before .before .before .before .before .before .before .pre .1), c .before .before .before .before .before .before .before .before .before .before .before .before .before .before .before .pre .2)
+on-file-requires c κs = (c .before .before .before .before .before .before .before .before .before .before .before .before .before .before .pre .0, names-most (c .before .before .before .before .before .before .before .before .before .before .before .before .before .before .pre .1), ids-most (c .before .before .before .before .before .before .before .before .before .before .before .before .before .before .pre .1), c .before .before .before .before .before .before .before .before .before .before .before .before .before .before .pre .2)
 
 same-length : tie.Need-same-length
 same-length c = search needs
@@ -33,11 +33,8 @@ same-length-2 c = search needs
 same-length-3 : tie.Need-same-length-3
 same-length-3 c = search needs
 
-same-length-4 : tie.Need-same-length-4
-same-length-4 c = search needs
-
 returns : tie.Need-returns
-returns c = c .before .before .before .before .before .before .on-file .ensures
+returns c = c .before .before .before .before .before .on-file .ensures
 
 pub in-file-spec : {M : Type 1} → statement M
 in-file-spec =
@@ -53,5 +50,4 @@ in-file-spec =
     same-length
     same-length-2
     same-length-3
-    same-length-4
     returns)

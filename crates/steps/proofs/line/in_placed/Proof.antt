@@ -1,4 +1,5 @@
-use Rattle.standing.proofs.StepParts.{tally-9, names-fit, tally-10, ids-fit, names-count, ids-count, tally-1, names-most, ids-most, last-wide, last-ready, last-fits, lends}
+use native.Mathlib.Omega.{arith}
+use Rattle.standing.proofs.StepParts.{tally-1, tally-9, tally-10, names-fit, ids-fit, names-count, ids-count, names-most, ids-most, lends}
 use borrow.Author.Needs.{needs}
 use Rattle.steps.proofs.line.in_placed.Statement.{statement}
 use Rattle.steps.proofs.line.in_placed.Tie as tie
@@ -18,29 +19,23 @@ cast-nl c = ids-fit (c .before .before .before .before .before .before .before .
 slice-read-range : tie.Need-slice-read-range
 slice-read-range c = tally-1 (c .before .before .before .before .before .before .before .before .before .before .pre .1)
 
-sub-from : tie.Need-sub-from
-sub-from c = c .before .before .before .before .before .before .before .before .before .before .pre .2
-
 slice-aggregate-on-placed : tie.Need-slice-aggregate-on-placed
 slice-aggregate-on-placed c = names-count (c .before .before .before .before .before .before .before .before .before .before .before .pre .1)
 
 slice-aggregate-on-placed-2 : tie.Need-slice-aggregate-on-placed-2
 slice-aggregate-on-placed-2 c = ids-count (c .before .before .before .before .before .before .before .before .before .before .before .before .pre .1)
 
-mul-on-placed : tie.Need-mul-on-placed
-mul-on-placed c = last-fits _ _ (c .before .before .before .before .before .before .before .before .before .before .before .before .before .before .before .before .pre .3) (c .before .before .before .before .before .before .before .before .before .before .before .before .before .before .before .before .good .1 .1 .1 .1 .1 .1 .1 .1 .1 .1 .0 .1)
-
 sub-on-placed : tie.Need-sub-on-placed
-sub-on-placed c = search needs
+sub-on-placed c = omega arith
 
 part-on-placed-start : tie.Need-part-on-placed-start
-part-on-placed-start c = search needs
+part-on-placed-start c = omega arith
 
 part-on-placed-end : tie.Need-part-on-placed-end
-part-on-placed-end c = c .before .before .before .before .before .before .before .before .before .before .before .before .before .before .before .before .pre .3
+part-on-placed-end c = omega (arith, c .before .before .before .before .before .before .before .before .before .before .before .before .before .before .before .before .pre .4)
 
 on-placed-requires : tie.Need-on-placed-requires
-on-placed-requires c κs = (c .before .before .before .before .before .before .before .before .before .before .before .before .before .before .before .before .before .pre .0, names-most (c .before .before .before .before .before .before .before .before .before .before .before .before .before .before .before .before .before .pre .1), ids-most (c .before .before .before .before .before .before .before .before .before .before .before .before .before .before .before .before .before .pre .1), last-ready _ _ _ (c .before .before .before .before .before .before .before .before .before .before .before .before .before .before .before .before .before .pre .2) (c .before .before .before .before .before .before .before .before .before .before .before .before .before .before .before .before .before .pre .4), c .before .before .before .before .before .before .before .before .before .before .before .before .before .before .before .before .before .pre .5)
+on-placed-requires c κs = (c .before .before .before .before .before .before .before .before .before .before .before .before .before .before .before .before .before .pre .0, names-most (c .before .before .before .before .before .before .before .before .before .before .before .before .before .before .before .before .before .pre .1), ids-most (c .before .before .before .before .before .before .before .before .before .before .before .before .before .before .before .before .before .pre .1), c .before .before .before .before .before .before .before .before .before .before .before .before .before .before .before .before .before .pre .2, c .before .before .before .before .before .before .before .before .before .before .before .before .before .before .before .before .before .pre .3)
 
 same-length : tie.Need-same-length
 same-length c = search needs
@@ -58,7 +53,7 @@ same-length-5 : tie.Need-same-length-5
 same-length-5 c = search needs
 
 returns : tie.Need-returns
-returns c = lends _ _ _ _ _ (last-wide _ (c .before .before .before .before .before .before .before .before .before .before .before .before .before .before .before .before .before .before .before .before .before .before .before .before .before .before .before .pre .2)) (c .before .before .before .before .before .before .before .before .before .on-placed .ensures)
+returns c = lends 32 _ _ _ (c .before .before .before .before .before .before .before .before .before .on-placed .ensures)
 
 pub in-placed-spec : {M : Type 1} → statement M
 in-placed-spec =
@@ -69,10 +64,8 @@ in-placed-spec =
     slice-read-nl
     cast-nl
     slice-read-range
-    sub-from
     slice-aggregate-on-placed
     slice-aggregate-on-placed-2
-    mul-on-placed
     sub-on-placed
     part-on-placed-start
     part-on-placed-end

@@ -1,4 +1,6 @@
-use Rattle.standing.proofs.StepParts.{tally-9, names-fit, tally-10, ids-fit, names-count, ids-count, tally-2, names-most, ids-most, own-end-fits, own-fits, own-long, symbol-end, kept-asks, symbol-keeps}
+use mathlib.Core.Path.{_∙_}
+use native.Mathlib.Omega.{arith}
+use Rattle.standing.proofs.StepParts.{tally-2, tally-9, tally-10, names-fit, ids-fit, names-count, ids-count, names-most, ids-most, lent-long, kept-asks, symbol-keeps}
 use borrow.Author.Needs.{needs}
 use Rattle.steps.proofs.line.in_symbol.Statement.{statement}
 use Rattle.steps.proofs.line.in_symbol.Tie as tie
@@ -18,9 +20,6 @@ cast-nl c = ids-fit (c .before .before .before .before .before .before .before .
 slice-read-define : tie.Need-slice-read-define
 slice-read-define c = tally-2 (c .before .before .before .before .before .before .before .before .pre .1)
 
-add-to : tie.Need-add-to
-add-to c = own-end-fits _ _ (c .before .before .before .before .before .before .before .before .pre .3 .own) (c .before .before .before .before .before .before .before .before .good .1 .1 .1 .1 .1 .1 .1 .0 .1)
-
 slice-reshare-prefix-on-symbol : tie.Need-slice-reshare-prefix-on-symbol
 slice-reshare-prefix-on-symbol c = c .before .before .before .before .before .before .before .before .pre .1 .names
 
@@ -30,35 +29,29 @@ slice-aggregate-on-symbol c = names-count (c .before .before .before .before .be
 slice-aggregate-on-symbol-2 : tie.Need-slice-aggregate-on-symbol-2
 slice-aggregate-on-symbol-2 c = ids-count (c .before .before .before .before .before .before .before .before .before .before .pre .1)
 
-mul-on-symbol : tie.Need-mul-on-symbol
-mul-on-symbol c = own-fits _ _ (c .before .before .before .before .before .before .before .before .before .before .before .pre .3 .own) (c .before .before .before .before .before .before .before .before .before .before .before .good .1 .1 .1 .1 .1 .1 .1 .0 .1)
-
 sub-on-symbol : tie.Need-sub-on-symbol
-sub-on-symbol c = search needs
+sub-on-symbol c = omega arith
 
 part-on-symbol-start : tie.Need-part-on-symbol-start
-part-on-symbol-start c = search needs
+part-on-symbol-start c = omega arith
 
 part-on-symbol-end : tie.Need-part-on-symbol-end
-part-on-symbol-end c = c .before .before .before .before .before .before .before .before .before .before .before .pre .3 .own
+part-on-symbol-end c = omega (arith, c .before .before .before .before .before .before .before .before .before .before .before .pre .4)
 
 on-symbol-requires : tie.Need-on-symbol-requires
-on-symbol-requires c κs = (c .before .before .before .before .before .before .before .before .before .before .before .before .pre .0, names-most (c .before .before .before .before .before .before .before .before .before .before .before .before .pre .1), ids-most (c .before .before .before .before .before .before .before .before .before .before .before .before .pre .1), c .before .before .before .before .before .before .before .before .before .before .before .before .pre .3 .marks, own-long _ _ (c .before .before .before .before .before .before .before .before .before .before .before .before .pre .3 .own), c .before .before .before .before .before .before .before .before .before .before .before .before .pre .3 .content)
-
-mul-name-kept : tie.Need-mul-name-kept
-mul-name-kept c = own-fits _ _ (c .before .before .before .before .before .before .before .before .before .before .before .before .before .before .before .before .before .before .pre .3 .own) (c .before .before .before .before .before .before .before .before .before .before .before .before .before .before .before .before .before .before .good .1 .1 .1 .1 .1 .1 .1 .0 .1)
+on-symbol-requires c κs = (c .before .before .before .before .before .before .before .before .before .before .before .before .pre .0, names-most (c .before .before .before .before .before .before .before .before .before .before .before .before .pre .1), ids-most (c .before .before .before .before .before .before .before .before .before .before .before .before .pre .1), c .before .before .before .before .before .before .before .before .before .before .before .before .pre .3 .marks, lent-long 0 32 (c .before .before .before .before .before .before .before .before .before .before .before .before .args .t .now) (omega arith) (c .before .before .before .before .before .before .before .before .before .before .before .before .pre .4), c .before .before .before .before .before .before .before .before .before .before .before .before .pre .3 .content)
 
 sub-name-kept : tie.Need-sub-name-kept
-sub-name-kept c = search needs
+sub-name-kept c = omega arith
 
 part-name-kept-start : tie.Need-part-name-kept-start
-part-name-kept-start c = search needs
+part-name-kept-start c = omega arith
 
 part-name-kept-end : tie.Need-part-name-kept-end
-part-name-kept-end c = symbol-end _ _ _ _ _ _ (c .before .before .before .before .before .before .before .before .before .before .before .before .before .before .before .before .before .before .before .pre .1) (c .before .before .before .before .before .before .before .before .before .before .before .before .before .before .before .before .before .before .before .pre .2) _ _ (c .before .before .before .before .before .before .before .before .before .before .before .before .before .before .before .before .before .before .before .pre .3) (c .before .before .before .before .before .before .on-symbol .last .1 .1 .1 .1 .1 .1 .0) (c .before .before .before .before .before .before .on-symbol .last .1 .1 .1 .1 .1 .1 .1 .0) (c .before .before .before .before .before .before .on-symbol .result) (c .before .before .before .before .before .before .on-symbol .ensures) (c .before .before .before .before .before .before .on-symbol .kept .1 .1 .1 .1 .1 .1 .1 .0)
+part-name-kept-end c = search needs
 
 name-kept-requires : tie.Need-name-kept-requires
-name-kept-requires c κs = kept-asks _ _ _ _ _ _ (c .before .before .before .before .before .before .before .before .before .before .before .before .before .before .before .before .before .before .before .before .pre .1) (c .before .before .before .before .before .before .before .before .before .before .before .before .before .before .before .before .before .before .before .before .pre .2) _ _ (c .before .before .before .before .before .before .before .before .before .before .before .before .before .before .before .before .before .before .before .before .pre .3) (c .before .before .before .before .before .before .before .on-symbol .last .1 .1 .1 .1 .1 .1 .0) (c .before .before .before .before .before .before .before .on-symbol .last .1 .1 .1 .1 .1 .1 .1 .0) (c .before .before .before .before .before .before .before .on-symbol .result) (c .before .before .before .before .before .before .before .on-symbol .ensures) (c .before .before .before .before .before .before .before .on-symbol .kept .1 .1 .1 .1 .1 .1 .1 .0)
+name-kept-requires c κs = kept-asks _ _ _ _ _ _ (c .before .before .before .before .before .before .before .before .before .before .before .before .before .before .before .before .before .before .before .before .pre .1) (c .before .before .before .before .before .before .before .before .before .before .before .before .before .before .before .before .before .before .before .before .pre .2) _ _ (c .before .before .before .before .before .before .before .before .before .before .before .before .before .before .before .before .before .before .before .before .pre .3) (c .before .before .before .before .before .before .before .on-symbol .last .1 .1 .1 .1 .1 .1 .0) (c .before .before .before .before .before .before .before .on-symbol .last .1 .1 .1 .1 .1 .1 .1 .0) (c .before .before .before .before .before .before .before .on-symbol .result) (c .before .before .before .before .before .before .before .on-symbol .ensures) (c .before .before .before .before .before .before .before .on-symbol .kept .1 .1 .1 .1 .1 .1 .1 .0 ∙ lent-long 0 32 (c .before .before .before .before .before .before .before .before .before .before .before .before .before .before .before .before .before .before .before .before .args .t .now) (omega arith) (c .before .before .before .before .before .before .before .before .before .before .before .before .before .before .before .before .before .before .before .before .pre .4))
 
 same-length : tie.Need-same-length
 same-length c = search needs
@@ -73,7 +66,7 @@ same-length-4 : tie.Need-same-length-4
 same-length-4 c = search needs
 
 returns : tie.Need-returns
-returns c = symbol-keeps _ _ _ _ _ _ (c .before .before .before .before .before .before .before .before .before .before .before .before .before .before .before .before .before .before .before .before .before .before .before .before .before .pre .1) (c .before .before .before .before .before .before .before .before .before .before .before .before .before .before .before .before .before .before .before .before .before .before .before .before .before .pre .2) _ _ (c .before .before .before .before .before .before .before .before .before .before .before .before .before .before .before .before .before .before .before .before .before .before .before .before .before .pre .3) (c .before .before .before .before .before .before .before .before .before .before .before .before .on-symbol .last .1 .1 .1 .1 .1 .1 .0) (c .before .before .before .before .before .before .before .before .before .before .before .before .on-symbol .last .1 .1 .1 .1 .1 .1 .1 .0) (c .before .before .before .before .before .before .before .before .before .before .before .before .on-symbol .result) (c .before .before .before .before .before .before .before .before .before .before .before .before .on-symbol .ensures) (c .before .before .before .before .before .before .before .before .before .before .before .before .on-symbol .kept .1 .1 .1 .1 .1 .1 .1 .0) (c .before .before .before .before .name-kept .last .1 .0) (c .before .before .before .before .name-kept .last .1 .1 .0) (c .before .before .before .before .name-kept .result) (c .before .before .before .before .name-kept .ensures)
+returns c = symbol-keeps _ _ _ _ _ _ (c .before .before .before .before .before .before .before .before .before .before .before .before .before .before .before .before .before .before .before .before .before .before .before .before .before .pre .1) (c .before .before .before .before .before .before .before .before .before .before .before .before .before .before .before .before .before .before .before .before .before .before .before .before .before .pre .2) _ _ (c .before .before .before .before .before .before .before .before .before .before .before .before .before .before .before .before .before .before .before .before .before .before .before .before .before .pre .3) (c .before .before .before .before .before .before .before .before .before .before .before .before .on-symbol .last .1 .1 .1 .1 .1 .1 .0) (c .before .before .before .before .before .before .before .before .before .before .before .before .on-symbol .last .1 .1 .1 .1 .1 .1 .1 .0) (c .before .before .before .before .before .before .before .before .before .before .before .before .on-symbol .result) (c .before .before .before .before .before .before .before .before .before .before .before .before .on-symbol .ensures) (c .before .before .before .before .before .before .before .before .before .before .before .before .on-symbol .kept .1 .1 .1 .1 .1 .1 .1 .0 ∙ lent-long 0 32 (c .before .before .before .before .before .before .before .before .before .before .before .before .before .before .before .before .before .before .before .before .before .before .before .before .before .args .t .now) (omega arith) (c .before .before .before .before .before .before .before .before .before .before .before .before .before .before .before .before .before .before .before .before .before .before .before .before .before .pre .4)) (c .before .before .before .before .name-kept .last .1 .0) (c .before .before .before .before .name-kept .last .1 .1 .0) (c .before .before .before .before .name-kept .result) (c .before .before .before .before .name-kept .ensures)
 
 pub in-symbol-spec : {M : Type 1} → statement M
 in-symbol-spec =
@@ -84,16 +77,13 @@ in-symbol-spec =
     slice-read-nl
     cast-nl
     slice-read-define
-    add-to
     slice-reshare-prefix-on-symbol
     slice-aggregate-on-symbol
     slice-aggregate-on-symbol-2
-    mul-on-symbol
     sub-on-symbol
     part-on-symbol-start
     part-on-symbol-end
     on-symbol-requires
-    mul-name-kept
     sub-name-kept
     part-name-kept-start
     part-name-kept-end

@@ -1,4 +1,5 @@
-use Rattle.standing.proofs.StepParts.{tally-9, names-fit, tally-10, ids-fit, names-count, ids-count, names-most, ids-most, last-wide, last-long, last-fits, lends}
+use native.Mathlib.Omega.{arith}
+use Rattle.standing.proofs.StepParts.{tally-9, tally-10, names-fit, ids-fit, names-count, ids-count, names-most, ids-most, lent-long, lends}
 use borrow.Author.Needs.{needs}
 use Rattle.steps.proofs.line.in_text.Statement.{statement}
 use Rattle.steps.proofs.line.in_text.Tie as tie
@@ -15,29 +16,23 @@ shared-slice-read-nl c = tally-10 (c .before .before .before .before .before .be
 cast-nl : tie.Need-cast-nl
 cast-nl c = ids-fit (c .before .before .before .before .before .before .before .pre .1)
 
-sub-from : tie.Need-sub-from
-sub-from c = c .before .before .before .before .before .before .before .pre .4
-
 slice-aggregate-on-text : tie.Need-slice-aggregate-on-text
 slice-aggregate-on-text c = names-count (c .before .before .before .before .before .before .before .before .pre .1)
 
 slice-aggregate-on-text-2 : tie.Need-slice-aggregate-on-text-2
 slice-aggregate-on-text-2 c = ids-count (c .before .before .before .before .before .before .before .before .before .pre .1)
 
-mul-on-text : tie.Need-mul-on-text
-mul-on-text c = last-fits _ _ (c .before .before .before .before .before .before .before .before .before .before .pre .5) (c .before .before .before .before .before .before .before .before .before .before .good .1 .1 .1 .1 .1 .1 .1 .0 .1)
-
 sub-on-text : tie.Need-sub-on-text
-sub-on-text c = search needs
+sub-on-text c = omega arith
 
 part-on-text-start : tie.Need-part-on-text-start
-part-on-text-start c = search needs
+part-on-text-start c = omega arith
 
 part-on-text-end : tie.Need-part-on-text-end
-part-on-text-end c = c .before .before .before .before .before .before .before .before .before .before .pre .5
+part-on-text-end c = omega (arith, c .before .before .before .before .before .before .before .before .before .before .pre .4)
 
 on-text-requires : tie.Need-on-text-requires
-on-text-requires c κs = (c .before .before .before .before .before .before .before .before .before .before .before .pre .0, names-most (c .before .before .before .before .before .before .before .before .before .before .before .pre .1), ids-most (c .before .before .before .before .before .before .before .before .before .before .before .pre .1), c .before .before .before .before .before .before .before .before .before .before .before .pre .2, c .before .before .before .before .before .before .before .before .before .before .before .pre .3, last-long _ _ (c .before .before .before .before .before .before .before .before .before .before .before .pre .4) (c .before .before .before .before .before .before .before .before .before .before .before .pre .5))
+on-text-requires c κs = (c .before .before .before .before .before .before .before .before .before .before .before .pre .0, names-most (c .before .before .before .before .before .before .before .before .before .before .before .pre .1), ids-most (c .before .before .before .before .before .before .before .before .before .before .before .pre .1), c .before .before .before .before .before .before .before .before .before .before .before .pre .2, c .before .before .before .before .before .before .before .before .before .before .before .pre .3, lent-long 32 32 (c .before .before .before .before .before .before .before .before .before .before .before .args .t .now) (omega arith) (c .before .before .before .before .before .before .before .before .before .before .before .pre .4))
 
 same-length : tie.Need-same-length
 same-length c = search needs
@@ -46,7 +41,7 @@ same-length-2 : tie.Need-same-length-2
 same-length-2 c = search needs
 
 returns : tie.Need-returns
-returns c = lends _ _ _ _ _ (last-wide _ (c .before .before .before .before .before .before .before .before .before .before .before .before .before .before .before .pre .4)) (c .before .before .before .on-text .ensures)
+returns c = lends 32 _ _ _ (c .before .before .before .on-text .ensures)
 
 pub in-text-spec : {M : Type 1} → statement M
 in-text-spec =
@@ -56,10 +51,8 @@ in-text-spec =
     cast-ns
     shared-slice-read-nl
     cast-nl
-    sub-from
     slice-aggregate-on-text
     slice-aggregate-on-text-2
-    mul-on-text
     sub-on-text
     part-on-text-start
     part-on-text-end
