@@ -1,6 +1,6 @@
 -- At which lines a state's records were taken, and what else it keeps: the invariant of the count.
 use Prim.Native.Nat.{ℕ, zero, suc, _+_, _<_}
-use mathlib.Core.Bool.{Bool, true, false, cond, true≢false}
+use mathlib.Core.Bool.{Bool, true, false, true≢false}
 use mathlib.Core.List.{List, [], _∷_, _++_, append-nil}
 use mathlib.Core.Option.{Option, none, some}
 use mathlib.Core.Path.{_≡_, refl, sym, _∙_}
@@ -13,7 +13,7 @@ use Rattle.rules.specs.Values.{Value}
 use Rattle.rules.specs.Rows.{Slots, blank, rowsThere, innerOf}
 use Rattle.rules.specs.Blocks.{symbolTable}
 use Rattle.rules.specs.Sets.{Point, Figure, Drawing, Symbol, Contents, Set, isFirst}
-use Rattle.rules.specs.Machine.{Env, Home, inElement, inLayer, State, top, file, drawing, layerNames, defines, symbol, hide, elements, figures, successive, texts, placing, skipping, ended, roomFor}
+use Rattle.rules.specs.Machine.{Env, Home, inElement, inLayer, State, top, file, drawing, layerNames, defines, symbol, hide, elements, figures, successive, texts, placing, skipping, ended, setOf, roomFor}
 use Rattle.rules.specs.RecordTable.{ruleAt}
 use Rattle.rules.specs.Machine.{fileKinds}
 use Rattle.rules.proofs.Chains.{clash}
@@ -103,23 +103,6 @@ shown (texts s h fs n o) = inFigures s h fs ++ place (number s) n ∷ []
 shown (placing s k fs n o p) = inFigures s (inLayer k) fs ++ place (number s) n ∷ []
 shown (skipping s k fs n o d) = inFigures s (inLayer k) fs ++ place (number s) n ∷ []
 shown (ended s) = closed s
-
--- the set that a state holds
-abbrev pub setOf : State → Set
-setOf (top s k) = s
-setOf (file s n h p) = s
-setOf (drawing s d) = s
-setOf (layerNames s d) = s
-setOf (defines s b) = s
-setOf (symbol s y) = s
-setOf (hide s y ps) = s
-setOf (elements s) = s
-setOf (figures s h fs) = s
-setOf (successive s h fs n ps) = s
-setOf (texts s h fs n o) = s
-setOf (placing s h fs n o p) = s
-setOf (skipping s h fs n o d) = s
-setOf (ended s) = s
 
 -- ── what else is kept ──
 -- a symbol's slots: where `element` or `hide` has not been, there are no figures or no points; and points before `element` are a `hide` before it

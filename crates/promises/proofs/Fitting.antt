@@ -10,7 +10,7 @@ use Rattle.rules.specs.declared.Digits.{Digits}
 use Rattle.rules.specs.Base.{all}
 use Rattle.rules.specs.RefusalNumbers.{Got, got, bad, mapG, also}
 use Rattle.rules.specs.Sets.{Set, nothingYet}
-use Rattle.rules.specs.Machine.{Line, Env, State, top, file, drawing, layerNames, defines, symbol, hide, elements, figures, successive, texts, placing, skipping, ended}
+use Rattle.rules.specs.Machine.{Line, Env, State, top, file, drawing, layerNames, defines, symbol, hide, elements, figures, successive, texts, placing, skipping, ended, setOf}
 use Rattle.rules.specs.LineByLine.{completes, nextVolume, step, Outcome, refused, accepted, thenRun, finish, run}
 use Rattle.rules.specs.RecordTable.{recordsOf}
 use Rattle.rules.proofs.Chains.{On, and-true, all-append, clash, never, map-got, also-got}
@@ -18,7 +18,7 @@ use Rattle.rules.proofs.Runs.{not-accepted, finish-ended}
 use Rattle.promises.specs.Acceptance.{Place, place, earlier, placeOf}
 use Rattle.promises.proofs.RecordLines.{records-at}
 use Rattle.promises.proofs.Count.{add-step, added, inv-step, inv-start}
-use Rattle.promises.proofs.CountState.{Inv, Adds, Tied, volumeOf, shown, setOf}
+use Rattle.promises.proofs.CountState.{Inv, Adds, Tied, volumeOf, shown}
 use Rattle.promises.proofs.Listing.{Running}
 use Rattle.promises.proofs.LowerRun.{Sorted, proper, ended-run, late}
 use Rattle.promises.proofs.Limits.{Alike, refuses, goes, over, alike-step, free, bound}

@@ -17,13 +17,12 @@ use Rattle.rules.specs.Values.{Value}
 use Rattle.rules.specs.Rows.{Found, absent, found, Held, Act, stay, entry, begin, shut, refuse}
 use Rattle.rules.specs.Sets.{Figure, Symbol, Drawing, Set, nothingYet}
 use Rattle.rules.specs.RecordTable.{recordsOf}
-use Rattle.rules.specs.Machine.{Line, Env, Home, inElement, inLayer, State, top, file, drawing, layerNames, defines, symbol, hide, elements, figures, successive, texts, placing, skipping, ended, byAct, openTop, onTop, shutPart, onLayerNames, openSymbol, closeFigures, openPlaced, openFigure}
+use Rattle.rules.specs.Machine.{Line, Env, Home, inElement, inLayer, State, top, file, drawing, layerNames, defines, symbol, hide, elements, figures, successive, texts, placing, skipping, ended, setOf, byAct, openTop, onTop, shutPart, onLayerNames, openSymbol, closeFigures, openPlaced, openFigure}
 use Rattle.rules.specs.PlacedSymbol.{bySkip, onUnknown, onPlacedKey, onPlacedOwn, onPlacing, skipShut, onSkipping}
 use Rattle.rules.specs.LineByLine.{stepIn, completes, nextVolume, step, accepted, thenRun, run}
 use Rattle.rules.specs.Machine.{symbolBlock, Owned}
 use Rattle.rules.proofs.Runs.{not-accepted, finish-ended}
 use Rattle.promises.proofs.Count.{count-taken}
-use Rattle.promises.proofs.CountState.{setOf}
 
 -- ── what a line gives without a limit and with the limit m, where n records were taken before ──
 -- the same, or without a limit a state with more than m records, and with it 19

@@ -62,6 +62,23 @@ pub data State : Type 0 where
   skipping : Set → ℕ → List Figure → ℕ → Owned → ℕ → State  -- in it, how many skipped blocks are open
   ended : Set → State
 
+-- the set that a state speaks of
+abbrev pub setOf : State → Set
+setOf (top s k) = s
+setOf (file s n h p) = s
+setOf (drawing s d) = s
+setOf (layerNames s d) = s
+setOf (defines s b) = s
+setOf (symbol s y) = s
+setOf (hide s y ps) = s
+setOf (elements s) = s
+setOf (figures s h fs) = s
+setOf (successive s h fs n ps) = s
+setOf (texts s h fs n o) = s
+setOf (placing s k fs n o p) = s
+setOf (skipping s k fs n o d) = s
+setOf (ended s) = s
+
 -- the number of the block that comes next, where none does: ELEMENT is closed
 abbrev pub pastElement : ℕ
 pastElement = 4

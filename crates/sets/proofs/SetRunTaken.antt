@@ -20,11 +20,10 @@ use Rattle.rules.specs.VolumesAndTotals.{chained, dated, countedHere, countedAl
 use Rattle.rules.specs.Machine.{Line, Env, Home, inElement, inLayer, State, top, file, drawing, layerNames, defines, symbol, hide, elements, figures, successive, texts, placing, skipping, ended, roomFor, openTop, onTop, onFile, onDrawing, layerValue, onLayerNames, newName, openSymbol, onSymbol, onDefines, onHide, onElements, isLayer, homeTable, closeFigures, openPlaced, openFigure, onFigures, onSuccessive, onTexts}
 use Rattle.rules.specs.PlacedSymbol.{onUnknown, newSerial, onPlaced, onPlacedKey, onPlacing, skipShut, onSkipping}
 use Rattle.rules.specs.LineByLine.{stepIn, completes, nextVolume, step, accepted, thenRun, run}
-use Rattle.rules.specs.Machine.{symbolBlock, fileKinds, Owned}
+use Rattle.rules.specs.Machine.{symbolBlock, fileKinds, Owned, setOf}
 use Rattle.rules.proofs.OnActs.{on-byAct, on-shut, on-skip}
 use Rattle.rules.proofs.Chains.{On, on-unless, on-cond, on-map, on-then, on-also, on-weaken}
 use Rattle.rules.proofs.Runs.{not-accepted, finish-ended}
-use Rattle.promises.proofs.CountState.{setOf}
 
 abbrev pub takenIn : State → ℕ
 takenIn st = setOf st .taken

@@ -13,11 +13,10 @@ use Rattle.rules.specs.RefusalNumbers.{Got}
 use Rattle.rules.specs.Sets.{nothingYet}
 use Rattle.rules.specs.Spool as P
 use Rattle.rules.specs.Spool.{volumesOf}
-use Rattle.rules.specs.Machine.{Line, State, top}
+use Rattle.rules.specs.Machine.{Line, State, setOf, top}
 use Rattle.rules.specs.LineByLine.{thenRun, run}
 use Rattle.rules.specs.Answers.{fullClass, outcomeOfVolumes, outcomeOf, rewriteOutcome}
 use Rattle.rules.proofs.Chains.{On}
-use Rattle.promises.proofs.CountState.{setOf}
 use Rattle.promises.proofs.Limits.{Alike, refuses, goes, over, free, alike-step}
 use Rattle.lines.specs.VolumePlaces.{layoutOf}
 use Rattle.lines.specs.LineEnds.{firstUnsound}

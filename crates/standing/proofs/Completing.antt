@@ -12,7 +12,7 @@ use Rattle.rules.specs.declared.Digits.{Digits}
 use Rattle.rules.specs.RefusalNumbers.{got}
 use Rattle.rules.specs.Rows.{Held}
 use Rattle.rules.specs.Sets.{Set, isFirst}
-use Rattle.rules.specs.Machine.{Line, State}
+use Rattle.rules.specs.Machine.{Line, State, setOf}
 use Rattle.rules.specs.LineByLine.{stepIn}
 use Rattle.account.specs.declared.Now.{Now}
 use Rattle.account.specs.declared.Complete.{Complete}
@@ -23,7 +23,7 @@ use Rattle.account.specs.FileLines.{fileWidth}
 use Rattle.account.specs.Putting.{lineCompleted, closeCompleted, completed, closeNumber, numberFor, clearedBy}
 use Rattle.standing.specs.SoFar.{emptyRecord}
 use Rattle.standing.specs.Kept.{shutSoFar, Opens, Fills, FillsAll}
-use Rattle.standing.specs.Standing.{Desk, setOf, deskNow, deskScratch, unlimited, Made, StandsAt, Goes}
+use Rattle.standing.specs.Standing.{Desk, deskNow, deskScratch, unlimited, Made, StandsAt, Goes}
 
 -- ── by the numbers of the two blocks ──
 -- where these are known, what is said of them is computed

@@ -19,7 +19,7 @@ use Rattle.rules.specs.Values.{Known, Value}
 use Rattle.rules.specs.Rows.{Rule, Held, blank, rowsThere, Act, stay, entry, begin, shut, refuse, act}
 use Rattle.rules.specs.Blocks.{definesTable, symbolTable}
 use Rattle.rules.specs.Sets.{Symbol, Contents, Set, knownOf, defineRange, withRecords}
-use Rattle.rules.specs.Machine.{Line, State, top, defines, symbol, byAct, newName, newSymbol}
+use Rattle.rules.specs.Machine.{Line, State, top, defines, symbol, setOf, byAct, newName, newSymbol}
 use Rattle.rules.specs.LineByLine.{stepIn}
 use Rattle.rules.specs.RecordTable.{ruleAt, start, kindSymbol}
 use Rattle.rules.proofs.Chains.{clash}
@@ -36,7 +36,7 @@ use Rattle.account.specs.Putting.{completed}
 use Rattle.account.specs.Account.{atBlock, headAt}
 use Rattle.standing.specs.SoFar.{volumeOf}
 use Rattle.standing.specs.Kept.{Scratch, Begins, Enters}
-use Rattle.standing.specs.Standing.{Desk, setOf, openFigures, nameBytes, serialBytes, Inside, First, InSymbol, CharsHere, isText, Stands, unlimited, LineHere, Counted, StepOut, symbolBytes, formSize}
+use Rattle.standing.specs.Standing.{Desk, openFigures, nameBytes, serialBytes, Inside, First, InSymbol, CharsHere, isText, Stands, unlimited, LineHere, Counted, StepOut, symbolBytes, formSize}
 use Rattle.account.specs.SymbolLines.{nonIn, nonRead, symbolOpened, openSymbol, closeDefines, definesStep, SymbolBegun, Untouched, OpenedOr, DefinesRecord, DefinesLine}
 use Rattle.standing.proofs.Openers.{plainKind}
 use Rattle.standing.proofs.LineOrigins.{From, begin-from}

@@ -7,11 +7,10 @@ use lib.IntN.{ℤ}
 use lib.ListN.{length, take, drop, replicate, length-append, length-replicate}
 use Rattle.rules.specs.declared.Digits.{Digits}
 use Rattle.rules.specs.Base.{flat}
-use Rattle.rules.specs.Machine.{State}
+use Rattle.rules.specs.Machine.{State, setOf}
 use Rattle.account.specs.Records.{partAt, withPart, withNumbers}
 use Rattle.standing.specs.Laid.{Laid}
 use Rattle.standing.specs.SoFar.{emptyRecord}
-use Rattle.standing.specs.Standing.{setOf}
 use Rattle.standing.specs.Kept.{shutSoFar, Fills, FillsAll, Opens}
 use Rattle.standing.specs.Reading.{Kept}
 use Rattle.rules.proofs.Chains.{flat-append}

@@ -13,7 +13,7 @@ use Rattle.rules.specs.declared.Digits.{Digits}
 use Rattle.rules.specs.Base.{flat}
 use Rattle.rules.specs.Rows.{Held}
 use Rattle.rules.specs.Sets.{Set, isFirst}
-use Rattle.rules.specs.Machine.{State, top, file, drawing, layerNames, defines, symbol, hide, elements, figures, successive, texts, placing, skipping, ended, symbolBlock}
+use Rattle.rules.specs.Machine.{State, top, file, drawing, layerNames, defines, symbol, hide, elements, figures, successive, texts, placing, skipping, ended, setOf, symbolBlock}
 use Rattle.rules.proofs.Chains.{clash, flat-append}
 use Rattle.account.specs.declared.Now.{Now}
 use Rattle.account.specs.declared.Complete.{Complete}
@@ -22,8 +22,8 @@ use Rattle.account.specs.Records.{partAt, withPart, withNumbers}
 use Rattle.account.specs.FileLines.{fileWidth}
 use Rattle.account.specs.Putting.{lineCompleted, closeCompleted, completed, putRecord, putHeader, putBy, ownAfter}
 use Rattle.standing.specs.SoFar.{emptyRecord}
-use Rattle.standing.specs.Kept.{shutSoFar, FillsAll, ownBehind}
-use Rattle.standing.specs.Standing.{Desk, setOf, Inside, Made}
+use Rattle.standing.specs.Kept.{FillsAll, ownBehind}
+use Rattle.standing.specs.Standing.{Desk, Inside, Made}
 use Rattle.standing.specs.Reading.{Kept}
 use Rattle.standing.proofs.KeptLaws.{size-empty, fills-all, sized, kept-opens, kept-fills, kept-fills-all}
 

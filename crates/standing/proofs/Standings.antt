@@ -13,12 +13,12 @@ use Rattle.rules.specs.Base.{flat, total, hasNumber, isNil}
 use Rattle.rules.specs.Values.{Known}
 use Rattle.rules.specs.Rows.{Held}
 use Rattle.rules.specs.Sets.{Layer, Set, symbolNameOf, elementsOf, usedIn, knownOf, Contents, isFirst}
-use Rattle.rules.specs.Machine.{State}
+use Rattle.rules.specs.Machine.{State, setOf}
 use Rattle.entries.specs.Names.{namesIn, knownIn}
 use Rattle.account.specs.declared.Now.{Now}
 use Rattle.standing.specs.SoFar.{volumeOf}
 use Rattle.standing.specs.Kept.{Scratch}
-use Rattle.standing.specs.Standing.{Desk, Lengths, setOf, layersOf, serialsOf, usedOf, openFigures, inside, counts, elementsHere, thisOf, tallyOf, nameBytes, serialBytes, Inside, Stands}
+use Rattle.standing.specs.Standing.{Desk, Lengths, layersOf, serialsOf, usedOf, openFigures, inside, counts, elementsHere, thisOf, tallyOf, nameBytes, serialBytes, Inside, Stands}
 use Rattle.standing.proofs.ScratchKept.{scratch-long}
 
 -- ── counts ──

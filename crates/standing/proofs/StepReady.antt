@@ -10,13 +10,13 @@ use Rattle.rules.specs.declared.Digits.{Digits}
 use Rattle.rules.specs.declared.LineForm.{LineForm}
 use Rattle.rules.specs.Lines.{brace, equals, Form, ignored, wrong, close, eof, keyed, formIn}
 use Rattle.rules.specs.Rows.{shut}
-use Rattle.rules.specs.Machine.{State}
+use Rattle.rules.specs.Machine.{State, setOf}
 use Rattle.account.specs.declared.Where.{Where}
 use Rattle.account.specs.Records.{partAt}
 use Rattle.account.specs.PlacedLines.{LentReady}
 use Rattle.account.specs.SymbolLines.{ContentPlaced, isNamed}
 use Rattle.standing.specs.LineDone.{symbolAct, SymbolReady, LineFits}
-use Rattle.standing.specs.Standing.{Desk, setOf, layersOf}
+use Rattle.standing.specs.Standing.{Desk, layersOf}
 use Rattle.standing.specs.FileStanding.{InFile}
 use Rattle.standing.specs.Reading.{Standing, PlacedForm, LineReady}
 use Rattle.account.specs.FileLines.{FileReady}

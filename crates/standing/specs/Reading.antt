@@ -12,7 +12,7 @@ use Rattle.rules.specs.declared.LineForm.{LineForm}
 use Rattle.rules.specs.Base.{flat, isNil}
 use Rattle.rules.specs.Lines.{Rest, brace, equals, Form, ignored, wrong, close, eof, keyed}
 use Rattle.rules.specs.Sets.{Set}
-use Rattle.rules.specs.Machine.{Line, Env, State, top, ended}
+use Rattle.rules.specs.Machine.{Line, Env, State, top, ended, setOf}
 use Rattle.rules.specs.LineByLine.{refused, run}
 use Rattle.rules.specs.Answers.{linesOfVolume}
 use Rattle.account.specs.declared.Where.{Where}
@@ -27,7 +27,7 @@ use Rattle.rules.specs.RecordTable.{width}
 use Rattle.account.specs.declared.Now.{Now}
 use Rattle.standing.specs.Laid.{Laid}
 use Rattle.standing.specs.Kept.{shutSoFar}
-use Rattle.standing.specs.Standing.{Desk, desk, setOf, Stands, Counted, LineHere, StepOut}
+use Rattle.standing.specs.Standing.{Desk, desk, Stands, Counted, LineHere, StepOut}
 use Rattle.account.specs.SymbolLines.{nameOf, nameNumber}
 use Rattle.standing.specs.FileStanding.{InFile}
 use Rattle.account.specs.Numbering.{blockDefines, blockElements, tallyElementsHere, tallySymbols, mostRows, headerLength, scratchLength}

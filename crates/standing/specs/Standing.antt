@@ -19,7 +19,7 @@ use Rattle.rules.specs.Sets.{Point, Figure, placed, Layer, Drawing, Symbol, Set
 use Rattle.rules.specs.Sets.{figureSerial, serialsOfVolume, serialsIn, elementsOf, usedIn}
 use Rattle.rules.specs.VolumesAndTotals.{ownTable}
 use Rattle.rules.specs.Machine.{Line, inLastVolume, Env, Home, inElement, inLayer, State, top, file, drawing, layerNames, defines, symbol, hide, elements}
-use Rattle.rules.specs.Machine.{figures, successive, texts, placing, skipping, ended, newName, symbolBlock}
+use Rattle.rules.specs.Machine.{figures, successive, texts, placing, skipping, ended, setOf, newName, symbolBlock}
 use Rattle.rules.specs.LineByLine.{stepIn}
 use Rattle.entries.specs.Names.{namesIn}
 use Rattle.rules.specs.declared.LineForm.{LineForm}
@@ -82,22 +82,6 @@ pub record Lengths (d : Desk) : Type 0 where
   pub scratch : length (d .scratch) ≡ scratchLength
 
 -- ── what a state says ──
-abbrev pub setOf : State → Set
-setOf (top s k) = s
-setOf (file s n h p) = s
-setOf (drawing s d) = s
-setOf (layerNames s d) = s
-setOf (defines s b) = s
-setOf (symbol s y) = s
-setOf (hide s y ps) = s
-setOf (elements s) = s
-setOf (figures s h fs) = s
-setOf (successive s h fs n ps) = s
-setOf (texts s h fs n o) = s
-setOf (placing s k fs n o p) = s
-setOf (skipping s k fs n o d) = s
-setOf (ended s) = s
-
 -- the layers declared so far
 abbrev pub layersOf : State → List Layer
 layersOf (drawing s d) = d .layers

@@ -17,7 +17,7 @@ use Rattle.rules.specs.Rows.{Held, rowsAtLimit, shut, refuse, complete}
 use Rattle.rules.specs.Blocks.{elementTable}
 use Rattle.rules.specs.Sets.{Set, withVolume, usedIn}
 use Rattle.rules.specs.VolumesAndTotals.{layersUsed, countedHere, countedAll}
-use Rattle.rules.specs.Machine.{Line, Env, State, top, file, drawing, layerNames, defines, symbol, hide, elements, figures, successive, texts, placing, skipping, ended, inLayer, byAct, onTop, onElements}
+use Rattle.rules.specs.Machine.{Line, Env, State, top, file, drawing, layerNames, defines, symbol, hide, elements, figures, successive, texts, placing, skipping, ended, setOf, inLayer, byAct, onTop, onElements}
 use Rattle.rules.specs.LineByLine.{stepIn, isIgnored, isClose, isEof, completes, nextVolume, step}
 use Rattle.rules.proofs.Chains.{clash, never, unless-got, and-left, and-right, or-left}
 use Rattle.account.specs.declared.Now.{Now}
@@ -31,7 +31,7 @@ use Rattle.account.specs.SkippedLines.{Skips, inOwned}
 use Rattle.standing.specs.SoFar.{volumeOf}
 use Rattle.steps.specs.VolumeLines.{nextNow, lastStep}
 use Rattle.standing.specs.Reading.{nextNumber, nextState, Kept, limitedTo}
-use Rattle.standing.specs.Standing.{Desk, setOf, Inside, Stands, deskNow, deskScratch, Made, Goes, Passes}
+use Rattle.standing.specs.Standing.{Desk, Inside, Stands, deskNow, deskScratch, Made, Goes, Passes}
 use Rattle.standing.proofs.Completing.{completed-by, completed-none}
 use Rattle.standing.proofs.EntriesKept.{volume-anew}
 use Rattle.standing.proofs.KeptLaws.{kept-opens}

@@ -1,6 +1,6 @@
 -- A volume read line by line: how far the reading has come, and what one more line makes of it.
-use Prim.Native.Nat.{ℕ, _+_, _*_, _≤_, _<_}
-use mathlib.Core.Bool.{Bool, true, false, cond, _&&_, _||_}
+use Prim.Native.Nat.{ℕ, _+_, _≤_}
+use mathlib.Core.Bool.{Bool, true, false, cond, _&&_}
 use mathlib.Core.List.{List, [], _∷_, append-nil}
 use mathlib.Core.Path.{_≡_, refl, sym, _∙_, ap, subst}
 use native.Mathlib.Omega.{arith}
@@ -15,17 +15,15 @@ use Rattle.rules.specs.RefusalNumbers.{Got, got, bad, unless}
 use Rattle.rules.specs.Lines.{Form, formIn}
 use Rattle.rules.specs.Rows.{Held}
 use Rattle.rules.specs.Sets.{Set, isFirst}
-use Rattle.rules.specs.Machine.{Line, Env, State, top, file, drawing, layerNames, defines, symbol, hide, elements, figures, successive, texts, placing, skipping, ended}
+use Rattle.rules.specs.Machine.{Line, Env, State, top, ended, setOf}
 use Rattle.rules.specs.LineByLine.{stepIn, step, refused, thenRun, run}
 use Rattle.rules.proofs.Chains.{clash}
-use Rattle.promises.proofs.Limits.{free, capped, limited}
-use Rattle.promises.proofs.CountState as promised
+use Rattle.promises.proofs.Limits.{capped, limited}
 use Rattle.lines.specs.declared.Seen.{Seen as SeenLine}
 use Rattle.account.specs.declared.Now.{Now}
 use Rattle.account.specs.declared.Where.{Where}
 use Rattle.account.specs.declared.Step.{Step}
 use Rattle.account.specs.declared.Step.the-variants as S
-use Rattle.account.specs.declared.Complete.{Complete}
 use Rattle.account.specs.declared.Complete.the-variants as C
 use Rattle.account.specs.declared.Volume.{Volume}
 use Rattle.account.specs.declared.Pos.{Pos}
@@ -35,7 +33,7 @@ use Rattle.account.specs.Walk.{seenFrom, At, todo, Next}
 use Rattle.account.specs.SkippedLines.{Skips, inOwned, SkipMet}
 use Rattle.steps.specs.VolumeLines.{completesOf, lastStep}
 use Rattle.standing.specs.Kept.{Scratch, OwnAt}
-use Rattle.standing.specs.Standing.{Desk, setOf, inside, formSize, Inside, Stands, deskNow, deskScratch, unlimited, LineHere, Counted, Goes, Passes, StepOut}
+use Rattle.standing.specs.Standing.{Desk, inside, formSize, Inside, Stands, deskNow, deskScratch, unlimited, LineHere, Counted, Goes, StepOut}
 use Rattle.standing.specs.FileStanding.{InFile}
 use Rattle.standing.specs.Reading.{Standing, PlacedForm, LinePromise, nextState, Kept, volumeDesk, limitedTo}
 use Rattle.standing.proofs.FormPlaces.{line-placed}
@@ -116,23 +114,6 @@ stands-between c spool k d F G at b s z = record {
     same true h = h
     same false h = h
 
--- the set in a state has one name in the theorems and one here
-same-set : (st : State) → promised.setOf st ≡ setOf st
-same-set (top s k) = refl
-same-set (file s n h p) = refl
-same-set (drawing s d) = refl
-same-set (layerNames s d) = refl
-same-set (defines s b) = refl
-same-set (symbol s y) = refl
-same-set (hide s y ps) = refl
-same-set (elements s) = refl
-same-set (figures s h fs) = refl
-same-set (successive s h fs n ps) = refl
-same-set (texts s h fs n o) = refl
-same-set (placing s k fs n o p) = refl
-same-set (skipping s k fs n o d) = refl
-same-set (ended s) = refl
-
 -- behind a skipped block no own record is open
 own-skipped : (c : Digits) (own : ℕ) {inside behind : State} → Skips inside behind → OwnAt c own behind
 own-skipped c own (inOwned s m fs i b) = tt
@@ -205,11 +186,10 @@ module _ (c : Digits) (spool body : List ℕ) (v : Volume) (following : List ℕ
 
       -- with a limit the line is as without one, and 19 where it took a record too many
       with-limit : (x : Got State) → stepIn (unlimited c) l (g .state) ≡ x → stepIn env l (g .state) ≡ capped c limit l x
-      with-limit x e =
-          limited c limit l (g .state) (omega (arith, ap (λ (s : Set). s .taken) (same-set (g .state)), g .kept .taken, g .kept .fits)) ∙ ap (capped c limit l) e
+      with-limit x e = limited c limit l (g .state) (omega (arith, g .kept .taken, g .kept .fits)) ∙ ap (capped c limit l) e
 
       room : (st : State) (n : ℕ) → setOf st .taken ≡ n → capped c limit l (got st) ≡ unless (leb n limit) 19 (got st)
-      room st n e = ap (λ (i : ℕ). unless (leb i limit) 19 (got st)) (ap (λ (s : Set). s .taken) (same-set st) ∙ e)
+      room st n e = ap (λ (i : ℕ). unless (leb i limit) 19 (got st)) e
 
       judge : (r : Step) → StepOut c spool k (InFile spool k) number l (f .next) (g .state) was r → Judged c spool k (InFile spool k) limit number l (f .next) (g .state) was (withinLimit limit r)
       judge (S.Go n) x = by (ltb limit (n .records)) refl
