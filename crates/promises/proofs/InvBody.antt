@@ -11,9 +11,9 @@ use lib.ListN.{length, getD}
 use borrow.Author.Tests.{not-true, eqb-true, leb-true, lt-leb}
 use Rattle.rules.specs.declared.Digits.{Digits}
 use Rattle.rules.specs.Base.{all, isNil, hasNumber, flat, indexOf}
-use Rattle.rules.specs.RefusalNumbers.{Got, got, bad, orBad}
+use Rattle.rules.specs.RefusalNumbers.{got, bad, orBad}
 use Rattle.rules.specs.Lines.{Rest, Form, ignored, wrong, close, eof, keyed}
-use Rattle.rules.specs.RangeClass.{digits, reaches, exceeds, both, Skip, passes, deeper, noForm, skipOf, mostDepth}
+use Rattle.rules.specs.RangeClass.{digits, reaches, exceeds, both, skipOf, mostDepth}
 use Rattle.rules.specs.Values.{Num, num, Value, nums, Known, numsOf, amountAt, isLayerId, natural, readPart, layerId, headed, readKind, serialsOf}
 use Rattle.rules.specs.Rows.{Rule, Found, absent, found, find, Slots, Held, partOf, slotValue, held, rowsThere, rowsAtLimit, shapeFor, Act, stay, entry, begin, shut, refuse, actRow, actUnknown, act, complete, innerOf}
 use Rattle.rules.specs.Blocks.{elementTable}
@@ -21,12 +21,13 @@ use Rattle.rules.specs.Figures.{layerTable, figureTable, leastPoints, pointTabl
 use Rattle.rules.specs.Sets.{Point, Figure, plain, chain, lettering, placed, LayerBlock, Contents, Set, withRecords, withVolume, withBlock, rangeOf, isSingle, knownOf, figureSerial, serialsOfBlock, serialsOfVolume, serialsIn, usedIn}
 use Rattle.rules.specs.VolumesAndTotals.{countedHere}
 use Rattle.rules.specs.Machine.{Line, Home, inElement, inLayer, State, elements, figures, successive, texts, placing, skipping, byAct, onElements, isLayer, homeTable, closeFigures, openFigure, onFigures, onSuccessive, onTexts}
-use Rattle.rules.specs.PlacedSymbol.{bySkip, onUnknown, noneOf, newSerial, onPlaced, onPlacedKey, onPlacedOwn, onPlacing, skipShut, onSkipping}
+use Rattle.rules.specs.PlacedSymbol.{onUnknown, noneOf, newSerial, onPlaced, onPlacedKey, onPlacedOwn, onPlacing, skipShut, onSkipping}
 use Rattle.rules.specs.Answers.{fullClass}
 use Rattle.rules.specs.RecordTable.{ruleAt, kindLine, kindSuccessive, kindText, kindPoint}
 use Rattle.rules.specs.Machine.{symbolBlock, Owned, kindIn}
 use Rattle.rules.specs.Sets.{layerTableOf}
 use Rattle.rules.proofs.Chains.{unless-got, map-got, or-got, map-append, On, on-unless, on-cond, or-left}
+use Rattle.rules.proofs.OnActs.{on-skip}
 use Rattle.rules.proofs.Rows.{found-row, row-all, row-at, row-did}
 use Rattle.rules.proofs.Runs.{head-file, head-snoc}
 use Rattle.promises.proofs.Forms.{keysOk, table-keys, Tells}
@@ -232,11 +233,6 @@ module _ (done fin : List (List ℕ)) (l : Line) (n : ℕ) (fit : n ≤ 512) whe
       (λ i′ j v w. (i .0, placed-begin (serialsIn s ++ figureSerials fs) o (i .1) w, i .2, i .3))
       (λ e. let (g, new) = placed-good (serialsIn s ++ figureSerials fs) o m (i .1) e in add-figure done (l .next) s (inLayer k) fs (placed m o) (i .0) (g, i .2, i .3) new)
 
-  on-skip : (z : Skip) (a b : Got State) → On J a → On J b → On J (bySkip z a b)
-  on-skip passes a b p q = p
-  on-skip deeper a b p q = q
-  on-skip noForm a b p q = tt
-
   refused-act : (st : State) (a : Act) → J st → On J (byAct st (λ j v. bad 6) (λ i j v. bad 6) (λ _. bad 6) a)
   refused-act st stay i = i
   refused-act st (entry j v) i = tt
@@ -247,7 +243,7 @@ module _ (done fin : List (List ℕ)) (l : Line) (n : ℕ) (fit : n ≤ 512) whe
   -- what is skipped leaves what is held as it is
   on-unknown : (s : Set) (k : ℕ) (fs : List Figure) (m : ℕ) (o : Held) (key : List ℕ) (c : Rest) → J (placing s k fs m (symbolBlock o) 0) → On J (onUnknown fullEnv s k fs m o key c)
   on-unknown s k fs m o key c i =
-      on-cond J (exceeds (rangeOf s) fullClass) _ _ (λ e. on-skip (skipOf key c) _ _ i i) (λ e. refused-act (placing s k fs m (symbolBlock o) 0) (actUnknown c) i)
+      on-cond J (exceeds (rangeOf s) fullClass) _ _ (λ e. on-skip J (skipOf key c) _ _ i i) (λ e. refused-act (placing s k fs m (symbolBlock o) 0) (actUnknown c) i)
 
   placed-key : (s : Set) (k : ℕ) (fs : List Figure) (m : ℕ) (o : Held) (key : List ℕ) (c : Rest) (f : Found) → find key placedTable ≡ f → Tells n (keyed key c) → J (placing s k fs m (symbolBlock o) 0)
       → On J (onPlacedKey fullEnv s k fs m o key c f)
@@ -286,4 +282,4 @@ module _ (done fin : List (List ℕ)) (l : Line) (n : ℕ) (fit : n ≤ 512) whe
   on-skipping s k fs m b d (wrong p) i = tt
   on-skipping s k fs m b d close i = skip-shut s k fs m b d i
   on-skipping s k fs m b d eof i = tt
-  on-skipping s k fs m b d (keyed key c) i = on-skip (skipOf key c) _ _ i (on-unless J (ltb d mostDepth) 18 _ λ e. i)
+  on-skipping s k fs m b d (keyed key c) i = on-skip J (skipOf key c) _ _ i (on-unless J (ltb d mostDepth) 18 _ λ e. i)
