@@ -3,7 +3,6 @@ use Prim.Native.Nat.{ℕ, _+_, _≤_, _<_}
 use mathlib.Core.Bool.{Bool, true}
 use mathlib.Core.Path.{_≡_}
 use mathlib.Core.List.{List}
-use mathlib.Core.Option.{none}
 use lib.ListN.{length}
 use Rattle.rules.specs.declared.LineForm.{LineForm}
 use Rattle.rules.specs.RefusalNumbers.{got}
@@ -34,9 +33,9 @@ abbrev pub LineOut : Known → List ℕ → Bool → State → List ℕ → List
 LineOut K spool first st ns out (D.Go p) = Pens K spool first p ns out st
 LineOut K spool first st ns out D.Full = length out < length (lineBytes (shown K first st))
 
--- at class 15 and with no limit of records, as the rewriter reads
+-- at class 15, as the rewriter reads
 abbrev pub DrawPromise : List ℕ → Bool → LineForm → Pen → List ℕ → List ℕ → List ℕ → List ℕ → Drawn → Type 0
 DrawPromise spool first form p ns₀ ns₁ before after d =
-    (K : Known) (e : Env) (l : Line) (st st′ : State) → e .class ≡ fullClass → e .limit ≡ none → l .form ≡ formIn spool form → PlacedCode form
+    (K : Known) (e : Env) (l : Line) (st st′ : State) → e .class ≡ fullClass → l .form ≡ formIn spool form → PlacedCode form
     → FormFits (l .form)
     → Pens K spool first p ns₀ before st → stepIn e l st ≡ got st′ → LineOut K spool first st′ ns₁ after d

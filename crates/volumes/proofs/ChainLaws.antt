@@ -2,7 +2,6 @@
 use Prim.Native.Nat.{ℕ}
 use mathlib.Core.Bool.{Bool, true, false, _&&_}
 use mathlib.Core.List.{List, [], _∷_, _++_, append-assoc}
-use mathlib.Core.Option.{none}
 use mathlib.Core.Path.{_≡_, refl, sym, _∙_, ap, subst}
 use native.Mathlib.Omega.{arith}
 use lib.Dec.{leb}
@@ -56,7 +55,7 @@ point-line b {j} w k v =
     let i : j ≡ 0 = omega (arith, row-below w) in
     ap (λ (n : ℕ). lineOf k (ruleAt (pointTable b) n) (nums (numsOf v))) (sym i) ∙ nums-line w refl k v
 
-module _ (K : Known) (spool : List ℕ) (first : Bool) (p : Pen) (ns out : List ℕ) (e : Env) (l : Line) (c : e .class ≡ fullClass) (no-limit : e .limit ≡ none)
+module _ (K : Known) (spool : List ℕ) (first : Bool) (p : Pen) (ns out : List ℕ) (e : Env) (l : Line) (c : e .class ≡ fullClass)
     (st′ : State) (ns′ out′ : List ℕ) (d : Drawn) (size : length out′ ≡ length out) (many : length ns′ ≡ 28)
     (s : Set) (h : Home) (fs : List Figure) (n : ℕ) (ps : List Point) (z : Pens K spool first p ns out (successive s h fs n ps)) (q : stepIn e l (successive s h fs n ps) ≡ got st′) where
   pub successive-key : (key : Span) (rest : CodeRest) → l .form ≡ keyed (bytesAt spool key) (restIn spool rest) → PlacedRest rest → FormFits (l .form)

@@ -2,7 +2,6 @@
 use Prim.Native.Nat.{ℕ, zero, suc, _+_}
 use mathlib.Core.Bool.{Bool, true, false, cond, _||_, not}
 use mathlib.Core.List.{List, [], _∷_, _++_, append-assoc, append-nil}
-use mathlib.Core.Option.{none}
 use mathlib.Core.Path.{_≡_, refl, sym, _∙_, ap, subst}
 use native.Mathlib.Omega.{arith}
 use borrow.Author.Tests.{not-true}
@@ -90,7 +89,7 @@ module _ (t : ℕ) (p : Pen) (rest : Rest) (K : Known) (r : Rule) (v : Value) (n
   symbol-done : KeyDone t p rest K 1 r v ns ns′ out out′ d → Draws (ended (lineOf K r v)) (p .at) (begun p (length (ended (lineOf K r v))) 5) out out′ d × (ns′ ≡ forgotten ns)
   symbol-done w = (rw e at (w .draws), rw e at (w .notes))
 
-module _ (K : Known) (spool : List ℕ) (first : Bool) (p : Pen) (ns out : List ℕ) (s : Set) (b : Bool) (z : Pens K spool first p ns out (defines s b)) (e : Env) (l : Line) (c : e .class ≡ fullClass) (no-limit : e .limit ≡ none) (st′ : State) (q : stepIn e l (defines s b) ≡ got st′) (ns′ out′ : List ℕ) (d : Drawn) (size : length out′ ≡ length out) (many : length ns′ ≡ 28) where
+module _ (K : Known) (spool : List ℕ) (first : Bool) (p : Pen) (ns out : List ℕ) (s : Set) (b : Bool) (z : Pens K spool first p ns out (defines s b)) (e : Env) (l : Line) (c : e .class ≡ fullClass) (st′ : State) (q : stepIn e l (defines s b) ≡ got st′) (ns′ out′ : List ℕ) (d : Drawn) (size : length out′ ≡ length out) (many : length ns′ ≡ 28) where
   abbrev front : Front first s
   front = z .here .1
 

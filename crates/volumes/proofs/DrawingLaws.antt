@@ -129,7 +129,7 @@ module _ (K : Known) (dr : Drawing) where
       ∙ slots-more K noInner (none-more K) notedTable (take 7 (dr .own)) last
       ∙ ap (λ (u : Text). rowsText ++ u) (names-slot (getD (dr .own) 7 none) end)
 
-module _ (K : Known) (spool : List ℕ) (first : Bool) (p : Pen) (ns out : List ℕ) (s : Set) (dr : Drawing) (z : Pens K spool first p ns out (drawing s dr)) (e : Env) (l : Line) (c : e .class ≡ fullClass) (no-limit : e .limit ≡ none) (st′ : State) (q : stepIn e l (drawing s dr) ≡ got st′) (ns′ out′ : List ℕ) (d : Drawn) (size : length out′ ≡ length out) (many : length ns′ ≡ 28) where
+module _ (K : Known) (spool : List ℕ) (first : Bool) (p : Pen) (ns out : List ℕ) (s : Set) (dr : Drawing) (z : Pens K spool first p ns out (drawing s dr)) (e : Env) (l : Line) (c : e .class ≡ fullClass) (st′ : State) (q : stepIn e l (drawing s dr) ≡ got st′) (ns′ out′ : List ℕ) (d : Drawn) (size : length out′ ≡ length out) (many : length ns′ ≡ 28) where
   abbrev within : InDrawing K spool first p ns s dr
   within = z .here .1
 
@@ -248,7 +248,7 @@ module _ (K : Known) (spool : List ℕ) (first : Bool) (p : Pen) (ns out : List 
       (refl, (record { volume = front .volume; alone = front .alone; empty = front .empty; served = front .served }, within .bare)))
 
 -- ── in `layer_name` ──
-module _ (K : Known) (spool : List ℕ) (first : Bool) (p : Pen) (ns out : List ℕ) (s : Set) (dr : Drawing) (z : Pens K spool first p ns out (layerNames s dr)) (e : Env) (l : Line) (c : e .class ≡ fullClass) (no-limit : e .limit ≡ none) (st′ : State) (q : stepIn e l (layerNames s dr) ≡ got st′) (ns′ out′ : List ℕ) (d : Drawn) (size : length out′ ≡ length out) (many : length ns′ ≡ 28) where
+module _ (K : Known) (spool : List ℕ) (first : Bool) (p : Pen) (ns out : List ℕ) (s : Set) (dr : Drawing) (z : Pens K spool first p ns out (layerNames s dr)) (e : Env) (l : Line) (c : e .class ≡ fullClass) (st′ : State) (q : stepIn e l (layerNames s dr) ≡ got st′) (ns′ out′ : List ℕ) (d : Drawn) (size : length out′ ≡ length out) (many : length ns′ ≡ 28) where
   abbrev around : InDrawing K spool first p ns s dr
   around = z .here .1
 

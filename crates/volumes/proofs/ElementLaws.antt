@@ -2,7 +2,6 @@
 use Prim.Native.Nat.{ℕ}
 use mathlib.Core.Bool.{Bool, true, false, not}
 use mathlib.Core.List.{List, [], _∷_, _++_, append-assoc, append-nil}
-use mathlib.Core.Option.{none}
 use mathlib.Core.Path.{_≡_, refl, sym, _∙_, ap, subst}
 use native.Mathlib.Omega.{arith}
 use lib.Dec.{eqb}
@@ -78,7 +77,7 @@ element-table : (first : Bool) (p : Pen) (b : Bool) → p .block ≡ 7 → table
 unfolding tableOf
 element-table first p b h = rw h
 
-module _ (K : Known) (spool : List ℕ) (first : Bool) (p : Pen) (ns out : List ℕ) (e : Env) (l : Line) (c : e .class ≡ fullClass) (no-limit : e .limit ≡ none)
+module _ (K : Known) (spool : List ℕ) (first : Bool) (p : Pen) (ns out : List ℕ) (e : Env) (l : Line) (c : e .class ≡ fullClass)
     (st′ : State) (ns′ out′ : List ℕ) (d : Drawn) (size : length out′ ≡ length out) (many : length ns′ ≡ 28)
     (s : Set) (z : Pens K spool first p ns out (elements s)) (q : stepIn e l (elements s) ≡ got st′) where
   pub elements-key : (key : Span) (rest : CodeRest) → l .form ≡ keyed (bytesAt spool key) (restIn spool rest) → PlacedRest rest → FormFits (l .form)

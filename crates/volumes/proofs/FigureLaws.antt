@@ -195,7 +195,7 @@ module _ (K : Known) (spool : List ℕ) (first : Bool) where
   text-keeps : (ns : List ℕ) (i : ℕ) → i < 4 → getD (textForgotten ns) i 0 ≡ getD ns i 0
   text-keeps ns i l = getD-set-other (set ns 4 0) 5 i 0 0 (omega arith) ∙ getD-set-other ns 4 i 0 0 (omega arith)
 
-  module _ (p : Pen) (ns out : List ℕ) (e : Env) (l : Line) (c : e .class ≡ fullClass) (no-limit : e .limit ≡ none)
+  module _ (p : Pen) (ns out : List ℕ) (e : Env) (l : Line) (c : e .class ≡ fullClass)
       (st′ : State) (ns′ out′ : List ℕ) (d : Drawn) (size : length out′ ≡ length out) (many : length ns′ ≡ 28) where
     -- a figure that is a block
     opened : (s : Set) (h : Home) (fs : List Figure) (z : Pens K spool first p ns out (figures s h fs)) (i : ℕ) (w : List ℕ) → i ≤ 3 → openFigure e l s h fs i ≡ got st′

@@ -188,7 +188,7 @@ module _ (K : Known) (spool : List ℕ) where
   closed-shown true s n h = ap (λ (u : Text). openLine (bytes "FILE_FORMAT") ∷ u) (held-more K (fileTables true) h (bytes "}" ∷ []))
   closed-shown false s n h = ap (λ (u : Text). openLine (bytes "FILE_FORMAT") ∷ u) (held-more K (fileTables false) h (bytes "}" ∷ []))
 
-module _ (K : Known) (spool : List ℕ) (first : Bool) (p : Pen) (ns out : List ℕ) (s : Set) (n : ℕ) (h : Held) (i : ℕ) (z : Pens K spool first p ns out (file s n h i)) (e : Env) (l : Line) (c : e .class ≡ fullClass) (no-limit : e .limit ≡ none) (st′ : State) (q : stepIn e l (file s n h i) ≡ got st′) (ns′ out′ : List ℕ) (d : Drawn) (size : length out′ ≡ length out) (many : length ns′ ≡ 28) where
+module _ (K : Known) (spool : List ℕ) (first : Bool) (p : Pen) (ns out : List ℕ) (s : Set) (n : ℕ) (h : Held) (i : ℕ) (z : Pens K spool first p ns out (file s n h i)) (e : Env) (l : Line) (c : e .class ≡ fullClass) (st′ : State) (q : stepIn e l (file s n h i) ≡ got st′) (ns′ out′ : List ℕ) (d : Drawn) (size : length out′ ≡ length out) (many : length ns′ ≡ 28) where
   abbrev table : List Rule
   table = getD (fileTables first) i []
 

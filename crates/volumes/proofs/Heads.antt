@@ -173,4 +173,4 @@ module _ (K : Known) (first : Bool) (name : List ℕ) (short : length name ≤ 8
 pub volume-promise : (spool body : List ℕ) (start : ℕ) (first : Bool) (before after : List ℕ) (r : Wrote) (within after′ : List ℕ) (q : Wrote) → BodyPromise spool body start first within after′ q
     → ((K : Known) (st : State) → BodyOut K first st within after′ q → VolumeOut K first (nameAt spool start) st before after r)
     → VolumePromise spool body start first before after r
-volume-promise spool body start first before after r within after′ q p f K e v next ls s st c no-limit a b g = f K st (p K e v next ls s st c no-limit a b g)
+volume-promise spool body start first before after r within after′ q p f K e v next ls s st c a b g = f K st (p K e v next ls s st c a b g)

@@ -79,7 +79,7 @@ hide-done : (t : ℕ) (p : Pen) (rest : Rest) (K : Known) (r : Rule) (v : Value)
     → Draws (ended (lineOf K r v)) (p .at) (moved p (length (ended (lineOf K r v))) 6 0) out out′ d × (ns′ ≡ ns)
 hide-done t p rest K r v ns ns′ out out′ d e w = (rw e at (w .draws), rw e at (w .notes))
 
-module _ (K : Known) (spool : List ℕ) (first : Bool) (p : Pen) (ns out : List ℕ) (s : Set) (y : Symbol) (ps : List Point) (z : Pens K spool first p ns out (hide s y ps)) (e : Env) (l : Line) (c : e .class ≡ fullClass) (no-limit : e .limit ≡ none) (st′ : State) (q : stepIn e l (hide s y ps) ≡ got st′) (ns′ out′ : List ℕ) (d : Drawn) (size : length out′ ≡ length out) (many : length ns′ ≡ 28) where
+module _ (K : Known) (spool : List ℕ) (first : Bool) (p : Pen) (ns out : List ℕ) (s : Set) (y : Symbol) (ps : List Point) (z : Pens K spool first p ns out (hide s y ps)) (e : Env) (l : Line) (c : e .class ≡ fullClass) (st′ : State) (q : stepIn e l (hide s y ps) ≡ got st′) (ns′ out′ : List ℕ) (d : Drawn) (size : length out′ ≡ length out) (many : length ns′ ≡ 28) where
   abbrev within : InHide K spool first p ns s y
   within = z .here .1
 

@@ -2,7 +2,6 @@
 use Prim.Native.Nat.{ℕ, zero, suc}
 use mathlib.Core.Bool.{Bool}
 use mathlib.Core.List.{List}
-use mathlib.Core.Option.{none}
 use mathlib.Core.Path.{_≡_, sym, _∙_, ap, subst}
 use native.Mathlib.Omega.{arith}
 use lib.ListN.{length}
@@ -41,7 +40,7 @@ use Rattle.volumes.proofs.ChainLaws.{successive-key, successive-close}
 use Rattle.volumes.proofs.TextLaws.{texts-key, texts-close}
 use Rattle.volumes.proofs.PlacedLaws.{placing-key, placing-close}
 
-module _ (K : Known) (spool : List ℕ) (first : Bool) (p : Pen) (ns out : List ℕ) (e : Env) (l : Line) (c : e .class ≡ fullClass) (no-limit : e .limit ≡ none) (st′ : State) (ns′ out′ : List ℕ) (d : Drawn) (size : length out′ ≡ length out) (many : length ns′ ≡ 28) where
+module _ (K : Known) (spool : List ℕ) (first : Bool) (p : Pen) (ns out : List ℕ) (e : Env) (l : Line) (c : e .class ≡ fullClass) (st′ : State) (ns′ out′ : List ℕ) (d : Drawn) (size : length out′ ≡ length out) (many : length ns′ ≡ 28) where
   elsewhere : (b : ℕ) → p .block ≡ b → (b ≡ 3 → ⊥) → p .block ≡ 3 → ⊥
   elsewhere b e f h = f (sym e ∙ h)
 
@@ -51,43 +50,43 @@ module _ (K : Known) (spool : List ℕ) (first : Bool) (p : Pen) (ns out : List 
     row b e h = w .row (elsewhere b e h)
 
     pub on-key : (st : State) → Pens K spool first p ns out st → stepIn e l st ≡ got st′ → LineOut K spool first st′ ns′ out′ d
-    on-key (top s k) z q = top-key K spool first p ns out s k z e l c no-limit st′ q ns′ out′ d size many key rest f placed fits (row 0 (z .here .0) (λ h. omega (arith, h)))
-    on-key (file s n h i) z q = file-key K spool first p ns out s n h i z e l c no-limit st′ q ns′ out′ d size many key rest f placed fits (row 1 (z .here .0) (λ h. omega (arith, h)))
-    on-key (drawing s g) z q = drawing-key K spool first p ns out s g z e l c no-limit st′ q ns′ out′ d size many key rest f placed fits (row 2 (z .here .0) (λ h. omega (arith, h)))
-    on-key (layerNames s g) z q = let (a, b) = w .name (z .here .0) in names-key K spool first p ns out s g z e l c no-limit st′ q ns′ out′ d size many key rest f placed fits a b
-    on-key (defines s b) z q = defines-key K spool first p ns out s b z e l c no-limit st′ q ns′ out′ d size many key rest f placed fits (row 4 (z .here .0) (λ h. omega (arith, h)))
-    on-key (symbol s y) z q = symbol-key K spool first p ns out s y z e l c no-limit st′ q ns′ out′ d size many key rest f placed fits (row 5 (z .here .0) (λ h. omega (arith, h)))
-    on-key (hide s y ps) z q = hide-key K spool first p ns out s y ps z e l c no-limit st′ q ns′ out′ d size many key rest f placed fits (row 6 (z .here .0) (λ h. omega (arith, h)))
-    on-key (elements s) z q = elements-key K spool first p ns out e l c no-limit st′ ns′ out′ d size many s z q key rest f placed fits (row 7 (z .here .0) (λ h. omega (arith, h)))
-    on-key (figures s h fs) z q = figures-key K spool first p ns out e l c no-limit st′ ns′ out′ d size many s h fs z q key rest f placed fits (row 8 (z .here .0) (λ h. omega (arith, h)))
-    on-key (successive s h fs n qs) z q = successive-key K spool first p ns out e l c no-limit st′ ns′ out′ d size many s h fs n qs z q key rest f placed fits (row 9 (z .here .0) (λ h. omega (arith, h)))
-    on-key (texts s h fs n o) z q = texts-key K spool first p ns out e l c no-limit st′ ns′ out′ d size many s h fs n o z q key rest f placed fits (row 10 (z .here .0) (λ h. omega (arith, h)))
-    on-key (placing s m fs n (symbolBlock o) i) z q = placing-key K spool first p ns out e l c no-limit st′ ns′ out′ d size many s m fs n o i z q key rest f placed fits (row 11 (z .here .0) (λ h. omega (arith, h)))
+    on-key (top s k) z q = top-key K spool first p ns out s k z e l c st′ q ns′ out′ d size many key rest f placed fits (row 0 (z .here .0) (λ h. omega (arith, h)))
+    on-key (file s n h i) z q = file-key K spool first p ns out s n h i z e l c st′ q ns′ out′ d size many key rest f placed fits (row 1 (z .here .0) (λ h. omega (arith, h)))
+    on-key (drawing s g) z q = drawing-key K spool first p ns out s g z e l c st′ q ns′ out′ d size many key rest f placed fits (row 2 (z .here .0) (λ h. omega (arith, h)))
+    on-key (layerNames s g) z q = let (a, b) = w .name (z .here .0) in names-key K spool first p ns out s g z e l c st′ q ns′ out′ d size many key rest f placed fits a b
+    on-key (defines s b) z q = defines-key K spool first p ns out s b z e l c st′ q ns′ out′ d size many key rest f placed fits (row 4 (z .here .0) (λ h. omega (arith, h)))
+    on-key (symbol s y) z q = symbol-key K spool first p ns out s y z e l c st′ q ns′ out′ d size many key rest f placed fits (row 5 (z .here .0) (λ h. omega (arith, h)))
+    on-key (hide s y ps) z q = hide-key K spool first p ns out s y ps z e l c st′ q ns′ out′ d size many key rest f placed fits (row 6 (z .here .0) (λ h. omega (arith, h)))
+    on-key (elements s) z q = elements-key K spool first p ns out e l c st′ ns′ out′ d size many s z q key rest f placed fits (row 7 (z .here .0) (λ h. omega (arith, h)))
+    on-key (figures s h fs) z q = figures-key K spool first p ns out e l c st′ ns′ out′ d size many s h fs z q key rest f placed fits (row 8 (z .here .0) (λ h. omega (arith, h)))
+    on-key (successive s h fs n qs) z q = successive-key K spool first p ns out e l c st′ ns′ out′ d size many s h fs n qs z q key rest f placed fits (row 9 (z .here .0) (λ h. omega (arith, h)))
+    on-key (texts s h fs n o) z q = texts-key K spool first p ns out e l c st′ ns′ out′ d size many s h fs n o z q key rest f placed fits (row 10 (z .here .0) (λ h. omega (arith, h)))
+    on-key (placing s m fs n (symbolBlock o) i) z q = placing-key K spool first p ns out e l c st′ ns′ out′ d size many s m fs n o i z q key rest f placed fits (row 11 (z .here .0) (λ h. omega (arith, h)))
     on-key (skipping s m fs n o i) z q = absurd (z .here)
     on-key (ended s) z q = never q
 
   -- ── a `}` ──
   module _ (f : l .form ≡ close) (w : CloseDone spool first p ns out out′ d) (same : ns′ ≡ ns) where
     pub on-close : (st : State) → Pens K spool first p ns out st → stepIn e l st ≡ got st′ → LineOut K spool first st′ ns′ out′ d
-    on-close (top s k) z q = top-close K spool first p ns out s k z e l c no-limit st′ q ns′ out′ d size many f
-    on-close (file s n h i) z q = file-close K spool first p ns out s n h i z e l c no-limit st′ q ns′ out′ d size many f w same
-    on-close (drawing s g) z q = drawing-close K spool first p ns out s g z e l c no-limit st′ q ns′ out′ d size many f w same
-    on-close (layerNames s g) z q = names-close K spool first p ns out s g z e l c no-limit st′ q ns′ out′ d size many f w same
-    on-close (defines s b) z q = defines-close K spool first p ns out s b z e l c no-limit st′ q ns′ out′ d size many f w same
-    on-close (symbol s y) z q = symbol-close K spool first p ns out s y z e l c no-limit st′ q ns′ out′ d size many f w same
-    on-close (hide s y ps) z q = hide-close K spool first p ns out s y ps z e l c no-limit st′ q ns′ out′ d size many f w same
-    on-close (elements s) z q = elements-close K spool first p ns out e l c no-limit st′ ns′ out′ d size many s z q f w same
-    on-close (figures s h fs) z q = figures-close K spool first p ns out e l c no-limit st′ ns′ out′ d size many s h fs z q f w same
-    on-close (successive s h fs n qs) z q = successive-close K spool first p ns out e l c no-limit st′ ns′ out′ d size many s h fs n qs z q f w same
-    on-close (texts s h fs n o) z q = texts-close K spool first p ns out e l c no-limit st′ ns′ out′ d size many s h fs n o z q f w same
-    on-close (placing s m fs n (symbolBlock o) i) z q = placing-close K spool first p ns out e l c no-limit st′ ns′ out′ d size many s m fs n o i z q f w same
+    on-close (top s k) z q = top-close K spool first p ns out s k z e l c st′ q ns′ out′ d size many f
+    on-close (file s n h i) z q = file-close K spool first p ns out s n h i z e l c st′ q ns′ out′ d size many f w same
+    on-close (drawing s g) z q = drawing-close K spool first p ns out s g z e l c st′ q ns′ out′ d size many f w same
+    on-close (layerNames s g) z q = names-close K spool first p ns out s g z e l c st′ q ns′ out′ d size many f w same
+    on-close (defines s b) z q = defines-close K spool first p ns out s b z e l c st′ q ns′ out′ d size many f w same
+    on-close (symbol s y) z q = symbol-close K spool first p ns out s y z e l c st′ q ns′ out′ d size many f w same
+    on-close (hide s y ps) z q = hide-close K spool first p ns out s y ps z e l c st′ q ns′ out′ d size many f w same
+    on-close (elements s) z q = elements-close K spool first p ns out e l c st′ ns′ out′ d size many s z q f w same
+    on-close (figures s h fs) z q = figures-close K spool first p ns out e l c st′ ns′ out′ d size many s h fs z q f w same
+    on-close (successive s h fs n qs) z q = successive-close K spool first p ns out e l c st′ ns′ out′ d size many s h fs n qs z q f w same
+    on-close (texts s h fs n o) z q = texts-close K spool first p ns out e l c st′ ns′ out′ d size many s h fs n o z q f w same
+    on-close (placing s m fs n (symbolBlock o) i) z q = placing-close K spool first p ns out e l c st′ ns′ out′ d size many s m fs n o i z q f w same
     on-close (skipping s m fs n o i) z q = absurd (z .here)
     on-close (ended s) z q = never q
 
   -- ── EOF: at the top level alone ──
   module _ (f : l .form ≡ eof) (w : EofLine p out out′ d) (same : ns′ ≡ ns) where
     pub on-eof : (st : State) → Pens K spool first p ns out st → stepIn e l st ≡ got st′ → LineOut K spool first st′ ns′ out′ d
-    on-eof (top s k) z q = top-eof K spool first p ns out s k z e l c no-limit st′ q ns′ out′ d size many f w same
+    on-eof (top s k) z q = top-eof K spool first p ns out s k z e l c st′ q ns′ out′ d size many f w same
     on-eof (file s n h i) z q = never (ap (onFile l s n h i) (sym f) ∙ q)
     on-eof (drawing s g) z q = never (ap (onDrawing s g) (sym f) ∙ q)
     on-eof (layerNames s g) z q = never (ap (onLayerNames e l s g) (sym f) ∙ q)
@@ -155,22 +154,22 @@ FormDone spool first (L.Refused r) p ns₀ ns₁ before after d = Unit {0}
 -- is what a line is to write
 pub line-law : (spool : List ℕ) (first : Bool) (form : LineForm) (p : Pen) (ns₀ ns₁ before after : List ℕ) (d : Drawn)
     → length after ≡ length before → length ns₁ ≡ 28 → FormDone spool first form p ns₀ ns₁ before after d → DrawPromise spool first form p ns₀ ns₁ before after d
-line-law spool first L.Ignored p ns₀ ns₁ before after d size many w K e l st st′ c no-limit f placed fits z q =
+line-law spool first L.Ignored p ns₀ ns₁ before after d size many w K e l st st′ c f placed fits z q =
     let (go, same, kept) = w in
-    let here : st ≡ st′ = on-ignored K spool first p ns₀ before e l c no-limit st′ ns₁ after d size many f st q in
+    let here : st ≡ st′ = on-ignored K spool first p ns₀ before e l c st′ ns₁ after d size many f st q in
     let z₁ : Pens K spool first p ns₁ before st = subst (λ (u : List ℕ). Pens K spool first p u before st) (sym same) z in
     let z₂ : Pens K spool first p ns₁ after st = subst (λ (u : List ℕ). Pens K spool first p ns₁ u st) (sym kept) z₁ in
     subst (LineOut K spool first st′ ns₁ after) (sym go) (subst (Pens K spool first p ns₁ after) here z₂)
-line-law spool first L.Close p ns₀ ns₁ before after d size many w K e l st st′ c no-limit f placed fits z q =
-    on-close K spool first p ns₀ before e l c no-limit st′ ns₁ after d size many f (w .0) (w .1) st z q
-line-law spool first L.Eof p ns₀ ns₁ before after d size many w K e l st st′ c no-limit f placed fits z q =
-    on-eof K spool first p ns₀ before e l c no-limit st′ ns₁ after d size many f (w .0) (w .1) st z q
-line-law spool first (L.Opens o) p ns₀ ns₁ before after d size many w K e l st st′ c no-limit f placed fits z q =
-    on-key K spool first p ns₀ before e l c no-limit st′ ns₁ after d size many (o .key) R.Brace f tt fits w st z q
-line-law spool first (L.Equals r) p ns₀ ns₁ before after d size many w K e l st st′ c no-limit f placed fits z q =
-    on-key K spool first p ns₀ before e l c no-limit st′ ns₁ after d size many (r .key) (R.Equals (r .rest)) f placed fits w st z q
-line-law spool first (L.Refused r) p ns₀ ns₁ before after d size many w K e l st st′ c no-limit f placed fits z q =
-    on-wrong K spool first p ns₀ before e l c no-limit st′ ns₁ after d size many (r .number) f st q
+line-law spool first L.Close p ns₀ ns₁ before after d size many w K e l st st′ c f placed fits z q =
+    on-close K spool first p ns₀ before e l c st′ ns₁ after d size many f (w .0) (w .1) st z q
+line-law spool first L.Eof p ns₀ ns₁ before after d size many w K e l st st′ c f placed fits z q =
+    on-eof K spool first p ns₀ before e l c st′ ns₁ after d size many f (w .0) (w .1) st z q
+line-law spool first (L.Opens o) p ns₀ ns₁ before after d size many w K e l st st′ c f placed fits z q =
+    on-key K spool first p ns₀ before e l c st′ ns₁ after d size many (o .key) R.Brace f tt fits w st z q
+line-law spool first (L.Equals r) p ns₀ ns₁ before after d size many w K e l st st′ c f placed fits z q =
+    on-key K spool first p ns₀ before e l c st′ ns₁ after d size many (r .key) (R.Equals (r .rest)) f placed fits w st z q
+line-law spool first (L.Refused r) p ns₀ ns₁ before after d size many w K e l st st′ c f placed fits z q =
+    on-wrong K spool first p ns₀ before e l c st′ ns₁ after d size many (r .number) f st q
 
 -- the form is one that is known
 pub line-same : (spool : List ℕ) (first : Bool) (form f : LineForm) (p : Pen) (ns₀ ns₁ before after : List ℕ) (d : Drawn)

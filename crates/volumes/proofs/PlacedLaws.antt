@@ -2,7 +2,6 @@
 use Prim.Native.Nat.{ℕ, zero, suc, _+_, _/_, _%_, _≤_, _<_}
 use mathlib.Core.Bool.{Bool, true, false, _||_}
 use mathlib.Core.List.{List, [], _∷_, _++_, append-assoc}
-use mathlib.Core.Option.{none}
 use mathlib.Core.Path.{_≡_, refl, sym, _∙_, ap, subst}
 use native.Mathlib.Omega.{arith}
 use borrow.Author.Tests.{leb-true, le-ltb, eqb-true}
@@ -117,7 +116,7 @@ part-draws at next out out′ d fits go kept = record {
 placed-pen : (p : Pen) (j : ℕ) (d : Kind) (opened : Bool) (inner n : ℕ) → p .block ≡ 11 → keyPen p j d opened inner n ≡ placedPen p d
 placed-pen p j d opened inner n h = rw h
 
-module _ (K : Known) (spool : List ℕ) (first : Bool) (p : Pen) (ns out : List ℕ) (e : Env) (l : Line) (c : e .class ≡ fullClass) (no-limit : e .limit ≡ none)
+module _ (K : Known) (spool : List ℕ) (first : Bool) (p : Pen) (ns out : List ℕ) (e : Env) (l : Line) (c : e .class ≡ fullClass)
     (st′ : State) (ns′ out′ : List ℕ) (d : Drawn) (size : length out′ ≡ length out) (many : length ns′ ≡ 28)
     (s : Set) (m : ℕ) (fs : List Figure) (n : ℕ) (o : Held) where
   module _ (i : ℕ) (z : Pens K spool first p ns out (placing s m fs n (symbolBlock o) i)) (key : Span) (rest : CodeRest) (place : PlacedRest rest) (line : KeyLine spool first key rest p ns ns′ out out′ d)

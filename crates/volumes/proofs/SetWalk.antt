@@ -211,7 +211,7 @@ module _ (spool : List ℕ) (set : Set) (a : Accepted spool set) where
             let same : body ≡ v .body = held ∙ ap (λ (m : ℕ). take m (drop place spool)) (w .size) ∙ ap (λ (m : ℕ). take (length (v .body)) (drop m spool)) here ∙ sym (w .part .bytes) in
             let p : VolumePromise spool (v .body) (v .place) (eqb i 0) (lent at out h) part r =
             subst (λ (u : List ℕ). VolumePromise spool u (v .place) (eqb i 0) (lent at out h) part r) same (subst (λ (m : ℕ). VolumePromise spool body m (eqb i 0) (lent at out h) part r) here promise) in
-            let o = p (knownOf set) plainEnv (suc i) (nextName us) (y .lines) s (y .state) refl refl (lines-at i v us (y .lines) d (y .are)) b (y .goes) in
+            let o = p (knownOf set) plainEnv (suc i) (nextName us) (y .lines) s (y .state) refl (lines-at i v us (y .lines) d (y .are)) b (y .goes) in
             record {
               volume = v;
               us = us;

@@ -188,7 +188,7 @@ module _ (K : Known) (y : Symbol) where
       (ap (λ (o : Slots). showSlots K (exchanged (y .hideFirst) symbolTable) (exchanged (y .hideFirst) o) (symbolInner K y) (bytes "}" ∷ [])) (four-slots (y .own) four)
       ∙ rows-order (y .hideFirst) (getD (y .own) 0 none) (getD (y .own) 1 none) (getD (y .own) 2 none) (getD (y .own) 3 none) (bytes "}" ∷ []))
 
-module _ (K : Known) (spool : List ℕ) (first : Bool) (p : Pen) (ns out : List ℕ) (s : Set) (y : Symbol) (z : Pens K spool first p ns out (symbol s y)) (e : Env) (l : Line) (c : e .class ≡ fullClass) (no-limit : e .limit ≡ none) (st′ : State) (q : stepIn e l (symbol s y) ≡ got st′) (ns′ out′ : List ℕ) (d : Drawn) (size : length out′ ≡ length out) (many : length ns′ ≡ 28) where
+module _ (K : Known) (spool : List ℕ) (first : Bool) (p : Pen) (ns out : List ℕ) (s : Set) (y : Symbol) (z : Pens K spool first p ns out (symbol s y)) (e : Env) (l : Line) (c : e .class ≡ fullClass) (st′ : State) (q : stepIn e l (symbol s y) ≡ got st′) (ns′ out′ : List ℕ) (d : Drawn) (size : length out′ ≡ length out) (many : length ns′ ≡ 28) where
   abbrev within : InSymbol K spool first p ns s y
   within = z .here .1
 

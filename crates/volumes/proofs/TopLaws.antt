@@ -130,7 +130,7 @@ module _ (K : Known) (spool : List ℕ) (first : Bool) (p : Pen) (ns out : List 
       (ap (λ (us : List LayerBlock). frontText K first s ++ openLine (bytes "ELEMENT") ∷ showBlocks (knownOf s) (layerTableOf s) us []) blocks) w refl many (refl, body))
   opened (suc (suc (suc (suc j)))) few z o w = absurd (omega (arith, few))
 
-module _ (K : Known) (spool : List ℕ) (first : Bool) (p : Pen) (ns out : List ℕ) (s : Set) (k : ℕ) (z : Pens K spool first p ns out (top s k)) (e : Env) (l : Line) (c : e .class ≡ fullClass) (no-limit : e .limit ≡ none) (st′ : State) (q : stepIn e l (top s k) ≡ got st′) (ns′ out′ : List ℕ) (d : Drawn) (size : length out′ ≡ length out) (many : length ns′ ≡ 28) where
+module _ (K : Known) (spool : List ℕ) (first : Bool) (p : Pen) (ns out : List ℕ) (s : Set) (k : ℕ) (z : Pens K spool first p ns out (top s k)) (e : Env) (l : Line) (c : e .class ≡ fullClass) (st′ : State) (q : stepIn e l (top s k) ≡ got st′) (ns′ out′ : List ℕ) (d : Drawn) (size : length out′ ≡ length out) (many : length ns′ ≡ 28) where
   pub top-key : (key : Span) (rest : Rest) → l .form ≡ keyed (bytesAt spool key) (restIn spool rest) → PlacedRest rest → FormFits (l .form)
       → KeyLine spool first key rest p ns ns′ out out′ d → LineOut K spool first st′ ns′ out′ d
   top-key key rest f placed fits line =

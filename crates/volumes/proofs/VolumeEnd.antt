@@ -100,7 +100,7 @@ module _ (spool body : List ℕ) (start : ℕ) (first : Bool) (before : List ℕ
 -- for every reading of it
 pub body-promise : (spool body : List ℕ) (start : ℕ) (first : Bool) (before after : List ℕ) (r : Wrote)
     → ((x : Reading spool body start first) → BodyOut (x .known) first (x .ends) before after r) → BodyPromise spool body start first before after r
-body-promise spool body start first before after r f K e v next ls s st c no-limit a b q = f (record {
+body-promise spool body start first before after r f K e v next ls s st c a b q = f (record {
   known = K;
   env = e;
   volume = v;
@@ -109,7 +109,6 @@ body-promise spool body start first before after r f K e v next ls s st c no-lim
   set = s;
   ends = st;
   class-is = c;
-  no-limit = no-limit;
   all-lines = a;
   begins = b;
   goes = q;

@@ -2,7 +2,6 @@
 use Prim.Native.Nat.{ℕ, suc, _+_, _-_, _≤_, _<_}
 use mathlib.Core.Bool.{Bool, true, false, cond, not}
 use mathlib.Core.List.{List, [], _∷_}
-use mathlib.Core.Option.{none}
 use mathlib.Core.Path.{_≡_, refl, sym, _∙_, ap, subst}
 use native.Mathlib.Omega.{arith}
 use borrow.Author.Tests.{leb-true}
@@ -109,7 +108,6 @@ pub record Reading (spool body : List ℕ) (start : ℕ) (first : Bool) : Type 0
   pub set : Set
   pub ends : State
   pub class-is : env .class ≡ fullClass
-  pub no-limit : env .limit ≡ none
   pub all-lines : LinesAt spool body start start lines
   pub begins : Begins first set
   pub goes : through env (top set 0) (numbered volume name 1 start lines) ≡ got ends
@@ -209,7 +207,7 @@ module _ (spool body : List ℕ) (start : ℕ) (first : Bool) where
             left = z .left;
             last = z .last;
             sound = step-goes (x .known) first (x .set) (x .begins .volume) (x .env) l (y .state) st₁ (y .sound) step .sound;
-            out-is = promise (x .known) (x .env) l (y .state) st₁ (x .class-is) (x .no-limit) (z .form) (z .placed) (z .fits) (y .pens) step;
+            out-is = promise (x .known) (x .env) l (y .state) st₁ (x .class-is) (z .form) (z .placed) (z .fits) (y .pens) step;
             goes = ap (λ (m : ℕ). through (x .env) st₁ (numbered (x .volume) (x .name) (suc (y .number)) m (z .others))) (sym (z .next)) ∙ on;
           }
 

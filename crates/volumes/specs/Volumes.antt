@@ -3,7 +3,7 @@ use Prim.Native.Nat.{ℕ, zero, suc, _+_, _/_, _%_, _≤_}
 use mathlib.Core.Bool.{Bool, true, false}
 use mathlib.Core.Path.{_≡_}
 use mathlib.Core.List.{List, [], _∷_, _++_}
-use mathlib.Core.Option.{none, some}
+use mathlib.Core.Option.{some}
 use lib.Dec.{leb}
 use lib.ListN.{length, take}
 use Rattle.rules.specs.Base.{all}
@@ -69,14 +69,14 @@ ServedAfter (placing s h fs n o p) = Unit {0}
 ServedAfter (skipping s h fs n o d) = Unit {0}
 ServedAfter (ended s) = Unit {0}
 
--- for every reading of the volume's lines at class 15 and with no limit of records: what is shown behind them
+-- for every reading of the volume's lines at class 15: what is shown behind them
 pub record BodyOut (K : Known) (first : Bool) (st : State) (before after : List ℕ) (r : Wrote) : Type 0 where
   pub fronts : Fronts (unlines (shown K first st)) before after r
   pub served : (n : ℕ) → r ≡ W.Bytes n → ServedAfter st
 
 abbrev pub BodyPromise : List ℕ → List ℕ → ℕ → Bool → List ℕ → List ℕ → Wrote → Type 0
 BodyPromise spool body start first before after r =
-    (K : Known) (e : Env) (v : ℕ) (next : List ℕ) (ls : List (List ℕ)) (s : Set) (st : State) → e .class ≡ fullClass → e .limit ≡ none
+    (K : Known) (e : Env) (v : ℕ) (next : List ℕ) (ls : List (List ℕ)) (s : Set) (st : State) → e .class ≡ fullClass
     → LinesAt spool body start start ls → Begins first s
     → through e (top s 0) (numbered v next 1 start ls) ≡ got st → BodyOut K first st before after r
 
@@ -90,7 +90,7 @@ pub record VolumeOut (K : Known) (first : Bool) (name : List ℕ) (st : State) (
 
 abbrev pub VolumePromise : List ℕ → List ℕ → ℕ → Bool → List ℕ → List ℕ → Wrote → Type 0
 VolumePromise spool body start first before after r =
-    (K : Known) (e : Env) (v : ℕ) (next : List ℕ) (ls : List (List ℕ)) (s : Set) (st : State) → e .class ≡ fullClass → e .limit ≡ none
+    (K : Known) (e : Env) (v : ℕ) (next : List ℕ) (ls : List (List ℕ)) (s : Set) (st : State) → e .class ≡ fullClass
     → LinesAt spool body start start ls → Begins first s
     → through e (top s 0) (numbered v next 1 start ls) ≡ got st → VolumeOut K first (nameAt spool start) st before after r
 

@@ -9,7 +9,7 @@ use Rattle.volumes.proofs.put_volume.Statement.{statement}
 use Rattle.volumes.proofs.put_volume.Tie as tie
 
 returns : tie.Need-returns
-returns c = (within-full _ _ refl, c .before .before .before .before .before .pre, λ K e v next ls s st k no-limit a b g. volume-narrow K _ _ (name-short (c .before .before .before .before .before .args .s .now) (c .before .before .before .before .before .args .start)) st _ _ (c .if1 .taken))
+returns c = (within-full _ _ refl, c .before .before .before .before .before .pre, λ K e v next ls s st k a b g. volume-narrow K _ _ (name-short (c .before .before .before .before .before .args .s .now) (c .before .before .before .before .before .args .start)) st _ _ (c .if1 .taken))
 
 sub-put-body : tie.Need-sub-put-body
 sub-put-body c = search needs
