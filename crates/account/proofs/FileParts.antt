@@ -6,8 +6,6 @@ use mathlib.Core.Path.{_≡_, refl, sym, _∙_, ap}
 use native.Mathlib.Omega.{arith}
 use lib.IntN.{ℤ, pos}
 use lib.ListN.{length, getD, set, drop, drop-of-length-le, length-take, length-drop}
-use lib.Seq.{paste, paste-suc}
-use native.Mathlib.Numerals.{add-one}
 use mir.Syntax.{w64}
 use mir.Val.{SFits, toZ, ofZ}
 use mir.Facts.{toZ-ofZ}
@@ -84,12 +82,6 @@ module _ (row : ℕ) (h : List ℤ) where
 
   pub later-other : (row ≡ 2 → ⊥) → (row ≡ 3 → ⊥) → (row ≡ 4 → ⊥) → h ≡ keptLater row h
   later-other a b c = sym (rw (ne-eqb row 2 a, ne-eqb row 3 b, ne-eqb row 4 c))
-
--- ── the records, number by number ──
-pub copy-step : (t₀ h t : List ℤ) (w i : ℕ) → SFits w64 (getD h i (pos 0)) → t ≡ paste t₀ w h i → w + i < length t₀ → i < length h
-    → set t (w + i) (toZ w64 (ofZ w64 (getD h i (pos 0)))) ≡ paste t₀ w h (i + 1)
-copy-step t₀ h t w i f e k l =
-    ap (set t (w + i)) (toZ-ofZ f) ∙ ap (λ (u : List ℤ). set u (w + i) (getD h i (pos 0))) e ∙ paste-suc t₀ w h i (pos 0) k l ∙ ap (paste t₀ w h) (sym (add-one i))
 
 -- ── the next volume's name ──
 pub capital-length : (c : List ℕ) → length (map capital c) ≡ length c

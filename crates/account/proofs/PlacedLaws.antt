@@ -19,7 +19,7 @@ use Rattle.rules.specs.RefusalNumbers.{Got, got, bad, unless, mapG}
 use Rattle.rules.specs.Lines.{Rest, Form, keyed, Shape, opener, noContent, content, opening, formless, shapeOf, hasForm}
 use Rattle.rules.specs.RangeClass.{digits, reaches, exceeds, both, hides}
 use Rattle.rules.specs.Values.{Known, Value, linked, Kind, serials, readKind}
-use Rattle.rules.specs.Rows.{Rule, Found, absent, found, find, Act, stay, entry, begin, shut, refuse, orRefuse, innerOf, fits, readShape, shapeFor, actRow, actFound, act, complete}
+use Rattle.rules.specs.Rows.{Rule, Found, absent, found, find, Act, stay, entry, begin, shut, refuse, orRefuse, innerOf, fits, readShape, shapeFor, actFound, act, complete}
 use Rattle.rules.specs.RecordTable.{numbers, given, ruleAt, markUnread}
 use Rattle.rules.specs.Figures.{placedTable, textTable}
 use Rattle.rules.proofs.Rows.{found-row, row-at, row-below, row-did}
@@ -187,17 +187,6 @@ own-line t v n m h e = ap (λ (zs : List ℤ). getD (set (sets t 14 zs) 30 (give
 -- the own number that a line `serial` leaves in the record
 pub own-is : (t : List ℤ) (n : ℕ) (ps : List ℕ) → length t ≡ 32 → ownNumber (putLine (ruleAt (tableOf 18) serialRow) 0 (linked n ps) t) ≡ n
 own-is t n ps h = ap natAbs (own-line t (linked n ps) n (length ps) h refl)
-
--- whatever the record held
-pub own-apart : (k : Known) (d : Digits) (full : Bool) (key : List ℕ) (c : Rest) (i : ℕ) (r : Rule) (v : Value) → find key (tableOf 18) ≡ found i r → actRow k d full i r c ≡ entry 5 v
-    → (t u : List ℤ) → length t ≡ 32 → length u ≡ 32 → ownNumber (putLine (ruleAt (tableOf 18) 5) 0 v t) ≡ ownNumber (putLine (ruleAt (tableOf 18) 5) 0 v u)
-own-apart k d full key c i r v q e t u h g =
-    let w = row-did k d full i r c (entry 5 v) refl e in
-    let x : i ≡ 5 = read-row k i 5 r (shapeFor r c) v (w .read) in
-    let y = row-at (found-row key (tableOf 18) i r q .0) _ in
-    let (o, m) = serial-row r (ap (ruleAt (tableOf 18)) (sym x) ∙ y) in
-    let (n, l, z) = serial-linked k i 5 r (shapeFor r c) v o m (w .fit) (w .read) in
-    ap natAbs (own-line t v n l h z ∙ sym (own-line u v n l g z))
 
 module _ (k : Known) (d : Digits) (full : List Bool) (key : List ℕ) (c : Rest) (t₀ t₁ : List ℤ) (long : length t₀ ≡ 32) where
   unknown-not : (b : Bool) (j : ℕ) (v : Value) → orRefuse (unless b 5 (bad 6)) ≡ entry j v → ⊥

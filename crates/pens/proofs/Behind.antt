@@ -75,9 +75,6 @@ within-mid before mid after r e w = record { long = w .long ∙ e; within = λ n
 pub spared-same : (t before : List ℕ) → Spared t before before
 spared-same t before = record { long = refl; behind = λ _. refl }
 
-pub spared-then : (t before mid after : List ℕ) → Spared t before mid → Spared t mid after → Spared t before after
-spared-then t before mid after p q = record { long = q .long ∙ p .long; behind = λ l. q .behind (omega (arith, l, p .long)) ∙ p .behind l }
-
 pub spared-prints : (t before mid after : List ℕ) (r : Wrote) → Spared t before mid → Prints t mid after r → Prints t before after r
 spared-prints t before mid after r s p = record {
   answer = p .answer ∙ ap (putAnswer t) (s .long);
@@ -149,9 +146,6 @@ module _ (before x y : List ℕ) (n : ℕ) where
   module _ (a b : List ℕ) (p : Prints a before x (W.Bytes n)) where
     front : (length a ≡ n) × (length a ≤ length before) × (x ≡ a ++ drop (length a) before)
     front = printed a before x n p
-
-    x-long : length x ≡ length before
-    x-long = ap length (front .2) ∙ length-append a (drop (length a) before) ∙ omega (arith, front .1, length-drop (length a) before)
 
     behind-first : rest ≡ drop (length a) before
     behind-first = rest-is ∙ ap (drop n) (front .2) ∙ drop-at a (drop (length a) before) n (front .0)

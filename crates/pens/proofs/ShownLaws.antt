@@ -94,9 +94,6 @@ module _ (k : Known) where
   depth-more ts h zero i ls = refl
   depth-more ts h (suc d) i ls = inner-more ts h (showDepth k ts h d) (depth-more ts h d) i ls
 
-  pub held-depth : (ts : List (List Rule)) (h : Held) (ls : Text) → showHeld k ts h ls ≡ showDepth k ts h 3 0 ls
-  held-depth ts h ls = refl
-
   pub held-more : (ts : List (List Rule)) (h : Held) → Before (showHeld k ts h)
   held-more ts h ls = depth-more ts h 3 0 ls
 

@@ -103,12 +103,6 @@ names-laid at (n ∷ names) [] e = absurd (omega arith)
 names-laid at [] (b ∷ bodies) e = absurd (omega arith)
 names-laid at (n ∷ names) (b ∷ bodies) e = ap (λ l. n ∷ l) (names-laid (at + 12 + length b) names bodies (omega arith))
 
-pub bodies-laid : (at : ℕ) (names bodies : List (List ℕ)) → length names ≡ length bodies → map (λ v. v .body) (laid at names bodies) ≡ bodies
-bodies-laid at [] [] e = refl
-bodies-laid at (n ∷ names) [] e = absurd (omega arith)
-bodies-laid at [] (b ∷ bodies) e = absurd (omega arith)
-bodies-laid at (n ∷ names) (b ∷ bodies) e = ap (λ l. b ∷ l) (bodies-laid (at + 12 + length b) names bodies (omega arith))
-
 -- ── names ──
 abbrev pub isName : List ℕ → Bool
 isName n = within 1 8 (length n) && all nameByte n

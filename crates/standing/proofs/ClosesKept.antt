@@ -19,7 +19,7 @@ use Rattle.account.specs.Records.{partAt}
 use Rattle.standing.specs.SoFar.{volumeOf, frontRecords, layersRecords, homeFigure, emptyRecord}
 use Rattle.standing.specs.Kept.{homeShut, figuresShut, shutSoFar, Scratch, Fills}
 use Rattle.standing.proofs.LaidTables.{flat-more}
-use Rattle.standing.proofs.MoreRecords.{flat-map-more, symbol-more, figures-taken}
+use Rattle.standing.proofs.MoreRecords.{flat-map-more, symbol-more, layers-taken}
 use Rattle.standing.proofs.KeptLaws.{fills-one}
 
 -- own: how many records stand before it
@@ -70,7 +70,7 @@ placed-fills c s m fs n o records all t₀ t₁ x put =
 -- the count of records says nothing of what they are
 pub shut-taken : (c : Digits) (s : Set) (ks : List ℕ) (h : Home) (fs : List Figure) → figuresShut c (withRecords ks s) h fs ≡ figuresShut c s h fs
 shut-taken c s ks (inElement y) fs = refl
-shut-taken c s ks (inLayer m) fs = figures-taken c s ks (inLayer m) fs
+shut-taken c s ks (inLayer m) fs = ap (λ (r : List (List ℤ)). r ++ flat (map (homeFigure c s (inLayer m)) fs)) (layers-taken c s ks)
 
 -- a figure, whose record is the whole of it
 pub line-fills : (c : Digits) (s : Set) (kind : ℕ) (h : Home) (fs : List Figure) (f : Figure) (records : ℕ) → length (flat (shutSoFar c (figures s h fs))) ≡ 32 * records → (t : List ℤ)

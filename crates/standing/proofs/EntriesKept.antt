@@ -1,5 +1,5 @@
--- Lines that take no record and make none complete: a row entered into an open block, a block that opens or closes around others, a line
--- that is skipped. The table's list stays as it is; on the scratch a row's values are put into the record that is open.
+-- Lines that take no record and make none complete: a row entered into an open block, a block that opens or closes around others. The
+-- table's list stays as it is; on the scratch a row's values are put into the record that is open.
 use Prim.Native.Nat.{ℕ, zero, suc, _<_}
 use mathlib.Core.Bool.{Bool, true, false}
 use mathlib.Core.List.{List, [], _∷_, _++_, append-nil, append-assoc}
@@ -15,7 +15,7 @@ use Rattle.rules.specs.Rows.{Rule, Slots, Held, partOf, enter, rowsThere}
 use Rattle.rules.specs.Blocks.{drawingTable, symbolTable}
 use Rattle.rules.specs.Figures.{placedTables}
 use Rattle.rules.specs.Sets.{Point, Figure, Drawing, Symbol, Set, isFirst, withOwn, withBlock, withVolume, symbolOwn, symbolOrder, symbolFigures, symbolHidden}
-use Rattle.rules.specs.Machine.{Home, inElement, inLayer, isLayer, State, top, file, drawing, layerNames, defines, symbol, hide, elements, figures, texts, placing, skipping, ended, symbolBlock}
+use Rattle.rules.specs.Machine.{Home, inElement, inLayer, isLayer, State, top, file, drawing, layerNames, defines, symbol, hide, elements, figures, texts, placing, ended, symbolBlock}
 use Rattle.rules.specs.RecordTable.{ruleAt, start, innerRecords, pointRecords, kindSymbol, kindPlaced, kindHidden}
 use Rattle.rules.proofs.RecordLengths.{length-slots, length-held}
 use Rattle.entries.specs.Acts.{putLine}
@@ -179,13 +179,3 @@ module _ (c : Digits) (s : Set) (k : ℕ) (fs : List Figure) (n : ℕ) (o : Held
   -- the end of its text
   pub part-close : (p p′ : ℕ) → Scratch t (placing s k fs n (symbolBlock o) p) → Enters c (placing s k fs n (symbolBlock o) p) (placing s k fs n (symbolBlock o) p′) t
   part-close p p′ x = alike c (placing s k fs n (symbolBlock o) p) (placing s k fs n (symbolBlock o) p′) t refl refl refl x
-
-  -- what the class doesn't know: its lines, from its opener to its own `}`
-  pub skip-open : (p d : ℕ) → Scratch t (placing s k fs n (symbolBlock o) p) → Enters c (placing s k fs n (symbolBlock o) p) (skipping s k fs n (symbolBlock o) d) t
-  skip-open p d x = alike c (placing s k fs n (symbolBlock o) p) (skipping s k fs n (symbolBlock o) d) t refl refl refl x
-
-  pub skip-within : (d d′ : ℕ) → Scratch t (skipping s k fs n (symbolBlock o) d) → Enters c (skipping s k fs n (symbolBlock o) d) (skipping s k fs n (symbolBlock o) d′) t
-  skip-within d d′ x = alike c (skipping s k fs n (symbolBlock o) d) (skipping s k fs n (symbolBlock o) d′) t refl refl refl x
-
-  pub skip-close : (d p : ℕ) → Scratch t (skipping s k fs n (symbolBlock o) d) → Enters c (skipping s k fs n (symbolBlock o) d) (placing s k fs n (symbolBlock o) p) t
-  skip-close d p x = alike c (skipping s k fs n (symbolBlock o) d) (placing s k fs n (symbolBlock o) p) t refl refl refl x

@@ -1,14 +1,12 @@
--- What stands before a place of a table is left by what is put at it and behind it; and how long the table stays.
+-- What stands before a place of a list is left by what is put at it and behind it; and how long the list stays.
 use Prim.Native.Nat.{ℕ, zero, suc, _+_, _≤_}
 use mathlib.Core.List.{List, [], _∷_, _++_}
 use mathlib.Core.Path.{_≡_, refl, sym, _∙_, ap}
 use native.Mathlib.Omega.{arith}
-use lib.IntN.{ℤ, pos}
+use lib.IntN.{ℤ}
 use lib.ListN.{length, set, take, drop, length-take, length-drop, length-append}
-use lib.Seq.{sets, take-nil, drop-nil, take-set-le, take-append-le, length-sets, length-take-le, take-take}
-use Rattle.account.specs.declared.Where.{Where}
+use lib.Seq.{sets, take-nil, drop-nil, take-set-le, take-append-le, length-take-le, take-take}
 use Rattle.account.specs.Records.{partAt, withPart}
-use Rattle.account.specs.Account.{headAt}
 
 -- a part in the middle, by what stands before its end
 part-of-fore : (a b c : ℕ) (l : List ℤ) → c ≡ a + b → drop a (take c l) ≡ take b (drop a l)
@@ -24,12 +22,6 @@ part-fore a u v h = sym (part-of-fore a 32 (a + 32) u refl) ∙ ap (drop a) h �
 pub fore-sets : (k i : ℕ) (vs t : List ℤ) → k ≤ i → take k (sets t i vs) ≡ take k t
 fore-sets k i [] t h = refl
 fore-sets k i (v ∷ vs) t h = fore-sets k (suc i) vs (set t i v) (omega (arith, h)) ∙ take-set-le k t i v h
-
-pub fore-head : (k n kind owner : ℕ) (w : Where) (t : List ℤ) → k ≤ n → take k (headAt n kind owner w t) ≡ take k t
-fore-head k n kind owner w t h = fore-sets k n (pos kind ∷ pos owner ∷ pos (w .volume) ∷ pos (w .line) ∷ []) t h
-
-pub long-head : (n kind owner : ℕ) (w : Where) (t : List ℤ) → length (headAt n kind owner w t) ≡ length t
-long-head n kind owner w t = length-sets t n (pos kind ∷ pos owner ∷ pos (w .volume) ∷ pos (w .line) ∷ [])
 
 -- ── a record put ──
 pub fore-part : (k n : ℕ) (u t : List ℤ) → k ≤ n → n ≤ length t → take k (withPart n u t) ≡ take k t

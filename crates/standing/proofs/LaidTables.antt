@@ -1,4 +1,4 @@
--- A table that holds records and zeros behind them: one more record, a record with other numbers, and what stands at a record's place.
+-- A part of a list; and a table that holds records and zeros behind them: one more record, of zeros, and records with other numbers.
 use Prim.Native.Nat.{ℕ, _+_, _-_, _≤_}
 use mathlib.Core.List.{List, [], _∷_, _++_, append-assoc, append-nil}
 use mathlib.Core.Path.{_≡_, refl, sym, _∙_, ap, subst}
@@ -29,16 +29,8 @@ pub with-back : (n : ℕ) (u t : List ℤ) → u ≡ partAt n t → withPart n u
 with-back n u t q = ap (λ (y : List ℤ). withPart n y t) q ∙ with-same n t
 
 -- ── lists of records ──
-pub flat-one : (u : List ℤ) → flat (u ∷ []) ≡ u
-flat-one u = append-nil u
-
 pub flat-more : (fore : List (List ℤ)) (u : List ℤ) → flat (fore ++ u ∷ []) ≡ flat fore ++ u
-flat-more fore u = flat-append fore (u ∷ []) ∙ ap (λ (x : List ℤ). flat fore ++ x) (flat-one u)
-
--- the records before one, it, and what stands behind
-split : (fore : List (List ℤ)) (u : List ℤ) (bs : List (List ℤ)) (z : List ℤ) → flat (fore ++ u ∷ bs) ++ z ≡ flat fore ++ (u ++ (flat bs ++ z))
-split fore u bs z =
-    ap (λ (x : List ℤ). x ++ z) (flat-append fore (u ∷ bs)) ∙ append-assoc (flat fore) (u ++ flat bs) z ∙ ap (λ (x : List ℤ). flat fore ++ x) (append-assoc u (flat bs) z)
+flat-more fore u = flat-append fore (u ∷ []) ∙ ap (λ (x : List ℤ). flat fore ++ x) (append-nil u)
 
 -- zeros that are at least 32 are 32 and others
 zeros : (n : ℕ) → 32 ≤ n → replicate n (pos 0) ≡ replicate 32 (pos 0) ++ replicate (n - 32) (pos 0)
@@ -49,33 +41,15 @@ zeros n h =
 pub laid-same : (t : List ℤ) (rs rs′ : List (List ℤ)) (w : ℕ) → rs ≡ rs′ → Laid t rs w → Laid t rs′ w
 laid-same t rs rs′ w e l = subst (λ (x : List (List ℤ)). Laid t x w) e l
 
--- ── one more record ──
+-- ── one more record, of zeros ──
 module _ (t : List ℤ) (rs : List (List ℤ)) (w : ℕ) (l : Laid t rs w) where
   long : length t ≡ w + l .rest
   long = ap length (l .eq) ∙ length-append (flat rs) (replicate (l .rest) (pos 0)) ∙ omega (arith, l .size, length-replicate (l .rest) (pos 0))
-
-  pub laid-room : w ≤ length t
-  laid-room = omega (arith, long)
 
   module _ (h : w + 32 ≤ length t) where
     cut : t ≡ flat rs ++ (replicate 32 (pos 0) ++ replicate (l .rest - 32) (pos 0))
     cut = l .eq ∙ ap (λ (x : List ℤ). flat rs ++ x) (zeros (l .rest) (omega (arith, long, h)))
 
-    -- its part holds zeros
-    pub laid-blank : partAt w t ≡ replicate 32 (pos 0)
-    laid-blank = ap (partAt w) cut ∙ part-of (flat rs) (replicate 32 (pos 0)) (replicate (l .rest - 32) (pos 0)) w (l .size) refl
-
-    pub laid-more : (u : List ℤ) → length u ≡ 32 → Laid (withPart w u t) (rs ++ u ∷ []) (w + 32)
-    laid-more u k = record {
-      rest = l .rest - 32;
-      eq =
-          ap (withPart w u) cut ∙ with-of (flat rs) (replicate 32 (pos 0)) (replicate (l .rest - 32) (pos 0)) w (l .size) refl u
-          ∙ sym (append-assoc (flat rs) u (replicate (l .rest - 32) (pos 0))) ∙ ap (λ (x : List ℤ). x ++ replicate (l .rest - 32) (pos 0)) (sym (flat-more rs u));
-      size = ap length (flat-more rs u) ∙ length-append (flat rs) u ∙ omega (arith, l .size, k);
-      many = omega (arith, l .many, length-append rs (u ∷ []));
-    }
-
-    -- a record that stays empty for the time being
     pub laid-empty : Laid t (rs ++ replicate 32 (pos 0) ∷ []) (w + 32)
     laid-empty = record {
       rest = l .rest - 32;
@@ -123,25 +97,6 @@ module _ (t : List ℤ) (fore us vs bs : List (List ℤ)) (w a : ℕ) (l : Laid 
     size = omega (arith, flat-size fore vs bs, flat-size fore us bs, l .size, same);
     many = omega (arith, l .many, count-of vs, count-of us, few);
   }
-
--- ── a record with other numbers ──
-module _ (t : List ℤ) (fore : List (List ℤ)) (u : List ℤ) (bs : List (List ℤ)) (w a : ℕ) (l : Laid t (fore ++ u ∷ bs) w) (ha : length (flat fore) ≡ a) (hu : length u ≡ 32) where
-  apart : t ≡ flat fore ++ (u ++ (flat bs ++ replicate (l .rest) (pos 0)))
-  apart = l .eq ∙ split fore u bs (replicate (l .rest) (pos 0))
-
-  pub laid-part : partAt a t ≡ u
-  laid-part = ap (partAt a) apart ∙ part-of (flat fore) u (flat bs ++ replicate (l .rest) (pos 0)) a ha hu
-
-  pub laid-within : a + 32 ≤ length t
-  laid-within =
-      omega (arith, ap length apart, length-append (flat fore) (u ++ (flat bs ++ replicate (l .rest) (pos 0))), length-append u (flat bs ++ replicate (l .rest) (pos 0)), ha, hu)
-
-  pub laid-change : (x : List ℤ) → length x ≡ 32 → Laid (withPart a x t) (fore ++ x ∷ bs) w
-  laid-change x k =
-      let put : withNumbers a (x ++ []) t ≡ withPart a x t =
-      ap (λ (y : List ℤ). withNumbers a y t) (append-nil x) ∙ ap (λ (n : ℕ). take a t ++ (x ++ drop (a + n) t)) k in
-      subst (λ (y : List ℤ). Laid y (fore ++ x ∷ bs) w) put
-      (laid-changes t fore (u ∷ []) (x ∷ []) bs w a l ha (ap length (append-nil x) ∙ k ∙ sym hu ∙ ap length (sym (append-nil u))) refl)
 
 -- ── the whole table ──
 pub laid-table : (t : List ℤ) (rs : List (List ℤ)) (w : ℕ) → Laid t rs w → t ≡ tableOf (length t) rs

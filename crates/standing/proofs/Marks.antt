@@ -7,7 +7,7 @@ use mathlib.Core.Path.{_≡_, refl, ap, sym, _∙_}
 use lib.ListN.{length, getD, set}
 use Rattle.rules.specs.Base.{isSome}
 use Rattle.rules.specs.Values.{Value}
-use Rattle.rules.specs.Rows.{Rule, Slots, blank, rowsThere}
+use Rattle.rules.specs.Rows.{Slots, rowsThere}
 use Rattle.rules.specs.declared.Digits.{Digits}
 use Rattle.rules.specs.RangeClass.{digits, reaches}
 use Rattle.rules.proofs.Chains.{clash}
@@ -29,10 +29,6 @@ mark-free (x ∷ o) (suc j) e = mark-free o j e
 pub marks-length : (o : Slots) → length (rowsThere o) ≡ length o
 marks-length [] = refl
 marks-length (x ∷ o) = ap suc (marks-length o)
-
-pub blank-length : (t : List Rule) → length (blank t) ≡ length t
-blank-length [] = refl
-blank-length (r ∷ t) = ap suc (blank-length t)
 
 -- a row that is required at every range is there
 pub must-row : (g : Digits) (a : Option Value) → (not (reaches g (digits 0 0)) || isSome a) ≡ true → isSome a ≡ true

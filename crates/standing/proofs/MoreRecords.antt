@@ -1,4 +1,4 @@
--- The records so far, as a line or a closed block adds to them.
+-- The records of a set's parts, as a line or a closed block adds to them.
 use Prim.Native.Nat.{ℕ, suc, _+_}
 use mathlib.Core.Bool.{Bool, true, false, cond}
 use mathlib.Core.List.{List, [], _∷_, _++_, map, append-assoc, append-nil}
@@ -16,11 +16,11 @@ use Rattle.rules.specs.Rows.{Held, partOf, numberOf}
 use Rattle.rules.specs.Blocks.{elecTable}
 use Rattle.rules.specs.Figures.{layerTable, pointTable}
 use Rattle.rules.specs.Sets.{Point, Figure, Layer, Drawing, Symbol, LayerBlock, Contents, Set, isFirst, symbolRange, withBlock, withRecords, withVolume, withSymbol, symbolFigures, symbolHidden, firstContents, headOr}
-use Rattle.rules.specs.Machine.{Home, inElement, inLayer}
+use Rattle.rules.specs.Machine.{inLayer}
 use Rattle.rules.specs.RecordTable.{putSlot, ruleAt, start, fileRecords, drawingRecord, layerRecord, layerRecords, pointRecords, figureRecords, innerRecords, symbolRecords, blockRecords, bodyRecords, laterRecords, recordsFrom}
 use Rattle.rules.specs.RecordTable.{View, viewOf, plainView}
 use Rattle.rules.proofs.Chains.{flat-append, map-append}
-use Rattle.standing.specs.SoFar.{volumeOf, closedRecords, sheetRecords, frontRecords, baseRecords, layersRecords, ownRecord, symbolSoFar, homeRecords, homeFigure, figuresSoFar}
+use Rattle.standing.specs.SoFar.{volumeOf, closedRecords, sheetRecords, frontRecords, baseRecords, layersRecords, ownRecord, homeFigure}
 
 abbrev Records : Type 0
 Records = List (List ℤ)
@@ -32,11 +32,7 @@ flat-map-more {A} {B} f s a = ap flat (map-append f s (a ∷ [])) ∙ flat-appen
 from-zero : (n : ℕ) → 0 + n ≡ n
 from-zero n = omega arith
 
--- ── figures and points ──
-pub more-figures : (c : Digits) (s : Set) (h : Home) (fs : List Figure) (f : Figure) → figuresSoFar c s h (fs ++ f ∷ []) ≡ figuresSoFar c s h fs ++ homeFigure c s h f
-more-figures c s h fs f =
-    ap (λ (u : Records). homeRecords c s h ++ u) (flat-map-more (homeFigure c s h) fs f) ∙ sym (append-assoc (homeRecords c s h) (flat (map (homeFigure c s h) fs)) (homeFigure c s h f))
-
+-- ── points ──
 pub more-points : (kind owner volume : ℕ) (ps : List Point) (p : Point) → pointRecords kind owner volume (ps ++ p ∷ []) ≡ pointRecords kind owner volume ps ++ pointRecords kind owner volume (p ∷ [])
 more-points kind owner volume [] p = refl
 more-points kind owner volume (q ∷ ps) p =
@@ -58,7 +54,7 @@ more-symbols n (x ∷ ys) y =
     ∙ ap (λ (u : Records). ownRecord n x ∷ u) (sym (append-assoc (innerRecords n x) (symbolRecords (suc n) ys) (ownRecord (n + length (x ∷ ys)) y ∷ innerRecords (n + length (x ∷ ys)) y)))
 
 -- a closed symbol
-pub symbol-more : (s : Set) (y : Symbol) → frontRecords (withSymbol y s) ≡ symbolSoFar s y
+pub symbol-more : (s : Set) (y : Symbol) → frontRecords (withSymbol y s) ≡ frontRecords s ++ ownRecord (length (s .symbols)) y ∷ innerRecords (length (s .symbols)) y
 symbol-more s y =
     ap (λ (u : Records). sheetRecords s (s .drawing) ++ u) (more-symbols 0 (s .symbols) y ∙ ap (λ (m : ℕ). symbolRecords 0 (s .symbols) ++ ownRecord m y ∷ innerRecords m y) (from-zero (length (s .symbols))))
     ∙ sym (append-assoc (sheetRecords s (s .drawing)) (symbolRecords 0 (s .symbols)) (ownRecord (length (s .symbols)) y ∷ innerRecords (length (s .symbols)) y))
@@ -175,7 +171,3 @@ base-taken c s ks false = ap (λ (r : Records). r ++ fileRecords false (volumeOf
 pub layers-taken : (c : Digits) (s : Set) (ks : List ℕ) → layersRecords c (withRecords ks s) ≡ layersRecords c s
 layers-taken c s ks =
     ap (λ (r : Records). r ++ bodyRecords (viewOf c s) (volumeOf s) (s .now)) (base-taken c s ks (isFirst s))
-
-pub figures-taken : (c : Digits) (s : Set) (ks : List ℕ) (h : Home) (fs : List Figure) → figuresSoFar c (withRecords ks s) h fs ≡ figuresSoFar c s h fs
-figures-taken c s ks (inElement y) fs = refl
-figures-taken c s ks (inLayer i) fs = ap (λ (r : Records). r ++ flat (map (homeFigure c s (inLayer i)) fs)) (layers-taken c s ks)

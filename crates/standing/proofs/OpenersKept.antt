@@ -22,10 +22,6 @@ use Rattle.standing.proofs.FigureRows.{text-begun, placed-begun}
 use Rattle.standing.proofs.ClosesKept.{shut-taken}
 use Rattle.standing.proofs.ScratchKept.{scratch-same, scratch-own, scratch-figure}
 
--- a line that takes nothing opens nothing
-pub enters-begins : (c : Digits) (st st′ : State) (t : List ℤ) → Enters c st st′ t → Begins c st st′ 0 t
-enters-begins c st st′ t e = record { opens = e .same ∙ sym (append-nil (shutSoFar c st)); scratch = e .scratch }
-
 -- ── at the top level ──
 -- its numbers are kept apart from the scratch
 pub file-opens : (c : Digits) (s : Set) (line : ℕ) (t : List ℤ) → Scratch t (top s 0)

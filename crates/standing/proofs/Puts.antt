@@ -26,10 +26,6 @@ sets-low : (vs l : List ℤ) (i j : ℕ) (a : ℤ) → i < j → set (sets l j v
 sets-low [] l i j a h = refl
 sets-low (b ∷ vs) l i j a h = sets-low vs (set l j b) i (suc j) a (omega arith) ∙ ap (λ (u : List ℤ). sets u (suc j) vs) (set-low l i j a b h)
 
-sets-high : (vs l : List ℤ) (i j : ℕ) (a : ℤ) → j + length vs ≤ i → set (sets l j vs) i a ≡ sets (set l i a) j vs
-sets-high [] l i j a h = refl
-sets-high (b ∷ vs) l i j a h = sets-high vs (set l j b) i (suc j) a (omega arith) ∙ ap (λ (u : List ℤ). sets u (suc j) vs) (sym (set-low l j i b a (omega arith)))
-
 -- two runs, the first of them before the second
 pub runs-low : (ws vs l : List ℤ) (i j : ℕ) → i + length ws ≤ j → sets (sets l j vs) i ws ≡ sets (sets l i ws) j vs
 runs-low [] vs l i j h = refl

@@ -38,7 +38,7 @@ use Rattle.standing.specs.Reading.{Standing, LineReady, LinePromise, startOf, n
 use Rattle.account.proofs.Walked.{next-seen}
 use Rattle.account.proofs.SeenLines.{past, seenLine, low-past}
 use Rattle.steps.proofs.VolumeEnds.{LastOut}
-use Rattle.steps.proofs.VolumeRun.{stands-later, stands-between, Gone, whereOf, line-here, line-formed, passed, todo-on, refused-at, gone-on, fits-on, stopped, skipped-on, skip-stopped, last, to-more}
+use Rattle.steps.proofs.VolumeRun.{stands-later, stands-between, Gone, whereOf, line-here, line-formed, passed, todo-on, refused-at, gone-on, stopped, skipped-on, skip-stopped, last, to-more}
 
 -- what a volume gives back of what it was lent
 abbrev pub backDesk : Desk → Now → Desk

@@ -260,9 +260,6 @@ module _ (c : Digits) (spool body : List ℕ) (v : Volume) (following : List ℕ
             eq = todo-on ∙ step-on env (g .state) l (todo v following (past p f) (passed .others) more) (x .state) h did;
           }
 
-          pub fits-on : n .records ≤ limit
-          fits-on = went .2
-
         pub stopped : (n : ℕ) → r ≡ S.Stop n → run env st₀ (todo v following p₀ lines more) ≡ refused n k (p .line + 1)
         stopped n a = todo-on ∙ step-refused env (g .state) l (todo v following (past p f) (passed .others) more) n h (subst Out a judged)
 

@@ -13,7 +13,7 @@ use Rattle.rules.specs.Rows.{Rule, innerOf, shut, refuse}
 use Rattle.rules.specs.RecordTable.{ruleAt}
 use Rattle.rules.specs.Blocks.{symbolTable}
 use Rattle.rules.specs.Sets.{Figure, Contents, Set, LayerBlock, Symbol, withRecords, withBlock, withVolume, symbolRange, knownOf, layerTableOf}
-use Rattle.rules.specs.Machine.{Env, Home, inElement, inLayer, State, isLayer, homeTable, byAct}
+use Rattle.rules.specs.Machine.{Home, inElement, inLayer, State, isLayer, homeTable, byAct}
 use Rattle.rules.specs.FixedForm.{Text, openLine, opensBlock, lineOf, showFigure, showFigures, showBlocks}
 use Rattle.rules.proofs.Chains.{never}
 use Rattle.entries.specs.declared.Rest.{Rest as CodeRest}

@@ -7,7 +7,7 @@ use mathlib.Core.Path.{_≡_, refl, sym, _∙_, ap, subst}
 use native.Mathlib.Omega.{arith}
 use borrow.Author.Tests.{lt-ltb, leb-true, eqb-true, eqb-false, ltb-true, ltb-false}
 use lib.Dec.{eqb, leb, ltb}
-use lib.ListN.{length, getD, set, replicate, length-set, length-replicate, List·getD-map}
+use lib.ListN.{length, getD, set, replicate, length-set, List·getD-map}
 use lib.Seq.{getD-set-same, getD-set-other}
 use Rattle.rules.specs.Lines.{Rest, brace, equals, bytesAt, Shape, opener, byStem, stem, shapeOf, freeShapeOf}
 use Rattle.rules.specs.Values.{Value, Known, Kind, values, text, word, volumeName, sheet, ratio, serials, nothing, opens, headed, either, isFree}
@@ -96,9 +96,6 @@ pub zeros-at : (n i : ℕ) → _≡_ {A = ℕ} (getD (replicate n 0) i 0) 0
 zeros-at zero i = refl
 zeros-at (suc n) zero = refl
 zeros-at (suc n) (suc i) = zeros-at n i
-
-pub forgotten-long : (ns : List ℕ) → length (forgotten ns) ≡ length ns
-forgotten-long ns = length-replicate (length ns) 0
 
 pub blank-long : (t : List Rule) → length (blank t) ≡ length t
 blank-long [] = refl

@@ -17,7 +17,7 @@ use Rattle.rules.specs.Values.{Value, Known, Kind, values, text, word, volumeNa
 use Rattle.rules.specs.Rows.{Rule, Found, absent, found, find, Held, partOf, enter, rowsThere, orRefuse, innerOf, complete}
 use Rattle.rules.specs.Figures.{textTable, placedTable, placedTables}
 use Rattle.rules.specs.Sets.{Figure, placed, Set, symbolRange, rangeOf, knownOf}
-use Rattle.rules.specs.Machine.{Line, Env, inLayer, State, figures, placing, skipping, byAct, symbolBlock, Owned}
+use Rattle.rules.specs.Machine.{Line, Env, inLayer, State, figures, placing, byAct, symbolBlock}
 use Rattle.rules.specs.PlacedSymbol.{newSerial, onPlacedKey, onPlacing}
 use Rattle.rules.specs.LineByLine.{stepIn}
 use Rattle.rules.specs.Answers.{fullClass}
@@ -225,8 +225,3 @@ module _ (K : Known) (spool : List ℕ) (first : Bool) (p : Pen) (ns out : List 
   placing-close (suc zero) z q form done notes =
       shut-did (placing s m fs n (symbolBlock o) 1) _ _ _ (complete (digits 0 0) (textTable true 16 24) (rowsThere (partOf o 1))) st′ (ap (onPlacing e s m fs n o 1) (sym form) ∙ q) (text-close form done notes z)
   placing-close (suc (suc i)) z q form done notes = absurd (omega (arith, z .here .1 .open-part))
-
--- nothing is skipped at class 15, and the writing never stands there
-pub skipping-never : {P : Type 0} (K : Known) (spool : List ℕ) (first : Bool) (p : Pen) (ns out : List ℕ) (s : Set) (m : ℕ) (fs : List Figure) (n : ℕ) (b : Owned) (i : ℕ)
-    → Pens K spool first p ns out (skipping s m fs n b i) → P
-skipping-never K spool first p ns out s m fs n b i z = absurd (z .here)
