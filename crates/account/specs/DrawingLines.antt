@@ -29,20 +29,20 @@ use Rattle.account.specs.declared.Step.the-variants as S
 use Rattle.account.specs.Account.{atBlock, headAt}
 use Rattle.account.specs.TopLines.{layersOf}
 use Rattle.tables.specs.Numbering.{tableDrawing}
-use Rattle.account.specs.Numbering.{blockTop, blockDrawing, blockLayerNames, tallyLayers}
+use Rattle.account.specs.Numbering.{blockTop, blockDrawing, blockLayerNames, turnDefines, rowsDrawing, placeLetter, tallyLayers}
 use Rattle.rules.specs.RecordTable.{kindLayer}
 
 -- ── DRAWING_FORMAT ──
--- "`floor_height`, exactly when arc is 001": the range of this table is arc; the marks are those of its eight rows
+-- "`floor_height`, exactly when arc is 001": the range of this table is arc; the marks are those of its rows
 abbrev pub drawingAct : Known → ℕ → List Bool → Form → Act
-drawingAct k arc marks f = act k (tableOf tableDrawing) (digitsOf arc) (take 8 marks) f
+drawingAct k arc marks f = act k (tableOf tableDrawing) (digitsOf arc) (take rowsDrawing marks) f
 
 -- SYMBOL_DEFINE comes next
 abbrev pub drawingNow : Now → Act → Got Now
 drawingNow n stay = got n
 drawingNow n (entry j v) = got n
 drawingNow n (begin i j v) = got (atBlock n blockLayerNames 0)
-drawingNow n shut = got (atBlock n blockTop 2)
+drawingNow n shut = got (atBlock n blockTop turnDefines)
 drawingNow n (refuse k) = bad k
 
 -- the marks and the record on return
@@ -84,7 +84,7 @@ layerTaken n =
 
 -- "5 layer: letter's byte, number, name", with the name's two numbers
 abbrev pub layerPut : ℕ → Where → List ℕ → List ℤ → List ℤ → List ℤ
-layerPut n at id name rec = sets (headAt 0 kindLayer n at rec) 5 (pos (getD id 0 0) ∷ pos (value (drop 2 id)) ∷ name)
+layerPut n at id name rec = sets (headAt 0 kindLayer n at rec) placeLetter (pos (getD id 0 0) ∷ pos (value (drop 2 id)) ∷ name)
 
 -- on return: one more layer, its name behind the others, its record
 pub record LayerIn (s : List ℕ) (at : Where) (id : List ℕ) (name : List ℤ) (tally₀ tally₁ layers₀ layers₁ : List ℕ) (rec₀ rec₁ : List ℤ) : Type 0 where

@@ -11,7 +11,7 @@ use Rattle.account.specs.declared.Now.{Now}
 use Rattle.account.specs.declared.Step.{Step}
 use Rattle.account.specs.declared.Step.the-variants as S
 use Rattle.account.specs.Account.{atBlock}
-use Rattle.account.specs.Numbering.{blockTop, blockFigures, tallyHere, tallyElementsHere, tallyTotal}
+use Rattle.account.specs.Numbering.{blockTop, blockFigures, turnEof, tallyHere, tallyElementsHere, tallyTotal}
 
 -- ── a layer opens ──
 -- it has no figures yet
@@ -37,7 +37,7 @@ agrees tally = eqb (getD tally tallyHere 0) (getD tally tallyElementsHere 0)
 
 -- "17: this_ele at ELEMENT's close"
 abbrev pub elementClosed : Now → List ℕ → Step
-elementClosed n tally = cond (agrees tally) (S.Go (atBlock n blockTop 4)) (S.Stop 17)
+elementClosed n tally = cond (agrees tally) (S.Go (atBlock n blockTop turnEof)) (S.Stop 17)
 
 pub record ElementCloses (n : Now) (t₀ t₁ : List ℕ) (r : Step) : Type 0 where
   pub answer : r ≡ elementClosed n t₀

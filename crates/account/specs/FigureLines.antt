@@ -15,7 +15,7 @@ use Rattle.account.specs.declared.Step.{Step}
 use Rattle.account.specs.declared.Step.the-variants as S
 use Rattle.account.specs.Account.{atBlock, recordMade}
 use Rattle.tables.specs.Numbering.{tableLayer, tableSingleLayer, tableFigures}
-use Rattle.account.specs.Numbering.{blockSymbol, blockElements, blockFigures}
+use Rattle.account.specs.Numbering.{blockSymbol, blockElements, blockFigures, innerText, innerPlaced, rowsLayer, rowsFigures, kindBlocks}
 use Rattle.rules.specs.RecordTable.{kindLine, inSymbol}
 
 -- ── the table ──
@@ -24,7 +24,7 @@ abbrev pub homeTable : Bool → ℕ → ℕ
 homeTable layered range = cond layered (cond (eqb range 1) tableSingleLayer tableLayer) tableFigures
 
 abbrev pub homeRows : Bool → ℕ
-homeRows layered = cond layered 7 6
+homeRows layered = cond layered rowsLayer rowsFigures
 
 abbrev pub homeRule : Bool → ℕ → ℕ → Rule
 homeRule layered range j = ruleAt (tableOf (homeTable layered range)) j
@@ -36,7 +36,7 @@ lineKind layered row = cond layered (kindLine + row) (kindLine + inSymbol + row)
 
 -- "14 successive", "15 text", "16 placed symbol": the figure's block is 1, 2 or 3; "plus 20 inside a symbol"
 abbrev pub blockKind : Bool → ℕ → ℕ
-blockKind layered block = cond layered (13 + block) (33 + block)
+blockKind layered block = cond layered (kindBlocks + block) (kindBlocks + inSymbol + block)
 
 -- ── what is open ──
 abbrev pub moreFigures : Now → Now
@@ -100,5 +100,5 @@ MarksFor block m₀ m₁ (refuse k) = m₁ ≡ m₀
 pub record FigureLine (a : Act) (n : Now) (range : ℕ) (at : Where) (rec₀ rec₁ : List ℤ) (m₀ m₁ inner₀ inner₁ : List Bool) (r : Step) : Type 0 where
   pub answer : r ≡ figureStep n a
   pub rec : FigureRecord n range at rec₀ rec₁ a
-  pub marks : MarksFor 3 m₀ m₁ a
-  pub inner : MarksFor 2 inner₀ inner₁ a
+  pub marks : MarksFor innerPlaced m₀ m₁ a
+  pub inner : MarksFor innerText inner₀ inner₁ a

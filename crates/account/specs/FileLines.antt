@@ -20,7 +20,10 @@ use Rattle.account.specs.declared.Step.{Step}
 use Rattle.account.specs.declared.Step.the-variants as S
 use Rattle.account.specs.Account.{atBlock}
 use Rattle.tables.specs.Numbering.{tableFile, tableLater}
-use Rattle.account.specs.Numbering.{blockTop, blockFile, tallyArc, tallyDate, tallyTime, tallyHere, tallyLength, mostRows, headerLength}
+use Rattle.account.specs.Numbering.{blockTop, blockFile, turnDrawing, turnElement, tallyArc, tallyDate, tallyTime, tallyHere, tallyLength, mostRows, headerLength}
+use Rattle.account.specs.Numbering.{rowsFile, rowsLater, marksRange, marksBase, marksElec, marksSym, rowNextFile, rowLaterNextFile, rowLaterDate, rowLaterTime}
+use Rattle.account.specs.Numbering.{headerArc, headerSymbolRange, headerDefineRange, headerAll, headerDate, headerTime, headerHere, headerLaterHere}
+use Rattle.account.specs.Numbering.{headerLast, headerLastLength, headerNextFile, headerNextFileLength, headerLaterDate, headerLaterTime}
 use Rattle.rules.specs.RecordTable.{width}
 
 -- ── the parts ──
@@ -37,24 +40,24 @@ fileTableOf false p = tableLater
 -- where the marks of a part's rows begin and end: those of the five parts stand one behind the other
 abbrev pub marksFrom : ℕ → ℕ
 marksFrom zero = 0
-marksFrom (suc zero) = 16
-marksFrom (suc (suc zero)) = 22
-marksFrom (suc (suc (suc zero))) = 23
-marksFrom (suc (suc (suc (suc p)))) = 26
+marksFrom (suc zero) = marksRange
+marksFrom (suc (suc zero)) = marksBase
+marksFrom (suc (suc (suc zero))) = marksElec
+marksFrom (suc (suc (suc (suc p)))) = marksSym
 
 abbrev pub marksTo : Bool → ℕ → ℕ
-marksTo first zero = cond first 16 5
-marksTo first (suc zero) = 22
-marksTo first (suc (suc zero)) = 23
-marksTo first (suc (suc (suc zero))) = 26
-marksTo first (suc (suc (suc (suc p)))) = 28
+marksTo first zero = cond first rowsFile rowsLater
+marksTo first (suc zero) = marksBase
+marksTo first (suc (suc zero)) = marksElec
+marksTo first (suc (suc (suc zero))) = marksSym
+marksTo first (suc (suc (suc (suc p)))) = mostRows
 
 abbrev pub partMarks : Bool → ℕ → List Bool → List Bool
 partMarks first p marks = take (marksTo first p - marksFrom p) (drop (marksFrom p) marks)
 
 -- ── the header kept apart ──
--- `headerLength` numbers: the records of the first volume (64) or of a later one (32), at 64 and 65 what a row without a place left last,
--- at 66 and 67 next_file's place and length, at 68 and 69 a later volume's date and time. All are counts.
+-- `headerLength` numbers: the records of the first volume (64) or of a later one (32), what a row without a place left last, next_file's
+-- place and length, a later volume's date and time. All are counts.
 abbrev pub isCount : ℤ → Bool
 isCount (pos n) = ltb n 4294967296
 isCount (negsuc n) = false
@@ -71,16 +74,16 @@ pub record Header (h : List ℤ) : Type 0 where
 
 -- what is kept behind a row without a place: next_file, and in a later volume date and time
 abbrev pub keptName : List ℤ → List ℤ
-keptName h = sets h 66 (getD h 64 (pos 0) ∷ getD h 65 (pos 0) ∷ [])
+keptName h = sets h headerNextFile (getD h headerLast (pos 0) ∷ getD h headerLastLength (pos 0) ∷ [])
 
 abbrev pub keptFirst : ℕ → List ℤ → List ℤ
-keptFirst row h = cond (eqb row 5) (keptName h) h
+keptFirst row h = cond (eqb row rowNextFile) (keptName h) h
 
 abbrev pub keptLater : ℕ → List ℤ → List ℤ
 keptLater row h =
-    cond (eqb row 2) (keptName h)
-    (cond (eqb row 3) (set h 68 (getD h 64 (pos 0)))
-    (cond (eqb row 4) (set h 69 (getD h 64 (pos 0))) h))
+    cond (eqb row rowLaterNextFile) (keptName h)
+    (cond (eqb row rowLaterDate) (set h headerLaterDate (getD h headerLast (pos 0)))
+    (cond (eqb row rowLaterTime) (set h headerLaterTime (getD h headerLast (pos 0))) h))
 
 abbrev pub kept : Bool → ℕ → List ℤ → List ℤ
 kept true row h = keptFirst row h
@@ -94,35 +97,35 @@ keptIn first (suc p) row h = h
 -- ── the close ──
 -- "next_file names the next volume (a-z read as A-Z) and is empty in the last"
 abbrev pub chainedTo : List ℕ → List ℕ → List ℤ → Bool
-chainedTo s following h = same (map capital (bytesAt s (span (countAt h 66) (countAt h 67)))) following
+chainedTo s following h = same (map capital (bytesAt s (span (countAt h headerNextFile) (countAt h headerNextFileLength)))) following
 
 -- "date and time agree over the set"
 abbrev pub datedAs : List ℕ → List ℤ → Bool
-datedAs tally h = eqb (countAt h 68) (getD tally tallyDate 0) && eqb (countAt h 69) (getD tally tallyTime 0)
+datedAs tally h = eqb (countAt h headerLaterDate) (getD tally tallyDate 0) && eqb (countAt h headerLaterTime) (getD tally tallyTime 0)
 
 abbrev pub agrees : List ℕ → List ℕ → Bool → List ℕ → List ℤ → Bool
 agrees s following first tally h = chainedTo s following h && (first || datedAs tally h)
 
 -- "16: volume chain, date or time unlike volume 1's, at FILE_FORMAT's close"
 abbrev pub closedFile : List ℕ → List ℕ → Bool → Now → List ℕ → List ℤ → Step
-closedFile s following first n tally h = cond (agrees s following first tally h) (S.Go (atBlock n blockTop (cond first 1 3))) (S.Stop 16)
+closedFile s following first n tally h = cond (agrees s following first tally h) (S.Go (atBlock n blockTop (cond first turnDrawing turnElement))) (S.Stop 16)
 
 -- what the header says of the set: the ranges arc, E_sym, S_elec; date, time, all_ele
 abbrev pub rangesTally : List ℤ → List ℕ → List ℕ
-rangesTally h tally = sets tally tallyArc (countAt h 6 ∷ countAt h 8 ∷ countAt h 11 ∷ [])
+rangesTally h tally = sets tally tallyArc (countAt h headerArc ∷ countAt h headerSymbolRange ∷ countAt h headerDefineRange ∷ [])
 
 abbrev pub setTally : List ℤ → List ℕ → List ℕ
-setTally h tally = sets tally tallyDate (countAt h 14 ∷ countAt h 15 ∷ countAt h 13 ∷ [])
+setTally h tally = sets tally tallyDate (countAt h headerDate ∷ countAt h headerTime ∷ countAt h headerAll ∷ [])
 
 -- and of the volume at hand: this_ele, of which none is counted yet
 abbrev pub hereTally : ℕ → List ℕ → List ℕ
 hereTally this tally = sets tally tallyHere (this ∷ 0 ∷ [])
 
 abbrev pub firstTally : List ℤ → List ℕ → List ℕ
-firstTally h tally = hereTally (countAt h 38) (setTally h (rangesTally h tally))
+firstTally h tally = hereTally (countAt h headerHere) (setTally h (rangesTally h tally))
 
 abbrev pub laterTally : List ℤ → List ℕ → List ℕ
-laterTally h tally = hereTally (countAt h 6) tally
+laterTally h tally = hereTally (countAt h headerLaterHere) tally
 
 abbrev pub closedTally : Bool → List ℤ → List ℕ → List ℕ
 closedTally true h tally = firstTally h tally
@@ -159,8 +162,8 @@ FileMarks p m₀ m₁ (refuse k) = Unit {0}
 
 abbrev pub FileHeader : Bool → ℕ → List ℤ → List ℤ → Act → Type 0
 FileHeader first p h₀ h₁ stay = h₁ ≡ h₀
-FileHeader first p h₀ h₁ (entry j v) = h₁ ≡ keptIn first p j (putLine (ruleAt (tableOf (fileTableOf first p)) j) 64 v h₀)
-FileHeader first p h₀ h₁ (begin i j v) = h₁ ≡ putLine (ruleAt (tableOf (fileTableOf first p)) j) 64 v h₀
+FileHeader first p h₀ h₁ (entry j v) = h₁ ≡ keptIn first p j (putLine (ruleAt (tableOf (fileTableOf first p)) j) headerLast v h₀)
+FileHeader first p h₀ h₁ (begin i j v) = h₁ ≡ putLine (ruleAt (tableOf (fileTableOf first p)) j) headerLast v h₀
 FileHeader first p h₀ h₁ shut = h₁ ≡ h₀
 FileHeader first p h₀ h₁ (refuse k) = Unit {0}
 

@@ -1,5 +1,5 @@
--- The numbers by which the code calls the open block, the places of the tally, and the lengths of what is lent down. It has them under the
--- same names, as BLOCK_TOP for `blockTop`.
+-- The numbers by which the code calls the open block and its inner ones, the rows of tables, the places of records and of the tally, and the
+-- lengths of what is lent down. It has them under the same names, as BLOCK_TOP for `blockTop`.
 use Prim.Native.Nat.{ℕ}
 
 -- ── which block is open ──
@@ -41,6 +41,166 @@ blockPlaced = 11
 
 abbrev pub blockEnded : ℕ
 blockEnded = 12
+
+-- ── what comes next at the top level ──
+-- one of the four blocks, by its row in the table, then EOF
+abbrev pub turnFile : ℕ
+turnFile = 0
+
+abbrev pub turnDrawing : ℕ
+turnDrawing = 1
+
+abbrev pub turnDefines : ℕ
+turnDefines = 2
+
+abbrev pub turnElement : ℕ
+turnElement = 3
+
+abbrev pub turnEof : ℕ
+turnEof = 4
+
+-- ── inner blocks ──
+-- as the tables number them; none is open: the lines are the block's own
+abbrev pub innerNone : ℕ
+innerNone = 0
+
+-- in a symbol, beside `hide`
+abbrev pub innerElement : ℕ
+innerElement = 1
+
+-- among figures, beside `successive`
+abbrev pub innerText : ℕ
+innerText = 2
+
+abbrev pub innerPlaced : ℕ
+innerPlaced = 3
+
+-- in a placed symbol
+abbrev pub innerPlacedText : ℕ
+innerPlacedText = 1
+
+-- ── rows ──
+-- how many a table has, under the table's name
+abbrev pub rowsTop : ℕ
+rowsTop = 4
+
+abbrev pub rowsFile : ℕ
+rowsFile = 16
+
+abbrev pub rowsLater : ℕ
+rowsLater = 5
+
+abbrev pub rowsDrawing : ℕ
+rowsDrawing = 8
+
+abbrev pub rowsSymbol : ℕ
+rowsSymbol = 4
+
+abbrev pub rowsLayer : ℕ
+rowsLayer = 7
+
+abbrev pub rowsFigures : ℕ
+rowsFigures = 6
+
+abbrev pub rowsPlaced : ℕ
+rowsPlaced = 6
+
+abbrev pub rowsText : ℕ
+rowsText = 2
+
+-- where the marks of FILE_FORMAT's inner blocks begin, behind those of its own rows
+abbrev pub marksRange : ℕ
+marksRange = 16
+
+abbrev pub marksBase : ℕ
+marksBase = 22
+
+abbrev pub marksElec : ℕ
+marksElec = 23
+
+abbrev pub marksSym : ℕ
+marksSym = 26
+
+-- those of FILE_FORMAT that have no place in the record, in the first volume and in later ones
+abbrev pub rowNextFile : ℕ
+rowNextFile = 5
+
+abbrev pub rowLaterNextFile : ℕ
+rowLaterNextFile = 2
+
+abbrev pub rowLaterDate : ℕ
+rowLaterDate = 3
+
+abbrev pub rowLaterTime : ℕ
+rowLaterTime = 4
+
+-- ── places in FILE_FORMAT's numbers ──
+-- in the header's record: arc, E_sym and S_elec; all_ele, date and time
+abbrev pub headerArc : ℕ
+headerArc = 6
+
+abbrev pub headerSymbolRange : ℕ
+headerSymbolRange = 8
+
+abbrev pub headerDefineRange : ℕ
+headerDefineRange = 11
+
+abbrev pub headerAll : ℕ
+headerAll = 13
+
+abbrev pub headerDate : ℕ
+headerDate = 14
+
+abbrev pub headerTime : ℕ
+headerTime = 15
+
+-- this_ele, in the volume's record behind it, and in a later volume's, which stands alone
+abbrev pub headerHere : ℕ
+headerHere = 38
+
+abbrev pub headerLaterHere : ℕ
+headerLaterHere = 6
+
+-- behind the records what a row without a place left last, a number or a text's place and length
+abbrev pub headerLast : ℕ
+headerLast = 64
+
+abbrev pub headerLastLength : ℕ
+headerLastLength = 65
+
+-- and what is kept of it: next_file, and in a later volume date and time
+abbrev pub headerNextFile : ℕ
+headerNextFile = 66
+
+abbrev pub headerNextFileLength : ℕ
+headerNextFileLength = 67
+
+abbrev pub headerLaterDate : ℕ
+headerLaterDate = 68
+
+abbrev pub headerLaterTime : ℕ
+headerLaterTime = 69
+
+-- ── places in other records ──
+-- a symbol's name
+abbrev pub placeName : ℕ
+placeName = 5
+
+abbrev pub placeNameLength : ℕ
+placeNameLength = 6
+
+-- a layer's letter; its number and name follow
+abbrev pub placeLetter : ℕ
+placeLetter = 5
+
+-- a placed symbol's own number, the first of `serial`
+abbrev pub placeOwn : ℕ
+placeOwn = 14
+
+-- ── kinds ──
+-- the kind of a figure that is a block is this and its inner number
+abbrev pub kindBlocks : ℕ
+kindBlocks = 13
 
 -- ── the tally ──
 -- the ranges arc, E_sym and S_elec

@@ -27,7 +27,7 @@ use Rattle.account.specs.declared.Skipped.the-variants as K
 use Rattle.account.specs.Account.{atBlock, figureDone}
 use Rattle.account.specs.SkippedLines.{skippedAs}
 use Rattle.tables.specs.Numbering.{tablePlaced, tablePlacedText}
-use Rattle.account.specs.Numbering.{blockPlaced, tallySerials, tallyLength, mostRows}
+use Rattle.account.specs.Numbering.{blockPlaced, innerNone, innerPlacedText, rowsPlaced, rowsText, placeOwn, tallySerials, tallyLength, mostRows}
 use Rattle.rules.specs.RecordTable.{width}
 
 -- what the reading lends to a line of a placed symbol, besides its record: the tally and the own numbers in use, which rows of the
@@ -48,11 +48,11 @@ serialCount tally = getD tally tallySerials 0
 
 -- the own number in a record: the first of the row `serial`'s two numbers. The record's numbers are signed
 abbrev pub ownNumber : List ℤ → ℕ
-ownNumber rec = natAbs (getD rec 14 (pos 0))
+ownNumber rec = natAbs (getD rec placeOwn (pos 0))
 
 -- it is not below zero: the row's line was entered
 abbrev pub OwnGiven : List ℤ → Type 0
-OwnGiven rec = nonNeg (getD rec 14 (pos 0)) ≡ true
+OwnGiven rec = nonNeg (getD rec placeOwn (pos 0)) ≡ true
 
 abbrev pub inUse : List ℕ → List ℕ → ℕ → Bool
 inUse tally serials n = hasNumber n (take (serialCount tally) serials)
@@ -94,7 +94,7 @@ lentInside x j = record {
 abbrev pub placedStep : Now → Lent → ℕ → Next → Step
 placedStep now x n N.Stay = S.Go now
 placedStep now x n (N.Entry j) = cond (clashes x j n) (S.Stop 15) (S.Go now)
-placedStep now x n (N.Begin b) = S.Go (atBlock now blockPlaced 1)
+placedStep now x n (N.Begin b) = S.Go (atBlock now blockPlaced innerPlacedText)
 placedStep now x n N.Shut = S.Stop 8
 placedStep now x n (N.Refuse k) = S.Stop k
 
@@ -115,8 +115,8 @@ pub record PlacedDone (now : Now) (x₀ x₁ : Lent) (n : ℕ) (next : Next) (r 
 -- what it needs: the row of the line is one of the table's, and a line of the row `serial` has put its own number into the record
 abbrev pub RowReady : List ℤ → Next → Type 0
 RowReady rec N.Stay = Unit {0}
-RowReady rec (N.Entry j) = (j < 6) × (j ≡ serialRow → OwnGiven rec)
-RowReady rec (N.Begin b) = b .row < 6
+RowReady rec (N.Entry j) = (j < rowsPlaced) × (j ≡ serialRow → OwnGiven rec)
+RowReady rec (N.Begin b) = b .row < rowsPlaced
 RowReady rec N.Shut = Unit {0}
 RowReady rec (N.Refuse k) = Unit {0}
 
@@ -160,7 +160,7 @@ hiddenAt q hidden rec = cond hidden (set rec q (pos 3)) rec
 
 -- "8: something required missing, at the closing line": what the file allows and the class knows is required
 abbrev pub isWhole : Digits → Digits → List Bool → Bool
-isWhole class range marks = complete (both class range) (tableOf tablePlaced) (take 6 marks)
+isWhole class range marks = complete (both class range) (tableOf tablePlaced) (take rowsPlaced marks)
 
 pub record CloseLine (class range : Digits) (now : Now) (marks : List Bool) (rec₀ rec₁ : List ℤ) (r : Step) : Type 0 where
   pub answer : r ≡ cond (isWhole class range marks) (S.Go (figureDone now)) (S.Stop 8)
@@ -180,7 +180,7 @@ abbrev pub placedTextStep : Now → Act → Step
 placedTextStep now stay = S.Go now
 placedTextStep now (entry j v) = S.Go now
 placedTextStep now (begin i j v) = S.Stop 5
-placedTextStep now shut = S.Go (atBlock now blockPlaced 0)
+placedTextStep now shut = S.Go (atBlock now blockPlaced innerNone)
 placedTextStep now (refuse k) = S.Stop k
 
 abbrev pub PlacedTextMarks : List Bool → List Bool → Act → Type 0
@@ -213,5 +213,5 @@ pub record LentReady (x : Lent) (t : List ℤ) : Type 0 where
   pub serials : serialCount (x .tally) < length (x .serials)
   pub count : serialCount (x .tally) < 4294967295
   pub marks : length (x .marks) ≡ mostRows
-  pub inner : length (x .inner) ≡ 2
+  pub inner : length (x .inner) ≡ rowsText
   pub rec : length t ≡ width

@@ -21,7 +21,7 @@ use Rattle.account.specs.declared.Step.the-variants as S
 use Rattle.account.specs.declared.Where.{Where}
 use Rattle.account.specs.Account.{atBlock, headAt}
 use Rattle.tables.specs.Numbering.{tableSymbol}
-use Rattle.account.specs.Numbering.{blockTop, blockDefines, blockSymbol, blockHide, blockFigures}
+use Rattle.account.specs.Numbering.{blockTop, blockDefines, blockSymbol, blockHide, blockFigures, turnElement, innerElement, placeName, placeNameLength}
 use Rattle.rules.specs.RecordTable.{kindSymbol}
 
 -- ── SYMBOL_DEFINE ──
@@ -46,7 +46,7 @@ abbrev pub definedIn : Now → ℕ → Bool
 definedIn n count = nonIn n || not (eqb count 0)
 
 abbrev pub closeDefines : Now → ℕ → Step
-closeDefines n count = cond (definedIn n count) (S.Go (atBlock n blockTop 3)) (S.Stop 8)
+closeDefines n count = cond (definedIn n count) (S.Go (atBlock n blockTop turnElement)) (S.Stop 8)
 
 abbrev pub definesStep : Now → ℕ → Act → Step
 definesStep n count stay = S.Go n
@@ -91,10 +91,10 @@ isPlace (negsuc n) = false
 
 -- the name in a symbol's record: its place and its length
 abbrev pub nameOf : List ℤ → Span
-nameOf rec = span (asPlace (getD rec 5 (pos 0))) (asPlace (getD rec 6 (pos 0)))
+nameOf rec = span (asPlace (getD rec placeName (pos 0))) (asPlace (getD rec placeNameLength (pos 0)))
 
 abbrev pub isNamed : List ℤ → Bool
-isNamed rec = isPlace (getD rec 5 (pos 0)) && isPlace (getD rec 6 (pos 0))
+isNamed rec = isPlace (getD rec placeName (pos 0)) && isPlace (getD rec placeNameLength (pos 0))
 
 -- what stands behind a line's `=` begins at such a place
 abbrev pub ContentPlaced : Form → Type 0
@@ -115,7 +115,7 @@ symbolEntry s symbols n j rec = cond (eqb j 0 && not (isNew s symbols (nameOf re
 -- `element` is open, or `hide`
 abbrev pub symbolPart : Now → ℕ → Now
 symbolPart n i =
-    cond (eqb i 1) (record { block = blockFigures; part = 0; layered = false; owner = n .owner; records = n .records; figures = 0; points = 0 })
+    cond (eqb i innerElement) (record { block = blockFigures; part = 0; layered = false; owner = n .owner; records = n .records; figures = 0; points = 0 })
     (record { block = blockHide; part = 0; layered = false; owner = n .owner; records = n .records; figures = n .figures; points = 0 })
 
 -- the record after the line of row j

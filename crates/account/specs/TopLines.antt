@@ -19,7 +19,7 @@ use Rattle.account.specs.declared.Step.{Step}
 use Rattle.account.specs.declared.Step.the-variants as S
 use Rattle.account.specs.Account.{atBlock, headAt}
 use Rattle.tables.specs.Numbering.{tableTop}
-use Rattle.account.specs.Numbering.{blockFile, blockDrawing, blockDefines, blockElements, blockEnded, tallyAll, tallyTotal, tallyLayers}
+use Rattle.account.specs.Numbering.{blockFile, blockDrawing, blockDefines, blockElements, blockEnded, turnEof, rowsTop, tallyAll, tallyTotal, tallyLayers}
 use Rattle.rules.specs.RecordTable.{width, kindHeader, kindVolume, kindDrawing}
 
 -- ── the answer ──
@@ -54,7 +54,7 @@ layersOf tally = getD tally tallyLayers 0
 -- "9 (EOF misplaced, at EOF's line, also if any line follows it)", then "14 (unused, at EOF)", then "17 (all_ele at EOF)"
 abbrev pub eofNow : Now → Where → List ℕ → List Bool → Got Now
 eofNow n at tally used =
-    unless (eqb (n .part) 4 && at .ends) 9
+    unless (eqb (n .part) turnEof && at .ends) 9
     (unless (all (λ b. b) (take (layersOf tally) used)) 14
     (unless (eqb (allOf tally) (totalOf tally)) 17
     (got (atBlock n blockEnded 0))))
@@ -122,7 +122,7 @@ keyLent first at l (refuse k) = l
 
 -- no row stands once: a block that comes twice is out of its order
 abbrev pub topAct : Known → Form → Act
-topAct k f = act k (tableOf tableTop) (digits 0 0) (replicate 4 false) f
+topAct k f = act k (tableOf tableTop) (digits 0 0) (replicate rowsTop false) f
 
 -- with any form
 abbrev pub topNow : Known → Bool → Now → Where → List ℕ → List Bool → Form → Got Now

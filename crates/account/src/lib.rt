@@ -50,12 +50,119 @@ pub const BLOCK_PLACED: u8 = 11;
 
 pub const BLOCK_ENDED: u8 = 12;
 
+// What comes next at the top level: one of the four blocks, by its row in the table, then EOF.
+pub const TURN_FILE: u8 = 0;
+
+pub const TURN_DRAWING: u8 = 1;
+
+pub const TURN_DEFINES: u8 = 2;
+
+pub const TURN_ELEMENT: u8 = 3;
+
+pub const TURN_EOF: u8 = 4;
+
+// The inner blocks of a block, as the tables number them: none is open, the lines are the block's own;
+pub const INNER_NONE: u8 = 0;
+
+// in a symbol, beside `hide`;
+pub const INNER_ELEMENT: u8 = 1;
+
+// among figures, beside `successive`;
+pub const INNER_TEXT: u8 = 2;
+
+pub const INNER_PLACED: u8 = 3;
+
+// in a placed symbol.
+pub const INNER_PLACED_TEXT: u8 = 1;
+
+// How many rows a table has, under the table's name;
+pub const ROWS_TOP: usize = 4;
+
+pub const ROWS_FILE: usize = 16;
+
+pub const ROWS_LATER: usize = 5;
+
+pub const ROWS_DRAWING: usize = 8;
+
+pub const ROWS_SYMBOL: usize = 4;
+
+pub const ROWS_LAYER: usize = 7;
+
+pub const ROWS_FIGURES: usize = 6;
+
+pub const ROWS_PLACED: usize = 6;
+
+pub const ROWS_TEXT: usize = 2;
+
+// where the marks of FILE_FORMAT's inner blocks begin, behind those of its own rows;
+pub const MARKS_RANGE: usize = 16;
+
+pub const MARKS_BASE: usize = 22;
+
+pub const MARKS_ELEC: usize = 23;
+
+pub const MARKS_SYM: usize = 26;
+
+// and the rows of FILE_FORMAT that have no place in the record, in the first volume and in later ones.
+pub const ROW_NEXT_FILE: u8 = 5;
+
+pub const ROW_LATER_NEXT_FILE: u8 = 2;
+
+pub const ROW_LATER_DATE: u8 = 3;
+
+pub const ROW_LATER_TIME: u8 = 4;
+
+// Places in FILE_FORMAT's numbers. In the header's record: arc, E_sym and S_elec; all_ele, date and time;
+pub const HEADER_ARC: usize = 6;
+
+pub const HEADER_SYMBOL_RANGE: usize = 8;
+
+pub const HEADER_DEFINE_RANGE: usize = 11;
+
+pub const HEADER_ALL: usize = 13;
+
+pub const HEADER_DATE: usize = 14;
+
+pub const HEADER_TIME: usize = 15;
+
+// this_ele, in the volume's record behind it, and in a later volume's, which stands alone;
+pub const HEADER_HERE: usize = 38;
+
+pub const HEADER_LATER_HERE: usize = 6;
+
+// behind the records what a row without a place left last, a number or a text's place and length;
+pub const HEADER_LAST: usize = 64;
+
+pub const HEADER_LAST_LENGTH: usize = 65;
+
+// and what is kept of it: next_file, and in a later volume date and time.
+pub const HEADER_NEXT_FILE: usize = 66;
+
+pub const HEADER_NEXT_FILE_LENGTH: usize = 67;
+
+pub const HEADER_LATER_DATE: usize = 68;
+
+pub const HEADER_LATER_TIME: usize = 69;
+
+// Places in other records: a symbol's name;
+pub const PLACE_NAME: usize = 5;
+
+pub const PLACE_NAME_LENGTH: usize = 6;
+
+// a layer's letter (its number and name follow);
+pub const PLACE_LETTER: usize = 5;
+
+// a placed symbol's own number, the first of `serial`.
+pub const PLACE_OWN: usize = 14;
+
+// The kind of a figure that is a block is this and its inner number.
+pub const KIND_BLOCKS: u8 = 13;
+
 // Which block is open, and how far it is. What its lines held is in the records.
 pub struct Now {
     // the block
     pub block: u8,
-    // at the top level: the block that comes next, 4 after ELEMENT; in FILE_FORMAT and a placed symbol: the inner part that is open; in
-    // SYMBOL_DEFINE: 1 after `NON=`
+    // at the top level: one of TURN_..; in FILE_FORMAT and a placed symbol: one of INNER_..; in SYMBOL_DEFINE: 1 after `NON=`
     pub part: u8,
     // the figures are a layer's, not a symbol's
     pub layered: bool,
@@ -115,6 +222,9 @@ pub const SCRATCH_LENGTH: usize = 96;
 
 // and what a line of a `successive` is lent of it, its own record and the point's;
 pub const CHAIN_LENGTH: usize = 64;
+
+// the layers' names (`mostLayers` of rules: Blocks);
+pub const MOST_LAYERS: usize = 64;
 
 // the symbols' names, no spool has more;
 pub const MOST_SYMBOLS: usize = 1280;

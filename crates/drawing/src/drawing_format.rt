@@ -3,9 +3,13 @@ use account::BLOCK_DRAWING;
 use account::BLOCK_LAYER_NAMES;
 use account::BLOCK_TOP;
 use account::LayerName;
+use account::MOST_LAYERS;
 use account::Now;
+use account::PLACE_LETTER;
+use account::ROWS_DRAWING;
 use account::Step;
 use account::TALLY_LAYERS;
+use account::TURN_DEFINES;
 use account::Where;
 use entries::Index;
 use entries::Next;
@@ -36,6 +40,7 @@ ghost use lib.ListN.{length, drop};
 ghost use Rattle.rules.specs.Lines.{formIn, freeShapeOf, bytesAt};
 ghost use Rattle.rules.specs.Numbers.{value};
 ghost use Rattle.rules.specs.Values.{isLayerId};
+ghost use Rattle.rules.specs.Blocks.{mostLayers};
 ghost use Rattle.rules.specs.Machine.{layerValue};
 ghost use Rattle.entries.specs.Names.{knownIn};
 ghost use Rattle.entries.specs.Shapes.{restIn};
@@ -64,7 +69,7 @@ pub fn on_drawing(
         symbols,
         layers,
         digits_of(arc),
-        &marks[..8],
+        &marks[..ROWS_DRAWING],
         form,
         0,
         rec,
@@ -79,7 +84,7 @@ pub fn on_drawing(
             marks[inner.row as usize] = true;
             Step::Go(at_block(here, BLOCK_LAYER_NAMES, 0))
         }
-        Next::Shut => Step::Go(at_block(here, BLOCK_TOP, 2)),
+        Next::Shut => Step::Go(at_block(here, BLOCK_TOP, TURN_DEFINES)),
         Next::Refuse(k) => Step::Stop(k),
     }
 }
@@ -138,17 +143,27 @@ fn layer_taken(here: Now) -> Now
     }
 }
 
+// In a layer's record behind its letter: its number, and its name's place and length.
+const PLACE_NUMBER: usize = 6;
+
+const PLACE_LAYER_NAME: usize = 7;
+
+const PLACE_LAYER_NAME_LENGTH: usize = 8;
+
 // "5 layer: letter's byte, number, name"
 fn put_layer(number: u32, id: &[u8], name: Span, at: Where, rec: &mut [i64])
     requires { ⌜ (isLayerId (now id) ≡ true) × (length (now rec) ≡ width) ⌝ }
     ensures { λ _. ⌜ now (rec .exit) ≡ layerPut number at (now (id .entry)) (pos (name .at) ∷ pos (name .len) ∷ []) (now (rec .entry)) ⌝ }
 {
     head(rec, 0, KIND_LAYER, number, at.volume, at.line);
-    rec[5] = id[0] as i64;
-    rec[6] = layer_digits(id) as i64;
-    rec[7] = name.at as i64;
-    rec[8] = name.len as i64;
+    rec[PLACE_LETTER] = id[0] as i64;
+    rec[PLACE_NUMBER] = layer_digits(id) as i64;
+    rec[PLACE_LAYER_NAME] = name.at as i64;
+    rec[PLACE_LAYER_NAME_LENGTH] = name.len as i64;
 }
+
+// The length of a layer's id, five bytes, as it stands in a name's number: 65,536 times, above the place.
+const LAYER_ID_LENGTH: u32 = 327680;
 
 fn take_layer(
     s: &[u8],
@@ -160,13 +175,12 @@ fn take_layer(
     at: Where,
     rec: &mut [i64],
 ) -> Now
-    requires { ⌜ (length (now s) ≤ 61440) × (length (now tally) ≡ tallyLength) × (length (now layers) ≡ 64) × (layersOf (now tally) < 64) × (isLayerId (bytesAt (now s) key) ≡ true) × (length (now rec) ≡ width) × (here .records < 18446744073709551615) ⌝ }
+    requires { ⌜ (length (now s) ≤ 61440) × (length (now tally) ≡ tallyLength) × (length (now layers) ≡ mostLayers) × (layersOf (now tally) < mostLayers) × (isLayerId (bytesAt (now s) key) ≡ true) × (length (now rec) ≡ width) × (here .records < 18446744073709551615) ⌝ }
     ensures { λ r. ⌜ (r ≡ layerTaken here) × LayerIn (now (s .entry)) at (bytesAt (now (s .entry)) key) (pos (name .at) ∷ pos (name .len) ∷ []) (now (tally .entry)) (now (tally .exit)) (now (layers .entry)) (now (layers .exit)) (now (rec .entry)) (now (rec .exit)) ⌝ }
 {
     let count = tally[TALLY_LAYERS];
     put_layer(count, part(s, key), name, at, rec);
-    // an id has five bytes
-    layers[count as usize] = key.at + 327680;
+    layers[count as usize] = key.at + LAYER_ID_LENGTH;
     tally[TALLY_LAYERS] = count + 1;
     layer_taken(here)
 }
@@ -182,7 +196,7 @@ fn layer_line(
     at: Where,
     rec: &mut [i64],
 ) -> Step
-    requires { ⌜ (length (now s) ≤ 61440) × (length (now tally) ≡ tallyLength) × (length (now layers) ≡ 64) × (layersOf (now tally) ≤ 64) × (length (now rec) ≡ width) × (here .records < 18446744073709551615) ⌝ }
+    requires { ⌜ (length (now s) ≤ 61440) × (length (now tally) ≡ tallyLength) × (length (now layers) ≡ mostLayers) × (layersOf (now tally) ≤ mostLayers) × (length (now rec) ≡ width) × (here .records < 18446744073709551615) ⌝ }
     ensures { λ r. ⌜ LayerLine (now (s .entry)) here at (bytesAt (now (s .entry)) key) (now (tally .entry)) (now (tally .exit)) (now (layers .entry)) (now (layers .exit)) (now (rec .entry)) (now (rec .exit)) (layerGot (now (s .entry)) (now (tally .entry)) (now (layers .entry)) (bytesAt (now (s .entry)) key) (restIn (now (s .entry)) rest)) r ⌝ }
 {
     if !is_layer_id(part(s, key)) {
@@ -193,7 +207,7 @@ fn layer_line(
         LayerName::Bad(n) => Step::Stop(n),
         LayerName::Is(name) => {
             let count = tally[TALLY_LAYERS] as usize;
-            if 64 <= count {
+            if MOST_LAYERS <= count {
                 return Step::Stop(11);
             }
             let found = index_of(s, &layers[..count], part(s, key));
@@ -215,7 +229,7 @@ pub fn on_layer_names(
     at: Where,
     rec: &mut [i64],
 ) -> Step
-    requires { ⌜ (length (now s) ≤ 61440) × (length (now tally) ≡ tallyLength) × (length (now layers) ≡ 64) × (layersOf (now tally) ≤ 64) × (length (now rec) ≡ width) × (here .records < 18446744073709551615) ⌝ }
+    requires { ⌜ (length (now s) ≤ 61440) × (length (now tally) ≡ tallyLength) × (length (now layers) ≡ mostLayers) × (layersOf (now tally) ≤ mostLayers) × (length (now rec) ≡ width) × (here .records < 18446744073709551615) ⌝ }
     ensures { λ r. ⌜ NamesLine (now (s .entry)) here at (formIn (now (s .entry)) form) (now (tally .entry)) (now (tally .exit)) (now (layers .entry)) (now (layers .exit)) (now (rec .entry)) (now (rec .exit)) r ⌝ }
 {
     match form {

@@ -1,8 +1,33 @@
 // FILE_FORMAT, and the parts of `range` in it.
 use account::BLOCK_FILE;
 use account::BLOCK_TOP;
+use account::HEADER_ALL;
+use account::HEADER_ARC;
+use account::HEADER_DATE;
+use account::HEADER_DEFINE_RANGE;
+use account::HEADER_HERE;
+use account::HEADER_LAST;
+use account::HEADER_LAST_LENGTH;
+use account::HEADER_LATER_DATE;
+use account::HEADER_LATER_HERE;
+use account::HEADER_LATER_TIME;
+use account::HEADER_NEXT_FILE;
+use account::HEADER_NEXT_FILE_LENGTH;
+use account::HEADER_SYMBOL_RANGE;
+use account::HEADER_TIME;
+use account::INNER_NONE;
+use account::MARKS_BASE;
+use account::MARKS_ELEC;
+use account::MARKS_RANGE;
+use account::MARKS_SYM;
 use account::MOST_ROWS;
 use account::Now;
+use account::ROW_LATER_DATE;
+use account::ROW_LATER_NEXT_FILE;
+use account::ROW_LATER_TIME;
+use account::ROW_NEXT_FILE;
+use account::ROWS_FILE;
+use account::ROWS_LATER;
 use account::Step;
 use account::TALLY_ALL;
 use account::TALLY_ARC;
@@ -12,6 +37,8 @@ use account::TALLY_ELEMENTS_HERE;
 use account::TALLY_HERE;
 use account::TALLY_SYMBOL_RANGE;
 use account::TALLY_TIME;
+use account::TURN_DRAWING;
+use account::TURN_ELEMENT;
 use entries::Next;
 use entries::acts::act;
 use entries::names::part;
@@ -37,48 +64,55 @@ ghost use Rattle.entries.specs.Names.{knownIn};
 ghost use Rattle.account.specs.FileLines.{fileTableOf, marksFrom, marksTo, partMarks, Header, keptName, keptFirst, keptLater, kept, datedAs, rangesTally, setTally, hereTally, firstTally, laterTally, FileClosed, FileReady, FileLine};
 ghost use Rattle.account.specs.Numbering.{tallyLength, headerLength};
 
+// FILE_FORMAT's inner blocks; the last is `sym`.
+const INNER_RANGE: u8 = 1;
+
+const INNER_BASE: u8 = 2;
+
+const INNER_ELEC: u8 = 3;
+
 // Where the marks of a part's rows begin and end: FILE_FORMAT's own, `range`, `base`, `elec`, `sym`.
 fn marks_from(part: u8) -> usize
     ensures { λ r. ⌜ r ≡ marksFrom part ⌝ }
 {
-    if part == 0 {
+    if part == INNER_NONE {
         return 0;
     }
-    if part == 1 {
-        return 16;
+    if part == INNER_RANGE {
+        return MARKS_RANGE;
     }
-    if part == 2 {
-        return 22;
+    if part == INNER_BASE {
+        return MARKS_BASE;
     }
-    if part == 3 {
-        return 23;
+    if part == INNER_ELEC {
+        return MARKS_ELEC;
     }
-    26
+    MARKS_SYM
 }
 
 fn own_marks(first: bool) -> usize
     ensures { λ r. ⌜ r ≡ marksTo first 0 ⌝ }
 {
     if first {
-        return 16;
+        return ROWS_FILE;
     }
-    5
+    ROWS_LATER
 }
 
 fn marks_to(first: bool, part: u8) -> usize
     ensures { λ r. ⌜ r ≡ marksTo first part ⌝ }
 {
-    if part == 0 {
+    if part == INNER_NONE {
         return own_marks(first);
     }
-    if part == 1 {
-        return 22;
+    if part == INNER_RANGE {
+        return MARKS_BASE;
     }
-    if part == 2 {
-        return 23;
+    if part == INNER_BASE {
+        return MARKS_ELEC;
     }
-    if part == 3 {
-        return 26;
+    if part == INNER_ELEC {
+        return MARKS_SYM;
     }
     MOST_ROWS
 }
@@ -98,28 +132,28 @@ fn around(part: u8) -> u8
     requires { ⌜ 1 ≤ part ⌝ }
     ensures { λ r. ⌜ r ≡ around part ⌝ }
 {
-    if part == 1 {
-        return 0;
+    if part == INNER_RANGE {
+        return INNER_NONE;
     }
-    1
+    INNER_RANGE
 }
 
-// What a row without a place in the record left behind it is kept: next_file at 66 and 67, and in a later volume date at 68, time at 69.
+// What a row without a place in the record left behind it is kept: next_file, and in a later volume date and time.
 fn keep_name(header: &mut [i64])
     requires { ⌜ length (now header) ≡ headerLength ⌝ }
     ensures { λ _. ⌜ now (header .exit) ≡ keptName (now (header .entry)) ⌝ }
 {
-    let at = header[64];
-    let len = header[65];
-    header[66] = at;
-    header[67] = len;
+    let at = header[HEADER_LAST];
+    let len = header[HEADER_LAST_LENGTH];
+    header[HEADER_NEXT_FILE] = at;
+    header[HEADER_NEXT_FILE_LENGTH] = len;
 }
 
 fn keep_first(row: u8, header: &mut [i64])
     requires { ⌜ length (now header) ≡ headerLength ⌝ }
     ensures { λ _. ⌜ now (header .exit) ≡ keptFirst row (now (header .entry)) ⌝ }
 {
-    if row != 5 {
+    if row != ROW_NEXT_FILE {
         return;
     }
     keep_name(header);
@@ -129,18 +163,18 @@ fn keep_later(row: u8, header: &mut [i64])
     requires { ⌜ length (now header) ≡ headerLength ⌝ }
     ensures { λ _. ⌜ now (header .exit) ≡ keptLater row (now (header .entry)) ⌝ }
 {
-    if row == 2 {
+    if row == ROW_LATER_NEXT_FILE {
         keep_name(header);
         return;
     }
-    if row == 3 {
-        header[68] = header[64];
+    if row == ROW_LATER_DATE {
+        header[HEADER_LATER_DATE] = header[HEADER_LAST];
         return;
     }
-    if row != 4 {
+    if row != ROW_LATER_TIME {
         return;
     }
-    header[69] = header[64];
+    header[HEADER_LATER_TIME] = header[HEADER_LAST];
 }
 
 fn keep(first: bool, row: u8, header: &mut [i64])
@@ -176,18 +210,18 @@ fn ranges_tally(header: &[i64], tally: &mut [u32])
     requires { ⌜ Header (now header) × (length (now tally) ≡ tallyLength) ⌝ }
     ensures { λ _. ⌜ now (tally .exit) ≡ rangesTally (now (header .entry)) (now (tally .entry)) ⌝ }
 {
-    tally[TALLY_ARC] = header[6] as u32;
-    tally[TALLY_SYMBOL_RANGE] = header[8] as u32;
-    tally[TALLY_DEFINE_RANGE] = header[11] as u32;
+    tally[TALLY_ARC] = header[HEADER_ARC] as u32;
+    tally[TALLY_SYMBOL_RANGE] = header[HEADER_SYMBOL_RANGE] as u32;
+    tally[TALLY_DEFINE_RANGE] = header[HEADER_DEFINE_RANGE] as u32;
 }
 
 fn set_tally(header: &[i64], tally: &mut [u32])
     requires { ⌜ Header (now header) × (length (now tally) ≡ tallyLength) ⌝ }
     ensures { λ _. ⌜ now (tally .exit) ≡ setTally (now (header .entry)) (now (tally .entry)) ⌝ }
 {
-    tally[TALLY_DATE] = header[14] as u32;
-    tally[TALLY_TIME] = header[15] as u32;
-    tally[TALLY_ALL] = header[13] as u32;
+    tally[TALLY_DATE] = header[HEADER_DATE] as u32;
+    tally[TALLY_TIME] = header[HEADER_TIME] as u32;
+    tally[TALLY_ALL] = header[HEADER_ALL] as u32;
 }
 
 // What a header says of its volume: this_ele, of which none is counted yet.
@@ -205,14 +239,14 @@ fn first_tally(header: &[i64], tally: &mut [u32])
 {
     ranges_tally(header, tally);
     set_tally(header, tally);
-    here_tally(header[38] as u32, tally);
+    here_tally(header[HEADER_HERE] as u32, tally);
 }
 
 fn later_tally(header: &[i64], tally: &mut [u32])
     requires { ⌜ Header (now header) × (length (now tally) ≡ tallyLength) ⌝ }
     ensures { λ _. ⌜ now (tally .exit) ≡ laterTally (now (header .entry)) (now (tally .entry)) ⌝ }
 {
-    here_tally(header[6] as u32, tally);
+    here_tally(header[HEADER_LATER_HERE] as u32, tally);
 }
 
 // "date and time agree over the set"
@@ -220,10 +254,10 @@ fn dated(header: &[i64], tally: &[u32]) -> bool
     requires { ⌜ Header (now header) × (length (now tally) ≡ tallyLength) ⌝ }
     ensures { λ r. ⌜ r ≡ datedAs (now (tally .entry)) (now (header .entry)) ⌝ }
 {
-    if header[68] as u32 != tally[TALLY_DATE] {
+    if header[HEADER_LATER_DATE] as u32 != tally[TALLY_DATE] {
         return false;
     }
-    header[69] as u32 == tally[TALLY_TIME]
+    header[HEADER_LATER_TIME] as u32 == tally[TALLY_TIME]
 }
 
 // "16: volume chain, date or time unlike volume 1's, at FILE_FORMAT's close"
@@ -239,21 +273,21 @@ fn close_file(
     ensures { λ r. ⌜ FileClosed (now (s .entry)) (now (following .entry)) first here (now (header .entry)) (now (tally .entry)) (now (tally .exit)) r ⌝ }
 {
     let name = Span {
-        at: header[66] as u32,
-        len: header[67] as u32,
+        at: header[HEADER_NEXT_FILE] as u32,
+        len: header[HEADER_NEXT_FILE_LENGTH] as u32,
     };
     if !names(part(s, name), following) {
         return Step::Stop(16);
     }
     if first {
         first_tally(header, tally);
-        return Step::Go(at_block(here, BLOCK_TOP, 1));
+        return Step::Go(at_block(here, BLOCK_TOP, TURN_DRAWING));
     }
     if !dated(header, tally) {
         return Step::Stop(16);
     }
     later_tally(header, tally);
-    Step::Go(at_block(here, BLOCK_TOP, 3))
+    Step::Go(at_block(here, BLOCK_TOP, TURN_ELEMENT))
 }
 
 // A line in FILE_FORMAT, in its own part or an inner one. Its numbers are kept apart till it closes.
@@ -282,14 +316,14 @@ pub fn on_file(
         no_digits(),
         &marks[from..to],
         form,
-        64,
+        HEADER_LAST,
         header,
     );
     match next {
         Next::Stay => Step::Go(here),
         Next::Entry(row) => {
             marks[from + row as usize] = true;
-            if here.part == 0 {
+            if here.part == INNER_NONE {
                 keep(first, row, header);
             }
             Step::Go(here)
@@ -299,7 +333,7 @@ pub fn on_file(
             Step::Go(at_block(here, BLOCK_FILE, inner.block))
         }
         Next::Shut => {
-            if here.part == 0 {
+            if here.part == INNER_NONE {
                 return close_file(s, following, first, here, tally, header);
             }
             Step::Go(at_block(here, BLOCK_FILE, around(here.part)))

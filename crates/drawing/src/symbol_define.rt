@@ -4,9 +4,14 @@ use account::BLOCK_FIGURES;
 use account::BLOCK_HIDE;
 use account::BLOCK_SYMBOL;
 use account::BLOCK_TOP;
+use account::INNER_ELEMENT;
 use account::Now;
+use account::PLACE_NAME;
+use account::PLACE_NAME_LENGTH;
+use account::ROWS_SYMBOL;
 use account::Step;
 use account::TALLY_SYMBOLS;
+use account::TURN_ELEMENT;
 use account::Where;
 use entries::Index;
 use entries::Next;
@@ -34,8 +39,14 @@ ghost use Rattle.tables.specs.Tables.{tableOf};
 ghost use Rattle.entries.specs.Names.{knownIn};
 ghost use Rattle.account.specs.SymbolLines.{nonIn, nonRead, symbolOpened, openSymbol, SymbolBegun, OpenedOr, definedIn, closeDefines, DefinesLine, nameOf, isNamed, ContentPlaced, isNew, symbolEntry, symbolPart, SymbolLine, nameNumber};
 ghost use Rattle.tables.specs.Numbering.{tableDefines, tableSymbol};
-ghost use Rattle.account.specs.Numbering.{tallySymbols, tallyLength, mostRows};
+ghost use Rattle.account.specs.Numbering.{rowsSymbol, tallySymbols, tallyLength, mostRows};
 ghost use Rattle.rules.specs.RecordTable.{width};
+
+// The part of SYMBOL_DEFINE behind `NON=`.
+const AFTER_NON: u8 = 1;
+
+// The row of a symbol's name.
+const ROW_NAME: u8 = 0;
 
 // "NON and a symbol together" is 6
 fn non_read(here: Now, count: usize) -> Step
@@ -44,7 +55,7 @@ fn non_read(here: Now, count: usize) -> Step
     if count != 0 {
         return Step::Stop(6);
     }
-    Step::Go(at_block(here, BLOCK_DEFINES, 1))
+    Step::Go(at_block(here, BLOCK_DEFINES, AFTER_NON))
 }
 
 // A symbol is begun: its record, and nothing in it.
@@ -92,7 +103,7 @@ fn close_defines(here: Now, count: usize) -> Step
     if !defined(here, count) {
         return Step::Stop(8);
     }
-    Step::Go(at_block(here, BLOCK_TOP, 3))
+    Step::Go(at_block(here, BLOCK_TOP, TURN_ELEMENT))
 }
 
 // A line in SYMBOL_DEFINE.
@@ -139,8 +150,8 @@ fn name_in(rec: &[i64]) -> Span
     ensures { λ r. ⌜ r ≡ nameOf (now (rec .entry)) ⌝ }
 {
     Span {
-        at: rec[5] as u32,
-        len: rec[6] as u32,
+        at: rec[PLACE_NAME] as u32,
+        len: rec[PLACE_NAME_LENGTH] as u32,
     }
 }
 
@@ -167,7 +178,7 @@ fn symbol_entry(
     ensures { λ r. ⌜ (r ≡ symbolEntry (now (s .entry)) (now (symbols .entry)) here row (now (rec .entry))) × (now (marks .exit) ≡ set (now (marks .entry)) row true) ⌝ }
 {
     marks[row as usize] = true;
-    if row == 0 {
+    if row == ROW_NAME {
         if !is_new(s, symbols, name_in(rec)) {
             return Step::Stop(15);
         }
@@ -179,7 +190,7 @@ fn symbol_entry(
 fn symbol_part(here: Now, block: u8) -> Now
     ensures { λ r. ⌜ r ≡ symbolPart here block ⌝ }
 {
-    if block == 1 {
+    if block == INNER_ELEMENT {
         return Now {
             block: BLOCK_FIGURES,
             part: 0,
@@ -213,7 +224,7 @@ pub fn on_symbol(
     rec: &mut [i64],
 ) -> Step
     requires { ⌜ (length (now s) ≤ 61440) × (length (now symbols) ≤ 65536) × (length (now layers) ≤ 65536) × (length (now marks) ≡ mostRows) × (length (now rec) ≡ width) × ContentPlaced (formIn (now s) form) ⌝ }
-    ensures { λ r. ⌜ SymbolLine (act (knownIn (now (s .entry)) (now (symbols .entry)) (now (layers .entry))) (tableOf tableSymbol) (digitsOf range) (take 4 (now (marks .entry))) (formIn (now (s .entry)) form)) (now (s .entry)) (now (symbols .entry)) here (now (marks .entry)) (now (marks .exit)) (now (rec .entry)) (now (rec .exit)) r ⌝ }
+    ensures { λ r. ⌜ SymbolLine (act (knownIn (now (s .entry)) (now (symbols .entry)) (now (layers .entry))) (tableOf tableSymbol) (digitsOf range) (take rowsSymbol (now (marks .entry))) (formIn (now (s .entry)) form)) (now (s .entry)) (now (symbols .entry)) here (now (marks .entry)) (now (marks .exit)) (now (rec .entry)) (now (rec .exit)) r ⌝ }
 {
     let next = act(
         TABLE_SYMBOL,
@@ -221,7 +232,7 @@ pub fn on_symbol(
         symbols,
         layers,
         digits_of(range),
-        &marks[..4],
+        &marks[..ROWS_SYMBOL],
         form,
         0,
         rec,

@@ -5,10 +5,15 @@ use account::BLOCK_ELEMENTS;
 use account::BLOCK_ENDED;
 use account::BLOCK_FILE;
 use account::Now;
+use account::ROWS_TOP;
 use account::Step;
 use account::TALLY_ALL;
 use account::TALLY_LAYERS;
 use account::TALLY_TOTAL;
+use account::TURN_DEFINES;
+use account::TURN_DRAWING;
+use account::TURN_EOF;
+use account::TURN_FILE;
 use account::Where;
 use entries::Next;
 use entries::acts::act;
@@ -39,7 +44,7 @@ fn at_eof(here: Now, at: Where, tally: &[u32], used_all: &[bool]) -> Step
     requires { ⌜ (length (now tally) ≡ tallyLength) × (layersOf (now tally) ≤ length (now «used_all»)) ⌝ }
     ensures { λ r. ⌜ r ≡ stepOf (eofNow here at (now (tally .entry)) (now («used_all» .entry))) ⌝ }
 {
-    if here.part != 4 {
+    if here.part != TURN_EOF {
         return Step::Stop(9);
     }
     if !at.ends {
@@ -124,13 +129,13 @@ fn open_block(
     if block != here.part {
         return Step::Stop(9);
     }
-    if block == 0 {
+    if block == TURN_FILE {
         return Step::Go(open_file(here, first, at, marks, header));
     }
-    if block == 1 {
+    if block == TURN_DRAWING {
         return Step::Go(open_drawing(here, at, marks, rec));
     }
-    if block == 2 {
+    if block == TURN_DEFINES {
         return Step::Go(at_block(here, BLOCK_DEFINES, 0));
     }
     unmark(used);
@@ -206,7 +211,7 @@ fn top_key(
     requires { ⌜ (length (now s) ≤ 61440) × (length (now symbols) ≤ 65536) × (length (now layers) ≤ 65536) × (length (now header) ≡ headerLength) × (length (now rec) ≡ width) × (here .records + 2 ≤ 18446744073709551615) ⌝ }
     ensures { λ r. ⌜ Answered (keyNow first here (topAct (knownIn (now (s .entry)) (now (symbols .entry)) (now (layers .entry))) (formIn (now (s .entry)) form))) ((topLent (now (marks .exit)) (now (used .exit)) (now (header .exit)) (now (rec .exit))) ≡ keyLent first at (topLent (now (marks .entry)) (now (used .entry)) (now (header .entry)) (now (rec .entry))) (topAct (knownIn (now (s .entry)) (now (symbols .entry)) (now (layers .entry))) (formIn (now (s .entry)) form))) r ⌝ }
 {
-    let full = [false; 4];
+    let full = [false; ROWS_TOP];
     let mut nothing = [0i64; 1];
     let next = act(
         TABLE_TOP,

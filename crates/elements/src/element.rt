@@ -6,6 +6,7 @@ use account::Step;
 use account::TALLY_ELEMENTS_HERE;
 use account::TALLY_HERE;
 use account::TALLY_TOTAL;
+use account::TURN_EOF;
 use entries::Next;
 use entries::acts::act;
 use groundwork::blocks::at_block;
@@ -57,7 +58,7 @@ fn close_element(was: Now, tally: &mut [u32]) -> Step
         return Step::Stop(17);
     }
     tally[TALLY_TOTAL] = tally[TALLY_TOTAL] + tally[TALLY_ELEMENTS_HERE];
-    Step::Go(at_block(was, BLOCK_TOP, 4))
+    Step::Go(at_block(was, BLOCK_TOP, TURN_EOF))
 }
 
 // A line in ELEMENT.

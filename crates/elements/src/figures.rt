@@ -2,7 +2,12 @@
 use account::BLOCK_ELEMENTS;
 use account::BLOCK_FIGURES;
 use account::BLOCK_SYMBOL;
+use account::INNER_PLACED;
+use account::INNER_TEXT;
+use account::KIND_BLOCKS;
 use account::Now;
+use account::ROWS_FIGURES;
+use account::ROWS_LAYER;
 use account::Step;
 use account::Where;
 use entries::Next;
@@ -32,6 +37,8 @@ ghost use Rattle.rules.specs.RecordTable.{width};
 // "plus 20 inside a symbol"
 const KIND_LINE_IN_SYMBOL: u8 = KIND_LINE + IN_SYMBOL;
 
+const KIND_BLOCKS_IN_SYMBOL: u8 = KIND_BLOCKS + IN_SYMBOL;
+
 // The table of the figures that may stand here: "E_symbol: placed symbol, in layers only", "At range 001 it is `E_symbol=`".
 fn home_table(layered: bool, range: u32) -> u8
     ensures { λ r. ⌜ r ≡ homeTable layered range ⌝ }
@@ -49,9 +56,9 @@ fn home_rows(layered: bool) -> usize
     ensures { λ r. ⌜ r ≡ homeRows layered ⌝ }
 {
     if layered {
-        return 7;
+        return ROWS_LAYER;
     }
-    6
+    ROWS_FIGURES
 }
 
 // "10 line, 11 circle, 12 ellipse, 13 point", "16 placed symbol"; "plus 20 inside a symbol"
@@ -71,9 +78,9 @@ fn block_kind(layered: bool, block: u8) -> u8
     ensures { λ r. ⌜ r ≡ blockKind layered block ⌝ }
 {
     if layered {
-        return 13 + block;
+        return KIND_BLOCKS + block;
     }
-    33 + block
+    KIND_BLOCKS_IN_SYMBOL + block
 }
 
 fn more_figures(now: Now) -> Now
@@ -145,7 +152,7 @@ pub fn on_figures(
     requires { ⌜ (length (now s) ≤ 61440) × (length (now symbols) ≤ 65536) × (length (now layers) ≤ 65536) × (was .figures < 4294967295) × (was .records < 18446744073709551615) × (length (now rec) ≡ width) ⌝ }
     ensures { λ r. ⌜ FigureLine (act (knownIn (now (s .entry)) (now (symbols .entry)) (now (layers .entry))) (tableOf (homeTable (was .layered) range)) (digitsOf range) (replicate (homeRows (was .layered)) false) (formIn (now (s .entry)) form)) was range at (now (rec .entry)) (now (rec .exit)) (now (marks .entry)) (now (marks .exit)) (now («inner_marks» .entry)) (now («inner_marks» .exit)) r ⌝ }
 {
-    let full = [false; 7];
+    let full = [false; ROWS_LAYER];
     let rows = home_rows(was.layered);
     let next = act(
         home_table(was.layered, range),
@@ -180,8 +187,8 @@ pub fn on_figures(
                 at.volume,
                 at.line,
             );
-            unmark_if(inner.block == 3, marks);
-            unmark_if(inner.block == 2, inner_marks);
+            unmark_if(inner.block == INNER_PLACED, marks);
+            unmark_if(inner.block == INNER_TEXT, inner_marks);
             Step::Go(figure_opened(was, inner.block))
         }
         Next::Shut => close_figures(was),

@@ -1,12 +1,17 @@
 // A placed symbol's block in a layer.
 use crate::skip::skip_line;
 use account::BLOCK_PLACED;
+use account::INNER_NONE;
+use account::INNER_PLACED_TEXT;
 use account::Now;
+use account::PLACE_OWN;
+use account::ROWS_PLACED;
 use account::Skipped;
 use account::Step;
 use account::TALLY_SERIALS;
 use entries::Next;
 use entries::Rest;
+use entries::SORT_FORMLESS;
 use entries::acts::act;
 use entries::acts::complete;
 use entries::names::part;
@@ -29,6 +34,7 @@ use rules::Digits;
 use rules::LineForm;
 use rules::Span;
 use tables::Found;
+use tables::TABLE_PLACED;
 use tables::TABLE_PLACED_TEXT;
 use tables::lookup::row_of;
 ghost use mathlib.Core.Path.{_≡_};
@@ -48,8 +54,22 @@ ghost use Rattle.entries.specs.declared.Next.the-variants as N;
 ghost use Rattle.account.specs.SkippedLines.{skippedBy};
 ghost use Rattle.account.specs.PlacedLines.{lent, serialCount, ownNumber, SerialLine, PlacedDone, RowReady, OwnGiven, serialRow, unknownStep, KeyLine, hiddenAt, CloseLine, OwnLine, PlacedTextLine, PlacedLine, LentReady};
 ghost use Rattle.tables.specs.Numbering.{tablePlaced, tablePlacedText};
-ghost use Rattle.account.specs.Numbering.{tallyLength, mostRows};
+ghost use Rattle.account.specs.Numbering.{innerPlacedText, rowsText, tallyLength, mostRows};
 ghost use Rattle.rules.specs.RecordTable.{width};
+
+// The row `serial` of a placed symbol (`serialRow` in the definitions).
+const SERIAL_ROW: u8 = 5;
+
+// Where the states of the attributes stand in its record, by the attributes' keys.
+const STATE_TEXT: usize = 26;
+
+const STATE_HIGHT: usize = 27;
+
+const STATE_POS: usize = 28;
+
+const STATE_CIRCUIT: usize = 29;
+
+const STATE_SERIAL: usize = 30;
 
 // "skipped when a digit of E_sym exceeds the class's, and refused otherwise": 6, and 5 where the line has no form.
 fn on_unknown(s: &[u8], class: Digits, range: Digits, here: Now, form: LineForm, rest: Rest) -> Step
@@ -63,7 +83,7 @@ fn on_unknown(s: &[u8], class: Digits, range: Digits, here: Now, form: LineForm,
             Skipped::Refuse(n) => Step::Stop(n),
         };
     }
-    if sort_of(shape_for(s, false, rest)) == 4 {
+    if sort_of(shape_for(s, false, rest)) == SORT_FORMLESS {
         return Step::Stop(5);
     }
     Step::Stop(6)
@@ -74,7 +94,7 @@ fn keep_serial(here: Now, tally: &mut [u32], serials: &mut [u64], rec: &[i64]) -
     requires { ⌜ (length (now tally) ≡ tallyLength) × (serialCount (now tally) < length (now serials)) × (serialCount (now tally) < 4294967295) × (length (now rec) ≡ width) × OwnGiven (now rec) ⌝ }
     ensures { λ r. ⌜ SerialLine here (ownNumber (now (rec .entry))) (now (tally .entry)) (now (tally .exit)) (now (serials .entry)) (now (serials .exit)) r ⌝ }
 {
-    let own = rec[14] as u64;
+    let own = rec[PLACE_OWN] as u64;
     let count = tally[TALLY_SERIALS] as usize;
     if has(&serials[..count], own) {
         return Step::Stop(15);
@@ -96,7 +116,7 @@ fn placed_entry(
     ensures { λ r. ⌜ PlacedDone here (lent (now (tally .entry)) (now (serials .entry)) (now (marks .entry)) []) (lent (now (tally .exit)) (now (serials .exit)) (now (marks .exit)) []) (ownNumber (now (rec .entry))) (N.Entry row) r ⌝ }
 {
     marks[row as usize] = true;
-    if row == 5 {
+    if row == SERIAL_ROW {
         return keep_serial(here, tally, serials, rec);
     }
     Step::Go(here)
@@ -116,11 +136,11 @@ fn mark_unread(class: Digits, d: Digits, rec: &mut [i64])
     requires { ⌜ length (now rec) ≡ width ⌝ }
     ensures { λ _. ⌜ now (rec .exit) ≡ markUnread class d placedTable (now (rec .entry)) ⌝ }
 {
-    mark_hidden(class, d, Digits { middle: 1, last: 0 }, 30, rec);
-    mark_hidden(class, d, Digits { middle: 0, last: 5 }, 29, rec);
-    mark_hidden(class, d, Digits { middle: 0, last: 4 }, 28, rec);
-    mark_hidden(class, d, Digits { middle: 0, last: 3 }, 27, rec);
-    mark_hidden(class, d, Digits { middle: 0, last: 2 }, 26, rec);
+    mark_hidden(class, d, Digits { middle: 1, last: 0 }, STATE_SERIAL, rec);
+    mark_hidden(class, d, Digits { middle: 0, last: 5 }, STATE_CIRCUIT, rec);
+    mark_hidden(class, d, Digits { middle: 0, last: 4 }, STATE_POS, rec);
+    mark_hidden(class, d, Digits { middle: 0, last: 3 }, STATE_HIGHT, rec);
+    mark_hidden(class, d, Digits { middle: 0, last: 2 }, STATE_TEXT, rec);
 }
 
 // What a line of the placed symbol's own keys does. None of them closes it.
@@ -142,7 +162,7 @@ fn placed_done(
         Next::Begin(opened) => {
             marks[opened.row as usize] = true;
             unmark(inner);
-            Step::Go(at_block(here, BLOCK_PLACED, 1))
+            Step::Go(at_block(here, BLOCK_PLACED, INNER_PLACED_TEXT))
         }
         Next::Shut => Step::Stop(8),
         Next::Refuse(k) => Step::Stop(k),
@@ -169,7 +189,7 @@ fn on_key(
     requires { ⌜ (length (now s) ≤ 61440) × (length (now symbols) ≤ 65536) × (length (now layers) ≤ 65536) × LentReady (lent (now tally) (now serials) (now marks) (now inner)) (now rec) ⌝ }
     ensures { λ r. ⌜ KeyLine (knownIn (now (s .entry)) (now (symbols .entry)) (now (layers .entry))) class range here (lent (now (tally .entry)) (now (serials .entry)) (now (marks .entry)) (now (inner .entry))) (lent (now (tally .exit)) (now (serials .exit)) (now (marks .exit)) (now (inner .exit))) (now (rec .entry)) (now (rec .exit)) r (skippedBy (formIn (now (s .entry)) form)) (restIn (now (s .entry)) rest) (find (bytesAt (now (s .entry)) key) (tableOf tablePlaced)) ⌝ }
 {
-    match row_of(18, part(s, key)) {
+    match row_of(TABLE_PLACED, part(s, key)) {
         Found::Absent => on_unknown(s, class, range, here, form, rest),
         Found::Row(row) => {
             let least = row.least;
@@ -193,7 +213,7 @@ fn on_placed_text(
     inner: &mut [bool],
     rec: &mut [i64],
 ) -> Step
-    requires { ⌜ (length (now s) ≤ 61440) × (length (now symbols) ≤ 65536) × (length (now layers) ≤ 65536) × (length (now inner) ≡ 2) × (length (now rec) ≡ width) ⌝ }
+    requires { ⌜ (length (now s) ≤ 61440) × (length (now symbols) ≤ 65536) × (length (now layers) ≤ 65536) × (length (now inner) ≡ rowsText) × (length (now rec) ≡ width) ⌝ }
     ensures { λ r. ⌜ PlacedTextLine (act (knownIn (now (s .entry)) (now (symbols .entry)) (now (layers .entry))) (tableOf tablePlacedText) (digits 0 0) (now (inner .entry)) (formIn (now (s .entry)) form)) here (now (inner .entry)) (now (inner .exit)) (now (rec .entry)) (now (rec .exit)) r ⌝ }
 {
     let next = act(
@@ -214,7 +234,7 @@ fn on_placed_text(
             Step::Go(here)
         }
         Next::Begin(_) => Step::Stop(5),
-        Next::Shut => Step::Go(at_block(here, BLOCK_PLACED, 0)),
+        Next::Shut => Step::Go(at_block(here, BLOCK_PLACED, INNER_NONE)),
         Next::Refuse(k) => Step::Stop(k),
     }
 }
@@ -224,7 +244,7 @@ fn close_placed(class: Digits, range: Digits, here: Now, marks: &[bool], rec: &m
     requires { ⌜ (length (now marks) ≡ mostRows) × (length (now rec) ≡ width) × (here .figures < 4294967295) ⌝ }
     ensures { λ r. ⌜ CloseLine class range here (now (marks .entry)) (now (rec .entry)) (now (rec .exit)) r ⌝ }
 {
-    if !complete(18, both(class, range), &marks[..6]) {
+    if !complete(TABLE_PLACED, both(class, range), &marks[..ROWS_PLACED]) {
         return Step::Stop(8);
     }
     mark_unread(class, range, rec);
@@ -300,9 +320,9 @@ pub fn on_placed(
     rec: &mut [i64],
 ) -> Step
     requires { ⌜ (length (now s) ≤ 61440) × (length (now symbols) ≤ 65536) × (length (now layers) ≤ 65536) × LentReady (lent (now tally) (now serials) (now marks) (now inner)) (now rec) × (here .figures < 4294967295) ⌝ }
-    ensures { λ r. ⌜ PlacedLine (knownIn (now (s .entry)) (now (symbols .entry)) (now (layers .entry))) class (digitsOf range) here (lent (now (tally .entry)) (now (serials .entry)) (now (marks .entry)) (now (inner .entry))) (lent (now (tally .exit)) (now (serials .exit)) (now (marks .exit)) (now (inner .exit))) (now (rec .entry)) (now (rec .exit)) r (eqb (here .part) 1) (formIn (now (s .entry)) form) ⌝ }
+    ensures { λ r. ⌜ PlacedLine (knownIn (now (s .entry)) (now (symbols .entry)) (now (layers .entry))) class (digitsOf range) here (lent (now (tally .entry)) (now (serials .entry)) (now (marks .entry)) (now (inner .entry))) (lent (now (tally .exit)) (now (serials .exit)) (now (marks .exit)) (now (inner .exit))) (now (rec .entry)) (now (rec .exit)) r (eqb (here .part) innerPlacedText) (formIn (now (s .entry)) form) ⌝ }
 {
-    if here.part == 1 {
+    if here.part == INNER_PLACED_TEXT {
         return on_placed_text(s, symbols, layers, here, form, inner, rec);
     }
     on_placed_own(

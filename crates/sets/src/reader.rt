@@ -1,6 +1,7 @@
 // The reader.
 use account::BLOCK_TOP;
 use account::Class;
+use account::MOST_LAYERS;
 use account::MOST_SERIALS;
 use account::MOST_SYMBOLS;
 use account::Now;
@@ -76,9 +77,9 @@ fn read_set(s: &[u8], class: Digits, limit: usize, t: &mut [i64]) -> Answer
     }
     let mut tally = [0u32; TALLY_LENGTH];
     let mut symbols = [0u32; MOST_SYMBOLS];
-    let mut layers = [0u32; 64];
+    let mut layers = [0u32; MOST_LAYERS];
     let mut serials = [0u64; MOST_SERIALS];
-    let mut used_all = [false; 64];
+    let mut used_all = [false; MOST_LAYERS];
     let places = l.places;
     let lengths = l.lengths;
     let mut here = nothing_yet();

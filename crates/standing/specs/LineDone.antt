@@ -30,10 +30,11 @@ use Rattle.account.specs.PlacedLines.{Lent, lent, PlacedLine, LentReady}
 use Rattle.account.specs.TopLines.{Answered, TopLent, topLent, topNow, topLentBy}
 use Rattle.account.specs.DrawingLines.{drawingAct, drawingNow, drawingMarks, drawingPut, NamesLine}
 use Rattle.account.specs.FileLines.{fileTableOf, partMarks, FileLine, FileReady}
+use Rattle.rules.specs.Blocks.{mostLayers}
 use Rattle.tables.specs.Numbering.{tableDefines, tableSymbol, tableElement, tableSymbolPoints}
 use Rattle.account.specs.Numbering.{blockTop, blockFile, blockDrawing, blockLayerNames, blockDefines, blockSymbol, blockHide, blockElements, blockFigures}
 use Rattle.account.specs.Numbering.{blockChain, blockText, blockPlaced, blockEnded, tallyArc, tallySymbolRange, tallyDefineRange, tallyElementsHere}
-use Rattle.account.specs.Numbering.{tallyTotal, tallySymbols, tallyLayers, tallyLength, mostRows}
+use Rattle.account.specs.Numbering.{tallyTotal, tallySymbols, tallyLayers, tallyLength, mostRows, innerPlacedText}
 use Rattle.rules.specs.RecordTable.{width}
 
 -- ── the names in use ──
@@ -49,7 +50,7 @@ pub record Named (tally symbols layers : List ℕ) : Type 0 where
   pub names : getD tally tallySymbols 0 ≤ length symbols
   pub ids : getD tally tallyLayers 0 ≤ length layers
   pub few-symbols : length symbols ≤ 65536
-  pub few-layers : length layers ≤ 64
+  pub few-layers : length layers ≤ mostLayers
 
 -- ── a record that is lent ──
 -- P says what becomes of the record at n; the rest of the scratch stays
@@ -124,7 +125,7 @@ module _ (spool : List ℕ) (form : LineForm) (n : Now) (tally symbols layers : 
 
   abbrev pub OnPlaced : Digits → Lent → Lent → List ℤ → List ℤ → Step → Type 0
   OnPlaced c x₀ x₁ t₀ t₁ r =
-      Lends width t₀ t₁ λ rec₀ rec₁. PlacedLine known c (digitsOf (getD tally tallySymbolRange 0)) n x₀ x₁ rec₀ rec₁ r (eqb (n .part) 1) line
+      Lends width t₀ t₁ λ rec₀ rec₁. PlacedLine known c (digitsOf (getD tally tallySymbolRange 0)) n x₀ x₁ rec₀ rec₁ r (eqb (n .part) innerPlacedText) line
 
   -- no layer has a name that a line of DRAWING_FORMAT asks for
   abbrev sheetAct : List Bool → Act

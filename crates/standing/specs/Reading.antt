@@ -30,7 +30,8 @@ use Rattle.standing.specs.Kept.{shutSoFar}
 use Rattle.standing.specs.Standing.{Desk, desk, Stands, Counted, LineHere, StepOut}
 use Rattle.account.specs.SymbolLines.{nameOf, nameNumber}
 use Rattle.standing.specs.FileStanding.{InFile}
-use Rattle.account.specs.Numbering.{blockDefines, blockElements, tallyElementsHere, tallySymbols, mostRows, headerLength, scratchLength}
+use Rattle.rules.specs.Blocks.{mostLayers}
+use Rattle.account.specs.Numbering.{blockDefines, blockElements, tallyElementsHere, tallySymbols, rowsText, mostRows, headerLength, scratchLength}
 
 -- the desk stands at the state st of a reading of volume k, behind the place `at`
 abbrev pub Standing : Digits → List ℕ → ℕ → Desk → ℕ → State → Type 0
@@ -118,7 +119,7 @@ pub record Kept (c : Digits) (limit : ℕ) (table : List ℤ) (records : ℕ) (s
 -- what is lent to a volume; between two volumes no block is open, so it begins with nothing of what a block needs
 abbrev pub volumeDesk : Now → List ℕ → List ℕ → List ℕ → List ℕ → List Bool → Desk
 volumeDesk n tally symbols layers serials usedAll =
-    desk n tally symbols layers serials (replicate 64 false) usedAll (replicate mostRows false) (replicate 2 false) (replicate headerLength (pos 0))
+    desk n tally symbols layers serials (replicate mostLayers false) usedAll (replicate mostRows false) (replicate rowsText false) (replicate headerLength (pos 0))
     (replicate scratchLength (pos 0))
 
 -- the class, and how many records the table holds

@@ -13,7 +13,7 @@ use Rattle.rules.specs.RefusalNumbers.{got, bad}
 use Rattle.rules.specs.Lines.{Rest, brace, equals, Form, ignored, wrong, close, eof, keyed, span, bytesAt, formIn}
 use Rattle.rules.specs.Values.{Value, empty, nums, chars, linked}
 use Rattle.rules.specs.Rows.{blank, Held, partOf, rowsThere, numberOf}
-use Rattle.rules.specs.Blocks.{fileTable}
+use Rattle.rules.specs.Blocks.{fileTable, mostLayers}
 use Rattle.rules.specs.Figures.{textTable, placedTables}
 use Rattle.rules.specs.Sets.{Point, Figure, placed, Layer, Drawing, Symbol, Set, isFirst, firstContents, arcOf, symbolRange, defineRange, symbolNameOf}
 use Rattle.rules.specs.Sets.{figureSerial, serialsOfVolume, serialsIn, elementsOf, usedIn}
@@ -36,7 +36,7 @@ use Rattle.account.specs.Putting.{completed, numberFor, clearedBy}
 use Rattle.standing.specs.SoFar.{volumeOf}
 use Rattle.standing.specs.Kept.{Scratch, shutSoFar, OwnAt, Opens, Fills, FillsAll}
 use Rattle.account.specs.Numbering.{blockTop, blockFile, blockDrawing, blockLayerNames, blockDefines, blockSymbol, blockHide, blockElements, blockFigures}
-use Rattle.account.specs.Numbering.{blockChain, blockText, blockPlaced, blockEnded, mostRows, headerLength, scratchLength, mostSymbols, mostSerials}
+use Rattle.account.specs.Numbering.{blockChain, blockText, blockPlaced, blockEnded, rowsText, mostRows, headerLength, scratchLength, mostSymbols, mostSerials}
 use Rattle.rules.specs.RecordTable.{width}
 
 -- ── what is lent from line to line ──
@@ -72,12 +72,12 @@ desk n tally symbols layers serials used usedAll marks inner header scratch = re
 -- place behind them, which a line in a placed symbol asks for
 pub record Lengths (d : Desk) : Type 0 where
   pub symbols : length (d .symbols) ≡ mostSymbols
-  pub layers : length (d .layers) ≡ 64
+  pub layers : length (d .layers) ≡ mostLayers
   pub serials : length (d .serials) ≡ mostSerials
-  pub used : length (d .used) ≡ 64
-  pub usedAll : length (d .usedAll) ≡ 64
+  pub used : length (d .used) ≡ mostLayers
+  pub usedAll : length (d .usedAll) ≡ mostLayers
   pub marks : length (d .marks) ≡ mostRows
-  pub inner : length (d .inner) ≡ 2
+  pub inner : length (d .inner) ≡ rowsText
   pub header : length (d .header) ≡ headerLength
   pub scratch : length (d .scratch) ≡ scratchLength
 
@@ -353,7 +353,7 @@ module _ (spool : List ℕ) (k : ℕ) (n : Now) (ms is : List Bool) where
   abbrev pub InHome : Set → Home → Type 0
   InHome s (inElement y) =
       InSymbol s y × (n .layered ≡ false) × (y .figures ≡ []) × (y .hideFirst ≡ false → y .hidden ≡ []) × (isNone (getD (y .own) 1 none) ≡ false)
-  InHome s (inLayer m) = (k ≡ volumeOf s) × (n .layered ≡ true) × (n .owner ≡ m) × (m < 64)
+  InHome s (inLayer m) = (k ≡ volumeOf s) × (n .layered ≡ true) × (n .owner ≡ m) × (m < mostLayers)
 
   pub record InDrawing (s : Set) (w : Drawing) : Type 0 where
     pub phase : First k s
@@ -416,10 +416,10 @@ module _ (c : Digits) (spool : List ℕ) (k : ℕ) (d : Desk) where
     pub tally : d .tally ≡ tallyOf (setOf st) here (length (layersOf st)) (length (serialsOf st))
     pub symbols : namesIn spool (take (length (setOf st .symbols)) (d .symbols)) ≡ map symbolNameOf (setOf st .symbols)
     pub layers : namesIn spool (take (length (layersOf st)) (d .layers)) ≡ map (λ l. l .id) (layersOf st)
-    pub few-layers : length (layersOf st) ≤ 64
+    pub few-layers : length (layersOf st) ≤ mostLayers
     pub serials : take (length (serialsOf st)) (d .serials) ≡ serialsOf st
-    pub used : inside st ≡ true → (j : ℕ) → j < 64 → getD (d .used) j false ≡ hasNumber j (usedOf st)
-    pub used-all : (j : ℕ) → j < 64 → getD (d .usedAll) j false ≡ hasNumber j (flat (map usedIn (setOf st .volumes)) ++ usedOf st)
+    pub used : inside st ≡ true → (j : ℕ) → j < mostLayers → getD (d .used) j false ≡ hasNumber j (usedOf st)
+    pub used-all : (j : ℕ) → j < mostLayers → getD (d .usedAll) j false ≡ hasNumber j (flat (map usedIn (setOf st .volumes)) ++ usedOf st)
     pub counted : total elementsOf (setOf st .volumes) + elementsHere st + openFigures st ≤ at
     pub named : 48 * length (setOf st .symbols) + nameBytes st ≤ at
     pub numbered : 42 * length (serialsOf st) + serialBytes st ≤ at + 20

@@ -8,7 +8,7 @@ use Rattle.account.specs.declared.Now.{Now}
 use Rattle.account.specs.declared.Step.{Step}
 use Rattle.account.specs.declared.Step.the-variants as S
 use Rattle.account.specs.Account.{atBlock}
-use Rattle.account.specs.Numbering.{blockTop, blockElements}
+use Rattle.account.specs.Numbering.{blockTop, blockElements, turnFile, turnEof}
 
 abbrev pub eofForm : LineForm → Bool
 eofForm L.Ignored = false
@@ -36,7 +36,7 @@ ignoredForm (L.Refused r) = false
 
 -- ELEMENT is closed
 abbrev pub afterElement : Now → Bool
-afterElement n = eqb (n .block) blockTop && eqb (n .part) 4
+afterElement n = eqb (n .block) blockTop && eqb (n .part) turnEof
 
 -- "The last line of the last volume is `EOF`; other volumes have none": whether the volume is complete after a line, by its structure
 abbrev pub completesOf : Now → LineForm → Bool → Bool
@@ -44,7 +44,7 @@ completesOf n f last = cond last (afterElement n && eofForm f) (cond (eqb (n .bl
 
 -- the next volume begins anew
 abbrev pub nextNow : Now → Now
-nextNow n = cond (eqb (n .block) blockTop) (atBlock n blockTop 0) n
+nextNow n = cond (eqb (n .block) blockTop) (atBlock n blockTop turnFile) n
 
 -- a volume's last line: 9 where the volume is not complete, or the line's own number where that is smaller
 abbrev pub lastStep : Bool → Step → Step

@@ -5,11 +5,15 @@ use account::BLOCK_TOP;
 use account::HEADER_LENGTH;
 use account::Left;
 use account::LineAt;
+use account::MOST_LAYERS;
 use account::MOST_ROWS;
 use account::Now;
 use account::Pos;
+use account::ROWS_TEXT;
 use account::SCRATCH_LENGTH;
 use account::Step;
+use account::TURN_EOF;
+use account::TURN_FILE;
 use account::Through;
 use account::Volume;
 use account::Where;
@@ -72,7 +76,7 @@ fn after_element(here: Now) -> bool
     if here.block != BLOCK_TOP {
         return false;
     }
-    here.part == 4
+    here.part == TURN_EOF
 }
 
 // Is the volume complete after this line? By its structure: in the last volume EOF after ELEMENT, in others ELEMENT's end.
@@ -101,7 +105,7 @@ fn next_volume(here: Now) -> Now
     if here.block != BLOCK_TOP {
         return here;
     }
-    at_block(here, BLOCK_TOP, 0)
+    at_block(here, BLOCK_TOP, TURN_FILE)
 }
 
 // The last line of a volume: 9 where it is not complete, or the line's own number where that is smaller.
@@ -149,6 +153,9 @@ fn closed(v: Volume, line: u32, did: Step) -> Through
     }
 }
 
+// "blocks nest to depth 4, the opener being 1"
+const SKIPPED_DEPTH: u8 = 4;
+
 // A volume, from its first line to its last: `body` is its part of the spool. The spool is lent beside it, for names that stand elsewhere. What
 // only a block needs that is open begins anew in each volume. A line's records stand on the scratch till they are complete; the table has room for
 // `limit` of them, or holds none.
@@ -170,9 +177,9 @@ pub fn read_volume(
     requires { ⌜ VolumeReady class (now s) (now body) v limit (volumeDesk begin (now tally) (now symbols) (now layers) (now serials) (now «used_all»)) (now t) ⌝ }
     ensures { λ r. ⌜ VolumePromise class (now (s .entry)) (now (body .entry)) v limit (now (following .entry)) (volumeDesk begin (now (tally .entry)) (now (symbols .entry)) (now (layers .entry)) (now (serials .entry)) (now («used_all» .entry))) (now (t .entry)) (λ n. volumeDesk n (now (tally .exit)) (now (symbols .exit)) (now (layers .exit)) (now (serials .exit)) (now («used_all» .exit))) (now (t .exit)) r ⌝ }
 {
-    let mut used = [false; 64];
+    let mut used = [false; MOST_LAYERS];
     let mut marks = [false; MOST_ROWS];
-    let mut inner = [false; 2];
+    let mut inner = [false; ROWS_TEXT];
     let mut header = [0i64; HEADER_LENGTH];
     let mut scratch = [0i64; SCRATCH_LENGTH];
     let mut here = begin;
@@ -227,7 +234,7 @@ pub fn read_volume(
             }
             Step::Skip(n) => {
                 here = n;
-                let left = skip_block(s, body, v, Pos { at: at, line: line }, 4);
+                let left = skip_block(s, body, v, Pos { at: at, line: line }, SKIPPED_DEPTH);
                 match left {
                     Left::Go(q) => {
                         at = q.at;
