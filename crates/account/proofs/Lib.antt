@@ -7,3 +7,4 @@ pub mod FileCounts
 pub mod FileParts
 pub mod PlacedLaws
 pub mod SkipRun
+pub mod Headers

@@ -4,12 +4,11 @@ use mathlib.Core.Bool.{Bool, true, false, cond, _&&_, _||_}
 use mathlib.Core.List.{List, _++_, append-assoc}
 use mathlib.Core.Path.{_≡_, refl, sym, _∙_, ap, subst}
 use native.Mathlib.Omega.{arith}
-use borrow.Author.Tests.{lt-ltb, le-ltb, eq-eqb, ne-eqb, ltb-false}
+use borrow.Author.Tests.{lt-ltb, le-ltb, eq-eqb, ne-eqb}
 use lib.Dec.{eqb, ltb}
 use lib.IntN.{ℤ, pos}
 use lib.ListN.{length, getD, set, take, drop, replicate, length-drop}
 use lib.Seq.{paste, paste-zero, paste-suc, take-paste, drop-paste, take-add, drop-drop, getD-drop, take-all}
-use Rattle.rules.proofs.Chains.{clash}
 use mir.Syntax.{w64}
 use mir.Val.{SFits, toZ, ofZ}
 use mir.Facts.{toZ-ofZ}
@@ -19,6 +18,7 @@ use Rattle.account.specs.declared.Step.the-variants as S
 use Rattle.account.specs.declared.Complete.{Complete}
 use Rattle.account.specs.declared.Complete.the-variants as C
 use Rattle.account.specs.Records.{partAt, withPart}
+use Rattle.account.proofs.Headers.{header-number}
 use Rattle.account.proofs.Lent.{lent-part}
 use Rattle.account.specs.Putting.{withinLimit, lineCompleted, closeCompleted, completed, closeNumber, numberFor, putRecord, putHeader, putBy, clearedBy, ownAfter}
 
@@ -217,29 +217,6 @@ module _ (first : Bool) (number : ℕ) (h t : List ℤ) where
 
   pub header-later : (t₁ : List ℤ) → t₁ ≡ putRecord number (partAt 0 h) t → first ≡ false → t₁ ≡ putHeader first number h t
   header-later t₁ e f = e ∙ sym (ap (λ (b : Bool). putHeader b number h t) f)
-
--- the header's number is the one that was kept
-abbrev isHeader : Complete → Bool
-isHeader C.Nothing = false
-isHeader (C.Record from) = false
-isHeader C.Header = true
-
-header-number : (was is : Now) (own : ℕ) → completed was is ≡ C.Header → numberFor was is own ≡ own
-header-number was is own = by-block (eqb (was .block) (is .block))
-  where
-    by-count : (b : Bool) (from : ℕ) → isHeader (cond b C.Nothing (C.Record from)) ≡ false
-    by-count true from = refl
-    by-count false from = refl
-
-    by-figure : (b : Bool) → ltb 8 (was .block) ≡ b → (other : Complete) → cond b (C.Record 32) other ≡ C.Header → closeNumber was is own ≡ own
-    by-figure true e other q = clash (ap isHeader q) refl
-    by-figure false e other q =
-        let low : was .block ≤ 8 = ltb-false 8 (was .block) e in
-        rw (ne-eqb (was .block) 9 (λ i. absurd (omega (arith, i, low))), le-ltb 9 (was .block) (omega (arith, low))) refl
-
-    by-block : (b : Bool) → cond b (lineCompleted was is) (closeCompleted was is) ≡ C.Header → cond b (was .records) (closeNumber was is own) ≡ own
-    by-block true q = clash (ap isHeader q) (by-count (eqb (was .records) (is .records)) (cond (eqb (was .block) 9) 64 32))
-    by-block false q = by-figure (ltb 8 (was .block)) refl _ q
 
 -- s₁, t₁: the scratch and the table on return
 abbrev Put : Complete → Bool → ℕ → List ℤ → List ℤ → List ℤ → List ℤ → List ℤ → Type 0

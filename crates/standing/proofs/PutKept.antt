@@ -1,11 +1,11 @@
 -- What a line made complete, put into the table: the table then holds it, and the kept number is right for what is open behind the line.
 use Prim.Native.Nat.{ℕ, _+_, _*_, _/_, _≤_, _<_}
-use mathlib.Core.Bool.{Bool, true, false, cond, _&&_}
+use mathlib.Core.Bool.{Bool, true, false, cond}
 use mathlib.Core.List.{List, _++_, append-assoc}
 use mathlib.Core.Path.{_≡_, refl, sym, _∙_, ap, subst}
 use native.Mathlib.Omega.{arith}
-use borrow.Author.Tests.{eqb-true, lt-ltb, ltb-true}
-use lib.Dec.{eqb, ltb}
+use borrow.Author.Tests.{lt-ltb, ltb-true}
+use lib.Dec.{ltb}
 use lib.IntN.{ℤ}
 use lib.ListN.{length, take, drop, replicate, length-append, length-take, length-drop}
 use lib.Seq.{take-at, drop-at, take-add, drop-drop}
@@ -14,48 +14,21 @@ use Rattle.rules.specs.Base.{flat}
 use Rattle.rules.specs.Rows.{Held}
 use Rattle.rules.specs.Sets.{Set, isFirst}
 use Rattle.rules.specs.Machine.{State, top, file, drawing, layerNames, defines, symbol, hide, elements, figures, successive, texts, placing, skipping, ended, setOf, symbolBlock}
-use Rattle.rules.proofs.Chains.{clash, flat-append}
+use Rattle.rules.proofs.Chains.{flat-append}
 use Rattle.account.specs.declared.Now.{Now}
 use Rattle.account.specs.declared.Complete.{Complete}
 use Rattle.account.specs.declared.Complete.the-variants as C
 use Rattle.account.specs.Records.{partAt, withPart, withNumbers}
 use Rattle.account.specs.FileLines.{fileWidth}
-use Rattle.account.specs.Putting.{lineCompleted, closeCompleted, completed, putRecord, putHeader, putBy, ownAfter}
+use Rattle.account.specs.Putting.{putRecord, putHeader, putBy, ownAfter}
 use Rattle.standing.specs.SoFar.{emptyRecord}
 use Rattle.standing.specs.Kept.{FillsAll, ownBehind}
 use Rattle.standing.specs.Standing.{Desk, Inside, Made}
 use Rattle.standing.specs.Reading.{Kept}
 use Rattle.standing.proofs.KeptLaws.{size-empty, fills-all, sized, kept-opens, kept-fills, kept-fills-all}
 
--- ── which states ──
-abbrev isHeader : Complete → Bool
-isHeader C.Nothing = false
-isHeader (C.Record from) = false
-isHeader C.Header = true
-
--- a header is complete where FILE_FORMAT was open
-pub header-block : (was is : Now) → completed was is ≡ C.Header → was .block ≡ 1
-header-block was is q = eqb-true (was .block) 1 (by-block (eqb (was .block) (is .block)) (ap isHeader q))
-  where
-    no-line : (b : Bool) (from : ℕ) → isHeader (cond b C.Nothing (C.Record from)) ≡ true → eqb (was .block) 1 ≡ true
-    no-line true from h = clash h refl
-    no-line false from h = clash h refl
-
-    not-record : (b : Bool) (from : ℕ) (other : Complete) → isHeader (cond b (C.Record from) other) ≡ true → isHeader other ≡ true
-    not-record true from other h = clash h refl
-    not-record false from other h = h
-
-    is-file : (b : Bool) → isHeader (cond b C.Header C.Nothing) ≡ true → b ≡ true
-    is-file true h = refl
-    is-file false h = clash h refl
-
-    by-block : (b : Bool) → isHeader (cond b (lineCompleted was is) (closeCompleted was is)) ≡ true → eqb (was .block) 1 ≡ true
-    by-block true h = no-line (eqb (was .records) (is .records)) (cond (eqb (was .block) 9) 64 32) h
-    by-block false h =
-        is-file (eqb (was .block) 1)
-        (not-record (eqb (was .block) 2 && eqb (is .block) 0) 0 _ (not-record (eqb (was .block) 5 && eqb (is .block) 4) 0 _ (not-record (ltb 8 (was .block)) 32 _ h)))
-
--- the number that is kept goes by the block that is open
+-- ── the kept number ──
+-- it goes by the block that is open
 pub own-behind : (c : Digits) (spool : List ℕ) (k : ℕ) (d : Desk) (F : Set → ℕ → Held → ℕ → Type 0) (own : ℕ) (st : State) → Inside c spool k d F st → ownBehind st (d .now .records) own ≡ ownAfter (d .now) own
 own-behind c spool k d F own st h = by st h
   where

@@ -41,8 +41,9 @@ use Rattle.standing.proofs.KeptLaws.{kept-opens}
 use Rattle.standing.proofs.OpenBlocks
 use Rattle.standing.proofs.OwnKept.{own-kept}
 use Rattle.standing.proofs.ScratchKept.{scratch-zeros}
-use Rattle.standing.proofs.PutKept.{header-block, own-behind, kept-put}
+use Rattle.standing.proofs.PutKept.{own-behind, kept-put}
 use Rattle.standing.proofs.Standings.{first-volume}
+use Rattle.account.proofs.Headers.{header-block}
 use Rattle.account.proofs.RunSteps.{step-on, step-refused}
 use Rattle.account.proofs.Walked.{next-seen}
 use Rattle.account.proofs.SkipRun.{skipped-run, skipped-refused}
