@@ -12,6 +12,8 @@
 #define MOST_MULTIPLE 5.0
 #define SMALL_TABLE 256
 #define LARGE_TABLE 4096
+#define FULL_CLASS 15 /* this class with this wire part skips nothing */
+#define FULL_WIRE 18
 
 static uint8_t spool[61441], fixed[61441], again[61441];
 static int64_t table[LARGE_TABLE * PLOVERDELL_RECORD], other[LARGE_TABLE * PLOVERDELL_RECORD];
@@ -42,7 +44,7 @@ static size_t load(const char *path) {
 
 /* A table that the records fit, so that a short drawing isn't charged for the zeros of a long table. */
 static size_t table_for(size_t len, uint64_t *count) {
-    if (ploverdell_read(spool, len, 15, table, SMALL_TABLE * PLOVERDELL_RECORD, count) == 0) return SMALL_TABLE;
+    if (ploverdell_read(spool, len, FULL_CLASS, FULL_WIRE, table, SMALL_TABLE * PLOVERDELL_RECORD, count) == 0) return SMALL_TABLE;
     return LARGE_TABLE;
 }
 
@@ -54,7 +56,7 @@ static const char *short_name(const char *path) {
 /* Whether both readers accept the spool and give the same records. */
 static int readers_agree(size_t len, size_t numbers, uint64_t *count) {
     uint64_t plain_count = 0;
-    if (ploverdell_read(spool, len, 15, table, numbers, count) != 0 || plain_read(spool, len, other, numbers, &plain_count) != 0) return 0;
+    if (ploverdell_read(spool, len, FULL_CLASS, FULL_WIRE, table, numbers, count) != 0 || plain_read(spool, len, other, numbers, &plain_count) != 0) return 0;
     return *count == plain_count && memcmp(table, other, numbers * sizeof *table) == 0;
 }
 
@@ -70,13 +72,13 @@ static struct costs timed(size_t len, size_t numbers) {
     uint64_t count;
     for (int i = 0; i < TURNS; i++) {
         double began = now();
-        ploverdell_read(spool, len, 15, table, numbers, &count);
+        ploverdell_read(spool, len, FULL_CLASS, FULL_WIRE, table, numbers, &count);
         keep_least(&least.read, began);
         began = now();
         plain_read(spool, len, other, numbers, &count);
         keep_least(&least.plain, began);
         began = now();
-        ploverdell_check(spool, len, 15);
+        ploverdell_check(spool, len, FULL_CLASS, FULL_WIRE);
         keep_least(&least.check, began);
         began = now();
         ploverdell_rewrite(spool, len, fixed, len, &count);

@@ -1,9 +1,9 @@
-/* Answers for the spool in the file named on the command line, at class 15 or the class named after it. Where a third file is named, the
- * spool is rewritten there in the fixed form.
+/* Answers for the spool in the file named on the command line, at class 15 with wire part 18, or at the class and the wire part named after
+ * it. Where a file is named behind them, the spool is rewritten there in the fixed form.
  *
  * Status: 0 the last answer printed is an acceptance, and the fixed form is in its file where one is named;
  *         1 it is a refusal, and no file was written;
- *         2 usage: too few or too many words, or a class that is no number;
+ *         2 usage: too few or too many words, a class without its wire part, or one of the two that is no number;
  *         3 the spool could not be read;
  *         4 the answer or the fixed form could not be written. A file that was written in part is removed. */
 #include <errno.h>
@@ -14,6 +14,8 @@
 #include "ploverdell.h"
 
 #define MOST_BYTES 61440
+#define FULL_CLASS 15 /* this class with this wire part skips nothing */
+#define FULL_WIRE 18
 
 enum status { ACCEPTED, REFUSED, USAGE, NOT_READ, NOT_WRITTEN };
 
@@ -26,13 +28,20 @@ static int failed(const char *what, int error, enum status status) {
     return status;
 }
 
-/* A class is decimal digits and nothing else; whether there is such a class is the reader's to say (1). */
-static int class_of(const char *word, uint64_t *cls) {
+/* A class, or a wire part, is decimal digits and nothing else; whether there is such a one is the reader's to say (1). */
+static int number_of(const char *word, uint64_t *number) {
     char *end;
     if (*word < '0' || *word > '9') return 0;
     errno = 0;
-    *cls = strtoull(word, &end, 10);
+    *number = strtoull(word, &end, 10);
     return *end == 0 && errno == 0;
+}
+
+/* Whether the words are a spool; or a spool, a class and its wire part; or these and a file for the fixed form. */
+static int understood(int argc, char **argv, uint64_t *cls, uint64_t *wire) {
+    if (argc == 2) return 1;
+    if (argc != 4 && argc != 5) return 0;
+    return number_of(argv[2], cls) && number_of(argv[3], wire);
 }
 
 /* 0 where the line could not be written. */
@@ -67,21 +76,21 @@ static int save(const char *path, size_t n) {
 }
 
 int main(int argc, char **argv) {
-    uint64_t count = 0, cls = 15, answer;
+    uint64_t count = 0, cls = FULL_CLASS, wire = FULL_WIRE, answer;
     size_t n = 0;
     int error;
-    if (argc < 2 || argc > 4 || (argc > 2 && !class_of(argv[2], &cls))) {
-        fprintf(stderr, "usage: host SPOOL [CLASS [FIXED]]\n");
+    if (!understood(argc, argv, &cls, &wire)) {
+        fprintf(stderr, "usage: host SPOOL [CLASS WIRE [FIXED]]\n");
         return USAGE;
     }
     error = load(argv[1], &n);
     if (error != 0) return failed(argv[1], error, NOT_READ);
-    answer = ploverdell_read(spool, n, cls, table, sizeof table / sizeof *table, &count);
+    answer = ploverdell_read(spool, n, cls, wire, table, sizeof table / sizeof *table, &count);
     if (!show(answer, "records", count)) return failed("standard output", errno, NOT_WRITTEN);
-    if (argc < 4) return answer % 100 == 0 ? ACCEPTED : REFUSED;
+    if (argc < 5) return answer % 100 == 0 ? ACCEPTED : REFUSED;
     answer = ploverdell_rewrite(spool, n, out, sizeof out, &count);
-    error = answer % 100 == 0 ? save(argv[3], (size_t)count) : 0;
-    if (error != 0) return failed(argv[3], error, NOT_WRITTEN);
+    error = answer % 100 == 0 ? save(argv[4], (size_t)count) : 0;
+    if (error != 0) return failed(argv[4], error, NOT_WRITTEN);
     if (!show(answer, "bytes", count)) return failed("standard output", errno, NOT_WRITTEN);
     return answer % 100 == 0 ? ACCEPTED : REFUSED;
 }

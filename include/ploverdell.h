@@ -1,6 +1,7 @@
 /* The reader and the rewriter of the drawing counter, for hosts written in C. Link with libhost.a (`make host` builds it).
  *
- * A spool is one job as document 01 describes it, at most 61,440 bytes; a class is 1 to 5 or 11 to 15.
+ * A spool is one job as document 01 describes it, at most 61,440 bytes; a class is 1 to 5 or 11 to 15, and its wire part 0, 1 to 8 or
+ * 11 to 18: any other class or wire part is refused with 1, before the spool is looked at.
  * docs/REFUSALS.md tells what each refusal number means. Every call answers, whatever the bytes are.
  *
  * The answer is one number: the refusal's number (0: accepted) + 100 * volume + 10,000 * line. It is taken apart by
@@ -29,15 +30,15 @@ extern "C" {
 #define PLOVERDELL_RECORD 32
 
 /* Judges a spool with a table of 256 records of its own (64 KB of stack, and what the reader needs beside it). */
-uint64_t ploverdell_check(const uint8_t *spool, size_t spool_len, uint64_t cls);
+uint64_t ploverdell_check(const uint8_t *spool, size_t spool_len, uint64_t cls, uint64_t wire);
 
 /* Reads a spool into a table of table_len numbers, 32 to a record. Accepted: the records stand at its front, *count of them, and zeros
  * behind them. Refused: the table is all zeros and *count is 0. What the table held before does not matter. */
-uint64_t ploverdell_read(const uint8_t *spool, size_t spool_len, uint64_t cls, int64_t *table, size_t table_len, uint64_t *count);
+uint64_t ploverdell_read(const uint8_t *spool, size_t spool_len, uint64_t cls, uint64_t wire, int64_t *table, size_t table_len, uint64_t *count);
 
-/* Writes a spool in the fixed form, read at class 15, to an output of out_len bytes. Accepted: the fixed form stands at its front, *count
- * bytes, and zeros behind them. Refused: the output is all zeros and *count is 0; 20 where the fixed form is longer than the output. It is
- * never longer than the spool, so an output of spool_len bytes is enough. What the output held before does not matter. */
+/* Writes a spool in the fixed form, read at class 15 with wire part 18, to an output of out_len bytes. Accepted: the fixed form stands at its
+ * front, *count bytes, and zeros behind them. Refused: the output is all zeros and *count is 0; 20 where the fixed form is longer than the
+ * output. It is never longer than the spool, so an output of spool_len bytes is enough. What the output held before does not matter. */
 uint64_t ploverdell_rewrite(const uint8_t *spool, size_t spool_len, uint8_t *out, size_t out_len, uint64_t *count);
 
 #ifdef __cplusplus

@@ -1,6 +1,6 @@
 """Questions to the program of crates/asked, framed: a byte that says what is asked, then a question as tests/reference frames it (README.md
-there): the class, the lengths of a table (in numbers) and of an output (in bytes) that are lent, the length of the spool, the spool. The
-length SAME_SPOOL says that the question is about the spool of the question before.
+there): the class, its wire part, the lengths of a table (in numbers) and of an output (in bytes) that are lent, the length of the spool, the
+spool. The length SAME_SPOOL says that the question is about the spool of the question before.
 """
 import pathlib
 
@@ -13,7 +13,7 @@ KEPT_NAMES = "listed", "rewritten"
 LIST, REWRITE, COMPARE = b"l", b"w", b"c"
 NUMBERS = 32  # of a record
 SAME_SPOOL = 0xFFFFFFFF
-REFERENCE_HEAD = 13  # the bytes of a question of tests/reference before its spool
+REFERENCE_HEAD = 14  # the bytes of a question of tests/reference before its spool
 HEAD = 1 + REFERENCE_HEAD
 
 
@@ -21,9 +21,9 @@ def length(n):
     return n.to_bytes(4, "big")
 
 
-def question(what, spool, cls=0, records=0, room=0):
-    """A question about a spool, or, where it is None, about the one before."""
-    head = what + bytes([cls]) + length(NUMBERS * records) + length(room)
+def question(what, spool, front=(0, 0), records=0, room=0):
+    """A question about a spool, or, where it is None, about the one before; front: the class and its wire part."""
+    head = what + bytes(front) + length(NUMBERS * records) + length(room)
     return head + (length(SAME_SPOOL) if spool is None else length(len(spool)) + spool)
 
 

@@ -25,6 +25,11 @@ struct fenced {
     size_t inside_len;
 };
 
+/* The front end that is asked for: its class, and the class's wire part. */
+struct front {
+    uint64_t cls, wire;
+};
+
 /* Ends at once, so that a line begun is not handed out. */
 static _Noreturn void fail(const char *why) {
     fprintf(stderr, "driver: %s\n", why);
@@ -67,10 +72,10 @@ static void print_answer(uint64_t answer, uint64_t count, struct fenced lent) {
     printf("%" PRIu64 " %" PRIu64 " %" PRIu64 " %" PRIu64 " %016" PRIx64, answer % 100, answer / 100 % 100, answer / 10000, count, hash(lent));
 }
 
-static void print_reading(struct fenced spool, uint64_t cls, size_t table_len, int at_the_end) {
+static void print_reading(struct fenced spool, struct front front, size_t table_len, int at_the_end) {
     struct fenced table = lend(table_len * sizeof(int64_t), at_the_end);
     uint64_t count = UINT64_MAX;
-    uint64_t answer = ploverdell_read(spool.first, spool.len, cls, (int64_t *)table.first, table_len, &count);
+    uint64_t answer = ploverdell_read(spool.first, spool.len, front.cls, front.wire, (int64_t *)table.first, table_len, &count);
     print_answer(answer, count, table);
     take_back(table);
 }
@@ -89,19 +94,19 @@ static size_t number(const uint8_t *bytes) {
 
 /* One question and its line; 0 at the end of the stream. */
 static int answered(void) {
-    uint8_t head[13]; /* class, length of the table, of the output, of the spool */
+    uint8_t head[14]; /* class, wire part, length of the table, of the output, of the spool */
     size_t got = fread(head, 1, sizeof head, stdin);
     if (got == 0 && feof(stdin)) return 0;
     if (got != sizeof head) fail("a question is cut short");
-    uint64_t cls = head[0];
-    size_t table_len = number(head + 1), out_len = number(head + 5), spool_len = number(head + 9);
+    struct front front = {head[0], head[1]};
+    size_t table_len = number(head + 2), out_len = number(head + 6), spool_len = number(head + 10);
     int at_the_end = spool_len % 2 == 0;
 
     struct fenced spool = lend(spool_len, at_the_end);
     if (fread(spool.first, 1, spool_len, stdin) != spool_len) fail("a spool is cut short");
     make_readable_only(spool);
-    print_reading(spool, cls, table_len, at_the_end);
-    printf(" %" PRIu64 " ", ploverdell_check(spool.first, spool_len, cls));
+    print_reading(spool, front, table_len, at_the_end);
+    printf(" %" PRIu64 " ", ploverdell_check(spool.first, spool_len, front.cls, front.wire));
     print_rewriting(spool, out_len, at_the_end);
     putchar('\n');
     take_back(spool);

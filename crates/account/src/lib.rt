@@ -1,5 +1,5 @@
 // What the reading of a set remembers between two lines, and, in specs/, what one line of each block does to it, as the code says it.
-use rules::Digits;
+use rules::Class;
 use rules::LineForm;
 use rules::Refusal;
 use rules::Span;
@@ -180,7 +180,7 @@ pub struct LineAt {
     pub here: Now,
     pub form: LineForm,
     pub at: Where,
-    pub class: Digits,
+    pub class: Class,
 }
 
 // The tally of a set, twelve numbers: the ranges arc, E_sym and S_elec;
@@ -252,9 +252,9 @@ pub enum Left {
     Stop(Refusal),
 }
 
-// A range class, where the number is one of the ten.
-pub enum Class {
-    Is(Digits),
+// A range class, where its number and its wire part are those of one.
+pub enum MaybeClass {
+    Is(Class),
     Not,
 }
 

@@ -8,33 +8,33 @@ use lib.ListN.{length}
 use Rattle.rules.specs.declared.Refusal.{Refusal}
 use Rattle.rules.specs.declared.Answer.{Answer}
 use Rattle.rules.specs.declared.Answer.the-variants.{Accepted, Refused}
-use Rattle.rules.specs.declared.Digits.{Digits}
+use Rattle.rules.specs.declared.Class.{Class}
 use Rattle.rules.specs.Base.{flat}
 use Rattle.rules.specs.LineByLine.{Outcome, refused, accepted}
 use Rattle.rules.specs.RangeClass.{classOf}
 use Rattle.rules.specs.RecordTable.{width}
-use Rattle.rules.specs.Answers.{digitsOr, answerCount, answerWith, recordsIn, readOutcome, readRecords, readAnswer, readTable, ownRecords, printLine, firstLine, printed}
+use Rattle.rules.specs.Answers.{classOr, answerCount, answerWith, recordsIn, readOutcome, readRecords, readAnswer, readTable, fullNumber, fullWire, ownRecords, printLine, firstLine, printed}
 use Rattle.promises.proofs.Calls.{table-records}
 use Rattle.accread.specs.Printing.{recordLines}
 
 -- a refusal has no records
-no-records : (c : Digits) (o : Outcome) (r : Refusal) → answerWith (length (recordsIn c o)) o ≡ Refused r → recordsIn c o ≡ []
+no-records : (c : Class) (o : Outcome) (r : Refusal) → answerWith (length (recordsIn c o)) o ≡ Refused r → recordsIn c o ≡ []
 no-records c (refused n v l) r e = refl
 no-records c (accepted s) r e = absurd (let z : _≡_ {A = ℕ} 0 1 = cc in omega arith)
 
-module _ (class len : ℕ) (spool : List ℕ) where
-  refused-none : (r : Refusal) → readAnswer class len spool ≡ Refused r → readRecords class len spool ≡ []
+module _ (class wire len : ℕ) (spool : List ℕ) where
+  refused-none : (r : Refusal) → readAnswer class wire len spool ≡ Refused r → readRecords class wire len spool ≡ []
   unfolding readAnswer readRecords
-  refused-none r e = no-records (digitsOr (classOf class)) (readOutcome class len spool) r e
+  refused-none r e = no-records (classOr (classOf class wire)) (readOutcome class wire len spool) r e
 
-  lines : (a : Answer) → readAnswer class len spool ≡ a → recordLines (answerCount a) (readTable class len spool) ≡ flat (map printLine (readRecords class len spool))
-  lines (Accepted n) e = ap (λ (rs : List (List ℤ)). flat (map printLine rs)) (table-records class len spool n e)
+  lines : (a : Answer) → readAnswer class wire len spool ≡ a → recordLines (answerCount a) (readTable class wire len spool) ≡ flat (map printLine (readRecords class wire len spool))
+  lines (Accepted n) e = ap (λ (rs : List (List ℤ)). flat (map printLine rs)) (table-records class wire len spool n e)
   lines (Refused r) e = sym (ap (λ (rs : List (List ℤ)). flat (map printLine rs)) (refused-none r e))
 
 -- the table of main has 256 records
 pub main-prints : (spool : List ℕ) → let len = ownRecords * width in
-    printLine (firstLine (readAnswer 15 len spool)) ++ recordLines (answerCount (readAnswer 15 len spool)) (readTable 15 len spool) ≡ printed spool
+    printLine (firstLine (readAnswer fullNumber fullWire len spool)) ++ recordLines (answerCount (readAnswer fullNumber fullWire len spool)) (readTable fullNumber fullWire len spool) ≡ printed spool
 unfolding printed
 main-prints spool =
     let len = ownRecords * width in
-    ap (λ (s : List ℕ). printLine (firstLine (readAnswer 15 len spool)) ++ s) (lines 15 len spool (readAnswer 15 len spool) refl)
+    ap (λ (s : List ℕ). printLine (firstLine (readAnswer fullNumber fullWire len spool)) ++ s) (lines fullNumber fullWire len spool (readAnswer fullNumber fullWire len spool) refl)

@@ -1,5 +1,6 @@
 // The reader, the check and the rewriter, asked about one spool: the line that the reference prints (tests/reference/README.md tells how it is
 // written). Table and output stand in it as their hashes.
+use crate::Front;
 use crate::lent::soil_output;
 use crate::lent::soil_table;
 use host::ploverdell_check;
@@ -74,9 +75,9 @@ fn hash_bytes(bytes: &[u8]) -> u64 {
     h
 }
 
-fn show_reading(spool: &[u8], cls: u64, table: &mut [i64]) {
+fn show_reading(spool: &[u8], front: Front, table: &mut [i64]) {
     soil_table(table);
-    shows::answer(1, read(spool, cls, table));
+    shows::answer(1, read(spool, front.cls, front.wire, table));
     shows::space(1);
     show_hash(hash_table(table));
 }
@@ -88,10 +89,10 @@ fn show_rewriting(spool: &[u8], out: &mut [u8]) {
     show_hash(hash_bytes(out));
 }
 
-pub fn compare(spool: &[u8], cls: u64, table: &mut [i64], out: &mut [u8]) {
-    show_reading(spool, cls, table);
+pub fn compare(spool: &[u8], front: Front, table: &mut [i64], out: &mut [u8]) {
+    show_reading(spool, front, table);
     shows::space(1);
-    show(ploverdell_check(spool, cls));
+    show(ploverdell_check(spool, front.cls, front.wire));
     shows::space(1);
     show_rewriting(spool, out);
     shows::newline(1);

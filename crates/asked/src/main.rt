@@ -1,6 +1,6 @@
 // Answers the questions on standard input, one after the other, and prints at the end how many they were. The byte in front of a question
-// says what is asked (a module for each); the rest of its frame is the same for all, that of tests/reference (README.md there): a class, the
-// lengths of a table and of an output to be lent, the length of a spool, and the spool. tools/frames.py frames them.
+// says what is asked (a module for each); the rest of its frame is the same for all, that of tests/reference (README.md there): a class,
+// its wire part, the lengths of a table and of an output to be lent, the length of a spool, and the spool. tools/frames.py frames them.
 mod comparing;
 mod lent;
 mod listing;
@@ -20,8 +20,8 @@ const REWRITE: u8 = b'w';
 // What reader, check and rewriter answer, in the reference's line.
 const COMPARE: u8 = b'c';
 
-// What is asked, the class, three lengths.
-const HEAD: usize = 14;
+// What is asked, the class, the wire part, three lengths.
+const HEAD: usize = 15;
 
 // The length that says: the spool of the question before, whatever that one asked.
 const SAME_SPOOL: usize = 4294967295;
@@ -42,10 +42,16 @@ fn wide(b: u8) -> u64 {
     b as u64
 }
 
+// The front end that is asked for: its class, and the class's wire part.
+pub struct Front {
+    pub cls: u64,
+    pub wire: u64,
+}
+
 // What stands before a question's spool.
 struct Head {
     what: u8,
-    cls: u64,
+    front: Front,
     numbers: usize,
     bytes: usize,
     spool: usize,
@@ -57,7 +63,7 @@ fn next_head() -> Head {
     if io::read_full(0, &mut head) < HEAD {
         return Head {
             what: 0,
-            cls: 0,
+            front: Front { cls: 0, wire: 0 },
             numbers: 0,
             bytes: 0,
             spool: END,
@@ -65,10 +71,13 @@ fn next_head() -> Head {
     }
     Head {
         what: head[0],
-        cls: wide(head[1]),
-        numbers: number(head[2], head[3], head[4], head[5]),
-        bytes: number(head[6], head[7], head[8], head[9]),
-        spool: number(head[10], head[11], head[12], head[13]),
+        front: Front {
+            cls: wide(head[1]),
+            wire: wide(head[2]),
+        },
+        numbers: number(head[3], head[4], head[5], head[6]),
+        bytes: number(head[7], head[8], head[9], head[10]),
+        spool: number(head[11], head[12], head[13], head[14]),
     }
 }
 
@@ -81,9 +90,9 @@ fn spool_length(len: usize, before: usize, spool: &mut [u8]) -> usize {
 }
 
 // Prints the answer; false where the byte asks for nothing that is known.
-fn answered(what: u8, cls: u64, spool: &[u8], table: &mut [i64], out: &mut [u8]) -> bool {
+fn answered(what: u8, front: Front, spool: &[u8], table: &mut [i64], out: &mut [u8]) -> bool {
     if what == LIST {
-        listing::list(spool, cls, table);
+        listing::list(spool, front, table);
         return true;
     }
     if what == REWRITE {
@@ -91,7 +100,7 @@ fn answered(what: u8, cls: u64, spool: &[u8], table: &mut [i64], out: &mut [u8])
         return true;
     }
     if what == COMPARE {
-        comparing::compare(spool, cls, table, out);
+        comparing::compare(spool, front, table, out);
         return true;
     }
     false
@@ -114,7 +123,7 @@ fn question(before: usize, spool: &mut [u8], table: &mut [i64], out: &mut [u8]) 
     }
     if answered(
         head.what,
-        head.cls,
+        head.front,
         &spool[..len],
         &mut table[..numbers],
         &mut out[..bytes],

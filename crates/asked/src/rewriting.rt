@@ -1,5 +1,5 @@
 // A spool's fixed form: a line `answer volume line bytes`. Where the spool is accepted the fixed form follows; then what it is read back as at
-// class 15, a line `answer volume line records` and the records with their places made 0; then what it is rewritten to, line and bytes.
+// class 15 with wire part 18, a line `answer volume line records` and the records with their places made 0; then what it is rewritten to, line and bytes.
 use crate::lent::output_leavings;
 use crate::lent::soil_output;
 use crate::lent::soil_table;
@@ -14,8 +14,10 @@ const MOST_NUMBERS: usize = 8192;
 
 const MOST_WRITTEN: usize = 61440;
 
-// The class that skips nothing.
-const HIGHEST_CLASS: u64 = 15;
+// The class and the wire part that skip nothing.
+const FULL_CLASS: u64 = 15;
+
+const FULL_WIRE: u64 = 18;
 
 // The header's eight texts stand one behind the other, each a place and a length.
 fn is_header_text(i: usize) -> bool {
@@ -78,7 +80,7 @@ fn places_apart(table: &mut [i64]) {
 fn read_back(written: &[u8]) {
     let mut table = [0i64; MOST_NUMBERS];
     soil_table(&mut table);
-    let answer = read(written, HIGHEST_CLASS, &mut table);
+    let answer = read(written, FULL_CLASS, FULL_WIRE, &mut table);
     shows::answer_line(1, answer);
     let Answer::Accepted(count) = answer else {
         return;

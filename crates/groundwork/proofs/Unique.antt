@@ -10,7 +10,7 @@ use denote.Ref.{now}
 use Rattle.rules.specs.RangeClass.{classOf}
 use Rattle.leaves.proofs.Unique.{One}
 use Rattle.lines.specs.declared.Seen.{Seen}
-use Rattle.account.specs.declared.Class.{Class}
+use Rattle.account.specs.declared.MaybeClass.{MaybeClass}
 use Rattle.account.specs.declared.Now.{Now}
 use Rattle.account.specs.declared.Pos.{Pos}
 use Rattle.account.specs.declared.Step.{Step}
@@ -34,11 +34,11 @@ at-block-unique n block part r₁ r₂ c₁ c₂ = c₁ ∙ sym c₂
 at-block-code : One at-block′.Kinds.ps at-block′.Kinds.r at-block′.Reads.Learnt (λ κs r e. r)
 at-block-code κs x r₁ r₂ e₁ e₂ = at-block-unique (x .0) (x .1 .0) (x .1 .1 .0) r₁ r₂
 
-pub class-of-unique : (n : ℕ) (r₁ r₂ : Class) → r₁ ≡ classIn (classOf n) → r₂ ≡ classIn (classOf n) → r₁ ≡ r₂
-class-of-unique n r₁ r₂ c₁ c₂ = c₁ ∙ sym c₂
+pub class-of-unique : (n w : ℕ) (r₁ r₂ : MaybeClass) → r₁ ≡ classIn (classOf n w) → r₂ ≡ classIn (classOf n w) → r₁ ≡ r₂
+class-of-unique n w r₁ r₂ c₁ c₂ = c₁ ∙ sym c₂
 
 class-of-code : One class-of′.Kinds.ps class-of′.Kinds.r class-of′.Reads.Learnt (λ κs r e. r)
-class-of-code κs x r₁ r₂ e₁ e₂ = class-of-unique (x .0) r₁ r₂
+class-of-code κs x r₁ r₂ e₁ e₂ = class-of-unique (x .0) (x .1 .0) r₁ r₂
 
 -- ── a line ──
 pub next-line-unique : (body : List ℕ) (v : Volume) (p : Pos) (r₁ r₂ : Seen) → r₁ ≡ seenFrom body v p → r₂ ≡ seenFrom body v p → r₁ ≡ r₂

@@ -18,16 +18,17 @@ use Rattle.host.proofs.ploverdell_read as read′
 use Rattle.host.proofs.ploverdell_rewrite as rewrite′
 
 abbrev pub check-call : Learns check′.Kinds.ps check′.Kinds.r check′.Reads.Learnt HostCheck
-check-call κs x r e c = record { spool = now (x .0); class = x .1 .0; number = r; answers = c }
+check-call κs x r e c = record { spool = now (x .0); class = x .1 .0; wire = x .1 .1 .0; number = r; answers = c }
 
 abbrev pub read-call : Learns read′.Kinds.ps read′.Kinds.r read′.Reads.Learnt HostRead
 read-call κs x r e c = record {
   spool = now (x .0);
   class = x .1 .0;
-  before = now (x .1 .1 .0);
+  wire = x .1 .1 .0;
+  before = now (x .1 .1 .1 .0);
   number = r;
-  after = now (e .1 .1 .0);
-  count = now (e .1 .1 .1 .0);
+  after = now (e .1 .1 .1 .0);
+  count = now (e .1 .1 .1 .1 .0);
   answers = c .0;
   fills = c .1;
   counts = c .2;

@@ -25,21 +25,27 @@ fn count_of(a: Answer) -> u64
     }
 }
 
-// The check: "takes spool and class, uses a table of 256 records of its own".
+// The check: "takes spool and class, uses a table of 256 records of its own"; "whatever takes a class takes its wire part".
 #[no_mangle]
-pub extern "C" fn ploverdell_check(spool: &[u8], cls: u64) -> u64
-    ensures { λ r. ⌜ r ≡ checkAnswer cls (now (spool .entry)) ⌝ }
+pub extern "C" fn ploverdell_check(spool: &[u8], cls: u64, wire: u64) -> u64
+    ensures { λ r. ⌜ r ≡ checkAnswer cls wire (now (spool .entry)) ⌝ }
 {
     let mut table = [0i64; 8192];
-    pack(read(spool, cls, &mut table))
+    pack(read(spool, cls, wire, &mut table))
 }
 
 // The reader: the packed number, the records in the lent table, and how many they are.
 #[no_mangle]
-pub extern "C" fn ploverdell_read(spool: &[u8], cls: u64, table: &mut [i64], count: &mut u64) -> u64
-    ensures { λ r. ⌜ (r ≡ packed (readAnswer cls (length (now (table .entry))) (now (spool .entry)))) × (now (table .exit) ≡ readTable cls (length (now (table .entry))) (now (spool .entry))) × (now (count .exit) ≡ answerCount (readAnswer cls (length (now (table .entry))) (now (spool .entry)))) ⌝ }
+pub extern "C" fn ploverdell_read(
+    spool: &[u8],
+    cls: u64,
+    wire: u64,
+    table: &mut [i64],
+    count: &mut u64,
+) -> u64
+    ensures { λ r. ⌜ (r ≡ packed (readAnswer cls wire (length (now (table .entry))) (now (spool .entry)))) × (now (table .exit) ≡ readTable cls wire (length (now (table .entry))) (now (spool .entry))) × (now (count .exit) ≡ answerCount (readAnswer cls wire (length (now (table .entry))) (now (spool .entry)))) ⌝ }
 {
-    let a = read(spool, cls, table);
+    let a = read(spool, cls, wire, table);
     *count = count_of(a);
     pack(a)
 }

@@ -10,7 +10,7 @@ use lib.Dec.{leb}
 use lib.IntN.{pos}
 use lib.ListN.{length, take, replicate}
 use borrow.Author.Tests.{leb-true, leb-false, lt-leb}
-use Rattle.rules.specs.declared.Digits.{Digits}
+use Rattle.rules.specs.declared.Class.{Class}
 use Rattle.rules.specs.declared.Refusal.{Refusal}
 use Rattle.rules.specs.declared.Answer.{Answer}
 use Rattle.rules.specs.declared.Answer.the-variants.{Accepted, Refused}
@@ -18,10 +18,10 @@ use Rattle.rules.specs.Base.{flat}
 use Rattle.rules.specs.Spool.{Volume, volumesOf}
 use Rattle.rules.specs.RangeClass.{classOf}
 use Rattle.rules.specs.Sets.{Set, nothingYet}
-use Rattle.rules.specs.Machine.{Line, Env, top}
+use Rattle.rules.specs.Machine.{limitedTo, Line, Env, top}
 use Rattle.rules.specs.LineByLine.{Outcome, refused, accepted, run}
 use Rattle.rules.specs.RecordTable.{recordsOf, tableOf, width}
-use Rattle.rules.specs.Answers.{Listed, listed, noLines, listVolumes, outcomeOfLines, outcomeOfVolumes, outcomeOf, outcomeAt, digitsOr, answerNumber, answerCount, refusal, readOutcome, recordsIn, answerWith, readRecords, readAnswer, readTable, namesIn, writtenIn, rewriteOutcome, written, fitOutput, rewriteAnswer, rewriteBytes, rewriteOutput}
+use Rattle.rules.specs.Answers.{Listed, listed, noLines, listVolumes, outcomeOfLines, outcomeOfVolumes, outcomeOf, outcomeAt, classOr, answerNumber, answerCount, refusal, readOutcome, recordsIn, answerWith, readRecords, readAnswer, readTable, namesIn, writtenIn, rewriteOutcome, written, fitOutput, rewriteAnswer, rewriteBytes, rewriteOutput}
 use Rattle.rules.proofs.Chains.{by-cond, cond-same}
 use Rattle.rules.proofs.Runs.{not-accepted}
 use Rattle.promises.specs.DemandOne.{Answered, acceptedWith, refusedWith, Filled, Reads, Written, Rewrites, DemandOne}
@@ -55,19 +55,19 @@ unfolding outcomeOf
 spool-run e spool s q = volumes-run e (volumesOf spool) s q
 
 -- its records fit the table
-records-fit : (c : Option Digits) (m : ℕ) (spool : List ℕ) (s : Set) → outcomeAt c (some m) spool ≡ accepted s → length (recordsOf (digitsOr c) s) ≤ m
+records-fit : (c : Option Class) (m : ℕ) (spool : List ℕ) (s : Set) → outcomeAt c (some m) spool ≡ accepted s → length (recordsOf (classOr c) s) ≤ m
 records-fit none m spool s q = not-accepted q
 records-fit (some c) m spool s q =
-    let (ls, r) = spool-run (record { class = c; limit = some m }) spool s q in
-    leb-true _ _ (count-records (record { class = c; limit = some m }) c ls s r)
+    let (ls, r) = spool-run (limitedTo c m) spool s q in
+    leb-true _ _ (count-records (limitedTo c m) c ls s r)
 
 -- ── the reader ──
-table-refused : (c : Digits) (len : ℕ) (o : Outcome) (r : Refusal) → answerWith (length (recordsIn c o)) o ≡ Refused r → tableOf len (recordsIn c o) ≡ replicate len (pos 0)
+table-refused : (c : Class) (len : ℕ) (o : Outcome) (r : Refusal) → answerWith (length (recordsIn c o)) o ≡ Refused r → tableOf len (recordsIn c o) ≡ replicate len (pos 0)
 unfolding tableOf
 table-refused c len (refused n v l) r q = take-replicate len len (pos 0) (le-refl len)
 table-refused c len (accepted s) r q = not-refused q
 
-table-accepted : (c : Digits) (len : ℕ) (o : Outcome) (n : ℕ) → ((s : Set) → o ≡ accepted s → length (recordsOf c s) ≤ len / 32) → answerWith (length (recordsIn c o)) o ≡ Accepted n
+table-accepted : (c : Class) (len : ℕ) (o : Outcome) (n : ℕ) → ((s : Set) → o ≡ accepted s → length (recordsOf c s) ≤ len / 32) → answerWith (length (recordsIn c o)) o ≡ Accepted n
     → Filled len n (recordsIn c o) (tableOf len (recordsIn c o))
 unfolding tableOf
 table-accepted c len (refused m v l) n h q = not-refused (sym q)
@@ -84,20 +84,20 @@ table-accepted c len (accepted s) n h q =
       stands = rw (filled len (pos 0) (flat rs) (omega (arith, size, fit)), size);
     }
 
-reader-told : (class len : ℕ) (spool : List ℕ) → OutcomeTold (readOutcome class len spool)
+reader-told : (class wire len : ℕ) (spool : List ℕ) → OutcomeTold (readOutcome class wire len spool)
 unfolding readOutcome
-reader-told class len spool = told-at (classOf class) (some (len / width)) spool
+reader-told class wire len spool = told-at (classOf class wire) (some (len / width)) spool
 
-reads : (class len : ℕ) (spool : List ℕ) → Reads class len spool
+reads : (class wire len : ℕ) (spool : List ℕ) → Reads class wire len spool
 unfolding readOutcome readRecords readAnswer readTable tableOf
-reads class len spool =
-    let o = readOutcome class len spool in
-    let c = digitsOr (classOf class) in
+reads class wire len spool =
+    let o = readOutcome class wire len spool in
+    let c = classOr (classOf class wire) in
     record {
-      answer = told-answer _ o (reader-told class len spool);
-      size = filled-length len (pos 0) (flat (readRecords class len spool));
+      answer = told-answer _ o (reader-told class wire len spool);
+      size = filled-length len (pos 0) (flat (readRecords class wire len spool));
       whenRefused = table-refused c len o;
-      whenAccepted = λ n. table-accepted c len o n (λ s q. records-fit (classOf class) (len / width) spool s q);
+      whenAccepted = λ n. table-accepted c len o n (λ s q. records-fit (classOf class wire) (len / width) spool s q);
     }
 
 -- ── the rewriter: w is what is written ──

@@ -8,10 +8,10 @@ use lib.ListN.{length}
 use Rattle.rules.specs.Spool.{Volume, volumesOf}
 use Rattle.rules.specs.RangeClass.{classOf}
 use Rattle.rules.specs.Sets.{Set, nothingYet}
-use Rattle.rules.specs.Machine.{Env, top}
+use Rattle.rules.specs.Machine.{limitedTo, Env, top}
 use Rattle.rules.specs.LineByLine.{accepted}
 use Rattle.rules.specs.RecordTable.{width, recordsOf}
-use Rattle.rules.specs.Answers.{Listed, listed, noLines, listVolumes, outcomeOfLines, outcomeOfVolumes, outcomeOf, readOutcome, fullClass, rewriteOutcome}
+use Rattle.rules.specs.Answers.{Listed, listed, noLines, listVolumes, outcomeOfLines, outcomeOfVolumes, outcomeOf, readOutcome, fullClass, rewriteOutcome, fullNumber, fullWire}
 use Rattle.rules.proofs.Runs.{not-accepted}
 use Rattle.promises.proofs.BackSlots.{plainEnv}
 use Rattle.promises.proofs.Limits.{limit-lift, limit-drop, taken-counts}
@@ -21,13 +21,13 @@ pub rewrite-is : (spool : List ℕ) → rewriteOutcome spool ≡ outcomeOfVolume
 unfolding rewriteOutcome outcomeOf
 rewrite-is spool = refl
 
-pub class15 : classOf 15 ≡ some fullClass
+pub class15 : classOf fullNumber fullWire ≡ some fullClass
 unfolding classOf
 class15 = refl
 
 module _ (m : ℕ) (s : Set) where
   abbrev limited : Env
-  limited = record { class = fullClass; limit = some m }
+  limited = limitedTo fullClass m
 
   lift-volumes : (o : Option (List Volume)) → outcomeOfVolumes plainEnv o ≡ accepted s → length (recordsOf fullClass s) ≤ m → outcomeOfVolumes limited o ≡ accepted s
   lift-volumes none e h = not-accepted e
@@ -46,10 +46,10 @@ module _ (m : ℕ) (s : Set) where
       go (noLines v) e = not-accepted e
 
 -- a set whose records fit a table is read with it
-pub fits-table : (len : ℕ) (spool : List ℕ) (s : Set) → rewriteOutcome spool ≡ accepted s → length (recordsOf fullClass s) * width ≤ len → readOutcome 15 len spool ≡ accepted s
+pub fits-table : (len : ℕ) (spool : List ℕ) (s : Set) → rewriteOutcome spool ≡ accepted s → length (recordsOf fullClass s) * width ≤ len → readOutcome fullNumber fullWire len spool ≡ accepted s
 fits-table len spool s e h =
-    outcome-at len spool 15 fullClass class15 ∙ lift-volumes (len / width) s (volumesOf spool) (sym (rewrite-is spool) ∙ e) (omega (arith, h))
+    outcome-at len spool fullNumber fullWire fullClass class15 ∙ lift-volumes (len / width) s (volumesOf spool) (sym (rewrite-is spool) ∙ e) (omega (arith, h))
 
 -- a set that is read with a table is read without
-pub any-table : (len : ℕ) (spool : List ℕ) (s : Set) → readOutcome 15 len spool ≡ accepted s → rewriteOutcome spool ≡ accepted s
-any-table len spool s e = rewrite-is spool ∙ drop-volumes (len / width) s (volumesOf spool) (sym (outcome-at len spool 15 fullClass class15) ∙ e)
+pub any-table : (len : ℕ) (spool : List ℕ) (s : Set) → readOutcome fullNumber fullWire len spool ≡ accepted s → rewriteOutcome spool ≡ accepted s
+any-table len spool s e = rewrite-is spool ∙ drop-volumes (len / width) s (volumesOf spool) (sym (outcome-at len spool fullNumber fullWire fullClass class15) ∙ e)

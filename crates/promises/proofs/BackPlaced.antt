@@ -111,12 +111,12 @@ row-serialless k d r v g e = go (opensBlock (r .holds) v) (rw (g .again 0) at (a
     go false h = h
 
 -- ── a placed symbol ──
-placed-sound : (differ placedTable ≡ true) × (all (λ r. reaches fullClass (r .least)) placedTable ≡ true) × (all (λ r. not (isSerials (r .holds))) (textTable true 16 24) ≡ true)
+placed-sound : (differ placedTable ≡ true) × (all (λ r. reaches (fullClass .symbols) (r .least)) placedTable ≡ true) × (all (λ r. not (isSerials (r .holds))) (textTable true 16 24) ≡ true)
 unfolding placedTable textTable
 placed-sound = (refl, refl, refl)
 
 module _ (next : List ℕ) (S : Set) (n m : ℕ) (fs : List Figure) (own inner : Slots)
-    (own-good : Closed (GoodRow (knownOf S) (rangeOf S)) (both fullClass (rangeOf S)) placedTable own)
+    (own-good : Closed (GoodRow (knownOf S) (rangeOf S)) (both (fullClass .symbols) (rangeOf S)) placedTable own)
     (inner-good : GoodPart (isSome (getD own 1 none)) (Always none0) none0 (textTable true 16 24) inner)
     (new : noneOf (figureSerial (placed n (own ∷ inner ∷ []))) (serialsIn S ++ flat (map figureSerial fs)) ≡ true) where
   abbrev lettersTable : List Rule
@@ -141,7 +141,7 @@ module _ (next : List ℕ) (S : Set) (n m : ℕ) (fs : List Figure) (own inner :
       → newSerial (retaken n S) fs (bareValue v) ≡ true → Reads next (own-so u) (showValue (knownOf S) r v inPlaced) (own-so (set u i (some (bareValue v))))
   enters-placed i r v w g u f o z =
       entered next (knownOf S) inPlaced r v (own-so u) (own-so (set u i (some (bareValue v)))) o
-      (rw (g .form 0, row-find w (placed-sound .0), row-all (λ r. reaches fullClass (r .least)) w (placed-sound .1), free-mark u i f, g .again i, o, z, still w u f v o 1))
+      (rw (g .form 0, row-find w (placed-sound .0), row-all (λ r. reaches (fullClass .symbols) (r .least)) w (placed-sound .1), free-mark u i f, g .again i, o, z, still w u f v o 1))
 
   opens-placed : (r : Rule) (v : Value) → Row placedTable 1 r → GoodRow (knownOf S) (rangeOf S) r v → (u : Slots) → Free u 1 → opensBlock (r .holds) v ≡ true → innerOf (r .holds) ≡ 1
       → Closed (Always none0) none0 lettersTable inner → Reads next (own-so u) (showValue (knownOf S) r v inPlaced) (own-so (set u 1 (some (bareValue v))))
@@ -150,7 +150,7 @@ module _ (next : List ℕ) (S : Set) (n m : ℕ) (fs : List Figure) (own inner :
       rw (unfilled placedTable u 1 f, filled w u f v o)
       (opened next (knownOf S) inPlaced r v (placing (retaken n S) m fs 0 (symbolBlock (u ∷ blank lettersTable ∷ [])) 0) (placing (retaken n S) m fs 0 (symbolBlock (x ∷ blank lettersTable ∷ [])) (innerOf (r .holds)))
       (placing (retaken n S) m fs 0 (symbolBlock (x ∷ bareSlots inner ∷ [])) 0) o
-      (rw (g .form 0, row-find w (placed-sound .0), row-all (λ r. reaches fullClass (r .least)) w (placed-sound .1), free-mark u 1 f, g .again 1, o))
+      (rw (g .form 0, row-find w (placed-sound .0), row-all (λ r. reaches (fullClass .symbols) (r .least)) w (placed-sound .1), free-mark u 1 f, g .again 1, o))
       (rw q (letters x)))
     where
       letters : (x : Slots)

@@ -14,7 +14,7 @@ use Rattle.rules.specs.RangeClass.{reaches}
 use Rattle.rules.specs.Values.{Value, empty, nums, chars, linked, Known, Kind, values, text, word, volumeName, sheet, ratio, serials, nothing, opens, headed, either}
 use Rattle.rules.specs.Rows.{Rule, Slots, blank, rowsThere, entry, begin, innerOf, act, present, complete}
 use Rattle.rules.specs.Sets.{Set}
-use Rattle.rules.specs.Machine.{Line, Env, State}
+use Rattle.rules.specs.Machine.{unlimited, Line, Env, State}
 use Rattle.rules.specs.LineByLine.{stepIn, run}
 use Rattle.rules.specs.FixedForm.{Text, opensBlock, lineOf, showValue, showSlots}
 use Rattle.rules.specs.Answers.{fullClass}
@@ -40,7 +40,7 @@ layAll (n ∷ ns) [] = []
 layAll (n ∷ ns) (v ∷ vs) = lay n v (layAll ns vs)
 
 abbrev pub plainEnv : Env
-plainEnv = record { class = fullClass; limit = none }
+plainEnv = unlimited fullClass
 
 pub close-form : bareForm (formOf 0 (bytes "}")) ≡ close
 unfolding formOf

@@ -21,9 +21,9 @@ use Rattle.promises.proofs.Answered.{demand-one}
 use Rattle.promises.proofs.TwoClasses.{lower-accepts, higher-refuses}
 
 -- an answer that accepts comes of a set that was read
-pub accepted-set : (class len : ℕ) (spool : List ℕ) (n : ℕ) → readAnswer class len spool ≡ Accepted n → (s : Set) × (readOutcome class len spool ≡ accepted s)
+pub accepted-set : (class wire len : ℕ) (spool : List ℕ) (n : ℕ) → readAnswer class wire len spool ≡ Accepted n → (s : Set) × (readOutcome class wire len spool ≡ accepted s)
 unfolding readAnswer
-accepted-set class len spool n e = go (readOutcome class len spool) (length (readRecords class len spool)) e
+accepted-set class wire len spool n e = go (readOutcome class wire len spool) (length (readRecords class wire len spool)) e
   where
     go : (o : Outcome) (k : ℕ) → answerWith k o ≡ Accepted n → (s : Set) × (o ≡ accepted s)
     go (refused j v l) k e = absurd (let z : _≡_ {A = ℕ} 0 1 = cc in omega arith)
@@ -37,18 +37,18 @@ first-flat (r ∷ rs) z (oneMore e w) =
     ap₂ _∷_ (ap (take width) seam ∙ take-at r (flat rs ++ z) width e)
     (ap (firstRecords (length rs)) (ap (drop width) seam ∙ drop-at r (flat rs ++ z) width e) ∙ first-flat rs z w)
 
-pub table-records : (class len : ℕ) (spool : List ℕ) (n : ℕ) → readAnswer class len spool ≡ Accepted n → firstRecords n (readTable class len spool) ≡ readRecords class len spool
-table-records class len spool n e =
-    let w = demand-one .reader class len spool .whenAccepted n e in
-    ap₂ firstRecords (sym (w .count)) (w .stands) ∙ first-flat (readRecords class len spool) _ (w .wide)
+pub table-records : (class wire len : ℕ) (spool : List ℕ) (n : ℕ) → readAnswer class wire len spool ≡ Accepted n → firstRecords n (readTable class wire len spool) ≡ readRecords class wire len spool
+table-records class wire len spool n e =
+    let w = demand-one .reader class wire len spool .whenAccepted n e in
+    ap₂ firstRecords (sym (w .count)) (w .stands) ∙ first-flat (readRecords class wire len spool) _ (w .wide)
 
 -- the table of an accepted spool, its records changed
-each-table : (f : List ℤ → List ℤ) (class len : ℕ) (spool : List ℕ) (n : ℕ) → readAnswer class len spool ≡ Accepted n
-    → eachRecord f n (readTable class len spool) ≡ flat (map f (readRecords class len spool)) ++ replicate (len - n * width) (pos 0)
-each-table f class len spool n e =
-    let w = demand-one .reader class len spool .whenAccepted n e in
-    let rs = readRecords class len spool in
-    ap₂ _++_ (ap (λ us. flat (map f us)) (table-records class len spool n e))
+each-table : (f : List ℤ → List ℤ) (class wire len : ℕ) (spool : List ℕ) (n : ℕ) → readAnswer class wire len spool ≡ Accepted n
+    → eachRecord f n (readTable class wire len spool) ≡ flat (map f (readRecords class wire len spool)) ++ replicate (len - n * width) (pos 0)
+each-table f class wire len spool n e =
+    let w = demand-one .reader class wire len spool .whenAccepted n e in
+    let rs = readRecords class wire len spool in
+    ap₂ _++_ (ap (λ us. flat (map f us)) (table-records class wire len spool n e))
     (ap (drop (n * width)) (w .stands) ∙ drop-at (flat rs) _ (n * width) (flat-length rs (w .wide) ∙ ap (λ m. m * width) (w .count)))
 
 -- the two calls with one spool and one length
@@ -56,35 +56,35 @@ pub lower-call-accepts : LowerCallAccepts
 lower-call-accepts lower higher two n e =
     let len = length (higher .before) in
     let s = higher .spool in
-    let same = ap₂ (readAnswer (lower .class)) (two .lengths) (two .spools) in
+    let same = ap₂ (readAnswer (lower .class) (lower .wire)) (two .lengths) (two .spools) in
     let high = sym (higher .answers) ∙ e in
-    let (set, read) = accepted-set (higher .class) len s n high in
-    let (a, r) = lower-accepts (lower .class) (higher .class) (two .low) (two .high) (two .classes) len s set read in
+    let (set, read) = accepted-set (higher .class) (higher .wire) len s n high in
+    let (a, r) = lower-accepts (lower .class) (lower .wire) (higher .class) (higher .wire) (two .low) (two .high) (two .classes) len s set read in
     let low = a ∙ high in
     record {
       answer = lower .answers ∙ same ∙ low;
       set = set;
       reads = read;
       table =
-          lower .fills ∙ ap₂ (readTable (lower .class)) (two .lengths) (two .spools)
-          ∙ demand-one .reader (lower .class) len s .whenAccepted n low .stands
+          lower .fills ∙ ap₂ (readTable (lower .class) (lower .wire)) (two .lengths) (two .spools)
+          ∙ demand-one .reader (lower .class) (lower .wire) len s .whenAccepted n low .stands
           ∙ ap (λ rs. flat rs ++ replicate (len - n * width) (pos 0)) r
-          ∙ sym (each-table (unread (two .low) (rangeOf set)) (higher .class) len s n high)
-          ∙ ap (eachRecord (unread (two .low) (rangeOf set)) n) (sym (higher .fills));
+          ∙ sym (each-table (unread (two .low .symbols) (rangeOf set)) (higher .class) (higher .wire) len s n high)
+          ∙ ap (eachRecord (unread (two .low .symbols) (rangeOf set)) n) (sym (higher .fills));
     }
 
 pub higher-call-refuses : HigherCallRefuses
 higher-call-refuses lower higher two r e =
     let len = length (higher .before) in
     let s = higher .spool in
-    let low = sym (ap₂ (readAnswer (lower .class)) (two .lengths) (two .spools)) ∙ sym (lower .answers) ∙ e in
-    let (q, a, p) = higher-refuses (lower .class) (higher .class) (two .low) (two .high) (two .classes) len s r low in
+    let low = sym (ap₂ (readAnswer (lower .class) (lower .wire)) (two .lengths) (two .spools)) ∙ sym (lower .answers) ∙ e in
+    let (q, a, p) = higher-refuses (lower .class) (lower .wire) (higher .class) (higher .wire) (two .low) (two .high) (two .classes) len s r low in
     record {
       refusal = q;
       answer = higher .answers ∙ a;
       place = p;
       table =
-          higher .fills ∙ demand-one .reader (higher .class) len s .whenRefused q a
-          ∙ sym (demand-one .reader (lower .class) len s .whenRefused r low)
-          ∙ sym (lower .fills ∙ ap₂ (readTable (lower .class)) (two .lengths) (two .spools));
+          higher .fills ∙ demand-one .reader (higher .class) (higher .wire) len s .whenRefused q a
+          ∙ sym (demand-one .reader (lower .class) (lower .wire) len s .whenRefused r low)
+          ∙ sym (lower .fills ∙ ap₂ (readTable (lower .class) (lower .wire)) (two .lengths) (two .spools));
     }

@@ -9,7 +9,7 @@ use native.Mathlib.Omega.{arith}
 use lib.Dec.{eqb, leb, ltb, leb·zero}
 use lib.ListN.{length, getD, set, replicate, length-append, length-replicate, length-map}
 use borrow.Author.Tests.{eqb-true}
-use Rattle.rules.specs.declared.Digits.{Digits}
+use Rattle.rules.specs.declared.Class.{Class}
 use Rattle.rules.specs.Base.{isNone, isNil, flat, among, hasNumber}
 use Rattle.rules.specs.RefusalNumbers.{Got, got, bad, mapG, also}
 use Rattle.rules.specs.Lines.{Rest, Form, ignored, wrong, close, eof, keyed, freeShapeOf}
@@ -324,7 +324,7 @@ module _ (e : Env) (l : Line) where
 
   inv-unknown : (s : Set) (k : ℕ) (fs : List Figure) (n : ℕ) (o : Held) (key : List ℕ) (c : Rest) → Inv e (placing s k fs n (symbolBlock o) 0) → On (Does (placing s k fs n (symbolBlock o) 0)) (onUnknown e s k fs n o key c)
   inv-unknown s k fs n o key c i =
-      on-cond (Does (placing s k fs n (symbolBlock o) 0)) (exceeds (rangeOf s) (e .class)) _ _
+      on-cond (Does (placing s k fs n (symbolBlock o) 0)) (exceeds (rangeOf s) (e .class .symbols)) _ _
       (λ _. on-skip (Does (placing s k fs n (symbolBlock o) 0)) (skipOf key c) _ _ (still i refl tt refl) (still i refl tt refl))
       (λ _. on-byAct (Does (placing s k fs n (symbolBlock o) 0)) _ _ _ _ (actUnknown c) (still i refl tt refl) (λ j v. tt) (λ m j v b. tt) tt)
 
@@ -332,14 +332,14 @@ module _ (e : Env) (l : Line) where
       → On (Does (placing s k fs n (symbolBlock o) 0)) (onPlacedKey e s k fs n o key c f)
   inv-placed-key s k fs n o key c absent i = inv-unknown s k fs n o key c i
   inv-placed-key s k fs n o key c (found j r) i =
-      on-cond (Does (placing s k fs n (symbolBlock o) 0)) (reaches (e .class) (r .least)) _ _
+      on-cond (Does (placing s k fs n (symbolBlock o) 0)) (reaches (e .class .symbols) (r .least)) _ _
       (λ _. inv-placed s k fs n o 0 (actRow (knownOf s) (rangeOf s) (getD (rowsThere (partOf o 0)) j false) j r c) i)
       (λ _. inv-unknown s k fs n o key c i)
 
   inv-placed-own : (s : Set) (k : ℕ) (fs : List Figure) (n : ℕ) (o : Held) (f : Form) → Inv e (placing s k fs n (symbolBlock o) 0) → On (Does (placing s k fs n (symbolBlock o) 0)) (onPlacedOwn e s k fs n o f)
   inv-placed-own s k fs n o ignored i = still i refl tt refl
   inv-placed-own s k fs n o (wrong m) i = tt
-  inv-placed-own s k fs n o close i = inv-placed s k fs n o 0 (act (knownOf s) placedTable (both (e .class) (rangeOf s)) (rowsThere (partOf o 0)) close) i
+  inv-placed-own s k fs n o close i = inv-placed s k fs n o 0 (act (knownOf s) placedTable (both (e .class .symbols) (rangeOf s)) (rowsThere (partOf o 0)) close) i
   inv-placed-own s k fs n o eof i = tt
   inv-placed-own s k fs n o (keyed key c) i = inv-placed-key s k fs n o key c (find key placedTable) i
 
@@ -451,10 +451,10 @@ pub inv-start : (e : Env) → Inv e (top nothingYet 0)
 inv-start e = record { counts = refl; room = room-nothing (e .limit); kept = λ _. refl }
 
 -- what was taken is what the records are, and it fits
-pub count-taken : (e : Env) (c : Digits) (ls : List Line) (s : Set) → run e (top nothingYet 0) ls ≡ accepted s → (length (recordsOf c s) ≡ s .taken) × (roomFor (e .limit) (s .taken) ≡ true)
+pub count-taken : (e : Env) (c : Class) (ls : List Line) (s : Set) → run e (top nothingYet 0) ls ≡ accepted s → (length (recordsOf c s) ≡ s .taken) × (roomFor (e .limit) (s .taken) ≡ true)
 count-taken e c ls s q =
     let i = inv-run e (top nothingYet 0) ls s (inv-start e) q in
     (sym (length-map (recordsOf c s) placeOf) ∙ ap length (records-at c s) ∙ sym (i .counts), i .room)
 
-pub count-records : (e : Env) (c : Digits) (ls : List Line) (s : Set) → run e (top nothingYet 0) ls ≡ accepted s → roomFor (e .limit) (length (recordsOf c s)) ≡ true
+pub count-records : (e : Env) (c : Class) (ls : List Line) (s : Set) → run e (top nothingYet 0) ls ≡ accepted s → roomFor (e .limit) (length (recordsOf c s)) ≡ true
 count-records e c ls s q = let w = count-taken e c ls s q in rw (w .0) (w .1)

@@ -10,6 +10,7 @@ use lib.Dec.{eqb, leb, ltb}
 use lib.ListN.{length, getD, set}
 use borrow.Author.Tests.{eqb-true}
 use Rattle.rules.specs.declared.Digits.{Digits}
+use Rattle.rules.specs.declared.Class.{Class}
 use Rattle.rules.specs.Base.{isNil, among, hasNumber}
 use Rattle.rules.specs.RefusalNumbers.{Got, got, bad, mapG, also}
 use Rattle.rules.specs.Lines.{Rest, brace, equals, Form, ignored, wrong, close, eof, keyed, freeShapeOf}
@@ -223,7 +224,7 @@ module _ (S : ℕ → List ℕ → Type 0) where
 
   onUnknown-fit : (e : Env) (s : Set) (i : ℕ) (fs : List Figure) (n : ℕ) (o : Held) (k : List ℕ) (c : Rest) → FitPlacing s fs o → On FitState (onUnknown e s i fs n o k c)
   onUnknown-fit e s i fs n o k c g =
-      on-cond FitState (exceeds (rangeOf s) (e .class)) _ _
+      on-cond FitState (exceeds (rangeOf s) (e .class .symbols)) _ _
       (λ _. bySkip-fit (skipOf k c) (got (placing s i fs n (symbolBlock o) 0)) (got (skipping s i fs n (symbolBlock o) 1)) g g)
       (λ _. by-act {t = placedTable} (actUnknown c) (placing s i fs n (symbolBlock o) 0) _ _ _ (unknown-fit S placedTable c) g (λ j v w. tt) (λ i j v w. tt) tt)
 
@@ -238,15 +239,15 @@ module _ (S : ℕ → List ℕ → Type 0) where
   onPlacedOwn-fit e s i fs n o ignored x g = g
   onPlacedOwn-fit e s i fs n o (wrong m) x g = tt
   onPlacedOwn-fit e s i fs n o close x g =
-      onPlaced-fit s i fs n o 0 (act (knownOf s) placedTable (both (e .class) (rangeOf s)) (rowsThere (partOf o 0)) close)
-      (act-fit S (knownOf s) placedTable (both (e .class) (rangeOf s)) (rowsThere (partOf o 0)) close tt) g
+      onPlaced-fit s i fs n o 0 (act (knownOf s) placedTable (both (e .class .symbols) (rangeOf s)) (rowsThere (partOf o 0)) close)
+      (act-fit S (knownOf s) placedTable (both (e .class .symbols) (rangeOf s)) (rowsThere (partOf o 0)) close tt) g
   onPlacedOwn-fit e s i fs n o eof x g = tt
   onPlacedOwn-fit e s i fs n o (keyed k c) x g = go (find k placedTable) refl
     where
       go : (f : Found) → find k placedTable ≡ f → On FitState (onPlacedKey e s i fs n o k c f)
       go absent p = onUnknown-fit e s i fs n o k c g
       go (found j r) p =
-          on-cond FitState (reaches (e .class) (r .least)) _ _
+          on-cond FitState (reaches (e .class .symbols) (r .least)) _ _
           (λ _. onPlaced-fit s i fs n o 0 (actRow (knownOf s) (rangeOf s) (getD (rowsThere (partOf o 0)) j false) j r c) (row-fit S (knownOf s) (rangeOf s) (getD (rowsThere (partOf o 0)) j false) (found-row k placedTable j r p .0) c x) g)
           (λ _. onUnknown-fit e s i fs n o k c g)
 
@@ -357,6 +358,6 @@ any-lines (l ∷ ls) = (any-form (l .form), any-lines ls)
     any-form (keyed k (equals at c)) = tt
 
 -- so the records of a set that was read differ from those of the bare set in their places alone
-pub records-read : (c : Digits) (e : Env) (ls : List Line) (t : Set) → run e (top nothingYet 0) ls ≡ accepted t
+pub records-read : (c : Class) (e : Env) (ls : List Line) (t : Set) → run e (top nothingYet 0) ls ≡ accepted t
     → map placesApart (recordsOf c t) ≡ map placesApart (recordsOf c (bareSet t))
 records-read c e ls t h = records-bare c t (accepted-fit anyText e ls t (any-lines ls) h)

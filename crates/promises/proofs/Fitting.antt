@@ -6,11 +6,11 @@ use mathlib.Core.Path.{_≡_, refl, sym, _∙_, ap, ap₂, subst}
 use native.Mathlib.Omega.{arith}
 use lib.ListN.{length, getD, replicate, length-append, length-replicate}
 use borrow.Author.Tests.{leb-true}
-use Rattle.rules.specs.declared.Digits.{Digits}
+use Rattle.rules.specs.declared.Class.{Class}
 use Rattle.rules.specs.Base.{all}
 use Rattle.rules.specs.RefusalNumbers.{Got, got, bad, mapG, also}
 use Rattle.rules.specs.Sets.{Set, nothingYet}
-use Rattle.rules.specs.Machine.{Line, Env, State, top, file, drawing, layerNames, defines, symbol, hide, elements, figures, successive, texts, placing, skipping, ended, setOf}
+use Rattle.rules.specs.Machine.{limitedTo, unlimited, Line, Env, State, top, file, drawing, layerNames, defines, symbol, hide, elements, figures, successive, texts, placing, skipping, ended, setOf}
 use Rattle.rules.specs.LineByLine.{completes, nextVolume, step, Outcome, refused, accepted, thenRun, finish, run}
 use Rattle.rules.specs.RecordTable.{recordsOf}
 use Rattle.rules.proofs.Chains.{On, and-true, all-append, clash, never, map-got, also-got}
@@ -21,7 +21,7 @@ use Rattle.promises.proofs.Count.{add-step, added, inv-step, inv-start}
 use Rattle.promises.proofs.CountState.{Inv, Adds, Tied, volumeOf, shown}
 use Rattle.promises.proofs.Listing.{Running}
 use Rattle.promises.proofs.LowerRun.{Sorted, proper, ended-run, late}
-use Rattle.promises.proofs.Limits.{Alike, refuses, goes, over, alike-step, free, bound}
+use Rattle.promises.proofs.Limits.{Alike, refuses, goes, over, alike-step}
 
 -- ── the lines at which records are taken ──
 abbrev takenAt : ℕ → Line → Got State → (State → List Place) → List Place
@@ -29,9 +29,9 @@ takenAt n l (got st) f = replicate (setOf st .taken - n) (place (l .volume) (l .
 takenAt n l (bad k) f = []
 
 -- by the reading without a limit, from a state on
-abbrev pub takenOn : Digits → State → List Line → List Place
+abbrev pub takenOn : Class → State → List Line → List Place
 takenOn c st [] = []
-takenOn c st (l ∷ ls) = takenAt (setOf st .taken) l (step (free c) l st) (λ st′. takenOn c st′ ls)
+takenOn c st (l ∷ ls) = takenAt (setOf st .taken) l (step (unlimited c) l st) (λ st′. takenOn c st′ ls)
 
 abbrev noPlace : Place
 noPlace = place 0 0
@@ -52,14 +52,14 @@ pub record Limited (m n : ℕ) (ps : List Place) (without with′ : Outcome) : T
   pub fits : n + length ps ≤ m → with′ ≡ without
   pub full : m < n + length ps → with′ ≡ refused 19 (getD ps (m - n) noPlace .volume) (getD ps (m - n) noPlace .line)
 
-module _ (c : Digits) (m : ℕ) where
-  pub limited : (ls : List Line) (st : State) → Inv (bound c m) st → Limited m (setOf st .taken) (takenOn c st ls) (run (free c) st ls) (run (bound c m) st ls)
+module _ (c : Class) (m : ℕ) where
+  pub limited : (ls : List Line) (st : State) → Inv (limitedTo c m) st → Limited m (setOf st .taken) (takenOn c st ls) (run (unlimited c) st ls) (run (limitedTo c m) st ls)
   limited [] st i = record { fits = λ h. refl; full = λ h. absurd (let r = leb-true (setOf st .taken) m (i .room) in omega (arith, h, r)) }
-  limited (l ∷ ls) st i = go (alike-step c m l st) (inv-step (bound c m) l st i) (limited ls)
+  limited (l ∷ ls) st i = go (alike-step c m l st) (inv-step (limitedTo c m) l st i) (limited ls)
     where
-      go : {g h : Got State} → Alike m (setOf st .taken) g h → On (Inv (bound c m)) h
-          → ((st′ : State) → Inv (bound c m) st′ → Limited m (setOf st′ .taken) (takenOn c st′ ls) (run (free c) st′ ls) (run (bound c m) st′ ls))
-          → Limited m (setOf st .taken) (takenAt (setOf st .taken) l g (λ st′. takenOn c st′ ls)) (thenRun g l (λ st′. run (free c) st′ ls)) (thenRun h l (λ st′. run (bound c m) st′ ls))
+      go : {g h : Got State} → Alike m (setOf st .taken) g h → On (Inv (limitedTo c m)) h
+          → ((st′ : State) → Inv (limitedTo c m) st′ → Limited m (setOf st′ .taken) (takenOn c st′ ls) (run (unlimited c) st′ ls) (run (limitedTo c m) st′ ls))
+          → Limited m (setOf st .taken) (takenAt (setOf st .taken) l g (λ st′. takenOn c st′ ls)) (thenRun g l (λ st′. run (unlimited c) st′ ls)) (thenRun h l (λ st′. run (limitedTo c m) st′ ls))
       go refuses j ih = record { fits = λ h. refl; full = λ h. absurd (let r = leb-true (setOf st .taken) m (i .room) in omega (arith, h, r)) }
       go (goes st′ p w) j ih =
           let w = ih st′ j in
@@ -90,22 +90,22 @@ all-replicate : (f : Place → Bool) (k : ℕ) (p : Place) → f p ≡ true → 
 all-replicate f zero p e = refl
 all-replicate f (suc k) p e = and-true (f p) _ e (all-replicate f k p e)
 
-pub taken-before : (c : Digits) (ls : List Line) (st : State) → proper ls ≡ true → Sorted ls → (k v n : ℕ) → run (free c) st ls ≡ refused k v n
+pub taken-before : (c : Class) (ls : List Line) (st : State) → proper ls ≡ true → Sorted ls → (k v n : ℕ) → run (unlimited c) st ls ≡ refused k v n
     → all (λ p. earlier p (place v n)) (takenOn c st ls) ≡ true
 taken-before c [] st p o k v n e = clash p refl
-taken-before c (l ∷ []) st p o k v n e = go (step (free c) l st) refl e
+taken-before c (l ∷ []) st p o k v n e = go (step (unlimited c) l st) refl e
   where
-    go : (g : Got State) → step (free c) l st ≡ g → thenRun g l finish ≡ refused k v n → all (λ p. earlier p (place v n)) (takenAt (setOf st .taken) l g (λ _. [])) ≡ true
-    go (got st′) q e = ended-run (free c) l st st′ p q k v n e
+    go : (g : Got State) → step (unlimited c) l st ≡ g → thenRun g l finish ≡ refused k v n → all (λ p. earlier p (place v n)) (takenAt (setOf st .taken) l g (λ _. [])) ≡ true
+    go (got st′) q e = ended-run (unlimited c) l st st′ p q k v n e
     go (bad j) q e = refl
-taken-before c (l ∷ x ∷ ls) st p o k v n e = go (step (free c) l st) (λ st′. taken-before c (x ∷ ls) st′ p (o .1) k v n) e
+taken-before c (l ∷ x ∷ ls) st p o k v n e = go (step (unlimited c) l st) (λ st′. taken-before c (x ∷ ls) st′ p (o .1) k v n) e
   where
-    go : (g : Got State) → ((st′ : State) → run (free c) st′ (x ∷ ls) ≡ refused k v n → all (λ p. earlier p (place v n)) (takenOn c st′ (x ∷ ls)) ≡ true)
-        → thenRun g l (λ st′. run (free c) st′ (x ∷ ls)) ≡ refused k v n → all (λ p. earlier p (place v n)) (takenAt (setOf st .taken) l g (λ st′. takenOn c st′ (x ∷ ls))) ≡ true
+    go : (g : Got State) → ((st′ : State) → run (unlimited c) st′ (x ∷ ls) ≡ refused k v n → all (λ p. earlier p (place v n)) (takenOn c st′ (x ∷ ls)) ≡ true)
+        → thenRun g l (λ st′. run (unlimited c) st′ (x ∷ ls)) ≡ refused k v n → all (λ p. earlier p (place v n)) (takenAt (setOf st .taken) l g (λ st′. takenOn c st′ (x ∷ ls))) ≡ true
     go (got st′) ih e =
         let here = place (l .volume) (l .line) in
         let j = setOf st′ .taken - setOf st .taken in
-        let this = late (free c) (l .volume) (l .line) (x ∷ ls) st′ p (o .0) k v n e in
+        let this = late (unlimited c) (l .volume) (l .line) (x ∷ ls) st′ p (o .0) k v n e in
         all-append (λ p. earlier p (place v n)) (replicate j here) (takenOn c st′ (x ∷ ls))
         ∙ and-true (all (λ p. earlier p (place v n)) (replicate j here)) _ (all-replicate (λ p. earlier p (place v n)) j here this) (ih st′ e)
     go (bad j) ih e = refl
@@ -134,18 +134,18 @@ in-volume e l k (ended s) st′ t q = go (l .last) q
         never (also-got (completes l (ended s)) 9 (bad 9) u a .1)
     go false q = never q
 
-shown-on : (c : Digits) (k : ℕ) (ls : List Line) (st : State) (s : Set) → Running k ls → Tied k st → Inv (free c) st → run (free c) st ls ≡ accepted s
+shown-on : (c : Class) (k : ℕ) (ls : List Line) (st : State) (s : Set) → Running k ls → Tied k st → Inv (unlimited c) st → run (unlimited c) st ls ≡ accepted s
     → shown st ++ takenOn c st ls ≡ shown (ended s)
 shown-on c k [] st s r t i q = append-nil (shown st) ∙ ap shown (finish-ended st s q)
-shown-on c k (l ∷ ls) st s r t i q = go (step (free c) l st) refl (add-step (free c) l st i) (λ k′ st′. shown-on c k′ ls st′ s) q
+shown-on c k (l ∷ ls) st s r t i q = go (step (unlimited c) l st) refl (add-step (unlimited c) l st i) (λ k′ st′. shown-on c k′ ls st′ s) q
   where
-    go : (g : Got State) → step (free c) l st ≡ g → On (Adds (free c) (l .line) (cond (l .last) (suc (volumeOf st)) (volumeOf st)) st) g
-        → ((k′ : ℕ) (st′ : State) → Running k′ ls → Tied k′ st′ → Inv (free c) st′ → run (free c) st′ ls ≡ accepted s → shown st′ ++ takenOn c st′ ls ≡ shown (ended s))
-        → thenRun g l (λ st′. run (free c) st′ ls) ≡ accepted s
+    go : (g : Got State) → step (unlimited c) l st ≡ g → On (Adds (unlimited c) (l .line) (cond (l .last) (suc (volumeOf st)) (volumeOf st)) st) g
+        → ((k′ : ℕ) (st′ : State) → Running k′ ls → Tied k′ st′ → Inv (unlimited c) st′ → run (unlimited c) st′ ls ≡ accepted s → shown st′ ++ takenOn c st′ ls ≡ shown (ended s))
+        → thenRun g l (λ st′. run (unlimited c) st′ ls) ≡ accepted s
         → shown st ++ takenAt (setOf st .taken) l g (λ st′. takenOn c st′ ls) ≡ shown (ended s)
     go (bad n) p w ih q = not-accepted q
     go (got st′) p w ih q =
-        let here = in-volume (free c) l k st st′ t p in
+        let here = in-volume (unlimited c) l k st st′ t p in
         let next = cond (l .last) (suc k) k in
         let tied = subst (λ (v : ℕ). Tied (cond (l .last) (suc v) v) st′) here (w .ties) in
         let more : setOf st′ .taken - setOf st .taken ≡ w .count = omega (arith, w .counts) in
@@ -154,7 +154,7 @@ shown-on c k (l ∷ ls) st s r t i q = go (step (free c) l st) refl (add-step (f
         ap₂ (λ (n : ℕ) a. shown st ++ (replicate n a ++ rest)) more spot
         ∙ sym (append-assoc (shown st) (replicate (w .count) (place (volumeOf st) (l .line))) rest)
         ∙ ap (λ x. x ++ rest) (sym (w .shows))
-        ∙ ih next st′ (r .1) tied (added (free c) l (cond (l .last) (suc (volumeOf st)) (volumeOf st)) st st′ i w) q
+        ∙ ih next st′ (r .1) tied (added (unlimited c) l (cond (l .last) (suc (volumeOf st)) (volumeOf st)) st st′ i w) q
 
-pub taken-places : (c : Digits) (ls : List Line) (s : Set) → Running 1 ls → run (free c) (top nothingYet 0) ls ≡ accepted s → takenOn c (top nothingYet 0) ls ≡ map placeOf (recordsOf c s)
-taken-places c ls s r q = shown-on c 1 ls (top nothingYet 0) s r refl (inv-start (free c)) q ∙ sym (records-at c s)
+pub taken-places : (c : Class) (ls : List Line) (s : Set) → Running 1 ls → run (unlimited c) (top nothingYet 0) ls ≡ accepted s → takenOn c (top nothingYet 0) ls ≡ map placeOf (recordsOf c s)
+taken-places c ls s r q = shown-on c 1 ls (top nothingYet 0) s r refl (inv-start (unlimited c)) q ∙ sym (records-at c s)

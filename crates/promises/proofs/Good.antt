@@ -111,7 +111,7 @@ pub record GoodPlaced (k : Known) (d : Digits) (h : Held) : Type 0 where
   pub own : Slots
   pub text : Slots
   pub is : h ≡ own ∷ text ∷ []
-  pub own-good : Closed (GoodRow k d) (both fullClass d) placedTable own
+  pub own-good : Closed (GoodRow k d) (both (fullClass .symbols) d) placedTable own
   pub text-good : GoodPart (isSome (getD own 1 none)) (Always none0) none0 (textTable true 16 24) text
 
 -- a line of row j of a table

@@ -41,30 +41,30 @@ tells-located : (last p : ℕ) (a : Answer) → Tells p a → Answered last a �
 tells-located last p a t w h = refusal-located (refusalIn p) (subst (Answered last) (t .refused h) w)
 
 -- ── the check ──
-check-zero : (class : ℕ) (spool : List ℕ) (n : ℕ) → readAnswer class (ownRecords * width) spool ≡ Accepted n → checkAnswer class spool ≡ 0
+check-zero : (class wire : ℕ) (spool : List ℕ) (n : ℕ) → readAnswer class wire (ownRecords * width) spool ≡ Accepted n → checkAnswer class wire spool ≡ 0
 unfolding checkAnswer
-check-zero class spool n e = none-packed (readAnswer class (ownRecords * width) spool) n e
+check-zero class wire spool n e = none-packed (readAnswer class wire (ownRecords * width) spool) n e
 
 checked : (c : HostCheck) → Checked c
 checked c =
     let len = ownRecords * width in
-    let a = readAnswer (c .class) len (c .spool) in
-    let t = subst (λ (p : ℕ). Tells p a) (sym (c .answers)) (taken-apart .check (c .class) (c .spool)) in
+    let a = readAnswer (c .class) (c .wire) len (c .spool) in
+    let t = subst (λ (p : ℕ). Tells p a) (sym (c .answers)) (taken-apart .check (c .class) (c .wire) (c .spool)) in
     record {
       whenAccepted = λ e.
-          let (k, fit) = exactly-when .reader (c .class) (c .spool) .onlyKept len (answerCount a) (t .accepted e) in
+          let (k, fit) = exactly-when .reader (c .class) (c .wire) (c .spool) .onlyKept len (answerCount a) (t .accepted e) in
           (answerCount a, k, omega (arith, fit));
-      whenRefused = tells-located 19 (c .number) a t (demand-one .reader (c .class) len (c .spool) .answer);
-      whenKept = λ n k h. c .answers ∙ check-zero (c .class) (c .spool) n (kept-accepts (c .class) len (c .spool) n k (omega (arith, h)));
+      whenRefused = tells-located 19 (c .number) a t (demand-one .reader (c .class) (c .wire) len (c .spool) .answer);
+      whenKept = λ n k h. c .answers ∙ check-zero (c .class) (c .wire) (c .spool) n (kept-accepts (c .class) (c .wire) len (c .spool) n k (omega (arith, h)));
     }
 
 -- ── the reader ──
 module _ (c : HostRead) where
   abbrev readAs : Answer
-  readAs = readAnswer (c .class) (length (c .before)) (c .spool)
+  readAs = readAnswer (c .class) (c .wire) (length (c .before)) (c .spool)
 
   read-tells : Tells (c .number) readAs
-  read-tells = subst (λ (p : ℕ). Tells p readAs) (sym (c .answers)) (taken-apart .reader (c .class) (length (c .before)) (c .spool))
+  read-tells = subst (λ (p : ℕ). Tells p readAs) (sym (c .answers)) (taken-apart .reader (c .class) (c .wire) (length (c .before)) (c .spool))
 
   -- accepted: with the count that is given back
   read-accepted : c .number ≡ 0 → readAs ≡ Accepted (c .count)
@@ -80,7 +80,7 @@ reads c =
       noCount = λ h. c .counts ∙ ap answerCount (t .refused h);
       zeros = λ h. call .whenRefused (refusalIn (c .number)) (t .refused h);
       whenAccepted = λ e. call .whenAccepted (c .count) (read-accepted c e);
-      whenKept = λ n k h. c .answers ∙ none-packed (readAs c) n (kept-accepts (c .class) (length (c .before)) (c .spool) n k h);
+      whenKept = λ n k h. c .answers ∙ none-packed (readAs c) n (kept-accepts (c .class) (c .wire) (length (c .before)) (c .spool) n k h);
     }
 
 -- ── the rewriter ──

@@ -2,7 +2,6 @@
 use Prim.Native.Nat.{ℕ, _≤_}
 use mathlib.Core.Bool.{Bool, true, false, cond, _&&_, _||_, true≢false}
 use mathlib.Core.List.{List, [], _∷_, _++_, append-nil, append-assoc}
-use mathlib.Core.Option.{none}
 use mathlib.Core.Path.{_≡_, refl, ap, subst}
 use lib.Dec.{eqb}
 use borrow.Author.Tests.{eqb-true}
@@ -12,7 +11,7 @@ use Rattle.rules.specs.Lines.{Form, ignored, wrong, close, eof, keyed}
 use Rattle.rules.specs.Blocks.{elementTable}
 use Rattle.rules.specs.Sets.{Contents, Set, nothingYet}
 use Rattle.rules.specs.VolumesAndTotals.{countedHere, countedAll, layersUsed}
-use Rattle.rules.specs.Machine.{Line, State, top, file, drawing, layerNames, defines, symbol, hide, elements, figures, successive, texts, placing, skipping, ended, onTop, onElements}
+use Rattle.rules.specs.Machine.{unlimited, Line, State, top, file, drawing, layerNames, defines, symbol, hide, elements, figures, successive, texts, placing, skipping, ended, onTop, onElements}
 use Rattle.rules.specs.LineByLine.{stepIn, isIgnored, isClose, isEof, completes, nextVolume, Outcome, refused, accepted, thenRun, finish, run}
 use Rattle.rules.specs.Answers.{fullClass}
 use Rattle.rules.specs.Machine.{symbolBlock}
@@ -219,6 +218,6 @@ run-good (l ∷ ls) (n ∷ ns) done st z w i = go (l .last) refl (λ done st. ru
         (λ st j. ih done st (facing-same done l ls st w e j))
 
 -- ── every set that was read is good ──
-pub read-good : (ls : List Line) (ns : List ℕ) (s : Set) → Tolds ls ns → Steady ls → run (record { class = fullClass; limit = none }) (top nothingYet 0) ls ≡ accepted s → GoodSet (nextsOf ls) s
+pub read-good : (ls : List Line) (ns : List ℕ) (s : Set) → Tolds ls ns → Steady ls → run (unlimited fullClass) (top nothingYet 0) ls ≡ accepted s → GoodSet (nextsOf ls) s
 read-good ls ns s z w e =
     subst (OnSet (GoodSet (nextsOf ls))) e (run-good ls ns [] (top nothingYet 0) z w (facing-any [] ls (top nothingYet 0) (λ c. (refl, refl))))

@@ -225,10 +225,10 @@ module _ (done fin : List (List ℕ)) (l : Line) (n : ℕ) (fit : n ≤ 512) whe
       (λ e. add-figure done (l .next) s h fs (lettering m o) (i .0) (text-home s h m o (record { good = i .1; all = e })) refl)
 
   -- ── the placed symbol ──
-  placed-act : (s : Set) (k : ℕ) (fs : List Figure) (m : ℕ) (o : Held) (a : Act) → ActTold (knownOf s) (rangeOf s) (both fullClass (rangeOf s)) placedTable (rowsThere (partOf o 0)) a → J (placing s k fs m (symbolBlock o) 0)
+  placed-act : (s : Set) (k : ℕ) (fs : List Figure) (m : ℕ) (o : Held) (a : Act) → ActTold (knownOf s) (rangeOf s) (both (fullClass .symbols) (rangeOf s)) placedTable (rowsThere (partOf o 0)) a → J (placing s k fs m (symbolBlock o) 0)
       → On J (onPlaced s k fs m o 0 a)
   placed-act s k fs m o a told i =
-      on-byAct J (knownOf s) (rangeOf s) (both fullClass (rangeOf s)) placedTable (rowsThere (partOf o 0)) _ _ _ _ a told i
+      on-byAct J (knownOf s) (rangeOf s) (both (fullClass .symbols) (rangeOf s)) placedTable (rowsThere (partOf o 0)) _ _ _ _ a told i
       (λ j v w. on-unless J (newSerial s fs v) 15 _ λ e. (i .0, placed-enter (serialsIn s ++ figureSerials fs) o (i .1) w e, i .2, i .3))
       (λ i′ j v w. (i .0, placed-begin (serialsIn s ++ figureSerials fs) o (i .1) w, i .2, i .3))
       (λ e. let (g, new) = placed-good (serialsIn s ++ figureSerials fs) o m (i .1) e in add-figure done (l .next) s (inLayer k) fs (placed m o) (i .0) (g, i .2, i .3) new)
@@ -243,24 +243,24 @@ module _ (done fin : List (List ℕ)) (l : Line) (n : ℕ) (fit : n ≤ 512) whe
   -- what is skipped leaves what is held as it is
   on-unknown : (s : Set) (k : ℕ) (fs : List Figure) (m : ℕ) (o : Held) (key : List ℕ) (c : Rest) → J (placing s k fs m (symbolBlock o) 0) → On J (onUnknown fullEnv s k fs m o key c)
   on-unknown s k fs m o key c i =
-      on-cond J (exceeds (rangeOf s) fullClass) _ _ (λ e. on-skip J (skipOf key c) _ _ i i) (λ e. refused-act (placing s k fs m (symbolBlock o) 0) (actUnknown c) i)
+      on-cond J (exceeds (rangeOf s) (fullClass .symbols)) _ _ (λ e. on-skip J (skipOf key c) _ _ i i) (λ e. refused-act (placing s k fs m (symbolBlock o) 0) (actUnknown c) i)
 
   placed-key : (s : Set) (k : ℕ) (fs : List Figure) (m : ℕ) (o : Held) (key : List ℕ) (c : Rest) (f : Found) → find key placedTable ≡ f → Tells n (keyed key c) → J (placing s k fs m (symbolBlock o) 0)
       → On J (onPlacedKey fullEnv s k fs m o key c f)
   placed-key s k fs m o key c absent e t i = on-unknown s k fs m o key c i
   placed-key s k fs m o key c (found j r) e t i =
       let (w, q) = found-row key placedTable j r e in
-      on-cond J (reaches fullClass (r .least)) _ _
+      on-cond J (reaches (fullClass .symbols) (r .least)) _ _
       (λ _. placed-act s k fs m o (actRow (knownOf s) (rangeOf s) (getD (rowsThere (partOf o 0)) j false) j r c)
-      (row-told (knownOf s) (rangeOf s) (both fullClass (rangeOf s)) placedTable (rowsThere (partOf o 0)) n key c j r w q (table-keys true 0 0 .15) t fit) i)
+      (row-told (knownOf s) (rangeOf s) (both (fullClass .symbols) (rangeOf s)) placedTable (rowsThere (partOf o 0)) n key c j r w q (table-keys true 0 0 .15) t fit) i)
       (λ _. on-unknown s k fs m o key c i)
 
   placed-own : (s : Set) (k : ℕ) (fs : List Figure) (m : ℕ) (o : Held) (f : Form) → Tells n f → J (placing s k fs m (symbolBlock o) 0) → On J (onPlacedOwn fullEnv s k fs m o f)
   placed-own s k fs m o ignored t i = i
   placed-own s k fs m o (wrong p) t i = tt
   placed-own s k fs m o close t i =
-      placed-act s k fs m o (act (knownOf s) placedTable (both fullClass (rangeOf s)) (rowsThere (partOf o 0)) close)
-      (close-told (knownOf s) (rangeOf s) (both fullClass (rangeOf s)) placedTable (rowsThere (partOf o 0))) i
+      placed-act s k fs m o (act (knownOf s) placedTable (both (fullClass .symbols) (rangeOf s)) (rowsThere (partOf o 0)) close)
+      (close-told (knownOf s) (rangeOf s) (both (fullClass .symbols) (rangeOf s)) placedTable (rowsThere (partOf o 0))) i
   placed-own s k fs m o eof t i = tt
   placed-own s k fs m o (keyed key c) t i = placed-key s k fs m o key c (find key placedTable) refl t i
 

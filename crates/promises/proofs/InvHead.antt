@@ -20,7 +20,7 @@ use Rattle.rules.specs.Blocks.{topTable, drawingTable, mostLayers, definesTable
 use Rattle.rules.specs.Figures.{pointTable}
 use Rattle.rules.specs.Sets.{Point, Layer, Drawing, Symbol, Contents, Set, headOr, withOwn, symbolOwn, isFirst, arcOf, rangeOf, defineRange, symbolNameOf, knownOf, serialsOfVolume}
 use Rattle.rules.specs.VolumesAndTotals.{chained, dated, countedAll, layersUsed}
-use Rattle.rules.specs.Machine.{Line, Env, State, top, file, drawing, layerNames, defines, symbol, hide, byAct, openTop, atEof, onTop, closeFile, shutPart, onFile, onDrawing, layerValue, layerLine, onLayerNames, onDefines, newName, openSymbol, onSymbol, pointAt, onHide}
+use Rattle.rules.specs.Machine.{unlimited, Line, Env, State, top, file, drawing, layerNames, defines, symbol, hide, byAct, openTop, atEof, onTop, closeFile, shutPart, onFile, onDrawing, layerValue, layerLine, onLayerNames, onDefines, newName, openSymbol, onSymbol, pointAt, onHide}
 use Rattle.rules.specs.Answers.{fullClass}
 use Rattle.rules.specs.RecordTable.{ruleAt}
 use Rattle.rules.proofs.Chains.{and-left, and-right, or-true, clash, map-append, On, on-unless, on-then}
@@ -37,7 +37,7 @@ use Rattle.promises.proofs.Nameless.{nameless}
 
 -- the reading at class 15, with no limit of records
 abbrev pub fullEnv : Env
-fullEnv = record { class = fullClass; limit = none }
+fullEnv = unlimited fullClass
 
 -- ── the end ──
 laters-good : (k : Known) (s : Set) (ns : List (List ℕ)) (vs : List Contents) → Laters k (fileOf s) ns vs → GoodLaters k (rangeIn (fileOf s)) (singleIn (fileOf s)) s ns vs

@@ -140,8 +140,8 @@ text-shut {k} {d} used p h f e =
         both-parts (record { low = omega arith; own-good = f .own-good; text-good = part-shut (isSome (getD own 1 none)) (Always none0) placedText text (f .text-good) e; serial = f .serial })
     go (suc p) own text f e = absurd (omega (arith, f .low))
 
-pub placed-good : {k : Known} {d : Digits} (used : List ℕ) (h : Held) (n : ℕ) → PlacedInv k d used 0 h → complete (both fullClass d) placedTable (rowsThere (partOf h 0)) ≡ true
+pub placed-good : {k : Known} {d : Digits} (used : List ℕ) (h : Held) (n : ℕ) → PlacedInv k d used 0 h → complete (both (fullClass .symbols) d) placedTable (rowsThere (partOf h 0)) ≡ true
     → GoodPlaced k d h × (noneOf (figureSerial (placed n h)) used ≡ true)
 placed-good {k} {d} used h n f e =
-    (subst (λ (h : Held). complete (both fullClass d) placedTable (rowsThere (partOf h 0)) ≡ true → GoodPlaced k d h × (noneOf (figureSerial (placed n h)) used ≡ true)) (sym (f .is))
+    (subst (λ (h : Held). complete (both (fullClass .symbols) d) placedTable (rowsThere (partOf h 0)) ≡ true → GoodPlaced k d h × (noneOf (figureSerial (placed n h)) used ≡ true)) (sym (f .is))
     (λ e. (record { own = f .own; text = f .text; is = refl; own-good = record { good = f .parts .own-good; all = e }; text-good = f .parts .text-good }, f .parts .serial))) e

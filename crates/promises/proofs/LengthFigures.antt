@@ -182,7 +182,7 @@ module _ (K : Known) (n : ℕ) where
 
     unknown-next : (e : Env) (k : List ℕ) (c : Rest) → On (Next K (placing s h fs m (symbolBlock o) 0) n) (onUnknown e s h fs m o k c)
     unknown-next e k c =
-        on-cond (Next K (placing s h fs m (symbolBlock o) 0) n) (exceeds (rangeOf s) (e .class)) _ _
+        on-cond (Next K (placing s h fs m (symbolBlock o) 0) n) (exceeds (rangeOf s) (e .class .symbols)) _ _
         (λ _. skips (skipOf k c))
         (λ _. on-unknown (Next K (placing s h fs m (symbolBlock o) 0) n) (placing s h fs m (symbolBlock o) 0) (λ j v. bad 6) (λ i j v. bad 6) (λ _. bad 6) (knownOf s) (knownOf s) (digits 0 0) n c)
       where
@@ -195,7 +195,7 @@ module _ (K : Known) (n : ℕ) where
     key-next e k c tells absent q = unknown-next e k c
     key-next e k c tells (found j r) q =
         let (w, i) = found-row k placedTable j r q in
-        on-cond (Next K (placing s h fs m (symbolBlock o) 0) n) (reaches (e .class) (r .least)) _ _
+        on-cond (Next K (placing s h fs m (symbolBlock o) 0) n) (reaches (e .class .symbols) (r .least)) _ _
         (λ _. on-row (Next K (placing s h fs m (symbolBlock o) 0) n) _ _ _ _ (knownOf s) (knownOf s) (rangeOf s) n (getD (rowsThere (partOf o 0)) j false) j r c
         (row-all (λ r. keyOk (r .key)) w (placed-rows 0 .0)) (λ v. refl) (subst (λ (x : List ℕ). Told n (keyed x c)) (same-eq k (r .key) i) tells)
         (tt, omega arith) (λ v. placed-entry 0 j r v w) (λ v u e. placed-begin 0 j r v w u) (placed-shut 0))
@@ -204,7 +204,7 @@ module _ (K : Known) (n : ℕ) where
     pub placing-next : (e : Env) (p : ℕ) (f : Form) → Told n f → On (Next K (placing s h fs m (symbolBlock o) p) n) (onPlacing e s h fs m o p f)
     placing-next e zero ignored tells = (tt, omega arith)
     placing-next e zero (wrong q) tells = tt
-    placing-next e zero close tells = placed-act 0 (both (e .class) (rangeOf s)) close tells
+    placing-next e zero close tells = placed-act 0 (both (e .class .symbols) (rangeOf s)) close tells
     placing-next e zero eof tells = tt
     placing-next e zero (keyed k c) tells = key-next e k c tells (find k placedTable) refl
     placing-next e (suc p) f tells = placed-act (suc p) (digits 0 0) f tells

@@ -1,5 +1,6 @@
 pub mod Answered
 pub mod AnyTable
+pub mod AnyWirePart
 pub mod BackBlocks
 pub mod BackDrawing
 pub mod BackFigures
@@ -44,6 +45,7 @@ pub mod Limits
 pub mod LinePlaces
 pub mod Listing
 pub mod Lower
+pub mod LowerCount
 pub mod LowerPlaced
 pub mod LowerRecords
 pub mod LowerRows

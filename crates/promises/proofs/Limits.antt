@@ -2,14 +2,14 @@
 use Prim.Native.Nat.{ℕ, zero, suc, _≤_, _<_}
 use mathlib.Core.Bool.{Bool, true, false, cond}
 use mathlib.Core.List.{List, [], _∷_}
-use mathlib.Core.Option.{Option, none, some}
-use mathlib.Core.Path.{_≡_, refl, sym, ap}
+use mathlib.Core.Option.{Option}
+use mathlib.Core.Path.{_≡_, refl, sym, ap, subst}
 use native.Mathlib.Nat.{le-refl, le-of-eq, le-add-right}
 use native.Mathlib.Omega.{arith}
 use lib.Dec.{leb}
 use lib.ListN.{length}
 use borrow.Author.Tests.{leb-true, leb-false, le-leb, lt-leb}
-use Rattle.rules.specs.declared.Digits.{Digits}
+use Rattle.rules.specs.declared.Class.{Class}
 use Rattle.rules.specs.RefusalNumbers.{Got, got, bad, unless, mapG, andThen, also}
 use Rattle.rules.specs.Lines.{Rest, Form, ignored, wrong, close, eof, keyed}
 use Rattle.rules.specs.RangeClass.{Skip, passes, deeper, noForm}
@@ -17,10 +17,11 @@ use Rattle.rules.specs.Values.{Value}
 use Rattle.rules.specs.Rows.{Found, absent, found, Held, Act, stay, entry, begin, shut, refuse}
 use Rattle.rules.specs.Sets.{Figure, Symbol, Drawing, Set, nothingYet}
 use Rattle.rules.specs.RecordTable.{recordsOf}
-use Rattle.rules.specs.Machine.{Line, Env, Home, inElement, inLayer, State, top, file, drawing, layerNames, defines, symbol, hide, elements, figures, successive, texts, placing, skipping, ended, setOf, byAct, openTop, onTop, shutPart, onLayerNames, openSymbol, closeFigures, openPlaced, openFigure}
+use Rattle.rules.specs.Machine.{Line, unlimited, limitedTo, Home, inElement, inLayer, State, top, file, drawing, layerNames, defines, symbol, hide, elements, figures, successive, texts, placing, skipping, ended, setOf, byAct, openTop, onTop, shutPart, onLayerNames, openSymbol, closeFigures, openPlaced, openFigure}
 use Rattle.rules.specs.PlacedSymbol.{bySkip, onUnknown, onPlacedKey, onPlacedOwn, onPlacing, skipShut, onSkipping}
 use Rattle.rules.specs.LineByLine.{stepIn, completes, nextVolume, step, accepted, thenRun, run}
 use Rattle.rules.specs.Machine.{symbolBlock, Owned}
+use Rattle.rules.proofs.Chains.{never, On}
 use Rattle.rules.proofs.Runs.{not-accepted, finish-ended}
 use Rattle.promises.proofs.Count.{count-taken}
 
@@ -104,29 +105,22 @@ as-was h = h
 
 ruleset alikes = (refuses, goes, as-was, alike-unless, alike-cond, alike-then, alike-act, alike-shut, alike-skip, alike-room, le-refl, le-add-right)
 
--- the reading with no limit, and with a table of m records
-abbrev pub free : Digits → Env
-free c = record { class = c; limit = none }
-
-abbrev pub bound : Digits → ℕ → Env
-bound c m = record { class = c; limit = some m }
-
 -- ── one line ──
-module _ (c : Digits) (m : ℕ) (l : Line) where
-  alike-open : (s : Set) (k : ℕ) → Alike m (s .taken) (openTop (free c) l s k) (openTop (bound c m) l s k)
+module _ (c : Class) (m : ℕ) (l : Line) where
+  alike-open : (s : Set) (k : ℕ) → Alike m (s .taken) (openTop (unlimited c) l s k) (openTop (limitedTo c m) l s k)
   alike-open s zero = search alikes
   alike-open s (suc zero) = search alikes
   alike-open s (suc (suc zero)) = search alikes
   alike-open s (suc (suc (suc k))) = search alikes
 
-  alike-top : (s : Set) (k : ℕ) (f : Form) → Alike m (s .taken) (onTop (free c) l s k f) (onTop (bound c m) l s k f)
+  alike-top : (s : Set) (k : ℕ) (f : Form) → Alike m (s .taken) (onTop (unlimited c) l s k f) (onTop (limitedTo c m) l s k f)
   alike-top s k ignored = search alikes
   alike-top s k (wrong n) = refuses
   alike-top s k close = refuses
   alike-top s k eof = search alikes
   alike-top s k (keyed key x) = search (alikes, alike-open)
 
-  alike-layers : (s : Set) (d : Drawing) (f : Form) → Alike m (s .taken) (onLayerNames (free c) l s d f) (onLayerNames (bound c m) l s d f)
+  alike-layers : (s : Set) (d : Drawing) (f : Form) → Alike m (s .taken) (onLayerNames (unlimited c) l s d f) (onLayerNames (limitedTo c m) l s d f)
   alike-layers s d ignored = search alikes
   alike-layers s d (wrong n) = refuses
   alike-layers s d close = search alikes
@@ -142,31 +136,31 @@ module _ (c : Digits) (m : ℕ) (l : Line) where
   alike-close s (inElement y) fs = search alikes
   alike-close s (inLayer k) fs = search alikes
 
-  alike-placed : (s : Set) (h : Home) (fs : List Figure) → Alike m (s .taken) (openPlaced (free c) l s h fs) (openPlaced (bound c m) l s h fs)
+  alike-placed : (s : Set) (h : Home) (fs : List Figure) → Alike m (s .taken) (openPlaced (unlimited c) l s h fs) (openPlaced (limitedTo c m) l s h fs)
   alike-placed s (inElement y) fs = refuses
   alike-placed s (inLayer k) fs = search alikes
 
-  alike-figure : (s : Set) (h : Home) (fs : List Figure) (i : ℕ) → Alike m (s .taken) (openFigure (free c) l s h fs i) (openFigure (bound c m) l s h fs i)
+  alike-figure : (s : Set) (h : Home) (fs : List Figure) (i : ℕ) → Alike m (s .taken) (openFigure (unlimited c) l s h fs i) (openFigure (limitedTo c m) l s h fs i)
   alike-figure s h fs zero = refuses
   alike-figure s h fs (suc zero) = search alikes
   alike-figure s h fs (suc (suc zero)) = search alikes
   alike-figure s h fs (suc (suc (suc i))) = alike-placed s h fs
 
-  alike-unknown : (s : Set) (h : ℕ) (fs : List Figure) (n : ℕ) (o : Held) (k : List ℕ) (x : Rest) → Alike m (s .taken) (onUnknown (free c) s h fs n o k x) (onUnknown (bound c m) s h fs n o k x)
+  alike-unknown : (s : Set) (h : ℕ) (fs : List Figure) (n : ℕ) (o : Held) (k : List ℕ) (x : Rest) → Alike m (s .taken) (onUnknown (unlimited c) s h fs n o k x) (onUnknown (limitedTo c m) s h fs n o k x)
   alike-unknown s h fs n o k x = search alikes
 
-  alike-key : (s : Set) (h : ℕ) (fs : List Figure) (n : ℕ) (o : Held) (k : List ℕ) (x : Rest) (f : Found) → Alike m (s .taken) (onPlacedKey (free c) s h fs n o k x f) (onPlacedKey (bound c m) s h fs n o k x f)
+  alike-key : (s : Set) (h : ℕ) (fs : List Figure) (n : ℕ) (o : Held) (k : List ℕ) (x : Rest) (f : Found) → Alike m (s .taken) (onPlacedKey (unlimited c) s h fs n o k x f) (onPlacedKey (limitedTo c m) s h fs n o k x f)
   alike-key s h fs n o k x absent = alike-unknown s h fs n o k x
   alike-key s h fs n o k x (found j r) = search (alikes, alike-unknown)
 
-  alike-own : (s : Set) (h : ℕ) (fs : List Figure) (n : ℕ) (o : Held) (f : Form) → Alike m (s .taken) (onPlacedOwn (free c) s h fs n o f) (onPlacedOwn (bound c m) s h fs n o f)
+  alike-own : (s : Set) (h : ℕ) (fs : List Figure) (n : ℕ) (o : Held) (f : Form) → Alike m (s .taken) (onPlacedOwn (unlimited c) s h fs n o f) (onPlacedOwn (limitedTo c m) s h fs n o f)
   alike-own s h fs n o ignored = search alikes
   alike-own s h fs n o (wrong k) = refuses
   alike-own s h fs n o close = search alikes
   alike-own s h fs n o eof = refuses
   alike-own s h fs n o (keyed k x) = search alike-key
 
-  alike-placing : (s : Set) (h : ℕ) (fs : List Figure) (n : ℕ) (o : Held) (p : ℕ) (f : Form) → Alike m (s .taken) (onPlacing (free c) s h fs n o p f) (onPlacing (bound c m) s h fs n o p f)
+  alike-placing : (s : Set) (h : ℕ) (fs : List Figure) (n : ℕ) (o : Held) (p : ℕ) (f : Form) → Alike m (s .taken) (onPlacing (unlimited c) s h fs n o p f) (onPlacing (limitedTo c m) s h fs n o p f)
   alike-placing s h fs n o zero f = alike-own s h fs n o f
   alike-placing s h fs n o (suc p) f = search alikes
 
@@ -182,7 +176,7 @@ module _ (c : Digits) (m : ℕ) (l : Line) where
   alike-skipping s h fs n b d eof = refuses
   alike-skipping s h fs n b d (keyed k x) = search alikes
 
-  alike-in : (st : State) → Alike m (setOf st .taken) (stepIn (free c) l st) (stepIn (bound c m) l st)
+  alike-in : (st : State) → Alike m (setOf st .taken) (stepIn (unlimited c) l st) (stepIn (limitedTo c m) l st)
   alike-in (top s k) = alike-top s k (l .form)
   alike-in (file s n h p) = search alikes
   alike-in (drawing s d) = search alikes
@@ -198,7 +192,7 @@ module _ (c : Digits) (m : ℕ) (l : Line) where
   alike-in (skipping s h fs n b d) = alike-skipping s h fs n b d (l .form)
   alike-in (ended s) = refuses
 
-  pub alike-step : (st : State) → Alike m (setOf st .taken) (step (free c) l st) (step (bound c m) l st)
+  pub alike-step : (st : State) → Alike m (setOf st .taken) (step (unlimited c) l st) (step (limitedTo c m) l st)
   alike-step st = alike-cond (l .last) _ _ _ _ (alike-next (alike-also (completes l st) (alike-in st))) (alike-in st)
 
   -- with a limit a line is as without one, and 19 where more than m records were taken
@@ -206,7 +200,7 @@ module _ (c : Digits) (m : ℕ) (l : Line) where
   capped (got st) = unless (leb (setOf st .taken) m) 19 (got st)
   capped (bad k) = bad k
 
-  pub limited : (st : State) → setOf st .taken ≤ m → stepIn (bound c m) l st ≡ capped (stepIn (free c) l st)
+  pub limited : (st : State) → setOf st .taken ≤ m → stepIn (limitedTo c m) l st ≡ capped (stepIn (unlimited c) l st)
   limited st h = go (alike-in st)
     where
       go : {g g′ : Got State} → Alike m (setOf st .taken) g g′ → g′ ≡ capped g
@@ -214,40 +208,51 @@ module _ (c : Digits) (m : ℕ) (l : Line) where
       go (goes st′ p w) = sym (ap (λ (t : Bool). unless t 19 (got st′)) (le-leb (setOf st′ .taken) m (w h)))
       go (over st′ p q) = sym (ap (λ (t : Bool). unless t 19 (got st′)) (lt-leb (setOf st′ .taken) m q))
 
+-- what the limit lets through goes on so without it; what goes on without it, with m records at most, the limit lets through
+pub goes-unlimited : {m n : ℕ} {g h : Got State} {st : State} → Alike m n g h → h ≡ got st → g ≡ got st
+goes-unlimited refuses e = e
+goes-unlimited (goes st p w) e = e
+goes-unlimited (over st p q) e = never e
+
+pub goes-limited : {m n : ℕ} {g h : Got State} {st : State} → Alike m n g h → g ≡ got st → setOf st .taken ≤ m → h ≡ got st
+goes-limited refuses e f = e
+goes-limited (goes st p w) e f = e
+goes-limited {m} {st = st′} (over st p q) e f = let z : m < setOf st′ .taken = subst (λ g. On (λ u. m < setOf u .taken) g) e q in absurd (omega (arith, z, f))
+
 -- ── all lines ──
 -- without a limit: the count never falls, and a table that holds it in the end changes nothing
-lift : (c : Digits) (m : ℕ) (ls : List Line) (s : State) (t : Set) → run (free c) s ls ≡ accepted t → (setOf s .taken ≤ t .taken) × (t .taken ≤ m → run (bound c m) s ls ≡ accepted t)
+lift : (c : Class) (m : ℕ) (ls : List Line) (s : State) (t : Set) → run (unlimited c) s ls ≡ accepted t → (setOf s .taken ≤ t .taken) × (t .taken ≤ m → run (limitedTo c m) s ls ≡ accepted t)
 lift c m [] s t q = (le-of-eq (ap (λ st. setOf st .taken) (finish-ended s t q)), λ _. q)
 lift c m (l ∷ ls) s t q = go (alike-step c m l s) (λ st. lift c m ls st t) q
   where
     go : {g h : Got State} → Alike m (setOf s .taken) g h
-        → ((st : State) → run (free c) st ls ≡ accepted t → (setOf st .taken ≤ t .taken) × (t .taken ≤ m → run (bound c m) st ls ≡ accepted t))
-        → thenRun g l (λ st. run (free c) st ls) ≡ accepted t
-        → (setOf s .taken ≤ t .taken) × (t .taken ≤ m → thenRun h l (λ st. run (bound c m) st ls) ≡ accepted t)
+        → ((st : State) → run (unlimited c) st ls ≡ accepted t → (setOf st .taken ≤ t .taken) × (t .taken ≤ m → run (limitedTo c m) st ls ≡ accepted t))
+        → thenRun g l (λ st. run (unlimited c) st ls) ≡ accepted t
+        → (setOf s .taken ≤ t .taken) × (t .taken ≤ m → thenRun h l (λ st. run (limitedTo c m) st ls) ≡ accepted t)
     go refuses ih q = not-accepted q
     go (goes st p i) ih q = let w = ih st q in (omega (arith, p, w .0), w .1)
     go (over st p r) ih q = let w = ih st q in (omega (arith, p, w .0), λ f. absurd (omega (arith, f, r, w .0)))
 
 -- a table that holds what was taken in the end accepts, with the same set
-pub limit-lift : (c : Digits) (m : ℕ) (ls : List Line) (s : State) (t : Set) → run (record { class = c; limit = none }) s ls ≡ accepted t → t .taken ≤ m
-    → run (record { class = c; limit = some m }) s ls ≡ accepted t
+pub limit-lift : (c : Class) (m : ℕ) (ls : List Line) (s : State) (t : Set) → run (unlimited c) s ls ≡ accepted t → t .taken ≤ m
+    → run (limitedTo c m) s ls ≡ accepted t
 limit-lift c m ls s t q = lift c m ls s t q .1
 
 -- what a table accepts is accepted with no limit
-pub limit-drop : (c : Digits) (m : ℕ) (ls : List Line) (s : State) (t : Set) → run (record { class = c; limit = some m }) s ls ≡ accepted t
-    → run (record { class = c; limit = none }) s ls ≡ accepted t
+pub limit-drop : (c : Class) (m : ℕ) (ls : List Line) (s : State) (t : Set) → run (limitedTo c m) s ls ≡ accepted t
+    → run (unlimited c) s ls ≡ accepted t
 limit-drop c m [] s t q = q
 limit-drop c m (l ∷ ls) s t q = go (alike-step c m l s) (λ st. limit-drop c m ls st t) q
   where
-    go : {g h : Got State} → Alike m (setOf s .taken) g h → ((st : State) → run (bound c m) st ls ≡ accepted t → run (free c) st ls ≡ accepted t)
-        → thenRun h l (λ st. run (bound c m) st ls) ≡ accepted t → thenRun g l (λ st. run (free c) st ls) ≡ accepted t
+    go : {g h : Got State} → Alike m (setOf s .taken) g h → ((st : State) → run (limitedTo c m) st ls ≡ accepted t → run (unlimited c) st ls ≡ accepted t)
+        → thenRun h l (λ st. run (limitedTo c m) st ls) ≡ accepted t → thenRun g l (λ st. run (unlimited c) st ls) ≡ accepted t
     go refuses ih q = not-accepted q
     go (goes st p i) ih q = ih st q
     go (over st p r) ih q = not-accepted q
 
 -- ── what was taken ──
-pub taken-fits : (c : Digits) (m : ℕ) (ls : List Line) (t : Set) → run (record { class = c; limit = some m }) (top nothingYet 0) ls ≡ accepted t → t .taken ≤ m
-taken-fits c m ls t q = leb-true (t .taken) m (count-taken (bound c m) c ls t q .1)
+pub taken-fits : (c : Class) (m : ℕ) (ls : List Line) (t : Set) → run (limitedTo c m) (top nothingYet 0) ls ≡ accepted t → t .taken ≤ m
+taken-fits c m ls t q = leb-true (t .taken) m (count-taken (limitedTo c m) c ls t q .1)
 
-pub taken-counts : (c c′ : Digits) (l : Option ℕ) (ls : List Line) (t : Set) → run (record { class = c; limit = l }) (top nothingYet 0) ls ≡ accepted t → length (recordsOf c′ t) ≡ t .taken
+pub taken-counts : (c c′ : Class) (l : Option ℕ) (ls : List Line) (t : Set) → run (record { class = c; limit = l }) (top nothingYet 0) ls ≡ accepted t → length (recordsOf c′ t) ≡ t .taken
 taken-counts c c′ l ls t q = count-taken (record { class = c; limit = l }) c′ ls t q .0

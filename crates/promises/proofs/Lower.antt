@@ -10,6 +10,7 @@ use lib.ListN.{length, getD, set, length-map}
 use lib.Seq.{set-getD}
 use borrow.Author.Tests.{le-leb, lt-ltb, leb-true, leb-false, ltb-true}
 use Rattle.rules.specs.declared.Digits.{Digits}
+use Rattle.rules.specs.declared.Class.{Class}
 use Rattle.rules.specs.Base.{total}
 use Rattle.rules.specs.RangeClass.{digits, reaches, exceeds, hides}
 use Rattle.rules.specs.Values.{Value}
@@ -17,11 +18,12 @@ use Rattle.rules.specs.Rows.{Rule, Slots, blank, Held, partOf, enter}
 use Rattle.rules.specs.Blocks.{blankHeld}
 use Rattle.rules.specs.Figures.{placedTable, placedTables, textTable}
 use Rattle.rules.specs.Sets.{Figure, plain, chain, lettering, placed, LayerBlock, Contents, Set, headOr, rangeOf, elementsOf, usedIn}
-use Rattle.rules.specs.Machine.{Home, inElement, inLayer, State, top, file, drawing, layerNames, defines, symbol, hide, elements, figures, successive, texts, placing, skipping, ended}
+use Rattle.rules.specs.Machine.{Home, inElement, inLayer, State, top, file, drawing, layerNames, defines, symbol, hide, elements, figures, successive, texts, placing, skipping, ended, setOf}
 use Rattle.rules.specs.Machine.{symbolBlock, Owned}
-use Rattle.rules.proofs.Chains.{and-left, and-right, and-true, and-false, or-true, clash, cond-same, map-compose, map-agree}
+use Rattle.rules.proofs.Chains.{and-left, and-right, and-true, and-false, or-true, clash, cond-same, ap-cond, map-compose, map-agree}
 use Rattle.rules.proofs.Rows.{Row, here, there}
 use Rattle.promises.specs.DemandThree.{NotAbove}
+use Rattle.promises.proofs.BackSlots.{retaken}
 
 -- ── digits ──
 module _ (low high : Digits) (le : NotAbove low high) where
@@ -89,30 +91,31 @@ abbrev pub lowerHeld : Digits → Digits → Held → Held
 lowerHeld c d [] = []
 lowerHeld c d (s ∷ h) = maskSlots c d placedTable s ∷ map (innerPart c d) h
 
-abbrev pub lowerFigure : Digits → Digits → Figure → Figure
+abbrev pub lowerFigure : Class → Digits → Figure → Figure
 lowerFigure c d (plain n j v) = plain n j v
 lowerFigure c d (chain n ps) = chain n ps
 lowerFigure c d (lettering n s) = lettering n s
-lowerFigure c d (placed n h) = placed n (lowerHeld c d h)
+lowerFigure c d (placed n h) = placed n (lowerHeld (c .symbols) d h)
 
-abbrev pub lowerFigures : Digits → Digits → List Figure → List Figure
+abbrev pub lowerFigures : Class → Digits → List Figure → List Figure
 lowerFigures c d fs = map (lowerFigure c d) fs
 
-abbrev pub lowerBlock : Digits → Digits → LayerBlock → LayerBlock
+abbrev pub lowerBlock : Class → Digits → LayerBlock → LayerBlock
 lowerBlock c d u = record { layer = u .layer; figures = lowerFigures c d (u .figures) }
 
-abbrev pub lowerContents : Digits → Digits → Contents → Contents
+abbrev pub lowerContents : Class → Digits → Contents → Contents
 lowerContents c d v = record { line = v .line; file = v .file; blocks = map (lowerBlock c d) (v .blocks) }
 
-abbrev pub lowerIn : Digits → Digits → Set → Set
-lowerIn c d s =
-    record { drawing = s .drawing; symbols = s .symbols; volumes = map (lowerContents c d) (s .volumes); now = lowerContents c d (s .now); taken = s .taken }
+-- with so many records taken: the count is the lower class's own, for it takes no record of what it leaves out
+abbrev pub lowerIn : ℕ → Class → Digits → Set → Set
+lowerIn took c d s =
+    record { drawing = s .drawing; symbols = s .symbols; volumes = map (lowerContents c d) (s .volumes); now = lowerContents c d (s .now); taken = took }
 
-abbrev pub lowerSet : Digits → Set → Set
-lowerSet c s = lowerIn c (rangeOf s) s
+abbrev pub lowerSet : ℕ → Class → Set → Set
+lowerSet took c s = lowerIn took c (rangeOf s) s
 
 -- the figures so far: those of an element stay
-abbrev pub lowerSoFar : Digits → Digits → Home → List Figure → List Figure
+abbrev pub lowerSoFar : Class → Digits → Home → List Figure → List Figure
 lowerSoFar c d (inElement y) fs = fs
 lowerSoFar c d (inLayer k) fs = lowerFigures c d fs
 
@@ -122,31 +125,90 @@ depthIn zero = 1
 depthIn (suc zero) = 1
 depthIn (suc (suc p)) = 2
 
-abbrev pub lowerOwned : Digits → Digits → Owned → Owned
-lowerOwned c d (symbolBlock o) = symbolBlock (lowerHeld c d o)
+abbrev pub lowerOwned : Class → Digits → Owned → Owned
+lowerOwned c d (symbolBlock o) = symbolBlock (lowerHeld (c .symbols) d o)
 
-abbrev pub lowerPlacing : Digits → Set → ℕ → List Figure → ℕ → Held → ℕ → State
-lowerPlacing c s k fs n o zero = placing (lowerSet c s) k (lowerFigures c (rangeOf s) fs) n (symbolBlock (lowerHeld c (rangeOf s) o)) 0
-lowerPlacing c s k fs n o (suc p) =
-    cond (hides c (rangeOf s) textLeast)
-    (skipping (lowerSet c s) k (lowerFigures c (rangeOf s) fs) n (symbolBlock (lowerHeld c (rangeOf s) o)) (depthIn (suc p)))
-    (placing (lowerSet c s) k (lowerFigures c (rangeOf s) fs) n (symbolBlock (lowerHeld c (rangeOf s) o)) (suc p))
+abbrev pub lowerPlacing : ℕ → Class → Set → ℕ → List Figure → ℕ → Held → ℕ → State
+lowerPlacing took c s k fs n o zero = placing (lowerSet took c s) k (lowerFigures c (rangeOf s) fs) n (symbolBlock (lowerHeld (c .symbols) (rangeOf s) o)) 0
+lowerPlacing took c s k fs n o (suc p) =
+    cond (hides (c .symbols) (rangeOf s) textLeast)
+    (skipping (lowerSet took c s) k (lowerFigures c (rangeOf s) fs) n (symbolBlock (lowerHeld (c .symbols) (rangeOf s) o)) (depthIn (suc p)))
+    (placing (lowerSet took c s) k (lowerFigures c (rangeOf s) fs) n (symbolBlock (lowerHeld (c .symbols) (rangeOf s) o)) (suc p))
 
-abbrev pub lower : Digits → State → State
-lower c (top s k) = top (lowerSet c s) k
-lower c (file s n h p) = file (lowerSet c s) n h p
-lower c (drawing s d) = drawing (lowerSet c s) d
-lower c (layerNames s d) = layerNames (lowerSet c s) d
-lower c (defines s b) = defines (lowerSet c s) b
-lower c (symbol s y) = symbol (lowerSet c s) y
-lower c (hide s y ps) = hide (lowerSet c s) y ps
-lower c (elements s) = elements (lowerSet c s)
-lower c (figures s h fs) = figures (lowerSet c s) h (lowerSoFar c (rangeOf s) h fs)
-lower c (successive s h fs n ps) = successive (lowerSet c s) h (lowerSoFar c (rangeOf s) h fs) n ps
-lower c (texts s h fs n o) = texts (lowerSet c s) h (lowerSoFar c (rangeOf s) h fs) n o
-lower c (placing s k fs n (symbolBlock o) p) = lowerPlacing c s k fs n o p
-lower c (skipping s k fs n b d) = skipping (lowerSet c s) k (lowerFigures c (rangeOf s) fs) n (lowerOwned c (rangeOf s) b) d
-lower c (ended s) = ended (lowerSet c s)
+abbrev pub lower : ℕ → Class → State → State
+lower took c (top s k) = top (lowerSet took c s) k
+lower took c (file s n h p) = file (lowerSet took c s) n h p
+lower took c (drawing s d) = drawing (lowerSet took c s) d
+lower took c (layerNames s d) = layerNames (lowerSet took c s) d
+lower took c (defines s b) = defines (lowerSet took c s) b
+lower took c (symbol s y) = symbol (lowerSet took c s) y
+lower took c (hide s y ps) = hide (lowerSet took c s) y ps
+lower took c (elements s) = elements (lowerSet took c s)
+lower took c (figures s h fs) = figures (lowerSet took c s) h (lowerSoFar c (rangeOf s) h fs)
+lower took c (successive s h fs n ps) = successive (lowerSet took c s) h (lowerSoFar c (rangeOf s) h fs) n ps
+lower took c (texts s h fs n o) = texts (lowerSet took c s) h (lowerSoFar c (rangeOf s) h fs) n o
+lower took c (placing s k fs n (symbolBlock o) p) = lowerPlacing took c s k fs n o p
+lower took c (skipping s k fs n b d) = skipping (lowerSet took c s) k (lowerFigures c (rangeOf s) fs) n (lowerOwned c (rangeOf s) b) d
+lower took c (ended s) = ended (lowerSet took c s)
+
+-- ── the count ──
+-- a state with so many records taken, and one with the count left out
+abbrev pub recounted : ℕ → State → State
+recounted took (top s k) = top (retaken took s) k
+recounted took (file s n h p) = file (retaken took s) n h p
+recounted took (drawing s d) = drawing (retaken took s) d
+recounted took (layerNames s d) = layerNames (retaken took s) d
+recounted took (defines s b) = defines (retaken took s) b
+recounted took (symbol s y) = symbol (retaken took s) y
+recounted took (hide s y ps) = hide (retaken took s) y ps
+recounted took (elements s) = elements (retaken took s)
+recounted took (figures s h fs) = figures (retaken took s) h fs
+recounted took (successive s h fs n ps) = successive (retaken took s) h fs n ps
+recounted took (texts s h fs n o) = texts (retaken took s) h fs n o
+recounted took (placing s k fs n b p) = placing (retaken took s) k fs n b p
+recounted took (skipping s k fs n b d) = skipping (retaken took s) k fs n b d
+recounted took (ended s) = ended (retaken took s)
+
+abbrev pub uncounted : State → State
+uncounted st = recounted 0 st
+
+-- a state is what is left of it without the count, with its own count
+count-back : (st : State) → recounted (setOf st .taken) (uncounted st) ≡ st
+count-back (top s k) = refl
+count-back (file s n h p) = refl
+count-back (drawing s d) = refl
+count-back (layerNames s d) = refl
+count-back (defines s b) = refl
+count-back (symbol s y) = refl
+count-back (hide s y ps) = refl
+count-back (elements s) = refl
+count-back (figures s h fs) = refl
+count-back (successive s h fs n ps) = refl
+count-back (texts s h fs n o) = refl
+count-back (placing s k fs n b p) = refl
+count-back (skipping s k fs n b d) = refl
+count-back (ended s) = refl
+
+count-lower : (took : ℕ) (c : Class) (st : State) → recounted took (lower 0 c st) ≡ lower took c st
+count-lower took c (top s k) = refl
+count-lower took c (file s n h p) = refl
+count-lower took c (drawing s d) = refl
+count-lower took c (layerNames s d) = refl
+count-lower took c (defines s b) = refl
+count-lower took c (symbol s y) = refl
+count-lower took c (hide s y ps) = refl
+count-lower took c (elements s) = refl
+count-lower took c (figures s h fs) = refl
+count-lower took c (successive s h fs n ps) = refl
+count-lower took c (texts s h fs n o) = refl
+count-lower took c (placing s k fs n (symbolBlock o) zero) = refl
+count-lower took c (placing s k fs n (symbolBlock o) (suc p)) = ap-cond (recounted took) (hides (c .symbols) (rangeOf s) textLeast) _ _
+count-lower took c (skipping s k fs n b d) = refl
+count-lower took c (ended s) = refl
+
+-- so a state that is a lower class's but for the count is one of its states
+pub lower-counted : (c : Class) (a st : State) → uncounted a ≡ lower 0 c st → a ≡ lower (setOf a .taken) c st
+lower-counted c a st e = sym (count-back a) ∙ ap (recounted (setOf a .taken)) e ∙ count-lower (setOf a .taken) c st
 
 -- ── masked slots ──
 module _ (c d : Digits) where
@@ -241,7 +303,7 @@ module _ (c d : Digits) where
   lower-blank = rw (mask-blank placedTable, wiped-blank (textTable true 16 24), cond-same (hides c d textLeast) (blank (textTable true 16 24)))
 
 -- ── what is not looked at by the class ──
-module _ (c d : Digits) where
+module _ (c : Class) (d : Digits) where
   pub file-same : (now : Contents) (vs : List Contents) → headOr (lowerContents c d now) (map (lowerContents c d) vs) .file ≡ headOr now vs .file
   file-same now [] = refl
   file-same now (v ∷ vs) = refl

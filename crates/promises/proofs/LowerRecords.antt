@@ -11,6 +11,7 @@ use lib.ListN.{set}
 use lib.Seq.{sets}
 use borrow.Author.Tests.{eqb-false, ne-eqb}
 use Rattle.rules.specs.declared.Digits.{Digits}
+use Rattle.rules.specs.declared.Class.{Class}
 use Rattle.rules.specs.Base.{flat}
 use Rattle.rules.specs.RangeClass.{digits, hides}
 use Rattle.rules.specs.Values.{Num, Value, nums}
@@ -92,7 +93,7 @@ placedAs c d kind owner volume line s t =
     (nth 0 s) (nth 1 s) (nth 2 s) (nth 3 s) (nth 4 s) (nth 5 s) (nth 0 t) (nth 1 t)
 
 -- a placed symbol's record is those numbers, by computation
-placed-as : (w : View) (more owner volume line : ℕ) (h : Held) → placedRecord w more owner volume line h ≡ placedAs (w .class) (w .symbols) (16 + more) owner volume line (partOf h 0) (partOf h 1)
+placed-as : (w : View) (more owner volume line : ℕ) (h : Held) → placedRecord w more owner volume line h ≡ placedAs (w .class .symbols) (w .symbols) (16 + more) owner volume line (partOf h 0) (partOf h 1)
 unfolding placedTable textTable
 placed-as w more owner volume line h = refl
 
@@ -180,21 +181,22 @@ module _ (low high : Digits) (le : NotAbove low high) (d : Digits) where
     nth-mask {t = placedTable} (there (there (there (there (there here))))) s,
   )
 
-  abbrev view : Digits → List Rule → View
+module _ (low high : Class) (le : NotAbove (low .symbols) (high .symbols)) (d : Digits) where
+  abbrev view : Class → List Rule → View
   view c t = record { class = c; symbols = d; table = t }
 
-  placed-lower : (t : List Rule) (owner volume line : ℕ) (h : Held) → placedRecord (view low t) 0 owner volume line (lowerHeld low d h) ≡ unread low d (placedRecord (view high t) 0 owner volume line h)
+  placed-lower : (t : List Rule) (owner volume line : ℕ) (h : Held) → placedRecord (view low t) 0 owner volume line (lowerHeld (low .symbols) d h) ≡ unread (low .symbols) d (placedRecord (view high t) 0 owner volume line h)
   placed-lower t owner volume line h =
-      let w = own-masked (partOf h 0) in
-      placed-as (view low t) 0 owner volume line (lowerHeld low d h)
-      ∙ ap₂ (placedAs low d 16 owner volume line) (part-own low d h) (part-inner low d h 0)
-      ∙ sixteen-lower owner volume line (partOf h 0) (maskSlots low d placedTable (partOf h 0)) (partOf h 1) (innerPart low d (partOf h 1))
-      (w .0, w .1, w .2, w .3, w .4, w .5, nth-inner low d 0 (partOf h 1), nth-inner low d 1 (partOf h 1))
-      ∙ ap (unread low d) (sym (placed-as (view high t) 0 owner volume line h))
+      let w = own-masked (low .symbols) (high .symbols) le d (partOf h 0) in
+      placed-as (view low t) 0 owner volume line (lowerHeld (low .symbols) d h)
+      ∙ ap₂ (placedAs (low .symbols) d 16 owner volume line) (part-own (low .symbols) d h) (part-inner (low .symbols) d h 0)
+      ∙ sixteen-lower (low .symbols) (high .symbols) le d owner volume line (partOf h 0) (maskSlots (low .symbols) d placedTable (partOf h 0)) (partOf h 1) (innerPart (low .symbols) d (partOf h 1))
+      (w .0, w .1, w .2, w .3, w .4, w .5, nth-inner (low .symbols) d 0 (partOf h 1), nth-inner (low .symbols) d 1 (partOf h 1))
+      ∙ ap (unread (low .symbols) d) (sym (placed-as (view high t) 0 owner volume line h))
 
   -- ── records of other kinds ──
   abbrev u : List ℤ → List ℤ
-  u = unread low d
+  u = unread (low .symbols) d
 
   abbrev Same : List (List ℤ) → Type 0
   Same rs = map u rs ≡ rs
@@ -224,8 +226,8 @@ module _ (low high : Digits) (le : NotAbove low high) (d : Digits) where
       alone : Held
       alone = (some (nums v) ∷ []) ∷ []
 
-      kept : lowerHeld low d alone ≡ alone
-      kept = first-alone (nums v)
+      kept : lowerHeld (low .symbols) d alone ≡ alone
+      kept = first-alone (low .symbols) (high .symbols) le d (nums v)
 
       go : (b : Bool) → eqb j 6 ≡ b → cond b (placedRecord (view low t) 0 owner volume n alone) (plainRecord (view low t) 0 owner volume n j v)
           ≡ u (cond b (placedRecord (view high t) 0 owner volume n alone) (plainRecord (view high t) 0 owner volume n j v))
@@ -331,7 +333,7 @@ module _ (low high : Digits) (le : NotAbove low high) (d : Digits) where
           ∙ sym (map-append u (head ++ bodyRecords (view high t) 1 v) (laterRecords (view high t) 2 vs))
 
 -- the records of a set, at the two classes
-pub records-lower : (low high : Digits) → NotAbove low high → (s : Set) → recordsOf low (lowerSet low s) ≡ map (unread low (rangeOf s)) (recordsOf high s)
+pub records-lower : (low high : Class) → NotAbove (low .symbols) (high .symbols) → (took : ℕ) (s : Set) → recordsOf low (lowerSet took low s) ≡ map (unread (low .symbols) (rangeOf s)) (recordsOf high s)
 unfolding recordsOf
-records-lower low high le s =
-    from-lower low high le (rangeOf s) s (lowerSet low s) refl refl (simp (file-same low (rangeOf s) (s .now) (s .volumes))) (simp (file-same low (rangeOf s) (s .now) (s .volumes))) refl (s .volumes)
+records-lower low high le took s =
+    from-lower low high le (rangeOf s) s (lowerSet took low s) refl refl (simp (file-same low (rangeOf s) (s .now) (s .volumes))) (simp (file-same low (rangeOf s) (s .now) (s .volumes))) refl (s .volumes)

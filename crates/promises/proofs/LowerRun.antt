@@ -1,127 +1,132 @@
 -- Two classes over all lines: what the higher accepts the lower accepts; what the lower refuses the higher refuses, there or before.
-use Prim.Native.Nat.{ℕ, zero, suc}
+-- One line goes without a limit first, where the count is not looked at. With the limit it goes too, since the lower class shows no more
+-- records than the higher, and each has taken what it shows.
+use Prim.Native.Nat.{ℕ, zero, suc, _≤_}
 use mathlib.Core.Bool.{Bool, true, false, cond, _&&_, _||_}
 use mathlib.Core.List.{List, [], _∷_}
-use mathlib.Core.Option.{Option}
 use mathlib.Core.Path.{_≡_, refl, sym, _∙_, ap}
 use native.Mathlib.Omega.{arith}
 use lib.Dec.{eqb, leb, ltb}
-use borrow.Author.Tests.{le-leb, ltb-true, eq-eqb}
-use Rattle.rules.specs.declared.Digits.{Digits}
+use borrow.Author.Tests.{le-leb, leb-true, ltb-true, eq-eqb}
+use Rattle.rules.specs.declared.Class.{Class}
 use Rattle.rules.specs.Base.{isNil}
 use Rattle.rules.specs.RefusalNumbers.{Got, got, bad, mapG, also}
 use Rattle.rules.specs.Lines.{Form, ignored, wrong, close, eof, keyed}
 use Rattle.rules.specs.RangeClass.{hides}
-use Rattle.rules.specs.Sets.{Figure, Set, rangeOf}
+use Rattle.rules.specs.Sets.{Set, nothingYet, rangeOf}
 use Rattle.rules.specs.VolumesAndTotals.{countedAll, layersUsed}
-use Rattle.rules.specs.Rows.{Held}
-use Rattle.rules.specs.Machine.{Line, Env, State, top, file, drawing, layerNames, defines, symbol, hide, elements, figures, successive, texts, placing, skipping, ended, atEof, onTop}
-use Rattle.rules.specs.LineByLine.{stepIn, inElements, afterElements, isIgnored, isClose, isEof, completes, nextVolume, step, refused, accepted, thenRun, finish, run}
-use Rattle.rules.specs.Machine.{symbolBlock, Owned}
-use Rattle.rules.proofs.Runs.{not-accepted}
-use Rattle.rules.proofs.Chains.{and-left, and-right, or-true, clash, by-cond, never, unless-got, map-got, also-got, cond-true}
-use Rattle.promises.specs.DemandThree.{NotAbove}
-use Rattle.promises.proofs.Lower.{textLeast, lowerFigures, lowerHeld, lowerSet, depthIn, lowerPlacing, lower}
+use Rattle.rules.specs.Machine.{Line, inLastVolume, Env, unlimited, limitedTo, State, top, file, drawing, layerNames, defines, symbol, hide, elements, figures, successive, texts, placing, skipping, ended, setOf, atEof, onTop}
+use Rattle.rules.specs.LineByLine.{stepIn, Stage, between, withinElement, withinOther, atEnd, stageOf, isWithinElement, isAfterElement, inElements, afterElements, isIgnored, isClose, isEof, completes, begunAnew, nextVolume, step, refused, accepted, thenRun, finish, run}
+use Rattle.rules.specs.Machine.{symbolBlock}
+use Rattle.rules.proofs.Runs.{not-accepted, finish-ended}
+use Rattle.rules.proofs.Chains.{and-left, and-right, or-true, clash, by-cond, never, unless-got, map-got, also-got, cond-true, on-got}
+use Rattle.promises.specs.DemandThree.{ClassNotAbove}
+use Rattle.promises.proofs.Lower.{textLeast, lowerSet, lowerPlacing, lower, uncounted, lower-counted}
 use Rattle.promises.proofs.LowerSteps.{sim-top, sim-file, sim-drawing, sim-layerNames, sim-defines, sim-symbol, sim-hide, sim-elements, sim-figures, sim-successive, sim-texts, sim-skipping}
 use Rattle.promises.proofs.LowerPlaced.{sim-placing}
+use Rattle.promises.proofs.LowerCount.{fewer}
+use Rattle.promises.proofs.CountState.{Inv}
+use Rattle.promises.proofs.Count.{inv-start, inv-step}
+use Rattle.promises.proofs.Limits.{alike-step, goes-unlimited, goes-limited}
 
 -- ── one line ──
-module _ (low high : Digits) (le : NotAbove low high) (m : Option ℕ) where
+module _ (low high : Class) (le : ClassNotAbove low high) where
   abbrev lo : Env
-  lo = record { class = low; limit = m }
+  lo = unlimited low
 
   abbrev hi : Env
-  hi = record { class = high; limit = m }
+  hi = unlimited high
 
-  -- an equation between the two answers is enough
-  via : {g g′ : Got State} {s′ : State} → g′ ≡ mapG (lower low) g → g ≡ got s′ → g′ ≡ got (lower low s′)
-  via q e = q ∙ ap (mapG (lower low)) e
+  -- the lower class goes on as well, to what the higher's next state is for it, with whatever records it has taken
+  abbrev Goes : Got State → State → Type 0
+  Goes g s′ = (took : ℕ) × (g ≡ got (lower took low s′))
 
-  sim-in : (l : Line) (s s′ : State) → stepIn hi l s ≡ got s′ → stepIn lo l (lower low s) ≡ got (lower low s′)
-  sim-in l (top s k) s′ e = via (sim-top low high m l s k (l .form)) e
-  sim-in l (file s n h p) s′ e = via (sim-file low high m l s n h p (l .form)) e
-  sim-in l (drawing s d) s′ e = via (sim-drawing low high m s d (l .form)) e
-  sim-in l (layerNames s d) s′ e = via (sim-layerNames low high m l s d (l .form)) e
-  sim-in l (defines s b) s′ e = via (sim-defines low high m l s b (l .form)) e
-  sim-in l (symbol s y) s′ e = via (sim-symbol low high m s y (l .form)) e
-  sim-in l (hide s y ps) s′ e = via (sim-hide low high m l s y ps (l .form)) e
-  sim-in l (elements s) s′ e = via (sim-elements low high m s (l .form)) e
-  sim-in l (figures s h fs) s′ e = via (sim-figures low high m l s h fs (l .form)) e
-  sim-in l (successive s h fs n ps) s′ e = via (sim-successive low high m l s h fs n ps (l .form)) e
-  sim-in l (texts s h fs n o) s′ e = via (sim-texts low high m s h fs n o (l .form)) e
-  sim-in l (placing s k fs n (symbolBlock o) p) s′ e =
-      sim-placing low high le m s k fs n o p (l .form) s′ e (lowerPlacing low s k fs n o p) refl (stepIn lo l) (λ o p. refl) (λ o q. refl)
-  sim-in l (skipping s k fs n b d) s′ e = via (sim-skipping low high m s k fs n b d (l .form)) e
-  sim-in l (ended s) s′ e = never e
+  -- an equation between the two answers is enough, or one but for the count
+  via : (took : ℕ) {g g′ : Got State} {s′ : State} → g′ ≡ mapG (lower took low) g → g ≡ got s′ → Goes g′ s′
+  via took q e = (took, q ∙ ap (mapG (lower took low)) e)
 
-  -- what is said of a placed symbol is said of what the lower class has in its place
-  placing-is : {A : Type 0} (f : State → A) (a : A) (s : Set) (k : ℕ) (fs : List Figure) (n : ℕ) (o : Held) (p : ℕ)
-      → ((b : Owned) (p : ℕ) → f (placing (lowerSet low s) k (lowerFigures low (rangeOf s) fs) n b p) ≡ a)
-      → ((b : Owned) (d : ℕ) → f (skipping (lowerSet low s) k (lowerFigures low (rangeOf s) fs) n b d) ≡ a) → f (lowerPlacing low s k fs n o p) ≡ a
-  placing-is f a s k fs n o zero g h = g (symbolBlock (lowerHeld low (rangeOf s) o)) 0
-  placing-is f a s k fs n o (suc p) g h =
-      by-cond (λ st. f st ≡ a) (hides low (rangeOf s) textLeast) (λ _. h (symbolBlock (lowerHeld low (rangeOf s) o)) (depthIn (suc p))) (λ _. g (symbolBlock (lowerHeld low (rangeOf s) o)) (suc p))
+  count-via : {g g′ : Got State} {s′ : State} → mapG uncounted g′ ≡ mapG (lower 0 low) g → g ≡ got s′ → Goes g′ s′
+  count-via {g′ = g′} {s′ = s′} q e =
+      let (a, p, r) = map-got uncounted g′ (lower 0 low s′) (q ∙ ap (mapG (lower 0 low)) e) in
+      (setOf a .taken, p ∙ ap got (lower-counted low a s′ r))
 
-  in-same : (s : State) → inElements (lower low s) ≡ inElements s
-  in-same (top s k) = refl
-  in-same (file s n h p) = refl
-  in-same (drawing s d) = refl
-  in-same (layerNames s d) = refl
-  in-same (defines s b) = refl
-  in-same (symbol s y) = refl
-  in-same (hide s y ps) = refl
-  in-same (elements s) = refl
-  in-same (figures s h fs) = refl
-  in-same (successive s h fs n ps) = refl
-  in-same (texts s h fs n o) = refl
-  in-same (placing s k fs n (symbolBlock o) p) = placing-is inElements false s k fs n o p (λ o p. refl) (λ o d. refl)
-  in-same (skipping s k fs n o d) = refl
-  in-same (ended s) = refl
+  sim-in : (l : Line) (took : ℕ) (s s′ : State) → stepIn hi l s ≡ got s′ → Goes (stepIn lo l (lower took low s)) s′
+  sim-in l took (top s k) s′ e = count-via (sim-top low high took l s k (l .form)) e
+  sim-in l took (file s n h p) s′ e = via took (sim-file low high took l s n h p (l .form)) e
+  sim-in l took (drawing s d) s′ e = via took (sim-drawing low high took s d (l .form)) e
+  sim-in l took (layerNames s d) s′ e = count-via (sim-layerNames low high took l s d (l .form)) e
+  sim-in l took (defines s b) s′ e = count-via (sim-defines low high took l s b (l .form)) e
+  sim-in l took (symbol s y) s′ e = via took (sim-symbol low high took s y (l .form)) e
+  sim-in l took (hide s y ps) s′ e = count-via (sim-hide low high took l s y ps (l .form)) e
+  sim-in l took (elements s) s′ e = via took (sim-elements low high took s (l .form)) e
+  sim-in l took (figures s h fs) s′ e = count-via (sim-figures low high took l s h fs (l .form)) e
+  sim-in l took (successive s h fs n ps) s′ e = count-via (sim-successive low high took l s h fs n ps (l .form)) e
+  sim-in l took (texts s h fs n o) s′ e = via took (sim-texts low high took s h fs n o (l .form)) e
+  sim-in l took (placing s k fs n (symbolBlock o) p) s′ e =
+      (took, sim-placing low high (le .symbols) took s k fs n o p (l .form) s′ e (lowerPlacing took low s k fs n o p) refl (stepIn lo l) (λ o p. refl) (λ o q. refl))
+  sim-in l took (skipping s k fs n b d) s′ e = via took (sim-skipping low high took s k fs n b d (l .form)) e
+  sim-in l took (ended s) s′ e = never e
 
-  after-same : (s : State) → afterElements (lower low s) ≡ afterElements s
-  after-same (top s k) = refl
-  after-same (file s n h p) = refl
-  after-same (drawing s d) = refl
-  after-same (layerNames s d) = refl
-  after-same (defines s b) = refl
-  after-same (symbol s y) = refl
-  after-same (hide s y ps) = refl
-  after-same (elements s) = refl
-  after-same (figures s h fs) = refl
-  after-same (successive s h fs n ps) = refl
-  after-same (texts s h fs n o) = refl
-  after-same (placing s k fs n (symbolBlock o) p) = placing-is afterElements false s k fs n o p (λ o p. refl) (λ o d. refl)
-  after-same (skipping s k fs n o d) = refl
-  after-same (ended s) = refl
+  -- how far the set is, as far as the end of a volume asks: the same
+  abbrev lowerStage : ℕ → Stage → Stage
+  lowerStage took (between s k) = between (lowerSet took low s) k
+  lowerStage took withinElement = withinElement
+  lowerStage took withinOther = withinOther
+  lowerStage took (atEnd s) = atEnd (lowerSet took low s)
+
+  stage-same : (took : ℕ) (s : State) → stageOf (lower took low s) ≡ lowerStage took (stageOf s)
+  stage-same took (top s k) = refl
+  stage-same took (file s n h p) = refl
+  stage-same took (drawing s d) = refl
+  stage-same took (layerNames s d) = refl
+  stage-same took (defines s b) = refl
+  stage-same took (symbol s y) = refl
+  stage-same took (hide s y ps) = refl
+  stage-same took (elements s) = refl
+  stage-same took (figures s h fs) = refl
+  stage-same took (successive s h fs n ps) = refl
+  stage-same took (texts s h fs n o) = refl
+  stage-same took (placing s k fs n (symbolBlock o) zero) = refl
+  stage-same took (placing s k fs n (symbolBlock o) (suc p)) = by-cond (λ st. stageOf st ≡ withinOther) (hides (low .symbols) (rangeOf s) textLeast) (λ _. refl) (λ _. refl)
+  stage-same took (skipping s k fs n b d) = refl
+  stage-same took (ended s) = refl
+
+  completes-same : (l : Line) (took : ℕ) (s : State) → completes l (lower took low s) ≡ completes l s
+  completes-same l took s = ap completesAt (stage-same took s) ∙ go (stageOf s)
+    where
+      completesAt : Stage → Bool
+      completesAt g = cond (inLastVolume l) (isAfterElement g && isEof (l .form)) ((isWithinElement g && isClose (l .form)) || (isAfterElement g && isIgnored (l .form)))
+
+      go : (g : Stage) → completesAt (lowerStage took g) ≡ completesAt g
+      go (between s k) = refl
+      go withinElement = refl
+      go withinOther = refl
+      go (atEnd s) = refl
 
   -- the next volume begins anew at both
-  next-same : (s : State) → nextVolume (lower low s) ≡ lower low (nextVolume s)
-  next-same (top s k) = refl
-  next-same (file s n h p) = refl
-  next-same (drawing s d) = refl
-  next-same (layerNames s d) = refl
-  next-same (defines s b) = refl
-  next-same (symbol s y) = refl
-  next-same (hide s y ps) = refl
-  next-same (elements s) = refl
-  next-same (figures s h fs) = refl
-  next-same (successive s h fs n ps) = refl
-  next-same (texts s h fs n o) = refl
-  next-same (placing s k fs n (symbolBlock o) zero) = refl
-  next-same (placing s k fs n (symbolBlock o) (suc p)) = by-cond (λ st. nextVolume st ≡ st) (hides low (rangeOf s) textLeast) (λ _. refl) (λ _. refl)
-  next-same (skipping s k fs n o d) = refl
-  next-same (ended s) = refl
-
-  pub sim-step : (l : Line) (s s′ : State) → step hi l s ≡ got s′ → step lo l (lower low s) ≡ got (lower low s′)
-  sim-step l s s′ e = go (l .last) e
+  next-same : (took : ℕ) (s : State) → nextVolume (lower took low s) ≡ lower took low (nextVolume s)
+  next-same took s = ap (λ g. begunAnew g (lower took low s)) (stage-same took s) ∙ go (stageOf s)
     where
-      last : (t : State) → completes l s ≡ true → stepIn hi l s ≡ got t → nextVolume t ≡ s′
-          → mapG nextVolume (also (completes l (lower low s)) 9 (stepIn lo l (lower low s))) ≡ got (lower low s′)
-      last t c r q = rw (sim-in l s t r, in-same s, after-same s, c) (ap got (next-same t ∙ ap (lower low) q))
+      go : (g : Stage) → begunAnew (lowerStage took g) (lower took low s) ≡ lower took low (begunAnew g s)
+      go (between s k) = refl
+      go withinElement = refl
+      go withinOther = refl
+      go (atEnd s) = refl
+
+  pub sim-step : (l : Line) (took : ℕ) (s s′ : State) → step hi l s ≡ got s′ → Goes (step lo l (lower took low s)) s′
+  sim-step l took s s′ e = go (l .last) e
+    where
+      here : State
+      here = lower took low s
+
+      last : (t : State) → completes l s ≡ true → stepIn hi l s ≡ got t → nextVolume t ≡ s′ → Goes (mapG nextVolume (also (completes l here) 9 (stepIn lo l here))) s′
+      last t c r q =
+          let (n, p) = sim-in l took s t r in
+          (n, rw (p, completes-same l took s, c) (ap got (next-same n t ∙ ap (lower n low) q)))
 
       go : (b : Bool) → cond b (mapG nextVolume (also (completes l s) 9 (stepIn hi l s))) (stepIn hi l s) ≡ got s′
-          → cond b (mapG nextVolume (also (completes l (lower low s)) 9 (stepIn lo l (lower low s)))) (stepIn lo l (lower low s)) ≡ got (lower low s′)
-      go false e = sim-in l s s′ e
+          → Goes (cond b (mapG nextVolume (also (completes l here) 9 (stepIn lo l here))) (stepIn lo l here)) s′
+      go false e = sim-in l took s s′ e
       go true e =
           let (t, p, q) = map-got nextVolume (also (completes l s) 9 (stepIn hi l s)) s′ e in
           let (c, r) = also-got (completes l s) 9 (stepIn hi l s) t p in
@@ -226,57 +231,67 @@ late e v n (l ∷ m ∷ ls) s p f k v′ n′ h = go (step e l s) (λ s′. late
         let b : l .line ≡ n′ = cc in
         rw (← a, ← b) (f .0)
 
--- ── all lines ──
-module _ (low high : Digits) (le : NotAbove low high) (m : Option ℕ) where
+-- ── all lines, with the limit ──
+module _ (low high : Class) (le : ClassNotAbove low high) (m : ℕ) where
   abbrev lo′ : Env
-  lo′ = record { class = low; limit = m }
+  lo′ = limitedTo low m
 
   abbrev hi′ : Env
-  hi′ = record { class = high; limit = m }
+  hi′ = limitedTo high m
 
-  finish-same : (s : State) (t : Set) → finish s ≡ accepted t → finish (lower low s) ≡ accepted (lowerSet low t)
-  finish-same (top s k) t e = not-accepted e
-  finish-same (file s n h p) t e = not-accepted e
-  finish-same (drawing s d) t e = not-accepted e
-  finish-same (layerNames s d) t e = not-accepted e
-  finish-same (defines s b) t e = not-accepted e
-  finish-same (symbol s y) t e = not-accepted e
-  finish-same (hide s y ps) t e = not-accepted e
-  finish-same (elements s) t e = not-accepted e
-  finish-same (figures s h fs) t e = not-accepted e
-  finish-same (successive s h fs n ps) t e = not-accepted e
-  finish-same (texts s h fs n o) t e = not-accepted e
-  finish-same (placing s k fs n o p) t e = not-accepted e
-  finish-same (skipping s k fs n o d) t e = not-accepted e
-  finish-same (ended s) t e = let z : s ≡ t = cc in ap (λ u. accepted (lowerSet low u)) z
+  -- what each of the two classes has taken is what it shows, and the higher's fit
+  pub record Beside (took : ℕ) (s : State) : Type 0 where
+    pub below : Inv (unlimited low) (lower took low s)
+    pub above : Inv hi′ s
 
-  pub sim-run : (ls : List Line) (s : State) (t : Set) → run hi′ s ls ≡ accepted t → run lo′ (lower low s) ls ≡ accepted (lowerSet low t)
-  sim-run [] s t e = finish-same s t e
-  sim-run (l ∷ ls) s t e = go (step hi′ l s) refl (λ s′. sim-run ls s′ t) e
+  pub beside-start : Beside 0 (top nothingYet 0)
+  beside-start = record { below = inv-start (unlimited low); above = inv-start hi′ }
+
+  abbrev After : Got State → State → Type 0
+  After g s′ = (took : ℕ) × (g ≡ got (lower took low s′)) × Beside took s′
+
+  -- a line that the higher goes through with the limit, the lower goes through with it: without a limit it does, and it shows no more
+  sim-limited : (l : Line) (took : ℕ) (s s′ : State) → Beside took s → step hi′ l s ≡ got s′ → After (step lo′ l (lower took low s)) s′
+  sim-limited l took s s′ w e =
+      let (n, p) = sim-step low high le l took s s′ (goes-unlimited (alike-step high m l s) e) in
+      let below = on-got (Inv (unlimited low)) (step (unlimited low) l (lower took low s)) (lower n low s′) (inv-step (unlimited low) l (lower took low s) (w .below)) p in
+      let above = on-got (Inv hi′) (step hi′ l s) s′ (inv-step hi′ l s (w .above)) e in
+      let fits : setOf (lower n low s′) .taken ≤ m = omega (arith, below .counts, fewer n low s′, above .counts, leb-true (setOf s′ .taken) m (above .room)) in
+      (n, goes-limited (alike-step low m l (lower took low s)) p fits, record { below = below; above = above })
+
+  abbrev AcceptedToo : List Line → ℕ → State → Set → Type 0
+  AcceptedToo ls took s t = (n : ℕ) × (run lo′ (lower took low s) ls ≡ accepted (lowerSet n low t))
+
+  pub sim-run : (ls : List Line) (took : ℕ) (s : State) (t : Set) → Beside took s → run hi′ s ls ≡ accepted t → AcceptedToo ls took s t
+  sim-run [] took s t w e = (took, ap (λ st. finish (lower took low st)) (finish-ended s t e))
+  sim-run (l ∷ ls) took s t w e = go (step hi′ l s) refl (λ n s′. sim-run ls n s′ t) e
     where
-      go : (g : Got State) → step hi′ l s ≡ g → ((s′ : State) → run hi′ s′ ls ≡ accepted t → run lo′ (lower low s′) ls ≡ accepted (lowerSet low t))
-          → thenRun g l (λ s′. run hi′ s′ ls) ≡ accepted t → run lo′ (lower low s) (l ∷ ls) ≡ accepted (lowerSet low t)
-      go (got s′) q ih e = rw (sim-step low high le m l s s′ q) (ih s′ e)
+      go : (g : Got State) → step hi′ l s ≡ g → ((n : ℕ) (s′ : State) → Beside n s′ → run hi′ s′ ls ≡ accepted t → AcceptedToo ls n s′ t)
+          → thenRun g l (λ s′. run hi′ s′ ls) ≡ accepted t → AcceptedToo (l ∷ ls) took s t
+      go (got s′) q ih e =
+          let (n, p, w′) = sim-limited l took s s′ w q in
+          let (k, r) = ih n s′ w′ e in
+          (k, rw p r)
       go (bad k) q ih e = not-accepted e
 
   abbrev RefusedToo : List Line → State → ℕ → ℕ → Type 0
   RefusedToo ls s v n = (k′ : ℕ) × (v′ : ℕ) × (n′ : ℕ) × (run hi′ s ls ≡ refused k′ v′ n′) × (notAfter v′ n′ v n ≡ true)
 
-  pub refused-too : (ls : List Line) (s : State) → proper ls ≡ true → Sorted ls → (k v n : ℕ) → run lo′ (lower low s) ls ≡ refused k v n → RefusedToo ls s v n
-  refused-too [] s p o k v n e = clash p refl
-  refused-too (l ∷ []) s p o k v n e = go (step hi′ l s) refl
+  pub refused-too : (ls : List Line) (took : ℕ) (s : State) → Beside took s → proper ls ≡ true → Sorted ls → (k v n : ℕ) → run lo′ (lower took low s) ls ≡ refused k v n → RefusedToo ls s v n
+  refused-too [] took s w p o k v n e = clash p refl
+  refused-too (l ∷ []) took s w p o k v n e = go (step hi′ l s) refl
     where
-      at : (g : Got State) → step lo′ l (lower low s) ≡ g → thenRun g l finish ≡ refused k v n → notAfter (l .volume) (l .line) v n ≡ true
-      at (got s′) q h = ended-run lo′ l (lower low s) s′ p q k v n h
+      at : (g : Got State) → step lo′ l (lower took low s) ≡ g → thenRun g l finish ≡ refused k v n → notAfter (l .volume) (l .line) v n ≡ true
+      at (got s′) q h = ended-run lo′ l (lower took low s) s′ p q k v n h
       at (bad j) q h =
           let a : l .volume ≡ v = cc in
           let b : l .line ≡ n = cc in
           rw (← a, ← b) (notAfter-refl (l .volume) (l .line))
 
       go : (g : Got State) → step hi′ l s ≡ g → RefusedToo (l ∷ []) s v n
-      go (got s′) q = ended-run lo′ l (lower low s) (lower low s′) p (sim-step low high le m l s s′ q) k v n (rw (sim-step low high le m l s s′ q) at e)
-      go (bad j) q = (j, l .volume, l .line, rw q, at (step lo′ l (lower low s)) refl e)
-  refused-too (l ∷ x ∷ ls) s p o k v n e = go (step hi′ l s) refl (λ s′. refused-too (x ∷ ls) s′ p (o .1) k v n)
+      go (got s′) q = let (i, r, w′) = sim-limited l took s s′ w q in ended-run lo′ l (lower took low s) (lower i low s′) p r k v n (rw r at e)
+      go (bad j) q = (j, l .volume, l .line, rw q, at (step lo′ l (lower took low s)) refl e)
+  refused-too (l ∷ x ∷ ls) took s w p o k v n e = go (step hi′ l s) refl (λ i s′ w′. refused-too (x ∷ ls) i s′ w′ p (o .1) k v n)
     where
       at : (g : Got State) → thenRun g l (λ s′. run lo′ s′ (x ∷ ls)) ≡ refused k v n → notAfter (l .volume) (l .line) v n ≡ true
       at (got s′) h = before-not-after (l .volume) (l .line) v n (late lo′ (l .volume) (l .line) (x ∷ ls) s′ p (o .0) k v n h)
@@ -285,8 +300,10 @@ module _ (low high : Digits) (le : NotAbove low high) (m : Option ℕ) where
           let b : l .line ≡ n = cc in
           rw (← a, ← b) (notAfter-refl (l .volume) (l .line))
 
-      go : (g : Got State) → step hi′ l s ≡ g → ((s′ : State) → run lo′ (lower low s′) (x ∷ ls) ≡ refused k v n → RefusedToo (x ∷ ls) s′ v n) → RefusedToo (l ∷ x ∷ ls) s v n
+      go : (g : Got State) → step hi′ l s ≡ g → ((i : ℕ) (s′ : State) → Beside i s′ → run lo′ (lower i low s′) (x ∷ ls) ≡ refused k v n → RefusedToo (x ∷ ls) s′ v n)
+          → RefusedToo (l ∷ x ∷ ls) s v n
       go (got s′) q ih =
-          let (k′, v′, n′, r, z) = ih s′ (rw (sim-step low high le m l s s′ q) at e) in
-          (k′, v′, n′, rw q r, z)
-      go (bad j) q ih = (j, l .volume, l .line, rw q, at (step lo′ l (lower low s)) e)
+          let (i, r, w′) = sim-limited l took s s′ w q in
+          let (k′, v′, n′, u, z) = ih i s′ w′ (rw r at e) in
+          (k′, v′, n′, rw q u, z)
+      go (bad j) q ih = (j, l .volume, l .line, rw q, at (step lo′ l (lower took low s)) e)

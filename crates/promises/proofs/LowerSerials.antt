@@ -8,6 +8,7 @@ use lib.Dec.{eqb}
 use lib.ListN.{getD}
 use borrow.Author.Tests.{not-true}
 use Rattle.rules.specs.declared.Digits.{Digits}
+use Rattle.rules.specs.declared.Class.{Class}
 use Rattle.rules.specs.Base.{bytes, flat, hasNumber}
 use Rattle.rules.specs.RangeClass.{hides}
 use Rattle.rules.specs.Values.{Value, serialsOf}
@@ -57,16 +58,17 @@ module _ (c d : Digits) where
   mask-at (there {r = r} w) [] = sym (cond-same (hides c d (r .least)) none)
   mask-at (there w) (o ∷ s) = mask-at w s
 
+module _ (c : Class) (d : Digits) where
   serial-sub : (f : Figure) → Sub (figureSerial (lowerFigure c d f)) (figureSerial f)
   serial-sub (plain n j v) m e = e
   serial-sub (chain n ps) m e = e
   serial-sub (lettering n s) m e = e
-  serial-sub (placed n h) m e = go (find (bytes "serial") placedTable) refl (rw (part-own c d h) at e)
+  serial-sub (placed n h) m e = go (find (bytes "serial") placedTable) refl (rw (part-own (c .symbols) d h) at e)
     where
-      go : (f : Found) → find (bytes "serial") placedTable ≡ f → hasNumber m (ownSerial (serialsOf (slotValue (heldAt f (maskSlots c d placedTable (partOf h 0)))))) ≡ true
+      go : (f : Found) → find (bytes "serial") placedTable ≡ f → hasNumber m (ownSerial (serialsOf (slotValue (heldAt f (maskSlots (c .symbols) d placedTable (partOf h 0)))))) ≡ true
           → hasNumber m (ownSerial (serialsOf (slotValue (heldAt f (partOf h 0))))) ≡ true
       go absent q e = e
-      go (found i r) q e = by (hides c d (r .least)) (rw (mask-at (found-row (bytes "serial") placedTable i r q .0) (partOf h 0)) at e)
+      go (found i r) q e = by (hides (c .symbols) d (r .least)) (rw (mask-at (c .symbols) d (found-row (bytes "serial") placedTable i r q .0) (partOf h 0)) at e)
         where
           by : (t : Bool) → hasNumber m (ownSerial (serialsOf (slotValue (cond t none (getD (partOf h 0) i none))))) ≡ true
               → hasNumber m (ownSerial (serialsOf (slotValue (getD (partOf h 0) i none)))) ≡ true
@@ -82,13 +84,13 @@ module _ (c d : Digits) where
   contents-sub : (v : Contents) → Sub (serialsOfVolume (lowerContents c d v)) (serialsOfVolume v)
   contents-sub v = rw (map-compose serialsOfBlock (lowerBlock c d) (v .blocks)) (sub-flat (λ u. serialsOfBlock (lowerBlock c d u)) serialsOfBlock block-sub (v .blocks))
 
-  set-sub : (s : Set) → Sub (serialsIn (lowerIn c d s)) (serialsIn s)
-  set-sub s =
+  set-sub : (took : ℕ) (s : Set) → Sub (serialsIn (lowerIn took c d s)) (serialsIn s)
+  set-sub took s =
       rw (map-compose serialsOfVolume (lowerContents c d) (s .volumes))
       (sub-append (flat (map (λ v. serialsOfVolume (lowerContents c d v)) (s .volumes))) (flat (map serialsOfVolume (s .volumes))) (serialsOfVolume (lowerContents c d (s .now))) (serialsOfVolume (s .now))
       (sub-flat (λ v. serialsOfVolume (lowerContents c d v)) serialsOfVolume contents-sub (s .volumes)) (contents-sub (s .now)))
 
-  pub serial-new : (s : Set) (fs : List Figure) (v : Value) → newSerial s fs v ≡ true → newSerial (lowerIn c d s) (lowerFigures c d fs) v ≡ true
-  serial-new s fs v e =
-      none-sub (ownSerial (serialsOf v)) (serialsIn (lowerIn c d s) ++ flat (map figureSerial (lowerFigures c d fs))) (serialsIn s ++ flat (map figureSerial fs))
-      (sub-append (serialsIn (lowerIn c d s)) (serialsIn s) (flat (map figureSerial (lowerFigures c d fs))) (flat (map figureSerial fs)) (set-sub s) (figures-sub fs)) e
+  pub serial-new : (took : ℕ) (s : Set) (fs : List Figure) (v : Value) → newSerial s fs v ≡ true → newSerial (lowerIn took c d s) (lowerFigures c d fs) v ≡ true
+  serial-new took s fs v e =
+      none-sub (ownSerial (serialsOf v)) (serialsIn (lowerIn took c d s) ++ flat (map figureSerial (lowerFigures c d fs))) (serialsIn s ++ flat (map figureSerial fs))
+      (sub-append (serialsIn (lowerIn took c d s)) (serialsIn s) (flat (map figureSerial (lowerFigures c d fs))) (flat (map figureSerial fs)) (set-sub took s) (figures-sub fs)) e

@@ -1,45 +1,47 @@
--- One line at two classes: what the higher accepts the lower accepts, with the same state but for what it leaves out.
+-- One line at two classes, with no limit: what the higher accepts the lower accepts, with the same state but for what it leaves out, and, where
+-- the line takes a record, but for the count.
 use Prim.Native.Nat.{ℕ, zero, suc}
 use mathlib.Core.Bool.{Bool, true, false}
 use mathlib.Core.List.{List, [], _∷_, _++_}
-use mathlib.Core.Option.{Option}
 use mathlib.Core.Path.{_≡_, refl, _∙_, ap}
 use Rattle.rules.specs.declared.Digits.{Digits}
-use Rattle.rules.specs.RefusalNumbers.{Got, mapG}
+use Rattle.rules.specs.declared.Class.{Class}
+use Rattle.rules.specs.RefusalNumbers.{Got, got, mapG}
 use Rattle.rules.specs.Lines.{Form, ignored, wrong, close, eof, keyed}
 use Rattle.rules.specs.RangeClass.{Skip, passes, deeper, noForm}
 use Rattle.rules.specs.Values.{Num}
 use Rattle.rules.specs.Rows.{Slots, Held}
 use Rattle.rules.specs.Sets.{Point, Figure, plain, chain, lettering, Drawing, Symbol, Contents, Set, withNow, withVolume, withBlock, rangeOf}
 use Rattle.rules.specs.VolumesAndTotals.{dated}
-use Rattle.rules.specs.Machine.{Line, Env, Home, inElement, inLayer, State, file, drawing, figures, openTop, atEof, onTop, closeFile, shutPart, onFile, onDrawing, onLayerNames, onDefines, openSymbol, onSymbol, onHide, onElements, homeTable, closeFigures, openFigure, onFigures, onSuccessive, onTexts}
+use Rattle.rules.specs.Machine.{unlimited, Line, Env, Home, inElement, inLayer, State, file, drawing, elements, figures, openTop, atEof, onTop, closeFile, shutPart, onFile, onDrawing, onLayerNames, onDefines, openSymbol, onSymbol, onHide, onElements, homeTable, closeFigures, openFigure, onFigures, onSuccessive, onTexts}
 use Rattle.rules.specs.PlacedSymbol.{bySkip, skipShut, onSkipping}
 use Rattle.rules.specs.Machine.{Owned, symbolBlock}
 use Rattle.rules.proofs.Chains.{map-append, nil-map, through}
 use Rattle.rules.proofs.Runs.{map-act, head-file, head-snoc}
-use Rattle.promises.proofs.Lower.{lowerHeld, lowerFigure, lowerFigures, lowerIn, lowerSet, lowerSoFar, lower, lower-blank, file-same, elements-same, totals-same, used-same, all-used-same, lowerOwned}
+use Rattle.promises.proofs.BackSlots.{retaken}
+use Rattle.promises.proofs.Lower.{lowerFigure, lowerFigures, lowerIn, lowerSet, lowerSoFar, lower, uncounted, lower-blank, file-same, elements-same, totals-same, used-same, all-used-same, lowerOwned}
 
 -- ── the set, where one thing of it changes ──
-module _ (c : Digits) where
-  pub dated-same : (d : Digits) (s : Set) (b : Bool) (h : Held) → dated (lowerIn c d s) b h ≡ dated s b h
+module _ (took : ℕ) (c : Class) where
+  pub dated-same : (d : Digits) (s : Set) (b : Bool) (h : Held) → dated (lowerIn took c d s) b h ≡ dated s b h
   dated-same d s true h = refl
   dated-same d s false h = simp (file-same c d (s .now) (s .volumes))
 
   -- a new volume at hand, with no layer yet
-  pub now-same : (s : Set) (n : ℕ) (h : Held) → withNow (record { line = n; file = h; blocks = [] }) (lowerSet c s) ≡ lowerSet c (withNow (record { line = n; file = h; blocks = [] }) s)
+  pub now-same : (s : Set) (n : ℕ) (h : Held) → withNow (record { line = n; file = h; blocks = [] }) (lowerSet took c s) ≡ lowerSet took c (withNow (record { line = n; file = h; blocks = [] }) s)
   now-same s n h = go (s .volumes)
     where
-      go : (vs : List Contents) → withNow (record { line = n; file = h; blocks = [] }) (lowerSet c (record { drawing = s .drawing; symbols = s .symbols; volumes = vs; now = s .now; taken = s .taken }))
-          ≡ lowerSet c (withNow (record { line = n; file = h; blocks = [] }) (record { drawing = s .drawing; symbols = s .symbols; volumes = vs; now = s .now; taken = s .taken }))
+      go : (vs : List Contents) → withNow (record { line = n; file = h; blocks = [] }) (lowerSet took c (record { drawing = s .drawing; symbols = s .symbols; volumes = vs; now = s .now; taken = s .taken }))
+          ≡ lowerSet took c (withNow (record { line = n; file = h; blocks = [] }) (record { drawing = s .drawing; symbols = s .symbols; volumes = vs; now = s .now; taken = s .taken }))
       go [] = refl
       go (u ∷ us) = refl
 
   -- the first volume's file, where the volume at hand is closed, or has one layer more
-  pub volume-same : (s : Set) → withVolume (lowerSet c s) ≡ lowerSet c (withVolume s)
+  pub volume-same : (s : Set) → withVolume (lowerSet took c s) ≡ lowerSet took c (withVolume s)
   volume-same s = simp (head-snoc (s .now) (s .now) (s .volumes), map-append)
 
   pub block-same : (s : Set) (k : ℕ) (fs : List Figure)
-      → withBlock (record { layer = k; figures = lowerFigures c (rangeOf s) fs }) (lowerSet c s) ≡ lowerSet c (withBlock (record { layer = k; figures = fs }) s)
+      → withBlock (record { layer = k; figures = lowerFigures c (rangeOf s) fs }) (lowerSet took c s) ≡ lowerSet took c (withBlock (record { layer = k; figures = fs }) s)
   block-same s k fs =
       simp (head-file (record { line = s .now .line; file = s .now .file; blocks = s .now .blocks ++ record { layer = k; figures = fs } ∷ [] }) (s .now) (s .volumes) refl, map-append)
 
@@ -48,96 +50,96 @@ module _ (c : Digits) where
   soFar-one d (inLayer k) fs f e = map-append (lowerFigure c d) fs (f ∷ []) ∙ ap (λ g. lowerFigures c d fs ++ g ∷ []) e
 
 -- ── steps that do not look at the class ──
-module _ (low high : Digits) (m : Option ℕ) where
+module _ (low high : Class) (took : ℕ) where
   abbrev lo : Env
-  lo = record { class = low; limit = m }
+  lo = unlimited low
 
   abbrev hi : Env
-  hi = record { class = high; limit = m }
+  hi = unlimited high
 
-  pub sim-eof : (l : Line) (s : Set) (k : ℕ) → atEof l (lowerSet low s) k ≡ mapG (lower low) (atEof l s k)
+  pub sim-eof : (l : Line) (s : Set) (k : ℕ) → mapG uncounted (atEof l (lowerSet took low s) k) ≡ mapG (lower 0 low) (atEof l s k)
   sim-eof l s k = simp (through, file-same, totals-same, all-used-same)
 
-  pub sim-openTop : (l : Line) (s : Set) (j : ℕ) → openTop lo l (lowerSet low s) j ≡ mapG (lower low) (openTop hi l s j)
+  pub sim-openTop : (l : Line) (s : Set) (j : ℕ) → mapG uncounted (openTop lo l (lowerSet took low s) j) ≡ mapG (lower 0 low) (openTop hi l s j)
   sim-openTop l s zero = simp (through, nil-map)
   sim-openTop l s (suc zero) = simp through
   sim-openTop l s (suc (suc zero)) = refl
   sim-openTop l s (suc (suc (suc j))) = refl
 
-  pub sim-top : (l : Line) (s : Set) (k : ℕ) (f : Form) → onTop lo l (lowerSet low s) k f ≡ mapG (lower low) (onTop hi l s k f)
+  pub sim-top : (l : Line) (s : Set) (k : ℕ) (f : Form) → mapG uncounted (onTop lo l (lowerSet took low s) k f) ≡ mapG (lower 0 low) (onTop hi l s k f)
   sim-top l s k ignored = refl
   sim-top l s k (wrong n) = refl
   sim-top l s k close = refl
   sim-top l s k eof = sim-eof l s k
   sim-top l s k (keyed key x) = simp (through, map-act, sim-openTop)
 
-  pub sim-file : (l : Line) (s : Set) (n : ℕ) (h : Held) (p : ℕ) (f : Form) → onFile l (lowerSet low s) n h p f ≡ mapG (lower low) (onFile l s n h p f)
+  pub sim-file : (l : Line) (s : Set) (n : ℕ) (h : Held) (p : ℕ) (f : Form) → onFile l (lowerSet took low s) n h p f ≡ mapG (lower took low) (onFile l s n h p f)
   sim-file l s n h p f = simp (map-act, sim-shut p) (simp nil-map)
     where
-      sim-close : closeFile l (lowerSet low s) n h ≡ mapG (lower low) (closeFile l s n h)
+      sim-close : closeFile l (lowerSet took low s) n h ≡ mapG (lower took low) (closeFile l s n h)
       sim-close = simp (through, nil-map, dated-same, now-same)
 
-      sim-shut : (p : ℕ) → shutPart p (closeFile l (lowerSet low s) n h) (λ q. file (lowerSet low s) n h q) ≡ mapG (lower low) (shutPart p (closeFile l s n h) (λ q. file s n h q))
+      sim-shut : (p : ℕ) → shutPart p (closeFile l (lowerSet took low s) n h) (λ q. file (lowerSet took low s) n h q) ≡ mapG (lower took low) (shutPart p (closeFile l s n h) (λ q. file s n h q))
       sim-shut zero = sim-close
       sim-shut (suc p) = refl
 
-  pub sim-drawing : (s : Set) (d : Drawing) (f : Form) → onDrawing (lowerSet low s) d f ≡ mapG (lower low) (onDrawing s d f)
-  sim-drawing s d f = simp (through, map-act, file-same)
+  pub sim-drawing : (s : Set) (d : Drawing) (f : Form) → onDrawing (lowerSet took low s) d f ≡ mapG (lower took low) (onDrawing s d f)
+  sim-drawing s d f = simp (map-act, file-same)
 
-  pub sim-layerNames : (l : Line) (s : Set) (d : Drawing) (f : Form) → onLayerNames lo l (lowerSet low s) d f ≡ mapG (lower low) (onLayerNames hi l s d f)
+  pub sim-layerNames : (l : Line) (s : Set) (d : Drawing) (f : Form) → mapG uncounted (onLayerNames lo l (lowerSet took low s) d f) ≡ mapG (lower 0 low) (onLayerNames hi l s d f)
   sim-layerNames l s d ignored = refl
   sim-layerNames l s d (wrong n) = refl
   sim-layerNames l s d close = refl
   sim-layerNames l s d eof = refl
   sim-layerNames l s d (keyed k x) = simp through
 
-  pub sim-defines : (l : Line) (s : Set) (b : Bool) (f : Form) → onDefines lo l (lowerSet low s) b f ≡ mapG (lower low) (onDefines hi l s b f)
+  pub sim-defines : (l : Line) (s : Set) (b : Bool) (f : Form) → mapG uncounted (onDefines lo l (lowerSet took low s) b f) ≡ mapG (lower 0 low) (onDefines hi l s b f)
   sim-defines l s b f = simp (through, map-act, file-same)
 
-  pub sim-openSymbol : (s : Set) (y : Symbol) (i : ℕ) → openSymbol (lowerSet low s) y i ≡ mapG (lower low) (openSymbol s y i)
+  pub sim-openSymbol : (s : Set) (y : Symbol) (i : ℕ) → openSymbol (lowerSet took low s) y i ≡ mapG (lower took low) (openSymbol s y i)
   sim-openSymbol s y zero = refl
   sim-openSymbol s y (suc zero) = refl
   sim-openSymbol s y (suc (suc i)) = refl
 
-  pub sim-symbol : (s : Set) (y : Symbol) (f : Form) → onSymbol (lowerSet low s) y f ≡ mapG (lower low) (onSymbol s y f)
+  pub sim-symbol : (s : Set) (y : Symbol) (f : Form) → onSymbol (lowerSet took low s) y f ≡ mapG (lower took low) (onSymbol s y f)
   sim-symbol s y f = simp (through, map-act, file-same, sim-openSymbol)
 
-  pub sim-hide : (l : Line) (s : Set) (y : Symbol) (ps : List Point) (f : Form) → onHide lo l (lowerSet low s) y ps f ≡ mapG (lower low) (onHide hi l s y ps f)
+  pub sim-hide : (l : Line) (s : Set) (y : Symbol) (ps : List Point) (f : Form) → mapG uncounted (onHide lo l (lowerSet took low s) y ps f) ≡ mapG (lower 0 low) (onHide hi l s y ps f)
   sim-hide l s y ps f = simp (through, map-act)
 
-  pub sim-elements : (s : Set) (f : Form) → onElements (lowerSet low s) f ≡ mapG (lower low) (onElements s f)
+  pub sim-elements : (s : Set) (f : Form) → onElements (lowerSet took low s) f ≡ mapG (lower took low) (onElements s f)
   sim-elements s f = simp (through, map-act, nil-map, elements-same, used-same, volume-same)
 
-  pub sim-closeFigures : (s : Set) (h : Home) (fs : List Figure) → closeFigures (lowerSet low s) h (lowerSoFar low (rangeOf s) h fs) ≡ mapG (lower low) (closeFigures s h fs)
+  pub sim-closeFigures : (s : Set) (h : Home) (fs : List Figure) → mapG uncounted (closeFigures (lowerSet took low s) h (lowerSoFar low (rangeOf s) h fs)) ≡ mapG (lower 0 low) (closeFigures s h fs)
   sim-closeFigures s (inElement y) fs = simp through
-  sim-closeFigures s (inLayer k) fs = simp (through, block-same)
+  sim-closeFigures s (inLayer k) fs = ap (λ z. got (elements (retaken 0 z))) (block-same took low s k fs)
 
   pub sim-openFigure : (l : Line) (s : Set) (h : Home) (fs : List Figure) (i : ℕ)
-      → openFigure lo l (lowerSet low s) h (lowerSoFar low (rangeOf s) h fs) i ≡ mapG (lower low) (openFigure hi l s h fs i)
+      → mapG uncounted (openFigure lo l (lowerSet took low s) h (lowerSoFar low (rangeOf s) h fs) i) ≡ mapG (lower 0 low) (openFigure hi l s h fs i)
   sim-openFigure l s h fs zero = refl
   sim-openFigure l s h fs (suc zero) = simp through
   sim-openFigure l s h fs (suc (suc zero)) = simp through
   sim-openFigure l s (inElement y) fs (suc (suc (suc i))) = refl
   sim-openFigure l s (inLayer k) fs (suc (suc (suc i))) = simp (through, lower-blank)
 
-  table-same : (s : Set) (h : Home) → homeTable (lowerSet low s) h ≡ homeTable s h
+  table-same : (s : Set) (h : Home) → homeTable (lowerSet took low s) h ≡ homeTable s h
   table-same s (inElement y) = refl
   table-same s (inLayer k) = simp file-same
 
   pub sim-figures : (l : Line) (s : Set) (h : Home) (fs : List Figure) (f : Form)
-      → onFigures lo l (lowerSet low s) h (lowerSoFar low (rangeOf s) h fs) f ≡ mapG (lower low) (onFigures hi l s h fs f)
+      → mapG uncounted (onFigures lo l (lowerSet took low s) h (lowerSoFar low (rangeOf s) h fs) f) ≡ mapG (lower 0 low) (onFigures hi l s h fs f)
   sim-figures l s h fs f = simp (through, map-act, table-same, file-same, sim-openFigure, sim-closeFigures, soFar-plain)
     where
       soFar-plain : (d : Digits) (n j : ℕ) (v : List Num) → lowerSoFar low d h (fs ++ plain n j v ∷ []) ≡ lowerSoFar low d h fs ++ plain n j v ∷ []
-      soFar-plain d n j v = soFar-one low d h fs (plain n j v) refl
+      soFar-plain d n j v = soFar-one took low d h fs (plain n j v) refl
 
   pub sim-successive : (l : Line) (s : Set) (h : Home) (fs : List Figure) (n : ℕ) (ps : List Point) (f : Form)
-      → onSuccessive lo l (lowerSet low s) h (lowerSoFar low (rangeOf s) h fs) n ps f ≡ mapG (lower low) (onSuccessive hi l s h fs n ps f)
-  sim-successive l s h fs n ps f = simp (through, map-act, soFar-one low (rangeOf s) h fs (chain n ps) refl)
+      → mapG uncounted (onSuccessive lo l (lowerSet took low s) h (lowerSoFar low (rangeOf s) h fs) n ps f) ≡ mapG (lower 0 low) (onSuccessive hi l s h fs n ps f)
+  sim-successive l s h fs n ps f = simp (through, map-act, soFar-one took low (rangeOf s) h fs (chain n ps) refl)
 
   pub sim-texts : (s : Set) (h : Home) (fs : List Figure) (n : ℕ) (o : Slots) (f : Form)
-      → onTexts (lowerSet low s) h (lowerSoFar low (rangeOf s) h fs) n o f ≡ mapG (lower low) (onTexts s h fs n o f)
-  sim-texts s h fs n o f = simp (through, map-act, soFar-one low (rangeOf s) h fs (lettering n o) refl)
+      → onTexts (lowerSet took low s) h (lowerSoFar low (rangeOf s) h fs) n o f ≡ mapG (lower took low) (onTexts s h fs n o f)
+  sim-texts s h fs n o f = simp (map-act, soFar-one took low (rangeOf s) h fs (lettering n o) refl)
 
   map-skip : (g : State → State) (z : Skip) (a b : Got State) → mapG g (bySkip z a b) ≡ bySkip z (mapG g a) (mapG g b)
   map-skip g passes a b = refl
@@ -145,13 +147,13 @@ module _ (low high : Digits) (m : Option ℕ) where
   map-skip g noForm a b = refl
 
   pub sim-skipShut : (s : Set) (k : ℕ) (fs : List Figure) (n : ℕ) (b : Owned) (d : ℕ)
-      → skipShut (lowerSet low s) k (lowerFigures low (rangeOf s) fs) n (lowerOwned low (rangeOf s) b) d ≡ mapG (lower low) (skipShut s k fs n b d)
+      → skipShut (lowerSet took low s) k (lowerFigures low (rangeOf s) fs) n (lowerOwned low (rangeOf s) b) d ≡ mapG (lower took low) (skipShut s k fs n b d)
   sim-skipShut s k fs n b zero = refl
   sim-skipShut s k fs n (symbolBlock o) (suc zero) = refl
   sim-skipShut s k fs n b (suc (suc d)) = refl
 
   pub sim-skipping : (s : Set) (k : ℕ) (fs : List Figure) (n : ℕ) (b : Owned) (d : ℕ) (f : Form)
-      → onSkipping (lowerSet low s) k (lowerFigures low (rangeOf s) fs) n (lowerOwned low (rangeOf s) b) d f ≡ mapG (lower low) (onSkipping s k fs n b d f)
+      → onSkipping (lowerSet took low s) k (lowerFigures low (rangeOf s) fs) n (lowerOwned low (rangeOf s) b) d f ≡ mapG (lower took low) (onSkipping s k fs n b d f)
   sim-skipping s k fs n b d ignored = refl
   sim-skipping s k fs n b d (wrong m) = refl
   sim-skipping s k fs n b d close = sim-skipShut s k fs n b d

@@ -16,30 +16,30 @@ use Rattle.promises.proofs.Answered.{demand-one}
 use Rattle.promises.proofs.Exactly.{exactly-when}
 
 -- a spool that keeps the rules with n records is accepted where they fit
-pub kept-accepts : (class len : ℕ) (spool : List ℕ) (n : ℕ) → Keeps class spool n → n * width ≤ len → readAnswer class len spool ≡ Accepted n
-kept-accepts class len spool n k h =
-    let fits : length (recordsAt class (k .set)) * width ≤ len = subst (λ (i : ℕ). i * width ≤ len) (sym (k .count)) h in
-    exactly-when .reader class spool .whenKept (k .set) (k .rules) len .accepts fits ∙ ap Accepted (k .count)
+pub kept-accepts : (class wire len : ℕ) (spool : List ℕ) (n : ℕ) → Keeps class wire spool n → n * width ≤ len → readAnswer class wire len spool ≡ Accepted n
+kept-accepts class wire len spool n k h =
+    let fits : length (recordsAt class wire (k .set)) * width ≤ len = subst (λ (i : ℕ). i * width ≤ len) (sym (k .count)) h in
+    exactly-when .reader class wire spool .whenKept (k .set) (k .rules) len .accepts fits ∙ ap Accepted (k .count)
 
 call-accepts : (c : Call) (n : ℕ) → c .answer ≡ Accepted n → CallAccepts c n
 call-accepts c n e =
     let len = length (c .before) in
     let is = sym (c .answers) ∙ e in
-    let (k, fit) = exactly-when .reader (c .class) (c .spool) .onlyKept len n is in
-    let fits : length (recordsAt (c .class) (k .set)) * width ≤ len = subst (λ (i : ℕ). i * width ≤ len) (sym (k .count)) fit in
-    let same = exactly-when .reader (c .class) (c .spool) .whenKept (k .set) (k .rules) len .records fits in
-    let w = demand-one .reader (c .class) len (c .spool) .whenAccepted n is in
+    let (k, fit) = exactly-when .reader (c .class) (c .wire) (c .spool) .onlyKept len n is in
+    let fits : length (recordsAt (c .class) (c .wire) (k .set)) * width ≤ len = subst (λ (i : ℕ). i * width ≤ len) (sym (k .count)) fit in
+    let same = exactly-when .reader (c .class) (c .wire) (c .spool) .whenKept (k .set) (k .rules) len .records fits in
+    let w = demand-one .reader (c .class) (c .wire) len (c .spool) .whenAccepted n is in
     record {
       set = k .set;
       rules = k .rules;
-      table = subst (λ (t : List ℤ). Filled len n (recordsAt (c .class) (k .set)) t) (sym (c .fills)) (subst (λ (rs : List (List ℤ)). Filled len n rs (readTable (c .class) len (c .spool))) same w);
+      table = subst (λ (t : List ℤ). Filled len n (recordsAt (c .class) (c .wire) (k .set)) t) (sym (c .fills)) (subst (λ (rs : List (List ℤ)). Filled len n rs (readTable (c .class) (c .wire) len (c .spool))) same w);
     }
 
 pub read-calls : ReadCalls
 read-calls c =
     let len = length (c .before) in
-    let w = demand-one .reader (c .class) len (c .spool) in
-    let x = exactly-when .reader (c .class) (c .spool) in
+    let w = demand-one .reader (c .class) (c .wire) len (c .spool) in
+    let x = exactly-when .reader (c .class) (c .wire) (c .spool) in
     record {
       answer = subst (λ (a : Answer). Answered 19 a) (sym (c .answers)) (w .answer);
       size = ap length (c .fills) ∙ w .size;

@@ -42,7 +42,7 @@ tells last h (Refused r) (refusedWith _ w) =
 pub taken-apart : TakenApart
 unfolding checkAnswer
 taken-apart = record {
-  reader = λ class len spool. tells 19 (omega arith) (readAnswer class len spool) (demand-one .reader class len spool .answer);
+  reader = λ class wire len spool. tells 19 (omega arith) (readAnswer class wire len spool) (demand-one .reader class wire len spool .answer);
   rewriter = λ len spool. tells 20 (omega arith) (rewriteAnswer len spool) (demand-one .rewriter len spool .answer);
-  check = λ class spool. tells 19 (omega arith) (readAnswer class (ownRecords * width) spool) (demand-one .reader class (ownRecords * width) spool .answer);
+  check = λ class wire spool. tells 19 (omega arith) (readAnswer class wire (ownRecords * width) spool) (demand-one .reader class wire (ownRecords * width) spool .answer);
 }

@@ -171,8 +171,8 @@ onUnknown-bare : (e : Env) (s : Set) (h : ℕ) (fs : List Figure) (n : ℕ) (o :
     → mapG bareState (onUnknown e s h fs n o k c) ≡ onUnknown e (bareSet s) h (map bareFigure fs) 0 (bareHeld o) k (bareRest c)
 onUnknown-bare e s h fs n o k c =
     rw (sym-bare s, skipped-bare k c, unknown-bare c)
-    (map-cond bareState (exceeds (rangeOf s) (e .class)) _ _
-    ∙ ap₂ (cond (exceeds (rangeOf s) (e .class))) (simp (bySkip-bare, through))
+    (map-cond bareState (exceeds (rangeOf s) (e .class .symbols)) _ _
+    ∙ ap₂ (cond (exceeds (rangeOf s) (e .class .symbols))) (simp (bySkip-bare, through))
     (by-act (placing s h fs n (symbolBlock o) 0) _ _ _ _ _ _ (actUnknown c) (λ j v. refl) (λ i j v. refl) refl))
 
 onPlaced-bare : (s : Set) (h : ℕ) (fs : List Figure) (n : ℕ) (o : Held) (p : ℕ) (a : Act)
@@ -187,8 +187,8 @@ onPlacedKey-bare : (e : Env) (s : Set) (h : ℕ) (fs : List Figure) (n : ℕ) (o
     → mapG bareState (onPlacedKey e s h fs n o k c f) ≡ onPlacedKey e (bareSet s) h (map bareFigure fs) 0 (bareHeld o) k (bareRest c) f
 onPlacedKey-bare e s h fs n o k c absent = onUnknown-bare e s h fs n o k c
 onPlacedKey-bare e s h fs n o k c (found j r) =
-    map-cond bareState (reaches (e .class) (r .least)) _ _
-    ∙ ap₂ (cond (reaches (e .class) (r .least)))
+    map-cond bareState (reaches (e .class .symbols) (r .least)) _ _
+    ∙ ap₂ (cond (reaches (e .class .symbols) (r .least)))
     (rw (known-bare s, sym-bare s, part-marks o 0, row-bare (knownOf s) (rangeOf s) (getD (rowsThere (partOf o 0)) j false) j r c)
     (onPlaced-bare s h fs n o 0 (actRow (knownOf s) (rangeOf s) (getD (rowsThere (partOf o 0)) j false) j r c)))
     (onUnknown-bare e s h fs n o k c)
@@ -198,10 +198,10 @@ onPlacedOwn-bare : (e : Env) (s : Set) (h : ℕ) (fs : List Figure) (n : ℕ) (o
 onPlacedOwn-bare e s h fs n o ignored = refl
 onPlacedOwn-bare e s h fs n o (wrong m) = refl
 onPlacedOwn-bare e s h fs n o close =
-    let a : Form → Act = act (knownOf s) placedTable (both (e .class) (rangeOf s)) (rowsThere (partOf o 0)) in
+    let a : Form → Act = act (knownOf s) placedTable (both (e .class .symbols) (rangeOf s)) (rowsThere (partOf o 0)) in
     rw (sym-bare s, part-marks o 0)
     (onPlaced-bare s h fs n o 0 (a close)
-    ∙ ap (onPlaced (bareSet s) h (map bareFigure fs) 0 (bareHeld o) 0) (sym (act-bare (knownOf s) placedTable (both (e .class) (rangeOf s)) (rowsThere (partOf o 0)) close)))
+    ∙ ap (onPlaced (bareSet s) h (map bareFigure fs) 0 (bareHeld o) 0) (sym (act-bare (knownOf s) placedTable (both (e .class .symbols) (rangeOf s)) (rowsThere (partOf o 0)) close)))
 onPlacedOwn-bare e s h fs n o eof = refl
 onPlacedOwn-bare e s h fs n o (keyed k c) = onPlacedKey-bare e s h fs n o k c (find k placedTable)
 

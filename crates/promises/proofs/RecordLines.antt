@@ -11,6 +11,7 @@ use lib.ListN.{length, getD, set, take, drop}
 use lib.Seq.{sets, getD-set-other, getD-take, getD-drop}
 use borrow.Author.Tests.{ltb-true, leb-true, eqb-false, not-true}
 use Rattle.rules.specs.declared.Digits.{Digits}
+use Rattle.rules.specs.declared.Class.{Class}
 use Rattle.rules.specs.Base.{all, flat}
 use Rattle.rules.specs.RangeClass.{digits, hides}
 use Rattle.rules.specs.Values.{Value, nums}
@@ -222,11 +223,11 @@ placed-at c d kind owner k n h =
 figure-at : (w : View) → clear (w .table) ≡ true → (more owner k : ℕ) (f : Figure) → map placeOf (figureRecords w more owner k f) ≡ figurePlaces k f
 figure-at w e more owner k (plain n j v) =
     by-cond (λ (r : List ℤ). placeOf r ∷ [] ≡ place k n ∷ []) (eqb j 6)
-    (λ _. ap (λ p. p ∷ []) (placed-at (w .class) (w .symbols) (16 + more) owner k n ((some (nums v) ∷ []) ∷ [])))
+    (λ _. ap (λ p. p ∷ []) (placed-at (w .class .symbols) (w .symbols) (16 + more) owner k n ((some (nums v) ∷ []) ∷ [])))
     (λ _. ap (λ p. p ∷ []) (slot-place (10 + more + j) owner k n (w .table) e j (some (nums v))))
 figure-at w e more owner k (chain n ps) = ap (λ qs. place k n ∷ qs) (points-at (17 + more) owner k ps)
 figure-at w e more owner k (lettering n s) = ap (λ p. p ∷ []) (slots-place (15 + more) owner k n (textTable true 4 12) clear-text s)
-figure-at w e more owner k (placed n h) = ap (λ p. p ∷ []) (placed-at (w .class) (w .symbols) (16 + more) owner k n h)
+figure-at w e more owner k (placed n h) = ap (λ p. p ∷ []) (placed-at (w .class .symbols) (w .symbols) (16 + more) owner k n h)
 
 flat-at : {A : Type 0} (f : A → List (List ℤ)) (g : A → List Place) → ((a : A) → map placeOf (f a) ≡ g a) → (s : List A) → map placeOf (flat (map f s)) ≡ flat (map g s)
 flat-at f g h [] = refl
@@ -282,7 +283,7 @@ later-at w e k (v ∷ vs) =
     map-append placeOf (fileRecords false k v ++ bodyRecords w k v) (laterRecords w (suc k) vs)
     ∙ ap₂ _++_ (map-append placeOf (fileRecords false k v) (bodyRecords w k v) ∙ ap₂ _++_ (volume-at k v) (body-at w e k v)) (later-at w e (suc k) vs)
 
-pub records-at : (c : Digits) (s : Set) → map placeOf (recordsOf c s) ≡ setPlaces (s .drawing) (s .symbols) (s .volumes)
+pub records-at : (c : Class) (s : Set) → map placeOf (recordsOf c s) ≡ setPlaces (s .drawing) (s .symbols) (s .volumes)
 unfolding recordsOf
 records-at c s = go (s .volumes)
   where

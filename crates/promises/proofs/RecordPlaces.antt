@@ -9,6 +9,7 @@ use lib.IntN.{ℤ, pos, negsuc}
 use lib.ListN.{length, getD, set, take, drop, length-map}
 use lib.Seq.{sets}
 use Rattle.rules.specs.declared.Digits.{Digits}
+use Rattle.rules.specs.declared.Class.{Class}
 use Rattle.rules.specs.Base.{mapO, all, flat, hasNumber}
 use Rattle.rules.specs.RangeClass.{digits, hides}
 use Rattle.rules.specs.Values.{Num, Value, empty, nums, chars, linked, Kind, values, text, word, volumeName, sheet, ratio, serials, nothing, opens, headed, either}
@@ -259,7 +260,7 @@ placed-apart : (w : View) (owner volume line : ℕ) (h : Held) → FitHeld anyTe
     → placesApart (placedRecord w 0 owner volume line h) ≡ placesApart (placedRecord w 0 owner volume 0 (bareHeld h))
 unfolding textTable placedTable
 placed-apart w owner volume line h f =
-    marked-same (isPlace 16) (w .class) (w .symbols) placedTable (putHeld placedTables h (start 16 owner volume line)) (putHeld placedTables (bareHeld h) (start 16 owner volume 0))
+    marked-same (isPlace 16) (w .class .symbols) (w .symbols) placedTable (putHeld placedTables h (start 16 owner volume line)) (putHeld placedTables (bareHeld h) (start 16 owner volume 0))
     (parts-apart (isPlace 16) placedTables 0 h (start 16 owner volume line) (start 16 owner volume 0) refl (f 0, (f 1, tt)) refl)
 
 -- a placed symbol that is one line
@@ -267,7 +268,7 @@ placed-line : (w : View) (more owner volume line : ℕ) (h : Held)
     → placesApart (placedRecord w more owner volume line h) ≡ placesApart (placedRecord w more owner volume 0 h)
 unfolding textTable placedTable
 placed-line w more owner volume line h =
-    marked-same (isPlace (16 + more)) (w .class) (w .symbols) placedTable (putHeld placedTables h (start (16 + more) owner volume line)) (putHeld placedTables h (start (16 + more) owner volume 0))
+    marked-same (isPlace (16 + more)) (w .class .symbols) (w .symbols) placedTable (putHeld placedTables h (start (16 + more) owner volume line)) (putHeld placedTables h (start (16 + more) owner volume 0))
     (parts-same (isPlace (16 + more)) placedTables 0 h (start (16 + more) owner volume line) (start (16 + more) owner volume 0) refl)
 
 plain-apart : (w : View) (more owner volume line j : ℕ) (v : List Num)
@@ -331,7 +332,7 @@ module _ (w : View) where
       (body-apart 1 v (fv .0 .1)))
       (volumes-apart 2 vs (fv .1))
 
-pub records-bare : (c : Digits) (s : Set) → FitSet anyText s → map placesApart (recordsOf c s) ≡ map placesApart (recordsOf c (bareSet s))
+pub records-bare : (c : Class) (s : Set) → FitSet anyText s → map placesApart (recordsOf c s) ≡ map placesApart (recordsOf c (bareSet s))
 unfolding recordsOf
 records-bare c s f = go (s .volumes) (f .2)
   where

@@ -8,7 +8,7 @@ use native.Mathlib.Omega.{arith}
 use lib.Dec.{eqb}
 use lib.ListN.{length}
 use borrow.Author.Tests.{ne-eqb}
-use Rattle.rules.specs.declared.Digits.{Digits}
+use Rattle.rules.specs.declared.Class.{Class}
 use Rattle.rules.specs.Base.{choose, bytes, isNil, same}
 use Rattle.rules.specs.RefusalNumbers.{Got, got, bad}
 use Rattle.rules.specs.Lines.{Rest, Form, ignored, Scan, neither, atEqual, atBrace, withKey, formFrom, formOfRest, formOf, unindent, allowed, scan, brace, Shape, opener, noContent, content, opening, formless}
@@ -130,7 +130,7 @@ module _ (e : Env) (l : Line) where
   fine-own : (s : Set) (k : ℕ) (fs : List Figure) (n : ℕ) (o : Held) {f : Form} → FineForm f → Fine (onPlacedOwn e s k fs n o f)
   fine-own s k fs n o passed = answers
   fine-own s k fs n o (broken m h) = refuses m h
-  fine-own s k fs n o closing = fine-placed s k fs n o 0 (fine-act (knownOf s) placedTable (both (e .class) (rangeOf s)) (rowsThere (partOf o 0)) closing)
+  fine-own s k fs n o closing = fine-placed s k fs n o 0 (fine-act (knownOf s) placedTable (both (e .class .symbols) (rangeOf s)) (rowsThere (partOf o 0)) closing)
   fine-own s k fs n o ending = refuses 9 tt
   fine-own s k fs n o (keying {k = key} {c = c}) = fine-key s k fs n o key c (find key placedTable)
 
@@ -305,6 +305,6 @@ pub told-spool : (e : Env) (spool : List ℕ) → OutcomeTold (outcomeOf e spool
 unfolding outcomeOf
 told-spool e spool = told-volumes e spool
 
-pub told-at : (c : Option Digits) (m : Option ℕ) (spool : List ℕ) → OutcomeTold (outcomeAt c m spool)
+pub told-at : (c : Option Class) (m : Option ℕ) (spool : List ℕ) → OutcomeTold (outcomeAt c m spool)
 told-at none m spool = told-whole 1 (omega arith) (omega arith) refl
 told-at (some c) m spool = told-spool (record { class = c; limit = m }) spool

@@ -4,16 +4,15 @@ use mathlib.Core.List.{List, _++_, map}
 use mathlib.Core.Path.{_≡_, refl, sym, _∙_, ap, ap₂, subst}
 use native.Mathlib.Nat.{le-refl}
 use native.Mathlib.Omega.{arith}
-use lib.IntN.{ℤ}
 use lib.ListN.{length, take}
 use lib.Seq.{take-at}
 use Rattle.rules.specs.declared.Answer.the-variants.{Accepted}
-use Rattle.rules.specs.Base.{mapO, flat}
+use Rattle.rules.specs.Base.{mapO}
 use Rattle.rules.specs.Spool.{namesOf, volumesOf}
 use Rattle.rules.specs.Sets.{Set}
 use Rattle.rules.specs.LineByLine.{Outcome, refused, accepted}
 use Rattle.rules.specs.RecordTable.{width, recordsOf}
-use Rattle.rules.specs.Answers.{answerWith, readOutcome, readRecords, readAnswer, readTable, fullClass, rewriteOutcome, written, fitOutput, rewriteAnswer, rewriteOutput}
+use Rattle.rules.specs.Answers.{answerWith, readOutcome, readRecords, readAnswer, fullClass, rewriteOutcome, written, fitOutput, rewriteAnswer, rewriteOutput, fullNumber, fullWire}
 use Rattle.promises.specs.DemandTwo.{RoundTrip}
 use Rattle.promises.specs.PlacesApart.{placesApart, bareOutcome}
 use Rattle.promises.specs.TableTexts.{firstRecords, textsOf, ShowTexts}
@@ -42,20 +41,24 @@ first-bytes len spool n e =
     let w = demand-one .rewriter len spool .whenAccepted n e in
     ap (take n) (w .stands) ∙ take-at (written spool) _ n (w .count)
 
-call-table : (call : Call) (n : ℕ) → call .answer ≡ Accepted n → firstRecords n (call .after) ≡ readRecords (call .class) (length (call .before)) (call .spool)
+call-table : (call : Call) (n : ℕ) → call .answer ≡ Accepted n → firstRecords n (call .after) ≡ readRecords (call .class) (call .wire) (length (call .before)) (call .spool)
 call-table call n e =
-    ap (firstRecords n) (call .fills) ∙ table-records (call .class) (length (call .before)) (call .spool) n (sym (call .answers) ∙ e)
+    ap (firstRecords n) (call .fills) ∙ table-records (call .class) (call .wire) (length (call .before)) (call .spool) n (sym (call .answers) ∙ e)
 
 -- ── the texts that a call's records point at ──
 pub call-texts : CallTexts
 call-texts call n e =
     let len = length (call .before) in
-    let (s, q) = accepted-set (call .class) len (call .spool) n (sym (call .answers) ∙ e) in
+    let (s, q) = accepted-set (call .class) (call .wire) len (call .spool) n (sym (call .answers) ∙ e) in
     record {
       set = s;
       read = q;
-      texts = subst (λ rs. ShowTexts (call .spool) rs (textsKept s)) (sym (call-table call n e)) (texts-kept (call .class) len (call .spool) s q);
+      texts = subst (λ rs. ShowTexts (call .spool) rs (textsKept s)) (sym (call-table call n e)) (texts-kept (call .class) (call .wire) len (call .spool) s q);
     }
+
+-- what a call at class 15 with wire part 18 asks for
+asked : {A : Type 0} (f : ℕ → ℕ → List ℕ → A) {class wire : ℕ} {lent spool : List ℕ} → class ≡ fullNumber → wire ≡ fullWire → lent ≡ spool → f class wire lent ≡ f fullNumber fullWire spool
+asked f {lent = lent} c w e = ap₂ (λ c w. f c w lent) c w ∙ ap (f fullNumber fullWire) e
 
 -- ── a call on a spool whose set is s ──
 module _ (spool : List ℕ) (s : Set) (e : rewriteOutcome spool ≡ accepted s) (call : Call) (w : ReadsAll spool (length (recordsOf fullClass s)) call) where
@@ -65,18 +68,18 @@ module _ (spool : List ℕ) (s : Set) (e : rewriteOutcome spool ≡ accepted s) 
   abbrev len : ℕ
   len = length (call .before)
 
-  call-set : readOutcome 15 len spool ≡ accepted s
+  call-set : readOutcome fullNumber fullWire len spool ≡ accepted s
   call-set = fits-table len spool s e (w .room)
 
-  call-answer : readAnswer 15 len spool ≡ Accepted count
-  call-answer = taken len spool 15 fullClass s class15 call-set .1
+  call-answer : readAnswer fullNumber fullWire len spool ≡ Accepted count
+  call-answer = taken len spool fullNumber fullWire fullClass s class15 call-set .1
 
   call-accepts : call .answer ≡ Accepted count
-  call-accepts = call .answers ∙ ap₂ (λ c b. readAnswer c len b) (w .full) (w .lent) ∙ call-answer
+  call-accepts = call .answers ∙ asked (λ c x b. readAnswer c x len b) (w .full) (w .fullWires) (w .lent) ∙ call-answer
 
   call-shows : firstRecords count (call .after) ≡ recordsOf fullClass s
   call-shows =
-      call-table call count call-accepts ∙ ap₂ (λ c b. readRecords c len b) (w .full) (w .lent) ∙ taken len spool 15 fullClass s class15 call-set .0
+      call-table call count call-accepts ∙ asked (λ c x b. readRecords c x len b) (w .full) (w .fullWires) (w .lent) ∙ taken len spool fullNumber fullWire fullClass s class15 call-set .0
 
 -- ── what was written has as many records as the spool, the same apart from places, with the same texts ──
 record Same (spool : List ℕ) (s t : Set) : Type 0 where
@@ -88,11 +91,11 @@ same-records : (spool : List ℕ) (s : Set) → rewriteOutcome spool ≡ accepte
 same-records spool s e b =
     let n = length (recordsOf fullClass s) in
     let len = n * width in
-    let here = taken len spool 15 fullClass s class15 (fits-table len spool s e (le-refl len)) in
+    let here = taken len spool fullNumber fullWire fullClass s class15 (fits-table len spool s e (le-refl len)) in
     let there = b .count len n (here .1) in
-    let (t, q) = accepted-set 15 len (written spool) n there in
+    let (t, q) = accepted-set fullNumber fullWire len (written spool) n there in
     let same = accepted-same (sym (any-table len (written spool) t q) ∙ b .again) in
-    let back = taken len (written spool) 15 fullClass (b .set) class15 (q ∙ ap accepted same) in
+    let back = taken len (written spool) fullNumber fullWire fullClass (b .set) class15 (q ∙ ap accepted same) in
     record {
       many = let z = sym (back .1) ∙ there in cc;
       records = ap (map placesApart) (sym (back .0)) ∙ b .records len n (here .1) ∙ ap (map placesApart) (here .0);
@@ -118,7 +121,7 @@ calls-back w n e s q =
       records = length (recordsOf fullClass s);
       reads = λ first again f g.
           let h : ReadsAll (written spool) (length (recordsOf fullClass (b .set))) again =
-          record { full = g .full; lent = g .lent ∙ bytes; room = subst (λ k. k * width ≤ length (again .before)) (sym many) (g .room) } in
+          record { full = g .full; fullWires = g .fullWires; lent = g .lent ∙ bytes; room = subst (λ k. k * width ≤ length (again .before)) (sym many) (g .room) } in
           let read-back = ap (λ k. firstRecords k (again .after)) (sym many) ∙ call-shows (written spool) (b .set) (b .again) again h in
           record {
             accepts = call-accepts spool s q first f;
@@ -145,11 +148,11 @@ rewriter-calls w n e = let (s, q) = written-set (length (w .before)) (w .spool) 
 
 pub accepted-rewrites : AcceptedRewrites
 unfolding calls-back
-accepted-rewrites first k full e w lent room =
+accepted-rewrites first k full wires e w lent room =
     let len = length (first .before) in
-    let mine = ap₂ (λ c b. readAnswer c len b) (sym full) lent ∙ sym (first .answers) ∙ e in
+    let mine = sym (asked (λ c x b. readAnswer c x len b) full wires (sym lent)) ∙ sym (first .answers) ∙ e in
     let t = demand-two (w .spool) len k mine in
     let n = length (written (w .spool)) in
     let a = w .answers ∙ t .back .writes (length (w .before)) room in
-    let counted = sym (taken len (w .spool) 15 fullClass (t .set) class15 (t .read) .1) ∙ mine in
+    let counted = sym (taken len (w .spool) fullNumber fullWire fullClass (t .set) class15 (t .read) .1) ∙ mine in
     record { bytes = n; accepts = a; back = calls-back w n a (t .set) (t .rewritten); many = cc }

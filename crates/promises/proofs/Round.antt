@@ -7,16 +7,16 @@ use mathlib.Core.Path.{_≡_, refl, sym, _∙_, ap, ap₂, subst}
 use native.Mathlib.Omega.{arith}
 use lib.ListN.{length, length-map}
 use borrow.Author.Tests.{le-leb}
-use Rattle.rules.specs.declared.Digits.{Digits}
+use Rattle.rules.specs.declared.Class.{Class}
 use Rattle.rules.specs.declared.Answer.the-variants.{Accepted}
 use Rattle.rules.specs.Base.{mapO, isNil, all, total}
 use Rattle.rules.specs.Spool.{Volume, namesOf, volumesOf, unlines}
 use Rattle.rules.specs.Sets.{Contents, Set, nothingYet}
-use Rattle.rules.specs.Machine.{Line, Env, top}
+use Rattle.rules.specs.Machine.{limitedTo, Line, Env, top}
 use Rattle.rules.specs.LineByLine.{Outcome, refused, accepted, run}
 use Rattle.rules.specs.RecordTable.{width, recordsFrom, recordsOf}
 use Rattle.rules.specs.FixedForm.{Text, volumeLines, volumesBytes, fixedForm}
-use Rattle.rules.specs.Answers.{numbered, nextName, answerWith, refusal, readOutcome, readRecords, readAnswer, fullClass, namesIn, writtenIn, rewriteOutcome, written, fitOutput, rewriteAnswer}
+use Rattle.rules.specs.Answers.{numbered, nextName, answerWith, refusal, readOutcome, readRecords, readAnswer, fullClass, namesIn, writtenIn, rewriteOutcome, written, fitOutput, rewriteAnswer, fullNumber, fullWire}
 use Rattle.rules.proofs.Chains.{and-left, and-right, and-true, clash}
 use Rattle.promises.specs.PlacesApart.{bareLine, bareSet, placesApart}
 use Rattle.promises.specs.TableTexts.{textsOf}
@@ -60,7 +60,7 @@ form-retaken names m s = ap (volumesBytes names) (go (s .volumes))
     go [] = refl
     go (v ∷ vs) = refl
 
-records-retaken : (c : Digits) (m : ℕ) (s : Set) → recordsOf c (retaken m s) ≡ recordsOf c s
+records-retaken : (c : Class) (m : ℕ) (s : Set) → recordsOf c (retaken m s) ≡ recordsOf c s
 unfolding recordsOf
 records-retaken c m s = go (s .volumes)
   where
@@ -80,18 +80,18 @@ body-total (t ∷ ts) = let a = unlines-length t in let b = body-total ts in ome
 pub accepted-same : {s t : Set} → accepted s ≡ accepted t → s ≡ t
 accepted-same e = cc
 
-answer-with : (len : ℕ) (spool : List ℕ) (o : Outcome) → readOutcome 15 len spool ≡ o → readAnswer 15 len spool ≡ answerWith (length (readRecords 15 len spool)) o
+answer-with : (len : ℕ) (spool : List ℕ) (o : Outcome) → readOutcome fullNumber fullWire len spool ≡ o → readAnswer fullNumber fullWire len spool ≡ answerWith (length (readRecords fullNumber fullWire len spool)) o
 unfolding readAnswer
-answer-with len spool o q = ap (answerWith (length (readRecords 15 len spool))) q
+answer-with len spool o q = ap (answerWith (length (readRecords fullNumber fullWire len spool))) q
 
 -- an answer that accepts comes of an outcome that accepts, and counts its records
-accepted-inv : (len : ℕ) (spool : List ℕ) (n : ℕ) → readAnswer 15 len spool ≡ Accepted n
-    → (u : Set) × (readOutcome 15 len spool ≡ accepted u) × (length (recordsOf fullClass u) ≡ n)
-accepted-inv len spool n e = go (readOutcome 15 len spool) refl
+accepted-inv : (len : ℕ) (spool : List ℕ) (n : ℕ) → readAnswer fullNumber fullWire len spool ≡ Accepted n
+    → (u : Set) × (readOutcome fullNumber fullWire len spool ≡ accepted u) × (length (recordsOf fullClass u) ≡ n)
+accepted-inv len spool n e = go (readOutcome fullNumber fullWire len spool) refl
   where
-    go : (o : Outcome) → readOutcome 15 len spool ≡ o → (u : Set) × (readOutcome 15 len spool ≡ accepted u) × (length (recordsOf fullClass u) ≡ n)
+    go : (o : Outcome) → readOutcome fullNumber fullWire len spool ≡ o → (u : Set) × (readOutcome fullNumber fullWire len spool ≡ accepted u) × (length (recordsOf fullClass u) ≡ n)
     go (refused k v l) q = absurd (let z = sym (answer-with len spool (refused k v l) q) ∙ e in let y : _≡_ {A = ℕ} 0 1 = cc in omega arith)
-    go (accepted u) q = (u, q, let z = sym (taken len spool 15 fullClass u class15 q .1) ∙ e in cc)
+    go (accepted u) q = (u, q, let z = sym (taken len spool fullNumber fullWire fullClass u class15 q .1) ∙ e in cc)
 
 -- with room for it the rewriter accepts
 pub room-accepts : (len : ℕ) (spool : List ℕ) (s : Set) → rewriteOutcome spool ≡ accepted s → length (written spool) ≤ len → rewriteAnswer len spool ≡ Accepted (length (written spool))
@@ -248,7 +248,7 @@ module _ (spool : List ℕ) (s : Set) (outcome : rewriteOutcome spool ≡ accept
         ∙ sym (form-bare names t) ∙ ap (fixedForm names) (a .bare) ∙ form-retaken names (a .count) (bareSet s) ∙ form-bare names s
         ∙ sym (written-is spool vs s (p .found) outcome)
 
-    again-records : (c : Digits) → map placesApart (recordsOf c t) ≡ map placesApart (recordsOf c s)
+    again-records : (c : Class) → map placesApart (recordsOf c t) ≡ map placesApart (recordsOf c s)
     again-records c =
         records-read c plainEnv (listing 1 (laid 0 names bodies) lines) t (a .runs)
         ∙ ap (λ u. map placesApart (recordsOf c u)) (a .bare) ∙ ap (map placesApart) (records-retaken c (a .count) (bareSet s))
@@ -267,7 +267,7 @@ module _ (spool : List ℕ) (s : Set) (outcome : rewriteOutcome spool ≡ accept
         let n : a .count ≡ s .taken = sym (ap (λ (v : Set). v .taken) (a .bare)) ∙ again-taken in
         a .bare ∙ ap (λ (m : ℕ). retaken m (bareSet s)) n
 
-    again-texts : (c : Digits) → textsOf (written spool) (recordsOf c t) ≡ textsOf spool (recordsOf c s)
+    again-texts : (c : Class) → textsOf (written spool) (recordsOf c t) ≡ textsOf spool (recordsOf c s)
     again-texts c =
         shown-texts (written spool) (recordsOf c t) (textsKept t) (read-shows plainEnv c (written spool) t (sym (rewrite-is (written spool)) ∙ again-outcome))
         ∙ sym (texts-bare t) ∙ ap textsKept again-set ∙ texts-bare s
@@ -277,25 +277,25 @@ module _ (spool : List ℕ) (s : Set) (outcome : rewriteOutcome spool ≡ accept
     again-names = ap (mapO namesOf) (ap volumesOf is-output ∙ again-found) ∙ ap some (names-laid 0 names bodies as-bodies) ∙ sym (ap (mapO namesOf) (p .found))
 
     -- ── with a table ──
-    module _ (len : ℕ) (u : Set) (reads : readOutcome 15 len spool ≡ accepted u) where
+    module _ (len : ℕ) (u : Set) (reads : readOutcome fullNumber fullWire len spool ≡ accepted u) where
       abbrev m : ℕ
       m = len / width
 
       abbrev env : Env
-      env = record { class = fullClass; limit = some m }
+      env = limitedTo fullClass m
 
       run-limited : run env (top nothingYet 0) (listing 1 vs (p .texts)) ≡ accepted u
-      run-limited = sym (reading env spool vs (p .texts) (p .found) (p .theirs)) ∙ sym (outcome-at len spool 15 fullClass class15) ∙ reads
+      run-limited = sym (reading env spool vs (p .texts) (p .found) (p .theirs)) ∙ sym (outcome-at len spool fullNumber fullWire fullClass class15) ∙ reads
 
       same-set : u ≡ s
       same-set = accepted-same (sym (limit-drop fullClass m (listing 1 vs (p .texts)) (top nothingYet 0) u run-limited) ∙ p .runs)
 
-      again-limited : readOutcome 15 len (written spool) ≡ accepted t
+      again-limited : readOutcome fullNumber fullWire len (written spool) ≡ accepted t
       again-limited =
           let f = taken-fits fullClass m (listing 1 vs (p .texts)) u run-limited in
           let g = ap (λ (v : Set). v .taken) same-set in
           let h = again-taken in
-          ap (readOutcome 15 len) is-output ∙ outcome-at len output 15 fullClass class15
+          ap (readOutcome fullNumber fullWire len) is-output ∙ outcome-at len output fullNumber fullWire fullClass class15
           ∙ reading env output (laid 0 names bodies) lines again-found again-theirs
           ∙ limit-lift fullClass m (listing 1 (laid 0 names bodies) lines) (top nothingYet 0) t (a .runs) (omega arith)
 
@@ -309,24 +309,24 @@ module _ (spool : List ℕ) (s : Set) (outcome : rewriteOutcome spool ≡ accept
         noLonger = written-short;
         writes = λ size room. room-accepts size spool s outcome (omega (arith, written-short, room));
         many = length (recordsOf fullClass s);
-        reads = λ len room. taken len spool 15 fullClass s class15 (fits-table len spool s outcome room) .1;
+        reads = λ len room. taken len spool fullNumber fullWire fullClass s class15 (fits-table len spool s outcome room) .1;
         names = again-names a;
         set = a .set;
         again = again-outcome a;
         whole = again-set a;
         count = λ len n e.
             let (u, o, q) = accepted-inv len spool n e in
-            let w = taken len (written spool) 15 fullClass (a .set) class15 (again-limited a len u o) in
+            let w = taken len (written spool) fullNumber fullWire fullClass (a .set) class15 (again-limited a len u o) in
             w .1 ∙ ap Accepted (sym (length-map (recordsOf fullClass (a .set)) placesApart) ∙ ap length (again-records a fullClass) ∙ length-map (recordsOf fullClass s) placesApart
             ∙ ap (λ v. length (recordsOf fullClass v)) (sym (same-set a len u o)) ∙ q);
         records = λ len n e.
             let (u, o, q) = accepted-inv len spool n e in
-            ap (map placesApart) (taken len (written spool) 15 fullClass (a .set) class15 (again-limited a len u o) .0) ∙ again-records a fullClass
-            ∙ ap (λ v. map placesApart (recordsOf fullClass v)) (sym (same-set a len u o)) ∙ ap (map placesApart) (sym (taken len spool 15 fullClass u class15 o .0));
+            ap (map placesApart) (taken len (written spool) fullNumber fullWire fullClass (a .set) class15 (again-limited a len u o) .0) ∙ again-records a fullClass
+            ∙ ap (λ v. map placesApart (recordsOf fullClass v)) (sym (same-set a len u o)) ∙ ap (map placesApart) (sym (taken len spool fullNumber fullWire fullClass u class15 o .0));
         texts = λ len n e.
             let (u, o, q) = accepted-inv len spool n e in
-            ap (textsOf (written spool)) (taken len (written spool) 15 fullClass (a .set) class15 (again-limited a len u o) .0) ∙ again-texts a fullClass
-            ∙ ap (λ v. textsOf spool (recordsOf fullClass v)) (sym (same-set a len u o)) ∙ ap (textsOf spool) (sym (taken len spool 15 fullClass u class15 o .0));
+            ap (textsOf (written spool)) (taken len (written spool) fullNumber fullWire fullClass (a .set) class15 (again-limited a len u o) .0) ∙ again-texts a fullClass
+            ∙ ap (λ v. textsOf spool (recordsOf fullClass v)) (sym (same-set a len u o)) ∙ ap (textsOf spool) (sym (taken len spool fullNumber fullWire fullClass u class15 o .0));
         twice = again-form a;
       }
 

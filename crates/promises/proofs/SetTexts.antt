@@ -8,6 +8,7 @@ use native.Mathlib.Omega.{arith}
 use lib.IntN.{ℤ, pos}
 use lib.ListN.{length, getD}
 use Rattle.rules.specs.declared.Digits.{Digits}
+use Rattle.rules.specs.declared.Class.{Class}
 use Rattle.rules.specs.Base.{flat}
 use Rattle.rules.specs.RangeClass.{digits}
 use Rattle.rules.specs.Values.{Num, Value, empty, nums, chars, linked, charsOf}
@@ -137,10 +138,10 @@ module _ (spool : List ℕ) where
   LineShows w more owner volume n j v =
       ShowsAt spool (lineRecord w more owner volume n j v) (textPlaces (kindOf (lineRecord w more owner volume n j v))) (noTexts (10 + more + j))
 
-  abbrev inLayers : Digits → Digits → Bool → View
+  abbrev inLayers : Class → Digits → Bool → View
   inLayers c d single = record { class = c; symbols = d; table = layerTable single }
 
-  line-layer : (c d : Digits) (single : Bool) (owner volume n j : ℕ) (v : List Num) → j < 7 → LineShows (inLayers c d single) 0 owner volume n j v
+  line-layer : (c : Class) (d : Digits) (single : Bool) (owner volume n j : ℕ) (v : List Num) → j < 7 → LineShows (inLayers c d single) 0 owner volume n j v
   unfolding layerTable placedTable textTable
   line-layer c d single owner volume n zero v h = tt
   line-layer c d single owner volume n (suc zero) v h = tt
@@ -161,7 +162,7 @@ module _ (spool : List ℕ) where
   line-symbol owner volume n (suc (suc (suc (suc (suc zero))))) v h = (Shows.empty, tt)
   line-symbol owner volume n (suc (suc (suc (suc (suc (suc j)))))) v h = absurd (omega arith)
 
-  abbrev viewIn : Bool → Digits → Digits → Bool → View
+  abbrev viewIn : Bool → Class → Digits → Bool → View
   viewIn true c d single = inLayers c d single
   viewIn false c d single = plainView
 
@@ -179,7 +180,7 @@ module _ (spool : List ℕ) where
   unfolding textTable placedTable
   placed-shows w owner volume n h f = record { texts = ((column 4 (partOf h 0) (f 0 .1 .1 .1 .1 .0), (column 1 (partOf h 1) (f 1 .1 .0), tt)), tt) }
 
-  figure-shows : (b single : Bool) (c d : Digits) (owner volume : ℕ) (f : Figure) → FitFigure S b f
+  figure-shows : (b single : Bool) (c : Class) (d : Digits) (owner volume : ℕ) (f : Figure) → FitFigure S b f
       → Show (figureRecords (viewIn b c d single) (moreIn b) owner volume f) (figureKept (moreIn b) f)
   figure-shows true single c d owner volume (plain n j v) g = one-more (line-layer c d single owner volume n j v g) no-record
   figure-shows false single c d owner volume (plain n j v) g = one-more (line-symbol owner volume n j v g) no-record
@@ -191,7 +192,7 @@ module _ (spool : List ℕ) where
   -- ── the whole ──
   inner-shows : (n : ℕ) (y : Symbol) → FitSymbol S y → Show (innerRecords n y) (innerKept y)
   inner-shows n y g =
-      go (y .hideFirst) (each-item (FitFigure S false) _ (figureKept 20) (figure-shows false false (digits 0 0) (digits 0 0) n 1) (y .figures) (g .1)) (points-show 43 n 1 (y .hidden) refl)
+      go (y .hideFirst) (each-item (FitFigure S false) _ (figureKept 20) (figure-shows false false (plainView .class) (digits 0 0) n 1) (y .figures) (g .1)) (points-show 43 n 1 (y .hidden) refl)
     where
       go : (b : Bool) {rs us : List (List ℤ)} {cs ds : List Kept} → Show rs cs → Show us ds → Show (cond b (us ++ rs) (rs ++ us)) (cond b (ds ++ cs) (cs ++ ds))
       go true p q = behind-it q p
@@ -201,7 +202,7 @@ module _ (spool : List ℕ) where
   symbols-show n [] g = no-record
   symbols-show n (y ∷ ys) g = one-more (symbol-shows n y (g .0 .0)) (behind-it (inner-shows n y (g .0)) (symbols-show (suc n) ys (g .1)))
 
-  module _ (c d : Digits) (single : Bool) where
+  module _ (c : Class) (d : Digits) (single : Bool) where
     body-shows : (k : ℕ) (v : Contents) → Each (FitBlock S) (v .blocks) → Show (bodyRecords (inLayers c d single) k v) (bodyKept v)
     body-shows k v g =
         each-item (FitBlock S) (blockRecords (inLayers c d single) k) blockKept
@@ -212,7 +213,7 @@ module _ (spool : List ℕ) where
     volumes-show k [] g = no-record
     volumes-show k (v ∷ vs) g = behind-it (behind-it (later-shows k v) (body-shows k v (g .0 .1))) (volumes-show (suc k) vs (g .1))
 
-  pub set-shows : (c : Digits) (s : Set) → FitSet S s → ShowTexts spool (recordsOf c s) (textsKept s)
+  pub set-shows : (c : Class) (s : Set) → FitSet S s → ShowTexts spool (recordsOf c s) (textsKept s)
   unfolding recordsOf
   set-shows c s f = go (s .volumes) (f .2) .texts
     where

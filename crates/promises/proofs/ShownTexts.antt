@@ -6,7 +6,7 @@ use mathlib.Core.Path.{_≡_, refl, sym, _∙_, ap, ap₂, subst}
 use lib.IntN.{ℤ}
 use lib.ListN.{length, take, drop, length-append}
 use lib.Seq.{take-at, drop-at}
-use Rattle.rules.specs.declared.Digits.{Digits}
+use Rattle.rules.specs.declared.Class.{Class}
 use Rattle.rules.specs.Spool.{volumesOf}
 use Rattle.rules.specs.RangeClass.{classOf}
 use Rattle.rules.specs.Sets.{Set}
@@ -49,21 +49,21 @@ module _ (spool : List ℕ) where
       go (p ∷ ps) (c ∷ cs) h = ap₂ _∷_ (text-is (h .0)) (go ps cs (h .1))
 
 -- ── a spool that was read ──
-pub read-shows : (e : Env) (c : Digits) (spool : List ℕ) (s : Set) → outcomeOfVolumes e (volumesOf spool) ≡ accepted s → ShowTexts spool (recordsOf c s) (textsKept s)
+pub read-shows : (e : Env) (c : Class) (spool : List ℕ) (s : Set) → outcomeOfVolumes e (volumesOf spool) ≡ accepted s → ShowTexts spool (recordsOf c s) (textsKept s)
 read-shows e c spool s h =
     let p = parsed e spool s h in
     let lines = listing-fits spool 1 (p .volumes) (p .texts) (p .theirs) (volumes-stand spool (p .volumes) (p .found)) in
     set-shows spool c s (accepted-fit (Standing spool) e (listing 1 (p .volumes) (p .texts)) s lines (p .runs))
 
-no-class : (len : ℕ) (spool : List ℕ) (class : ℕ) → classOf class ≡ none → readOutcome class len spool ≡ refused 1 0 0
+no-class : (len : ℕ) (spool : List ℕ) (class wire : ℕ) → classOf class wire ≡ none → readOutcome class wire len spool ≡ refused 1 0 0
 unfolding readOutcome
-no-class len spool class p = rw p
+no-class len spool class wire p = rw p
 
 pub texts-kept : TextsKept
-texts-kept class len spool s e = go (classOf class) refl
+texts-kept class wire len spool s e = go (classOf class wire) refl
   where
-    go : (o : Option Digits) → classOf class ≡ o → ShowTexts spool (readRecords class len spool) (textsKept s)
-    go none p = not-accepted (sym (no-class len spool class p) ∙ e)
+    go : (o : Option Class) → classOf class wire ≡ o → ShowTexts spool (readRecords class wire len spool) (textsKept s)
+    go none p = not-accepted (sym (no-class len spool class wire p) ∙ e)
     go (some c) p =
-        subst (λ rs. ShowTexts spool rs (textsKept s)) (sym (taken len spool class c s p e .0))
-        (read-shows _ c spool s (sym (outcome-at len spool class c p) ∙ e))
+        subst (λ rs. ShowTexts spool rs (textsKept s)) (sym (taken len spool class wire c s p e .0))
+        (read-shows _ c spool s (sym (outcome-at len spool class wire c p) ∙ e))

@@ -10,6 +10,7 @@ use lib.Dec.{eqb}
 use lib.ListN.{length, take, drop, replicate, length-append, length-take, length-drop, length-replicate}
 use lib.Seq.{take-append-add}
 use Rattle.rules.specs.declared.Digits.{Digits}
+use Rattle.rules.specs.declared.Class.{Class}
 use Rattle.rules.specs.Base.{flat}
 use Rattle.rules.specs.RangeClass.{digits}
 use Rattle.rules.specs.Values.{nums}
@@ -49,12 +50,12 @@ wide-figure : (w : View) (more owner volume : ℕ) (f : Figure) → Wide (figure
 wide-figure w more owner volume (plain n j v) =
     oneMore
     (by-cond (λ (l : List ℤ). length l ≡ 32) (eqb j 6)
-    (λ _. placed-length (w .class) (w .symbols) ((some (nums v) ∷ []) ∷ []) (start (16 + more) owner volume n))
+    (λ _. placed-length (w .class .symbols) (w .symbols) ((some (nums v) ∷ []) ∷ []) (start (16 + more) owner volume n))
     (λ _. length-slot (ruleAt (w .table) j) (some (nums v)) _))
     noRecord
 wide-figure w more owner volume (chain n ps) = oneMore refl (wide-points (17 + more) owner volume ps)
 wide-figure w more owner volume (lettering n s) = oneMore (length-slots (textTable true 4 12) s _) noRecord
-wide-figure w more owner volume (placed n h) = oneMore (placed-length (w .class) (w .symbols) h _) noRecord
+wide-figure w more owner volume (placed n h) = oneMore (placed-length (w .class .symbols) (w .symbols) h _) noRecord
 
 wide-inner : (n : ℕ) (y : Symbol) → Wide (innerRecords n y)
 wide-inner n y =
@@ -89,7 +90,7 @@ wide-later w k [] = noRecord
 wide-later w k (v ∷ vs) =
     wide-append _ _ (wide-append (fileRecords false k v) _ (wide-file false k v) (wide-body w k v)) (wide-later w (suc k) vs)
 
-wide-from : (c : Digits) (s : Set) (vs : List Contents) → Wide (recordsFrom c s vs)
+wide-from : (c : Class) (s : Set) (vs : List Contents) → Wide (recordsFrom c s vs)
 wide-from c s [] = noRecord
 wide-from c s (v ∷ vs) =
     let w = viewOf c s in
@@ -101,7 +102,7 @@ wide-from c s (v ∷ vs) =
     (wide-body w 1 v))
     (wide-later w 2 vs)
 
-pub wide-records : (c : Digits) (s : Set) → Wide (recordsOf c s)
+pub wide-records : (c : Class) (s : Set) → Wide (recordsOf c s)
 unfolding recordsOf
 wide-records c s = wide-from c s (s .volumes)
 

@@ -15,4 +15,5 @@ witnesses = record {
   noEof = refl;
   noByte = refl;
   noClass = refl;
+  noWirePart = refl;
 }

@@ -47,14 +47,14 @@ pub record Filled (len n : ℕ) (records : List (List ℤ)) (table : List ℤ) :
   pub fit : n * width ≤ len
   pub stands : table ≡ flat records ++ replicate (len - n * width) (pos 0)
 
--- what the reader gives back for a class, a table of `len` numbers and a spool
-pub record Reads (class len : ℕ) (spool : List ℕ) : Type 0 where
-  pub answer : Answered 19 (readAnswer class len spool)
+-- what the reader gives back for a class and its wire part, a table of `len` numbers and a spool
+pub record Reads (class wire len : ℕ) (spool : List ℕ) : Type 0 where
+  pub answer : Answered 19 (readAnswer class wire len spool)
   -- the lent table is as long as it was
-  pub size : length (readTable class len spool) ≡ len
+  pub size : length (readTable class wire len spool) ≡ len
   -- "Refused: no records, table wholly zero"
-  pub whenRefused : (r : Refusal) → readAnswer class len spool ≡ Refused r → readTable class len spool ≡ replicate len (pos 0)
-  pub whenAccepted : (n : ℕ) → readAnswer class len spool ≡ Accepted n → Filled len n (readRecords class len spool) (readTable class len spool)
+  pub whenRefused : (r : Refusal) → readAnswer class wire len spool ≡ Refused r → readTable class wire len spool ≡ replicate len (pos 0)
+  pub whenAccepted : (n : ℕ) → readAnswer class wire len spool ≡ Accepted n → Filled len n (readRecords class wire len spool) (readTable class wire len spool)
 
 -- ── the rewriter ──
 -- "Accepted: zeros after the last byte": n bytes stand in the output, and zeros follow
@@ -77,5 +77,5 @@ pub record Rewrites (len : ℕ) (spool : List ℕ) : Type 0 where
 
 -- ── demand 1 ──
 pub record DemandOne : Type 0 where
-  pub reader : (class len : ℕ) (spool : List ℕ) → Reads class len spool
+  pub reader : (class wire len : ℕ) (spool : List ℕ) → Reads class wire len spool
   pub rewriter : (len : ℕ) (spool : List ℕ) → Rewrites len spool

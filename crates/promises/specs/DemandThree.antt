@@ -1,6 +1,7 @@
 -- Demand 3, its words: of two front ends, one class not above the other in either digit, same spool, tables of equal length. "If the
 -- higher accepts, the lower accepts with the same records, except that attributes the file's range allows and the lower doesn't know
--- are marked unread. If the lower refuses, the higher refuses too, at the same line or before it."
+-- are marked unread. If the lower refuses, the higher refuses too, at the same line or before it." Document 02: "Demand 3 is read with
+-- both parts, digit by digit."
 use Prim.Native.Nat.{ℕ, _≤_}
 use mathlib.Core.Bool.{Bool, true, false, cond, _&&_, _||_}
 use mathlib.Core.List.{List, [], _∷_, map}
@@ -10,6 +11,7 @@ use lib.Dec.{eqb, leb, ltb}
 use lib.IntN.{ℤ, pos, negsuc}
 use lib.ListN.{getD, set}
 use Rattle.rules.specs.declared.Digits.{Digits}
+use Rattle.rules.specs.declared.Class.{Class}
 use Rattle.rules.specs.declared.Refusal.{Refusal}
 use Rattle.rules.specs.declared.Answer.the-variants.{Refused}
 use Rattle.rules.specs.RangeClass.{digits, classOf, hides}
@@ -19,16 +21,21 @@ use Rattle.rules.specs.Answers.{readOutcome, readAnswer, readRecords}
 use Rattle.rules.specs.RecordTable.{kindPlaced}
 
 -- ── classes ──
--- one class not above the other in either digit
+-- one part not above the other in either digit
 pub record NotAbove (low high : Digits) : Type 0 where
   pub middles : low .middle ≤ high .middle
   pub lasts : low .last ≤ high .last
 
--- two listed classes, by their numbers
-pub record Classes (lo hi : ℕ) (low high : Digits) : Type 0 where
-  pub lower : classOf lo ≡ some low
-  pub higher : classOf hi ≡ some high
-  pub below : NotAbove low high
+-- one class not above the other: in none of the four digits
+pub record ClassNotAbove (low high : Class) : Type 0 where
+  pub symbols : NotAbove (low .symbols) (high .symbols)
+  pub wires : NotAbove (low .wires) (high .wires)
+
+-- two listed classes, by their numbers and wire parts
+pub record Classes (lo loWire hi hiWire : ℕ) (low high : Class) : Type 0 where
+  pub lower : classOf lo loWire ≡ some low
+  pub higher : classOf hi hiWire ≡ some high
+  pub below : ClassNotAbove low high
 
 -- ── what may differ in a record, and what it is instead ──
 -- an attribute of a placed symbol: the digits from which on it is known, its places in the record, its state's place
@@ -69,7 +76,7 @@ isPlaced [] = false
 isPlaced (pos k ∷ r) = eqb k kindPlaced
 isPlaced (negsuc k ∷ r) = false
 
--- a record of a higher class as the class c has it, in a file of the range d
+-- a record of a higher class as a class has it whose part of symbols is c, in a file of the range d
 abbrev pub unread : Digits → Digits → List ℤ → List ℤ
 unread c d r = cond (isPlaced r) (unreadEach c d attributes r) r
 
@@ -77,9 +84,9 @@ unread c d r = cond (isPlaced r) (unreadEach c d attributes r) r
 -- "if the higher accepts, the lower accepts with the same records, except .."
 abbrev pub LowerAccepts : Type 0
 LowerAccepts =
-    (lo hi : ℕ) (low high : Digits) → Classes lo hi low high
-    → (len : ℕ) (spool : List ℕ) (set : Set) → readOutcome hi len spool ≡ accepted set
-    → (readAnswer lo len spool ≡ readAnswer hi len spool) × (readRecords lo len spool ≡ map (unread low (rangeOf set)) (readRecords hi len spool))
+    (lo loWire hi hiWire : ℕ) (low high : Class) → Classes lo loWire hi hiWire low high
+    → (len : ℕ) (spool : List ℕ) (set : Set) → readOutcome hi hiWire len spool ≡ accepted set
+    → (readAnswer lo loWire len spool ≡ readAnswer hi hiWire len spool) × (readRecords lo loWire len spool ≡ map (unread (low .symbols) (rangeOf set)) (readRecords hi hiWire len spool))
 
 -- a place in the set is at or before another
 abbrev pub atOrBefore : Refusal → Refusal → Bool
@@ -88,6 +95,6 @@ atOrBefore q r = ltb (q .volume) (r .volume) || (eqb (q .volume) (r .volume) && 
 -- "If the lower refuses, the higher refuses too, at the same line or before it."
 abbrev pub HigherRefuses : Type 0
 HigherRefuses =
-    (lo hi : ℕ) (low high : Digits) → Classes lo hi low high
-    → (len : ℕ) (spool : List ℕ) (r : Refusal) → readAnswer lo len spool ≡ Refused r
-    → (q : Refusal) × (readAnswer hi len spool ≡ Refused q) × (atOrBefore q r ≡ true)
+    (lo loWire hi hiWire : ℕ) (low high : Class) → Classes lo loWire hi hiWire low high
+    → (len : ℕ) (spool : List ℕ) (r : Refusal) → readAnswer lo loWire len spool ≡ Refused r
+    → (q : Refusal) × (readAnswer hi hiWire len spool ≡ Refused q) × (atOrBefore q r ≡ true)

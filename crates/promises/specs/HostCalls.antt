@@ -7,7 +7,7 @@ use mathlib.Core.Path.{_≡_, refl}
 use lib.IntN.{ℤ, pos}
 use lib.ListN.{length, replicate}
 use Rattle.rules.specs.RecordTable.{width}
-use Rattle.rules.specs.Answers.{answerCount, readAnswer, readTable, rewriteAnswer, rewriteOutput, written, ownRecords, packed, checkAnswer}
+use Rattle.rules.specs.Answers.{answerCount, readAnswer, readTable, fullNumber, fullWire, rewriteAnswer, rewriteOutput, written, ownRecords, packed, checkAnswer}
 use Rattle.promises.specs.DemandOne.{Located, Written}
 use Rattle.promises.specs.Acceptance.{Keeps}
 use Rattle.promises.specs.DemandThree.{atOrBefore}
@@ -20,35 +20,38 @@ use Rattle.promises.specs.TakenApart.{refusalIn}
 pub record HostCheck : Type 0 where
   pub spool : List ℕ
   pub class : ℕ
+  pub wire : ℕ
   pub number : ℕ
-  pub answers : number ≡ checkAnswer class spool
+  pub answers : number ≡ checkAnswer class wire spool
 
 pub record Checked (c : HostCheck) : Type 0 where
   -- accepted: the spool keeps the rules of the class, and its records fit a table of 256
-  pub whenAccepted : c .number ≡ 0 → (n : ℕ) × Keeps (c .class) (c .spool) n × (n ≤ ownRecords)
+  pub whenAccepted : c .number ≡ 0 → (n : ℕ) × Keeps (c .class) (c .wire) (c .spool) n × (n ≤ ownRecords)
   pub whenRefused : 0 < c .number → Located 19 (refusalIn (c .number))
   -- and accepted only so
-  pub whenKept : (n : ℕ) → Keeps (c .class) (c .spool) n → n ≤ ownRecords → c .number ≡ 0
+  pub whenKept : (n : ℕ) → Keeps (c .class) (c .wire) (c .spool) n → n ≤ ownRecords → c .number ≡ 0
 
 -- ── ploverdell_read ──
 pub record HostRead : Type 0 where
   pub spool : List ℕ
   pub class : ℕ
+  pub wire : ℕ
   pub before : List ℤ
   pub number : ℕ
   pub after : List ℤ
   pub count : ℕ
-  pub answers : number ≡ packed (readAnswer class (length before) spool)
-  pub fills : after ≡ readTable class (length before) spool
-  pub counts : count ≡ answerCount (readAnswer class (length before) spool)
+  pub answers : number ≡ packed (readAnswer class wire (length before) spool)
+  pub fills : after ≡ readTable class wire (length before) spool
+  pub counts : count ≡ answerCount (readAnswer class wire (length before) spool)
 
 -- the call of the reader that it stands for
 abbrev pub readBy : HostRead → Call
 readBy c = record {
   spool = c .spool;
   class = c .class;
+  wire = c .wire;
   before = c .before;
-  answer = readAnswer (c .class) (length (c .before)) (c .spool);
+  answer = readAnswer (c .class) (c .wire) (length (c .before)) (c .spool);
   after = c .after;
   answers = refl;
   fills = c .fills;
@@ -60,7 +63,7 @@ pub record HostReads (c : HostRead) : Type 0 where
   pub noCount : 0 < c .number → c .count ≡ 0
   pub zeros : 0 < c .number → c .after ≡ replicate (length (c .before)) (pos 0)
   pub whenAccepted : c .number ≡ 0 → CallAccepts (readBy c) (c .count)
-  pub whenKept : (n : ℕ) → Keeps (c .class) (c .spool) n → n * width ≤ length (c .before) → c .number ≡ 0
+  pub whenKept : (n : ℕ) → Keeps (c .class) (c .wire) (c .spool) n → n * width ≤ length (c .before) → c .number ≡ 0
 
 -- ── ploverdell_rewrite ──
 pub record HostRewrite : Type 0 where
@@ -90,8 +93,8 @@ pub record HostRewrites (c : HostRewrite) : Type 0 where
   pub noCount : 0 < c .number → c .count ≡ 0
   pub zeros : 0 < c .number → c .after ≡ replicate (length (c .before)) 0
   pub whenAccepted : c .number ≡ 0 → Written (length (c .before)) (c .count) (written (c .spool)) (c .after)
-  -- an output as long as the spool is enough for every spool that keeps the rules of class 15
-  pub whenKept : (n : ℕ) → Keeps 15 (c .spool) n → length (c .spool) ≤ length (c .before) → c .number ≡ 0
+  -- an output as long as the spool is enough for every spool that keeps the rules of class 15 with wire part 18
+  pub whenKept : (n : ℕ) → Keeps fullNumber fullWire (c .spool) n → length (c .spool) ≤ length (c .before) → c .number ≡ 0
 
 pub record HostCalls : Type 0 where
   pub checks : (c : HostCheck) → Checked c

@@ -10,4 +10,5 @@ pub mod SingleCalls
 pub mod TableTexts
 pub mod TakenApart
 pub mod TextsKept
+pub mod WireParts
 pub mod Witnesses

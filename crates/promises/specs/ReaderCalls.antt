@@ -5,7 +5,7 @@ use mathlib.Core.List.{List, _++_, map}
 use mathlib.Core.Path.{_≡_}
 use lib.IntN.{ℤ}
 use lib.ListN.{length, drop}
-use Rattle.rules.specs.declared.Digits.{Digits}
+use Rattle.rules.specs.declared.Class.{Class}
 use Rattle.rules.specs.declared.Refusal.{Refusal}
 use Rattle.rules.specs.declared.Answer.{Answer}
 use Rattle.rules.specs.declared.Answer.the-variants.{Accepted, Refused}
@@ -22,32 +22,33 @@ use Rattle.promises.specs.TableTexts.{firstRecords}
 pub record Call : Type 0 where
   pub spool : List ℕ
   pub class : ℕ
+  pub wire : ℕ
   pub before : List ℤ
   pub answer : Answer
   pub after : List ℤ
-  pub answers : answer ≡ readAnswer class (length before) spool
-  pub fills : after ≡ readTable class (length before) spool
+  pub answers : answer ≡ readAnswer class wire (length before) spool
+  pub fills : after ≡ readTable class wire (length before) spool
 
 -- the first n records of a table changed, each by itself; what stands behind them stays
 abbrev pub eachRecord : (List ℤ → List ℤ) → ℕ → List ℤ → List ℤ
 eachRecord f n t = flat (map f (firstRecords n t)) ++ drop (n * width) t
 
 -- ── two calls ──
--- "one class not above the other in either digit, same spool, tables of equal length"
+-- "one class not above the other in either digit" of either part, "same spool, tables of equal length"
 pub record TwoCalls (lower higher : Call) : Type 0 where
   pub spools : lower .spool ≡ higher .spool
   pub lengths : length (lower .before) ≡ length (higher .before)
-  pub low : Digits
-  pub high : Digits
-  pub classes : Classes (lower .class) (higher .class) low high
+  pub low : Class
+  pub high : Class
+  pub classes : Classes (lower .class) (lower .wire) (higher .class) (higher .wire) low high
 
 -- "the lower accepts with the same records, except that attributes the file's range allows and the lower doesn't know are marked unread":
 -- the whole table, number for number
-pub record Accepts (lower higher : Call) (low : Digits) (n : ℕ) : Type 0 where
+pub record Accepts (lower higher : Call) (low : Class) (n : ℕ) : Type 0 where
   pub answer : lower .answer ≡ Accepted n
   pub set : Set
-  pub reads : readOutcome (higher .class) (length (higher .before)) (higher .spool) ≡ accepted set
-  pub table : lower .after ≡ eachRecord (unread low (rangeOf set)) n (higher .after)
+  pub reads : readOutcome (higher .class) (higher .wire) (length (higher .before)) (higher .spool) ≡ accepted set
+  pub table : lower .after ≡ eachRecord (unread (low .symbols) (rangeOf set)) n (higher .after)
 
 abbrev pub LowerCallAccepts : Type 0
 LowerCallAccepts = (lower higher : Call) (two : TwoCalls lower higher) (n : ℕ) → higher .answer ≡ Accepted n → Accepts lower higher (two .low) n

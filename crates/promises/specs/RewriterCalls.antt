@@ -9,7 +9,7 @@ use Rattle.rules.specs.declared.Answer.the-variants.{Accepted}
 use Rattle.rules.specs.Base.{mapO}
 use Rattle.rules.specs.Spool.{namesOf, volumesOf}
 use Rattle.rules.specs.RecordTable.{width}
-use Rattle.rules.specs.Answers.{rewriteOutcome, rewriteAnswer, rewriteOutput}
+use Rattle.rules.specs.Answers.{fullNumber, fullWire, rewriteOutcome, rewriteAnswer, rewriteOutput}
 use Rattle.promises.specs.PlacesApart.{placesApart, bareOutcome}
 use Rattle.promises.specs.TableTexts.{firstRecords, textsOf}
 use Rattle.promises.specs.ReaderCalls.{Call}
@@ -24,9 +24,10 @@ pub record Rewriting : Type 0 where
   pub answers : answer ≡ rewriteAnswer (length before) spool
   pub fills : after ≡ rewriteOutput (length before) spool
 
--- ── a call of the reader at class 15 on a spool, with a table in which n records fit ──
+-- ── a call of the reader at class 15 with wire part 18 on a spool, with a table in which n records fit ──
 pub record ReadsAll (spool : List ℕ) (n : ℕ) (call : Call) : Type 0 where
-  pub full : call .class ≡ 15
+  pub full : call .class ≡ fullNumber
+  pub fullWires : call .wire ≡ fullWire
   pub lent : call .spool ≡ spool
   pub room : n * width ≤ length (call .before)
 
@@ -75,5 +76,5 @@ pub record RewrittenBack (k : ℕ) (w : Rewriting) : Type 0 where
   pub many : back .records ≡ k
 
 abbrev pub AcceptedRewrites : Type 0
-AcceptedRewrites = (first : Call) (k : ℕ) → first .class ≡ 15 → first .answer ≡ Accepted k → (w : Rewriting) → w .spool ≡ first .spool
+AcceptedRewrites = (first : Call) (k : ℕ) → first .class ≡ fullNumber → first .wire ≡ fullWire → first .answer ≡ Accepted k → (w : Rewriting) → w .spool ≡ first .spool
     → length (w .spool) ≤ length (w .before) → RewrittenBack k w

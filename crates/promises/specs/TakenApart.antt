@@ -19,6 +19,6 @@ pub record Tells (p : ℕ) (a : Answer) : Type 0 where
 
 -- whatever the reader, the rewriter and the check answer, their number tells it
 pub record TakenApart : Type 0 where
-  pub reader : (class len : ℕ) (spool : List ℕ) → Tells (packed (readAnswer class len spool)) (readAnswer class len spool)
+  pub reader : (class wire len : ℕ) (spool : List ℕ) → Tells (packed (readAnswer class wire len spool)) (readAnswer class wire len spool)
   pub rewriter : (len : ℕ) (spool : List ℕ) → Tells (packed (rewriteAnswer len spool)) (rewriteAnswer len spool)
-  pub check : (class : ℕ) (spool : List ℕ) → Tells (checkAnswer class spool) (readAnswer class (ownRecords * width) spool)
+  pub check : (class wire : ℕ) (spool : List ℕ) → Tells (checkAnswer class wire spool) (readAnswer class wire (ownRecords * width) spool)

@@ -87,13 +87,13 @@ textsKept s = keptFrom s (s .volumes)
 
 -- at every class, with every table: each record points at the whole of each text that the set keeps for it, and at nothing else
 abbrev pub TextsKept : Type 0
-TextsKept = (class len : ℕ) (spool : List ℕ) (s : Set) → readOutcome class len spool ≡ accepted s
-    → ShowTexts spool (readRecords class len spool) (textsKept s)
+TextsKept = (class wire len : ℕ) (spool : List ℕ) (s : Set) → readOutcome class wire len spool ≡ accepted s
+    → ShowTexts spool (readRecords class wire len spool) (textsKept s)
 
 -- the same of a call of the reader that is accepted with n records: the first n of its table, and the spool that was lent
 pub record Points (call : Call) (n : ℕ) : Type 0 where
   pub set : Set
-  pub read : readOutcome (call .class) (length (call .before)) (call .spool) ≡ accepted set
+  pub read : readOutcome (call .class) (call .wire) (length (call .before)) (call .spool) ≡ accepted set
   pub texts : ShowTexts (call .spool) (firstRecords n (call .after)) (textsKept set)
 
 abbrev pub CallTexts : Type 0

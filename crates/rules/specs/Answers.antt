@@ -7,7 +7,7 @@ use mathlib.Core.Option.{Option, none, some}
 use lib.Dec.{leb}
 use lib.IntN.{ℤ, pos, negsuc}
 use lib.ListN.{length, take, replicate}
-use Rattle.rules.specs.declared.Digits.{Digits}
+use Rattle.rules.specs.declared.Class.{Class}
 use Rattle.rules.specs.declared.Answer.{Answer}
 use Rattle.rules.specs.declared.Answer.the-variants.{Accepted, Refused}
 use Rattle.rules.specs.Base.{isNil, flat, join}
@@ -75,14 +75,14 @@ unfolding formOf linesOf volumesOf sheets topTable fileTable rangeTable baseTabl
 outcomeOf e s = outcomeOfVolumes e (volumesOf s)
 
 -- "Order: 1, 2, 3 over all volumes, then line by line"
-abbrev pub outcomeAt : Option Digits → Option ℕ → List ℕ → Outcome
+abbrev pub outcomeAt : Option Class → Option ℕ → List ℕ → Outcome
 outcomeAt none m s = refused 1 0 0
 outcomeAt (some c) m s = outcomeOf (record { class = c; limit = m }) s
 
--- the class's digits, for what is only asked of an accepted set
-abbrev pub digitsOr : Option Digits → Digits
-digitsOr none = digits 0 0
-digitsOr (some c) = c
+-- the class, for what is only asked of an accepted set
+abbrev pub classOr : Option Class → Class
+classOr none = record { symbols = digits 0 0; wires = digits 0 0 }
+classOr (some c) = c
 
 -- ── document 01's number and values of an answer ──
 abbrev pub answerNumber : Answer → ℕ
@@ -105,13 +105,13 @@ answerCount (Refused r) = 0
 abbrev pub refusal : ℕ → ℕ → ℕ → Answer
 refusal n v l = Refused (record { number = n; volume = v; line = l })
 
--- ── the reader: a class, the length of the lent table in numbers, a spool ──
-unfoldable pub readOutcome : ℕ → ℕ → List ℕ → Outcome
+-- ── the reader: a class and its wire part, the length of the lent table in numbers, a spool ──
+unfoldable pub readOutcome : ℕ → ℕ → ℕ → List ℕ → Outcome
 unfolding classOf outcomeOf
-readOutcome class len s = outcomeAt (classOf class) (some (len / width)) s
+readOutcome class wire len s = outcomeAt (classOf class wire) (some (len / width)) s
 
 -- the records that are written, none where refused
-abbrev pub recordsIn : Digits → Outcome → List (List ℤ)
+abbrev pub recordsIn : Class → Outcome → List (List ℤ)
 recordsIn c (refused n v l) = []
 recordsIn c (accepted set) = recordsOf c set
 
@@ -119,22 +119,29 @@ abbrev pub answerWith : ℕ → Outcome → Answer
 answerWith count (refused n v l) = refusal n v l
 answerWith count (accepted set) = Accepted count
 
-unfoldable pub readRecords : ℕ → ℕ → List ℕ → List (List ℤ)
+unfoldable pub readRecords : ℕ → ℕ → ℕ → List ℕ → List (List ℤ)
 unfolding readOutcome recordsOf
-readRecords class len s = recordsIn (digitsOr (classOf class)) (readOutcome class len s)
+readRecords class wire len s = recordsIn (classOr (classOf class wire)) (readOutcome class wire len s)
 
-unfoldable pub readAnswer : ℕ → ℕ → List ℕ → Answer
+unfoldable pub readAnswer : ℕ → ℕ → ℕ → List ℕ → Answer
 unfolding readOutcome readRecords
-readAnswer class len s = answerWith (length (readRecords class len s)) (readOutcome class len s)
+readAnswer class wire len s = answerWith (length (readRecords class wire len s)) (readOutcome class wire len s)
 
 -- "Refused: no records, table wholly zero. Accepted: zeros after the last record": the whole table on return
-unfoldable pub readTable : ℕ → ℕ → List ℕ → List ℤ
+unfoldable pub readTable : ℕ → ℕ → ℕ → List ℕ → List ℤ
 unfolding readRecords tableOf
-readTable class len s = tableOf len (readRecords class len s)
+readTable class wire len s = tableOf len (readRecords class wire len s)
 
 -- ── the rewriter: the length of the lent output in bytes, a spool; "The rewriter reads at class 15 and has no table limit." ──
-abbrev pub fullClass : Digits
-fullClass = digits 1 5
+-- "Class 15 in demand 2, the rewriter and the program has wire part 18."
+abbrev pub fullNumber : ℕ
+fullNumber = 15
+
+abbrev pub fullWire : ℕ
+fullWire = 18
+
+abbrev pub fullClass : Class
+fullClass = record { symbols = digits 1 5; wires = digits 1 8 }
 
 abbrev pub namesIn : Option (List Volume) → List (List ℕ)
 namesIn none = []
@@ -179,9 +186,9 @@ ownRecords = 256
 unfoldable pub packed : Answer → ℕ
 packed a = answerNumber a + 100 * answerVolume a + 10000 * answerLine a
 
-unfoldable pub checkAnswer : ℕ → List ℕ → ℕ
+unfoldable pub checkAnswer : ℕ → ℕ → List ℕ → ℕ
 unfolding packed readAnswer
-checkAnswer class s = packed (readAnswer class (ownRecords * width) s)
+checkAnswer class wire s = packed (readAnswer class wire (ownRecords * width) s)
 
 -- ── the program: "prints one line `answer volume line records` in decimal, single spaces, newline at the end; if accepted, one line of
 -- 32 numbers per record follows" ──
@@ -201,4 +208,6 @@ firstLine a = pos (answerNumber a) ∷ pos (answerVolume a) ∷ pos (answerLine 
 
 unfoldable pub printed : List ℕ → List ℕ
 unfolding readAnswer readRecords fixedOnto
-printed s = printLine (firstLine (readAnswer 15 (ownRecords * width) s)) ++ flat (map printLine (readRecords 15 (ownRecords * width) s))
+printed s =
+    printLine (firstLine (readAnswer fullNumber fullWire (ownRecords * width) s))
+    ++ flat (map printLine (readRecords fullNumber fullWire (ownRecords * width) s))

@@ -5,7 +5,7 @@ use mathlib.Core.List.{List, [], _∷_, _++_, map}
 use mathlib.Core.Option.{Option, none, some}
 use lib.Dec.{eqb, leb, ltb}
 use lib.ListN.{length, getD, set}
-use Rattle.rules.specs.declared.Digits.{Digits}
+use Rattle.rules.specs.declared.Class.{Class}
 use Rattle.rules.specs.Base.{isNil, isNone, among, hasNumber}
 use Rattle.rules.specs.RefusalNumbers.{Got, got, bad, unless, andThen}
 use Rattle.rules.specs.Lines.{Rest, Form, ignored, wrong, close, eof, keyed, freeShapeOf, Shape, opener, noContent, content, opening, formless}
@@ -33,8 +33,15 @@ abbrev pub inLastVolume : Line → Bool
 inLastVolume l = isNil (l .next)
 
 pub record Env : Type 0 where
-  pub class : Digits
+  pub class : Class
   pub limit : Option ℕ  -- how many records the table holds; none for the rewriter
+
+-- at a class, with room for every record, or for so many
+abbrev pub unlimited : Class → Env
+unlimited c = record { class = c; limit = none }
+
+abbrev pub limitedTo : Class → ℕ → Env
+limitedTo c m = record { class = c; limit = some m }
 
 -- ── which block is open ──
 -- where figures stand: in a symbol's `element`, or in a layer

@@ -27,7 +27,7 @@ skipDeeper d inside = unless (ltb d mostDepth) 18 (got inside)
 -- "Refused" is 6; `actUnknown` only refuses, so no other arm is reached
 abbrev pub onUnknown : Env → Set → ℕ → List Figure → ℕ → Held → List ℕ → Rest → Got State
 onUnknown e s h fs n o k c =
-    cond (exceeds (rangeOf s) (e .class))
+    cond (exceeds (rangeOf s) (e .class .symbols))
     (bySkip (skipOf k c) (got (placing s h fs n (symbolBlock o) 0)) (skipDeeper 0 (skipping s h fs n (symbolBlock o) 1)))
     (byAct (placing s h fs n (symbolBlock o) 0) (λ j v. bad 6) (λ i j v. bad 6) (λ _. bad 6) (actUnknown c))
 
@@ -51,7 +51,7 @@ onPlaced s h fs n o p a =
 abbrev pub onPlacedKey : Env → Set → ℕ → List Figure → ℕ → Held → List ℕ → Rest → Found → Got State
 onPlacedKey e s h fs n o k c absent = onUnknown e s h fs n o k c
 onPlacedKey e s h fs n o k c (found j r) =
-    cond (reaches (e .class) (r .least))
+    cond (reaches (e .class .symbols) (r .least))
     (onPlaced s h fs n o 0 (actRow (knownOf s) (rangeOf s) (getD (rowsThere (partOf o 0)) j false) j r c))
     (onUnknown e s h fs n o k c)
 
@@ -60,7 +60,7 @@ abbrev pub onPlacedOwn : Env → Set → ℕ → List Figure → ℕ → Held �
 onPlacedOwn e s h fs n o ignored = got (placing s h fs n (symbolBlock o) 0)
 onPlacedOwn e s h fs n o (wrong m) = bad m
 onPlacedOwn e s h fs n o close =
-    onPlaced s h fs n o 0 (act (knownOf s) placedTable (both (e .class) (rangeOf s)) (rowsThere (partOf o 0)) close)
+    onPlaced s h fs n o 0 (act (knownOf s) placedTable (both (e .class .symbols) (rangeOf s)) (rowsThere (partOf o 0)) close)
 onPlacedOwn e s h fs n o eof = bad 9
 onPlacedOwn e s h fs n o (keyed k c) = onPlacedKey e s h fs n o k c (find k placedTable)
 

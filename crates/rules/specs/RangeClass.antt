@@ -1,10 +1,12 @@
--- Document 01, "Range class": the ten classes, what a class knows, what a file's range allows, and skipped lines.
+-- Document 01, "Range class": the classes with their wire parts (document 02), what a class knows, what a file's range allows, and skipped
+-- lines.
 use Prim.Native.Nat.{ℕ, _/_, _%_, min}
 use mathlib.Core.Bool.{Bool, cond, _&&_, _||_, not}
 use mathlib.Core.List.{List}
 use mathlib.Core.Option.{Option, none, some}
 use lib.Dec.{leb, ltb}
 use Rattle.rules.specs.declared.Digits.{Digits}
+use Rattle.rules.specs.declared.Class.{Class}
 use Rattle.rules.specs.Base.{bytes, same, within}
 use Rattle.rules.specs.Lines.{Rest, brace, equals, Shape, opener, noContent, content, opening, formless, shapeOf}
 
@@ -16,8 +18,16 @@ abbrev pub digitsOf : ℕ → Digits
 digitsOf n = digits (n / 10 % 10) (n % 10)
 
 -- "1 to 5 or 11 to 15, last and middle digit as above."
-unfoldable pub classOf : ℕ → Option Digits
-classOf n = cond (within 1 5 n || within 11 15 n) (some (digitsOf n)) none
+abbrev pub isSymbolPart : ℕ → Bool
+isSymbolPart n = within 1 5 n || within 11 15 n
+
+-- "The class gets a wire part of the same two digits, 1 to 8 or 11 to 18, or 0": with 0 both digits are 0, and no wire is known
+abbrev pub isWirePart : ℕ → Bool
+isWirePart n = within 0 8 n || within 11 18 n
+
+-- "any other is 1": a class by its number and its wire part
+unfoldable pub classOf : ℕ → ℕ → Option Class
+classOf n w = cond (isSymbolPart n && isWirePart w) (some (record { symbols = digitsOf n; wires = digitsOf w })) none
 
 -- "Digits count one by one": d has at least the digits that l asks for.
 -- Said of the file's range it is "allows", said of the class it is "knows".

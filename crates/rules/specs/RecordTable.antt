@@ -8,6 +8,7 @@ use lib.IntN.{ℤ, pos}
 use lib.ListN.{length, getD, set, take, drop, replicate}
 use lib.Seq.{sets}
 use Rattle.rules.specs.declared.Digits.{Digits}
+use Rattle.rules.specs.declared.Class.{Class}
 use Rattle.rules.specs.Base.{flat}
 use Rattle.rules.specs.RangeClass.{digits, hides}
 use Rattle.rules.specs.Numbers.{value}
@@ -181,17 +182,17 @@ layerRecords n (l ∷ ls) = layerRecord n l ∷ layerRecords (suc n) ls
 -- ── figures ──
 -- what the records of figures are made with: the class, the file's range of symbols, the table of the figures' rows
 pub record View : Type 0 where
-  pub class : Digits
+  pub class : Class
   pub symbols : Digits
   pub table : List Rule
 
 -- in layers, at a class
-abbrev pub viewOf : Digits → Set → View
+abbrev pub viewOf : Class → Set → View
 viewOf c s = record { class = c; symbols = rangeOf s; table = layerTableOf s }
 
 -- in a symbol: nothing there goes by the class
 abbrev pub plainView : View
-plainView = record { class = digits 0 0; symbols = digits 0 0; table = figureTable }
+plainView = record { class = record { symbols = digits 0 0; wires = digits 0 0 }; symbols = digits 0 0; table = figureTable }
 
 -- a row of a table by its number
 abbrev pub ruleAt : List Rule → ℕ → Rule
@@ -221,7 +222,7 @@ textRecord more owner volume line s = putSlots (textTable true 4 12) s (start (k
 
 -- "16 placed symbol"
 abbrev pub placedRecord : View → ℕ → ℕ → ℕ → ℕ → Held → List ℤ
-placedRecord w more owner volume line h = markUnread (w .class) (w .symbols) placedTable (putHeld placedTables h (start (kindPlaced + more) owner volume line))
+placedRecord w more owner volume line h = markUnread (w .class .symbols) (w .symbols) placedTable (putHeld placedTables h (start (kindPlaced + more) owner volume line))
 
 -- `E_symbol=`, the seventh row of a layer's figures (`placedNumber`), is a placed symbol with that line alone
 abbrev pub placedNumber : ℕ
@@ -262,14 +263,14 @@ abbrev pub laterRecords : View → ℕ → List Contents → List (List ℤ)
 laterRecords w k [] = []
 laterRecords w k (v ∷ vs) = fileRecords false k v ++ bodyRecords w k v ++ laterRecords w (suc k) vs
 
-abbrev pub recordsFrom : Digits → Set → List Contents → List (List ℤ)
+abbrev pub recordsFrom : Class → Set → List Contents → List (List ℤ)
 recordsFrom c s [] = []
 recordsFrom c s (v ∷ vs) =
     fileRecords true 1 v ++ (drawingRecord (s .drawing) ∷ layerRecords 0 (s .drawing .layers)) ++ symbolRecords 0 (s .symbols)
     ++ bodyRecords (viewOf c s) 1 v ++ laterRecords (viewOf c s) 2 vs
 
 -- the records of an accepted set, at a class
-unfoldable pub recordsOf : Digits → Set → List (List ℤ)
+unfoldable pub recordsOf : Class → Set → List (List ℤ)
 recordsOf c s = recordsFrom c s (s .volumes)
 
 -- "zeros after the last record": a table of n numbers

@@ -228,7 +228,7 @@ twoVolumesEntries = sixEntries 15 2 1 1 6 6 ++ pointEntry 1 55 10000 ∷ volumeE
 
 -- ── questions and rulings ──
 pub data Question : Type 0 where
-  spool : ℕ → List ℕ → Question  -- a spool read at a class, with a table of 256 records
+  spool : ℕ → ℕ → List ℕ → Question  -- a spool read at a class with its wire part, with a table of 256 records
   number : S.String → Question  -- a decimal by itself
   fixed : List ℕ → Question  -- the fixed form of a spool
 
@@ -258,41 +258,49 @@ ofNumber (got n) = worth (n .value)
 ofNumber (bad n) = broken n
 
 abbrev pub ruling : Question → Ruling
-ruling (spool c s) = ofReading (readAnswer c (ownRecords * width) s) (readRecords c (ownRecords * width) s)
+ruling (spool c w s) = ofReading (readAnswer c w (ownRecords * width) s) (readRecords c w (ownRecords * width) s)
 ruling (number s) = ofNumber (readPart (record { symbols = []; layers = [] }) (decimal anySign) (bytes s))
 ruling (fixed s) = writes (written s)
 
 pub cases : List Case
 cases =
     -- "a sound one-volume set, accepted"
-    ruled (spool 15 sound) (accepted 8 soundEntries)
+    ruled (spool 15 18 sound) (accepted 8 soundEntries)
     -- "empty spool, 2"
-    ∷ ruled (spool 15 []) (refused 2 0 0)
+    ∷ ruled (spool 15 18 []) (refused 2 0 0)
+    -- document 02: "1 to 8 or 11 to 18, or 0; any other is 1"
+    ∷ ruled (spool 15 0 []) (refused 2 0 0)
+    ∷ ruled (spool 15 8 []) (refused 2 0 0)
+    ∷ ruled (spool 15 11 []) (refused 2 0 0)
+    ∷ ruled (spool 15 9 []) (refused 1 0 0)
+    ∷ ruled (spool 15 10 []) (refused 1 0 0)
+    ∷ ruled (spool 15 19 []) (refused 1 0 0)
+    ∷ ruled (spool 16 18 []) (refused 1 0 0)
     -- "`1234.56` is 12,345,600; `9999999.9999` is 99,999,999,999; `-0` is 0; `12345678` and `5.` are 10", the last two in a set as well
     ∷ ruled (number "1234.56") (worth (pos 12345600))
     ∷ ruled (number "9999999.9999") (worth (pos 99999999999))
     ∷ ruled (number "-0") (worth (pos 0))
     ∷ ruled (number "12345678") (broken 10)
     ∷ ruled (number "5.") (broken 10)
-    ∷ ruled (spool 15 (drawn "line=1307,0,0,12345678,10")) (refused 10 1 55)
-    ∷ ruled (spool 15 (drawn "line=1307,0,0,5.,10")) (refused 10 1 55)
+    ∷ ruled (spool 15 18 (drawn "line=1307,0,0,12345678,10")) (refused 10 1 55)
+    ∷ ruled (spool 15 18 (drawn "line=1307,0,0,5.,10")) (refused 10 1 55)
     -- "axes 1000,900 accepted; 900,900 is 11"
-    ∷ ruled (spool 15 (drawn "ellipse=1307,0,0,1000,900,0,360,0,0")) (accepted 7 ellipseEntries)
-    ∷ ruled (spool 15 (drawn "ellipse=1307,0,0,900,900,0,360,0,0")) (refused 11 1 55)
+    ∷ ruled (spool 15 18 (drawn "ellipse=1307,0,0,1000,900,0,360,0,0")) (accepted 7 ellipseEntries)
+    ∷ ruled (spool 15 18 (drawn "ellipse=1307,0,0,900,900,0,360,0,0")) (refused 11 1 55)
     -- "`line=1307,5,5,5.0,5` is 11"
-    ∷ ruled (spool 15 (drawn "line=1307,5,5,5.0,5")) (refused 11 1 55)
+    ∷ ruled (spool 15 18 (drawn "line=1307,5,5,5.0,5")) (refused 11 1 55)
     -- "4A1 accepted, 8A1 is 11": `size=4A1` is a byte longer than `size=A1`
-    ∷ ruled (spool 15 (onSheet "size=4A1")) (accepted 6 (sixEntries 15 0 0 4 0 1))
-    ∷ ruled (spool 15 (onSheet "size=8A1")) (refused 11 1 33)
+    ∷ ruled (spool 15 18 (onSheet "size=4A1")) (accepted 6 (sixEntries 15 0 0 4 0 1))
+    ∷ ruled (spool 15 18 (onSheet "size=8A1")) (refused 11 1 33)
     -- "serials 1 and 01 together, 15"
-    ∷ ruled (spool 15 twoSerials) (refused 15 1 61)
+    ∷ ruled (spool 15 18 twoSerials) (refused 15 1 61)
     -- to keep out: "Volumes sorted by name: TEST10 before TEST2". They stand in spool order; in order by name the set is refused.
-    ∷ ruled (spool 15 (firstOfTwo ++ secondOfTwo)) (accepted 9 twoVolumesEntries)
-    ∷ ruled (spool 15 (secondOfTwo ++ firstOfTwo)) (refused 8 1 7)
+    ∷ ruled (spool 15 18 (firstOfTwo ++ secondOfTwo)) (accepted 9 twoVolumesEntries)
+    ∷ ruled (spool 15 18 (secondOfTwo ++ firstOfTwo)) (refused 8 1 7)
     -- to keep out: "013 taken as a number above 005: pos and circuit would be demanded"
-    ∷ ruled (spool 15 rangeThirteen) (accepted 7 thirteenEntries)
+    ∷ ruled (spool 15 18 rangeThirteen) (accepted 7 thirteenEntries)
     -- to keep out: "A skipped text whose `character` ends in `:{` swallowing the rest"
-    ∷ ruled (spool 1 endsInBrace) (accepted 8 unreadEntries)
+    ∷ ruled (spool 1 0 endsInBrace) (accepted 8 unreadEntries)
     -- "no comments, blanks or empty lines; keys in the order above; .. no needless zeros .. `-0` as `0`; next_file in capitals"
     ∷ ruled (fixed careless) (writes careful)
     ∷ []

@@ -6,6 +6,12 @@ pub struct Digits {
     pub last: u8,
 }
 
+// A range class: what a front end knows of symbols, and of wires (its wire part).
+pub struct Class {
+    pub symbols: Digits,
+    pub wires: Digits,
+}
+
 // The first broken rule: its number in document 01, and where.
 pub struct Refusal {
     pub number: u8,

@@ -10,6 +10,7 @@ use denote.Triple.Clauses.{AtExit}
 use borrow.Fn.Kinds.{PK, RK, Out, Dens, resT, endedOf}
 use Rattle.rules.specs.declared.Refusal.{Refusal}
 use Rattle.rules.specs.declared.Answer.the-variants.{Accepted, Refused}
+use Rattle.rules.specs.Answers.{fullNumber, fullWire}
 use Rattle.promises.specs.ReaderCalls.{Call, TwoCalls, Accepts, Refuses}
 use Rattle.promises.specs.RewriterCalls.{Rewriting, CallsBack, RewrittenBack}
 use Rattle.promises.specs.SingleCalls.{ReadCall, RewriteCall}
@@ -28,9 +29,10 @@ abbrev pub read-call : Learns read′.Kinds.ps read′.Kinds.r read′.Reads.Lea
 read-call κs x r e c = record {
   spool = now (x .0);
   class = x .1 .0;
-  before = now (x .1 .1 .0);
+  wire = x .1 .1 .0;
+  before = now (x .1 .1 .1 .0);
   answer = r;
-  after = now (e .1 .1 .0);
+  after = now (e .1 .1 .1 .0);
   answers = c .0;
   fills = c .1;
 }
@@ -62,9 +64,9 @@ rewrites-back κs x r e c n = rewriter-calls (rewrite-call κs x r e c) n
 -- what `read` accepts at class 15 is accepted by `rewrite`, with an output not shorter than the spool
 pub read-rewritten : (κs κs′ : Lfts 2) (x : Dens κs read′.Kinds.ps) (x′ : Dens κs′ rewrite′.Kinds.ps) (r : resT read′.Kinds.r κs .Denot) (r′ : resT rewrite′.Kinds.r κs′ .Denot)
     (e : AtExit (endedOf 2 read′.Kinds.ps read′.Kinds.r) κs) (e′ : AtExit (endedOf 2 rewrite′.Kinds.ps rewrite′.Kinds.r) κs′)
-    (c : read′.Reads.Learnt κs x r e) (c′ : rewrite′.Reads.Learnt κs′ x′ r′ e′) (k : ℕ) → read-call κs x r e c .class ≡ 15 → r ≡ Accepted k
+    (c : read′.Reads.Learnt κs x r e) (c′ : rewrite′.Reads.Learnt κs′ x′ r′ e′) (k : ℕ) → read-call κs x r e c .class ≡ fullNumber → read-call κs x r e c .wire ≡ fullWire → r ≡ Accepted k
     → now (x′ .0) ≡ now (x .0) → length (now (x′ .0)) ≤ length (now (x′ .1 .0)) → RewrittenBack k (rewrite-call κs′ x′ r′ e′ c′)
-read-rewritten κs κs′ x x′ r r′ e e′ c c′ k full a = accepted-rewrites (read-call κs x r e c) k full a (rewrite-call κs′ x′ r′ e′ c′)
+read-rewritten κs κs′ x x′ r r′ e e′ c c′ k full wide a = accepted-rewrites (read-call κs x r e c) k full wide a (rewrite-call κs′ x′ r′ e′ c′)
 
 -- the texts that the records of `read` point at
 pub read-texts : (κs : Lfts 2) (x : Dens κs read′.Kinds.ps) (r : resT read′.Kinds.r κs .Denot) (e : AtExit (endedOf 2 read′.Kinds.ps read′.Kinds.r) κs)

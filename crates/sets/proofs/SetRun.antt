@@ -9,14 +9,14 @@ use lib.IntN.{ℤ, pos}
 use lib.ListN.{length, getD, take, drop, replicate, length-drop}
 use lib.Seq.{drop-drop}
 use borrow.Author.Tests.{lt-ltb, le-ltb}
-use Rattle.rules.specs.declared.Digits.{Digits}
+use Rattle.rules.specs.declared.Class.{Class}
 use Rattle.rules.specs.declared.Refusal.{Refusal}
 use Rattle.rules.specs.Base.{isNil}
 use Rattle.rules.specs.Spool as P
 use Rattle.rules.specs.Spool.{volumesOf}
 use Rattle.rules.specs.Lines.{span, bytesAt}
 use Rattle.rules.specs.Sets.{Set, nothingYet}
-use Rattle.rules.specs.Machine.{Line, Env, top, ended}
+use Rattle.rules.specs.Machine.{Line, Env, top, ended, limitedTo}
 use Rattle.rules.specs.LineByLine.{refused, accepted, run}
 use Rattle.rules.specs.RecordTable.{recordsFrom, recordsOf, tableOf, width}
 use Rattle.rules.specs.Answers.{nextName, linesOfVolume, outcomeOfLines, outcomeOfVolumes, outcomeOf}
@@ -35,7 +35,7 @@ use Rattle.account.specs.declared.Through.the-variants as T
 use Rattle.account.specs.Walk.{endOf, At}
 use Rattle.standing.specs.Standing.{Desk}
 use Rattle.standing.specs.FileStanding.{InFile}
-use Rattle.standing.specs.Reading.{Standing, startOf, nextNumber, nextState, Kept, limitedTo, VolumeReady, VolumeOut, VolumePromise}
+use Rattle.standing.specs.Reading.{Standing, startOf, nextNumber, nextState, Kept, VolumeReady, VolumeOut, VolumePromise}
 use Rattle.sets.specs.SetReading.{nothingNow, nameBehind}
 use Rattle.promises.proofs.Limits.{taken-counts}
 use Rattle.standing.proofs.LaidTables.{laid-table}
@@ -74,7 +74,7 @@ pub outcome-lined : (e : Env) (spool : List ℕ) (vs : List P.Volume) → volume
 outcome-lined e spool vs z h = outcome-is e spool ∙ ap (outcomeOfVolumes e) z ∙ ap (outcomeOfLines e) (lined-listed 1 vs h)
 
 -- limit: how many records the table has room for; lent: how many numbers are lent for it
-module _ (c : Digits) (spool : List ℕ) (limit lent : ℕ) (l : Layout) where
+module _ (c : Class) (spool : List ℕ) (limit lent : ℕ) (l : Layout) where
   abbrev e : Env
   e = limitedTo c limit
 

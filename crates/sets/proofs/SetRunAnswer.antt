@@ -6,17 +6,17 @@ use mathlib.Core.Path.{_≡_, refl, sym, _∙_, ap}
 use native.Mathlib.Omega.{arith}
 use lib.IntN.{ℤ, pos}
 use lib.ListN.{length, replicate, length-replicate}
-use Rattle.rules.specs.declared.Digits.{Digits}
+use Rattle.rules.specs.declared.Class.{Class}
 use Rattle.rules.specs.declared.Refusal.{Refusal}
 use Rattle.rules.specs.declared.Answer.{Answer}
 use Rattle.rules.specs.declared.Answer.the-variants as A
 use Rattle.rules.specs.RangeClass.{classOf}
 use Rattle.rules.specs.LineByLine.{refused, accepted}
 use Rattle.rules.specs.RecordTable.{recordsOf, tableOf, width}
-use Rattle.rules.specs.Answers.{outcomeOf, outcomeAt, digitsOr, recordsIn, answerWith, refusal, readOutcome, readRecords, readAnswer, readTable}
-use Rattle.account.specs.declared.Class.the-variants as C
+use Rattle.rules.specs.Answers.{outcomeOf, outcomeAt, classOr, recordsIn, answerWith, refusal, readOutcome, readRecords, readAnswer, readTable}
+use Rattle.rules.specs.Machine.{limitedTo}
+use Rattle.account.specs.declared.MaybeClass.the-variants as C
 use Rattle.account.specs.Classes.{classIn}
-use Rattle.standing.specs.Reading.{limitedTo}
 use Rattle.sets.specs.SetReading.{SetOut}
 use Rattle.standing.proofs.LaidTables.{laid-table, laid-none}
 
@@ -24,48 +24,48 @@ use Rattle.standing.proofs.LaidTables.{laid-table, laid-none}
 pub table-none : (n : ℕ) → tableOf n [] ≡ replicate n (pos 0)
 table-none n = ap (λ (m : ℕ). tableOf m []) (sym (length-replicate n (pos 0))) ∙ sym (laid-table (replicate n (pos 0)) [] 0 (laid-none n))
 
-module _ (class len : ℕ) (spool : List ℕ) where
-  outcome-read : readOutcome class len spool ≡ outcomeAt (classOf class) (some (len / width)) spool
+module _ (class wire len : ℕ) (spool : List ℕ) where
+  outcome-read : readOutcome class wire len spool ≡ outcomeAt (classOf class wire) (some (len / width)) spool
   unfolding readOutcome
   outcome-read = refl
 
-  records-read : readRecords class len spool ≡ recordsIn (digitsOr (classOf class)) (readOutcome class len spool)
+  records-read : readRecords class wire len spool ≡ recordsIn (classOr (classOf class wire)) (readOutcome class wire len spool)
   unfolding readRecords
   records-read = refl
 
-  answer-read : readAnswer class len spool ≡ answerWith (length (readRecords class len spool)) (readOutcome class len spool)
+  answer-read : readAnswer class wire len spool ≡ answerWith (length (readRecords class wire len spool)) (readOutcome class wire len spool)
   unfolding readAnswer
   answer-read = refl
 
-  table-read : readTable class len spool ≡ tableOf len (readRecords class len spool)
+  table-read : readTable class wire len spool ≡ tableOf len (readRecords class wire len spool)
   unfolding readTable
   table-read = refl
 
   -- what is answered, and what the table holds
   abbrev pub Reads : Answer → List ℤ → Type 0
-  Reads a t = (a ≡ readAnswer class len spool) × (t ≡ readTable class len spool)
+  Reads a t = (a ≡ readAnswer class wire len spool) × (t ≡ readTable class wire len spool)
 
-  refused-reads : (n v k : ℕ) (t : List ℤ) → readOutcome class len spool ≡ refused n v k → t ≡ replicate len (pos 0) → Reads (refusal n v k) t
+  refused-reads : (n v k : ℕ) (t : List ℤ) → readOutcome class wire len spool ≡ refused n v k → t ≡ replicate len (pos 0) → Reads (refusal n v k) t
   refused-reads n v k t q h = (
-    sym (answer-read ∙ ap (answerWith (length (readRecords class len spool))) q),
-    h ∙ sym (table-none len) ∙ ap (tableOf len) (sym (records-read ∙ ap (recordsIn (digitsOr (classOf class))) q)) ∙ sym table-read,
+    sym (answer-read ∙ ap (answerWith (length (readRecords class wire len spool))) q),
+    h ∙ sym (table-none len) ∙ ap (tableOf len) (sym (records-read ∙ ap (recordsIn (classOr (classOf class wire))) q)) ∙ sym table-read,
   )
 
-  class-none : (o : Option Digits) → C.Not ≡ classIn o → o ≡ none
+  class-none : (o : Option Class) → C.Not ≡ classIn o → o ≡ none
   class-none none q = refl
   class-none (some c) q = absurd (let z : _≡_ {A = ℕ} 0 1 = cc in omega arith)
 
-  class-some : (o : Option Digits) (c : Digits) → C.Is c ≡ classIn o → o ≡ some c
+  class-some : (o : Option Class) (c : Class) → C.Is c ≡ classIn o → o ≡ some c
   class-some none c q = absurd (let z : _≡_ {A = ℕ} 0 1 = cc in omega arith)
   class-some (some d) c q = let z : c ≡ d = cc in ap some (sym z)
 
   -- no class
-  pub reads-none : (t : List ℤ) → C.Not ≡ classIn (classOf class) → t ≡ replicate len (pos 0) → Reads (refusal 1 0 0) t
-  reads-none t q h = refused-reads 1 0 0 t (outcome-read ∙ ap (λ (o : Option Digits). outcomeAt o (some (len / width)) spool) (class-none (classOf class) q)) h
+  pub reads-none : (t : List ℤ) → C.Not ≡ classIn (classOf class wire) → t ≡ replicate len (pos 0) → Reads (refusal 1 0 0) t
+  reads-none t q h = refused-reads 1 0 0 t (outcome-read ∙ ap (λ (o : Option Class). outcomeAt o (some (len / width)) spool) (class-none (classOf class wire) q)) h
 
-  module _ (c : Digits) (q : C.Is c ≡ classIn (classOf class)) where
-    outcome-class : readOutcome class len spool ≡ outcomeOf (limitedTo c (len / width)) spool
-    outcome-class = outcome-read ∙ ap (λ (o : Option Digits). outcomeAt o (some (len / width)) spool) (class-some (classOf class) c q)
+  module _ (c : Class) (q : C.Is c ≡ classIn (classOf class wire)) where
+    outcome-class : readOutcome class wire len spool ≡ outcomeOf (limitedTo c (len / width)) spool
+    outcome-class = outcome-read ∙ ap (λ (o : Option Class). outcomeAt o (some (len / width)) spool) (class-some (classOf class wire) c q)
 
     -- t₁: the table that the set left, t: cleared
     pub reads-refused : (f : Refusal) (t₀ t₁ t : List ℤ) → length t₀ ≡ len → length t₁ ≡ length t₀ → SetOut c spool (len / width) t₀ t₁ (A.Refused f) → t ≡ replicate (length t₁) (pos 0) → Reads (A.Refused f) t
@@ -74,10 +74,10 @@ module _ (class len : ℕ) (spool : List ℕ) where
     pub reads-accepted : (n : ℕ) (t₀ t : List ℤ) → length t₀ ≡ len → SetOut c spool (len / width) t₀ t (A.Accepted n) → Reads (A.Accepted n) t
     reads-accepted n t₀ t h z =
         let (s, p, m, u) = z in
-        let o : readOutcome class len spool ≡ accepted s = outcome-class ∙ p in
-        let r : readRecords class len spool ≡ recordsOf c s =
-        records-read ∙ ap (recordsIn (digitsOr (classOf class))) o ∙ ap (λ (o : Option Digits). recordsOf (digitsOr o) s) (class-some (classOf class) c q) in (
-          ap A.Accepted (m ∙ ap length (sym r)) ∙ sym (answer-read ∙ ap (answerWith (length (readRecords class len spool))) o),
+        let o : readOutcome class wire len spool ≡ accepted s = outcome-class ∙ p in
+        let r : readRecords class wire len spool ≡ recordsOf c s =
+        records-read ∙ ap (recordsIn (classOr (classOf class wire))) o ∙ ap (λ (o : Option Class). recordsOf (classOr o) s) (class-some (classOf class wire) c q) in (
+          ap A.Accepted (m ∙ ap length (sym r)) ∙ sym (answer-read ∙ ap (answerWith (length (readRecords class wire len spool))) o),
           u (ap (λ (m : ℕ). m / width) h) ∙ ap (λ (m : ℕ). tableOf m (recordsOf c s)) h ∙ ap (tableOf len) (sym r) ∙ sym table-read,
         )
 

@@ -6,7 +6,7 @@ use mathlib.Core.Path.{_≡_, refl, sym, subst}
 use native.Mathlib.Omega.{arith}
 use lib.IntN.{ℤ, pos}
 use lib.ListN.{length, getD, replicate, length-replicate}
-use Rattle.rules.specs.declared.Digits.{Digits}
+use Rattle.rules.specs.declared.Class.{Class}
 use Rattle.rules.specs.Blocks.{fileTable, rangeTable, elecTable, symTable}
 use Rattle.rules.specs.Sets.{nothingYet}
 use Rattle.rules.specs.Machine.{top}
@@ -33,7 +33,7 @@ none-used zero j = refl
 none-used (suc n) zero = refl
 none-used (suc n) (suc j) = none-used n j
 
-pub begin-stands : (c : Digits) (spool : List ℕ) → Standing c spool 1 (firstDesk nothingNow) 0 (top nothingYet 0)
+pub begin-stands : (c : Class) (spool : List ℕ) → Standing c spool 1 (firstDesk nothingNow) 0 (top nothingYet 0)
 begin-stands c spool = record {
   lengths = record {
     symbols = length-replicate {A = ℕ} mostSymbols 0;
@@ -62,5 +62,5 @@ begin-stands c spool = record {
   block = (refl, refl, (refl, λ h. record { layers = refl; symbols = refl }));
 }
 
-pub begin-kept : (c : Digits) (limit : ℕ) (t : List ℤ) → t ≡ replicate (length t) (pos 0) → Kept c limit t 0 (top nothingYet 0)
+pub begin-kept : (c : Class) (limit : ℕ) (t : List ℤ) → t ≡ replicate (length t) (pos 0) → Kept c limit t 0 (top nothingYet 0)
 begin-kept c limit t z = record { taken = refl; fits = omega arith; size = refl; laid = λ _. subst (λ (u : List ℤ). Laid u [] 0) (sym z) (laid-none (length t)) }

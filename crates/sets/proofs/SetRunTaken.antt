@@ -140,21 +140,21 @@ module _ (e : Env) (l : Line) (s : Set) where
 
   few-unknown : (k : ℕ) (fs : List Figure) (n : ℕ) (o : Held) (key : List ℕ) (c : Rest) → On Few (onUnknown e s k fs n o key c)
   few-unknown k fs n o key c =
-      on-cond Few (exceeds (rangeOf s) (e .class)) _ _
+      on-cond Few (exceeds (rangeOf s) (e .class .symbols)) _ _
       (λ _. on-skip Few (skipOf key c) _ _ none-taken none-taken)
       (λ _. on-byAct Few _ _ _ _ (actUnknown c) none-taken (λ j v. tt) (λ i j v _. tt) tt)
 
   few-key : (k : ℕ) (fs : List Figure) (n : ℕ) (o : Held) (key : List ℕ) (c : Rest) (f : Found) → On Few (onPlacedKey e s k fs n o key c f)
   few-key k fs n o key c absent = few-unknown k fs n o key c
   few-key k fs n o key c (found j r) =
-      on-cond Few (reaches (e .class) (r .least)) _ _
+      on-cond Few (reaches (e .class .symbols) (r .least)) _ _
       (λ _. few-placed k fs n o 0 (actRow (knownOf s) (rangeOf s) (getD (rowsThere (partOf o 0)) j false) j r c))
       (λ _. few-unknown k fs n o key c)
 
   few-own : (k : ℕ) (fs : List Figure) (n : ℕ) (o : Held) (p : ℕ) (f : Form) → On Few (onPlacing e s k fs n o p f)
   few-own k fs n o zero ignored = none-taken
   few-own k fs n o zero (wrong m) = tt
-  few-own k fs n o zero close = few-placed k fs n o 0 (act (knownOf s) placedTable (both (e .class) (rangeOf s)) (rowsThere (partOf o 0)) close)
+  few-own k fs n o zero close = few-placed k fs n o 0 (act (knownOf s) placedTable (both (e .class .symbols) (rangeOf s)) (rowsThere (partOf o 0)) close)
   few-own k fs n o zero eof = tt
   few-own k fs n o zero (keyed key c) = few-key k fs n o key c (find key placedTable)
   few-own k fs n o (suc p) f = few-placed k fs n o (suc p) (act (knownOf s) (getD placedTables (suc p) []) (digits 0 0) (rowsThere (partOf o (suc p))) f)

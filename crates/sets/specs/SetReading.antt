@@ -6,17 +6,17 @@ use mathlib.Core.List.{List, []}
 use lib.Dec.{ltb}
 use lib.IntN.{ℤ}
 use lib.ListN.{length, getD}
-use Rattle.rules.specs.declared.Digits.{Digits}
+use Rattle.rules.specs.declared.Class.{Class}
 use Rattle.rules.specs.declared.Answer.{Answer}
 use Rattle.rules.specs.declared.Answer.the-variants as A
 use Rattle.rules.specs.Sets.{Set}
 use Rattle.rules.specs.LineByLine.{refused, accepted}
 use Rattle.rules.specs.RecordTable.{recordsOf, tableOf, width}
 use Rattle.rules.specs.Answers.{outcomeOf, rewriteOutcome}
+use Rattle.rules.specs.Machine.{limitedTo}
 use Rattle.lines.specs.VolumeNames.{nameAt}
 use Rattle.account.specs.declared.Now.{Now}
 use Rattle.account.specs.Numbering.{blockTop}
-use Rattle.standing.specs.Reading.{limitedTo}
 
 -- before the first line: at the top level, no record was taken
 abbrev pub nothingNow : Now
@@ -27,7 +27,7 @@ abbrev pub nameBehind : List ℕ → List ℕ → ℕ → ℕ → List ℕ
 nameBehind spool places count i = cond (ltb (i + 1) count) (nameAt spool (getD places (i + 1) 0)) []
 
 -- limit: how many records the table has room for. t₁: the numbers on return, where they are the table. Refused, nothing is said of them.
-abbrev pub SetOut : Digits → List ℕ → ℕ → List ℤ → List ℤ → Answer → Type 0
+abbrev pub SetOut : Class → List ℕ → ℕ → List ℤ → List ℤ → Answer → Type 0
 SetOut c spool limit t₀ t₁ (A.Accepted n) =
     (s : Set) × (outcomeOf (limitedTo c limit) spool ≡ accepted s) × (n ≡ length (recordsOf c s))
     × (length t₀ / width ≡ limit → t₁ ≡ tableOf (length t₀) (recordsOf c s))

@@ -1,6 +1,6 @@
 // The reader.
 use account::BLOCK_TOP;
-use account::Class;
+use account::MaybeClass;
 use account::MOST_LAYERS;
 use account::MOST_SERIALS;
 use account::MOST_SYMBOLS;
@@ -15,6 +15,7 @@ use lines::ends::first_unsound;
 use lines::spool::volume_name;
 use lines::spool::volumes;
 use rules::Answer;
+use rules::Class;
 use rules::Digits;
 use rules::Refusal;
 use rules::Span;
@@ -54,7 +55,7 @@ fn name_behind(s: &[u8], places: [u32; 12], count: usize, i: usize) -> &[u8]
 
 // The volumes one after the other. Their records go into a table of zeros that has room for so many; where `t` is shorter, they are counted
 // and not kept.
-fn read_set(s: &[u8], class: Digits, limit: usize, t: &mut [i64]) -> Answer
+fn read_set(s: &[u8], class: Class, limit: usize, t: &mut [i64]) -> Answer
     requires { ⌜ (now t ≡ replicate (length (now t)) (pos 0)) × (limit + 2 ≤ 18446744073709551615) ⌝ }
     ensures { λ r. ⌜ SetOut class (now (s .entry)) limit (now (t .entry)) (now (t .exit)) r ⌝ }
 {
@@ -126,20 +127,20 @@ fn read_set(s: &[u8], class: Digits, limit: usize, t: &mut [i64]) -> Answer
     Answer::Accepted(here.records as u32)
 }
 
-// A spool, a range class and a lent table: the answer, and the records in the table. Refused, the table is all zeros; accepted, it is zero
+// A spool, a range class with its wire part, and a lent table: the answer, and the records in the table. Refused, the table is all zeros; accepted, it is zero
 // behind the last record, whatever it held before.
-pub fn read(s: &[u8], class: u64, t: &mut [i64]) -> Answer
-    ensures { λ r. ⌜ (r ≡ readAnswer class (length (now (t .entry))) (now (s .entry))) × (now (t .exit) ≡ readTable class (length (now (t .entry))) (now (s .entry))) ⌝ }
+pub fn read(s: &[u8], class: u64, wire: u64, t: &mut [i64]) -> Answer
+    ensures { λ r. ⌜ (r ≡ readAnswer class wire (length (now (t .entry))) (now (s .entry))) × (now (t .exit) ≡ readTable class wire (length (now (t .entry))) (now (s .entry))) ⌝ }
 {
     let limit = t.len() / WIDTH;
     clear(t);
-    match class_of(class) {
-        Class::Not => Answer::Refused(Refusal {
+    match class_of(class, wire) {
+        MaybeClass::Not => Answer::Refused(Refusal {
             number: 1,
             volume: 0,
             line: 0,
         }),
-        Class::Is(c) => {
+        MaybeClass::Is(c) => {
             let r = read_set(s, c, limit, t);
             match r {
                 Answer::Accepted(n) => Answer::Accepted(n),
@@ -160,5 +161,9 @@ pub(crate) fn judge(s: &[u8]) -> Answer
     ensures { λ r. ⌜ Judged (now (s .entry)) r ⌝ }
 {
     let mut nothing = [0i64; 1];
-    read_set(s, Digits { middle: 1, last: 5 }, MOST_RECORDS, &mut nothing)
+    let full = Class {
+        symbols: Digits { middle: 1, last: 5 },
+        wires: Digits { middle: 1, last: 8 },
+    };
+    read_set(s, full, MOST_RECORDS, &mut nothing)
 }

@@ -10,7 +10,7 @@ use lib.Dec.{eqb}
 use lib.IntN.{ℤ, pos}
 use lib.ListN.{length, getD, set, take, drop, length-append, length-set, length-take, take-append-drop, List·getD-append}
 use lib.Seq.{getD-append-add, set-append-left, take-at, drop-drop}
-use Rattle.rules.specs.declared.Digits.{Digits}
+use Rattle.rules.specs.declared.Class.{Class}
 use Rattle.rules.specs.Base.{flat}
 use Rattle.rules.specs.Values.{Num, valueAt, nums}
 use Rattle.rules.specs.Figures.{pointTable}
@@ -94,7 +94,7 @@ counted-own t a long =
     (ap (λ (u : List ℤ). set u 5 a) (sym (take-append-drop 32 (drop 32 t))) ∙ set-append-left (partAt 32 t) (drop 32 (drop 32 t)) 5 a (omega (arith, first))
     ∙ ap (λ (u : List ℤ). set (partAt 32 t) 5 a ++ u) (drop-drop 32 32 t))
 
-module _ (c : Digits) (s : Set) (h : Home) (fs : List Figure) (n : ℕ) (ps : List Point) (records : ℕ) (all : length (flat (shutSoFar c (successive s h fs n ps))) ≡ 32 * records) where
+module _ (c : Class) (s : Set) (h : Home) (fs : List Figure) (n : ℕ) (ps : List Point) (records : ℕ) (all : length (flat (shutSoFar c (successive s h fs n ps))) ≡ 32 * records) where
   abbrev fore : List (List ℤ)
   fore = figuresShut c s h fs
 

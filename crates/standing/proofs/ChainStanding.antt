@@ -9,7 +9,7 @@ use lib.Dec.{ltb}
 use lib.IntN.{ℤ, pos}
 use lib.ListN.{length, getD, set, take, drop, length-append, length-set, length-drop, take-append-drop}
 use lib.Seq.{drop-drop}
-use Rattle.rules.specs.declared.Digits.{Digits}
+use Rattle.rules.specs.declared.Class.{Class}
 use Rattle.rules.specs.declared.LineForm.{LineForm}
 use Rattle.rules.specs.RefusalNumbers.{got, unless}
 use Rattle.rules.specs.RangeClass.{digits}
@@ -58,7 +58,7 @@ closed-sight s h fs n ps =
     ap (λ (u : List ℕ). record { set = sight (successive s h fs n ps) .set; layers = s .drawing .layers; serials = u; used = usedOf (figures s h fs); inside = inside (figures s h fs); counts = true })
     (plain-serials s h fs (chain n ps) refl)
 
-module _ (c : Digits) (spool : List ℕ) (k : ℕ) (FileHere : Desk → Set → ℕ → Held → ℕ → Type 0) (d : Desk) (at to own : ℕ) (l : Line) (w : Where) (form : LineForm)
+module _ (c : Class) (spool : List ℕ) (k : ℕ) (FileHere : Desk → Set → ℕ → Held → ℕ → Type 0) (d : Desk) (at to own : ℕ) (l : Line) (w : Where) (form : LineForm)
     (x : LineHere spool k at to form w l) (s : Set) (h : Home) (fs : List Figure) (n : ℕ) (ps : List Point) (z : Stands c spool k d (FileHere d) at (successive s h fs n ps))
     (y : Counted c own d (successive s h fs n ps)) where
   abbrev st : State

@@ -8,11 +8,11 @@ use borrow.Author.Tests.{eq-eqb, ne-eqb}
 use lib.Dec.{eqb}
 use lib.IntN.{ℤ}
 use lib.ListN.{take}
-use Rattle.rules.specs.declared.Digits.{Digits}
+use Rattle.rules.specs.declared.Class.{Class}
 use Rattle.rules.specs.RefusalNumbers.{got}
 use Rattle.rules.specs.Rows.{Held}
 use Rattle.rules.specs.Sets.{Set, isFirst}
-use Rattle.rules.specs.Machine.{Line, State, setOf}
+use Rattle.rules.specs.Machine.{Line, State, setOf, unlimited}
 use Rattle.rules.specs.LineByLine.{stepIn}
 use Rattle.account.specs.declared.Now.{Now}
 use Rattle.account.specs.declared.Complete.{Complete}
@@ -23,7 +23,7 @@ use Rattle.account.specs.FileLines.{fileWidth}
 use Rattle.account.specs.Putting.{lineCompleted, closeCompleted, completed, closeNumber, numberFor, clearedBy}
 use Rattle.standing.specs.SoFar.{emptyRecord}
 use Rattle.standing.specs.Kept.{shutSoFar, Opens, Fills, FillsAll}
-use Rattle.standing.specs.Standing.{Desk, deskNow, deskScratch, unlimited, Made, StandsAt, Goes}
+use Rattle.standing.specs.Standing.{Desk, deskNow, deskScratch, Made, StandsAt, Goes}
 
 -- ── by the numbers of the two blocks ──
 -- where these are known, what is said of them is computed
@@ -61,7 +61,7 @@ number-same was is own b = ap (λ (x : Bool). cond x (was .records) (closeNumber
 
 -- ── the step ──
 -- what each block has to say of a line that goes on
-module _ (c : Digits) (spool : List ℕ) (k : ℕ) (FileHere : Desk → Set → ℕ → Held → ℕ → Type 0) (own : ℕ) (l : Line) (to : ℕ) (st : State) (d : Desk) (n : Now) (st′ : State)
+module _ (c : Class) (spool : List ℕ) (k : ℕ) (FileHere : Desk → Set → ℕ → Held → ℕ → Type 0) (own : ℕ) (l : Line) (to : ℕ) (st : State) (d : Desk) (n : Now) (st′ : State)
     (step : stepIn (unlimited c) l st ≡ got st′) where
   abbrev Behind : List ℤ → Type 0
   Behind t = StandsAt c spool k FileHere (deskNow (deskScratch d t) n) to st′

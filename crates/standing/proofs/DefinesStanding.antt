@@ -9,7 +9,7 @@ use lib.Dec.{eqb}
 use lib.IntN.{ℤ}
 use lib.ListN.{length, getD, take, replicate, length-replicate}
 use lib.Seq.{length-take-le}
-use Rattle.rules.specs.declared.Digits.{Digits}
+use Rattle.rules.specs.declared.Class.{Class}
 use Rattle.rules.specs.declared.LineForm.{LineForm}
 use Rattle.rules.specs.Base.{isNil}
 use Rattle.rules.specs.RefusalNumbers.{got, unless}
@@ -19,7 +19,7 @@ use Rattle.rules.specs.Values.{Known, Value}
 use Rattle.rules.specs.Rows.{Rule, Held, blank, rowsThere, Act, stay, entry, begin, shut, refuse, act}
 use Rattle.rules.specs.Blocks.{definesTable, symbolTable}
 use Rattle.rules.specs.Sets.{Symbol, Contents, Set, knownOf, defineRange, withRecords}
-use Rattle.rules.specs.Machine.{Line, State, top, defines, symbol, setOf, byAct, newName, newSymbol}
+use Rattle.rules.specs.Machine.{Line, State, top, defines, symbol, setOf, byAct, newName, newSymbol, unlimited}
 use Rattle.rules.specs.LineByLine.{stepIn}
 use Rattle.rules.specs.RecordTable.{ruleAt, start, kindSymbol}
 use Rattle.rules.proofs.Chains.{clash}
@@ -36,7 +36,7 @@ use Rattle.account.specs.Putting.{completed}
 use Rattle.account.specs.Account.{atBlock, headAt}
 use Rattle.standing.specs.SoFar.{volumeOf}
 use Rattle.standing.specs.Kept.{Scratch, Begins, Enters}
-use Rattle.standing.specs.Standing.{Desk, openFigures, nameBytes, serialBytes, Inside, First, InSymbol, CharsHere, isText, Stands, unlimited, LineHere, Counted, StepOut, symbolBytes, formSize}
+use Rattle.standing.specs.Standing.{Desk, openFigures, nameBytes, serialBytes, Inside, First, InSymbol, CharsHere, isText, Stands, LineHere, Counted, StepOut, symbolBytes, formSize}
 use Rattle.account.specs.SymbolLines.{nonIn, nonRead, symbolOpened, openSymbol, closeDefines, definesStep, SymbolBegun, Untouched, OpenedOr, DefinesRecord, DefinesLine}
 use Rattle.standing.proofs.Openers.{plainKind}
 use Rattle.standing.proofs.LineOrigins.{From, begin-from}
@@ -97,7 +97,7 @@ volume-here k s f = f .volume ∙ go (s .volumes) (f .first)
     go [] e = refl
     go (v ∷ vs) e = clash e refl
 
-module _ (c : Digits) (spool : List ℕ) (k : ℕ) (FileHere : Desk → Set → ℕ → Held → ℕ → Type 0) (d : Desk) (at to own : ℕ) (l : Line) (w : Where) (form : LineForm)
+module _ (c : Class) (spool : List ℕ) (k : ℕ) (FileHere : Desk → Set → ℕ → Held → ℕ → Type 0) (d : Desk) (at to own : ℕ) (l : Line) (w : Where) (form : LineForm)
     (x : LineHere spool k at to form w l) (s : Set) (b : Bool) (z : Stands c spool k d (FileHere d) at (defines s b)) (y : Counted c own d (defines s b)) where
   abbrev st : State
   st = defines s b

@@ -6,7 +6,7 @@ use mathlib.Core.Path.{_≡_, refl, sym, _∙_, ap, subst}
 use native.Mathlib.Omega.{arith}
 use lib.Dec.{eqb}
 use lib.ListN.{length, getD, set, take, length-append, length-set}
-use Rattle.rules.specs.declared.Digits.{Digits}
+use Rattle.rules.specs.declared.Class.{Class}
 use Rattle.rules.specs.declared.LineForm.{LineForm}
 use Rattle.rules.specs.Base.{flat, hasNumber}
 use Rattle.rules.specs.RefusalNumbers.{got, unless}
@@ -57,7 +57,7 @@ elementDesk d t used all = record {
   scratch = d .scratch;
 }
 
-module _ (c : Digits) (spool : List ℕ) (k : ℕ) (FileHere : Desk → Set → ℕ → Held → ℕ → Type 0) (d : Desk) (at to own : ℕ) (l : Line) (w : Where) (form : LineForm)
+module _ (c : Class) (spool : List ℕ) (k : ℕ) (FileHere : Desk → Set → ℕ → Held → ℕ → Type 0) (d : Desk) (at to own : ℕ) (l : Line) (w : Where) (form : LineForm)
     (x : LineHere spool k at to form w l) (s : Set) (z : Stands c spool k d (FileHere d) at (elements s)) (y : Counted c own d (elements s)) where
   abbrev st : State
   st = elements s

@@ -8,7 +8,7 @@ use mathlib.Core.Path.{_≡_, refl, sym, _∙_, ap}
 use native.Mathlib.Omega.{arith}
 use lib.IntN.{ℤ}
 use lib.ListN.{length, getD, set}
-use Rattle.rules.specs.declared.Digits.{Digits}
+use Rattle.rules.specs.declared.Class.{Class}
 use Rattle.rules.specs.Base.{all}
 use Rattle.rules.specs.Values.{Value}
 use Rattle.rules.specs.Rows.{Rule, Slots, Held, partOf, enter, rowsThere}
@@ -37,19 +37,19 @@ abbrev pub lineIn : ℕ → List Rule → ℕ → Value → List ℤ → List �
 lineIn from rows j v t = withPart from (putLine (ruleAt rows j) 0 v (partAt from t)) t
 
 -- ── any block ──
-pub stays : (c : Digits) (st : State) (t : List ℤ) → Scratch t st → Enters c st st t
+pub stays : (c : Class) (st : State) (t : List ℤ) → Scratch t st → Enters c st st t
 stays c st t x = record { same = refl; scratch = x }
 
 -- two states of which the table and the scratch say the same
-alike : (c : Digits) (st st′ : State) (t : List ℤ) → shutSoFar c st′ ≡ shutSoFar c st → ownOpen st ≡ ownOpen st′ → figureOpen st ≡ figureOpen st′ → Scratch t st → Enters c st st′ t
+alike : (c : Class) (st st′ : State) (t : List ℤ) → shutSoFar c st′ ≡ shutSoFar c st → ownOpen st ≡ ownOpen st′ → figureOpen st ≡ figureOpen st′ → Scratch t st → Enters c st st′ t
 alike c st st′ t same own figure x = record { same = same; scratch = scratch-same t st st′ x own figure }
 
 -- ── FILE_FORMAT: its numbers are kept apart ──
-pub file-enters : (c : Digits) (s : Set) (n : ℕ) (h h′ : Held) (p p′ : ℕ) (t : List ℤ) → Scratch t (file s n h p) → Enters c (file s n h p) (file s n h′ p′) t
+pub file-enters : (c : Class) (s : Set) (n : ℕ) (h h′ : Held) (p p′ : ℕ) (t : List ℤ) → Scratch t (file s n h p) → Enters c (file s n h p) (file s n h′ p′) t
 file-enters c s n h h′ p p′ t x = alike c (file s n h p) (file s n h′ p′) t refl refl refl x
 
 -- ── DRAWING_FORMAT ──
-module _ (c : Digits) (s : Set) (d : Drawing) (t : List ℤ) where
+module _ (c : Class) (s : Set) (d : Drawing) (t : List ℤ) where
   module _ (x : Scratch t (drawing s d)) (j : ℕ) (v : Value) (slots : length (d .own) ≡ 8) (it : Taken drawingTable (rowsThere (d .own)) j v) where
     abbrev d′ : Drawing
     d′ = withOwn (set (d .own) j (some v)) d
@@ -75,13 +75,13 @@ module _ (c : Digits) (s : Set) (d : Drawing) (t : List ℤ) where
 
 -- ── SYMBOL_DEFINE ──
 -- `NON=`
-pub non-enters : (c : Digits) (s : Set) (b b′ : Bool) (t : List ℤ) → Scratch t (defines s b) → Enters c (defines s b) (defines s b′) t
+pub non-enters : (c : Class) (s : Set) (b b′ : Bool) (t : List ℤ) → Scratch t (defines s b) → Enters c (defines s b) (defines s b′) t
 non-enters c s b b′ t x = alike c (defines s b) (defines s b′) t refl refl refl x
 
-pub defines-close : (c : Digits) (s : Set) (b : Bool) (t : List ℤ) → isFirst s ≡ true → Scratch t (defines s b) → Enters c (defines s b) (top s 3) t
+pub defines-close : (c : Class) (s : Set) (b : Bool) (t : List ℤ) → isFirst s ≡ true → Scratch t (defines s b) → Enters c (defines s b) (top s 3) t
 defines-close c s b t first x = alike c (defines s b) (top s 3) t (ap (baseRecords c s) first) refl refl x
 
-module _ (c : Digits) (s : Set) (y : Symbol) (t : List ℤ) where
+module _ (c : Class) (s : Set) (y : Symbol) (t : List ℤ) where
   abbrev n : ℕ
   n = length (s .symbols)
 
@@ -127,23 +127,23 @@ module _ (c : Digits) (s : Set) (y : Symbol) (t : List ℤ) where
       ∙ sym (append-assoc (frontRecords s) (emptyRecord ∷ innerRecords n y) (pointRecords kindHidden n 1 ps))) refl refl x
 
 -- ── ELEMENT ──
-pub layer-close : (c : Digits) (s : Set) (k : ℕ) (fs : List Figure) (t : List ℤ) → Scratch t (figures s (inLayer k) fs)
+pub layer-close : (c : Class) (s : Set) (k : ℕ) (fs : List Figure) (t : List ℤ) → Scratch t (figures s (inLayer k) fs)
     → Enters c (figures s (inLayer k) fs) (elements (withBlock (record { layer = k; figures = fs }) s)) t
 layer-close c s k fs t x =
     alike c (figures s (inLayer k) fs) (elements (withBlock (record { layer = k; figures = fs }) s)) t (layer-closed c (record { layer = k; figures = fs }) s) refl refl x
 
-pub elements-close : (c : Digits) (s : Set) (t : List ℤ) → Scratch t (elements s) → Enters c (elements s) (top (withVolume s) 4) t
+pub elements-close : (c : Class) (s : Set) (t : List ℤ) → Scratch t (elements s) → Enters c (elements s) (top (withVolume s) 4) t
 elements-close c s t x = alike c (elements s) (top (withVolume s) 4) t (volume-closed c s) refl refl x
 
 -- the next volume, and the end
-pub volume-anew : (c : Digits) (s : Set) (t : List ℤ) → Scratch t (top s 4) → Enters c (top s 4) (top s 0) t
+pub volume-anew : (c : Class) (s : Set) (t : List ℤ) → Scratch t (top s 4) → Enters c (top s 4) (top s 0) t
 volume-anew c s t x = alike c (top s 4) (top s 0) t refl refl refl x
 
-pub eof-enters : (c : Digits) (s : Set) (t : List ℤ) → Scratch t (top s 4) → Enters c (top s 4) (ended s) t
+pub eof-enters : (c : Class) (s : Set) (t : List ℤ) → Scratch t (top s 4) → Enters c (top s 4) (ended s) t
 eof-enters c s t x = alike c (top s 4) (ended s) t refl refl refl x
 
 -- ── a figure's text ──
-pub text-row : (c : Digits) (s : Set) (h : Home) (fs : List Figure) (n : ℕ) (o : Slots) (t : List ℤ) → Scratch t (texts s h fs n o) → (j : ℕ) (v : Value) → length o ≡ 2
+pub text-row : (c : Class) (s : Set) (h : Home) (fs : List Figure) (n : ℕ) (o : Slots) (t : List ℤ) → Scratch t (texts s h fs n o) → (j : ℕ) (v : Value) → length o ≡ 2
     → Taken (textRows (isLayer h)) (rowsThere o) j v → Enters c (texts s h fs n o) (texts s h fs n (set o j (some v))) (lineIn 32 (textRows (isLayer h)) j v t)
 text-row c s h fs n o t x j v slots it =
     let rule : Rule = ruleAt (textRows (isLayer h)) j in
@@ -156,7 +156,7 @@ text-row c s h fs n o t x j v slots it =
     }
 
 -- ── a placed symbol ──
-module _ (c : Digits) (s : Set) (k : ℕ) (fs : List Figure) (n : ℕ) (o : Held) (t : List ℤ) where
+module _ (c : Class) (s : Set) (k : ℕ) (fs : List Figure) (n : ℕ) (o : Held) (t : List ℤ) where
   housed-part : (q : ℕ) → q < 2 → all housed (getD placedTables q []) ≡ true
   housed-part zero h = placed-places
   housed-part (suc zero) h = text-places

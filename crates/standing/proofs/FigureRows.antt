@@ -11,6 +11,7 @@ use lib.IntN.{ℤ, pos}
 use lib.ListN.{length, replicate}
 use lib.Seq.{sets}
 use Rattle.rules.specs.declared.Digits.{Digits}
+use Rattle.rules.specs.declared.Class.{Class}
 use Rattle.rules.specs.Base.{all}
 use Rattle.rules.specs.RangeClass.{digits, digitsOf}
 use Rattle.rules.specs.Values.{Num, nums}
@@ -89,12 +90,12 @@ placed-key s (inLayer m) = layer-placed-key (isSingle s)
 
 -- ── a figure on one line ──
 -- `E_symbol=`: at E_sym 001 no attribute is allowed, so none is unread
-single-record : (c : Digits) (t : List Rule) (v : List Num) (owner volume line : ℕ)
+single-record : (c : Class) (t : List Rule) (v : List Num) (owner volume line : ℕ)
     → putSlot (ruleAt (layerTable true) 6) (some (nums v)) (start 16 owner volume line) ≡ placedRecord (record { class = c; symbols = digits 0 1; table = t }) 0 owner volume line ((some (nums v) ∷ []) ∷ [])
 unfolding layerTable placedTable textTable
 single-record c t v owner volume line = refl
 
-layer-line : (c d : Digits) (b : Bool) → (b ≡ true → d ≡ digits 0 1) → (j : ℕ) (v : List Num) (owner volume line : ℕ) → isValues (ruleAt (layerTable b) j .holds) ≡ true
+layer-line : (c : Class) (d : Digits) (b : Bool) → (b ≡ true → d ≡ digits 0 1) → (j : ℕ) (v : List Num) (owner volume line : ℕ) → isValues (ruleAt (layerTable b) j .holds) ≡ true
     → fills (ruleAt (layerTable b) j .holds) (numbers (nums v)) ≡ true
     → sets (putLine (ruleAt (layerTable b) j) 0 (nums v) emptyRecord) 0 (pos (lineKind true j) ∷ pos owner ∷ pos volume ∷ pos line ∷ []) ≡ lineRecord (record { class = c; symbols = d; table = layerTable b }) 0 owner volume line j v
 unfolding layerTable
@@ -126,7 +127,7 @@ abbrev pub lineMade : Set → Home → ℕ → ℕ → List Num → List ℤ
 lineMade s h line j v =
     sets (putLine (ruleAt (M.homeTable s h) j) 0 (nums v) emptyRecord) 0 (pos (lineKind (isLayer h) j) ∷ pos (homeOwner s h) ∷ pos (homeVolume s h) ∷ pos line ∷ [])
 
-pub line-record : (c : Digits) (s : Set) (h : Home) (line j : ℕ) (v : List Num) → isValues (ruleAt (M.homeTable s h) j .holds) ≡ true
+pub line-record : (c : Class) (s : Set) (h : Home) (line j : ℕ) (v : List Num) → isValues (ruleAt (M.homeTable s h) j .holds) ≡ true
     → fills (ruleAt (M.homeTable s h) j .holds) (numbers (nums v)) ≡ true → lineMade s h line j v ∷ [] ≡ homeFigure c s h (plain line j v)
 line-record c s (inElement y) line j v i f = ap (λ (r : List ℤ). r ∷ []) (element-line j v (homeOwner s (inElement y)) 1 line i f)
 line-record c s (inLayer m) line j v i f =

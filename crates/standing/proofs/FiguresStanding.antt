@@ -9,7 +9,7 @@ use lib.Dec.{eqb, leb}
 use lib.IntN.{ℤ, pos}
 use lib.ListN.{length, getD, set, take, replicate, length-append, length-replicate}
 use lib.Seq.{sets, length-sets}
-use Rattle.rules.specs.declared.Digits.{Digits}
+use Rattle.rules.specs.declared.Class.{Class}
 use Rattle.rules.specs.declared.LineForm.{LineForm}
 use Rattle.rules.specs.Base.{flat, isNil, hasNumber}
 use Rattle.rules.specs.RefusalNumbers.{got, unless}
@@ -74,7 +74,7 @@ figureAct spool d form =
 abbrev pub deskLent : Desk → List ℕ → List Bool → List Bool → List ℤ → Desk
 deskLent d tally marks inner t = deskKept d (d .now) tally marks inner (d .header) t
 
-module _ (c : Digits) (spool : List ℕ) (k : ℕ) (FileHere : Desk → Set → ℕ → Held → ℕ → Type 0) (d : Desk) (at to own : ℕ) (l : Line) (w : Where) (form : LineForm)
+module _ (c : Class) (spool : List ℕ) (k : ℕ) (FileHere : Desk → Set → ℕ → Held → ℕ → Type 0) (d : Desk) (at to own : ℕ) (l : Line) (w : Where) (form : LineForm)
     (x : LineHere spool k at to form w l) (s : Set) (fs : List Figure) where
   abbrev range : ℕ
   range = getD (d .tally) 1 0

@@ -7,7 +7,7 @@ use native.Mathlib.Omega.{arith}
 use lib.Dec.{eqb}
 use lib.IntN.{ℤ}
 use lib.ListN.{length, getD}
-use Rattle.rules.specs.declared.Digits.{Digits}
+use Rattle.rules.specs.declared.Class.{Class}
 use Rattle.rules.specs.Base.{isNil, same, total}
 use Rattle.rules.specs.Rows.{Held}
 use Rattle.rules.specs.Sets.{Drawing, Symbol, Contents, Set, withNow, arcOf, symbolRange, defineRange, elementsOf}
@@ -26,7 +26,7 @@ use Rattle.standing.proofs.ClearedKept.{file-cleared}
 abbrev pub fileDesk : Desk → List ℕ → List Bool → List ℤ → Desk
 fileDesk d tally marks header = deskKept d (d .now) tally marks (d .inner) header (d .scratch)
 
-module _ (c : Digits) (spool : List ℕ) (k : ℕ) (d : Desk) (at to : ℕ) (dr : Drawing) (sy : List Symbol) (nw : Contents) (taken n : ℕ) (h : Held) (p : ℕ) where
+module _ (c : Class) (spool : List ℕ) (k : ℕ) (d : Desk) (at to : ℕ) (dr : Drawing) (sy : List Symbol) (nw : Contents) (taken n : ℕ) (h : Held) (p : ℕ) where
   abbrev pub setWith : List Contents → Set
   setWith vs = record { drawing = dr; symbols = sy; volumes = vs; now = nw; taken = taken }
 

@@ -7,7 +7,7 @@ use native.Mathlib.Omega.{arith}
 use lib.Dec.{eqb}
 use lib.IntN.{ℤ}
 use lib.ListN.{length, getD, set, take, length-set}
-use Rattle.rules.specs.declared.Digits.{Digits}
+use Rattle.rules.specs.declared.Class.{Class}
 use Rattle.rules.specs.declared.LineForm.{LineForm}
 use Rattle.rules.specs.Base.{isNil}
 use Rattle.rules.specs.RefusalNumbers.{got, unless}
@@ -17,7 +17,7 @@ use Rattle.rules.specs.Values.{Known, Value, day, clock, nothingMore}
 use Rattle.rules.specs.Rows.{Rule, Held, partOf, enter, rowsThere, Act, stay, entry, begin, shut, refuse, act}
 use Rattle.rules.specs.Blocks.{around, fileTables}
 use Rattle.rules.specs.Sets.{Contents, Set, isFirst, knownOf}
-use Rattle.rules.specs.Machine.{Line, State, top, file, byAct, closeFile, shutPart}
+use Rattle.rules.specs.Machine.{Line, State, top, file, byAct, closeFile, shutPart, unlimited}
 use Rattle.rules.specs.LineByLine.{stepIn}
 use Rattle.rules.specs.RecordTable.{columns, putHeld, ruleAt}
 use Rattle.rules.proofs.Chains.{clash}
@@ -31,7 +31,7 @@ use Rattle.account.specs.declared.Step.{Step}
 use Rattle.account.specs.declared.Step.the-variants as S
 use Rattle.account.specs.Account.{atBlock}
 use Rattle.standing.specs.Kept.{Enters, FillsAll}
-use Rattle.standing.specs.Standing.{Desk, deskNow, Stands, unlimited, LineHere, Counted, StepOut}
+use Rattle.standing.specs.Standing.{Desk, deskNow, Stands, LineHere, Counted, StepOut}
 use Rattle.account.specs.FileLines.{fileTableOf, marksFrom, partMarks, keptIn, agrees, closedFile, closedTally, fileWidth, shutFile, fileStep, FileMarks, FileHeader, Shut, AtShut, FileLine}
 use Rattle.standing.specs.FileStanding.{fileHead, InFile}
 use Rattle.standing.proofs.Openers.{isBegin, no-begin}
@@ -49,7 +49,7 @@ use Rattle.standing.proofs.FileEntries.{name-value, name-closed, one-nu
 use Rattle.standing.proofs.FileEntered.{name-kind, date-kind, time-kind, plain-later, kept-open, part-moved, row-entered}
 use Rattle.standing.proofs.FileClosing.{fileDesk, agree-is, closed-first, closed-later}
 
-module _ (c : Digits) (spool : List ℕ) (k : ℕ) (d : Desk) (at to own : ℕ) (l : Line) (w : Where) (form : LineForm)
+module _ (c : Class) (spool : List ℕ) (k : ℕ) (d : Desk) (at to own : ℕ) (l : Line) (w : Where) (form : LineForm)
     (x : LineHere spool k at to form w l) (following : List ℕ) (nx : l .next ≡ following) (pf : PlacedForm (l .form)) (s : Set) (n : ℕ) (h : Held) (p : ℕ)
     (z : Stands c spool k d (InFile spool k d) at (file s n h p)) (y : Counted c own d (file s n h p)) where
   abbrev st : State

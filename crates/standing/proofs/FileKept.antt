@@ -5,7 +5,7 @@ use mathlib.Core.List.{List, [], _∷_, _++_, append-nil}
 use mathlib.Core.Path.{_≡_, refl, sym, _∙_, ap}
 use lib.IntN.{ℤ}
 use lib.ListN.{length, take, drop, take-append-drop}
-use Rattle.rules.specs.declared.Digits.{Digits}
+use Rattle.rules.specs.declared.Class.{Class}
 use Rattle.rules.specs.Base.{flat}
 use Rattle.rules.specs.Rows.{Held}
 use Rattle.rules.specs.Blocks.{fileTables}
@@ -22,7 +22,7 @@ use Rattle.standing.specs.Kept.{FillsAll}
 abbrev pub fileClosed : Set → ℕ → Held → State
 fileClosed s n h = top (withNow (record { line = n; file = h; blocks = [] }) s) (cond (isFirst s) 1 3)
 
-module _ (c : Digits) (d : Drawing) (ys : List Symbol) (now : Contents) (taken n : ℕ) (h : Held) (p own : ℕ) (hd : List ℤ) where
+module _ (c : Class) (d : Drawing) (ys : List Symbol) (now : Contents) (taken n : ℕ) (h : Held) (p own : ℕ) (hd : List ℤ) where
   abbrev with : List Contents → Set
   with vs = record { drawing = d; symbols = ys; volumes = vs; now = now; taken = taken }
 
@@ -60,7 +60,7 @@ module _ (c : Digits) (d : Drawing) (ys : List Symbol) (now : Contents) (taken n
       }
 
 -- own: how many records stand before them; hd: the numbers kept apart, of which the records' own are the first
-pub file-fills : (c : Digits) (s : Set) (n : ℕ) (h : Held) (p own : ℕ) (hd : List ℤ)
+pub file-fills : (c : Class) (s : Set) (n : ℕ) (h : Held) (p own : ℕ) (hd : List ℤ)
     → take (fileWidth (isFirst s)) hd ≡ putHeld (fileTables (isFirst s)) h (fileHead (isFirst s) (volumeOf s) n) → length (flat (closedRecords c s)) ≡ 32 * own
     → FillsAll c (file s n h p) (fileClosed s n h) 0 own (take (fileWidth (isFirst s)) hd)
 file-fills c s n h p own hd f o = closes c (s .drawing) (s .symbols) (s .now) (s .taken) n h p own hd (s .volumes) f o

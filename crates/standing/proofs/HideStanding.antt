@@ -6,7 +6,7 @@ use mathlib.Core.Path.{_≡_, refl, sym, _∙_, ap, subst}
 use native.Mathlib.Omega.{arith}
 use lib.IntN.{ℤ}
 use lib.ListN.{length, getD, take, length-append}
-use Rattle.rules.specs.declared.Digits.{Digits}
+use Rattle.rules.specs.declared.Class.{Class}
 use Rattle.rules.specs.declared.LineForm.{LineForm}
 use Rattle.rules.specs.RangeClass.{digits}
 use Rattle.rules.specs.Lines.{formIn}
@@ -39,7 +39,7 @@ use Rattle.standing.proofs.Standings.{deskWith, stands-on, known, stand
 use Rattle.standing.proofs.HomeFacts.{symbol-on}
 use Rattle.standing.proofs.PointEntries.{point-rows, plain-points, point-few, point-put}
 
-module _ (c : Digits) (spool : List ℕ) (k : ℕ) (FileHere : Desk → Set → ℕ → Held → ℕ → Type 0) (d : Desk) (at to own : ℕ) (l : Line) (w : Where) (form : LineForm)
+module _ (c : Class) (spool : List ℕ) (k : ℕ) (FileHere : Desk → Set → ℕ → Held → ℕ → Type 0) (d : Desk) (at to own : ℕ) (l : Line) (w : Where) (form : LineForm)
     (x : LineHere spool k at to form w l) (s : Set) (v : Symbol) (ps : List Point) (z : Stands c spool k d (FileHere d) at (hide s v ps)) (y : Counted c own d (hide s v ps)) where
   abbrev st : State
   st = hide s v ps

@@ -5,7 +5,7 @@ use mathlib.Core.Path.{_≡_, refl, sym, _∙_, ap, subst}
 use native.Mathlib.Omega.{arith}
 use lib.IntN.{ℤ}
 use lib.ListN.{length, take, drop, replicate, length-append, length-replicate}
-use Rattle.rules.specs.declared.Digits.{Digits}
+use Rattle.rules.specs.declared.Class.{Class}
 use Rattle.rules.specs.Base.{flat}
 use Rattle.rules.specs.Machine.{State, setOf}
 use Rattle.account.specs.Records.{partAt, withPart, withNumbers}
@@ -34,7 +34,7 @@ size-more : (rs : List (List ℤ)) (more : ℕ) → length (flat (rs ++ replicat
 size-more rs more = ap length (flat-append rs (replicate more emptyRecord)) ∙ length-append (flat rs) (flat (replicate more emptyRecord)) ∙ omega (arith, size-empty more)
 
 -- one record is a list of one
-pub fills-all : (c : Digits) (st st′ : State) (more from number : ℕ) (t : List ℤ) → Fills c st st′ more from number t → FillsAll c st st′ more number (partAt from t)
+pub fills-all : (c : Class) (st st′ : State) (more from number : ℕ) (t : List ℤ) → Fills c st st′ more from number t → FillsAll c st st′ more number (partAt from t)
 fills-all c st st′ more from number t f = record {
   fore = f .fore;
   made = partAt from t ∷ [];
@@ -46,7 +46,7 @@ fills-all c st st′ more from number t f = record {
   long = f .long;
 }
 
-module _ (c : Digits) (limit : ℕ) (table : List ℤ) (records more : ℕ) (st st′ : State) (k : Kept c limit table records st) (taken : setOf st′ .taken ≡ records + more) (fits : records + more ≤ limit) where
+module _ (c : Class) (limit : ℕ) (table : List ℤ) (records more : ℕ) (st st′ : State) (k : Kept c limit table records st) (taken : setOf st′ .taken ≡ records + more) (fits : records + more ≤ limit) where
   grown : length table / 32 ≡ limit → Laid table (shutSoFar c st ++ replicate more emptyRecord) (32 * (records + more))
   grown w =
       let e : 32 * records + 32 * more ≡ 32 * (records + more) = omega arith in
@@ -88,6 +88,6 @@ module _ (c : Digits) (limit : ℕ) (table : List ℤ) (records more : ℕ) (st 
       (λ w. put w ∙ ap (λ (n : ℕ). take (32 * number) table ++ (u ++ drop (32 * number + n) table)) (sym (f .long)))
 
 -- a record of one line is complete where it is taken: it is the next one
-pub fills-one : (c : Digits) (records : ℕ) (st st′ : State) → length (flat (shutSoFar c st)) ≡ 32 * records → (from : ℕ) (t : List ℤ) → length (partAt from t) ≡ 32
+pub fills-one : (c : Class) (records : ℕ) (st st′ : State) → length (flat (shutSoFar c st)) ≡ 32 * records → (from : ℕ) (t : List ℤ) → length (partAt from t) ≡ 32
     → shutSoFar c st′ ≡ shutSoFar c st ++ partAt from t ∷ [] → Fills c st st′ 1 from records t
 fills-one c records st st′ size from t long grown = record { fore = shutSoFar c st; behind = []; before = refl; after = grown; size = size; long = long }

@@ -9,7 +9,7 @@ use lib.Dec.{ltb}
 use lib.IntN.{ℤ, pos}
 use lib.ListN.{length, getD, set, take, drop, length-append, length-take}
 use lib.Seq.{sets}
-use Rattle.rules.specs.declared.Digits.{Digits}
+use Rattle.rules.specs.declared.Class.{Class}
 use Rattle.rules.specs.declared.LineForm.{LineForm}
 use Rattle.rules.specs.Base.{among}
 use Rattle.rules.specs.RefusalNumbers.{Got, got, bad, unless, mapG, andThen}
@@ -19,7 +19,7 @@ use Rattle.rules.specs.Values.{Value, isLayerId}
 use Rattle.rules.specs.Rows.{Held}
 use Rattle.rules.specs.Blocks.{mostLayers}
 use Rattle.rules.specs.Sets.{Layer, Drawing, Set, withLayer, withRecords}
-use Rattle.rules.specs.Machine.{Line, State, drawing, layerNames, layerValue, onLayerNames}
+use Rattle.rules.specs.Machine.{Line, State, drawing, layerNames, layerValue, onLayerNames, unlimited}
 use Rattle.rules.specs.LineByLine.{stepIn}
 use Rattle.rules.specs.RecordTable.{numbers, padded, layerRecord, kindLayer}
 use Rattle.rules.proofs.Chains.{unless-got, then-got, map-append}
@@ -32,7 +32,7 @@ use Rattle.account.specs.Records.{partAt, withPart}
 use Rattle.account.specs.Account.{atBlock}
 use Rattle.standing.specs.SoFar.{emptyRecord}
 use Rattle.standing.specs.Kept.{Scratch, Enters}
-use Rattle.standing.specs.Standing.{Desk, InDrawing, Stands, unlimited, LineHere, Counted, StepOut}
+use Rattle.standing.specs.Standing.{Desk, InDrawing, Stands, LineHere, Counted, StepOut}
 use Rattle.account.specs.TopLines.{layersOf}
 use Rattle.account.specs.DrawingLines.{layerTaken, layerPut, LayerIn, layerGot, LayerOn, layerStep, namesStep, NamesOn, NamesLine}
 use Rattle.standing.proofs.LaidTables.{part-of, with-back}
@@ -79,7 +79,7 @@ deskNames d tally layers t = record {
   scratch = t;
 }
 
-module _ (c : Digits) (spool : List ℕ) (k : ℕ) (FileHere : Desk → Set → ℕ → Held → ℕ → Type 0) (d : Desk) (at to own : ℕ) (l : Line) (w : Where) (form : LineForm)
+module _ (c : Class) (spool : List ℕ) (k : ℕ) (FileHere : Desk → Set → ℕ → Held → ℕ → Type 0) (d : Desk) (at to own : ℕ) (l : Line) (w : Where) (form : LineForm)
     (x : LineHere spool k at to form w l) (s : Set) (g : Drawing) (z : Stands c spool k d (FileHere d) at (layerNames s g)) (y : Counted c own d (layerNames s g)) where
   abbrev st : State
   st = layerNames s g

@@ -7,7 +7,7 @@ use mathlib.Core.Path.{_≡_, refl, sym, _∙_, ap}
 use native.Mathlib.Omega.{arith}
 use lib.IntN.{ℤ}
 use lib.ListN.{length, length-append}
-use Rattle.rules.specs.declared.Digits.{Digits}
+use Rattle.rules.specs.declared.Class.{Class}
 use Rattle.rules.specs.Base.{flat}
 use Rattle.rules.specs.Values.{nums}
 use Rattle.rules.specs.Figures.{pointTable}
@@ -24,7 +24,7 @@ use Rattle.standing.proofs.KeptLaws.{fills-one}
 use Rattle.standing.proofs.ClosesKept.{shut-taken}
 
 -- records: how many were taken before the line; t: the scratch behind the block's part of it
-pub layer-fills : (c : Digits) (s : Set) (d : Drawing) (y : Layer) (records : ℕ) → length (flat (shutSoFar c (layerNames s d))) ≡ 32 * records → (t : List ℤ)
+pub layer-fills : (c : Class) (s : Set) (d : Drawing) (y : Layer) (records : ℕ) → length (flat (shutSoFar c (layerNames s d))) ≡ 32 * records → (t : List ℤ)
     → partAt 32 t ≡ layerRecord (length (d .layers)) y → Fills c (layerNames s d) (layerNames (withRecords (kindLayer ∷ []) s) (withLayer y d)) 1 32 records t
 layer-fills c s d y records all t put =
     let fore : List (List ℤ) = fileRecords true 1 (s .now) in
@@ -53,21 +53,21 @@ behind-points fore kind owner volume ps p u put =
     ap (λ (r : List (List ℤ)). fore ++ r) (more-points kind owner volume ps p ∙ ap (λ (y : List ℤ). pointRecords kind owner volume ps ++ y ∷ []) (sym put))
     ∙ sym (append-assoc fore (pointRecords kind owner volume ps) (u ∷ []))
 
-pub hidden-fills : (c : Digits) (s : Set) (y : Symbol) (ps : List Point) (p : Point) (records : ℕ) → length (flat (shutSoFar c (hide s y ps))) ≡ 32 * records → (t : List ℤ)
+pub hidden-fills : (c : Class) (s : Set) (y : Symbol) (ps : List Point) (p : Point) (records : ℕ) → length (flat (shutSoFar c (hide s y ps))) ≡ 32 * records → (t : List ℤ)
     → partAt 32 t ≡ pointRecord kindHidden (length (s .symbols)) 1 p → Fills c (hide s y ps) (hide (withRecords (kindHidden ∷ []) s) y (ps ++ p ∷ [])) 1 32 records t
 hidden-fills c s y ps p records all t put =
     fills-one c records (hide s y ps) (hide (withRecords (kindHidden ∷ []) s) y (ps ++ p ∷ [])) all 32 t (ap length put ∙ point-long kindHidden (length (s .symbols)) 1 p)
     (behind-points (symbolShut s y) kindHidden (length (s .symbols)) 1 ps p (partAt 32 t) put)
 
 -- how many were taken says nothing of a chain
-chain-taken : (c : Digits) (s : Set) (ks : List ℕ) (h : Home) (fs : List Figure) (n : ℕ) (ps : List Point)
+chain-taken : (c : Class) (s : Set) (ks : List ℕ) (h : Home) (fs : List Figure) (n : ℕ) (ps : List Point)
     → shutSoFar c (successive (withRecords ks s) h fs n ps) ≡ shutSoFar c (successive s h fs n ps)
 chain-taken c s ks (inElement y) fs n ps = refl
 chain-taken c s ks (inLayer m) fs n ps =
     ap (λ (r : List (List ℤ)). r ++ emptyRecord ∷ pointRecords (kindPoint + homeMore (inLayer m)) m (homeVolume s (inLayer m)) ps) (shut-taken c s ks (inLayer m) fs)
 
 -- its own record stays where it is, and open
-pub point-fills : (c : Digits) (s : Set) (h : Home) (fs : List Figure) (n : ℕ) (ps : List Point) (p : Point) (records : ℕ) → length (flat (shutSoFar c (successive s h fs n ps))) ≡ 32 * records → (t : List ℤ)
+pub point-fills : (c : Class) (s : Set) (h : Home) (fs : List Figure) (n : ℕ) (ps : List Point) (p : Point) (records : ℕ) → length (flat (shutSoFar c (successive s h fs n ps))) ≡ 32 * records → (t : List ℤ)
     → partAt 64 t ≡ pointRecord (kindPoint + homeMore h) (homeOwner s h) (homeVolume s h) p
     → Fills c (successive s h fs n ps) (successive (withRecords (kindIn h kindPoint ∷ []) s) h fs n (ps ++ p ∷ [])) 1 64 records t
 point-fills c s h fs n ps p records all t put =

@@ -8,7 +8,7 @@ use native.Mathlib.Omega.{arith}
 use lib.Dec.{eqb}
 use lib.IntN.{ℤ}
 use lib.ListN.{length}
-use Rattle.rules.specs.declared.Digits.{Digits}
+use Rattle.rules.specs.declared.Class.{Class}
 use Rattle.rules.specs.Base.{flat}
 use Rattle.rules.specs.RangeClass.{digitsOf}
 use Rattle.rules.specs.Values.{nums}
@@ -97,22 +97,22 @@ file-block u s = go (s .volumes)
 range-block : (u : LayerBlock) (s : Set) → symbolRange (withBlock u s) ≡ symbolRange s
 range-block u s = ap (λ (f : Held). numberOf "E_sym" elecTable (partOf f 3)) (file-block u s)
 
-closed-block : (c : Digits) (u : LayerBlock) (s : Set) → closedRecords c (withBlock u s) ≡ closedRecords c s
+closed-block : (c : Class) (u : LayerBlock) (s : Set) → closedRecords c (withBlock u s) ≡ closedRecords c s
 closed-block c u s = go (s .volumes) refl
   where
     go : (vs : List Contents) → s .volumes ≡ vs → closedRecords c (withBlock u s) ≡ closedRecords c s
     go [] e = rw e
     go (v ∷ vs) e = rw e
 
-base-block : (c : Digits) (u : LayerBlock) (s : Set) (b : Bool) → baseRecords c (withBlock u s) b ≡ baseRecords c s b
+base-block : (c : Class) (u : LayerBlock) (s : Set) (b : Bool) → baseRecords c (withBlock u s) b ≡ baseRecords c s b
 base-block c u s true = refl
 base-block c u s false = ap (λ (r : Records). r ++ fileRecords false (volumeOf s) (s .now)) (closed-block c u s)
 
 -- the records of closed layers, by the file's E_sym
-abbrev pub layersBy : Digits → Set → List LayerBlock → ℕ → Records
+abbrev pub layersBy : Class → Set → List LayerBlock → ℕ → Records
 layersBy c s us n = flat (map (blockRecords (record { class = c; symbols = digitsOf n; table = layerTable (eqb n 1) }) (volumeOf s)) us)
 
-pub layer-closed : (c : Digits) (u : LayerBlock) (s : Set) → layersRecords c (withBlock u s) ≡ layersRecords c s ++ flat (map (homeFigure c s (inLayer (u .layer))) (u .figures))
+pub layer-closed : (c : Class) (u : LayerBlock) (s : Set) → layersRecords c (withBlock u s) ≡ layersRecords c s ++ flat (map (homeFigure c s (inLayer (u .layer))) (u .figures))
 layer-closed c u s =
     ap (λ (n : ℕ). baseRecords c (withBlock u s) (isFirst s) ++ layersBy c s (s .now .blocks ++ u ∷ []) n) (range-block u s)
     ∙ ap (λ (r : Records). r ++ layersBy c s (s .now .blocks ++ u ∷ []) (symbolRange s)) (base-block c u s (isFirst s))
@@ -136,7 +136,7 @@ module _ (w : View) where
       along : (k n : ℕ) → suc k + n ≡ k + suc n
       along k n = omega arith
 
-module _ (c : Digits) (d : Drawing) (ys : List Symbol) (now : Contents) (n : ℕ) where
+module _ (c : Class) (d : Drawing) (ys : List Symbol) (now : Contents) (n : ℕ) where
   abbrev with : List Contents → Set
   with vs = record { drawing = d; symbols = ys; volumes = vs; now = now; taken = n }
 
@@ -153,21 +153,21 @@ module _ (c : Digits) (d : Drawing) (ys : List Symbol) (now : Contents) (n : ℕ
       ∙ sym (append-assoc (first v vs) (laterRecords w 2 vs) (fileRecords false k now ++ bodyRecords w k now))
       ∙ sym (append-assoc (first v vs ++ laterRecords w 2 vs) (fileRecords false k now) (bodyRecords w k now))
 
-pub volume-closed : (c : Digits) (s : Set) → closedRecords c (withVolume s) ≡ layersRecords c s
+pub volume-closed : (c : Class) (s : Set) → closedRecords c (withVolume s) ≡ layersRecords c s
 volume-closed c s = closed-with c (s .drawing) (s .symbols) (s .now) (s .taken) (s .volumes)
 
 -- ── how many records were taken says nothing of what they are ──
-from-taken : (c : Digits) (s : Set) (ks : List ℕ) (vs : List Contents) → recordsFrom c (withRecords ks s) vs ≡ recordsFrom c s vs
+from-taken : (c : Class) (s : Set) (ks : List ℕ) (vs : List Contents) → recordsFrom c (withRecords ks s) vs ≡ recordsFrom c s vs
 from-taken c s ks [] = refl
 from-taken c s ks (v ∷ vs) = refl
 
-pub closed-taken : (c : Digits) (s : Set) (ks : List ℕ) → closedRecords c (withRecords ks s) ≡ closedRecords c s
+pub closed-taken : (c : Class) (s : Set) (ks : List ℕ) → closedRecords c (withRecords ks s) ≡ closedRecords c s
 closed-taken c s ks = from-taken c s ks (s .volumes)
 
-base-taken : (c : Digits) (s : Set) (ks : List ℕ) (b : Bool) → baseRecords c (withRecords ks s) b ≡ baseRecords c s b
+base-taken : (c : Class) (s : Set) (ks : List ℕ) (b : Bool) → baseRecords c (withRecords ks s) b ≡ baseRecords c s b
 base-taken c s ks true = refl
 base-taken c s ks false = ap (λ (r : Records). r ++ fileRecords false (volumeOf s) (s .now)) (closed-taken c s ks)
 
-pub layers-taken : (c : Digits) (s : Set) (ks : List ℕ) → layersRecords c (withRecords ks s) ≡ layersRecords c s
+pub layers-taken : (c : Class) (s : Set) (ks : List ℕ) → layersRecords c (withRecords ks s) ≡ layersRecords c s
 layers-taken c s ks =
     ap (λ (r : Records). r ++ bodyRecords (viewOf c s) (volumeOf s) (s .now)) (base-taken c s ks (isFirst s))

@@ -4,7 +4,7 @@ use mathlib.Core.Bool.{Bool}
 use mathlib.Core.List.{List, [], _∷_}
 use mathlib.Core.Path.{_≡_, sym, subst}
 use lib.ListN.{getD}
-use Rattle.rules.specs.declared.Digits.{Digits}
+use Rattle.rules.specs.declared.Class.{Class}
 use Rattle.rules.specs.Rows.{Slots, Held}
 use Rattle.rules.specs.Sets.{Point, Figure, Drawing, Symbol, Set}
 use Rattle.rules.specs.Machine.{Home, State, top, file, drawing, layerNames, defines, symbol, hide, elements, figures, successive, texts, placing, skipping, ended}
@@ -51,7 +51,7 @@ pub data InAPlaced : State → Type 0 where
 abbrev Open : ℕ → State → Type 0
 Open n st = getD (AtTop st ∷ InFileFormat st ∷ InDrawingFormat st ∷ InLayerNames st ∷ InDefines st ∷ InASymbol st ∷ InAHide st ∷ InElement st ∷ AmongFigures st ∷ InAChain st ∷ InAText st ∷ InAPlaced st ∷ []) n (Unit {0})
 
-module _ (c : Digits) (spool : List ℕ) (k : ℕ) (d : Desk) (F : Set → ℕ → Held → ℕ → Type 0) where
+module _ (c : Class) (spool : List ℕ) (k : ℕ) (d : Desk) (F : Set → ℕ → Held → ℕ → Type 0) where
   open-block : (st : State) → Inside c spool k d F st → Open (d .now .block) st
   open-block (top s m) i = subst (λ (block : ℕ). Open block (top s m)) (sym (i .0)) (here s m)
   open-block (file s n h p) i = subst (λ (block : ℕ). Open block (file s n h p)) (sym (i .0)) (here s n h p)

@@ -6,7 +6,7 @@ use mathlib.Core.Path.{_≡_, sym, ap, subst}
 use native.Mathlib.Omega.{arith}
 use lib.Dec.{eqb}
 use lib.ListN.{length}
-use Rattle.rules.specs.declared.Digits.{Digits}
+use Rattle.rules.specs.declared.Class.{Class}
 use Rattle.rules.specs.Sets.{isFirst}
 use Rattle.rules.specs.Machine.{State}
 use Rattle.standing.specs.Standing.{Desk}
@@ -16,7 +16,7 @@ use Rattle.account.specs.FileLines.{PartOpen, FileReady}
 use Rattle.standing.proofs.OpenBlocks
 use Rattle.standing.proofs.Standings.{first-volume}
 
-module _ (c : Digits) (spool : List ℕ) (k : ℕ) (d : Desk) (at : ℕ) (st : State) (z : Standing c spool k d at st) where
+module _ (c : Class) (spool : List ℕ) (k : ℕ) (d : Desk) (at : ℕ) (st : State) (z : Standing c spool k d at st) where
   -- ── in every block ──
   pub tally-long : length (d .tally) ≡ 12
   tally-long = ap length (z .tally)

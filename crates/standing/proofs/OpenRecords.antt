@@ -7,7 +7,7 @@ use mathlib.Core.Path.{_≡_, refl, sym, _∙_, ap}
 use lib.IntN.{ℤ, pos}
 use lib.ListN.{length, getD, set, drop}
 use lib.Seq.{length-sets}
-use Rattle.rules.specs.declared.Digits.{Digits}
+use Rattle.rules.specs.declared.Class.{Class}
 use Rattle.rules.specs.Base.{all}
 use Rattle.rules.specs.Numbers.{value}
 use Rattle.rules.specs.Values.{Value}
@@ -62,7 +62,7 @@ unfolding symbolTable
 blank-record owner line = refl
 
 -- ── a `successive`'s ──
-pub chain-figure : (c : Digits) (s : Set) (h : Home) (n : ℕ) (ps : List Point)
+pub chain-figure : (c : Class) (s : Set) (h : Home) (n : ℕ) (ps : List Point)
     → homeFigure c s h (chain n ps) ≡ chainRecord (homeMore h) (homeOwner s h) (homeVolume s h) n ps ∷ pointRecords (17 + homeMore h) (homeOwner s h) (homeVolume s h) ps
 chain-figure c s (inElement y) n ps = refl
 chain-figure c s (inLayer m) n ps = refl
@@ -99,7 +99,7 @@ text-entry b o j v more owner volume line e k =
     ∙ own-line (textRows b) o j v f (e ∙ sym (two-rows b)) (k .row) (mark-free o j (k .free)) (k .fill) (clear-text b) (housed-text b)
     ∙ same-rows b (set o j (some v)) f
 
-pub text-figure : (c : Digits) (s : Set) (h : Home) (n : ℕ) (o : Slots) → homeFigure c s h (lettering n o) ≡ textRecord (homeMore h) (homeOwner s h) (homeVolume s h) n o ∷ []
+pub text-figure : (c : Class) (s : Set) (h : Home) (n : ℕ) (o : Slots) → homeFigure c s h (lettering n o) ≡ textRecord (homeMore h) (homeOwner s h) (homeVolume s h) n o ∷ []
 text-figure c s (inElement y) n o = refl
 text-figure c s (inLayer m) n o = refl
 

@@ -8,7 +8,7 @@ use borrow.Author.Tests.{eqb-true}
 use lib.Dec.{eqb, leb, ltb}
 use lib.IntN.{ℤ}
 use lib.ListN.{length, getD, set}
-use Rattle.rules.specs.declared.Digits.{Digits}
+use Rattle.rules.specs.declared.Class.{Class}
 use Rattle.rules.specs.Base.{flat, isNil, among, hasNumber}
 use Rattle.rules.specs.RefusalNumbers.{got}
 use Rattle.rules.specs.Lines.{Rest, Form, ignored, wrong, close, eof, keyed, freeShapeOf}
@@ -30,7 +30,7 @@ use Rattle.standing.specs.Kept.{shutSoFar, HomeOwnAt, OwnAt, ownBehind}
 use Rattle.standing.proofs.MoreRecords.{closed-taken}
 
 -- ── line by line ──
-module _ (c : Digits) (e : Env) (l : Line) (records : ℕ) where
+module _ (c : Class) (e : Env) (l : Line) (records : ℕ) where
   -- so many records were taken
   abbrev Sized : State → Type 0
   Sized st = length (flat (shutSoFar c st)) ≡ 32 * records
@@ -146,18 +146,18 @@ module _ (c : Digits) (e : Env) (l : Line) (records : ℕ) where
 
     placed-unknown : (s : Set) (k : ℕ) (fs : List Figure) (n : ℕ) (o : Held) (key : List ℕ) (r : Rest) → On P (onUnknown e s k fs n o key r)
     placed-unknown s k fs n o key r =
-        on-cond P (exceeds (rangeOf s) (e .class)) _ _ (λ _. on-skip P (skipOf key r) _ _ tt tt)
+        on-cond P (exceeds (rangeOf s) (e .class .symbols)) _ _ (λ _. on-skip P (skipOf key r) _ _ tt tt)
         (λ _. on-byAct P _ _ _ _ (actUnknown r) tt (λ j v. tt) (λ m j v _. tt) tt)
 
     placed-key : (s : Set) (k : ℕ) (fs : List Figure) (n : ℕ) (o : Held) (key : List ℕ) (r : Rest) (f : Found) → On P (onPlacedKey e s k fs n o key r f)
     placed-key s k fs n o key r absent = placed-unknown s k fs n o key r
     placed-key s k fs n o key r (found j u) =
-        on-cond P (reaches (e .class) (u .least)) _ _ (λ _. placed-act s k fs n o 0 (actRow (knownOf s) (rangeOf s) (getD (rowsThere (partOf o 0)) j false) j u r)) (λ _. placed-unknown s k fs n o key r)
+        on-cond P (reaches (e .class .symbols) (u .least)) _ _ (λ _. placed-act s k fs n o 0 (actRow (knownOf s) (rangeOf s) (getD (rowsThere (partOf o 0)) j false) j u r)) (λ _. placed-unknown s k fs n o key r)
 
     own-placing : (s : Set) (k : ℕ) (fs : List Figure) (n : ℕ) (o : Held) (p : ℕ) (f : Form) → On P (onPlacing e s k fs n o p f)
     own-placing s k fs n o zero ignored = tt
     own-placing s k fs n o zero (wrong m) = tt
-    own-placing s k fs n o zero close = placed-act s k fs n o 0 (act (knownOf s) placedTable (both (e .class) (rangeOf s)) (rowsThere (partOf o 0)) close)
+    own-placing s k fs n o zero close = placed-act s k fs n o 0 (act (knownOf s) placedTable (both (e .class .symbols) (rangeOf s)) (rowsThere (partOf o 0)) close)
     own-placing s k fs n o zero eof = tt
     own-placing s k fs n o zero (keyed key r) = placed-key s k fs n o key r (find key placedTable)
     own-placing s k fs n o (suc p) f = placed-act s k fs n o (suc p) (act (knownOf s) (getD placedTables (suc p) []) (digits 0 0) (rowsThere (partOf o (suc p))) f)

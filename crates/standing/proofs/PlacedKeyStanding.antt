@@ -11,6 +11,7 @@ use lib.IntN.{ℤ}
 use lib.ListN.{length, getD, set, take, replicate, length-set, length-append, length-replicate}
 use lib.Seq.{getD-set-same, getD-set-other, take-set-lt, take-suc-set, getD-take}
 use Rattle.rules.specs.declared.Digits.{Digits}
+use Rattle.rules.specs.declared.Class.{Class}
 use Rattle.rules.specs.declared.LineForm.{LineForm}
 use Rattle.rules.specs.Base.{isNone, hasNumber}
 use Rattle.rules.specs.RefusalNumbers.{got, unless}
@@ -21,7 +22,7 @@ use Rattle.rules.specs.Values.{serialsOf as numbersOf}
 use Rattle.rules.specs.Rows.{Rule, found, find, Slots, Held, partOf, enter, rowsThere, slotValue, shapeFor, innerOf, Act, stay, entry, begin, shut, refuse, actRow, actFound, act}
 use Rattle.rules.specs.Figures.{placedTable, placedTables}
 use Rattle.rules.specs.Sets.{Figure, ownSerial, Set, rangeOf, knownOf}
-use Rattle.rules.specs.Machine.{Line, inLayer, State, placing, byAct, symbolBlock}
+use Rattle.rules.specs.Machine.{Line, inLayer, State, placing, byAct, symbolBlock, unlimited}
 use Rattle.rules.specs.PlacedSymbol.{noneOf, newSerial, onPlaced}
 use Rattle.rules.specs.LineByLine.{stepIn}
 use Rattle.rules.specs.RecordTable.{ruleAt}
@@ -37,7 +38,7 @@ use Rattle.account.specs.declared.Step.the-variants as S
 use Rattle.account.specs.Records.{partAt, withPart}
 use Rattle.account.specs.Account.{atBlock}
 use Rattle.account.specs.PlacedLines.{Lent, lent, serialCount, ownNumber, inUse, clashes, lentAfter, lentInside, placedStep, PlacedLent, RowLine}
-use Rattle.standing.specs.Standing.{Desk, layersOf, serialsWith, serialsOf, tallyOf, formSize, restSize, rowBytes, serialDue, InPlaced, Stands, deskNow, unlimited, LineHere, StandsAt, StepOut}
+use Rattle.standing.specs.Standing.{Desk, layersOf, serialsWith, serialsOf, tallyOf, formSize, restSize, rowBytes, serialDue, InPlaced, Stands, deskNow, LineHere, StandsAt, StepOut}
 use Rattle.standing.specs.Kept.{Scratch}
 use Rattle.account.proofs.RowsTaken.{Taken, entry-taken, begin-taken}
 use Rattle.standing.proofs.LineOrigins.{From, entry-from, begin-from, ContentKind, ContentRead, serials-content, content-read}
@@ -64,7 +65,7 @@ one-of n used = go (hasNumber n used)
     go true = refl
     go false = refl
 
-module _ (c : Digits) (spool : List ℕ) (k : ℕ) (FileHere : Desk → Set → ℕ → Held → ℕ → Type 0) (d : Desk) (at to own : ℕ) (l : Line) (w : Where) (form : LineForm)
+module _ (c : Class) (spool : List ℕ) (k : ℕ) (FileHere : Desk → Set → ℕ → Held → ℕ → Type 0) (d : Desk) (at to own : ℕ) (l : Line) (w : Where) (form : LineForm)
     (x : LineHere spool k at to form w l) (s : Set) (m : ℕ) (fs : List Figure) (n : ℕ) (o : Held) (z : Stands c spool k d (FileHere d) at (placing s m fs n (symbolBlock o) 0)) where
   abbrev st : State
   st = placing s m fs n (symbolBlock o) 0

@@ -9,6 +9,7 @@ use lib.Dec.{eqb}
 use lib.IntN.{ℤ}
 use lib.ListN.{length, getD, set, take, length-append}
 use Rattle.rules.specs.declared.Digits.{Digits}
+use Rattle.rules.specs.declared.Class.{Class}
 use Rattle.rules.specs.declared.LineForm.{LineForm}
 use Rattle.rules.specs.Base.{flat}
 use Rattle.rules.specs.RefusalNumbers.{Got, got, bad, unless}
@@ -18,7 +19,7 @@ use Rattle.rules.specs.Values.{Known}
 use Rattle.rules.specs.Rows.{Rule, Found, absent, found, find, Held, partOf, rowsThere, shut, refuse, orRefuse, actRow, actUnknown, complete}
 use Rattle.rules.specs.Figures.{placedTable}
 use Rattle.rules.specs.Sets.{Figure, placed, figureSerial, Set, rangeOf, knownOf, serialsIn}
-use Rattle.rules.specs.Machine.{Line, inLayer, State, figures, placing, skipping, byAct, symbolBlock}
+use Rattle.rules.specs.Machine.{Line, inLayer, State, figures, placing, skipping, byAct, symbolBlock, unlimited}
 use Rattle.rules.specs.PlacedSymbol.{bySkip, skipDeeper, onUnknown, onPlaced, onPlacedKey, onPlacedOwn}
 use Rattle.rules.specs.LineByLine.{stepIn}
 use Rattle.rules.specs.RecordTable.{markUnread}
@@ -33,7 +34,7 @@ use Rattle.account.specs.Account.{figureDone}
 use Rattle.account.specs.SkippedLines.{skippedAs, inOwned}
 use Rattle.standing.specs.SoFar.{emptyRecord}
 use Rattle.account.specs.PlacedLines.{Lent, skipStep, unknownStep, FoundLine, KeyLine, isWhole, OwnLine, PlacedLine}
-use Rattle.standing.specs.Standing.{Desk, formSize, usedOf, rowBytes, InPlaced, Stands, Counted, deskNow, deskScratch, unlimited, LineHere, StandsAt, StepOut}
+use Rattle.standing.specs.Standing.{Desk, formSize, usedOf, rowBytes, InPlaced, Stands, Counted, deskNow, deskScratch, LineHere, StandsAt, StepOut}
 use Rattle.standing.proofs.MoreRecords.{flat-map-more}
 use Rattle.standing.proofs.ForeParts.{part-long}
 use Rattle.standing.proofs.Completing.{goes-still, goes-filling, completed-by, number-by}
@@ -53,7 +54,7 @@ closed-sight s m fs n o =
     ap (λ (u : List ℕ). record { set = sight (placing s m fs n (symbolBlock o) 0) .set; layers = s .drawing .layers; serials = u; used = usedOf (placing s m fs n (symbolBlock o) 0); inside = true; counts = true })
     (append-assoc (serialsIn s) (flat (map figureSerial fs)) (figureSerial (placed n o)) ∙ ap (λ (u : List ℕ). serialsIn s ++ u) (sym (flat-map-more figureSerial fs (placed n o))))
 
-module _ (c : Digits) (spool : List ℕ) (k : ℕ) (FileHere : Desk → Set → ℕ → Held → ℕ → Type 0) (d : Desk) (at to own : ℕ) (l : Line) (w : Where) (form : LineForm)
+module _ (c : Class) (spool : List ℕ) (k : ℕ) (FileHere : Desk → Set → ℕ → Held → ℕ → Type 0) (d : Desk) (at to own : ℕ) (l : Line) (w : Where) (form : LineForm)
     (x : LineHere spool k at to form w l) (s : Set) (m : ℕ) (fs : List Figure) (n : ℕ) (o : Held) where
   -- what the code goes by
   abbrev known₀ : Known
@@ -94,7 +95,7 @@ module _ (c : Digits) (spool : List ℕ) (k : ℕ) (FileHere : Desk → Set → 
       abbrev refused : Got State
       refused = byAct st (λ j v. bad 6) (λ i j v. bad 6) (λ _. bad 6) (actUnknown rest)
 
-      by-skip : (t : Skip) → skipOf key rest ≡ t → exceeds (rangeOf s) c ≡ true → Out (skipStep (d .now) (skippedAs t))
+      by-skip : (t : Skip) → skipOf key rest ≡ t → exceeds (rangeOf s) (c .symbols) ≡ true → Out (skipStep (d .now) (skippedAs t))
       by-skip t f b = go t (h ∙ ap (λ (i : Bool). cond i (bySkip (skipOf key rest) (got st) skipping₁) refused) b ∙ ap (λ (i : Skip). bySkip i (got st) skipping₁) f)
         where
           go : (t : Skip) → stepIn (unlimited c) l st ≡ bySkip t (got st) skipping₁ → Out (skipStep (d .now) (skippedAs t))
@@ -111,7 +112,7 @@ module _ (c : Digits) (spool : List ℕ) (k : ℕ) (FileHere : Desk → Set → 
           }
           go noForm f = f
 
-      by-form : (t : Bool) → hasForm (shapeOf rest) ≡ t → exceeds (rangeOf s) c ≡ false → Out (cond t (S.Stop 6) (S.Stop 5))
+      by-form : (t : Bool) → hasForm (shapeOf rest) ≡ t → exceeds (rangeOf s) (c .symbols) ≡ false → Out (cond t (S.Stop 6) (S.Stop 5))
       by-form t f b =
           go t
           (h ∙ ap (λ (i : Bool). cond i (bySkip (skipOf key rest) (got st) skipping₁) refused) b
@@ -121,26 +122,26 @@ module _ (c : Digits) (spool : List ℕ) (k : ℕ) (FileHere : Desk → Set → 
           go true f = f
           go false f = f
 
-      by-range : (t : Bool) → exceeds (rangeOf s) c ≡ t → Out (cond t (skipStep (d .now) (skippedAs (skipOf key rest))) (cond (hasForm (shapeOf rest)) (S.Stop 6) (S.Stop 5)))
+      by-range : (t : Bool) → exceeds (rangeOf s) (c .symbols) ≡ t → Out (cond t (skipStep (d .now) (skippedAs (skipOf key rest))) (cond (hasForm (shapeOf rest)) (S.Stop 6) (S.Stop 5)))
       by-range true b = by-skip (skipOf key rest) refl b
       by-range false b = by-form (hasForm (shapeOf rest)) refl b
 
-      on-unknown : (r : Step) → r ≡ unknownStep c range₀ (d .now) (skippedAs (skipOf key rest)) rest → Out r
+      on-unknown : (r : Step) → r ≡ unknownStep (c .symbols) range₀ (d .now) (skippedAs (skipOf key rest)) rest → Out r
       on-unknown r a =
-          let f : exceeds range₀ c ≡ exceeds (rangeOf s) c = ap (λ (i : Digits). exceeds i c) (range-is c spool k FileHere d at to s m fs n o 0 z) in
+          let f : exceeds range₀ (c .symbols) ≡ exceeds (rangeOf s) (c .symbols) = ap (λ (i : Digits). exceeds i (c .symbols)) (range-is c spool k FileHere d at to s m fs n o 0 z) in
           subst Out (sym (a ∙ ap (λ (i : Bool). cond i (skipStep (d .now) (skippedAs (skipOf key rest))) (cond (hasForm (shapeOf rest)) (S.Stop 6) (S.Stop 5))) f))
-          (by-range (exceeds (rangeOf s) c) refl)
+          (by-range (exceeds (rangeOf s) (c .symbols)) refl)
 
     -- ── the closing line ──
     module _ (shut-so : l .form ≡ close) where
       abbrev there : Bool
-      there = complete (both c (rangeOf s)) placedTable (rowsThere (partOf o 0))
+      there = complete (both (c .symbols) (rangeOf s)) placedTable (rowsThere (partOf o 0))
 
-      whole : isWhole c range₀ (d .marks) ≡ there
+      whole : isWhole (c .symbols) range₀ (d .marks) ≡ there
       whole =
-          ap (λ (i : Digits). complete (both c i) (tableOf 18) (take 6 (d .marks))) (range-is c spool k FileHere d at to s m fs n o 0 z)
-          ∙ ap (λ (i : List Rule). complete (both c (rangeOf s)) i (take 6 (d .marks))) placed-rows
-          ∙ ap (complete (both c (rangeOf s)) placedTable) (inp .marked)
+          ap (λ (i : Digits). complete (both (c .symbols) i) (tableOf 18) (take 6 (d .marks))) (range-is c spool k FileHere d at to s m fs n o 0 z)
+          ∙ ap (λ (i : List Rule). complete (both (c .symbols) (rangeOf s)) i (take 6 (d .marks))) placed-rows
+          ∙ ap (complete (both (c .symbols) (rangeOf s)) placedTable) (inp .marked)
 
       stepped : stepIn (unlimited c) l st ≡ onPlaced s m fs n o 0 (cond there shut (refuse 8))
       stepped = ap (onPlacedOwn (unlimited c) s m fs n o) shut-so
@@ -148,17 +149,17 @@ module _ (c : Digits) (spool : List ℕ) (k : ℕ) (FileHere : Desk → Set → 
       on-short : there ≡ false → Out (S.Stop 8)
       on-short b = stepped ∙ ap (λ (i : Bool). onPlaced s m fs n o 0 (cond i shut (refuse 8))) b
 
-      on-whole : there ≡ true → x₁ ≡ lentOf d → rec₁ ≡ markUnread c range₀ placedTable rec₀ → Out (S.Go (figureDone (d .now)))
+      on-whole : there ≡ true → x₁ ≡ lentOf d → rec₁ ≡ markUnread (c .symbols) range₀ placedTable rec₀ → Out (S.Go (figureDone (d .now)))
       on-whole b a q =
           let now : Now = figureDone (d .now) in
           let st′ : State = figures s (inLayer m) (fs ++ placed n o ∷ []) in
           let t₁ : List ℤ = withPart 32 rec₁ (d .scratch) in
-          let long : length rec₁ ≡ 32 = ap length q ∙ length-unread c range₀ placedTable rec₀ ∙ part-long 32 (d .scratch) (omega (arith, z .lengths .scratch)) in
-          let put : partAt 32 t₁ ≡ markUnread c (rangeOf s) placedTable rec₀ =
-          line-there (d .scratch) rec₁ st long (z .scratch) ∙ q ∙ ap (λ (i : Digits). markUnread c i placedTable rec₀) (range-is c spool k FileHere d at to s m fs n o 0 z) in
+          let long : length rec₁ ≡ 32 = ap length q ∙ length-unread (c .symbols) range₀ placedTable rec₀ ∙ part-long 32 (d .scratch) (omega (arith, z .lengths .scratch)) in
+          let put : partAt 32 t₁ ≡ markUnread (c .symbols) (rangeOf s) placedTable rec₀ =
+          line-there (d .scratch) rec₁ st long (z .scratch) ∙ q ∙ ap (λ (i : Digits). markUnread (c .symbols) i placedTable rec₀) (range-is c spool k FileHere d at to s m fs n o 0 z) in
           let one : formSize (l .form) ≡ 1 = ap formSize shut-so in
           let symbol-read : rowBytes 17 (getD (partOf o 0) 0 none) ≡ 17 =
-          ap (λ (i : Bool). cond i 17 0) (must-symbol (both c (rangeOf s)) (partOf o 0) (inp .shaped .1 ∙ placed-rows-six) b) in
+          ap (λ (i : Bool). cond i 17 0) (must-symbol (both (c .symbols) (rangeOf s)) (partOf o 0) (inp .shaped .1 ∙ placed-rows-six) b) in
           goes-filling c spool k FileHere own l to st d₁ now st′ (stepped ∙ ap (λ (i : Bool). onPlaced s m fs n o 0 (cond i shut (refuse 8))) b) 32 (d .now .records - 1)
           (completed-by (d .now) now 11 8 (z .block .0) refl) (number-by (d .now) now own 11 8 (z .block .0) refl) 0 (omega arith) (omega arith)
           (placed-fills c s m fs n o (d .now .records) (y .size) (d .scratch) t₁ (z .scratch) put)
@@ -168,52 +169,52 @@ module _ (c : Digits) (spool : List ℕ) (k : ℕ) (FileHere : Desk → Set → 
           (omega (arith, z .counted, x .bytes, one, length-append fs (placed n o ∷ []))) (omega (arith, z .named, x .bytes)) (omega (arith, z .numbered, x .bytes, one, symbol-read))
           (refl, home-stays spool k (d .now) now (d .marks) (d .inner) (d .inner) s (inLayer m) refl refl (inp .home), ap (λ (i : ℕ). i + 1) (inp .figures) ∙ sym (length-append fs (placed n o ∷ [])))))
 
-      on-close : (b : Bool) → there ≡ b → x₁ ≡ lentOf d → (b ≡ true → rec₁ ≡ markUnread c range₀ placedTable rec₀) → Out (cond b (S.Go (figureDone (d .now))) (S.Stop 8))
+      on-close : (b : Bool) → there ≡ b → x₁ ≡ lentOf d → (b ≡ true → rec₁ ≡ markUnread (c .symbols) range₀ placedTable rec₀) → Out (cond b (S.Go (figureDone (d .now))) (S.Stop 8))
       on-close true b a q = on-whole b a (q refl)
       on-close false b a q = on-short b
 
     -- ── any line ──
     module _ (r : Step) where
       on-key : (key : List ℕ) (rest : Rest) (f : Found) → l .form ≡ keyed key rest → find key placedTable ≡ f
-          → KeyLine known₀ c range₀ (d .now) (lentOf d) x₁ rec₀ rec₁ r (skippedAs (skipOf key rest)) rest f → Out r
+          → KeyLine known₀ (c .symbols) range₀ (d .now) (lentOf d) x₁ rec₀ rec₁ r (skippedAs (skipOf key rest)) rest f → Out r
       on-key key rest absent a b v =
           on-unknown key rest (ap (onPlacedOwn (unlimited c) s m fs n o) a ∙ ap (onPlacedKey (unlimited c) s m fs n o key rest) b) (v .lent) (v .rec) r (v .answer)
-      on-key key rest (found j q) a b v = go (reaches c (q .least)) refl v
+      on-key key rest (found j q) a b v = go (reaches (c .symbols) (q .least)) refl v
         where
-          reached : (i : Bool) → reaches c (q .least) ≡ i
+          reached : (i : Bool) → reaches (c .symbols) (q .least) ≡ i
               → stepIn (unlimited c) l st ≡ cond i (onPlaced s m fs n o 0 (actRow (knownOf s) (rangeOf s) (getD (rowsThere (partOf o 0)) j false) j q rest)) (onUnknown (unlimited c) s m fs n o key rest)
           reached i g =
               ap (onPlacedOwn (unlimited c) s m fs n o) a ∙ ap (onPlacedKey (unlimited c) s m fs n o key rest) b
               ∙ ap (λ (t : Bool). cond t (onPlaced s m fs n o 0 (actRow (knownOf s) (rangeOf s) (getD (rowsThere (partOf o 0)) j false) j q rest)) (onUnknown (unlimited c) s m fs n o key rest))
               g
 
-          go : (i : Bool) → reaches c (q .least) ≡ i → FoundLine known₀ c range₀ (d .now) (lentOf d) x₁ rec₀ rec₁ r (skippedAs (skipOf key rest)) rest j q i → Out r
+          go : (i : Bool) → reaches (c .symbols) (q .least) ≡ i → FoundLine known₀ (c .symbols) range₀ (d .now) (lentOf d) x₁ rec₀ rec₁ r (skippedAs (skipOf key rest)) rest j q i → Out r
           go true g v = row-line c spool k FileHere d at to own l w form x s m fs n o z key rest j q a b (reached true g) x₁ rec₁ r v
           go false g v = on-unknown key rest (reached false g) (v .lent) (v .rec) r (v .answer)
 
-      on-form : (f : Form) → l .form ≡ f → OwnLine known₀ c range₀ (d .now) (lentOf d) x₁ rec₀ rec₁ r f → Out r
+      on-form : (f : Form) → l .form ≡ f → OwnLine known₀ (c .symbols) range₀ (d .now) (lentOf d) x₁ rec₀ rec₁ r f → Out r
       on-form ignored a v = subst Out (sym (v .0)) (on-passed (ap (onPlacedOwn (unlimited c) s m fs n o) a) (v .1) (v .2))
       on-form (wrong i) a v = subst Out (sym v) (ap (onPlacedOwn (unlimited c) s m fs n o) a)
       on-form close a v =
-          let b : isWhole c range₀ (d .marks) ≡ complete (both c (rangeOf s)) placedTable (rowsThere (partOf o 0)) = whole a in
+          let b : isWhole (c .symbols) range₀ (d .marks) ≡ complete (both (c .symbols) (rangeOf s)) placedTable (rowsThere (partOf o 0)) = whole a in
           subst Out (sym (v .0 .answer ∙ ap (λ (t : Bool). cond t (S.Go (figureDone (d .now))) (S.Stop 8)) b))
-          (on-close a (complete (both c (rangeOf s)) placedTable (rowsThere (partOf o 0))) refl (v .1) (λ t. v .0 .rec (b ∙ t)))
+          (on-close a (complete (both (c .symbols) (rangeOf s)) placedTable (rowsThere (partOf o 0))) refl (v .1) (λ t. v .0 .rec (b ∙ t)))
       on-form eof a v = subst Out (sym v) (ap (onPlacedOwn (unlimited c) s m fs n o) a)
       on-form (keyed key rest) a v =
           on-key key rest (find key placedTable) a refl
-          (subst (λ (t : List Rule). KeyLine known₀ c range₀ (d .now) (lentOf d) x₁ rec₀ rec₁ r (skippedAs (skipOf key rest)) rest (find key t)) placed-rows v)
+          (subst (λ (t : List Rule). KeyLine known₀ (c .symbols) range₀ (d .now) (lentOf d) x₁ rec₀ rec₁ r (skippedAs (skipOf key rest)) rest (find key t)) placed-rows v)
 
-      own-line : OwnLine known₀ c range₀ (d .now) (lentOf d) x₁ rec₀ rec₁ r (formIn spool form) → Out r
-      own-line v = on-form (l .form) refl (subst (OwnLine known₀ c range₀ (d .now) (lentOf d) x₁ rec₀ rec₁ r) (sym (x .is)) v)
+      own-line : OwnLine known₀ (c .symbols) range₀ (d .now) (lentOf d) x₁ rec₀ rec₁ r (formIn spool form) → Out r
+      own-line v = on-form (l .form) refl (subst (OwnLine known₀ (c .symbols) range₀ (d .now) (lentOf d) x₁ rec₀ rec₁ r) (sym (x .is)) v)
 
   -- ── in its text, or directly in it ──
   pub placed-line : (p : ℕ) → Stands c spool k d (FileHere d) at (placing s m fs n (symbolBlock o) p) → Counted c own d (placing s m fs n (symbolBlock o) p) → (x₁ : Lent) (rec₁ : List ℤ) (r : Step)
-      → PlacedLine known₀ c range₀ (d .now) (lentOf d) x₁ rec₀ rec₁ r (eqb (d .now .part) 1) (formIn spool form)
+      → PlacedLine known₀ (c .symbols) range₀ (d .now) (lentOf d) x₁ rec₀ rec₁ r (eqb (d .now .part) 1) (formIn spool form)
       → StepOut c spool k FileHere own l to (placing s m fs n (symbolBlock o) p) (lentDesk d x₁ rec₁) r
   placed-line zero z y x₁ rec₁ r v =
-      own-line z y x₁ rec₁ r (subst (λ (i : ℕ). PlacedLine known₀ c range₀ (d .now) (lentOf d) x₁ rec₀ rec₁ r (eqb i 1) (formIn spool form)) (z .block .1 .part) v)
+      own-line z y x₁ rec₁ r (subst (λ (i : ℕ). PlacedLine known₀ (c .symbols) range₀ (d .now) (lentOf d) x₁ rec₀ rec₁ r (eqb i 1) (formIn spool form)) (z .block .1 .part) v)
   placed-line (suc zero) z y x₁ rec₁ r v =
-      let f = subst (λ (i : ℕ). PlacedLine known₀ c range₀ (d .now) (lentOf d) x₁ rec₀ rec₁ r (eqb i 1) (formIn spool form)) (z .block .1 .part) v in
+      let f = subst (λ (i : ℕ). PlacedLine known₀ (c .symbols) range₀ (d .now) (lentOf d) x₁ rec₀ rec₁ r (eqb i 1) (formIn spool form)) (z .block .1 .part) v in
       subst (λ (i : Lent). StepOut c spool k FileHere own l to (placing s m fs n (symbolBlock o) 1) (lentDesk d i rec₁) r) (sym (f .1))
       (text-line c spool k FileHere d at to own l w form x s m fs n o z (x₁ .inner) rec₁ r (f .0))
   placed-line (suc (suc p)) z y x₁ rec₁ r v = absurd (omega (arith, z .block .1 .parts))

@@ -7,7 +7,7 @@ use mathlib.Core.Path.{_≡_, sym, _∙_, ap, subst}
 use native.Mathlib.Omega.{arith}
 use lib.IntN.{ℤ}
 use lib.ListN.{length, getD}
-use Rattle.rules.specs.declared.Digits.{Digits}
+use Rattle.rules.specs.declared.Class.{Class}
 use Rattle.rules.specs.RangeClass.{digitsOf}
 use Rattle.rules.specs.Values.{Value}
 use Rattle.rules.specs.Values.{serialsOf as numbersOf}
@@ -48,7 +48,7 @@ lentDesk d x u = record {
   scratch = withPart 32 u (d .scratch);
 }
 
-module _ (c : Digits) (spool : List ℕ) (k : ℕ) (FileHere : Desk → Set → ℕ → Held → ℕ → Type 0) (d : Desk) (at to : ℕ) (s : Set) (m : ℕ) (fs : List Figure) (n : ℕ) (o : Held) (p : ℕ)
+module _ (c : Class) (spool : List ℕ) (k : ℕ) (FileHere : Desk → Set → ℕ → Held → ℕ → Type 0) (d : Desk) (at to : ℕ) (s : Set) (m : ℕ) (fs : List Figure) (n : ℕ) (o : Held) (p : ℕ)
     (z : Stands c spool k d (FileHere d) at (placing s m fs n (symbolBlock o) p)) where
   -- the record that is lent, put back as it was
   pub record-kept : (p′ : ℕ) (u : List ℤ) → u ≡ partAt 32 (d .scratch) → Scratch (withPart 32 u (d .scratch)) (placing s m fs n (symbolBlock o) p′)

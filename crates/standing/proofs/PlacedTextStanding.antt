@@ -8,7 +8,7 @@ use native.Mathlib.Omega.{arith}
 use borrow.Author.Tests.{not-true}
 use lib.IntN.{ℤ}
 use lib.ListN.{length, getD, set, take, length-set}
-use Rattle.rules.specs.declared.Digits.{Digits}
+use Rattle.rules.specs.declared.Class.{Class}
 use Rattle.rules.specs.declared.LineForm.{LineForm}
 use Rattle.rules.specs.Base.{isNone}
 use Rattle.rules.specs.RefusalNumbers.{got, unless}
@@ -45,7 +45,7 @@ use Rattle.standing.proofs.PlacedFacts.{isSerials, text-rows, plain-tex
 use Rattle.standing.proofs.PlacedTables.{record-kept, record-entered, placing-on}
 use Rattle.standing.proofs.HeldParts.{shaped-enter, enter-own, enter-other}
 
-module _ (c : Digits) (spool : List ℕ) (k : ℕ) (FileHere : Desk → Set → ℕ → Held → ℕ → Type 0) (d : Desk) (at to own : ℕ) (l : Line) (w : Where) (form : LineForm)
+module _ (c : Class) (spool : List ℕ) (k : ℕ) (FileHere : Desk → Set → ℕ → Held → ℕ → Type 0) (d : Desk) (at to own : ℕ) (l : Line) (w : Where) (form : LineForm)
     (x : LineHere spool k at to form w l) (s : Set) (m : ℕ) (fs : List Figure) (n : ℕ) (o : Held) (z : Stands c spool k d (FileHere d) at (placing s m fs n (symbolBlock o) 1)) where
   abbrev st : State
   st = placing s m fs n (symbolBlock o) 1

@@ -9,7 +9,7 @@ use lib.Dec.{ltb}
 use lib.IntN.{ℤ}
 use lib.ListN.{length, take, drop, replicate, length-append, length-take, length-drop}
 use lib.Seq.{take-at, drop-at, take-add, drop-drop}
-use Rattle.rules.specs.declared.Digits.{Digits}
+use Rattle.rules.specs.declared.Class.{Class}
 use Rattle.rules.specs.Base.{flat}
 use Rattle.rules.specs.Rows.{Held}
 use Rattle.rules.specs.Sets.{Set, isFirst}
@@ -29,7 +29,7 @@ use Rattle.standing.proofs.KeptLaws.{size-empty, fills-all, sized, kept
 
 -- ── the kept number ──
 -- it goes by the block that is open
-pub own-behind : (c : Digits) (spool : List ℕ) (k : ℕ) (d : Desk) (F : Set → ℕ → Held → ℕ → Type 0) (own : ℕ) (st : State) → Inside c spool k d F st → ownBehind st (d .now .records) own ≡ ownAfter (d .now) own
+pub own-behind : (c : Class) (spool : List ℕ) (k : ℕ) (d : Desk) (F : Set → ℕ → Held → ℕ → Type 0) (own : ℕ) (st : State) → Inside c spool k d F st → ownBehind st (d .now .records) own ≡ ownAfter (d .now) own
 own-behind c spool k d F own st h = by st h
   where
     at : (b : ℕ) → d .now .block ≡ b → ownAfter (record { block = b; part = 0; layered = false; owner = 0; records = d .now .records; figures = 0; points = 0 }) own ≡ ownAfter (d .now) own
@@ -93,7 +93,7 @@ put-two number h t f g =
     ∙ ap (λ (i : ℕ). take n t ++ (take 64 h ++ drop i t)) end
 
 -- ── the table behind a line ──
-module _ (c : Digits) (limit : ℕ) (table : List ℤ) (records more : ℕ) (st st′ : State) (k : Kept c limit table records st) (taken : setOf st′ .taken ≡ records + more) (fits : records + more ≤ limit) (number : ℕ)
+module _ (c : Class) (limit : ℕ) (table : List ℤ) (records more : ℕ) (st st′ : State) (k : Kept c limit table records st) (taken : setOf st′ .taken ≡ records + more) (fits : records + more ≤ limit) (number : ℕ)
     (scratch header : List ℤ) (first : Bool) where
   -- what is put has its place before the end
   before-end : (us : List ℤ) → FillsAll c st st′ more number us → 32 * number + length us ≤ 32 * (records + more)

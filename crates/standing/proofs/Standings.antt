@@ -8,7 +8,7 @@ use lib.Dec.{eqb}
 use lib.IntN.{ℤ}
 use lib.ListN.{length, getD, take, set}
 use borrow.Author.Tests.{ne-eqb}
-use Rattle.rules.specs.declared.Digits.{Digits}
+use Rattle.rules.specs.declared.Class.{Class}
 use Rattle.rules.specs.Base.{flat, total, hasNumber, isNil}
 use Rattle.rules.specs.Values.{Known}
 use Rattle.rules.specs.Rows.{Held}
@@ -90,7 +90,7 @@ lengths-kept d n tally marks inner header t l lm li lh lt = record {
 abbrev pub deskWith : Desk → Now → List Bool → List Bool → List ℤ → Desk
 deskWith d n marks inner t = deskKept d n (d .tally) marks inner (d .header) t
 
-module _ (c : Digits) (spool : List ℕ) (k : ℕ) (FileHere : Desk → Set → ℕ → Held → ℕ → Type 0) (d : Desk) (at to : ℕ) (st st′ : State) (z : Stands c spool k d (FileHere d) at st) where
+module _ (c : Class) (spool : List ℕ) (k : ℕ) (FileHere : Desk → Set → ℕ → Held → ℕ → Type 0) (d : Desk) (at to : ℕ) (st st′ : State) (z : Stands c spool k d (FileHere d) at st) where
   pub stands-with : (n : Now) (marks inner : List Bool) (header t : List ℤ) → sight st ≡ sight st′ → length marks ≡ 28 → length inner ≡ 2 → length header ≡ 70
       → Scratch t st′
       → total elementsOf (setOf st .volumes) + elementsHere st + openFigures st′ ≤ to
@@ -138,7 +138,7 @@ module _ (c : Digits) (spool : List ℕ) (k : ℕ) (FileHere : Desk → Set → 
       ∙ ap (f (map symbolNameOf (setOf st .symbols))) (z .layers ∙ ap (λ (ls : List Layer). map (λ (l : Layer). l .id) ls) e)
 
 -- a line that changes nothing but the place in the spool
-module _ (c : Digits) (spool : List ℕ) (k : ℕ) (FileHere : Desk → Set → ℕ → Held → ℕ → Type 0) (d : Desk) (at to : ℕ) (st : State) (z : Stands c spool k d (FileHere d) at st) where
+module _ (c : Class) (spool : List ℕ) (k : ℕ) (FileHere : Desk → Set → ℕ → Held → ℕ → Type 0) (d : Desk) (at to : ℕ) (st : State) (z : Stands c spool k d (FileHere d) at st) where
   stands-later : at ≤ to → Stands c spool k d (FileHere d) to st
   stands-later later =
       stands-with c spool k FileHere d at to st st z (d .now) (d .marks) (d .inner) (d .header) (d .scratch) refl (z .lengths .marks) (z .lengths .inner) (z .lengths .header) (z .scratch)

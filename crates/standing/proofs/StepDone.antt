@@ -6,7 +6,7 @@ use mathlib.Core.Path.{_≡_, refl, sym, _∙_, ap, subst}
 use lib.Dec.{eqb}
 use lib.IntN.{ℤ}
 use lib.ListN.{length, getD, set}
-use Rattle.rules.specs.declared.Digits.{Digits}
+use Rattle.rules.specs.declared.Class.{Class}
 use Rattle.rules.specs.declared.LineForm.{LineForm}
 use Rattle.account.specs.declared.Where.{Where}
 use Rattle.account.specs.declared.Step.{Step}
@@ -38,7 +38,7 @@ named-desk d m₁ rec₁ (S.Go n) = go (eqb (n .block) 4)
 named-desk d m₁ rec₁ (S.Skip n) = refl
 named-desk d m₁ rec₁ (S.Stop n) = refl
 
-module _ (c : Digits) (spool following : List ℕ) (form : LineForm) (w : Where) (d d₁ : Desk) (r : Step) where
+module _ (c : Class) (spool following : List ℕ) (form : LineForm) (w : Where) (d d₁ : Desk) (r : Step) where
   abbrev k : ℕ
   k = w .volume
 

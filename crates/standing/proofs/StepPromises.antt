@@ -7,7 +7,7 @@ use native.Mathlib.Omega.{arith}
 use lib.Dec.{eqb}
 use lib.IntN.{ℤ}
 use lib.ListN.{length, getD, take, drop}
-use Rattle.rules.specs.declared.Digits.{Digits}
+use Rattle.rules.specs.declared.Class.{Class}
 use Rattle.rules.specs.declared.LineForm.{LineForm}
 use Rattle.rules.specs.Lines.{formIn}
 use Rattle.rules.specs.RangeClass.{digits, digitsOf}
@@ -52,7 +52,7 @@ use Rattle.standing.proofs.PlacedTables.{lentOf, lentDesk}
 use Rattle.standing.proofs.PlacedStanding.{placed-line}
 
 -- ── promises ──
-module _ (c : Digits) (spool : List ℕ) (k : ℕ) (form : LineForm) (w : Where) (following : List ℕ) (d : Desk) where
+module _ (c : Class) (spool : List ℕ) (k : ℕ) (form : LineForm) (w : Where) (following : List ℕ) (d : Desk) where
   abbrev F : Desk → Set → ℕ → Held → ℕ → Type 0
   F = InFile spool k
 
@@ -122,7 +122,7 @@ module _ (c : Digits) (spool : List ℕ) (k : ℕ) (form : LineForm) (w : Where)
       go _ (OpenBlocks.here s v) z y = symbol-line c spool short k F d at to own l w form x s v z y m₁ rec₁ r f
 
   pub placed-promise : (x₁ : Lent) (rec₁ : List ℤ) (r : Step) → d .now .block ≡ 11
-      → PlacedLine (knownIn spool names ids) c (digitsOf (getD (d .tally) 1 0)) (d .now) (lentOf d) x₁ (partAt 32 (d .scratch)) rec₁ r (eqb (d .now .part) 1) (formIn spool form)
+      → PlacedLine (knownIn spool names ids) (c .symbols) (digitsOf (getD (d .tally) 1 0)) (d .now) (lentOf d) x₁ (partAt 32 (d .scratch)) rec₁ r (eqb (d .now .part) 1) (formIn spool form)
       → Promise (lentDesk d x₁ rec₁) r
   placed-promise x₁ rec₁ r b f own l at to st x q p z y = go st (OpenBlocks.in-placed c spool k d (F d) st (z .block) b) z y
     where

@@ -6,7 +6,7 @@ use mathlib.Core.Path.{_≡_, sym, ap, subst}
 use native.Mathlib.Omega.{arith}
 use lib.Dec.{eqb}
 use lib.ListN.{length, getD}
-use Rattle.rules.specs.declared.Digits.{Digits}
+use Rattle.rules.specs.declared.Class.{Class}
 use Rattle.rules.specs.declared.LineForm.{LineForm}
 use Rattle.rules.specs.Lines.{brace, equals, Form, ignored, wrong, close, eof, keyed, formIn}
 use Rattle.rules.specs.Rows.{shut}
@@ -25,7 +25,7 @@ use Rattle.standing.proofs.OpenBlocks
 use Rattle.standing.proofs.OpenPlaces as places
 use Rattle.standing.proofs.SymbolStanding.{name-at-close}
 
-module _ (c : Digits) (spool : List ℕ) (k : ℕ) (form : LineForm) (w : Where) (d : Desk) (following : List ℕ) (y : LineReady c spool k form w d following) where
+module _ (c : Class) (spool : List ℕ) (k : ℕ) (form : LineForm) (w : Where) (d : Desk) (following : List ℕ) (y : LineReady c spool k form w d following) where
   abbrev at : ℕ
   at = y .at
 

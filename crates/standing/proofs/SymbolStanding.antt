@@ -10,7 +10,7 @@ use lib.IntN.{ℤ, pos}
 use lib.ListN.{length, getD, set, take, drop, length-set, length-append, length-take, length-drop}
 use lib.Seq.{take-set-lt, take-suc-set, getD-set-same, getD-set-other}
 use borrow.Author.Tests.{eqb-true, eqb-false}
-use Rattle.rules.specs.declared.Digits.{Digits}
+use Rattle.rules.specs.declared.Class.{Class}
 use Rattle.rules.specs.declared.LineForm.{LineForm}
 use Rattle.rules.specs.declared.Span.{Span}
 use Rattle.rules.specs.Base.{among, isNil, isNone, isSome}
@@ -95,7 +95,7 @@ abbrev pub symbolAct : List ℕ → Desk → LineForm → Act
 symbolAct spool d form =
     act (knownIn spool (symbolNames d) (take (getD (d .tally) 10 0) (d .layers))) (tableOf 9) (digitsOf (getD (d .tally) 2 0)) (take 4 (d .marks)) (formIn spool form)
 
-module _ (c : Digits) (spool : List ℕ) (short : length spool ≤ 61440) (k : ℕ) (FileHere : Desk → Set → ℕ → Held → ℕ → Type 0) (d : Desk) (at to : ℕ) (l : Line) (w : Where)
+module _ (c : Class) (spool : List ℕ) (short : length spool ≤ 61440) (k : ℕ) (FileHere : Desk → Set → ℕ → Held → ℕ → Type 0) (d : Desk) (at to : ℕ) (l : Line) (w : Where)
     (form : LineForm) (x : LineHere spool k at to form w l) (s : Set) (y : Symbol) (z : Stands c spool k d (FileHere d) at (symbol s y)) where
   abbrev st : State
   st = symbol s y
@@ -525,7 +525,7 @@ module _ (c : Digits) (spool : List ℕ) (short : length spool ≤ 61440) (k : �
         subst OutOf (sym (h .answer ∙ ap (symbolStep spool (symbolNames d) (d .now) (symbolRecord d)) symbol-act))
         (by-act did refl (subst (SymbolMarks (d .marks) m₁) symbol-act (h .marks)) (subst (λ (a : Act). Entered (ruleAt (tableOf 9)) 0 (symbolRecord d) a rec₁) symbol-act (h .put)))
 
-module _ (c : Digits) (spool : List ℕ) (short : length spool ≤ 61440) (k : ℕ) (FileHere : Desk → Set → ℕ → Held → ℕ → Type 0) (d : Desk) (at to own : ℕ) (l : Line) (w : Where)
+module _ (c : Class) (spool : List ℕ) (short : length spool ≤ 61440) (k : ℕ) (FileHere : Desk → Set → ℕ → Held → ℕ → Type 0) (d : Desk) (at to own : ℕ) (l : Line) (w : Where)
     (form : LineForm) (x : LineHere spool k at to form w l) (s : Set) (y : Symbol) (z : Stands c spool k d (FileHere d) at (symbol s y)) (counts : Counted c own d (symbol s y)) where
   pub symbol-line : (m₁ : List Bool) (rec₁ : List ℤ) (r : Step) → SymbolLine (symbolAct spool d form) spool (symbolNames d) (d .now) (d .marks) m₁ (symbolRecord d) rec₁ r
       → StepOut c spool k FileHere own l to (symbol s y) (symbolDesk d m₁ rec₁ r) r

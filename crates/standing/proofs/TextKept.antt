@@ -5,7 +5,7 @@ use mathlib.Core.Path.{_≡_, sym, _∙_, ap}
 use native.Mathlib.Omega.{arith}
 use lib.IntN.{ℤ}
 use lib.ListN.{length, length-append}
-use Rattle.rules.specs.declared.Digits.{Digits}
+use Rattle.rules.specs.declared.Class.{Class}
 use Rattle.rules.specs.Base.{flat}
 use Rattle.rules.specs.Rows.{Slots}
 use Rattle.rules.specs.Sets.{Figure, lettering, Set}
@@ -16,7 +16,7 @@ use Rattle.standing.proofs.LaidTables.{flat-more}
 use Rattle.standing.proofs.MoreRecords.{flat-map-more}
 use Rattle.standing.proofs.OpenRecords.{text-length, text-figure}
 
-module _ (c : Digits) (s : Set) (h : Home) (fs : List Figure) (n : ℕ) (o : Slots) (records : ℕ) (all : length (flat (shutSoFar c (texts s h fs n o))) ≡ 32 * records) (t : List ℤ) (x : Scratch t (texts s h fs n o)) where
+module _ (c : Class) (s : Set) (h : Home) (fs : List Figure) (n : ℕ) (o : Slots) (records : ℕ) (all : length (flat (shutSoFar c (texts s h fs n o))) ≡ 32 * records) (t : List ℤ) (x : Scratch t (texts s h fs n o)) where
   abbrev fore : List (List ℤ)
   fore = figuresShut c s h fs
 

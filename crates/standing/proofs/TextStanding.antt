@@ -7,7 +7,7 @@ use mathlib.Core.Path.{_≡_, refl, sym, _∙_, ap, subst}
 use native.Mathlib.Omega.{arith}
 use lib.IntN.{ℤ}
 use lib.ListN.{length, getD, set, take, length-set, length-append}
-use Rattle.rules.specs.declared.Digits.{Digits}
+use Rattle.rules.specs.declared.Class.{Class}
 use Rattle.rules.specs.declared.LineForm.{LineForm}
 use Rattle.rules.specs.Base.{all}
 use Rattle.rules.specs.RangeClass.{digits}
@@ -60,7 +60,7 @@ closed-sight s h fs n o =
     ap (λ (u : List ℕ). record { set = sight (texts s h fs n o) .set; layers = s .drawing .layers; serials = u; used = usedOf (figures s h fs); inside = inside (figures s h fs); counts = true })
     (plain-serials s h fs (lettering n o) refl)
 
-module _ (c : Digits) (spool : List ℕ) (k : ℕ) (FileHere : Desk → Set → ℕ → Held → ℕ → Type 0) (d : Desk) (at to own : ℕ) (l : Line) (w : Where) (form : LineForm)
+module _ (c : Class) (spool : List ℕ) (k : ℕ) (FileHere : Desk → Set → ℕ → Held → ℕ → Type 0) (d : Desk) (at to own : ℕ) (l : Line) (w : Where) (form : LineForm)
     (x : LineHere spool k at to form w l) (s : Set) (h : Home) (fs : List Figure) (n : ℕ) (o : Slots) (z : Stands c spool k d (FileHere d) at (texts s h fs n o)) (y : Counted c own d (texts s h fs n o)) where
   abbrev st : State
   st = texts s h fs n o

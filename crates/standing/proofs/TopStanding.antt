@@ -8,7 +8,7 @@ use borrow.Author.Tests.{eqb-true}
 use lib.Dec.{eqb}
 use lib.IntN.{ℤ, pos}
 use lib.ListN.{length, getD, take, replicate, length-replicate, getD-replicate}
-use Rattle.rules.specs.declared.Digits.{Digits}
+use Rattle.rules.specs.declared.Class.{Class}
 use Rattle.rules.specs.declared.LineForm.{LineForm}
 use Rattle.rules.specs.Base.{all, flat, isNil, hasNumber}
 use Rattle.rules.specs.RefusalNumbers.{Got, got, bad, unless}
@@ -19,7 +19,7 @@ use Rattle.rules.specs.Rows.{Rule, blank, rowsThere, rowsAtLimit, Act, stay, en
 use Rattle.rules.specs.Blocks.{topTable, fileTables, blankHeld, drawingTable}
 use Rattle.rules.specs.Sets.{Layer, Drawing, Contents, LayerBlock, Set, isFirst, withRecords, knownOf, serialsIn, serialsOfBlock, usedIn}
 use Rattle.rules.specs.VolumesAndTotals.{allUsed, layersUsed, countedAll}
-use Rattle.rules.specs.Machine.{Line, State, top, file, drawing, defines, elements, ended, byAct, openTop, onTop, fileKinds}
+use Rattle.rules.specs.Machine.{Line, State, top, file, drawing, defines, elements, ended, byAct, openTop, onTop, fileKinds, unlimited}
 use Rattle.rules.specs.LineByLine.{stepIn}
 use Rattle.rules.specs.RecordTable.{kindDrawing}
 use Rattle.rules.proofs.Chains.{and-left}
@@ -32,7 +32,7 @@ use Rattle.account.specs.declared.Step.the-variants as S
 use Rattle.account.specs.Records.{partAt, withPart}
 use Rattle.account.specs.Account.{atBlock, headAt}
 use Rattle.standing.specs.Kept.{Begins, Enters}
-use Rattle.standing.specs.Standing.{Desk, Lengths, Bare, First, Stands, unlimited, LineHere, Counted, StepOut, closedSerials, tallyOf}
+use Rattle.standing.specs.Standing.{Desk, Lengths, Bare, First, Stands, LineHere, Counted, StepOut, closedSerials, tallyOf}
 use Rattle.standing.specs.FileStanding.{InFile}
 use Rattle.account.specs.TopLines.{Answered, allOf, totalOf, layersOf, eofNow, TopLent, topLent, recordsTaken, unmarked, headerBegun, fileTakes, openedNow, openedLent, blockNow, keyNow, keyLent, topAct, topNow, topLentBy}
 use Rattle.account.proofs.RowsTaken.{begin-taken}
@@ -111,7 +111,7 @@ deskTop d b = topDesk d (b .marks) (b .used) (b .header) (withPart 0 (b .rec) (d
 abbrev lentOf : Desk → TopLent
 lentOf d = topLent (d .marks) (d .used) (d .header) (partAt 0 (d .scratch))
 
-module _ (c : Digits) (spool : List ℕ) (k : ℕ) (d : Desk) (at to own : ℕ) (l : Line) (w : Where) (form : LineForm) (x : LineHere spool k at to form w l) (s : Set) where
+module _ (c : Class) (spool : List ℕ) (k : ℕ) (d : Desk) (at to own : ℕ) (l : Line) (w : Where) (form : LineForm) (x : LineHere spool k at to form w l) (s : Set) where
   abbrev Stood : ℕ → Type 0
   Stood m = Stands c spool k d (InFile spool k d) at (top s m)
 

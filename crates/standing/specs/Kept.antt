@@ -6,7 +6,7 @@ use mathlib.Core.Path.{_≡_}
 use mathlib.Core.List.{List, [], _∷_, _++_, map}
 use lib.IntN.{ℤ}
 use lib.ListN.{length, replicate, drop}
-use Rattle.rules.specs.declared.Digits.{Digits}
+use Rattle.rules.specs.declared.Class.{Class}
 use Rattle.rules.specs.Base.{flat}
 use Rattle.rules.specs.Figures.{placedTables}
 use Rattle.rules.specs.Sets.{Figure, Symbol, Set, isFirst}
@@ -67,15 +67,15 @@ pub record Scratch (t : List ℤ) (st : State) : Type 0 where
 abbrev pub symbolShut : Set → Symbol → List (List ℤ)
 symbolShut s y = frontRecords s ++ emptyRecord ∷ innerRecords (length (s .symbols)) y
 
-abbrev pub homeShut : Digits → Set → Home → List (List ℤ)
+abbrev pub homeShut : Class → Set → Home → List (List ℤ)
 homeShut c s (inElement y) = symbolShut s y
 homeShut c s (inLayer k) = layersRecords c s
 
-abbrev pub figuresShut : Digits → Set → Home → List Figure → List (List ℤ)
+abbrev pub figuresShut : Class → Set → Home → List Figure → List (List ℤ)
 figuresShut c s h fs = homeShut c s h ++ flat (map (homeFigure c s h) fs)
 
 -- the records taken so far: those that are complete, and zeros for those that are open
-abbrev pub shutSoFar : Digits → State → List (List ℤ)
+abbrev pub shutSoFar : Class → State → List (List ℤ)
 shutSoFar c (top s k) = topSoFar c s k
 shutSoFar c (file s n h p) = closedRecords c s ++ emptyRecords (isFirst s)
 shutSoFar c (drawing s d) = fileRecords true 1 (s .now) ++ emptyRecord ∷ layerRecords 0 (d .layers)
@@ -95,7 +95,7 @@ shutSoFar c (ended s) = closedRecords c s
 -- ── a line ──
 -- t: the scratch behind the block's part of the line. It took so many records, and the one with this number is complete: it stands on the
 -- scratch at `from`.
-pub record Fills (c : Digits) (st st′ : State) (more from number : ℕ) (t : List ℤ) : Type 0 where
+pub record Fills (c : Class) (st st′ : State) (more from number : ℕ) (t : List ℤ) : Type 0 where
   pub fore : List (List ℤ)
   pub behind : List (List ℤ)
   pub before : shutSoFar c st ++ replicate more emptyRecord ≡ fore ++ emptyRecord ∷ behind
@@ -105,7 +105,7 @@ pub record Fills (c : Digits) (st st′ : State) (more from number : ℕ) (t : L
 
 -- The same of any number of records that are complete at once, the one with this number and those behind it: `us` are their numbers, one
 -- record's behind another's.
-pub record FillsAll (c : Digits) (st st′ : State) (more number : ℕ) (us : List ℤ) : Type 0 where
+pub record FillsAll (c : Class) (st st′ : State) (more number : ℕ) (us : List ℤ) : Type 0 where
   pub fore : List (List ℤ)
   pub made : List (List ℤ)
   pub behind : List (List ℤ)
@@ -116,16 +116,16 @@ pub record FillsAll (c : Digits) (st st′ : State) (more number : ℕ) (us : Li
   pub long : length us ≡ width * length made
 
 -- none is complete
-abbrev pub Opens : Digits → State → State → ℕ → Type 0
+abbrev pub Opens : Class → State → State → ℕ → Type 0
 Opens c st st′ more = shutSoFar c st′ ≡ shutSoFar c st ++ replicate more emptyRecord
 
 -- .. and this stands on the scratch behind the line
-pub record Begins (c : Digits) (st st′ : State) (more : ℕ) (t : List ℤ) : Type 0 where
+pub record Begins (c : Class) (st st′ : State) (more : ℕ) (t : List ℤ) : Type 0 where
   pub opens : Opens c st st′ more
   pub scratch : Scratch t st′
 
 -- a line that takes no record and makes none complete: the table's list stays as it is
-pub record Enters (c : Digits) (st st′ : State) (t : List ℤ) : Type 0 where
+pub record Enters (c : Class) (st st′ : State) (t : List ℤ) : Type 0 where
   pub same : shutSoFar c st′ ≡ shutSoFar c st
   pub scratch : Scratch t st′
 
@@ -135,7 +135,7 @@ HomeOwnAt own s (inElement y) = length (flat (frontRecords s)) ≡ width * own
 HomeOwnAt own s (inLayer k) = Unit {0}
 
 -- so many records stand before FILE_FORMAT's, the drawing's, the symbol's that is open; where none is open, nothing is said
-abbrev pub OwnAt : Digits → ℕ → State → Type 0
+abbrev pub OwnAt : Class → ℕ → State → Type 0
 OwnAt c own (top s k) = Unit {0}
 OwnAt c own (file s n h p) = length (flat (closedRecords c s)) ≡ width * own
 OwnAt c own (drawing s d) = length (flat (fileRecords true 1 (s .now))) ≡ width * own

@@ -6,7 +6,7 @@ use mathlib.Core.List.{List, [], _∷_, _++_}
 use lib.Dec.{eqb}
 use lib.IntN.{ℤ}
 use lib.ListN.{length, getD, take, drop, replicate}
-use Rattle.rules.specs.declared.Digits.{Digits}
+use Rattle.rules.specs.declared.Class.{Class}
 use Rattle.rules.specs.declared.LineForm.{LineForm}
 use Rattle.rules.specs.Lines.{Form, formIn}
 use Rattle.rules.specs.RangeClass.{digits, digitsOf}
@@ -123,9 +123,9 @@ module _ (spool : List ℕ) (form : LineForm) (n : Now) (tally symbols layers : 
     pub room : getD tally tallySymbols 0 < length symbols
     pub name : symbolAct m ≡ shut → isNamed (partAt 0 t) ≡ true
 
-  abbrev pub OnPlaced : Digits → Lent → Lent → List ℤ → List ℤ → Step → Type 0
+  abbrev pub OnPlaced : Class → Lent → Lent → List ℤ → List ℤ → Step → Type 0
   OnPlaced c x₀ x₁ t₀ t₁ r =
-      Lends width t₀ t₁ λ rec₀ rec₁. PlacedLine known c (digitsOf (getD tally tallySymbolRange 0)) n x₀ x₁ rec₀ rec₁ r (eqb (n .part) innerPlacedText) line
+      Lends width t₀ t₁ λ rec₀ rec₁. PlacedLine known (c .symbols) (digitsOf (getD tally tallySymbolRange 0)) n x₀ x₁ rec₀ rec₁ r (eqb (n .part) innerPlacedText) line
 
   -- no layer has a name that a line of DRAWING_FORMAT asks for
   abbrev sheetAct : List Bool → Act
@@ -152,7 +152,7 @@ module _ (spool : List ℕ) (form : LineForm) (n : Now) (tally symbols layers : 
 
 -- ── any line ──
 -- what is lent on return; a line leaves what its block has no use for
-pub data Done (c : Digits) (spool following : List ℕ) (form : LineForm) (w : Where) (d d₁ : Desk) (r : Step) : Type 0 where
+pub data Done (c : Class) (spool following : List ℕ) (form : LineForm) (w : Where) (d d₁ : Desk) (r : Step) : Type 0 where
   top : d .now .block ≡ blockTop
       → OnTop spool form (d .now) (d .tally) (d .symbols) (d .layers) w (d .usedAll) (topLent (d .marks) (d .used) (d .header))
       (topLent (d₁ .marks) (d₁ .used) (d₁ .header)) (d .scratch) (d₁ .scratch) r
@@ -233,7 +233,7 @@ module _ (spool : List ℕ) (form : LineForm) (w : Where) (n : Now) where
   abbrev pub HeadDone : List ℕ → List ℕ → List ℕ → List ℕ → List ℕ → List Bool → List Bool → List Bool → List Bool → List Bool → List ℤ → List ℤ
       → List ℤ → List ℤ → Step → Type 0
   HeadDone following tally tally₁ symbols layers used used₁ usedAll marks marks₁ header header₁ t t₁ r =
-      (c : Digits) (serials : List ℕ) (inner : List Bool)
+      (c : Class) (serials : List ℕ) (inner : List Bool)
       → Done c spool following form w (desk n tally symbols layers serials used usedAll marks inner header t)
       (desk n tally₁ symbols layers serials used₁ usedAll marks₁ inner header₁ t₁) r
 
@@ -245,7 +245,7 @@ module _ (spool : List ℕ) (form : LineForm) (w : Where) (n : Now) where
 
   abbrev pub SheetDone : List ℕ → List ℕ → List ℕ → List ℕ → List ℕ → List ℕ → List Bool → List Bool → List ℤ → List ℤ → Step → Type 0
   SheetDone tally tally₁ symbols symbols₁ layers layers₁ marks marks₁ t t₁ r =
-      (c : Digits) (following : List ℕ) (serials : List ℕ) (used usedAll inner : List Bool) (header : List ℤ)
+      (c : Class) (following : List ℕ) (serials : List ℕ) (used usedAll inner : List Bool) (header : List ℤ)
       → Done c spool following form w (desk n tally symbols layers serials used usedAll marks inner header t)
       (desk n tally₁ symbols₁ layers₁ serials used usedAll marks₁ inner header t₁) r
 
@@ -254,7 +254,7 @@ module _ (spool : List ℕ) (form : LineForm) (w : Where) (n : Now) where
   FiguresFit tally symbols layers serials marks inner t =
       (used : List Bool) × (usedAll : List Bool) × (header : List ℤ) × LineFits spool form w (desk n tally symbols layers serials used usedAll marks inner header t)
 
-  abbrev pub FiguresDone : Digits → List ℕ → List ℕ → List ℕ → List ℕ → List ℕ → List ℕ → List Bool → List Bool → List Bool → List Bool → List ℤ
+  abbrev pub FiguresDone : Class → List ℕ → List ℕ → List ℕ → List ℕ → List ℕ → List ℕ → List Bool → List Bool → List Bool → List Bool → List ℤ
       → List ℤ → Step → Type 0
   FiguresDone c tally tally₁ symbols layers serials serials₁ marks marks₁ inner inner₁ t t₁ r =
       (following : List ℕ) (used usedAll : List Bool) (header : List ℤ)

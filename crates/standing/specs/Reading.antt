@@ -8,11 +8,12 @@ use lib.IntN.{ℤ, pos}
 use lib.ListN.{length, getD, set, replicate}
 use mathlib.Core.Option.{some}
 use Rattle.rules.specs.declared.Digits.{Digits}
+use Rattle.rules.specs.declared.Class.{Class}
 use Rattle.rules.specs.declared.LineForm.{LineForm}
 use Rattle.rules.specs.Base.{flat, isNil}
 use Rattle.rules.specs.Lines.{Rest, brace, equals, Form, ignored, wrong, close, eof, keyed}
 use Rattle.rules.specs.Sets.{Set}
-use Rattle.rules.specs.Machine.{Line, Env, State, top, ended, setOf}
+use Rattle.rules.specs.Machine.{Line, Env, State, top, ended, setOf, limitedTo}
 use Rattle.rules.specs.LineByLine.{refused, run}
 use Rattle.rules.specs.Answers.{linesOfVolume}
 use Rattle.account.specs.declared.Where.{Where}
@@ -34,7 +35,7 @@ use Rattle.rules.specs.Blocks.{mostLayers}
 use Rattle.account.specs.Numbering.{blockDefines, blockElements, tallyElementsHere, tallySymbols, rowsText, mostRows, headerLength, scratchLength}
 
 -- the desk stands at the state st of a reading of volume k, behind the place `at`
-abbrev pub Standing : Digits → List ℕ → ℕ → Desk → ℕ → State → Type 0
+abbrev pub Standing : Class → List ℕ → ℕ → Desk → ℕ → State → Type 0
 Standing c spool k d at st = Stands c spool k d (InFile spool k d) at st
 
 -- ── a line ──
@@ -51,7 +52,7 @@ PlacedForm eof = Unit {0}
 PlacedForm (keyed k r) = PlacedRest r
 
 -- some state that the desk stands at, before a line that ends within a spool's places
-pub record LineReady (c : Digits) (spool : List ℕ) (k : ℕ) (form : LineForm) (w : Where) (d : Desk) (following : List ℕ) : Type 0 where
+pub record LineReady (c : Class) (spool : List ℕ) (k : ℕ) (form : LineForm) (w : Where) (d : Desk) (following : List ℕ) : Type 0 where
   pub at : ℕ
   pub to : ℕ
   pub state : State
@@ -65,7 +66,7 @@ pub record LineReady (c : Digits) (spool : List ℕ) (k : ℕ) (form : LineForm)
   pub countable : d .now .records + 2 ≤ 18446744073709551615
 
 -- the answer is the step that the definitions make, at any state that the desk stands at
-abbrev pub LinePromise : Digits → List ℕ → ℕ → LineForm → Where → Desk → Desk → List ℕ → Step → Type 0
+abbrev pub LinePromise : Class → List ℕ → ℕ → LineForm → Where → Desk → Desk → List ℕ → Step → Type 0
 LinePromise c spool k form w d₀ d₁ following r =
     (own : ℕ) (l : Line) (at to : ℕ) (st : State) → LineHere spool k at to form w l → l .next ≡ following → PlacedForm (l .form)
     → Standing c spool k d₀ at st → Counted c own d₀ st → StepOut c spool k (InFile spool k) own l to st d₁ r
@@ -110,7 +111,7 @@ nextState true s = ended s
 nextState false s = top s 0
 
 -- so many records were taken, no more than the limit; a table of that length holds them. (The rewriter lends none.)
-pub record Kept (c : Digits) (limit : ℕ) (table : List ℤ) (records : ℕ) (st : State) : Type 0 where
+pub record Kept (c : Class) (limit : ℕ) (table : List ℤ) (records : ℕ) (st : State) : Type 0 where
   pub taken : setOf st .taken ≡ records
   pub fits : records ≤ limit
   pub size : length (flat (shutSoFar c st)) ≡ width * records
@@ -122,11 +123,7 @@ volumeDesk n tally symbols layers serials usedAll =
     desk n tally symbols layers serials (replicate mostLayers false) usedAll (replicate mostRows false) (replicate rowsText false) (replicate headerLength (pos 0))
     (replicate scratchLength (pos 0))
 
--- the class, and how many records the table holds
-abbrev pub limitedTo : Digits → ℕ → Env
-limitedTo c limit = record { class = c; limit = some limit }
-
-pub record VolumeReady (c : Digits) (spool body : List ℕ) (v : Volume) (limit : ℕ) (d : Desk) (table : List ℤ) : Type 0 where
+pub record VolumeReady (c : Class) (spool body : List ℕ) (v : Volume) (limit : ℕ) (d : Desk) (table : List ℤ) : Type 0 where
   pub set : Set
   pub lines : List (List ℕ)
   pub at : At spool body v (startOf (v .at)) lines
@@ -135,14 +132,14 @@ pub record VolumeReady (c : Digits) (spool body : List ℕ) (v : Volume) (limit 
   pub countable : limit + 2 ≤ 18446744073709551615
 
 -- the volume read to its end, or the refusal
-abbrev pub VolumeOut : Digits → List ℕ → List ℕ → Volume → Bool → ℕ → State → List Line → List Line → (Now → Desk) → List ℤ → Through → Type 0
+abbrev pub VolumeOut : Class → List ℕ → List ℕ → Volume → Bool → ℕ → State → List Line → List Line → (Now → Desk) → List ℤ → Through → Type 0
 VolumeOut c spool body v last limit st lines more d table (T.Go n) =
     (s : Set) × (run (limitedTo c limit) st (lines ++ more) ≡ run (limitedTo c limit) (nextState last s) more)
     × Standing c spool (nextNumber last (v .number)) (d n) (endOf body v) (nextState last s) × Kept c limit table (n .records) (nextState last s)
 VolumeOut c spool body v last limit st lines more d table (T.Stop f) = run (limitedTo c limit) st (lines ++ more) ≡ refused (f .number) (f .volume) (f .line)
 
 -- d₀: what is lent; d₁: what comes back of it, with what is open then
-abbrev pub VolumePromise : Digits → List ℕ → List ℕ → Volume → ℕ → List ℕ → Desk → List ℤ → (Now → Desk) → List ℤ → Through → Type 0
+abbrev pub VolumePromise : Class → List ℕ → List ℕ → Volume → ℕ → List ℕ → Desk → List ℤ → (Now → Desk) → List ℤ → Through → Type 0
 VolumePromise c spool body v limit following d₀ table₀ d₁ table₁ r =
     (s : Set) (lines : List (List ℕ)) (more : List Line) → At spool body v (startOf (v .at)) lines → Standing c spool (v .number) d₀ (v .at) (top s 0)
     → Kept c limit table₀ (d₀ .now .records) (top s 0)

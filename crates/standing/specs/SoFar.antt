@@ -5,7 +5,7 @@ use mathlib.Core.List.{List, [], _∷_, _++_}
 use lib.IntN.{ℤ, pos}
 use lib.ListN.{length, replicate}
 use lib.Seq.{sets}
-use Rattle.rules.specs.declared.Digits.{Digits}
+use Rattle.rules.specs.declared.Class.{Class}
 use Rattle.rules.specs.Blocks.{symbolTable}
 use Rattle.rules.specs.Sets.{Point, Figure, Drawing, Symbol, Set, isFirst}
 use Rattle.rules.specs.Machine.{Home, inElement, inLayer}
@@ -18,7 +18,7 @@ abbrev pub volumeOf : Set → ℕ
 volumeOf s = suc (length (s .volumes))
 
 -- of the closed volumes
-abbrev pub closedRecords : Digits → Set → List (List ℤ)
+abbrev pub closedRecords : Class → Set → List (List ℤ)
 closedRecords c s = recordsFrom c s (s .volumes)
 
 -- of the header, the drawing and the layers, and of the closed symbols
@@ -29,12 +29,12 @@ abbrev pub frontRecords : Set → List (List ℤ)
 frontRecords s = sheetRecords s (s .drawing) ++ symbolRecords 0 (s .symbols)
 
 -- of all before ELEMENT in the volume at hand, and of the volumes before it
-abbrev pub baseRecords : Digits → Set → Bool → List (List ℤ)
+abbrev pub baseRecords : Class → Set → Bool → List (List ℤ)
 baseRecords c s true = frontRecords s
 baseRecords c s false = closedRecords c s ++ fileRecords false (volumeOf s) (s .now)
 
 -- of all closed layers
-abbrev pub layersRecords : Digits → Set → List (List ℤ)
+abbrev pub layersRecords : Class → Set → List (List ℤ)
 layersRecords c s = baseRecords c s (isFirst s) ++ bodyRecords (viewOf c s) (volumeOf s) (s .now)
 
 -- a symbol's own, as far as it is
@@ -55,7 +55,7 @@ abbrev pub homeMore : Home → ℕ
 homeMore (inElement y) = inSymbol
 homeMore (inLayer k) = 0
 
-abbrev pub homeFigure : Digits → Set → Home → Figure → List (List ℤ)
+abbrev pub homeFigure : Class → Set → Home → Figure → List (List ℤ)
 homeFigure c s (inElement y) f = figureRecords plainView inSymbol (length (s .symbols)) 1 f
 homeFigure c s (inLayer k) f = figureRecords (viewOf c s) 0 k (volumeOf s) f
 
@@ -73,7 +73,7 @@ emptyRecords true = emptyRecord ∷ emptyRecord ∷ []
 emptyRecords false = emptyRecord ∷ []
 
 -- at the top level, by the block that comes next
-abbrev pub topSoFar : Digits → Set → ℕ → List (List ℤ)
+abbrev pub topSoFar : Class → Set → ℕ → List (List ℤ)
 topSoFar c s zero = closedRecords c s
 topSoFar c s (suc zero) = fileRecords true 1 (s .now)
 topSoFar c s (suc (suc zero)) = sheetRecords s (s .drawing)

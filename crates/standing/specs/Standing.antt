@@ -8,6 +8,7 @@ use mathlib.Core.Option.{Option, none, some}
 use lib.IntN.{ℤ}
 use lib.ListN.{length, getD, take}
 use Rattle.rules.specs.declared.Digits.{Digits}
+use Rattle.rules.specs.declared.Class.{Class}
 use Rattle.rules.specs.Base.{flat, total, hasNumber, isNone, isSome}
 use Rattle.rules.specs.RefusalNumbers.{got, bad}
 use Rattle.rules.specs.Lines.{Rest, brace, equals, Form, ignored, wrong, close, eof, keyed, span, bytesAt, formIn}
@@ -18,7 +19,7 @@ use Rattle.rules.specs.Figures.{textTable, placedTables}
 use Rattle.rules.specs.Sets.{Point, Figure, placed, Layer, Drawing, Symbol, Set, isFirst, firstContents, arcOf, symbolRange, defineRange, symbolNameOf}
 use Rattle.rules.specs.Sets.{figureSerial, serialsOfVolume, serialsIn, elementsOf, usedIn}
 use Rattle.rules.specs.VolumesAndTotals.{ownTable}
-use Rattle.rules.specs.Machine.{Line, inLastVolume, Env, Home, inElement, inLayer, State, top, file, drawing, layerNames, defines, symbol, hide, elements}
+use Rattle.rules.specs.Machine.{Line, inLastVolume, Env, Home, inElement, inLayer, State, top, file, drawing, layerNames, defines, symbol, hide, elements, unlimited}
 use Rattle.rules.specs.Machine.{figures, successive, texts, placing, skipping, ended, setOf, newName, symbolBlock}
 use Rattle.rules.specs.LineByLine.{stepIn}
 use Rattle.entries.specs.Names.{namesIn}
@@ -387,7 +388,7 @@ module _ (spool : List ℕ) (k : ℕ) (n : Now) (ms is : List Bool) where
     pub unopened : isNone (getD (partOf o 0) 1 none) ≡ true → partOf o 1 ≡ blank (textTable true 16 24)
     pub opened : p ≡ 1 → isNone (getD (partOf o 0) 1 none) ≡ false
 
-module _ (c : Digits) (spool : List ℕ) (k : ℕ) (d : Desk) where
+module _ (c : Class) (spool : List ℕ) (k : ℕ) (d : Desk) where
   -- FILE_FORMAT's part is said in FileStanding
   abbrev pub Inside : (FileHere : Set → ℕ → Held → ℕ → Type 0) → State → Type 0
   Inside FileHere (top s m) = (d .now .block ≡ blockTop) × (d .now .part ≡ m) × TopPhase k s m
@@ -457,10 +458,6 @@ deskScratch d t = record {
   scratch = t;
 }
 
--- a class, and no limit: 19 is said apart (`withinLimit`)
-abbrev pub unlimited : Digits → Env
-unlimited c = record { class = c; limit = none }
-
 -- the line l, as the code has it: in volume k, behind it the place `to`
 pub record LineHere (spool : List ℕ) (k at to : ℕ) (form : LineForm) (w : Where) (l : Line) : Type 0 where
   pub volume : w .volume ≡ k
@@ -471,18 +468,18 @@ pub record LineHere (spool : List ℕ) (k at to : ℕ) (form : LineForm) (w : Wh
   pub most : to ≤ 61442
 
 -- what a line that took so many records made complete of those that have their place in the table: `number` is that of the first of them
-abbrev pub Made : Digits → State → State → ℕ → ℕ → List ℤ → List ℤ → Complete → Type 0
+abbrev pub Made : Class → State → State → ℕ → ℕ → List ℤ → List ℤ → Complete → Type 0
 Made c st st′ more number t h C.Nothing = Opens c st st′ more
 Made c st st′ more number t h (C.Record from) = Fills c st st′ more from number t
 Made c st st′ more number t h C.Header = FillsAll c st st′ more number (take (fileWidth (isFirst (setOf st))) h)
 
 -- how many records have their place in the table, and the number of the open block's own
-pub record Counted (c : Digits) (number : ℕ) (d : Desk) (st : State) : Type 0 where
+pub record Counted (c : Class) (number : ℕ) (d : Desk) (st : State) : Type 0 where
   pub taken : setOf st .taken ≡ d .now .records
   pub size : length (flat (shutSoFar c st)) ≡ width * d .now .records
   pub own : OwnAt c number st
 
-module _ (c : Digits) (spool : List ℕ) (k : ℕ) (FileHere : Desk → Set → ℕ → Held → ℕ → Type 0) where
+module _ (c : Class) (spool : List ℕ) (k : ℕ) (FileHere : Desk → Set → ℕ → Held → ℕ → Type 0) where
   abbrev pub StandsAt : Desk → ℕ → State → Type 0
   StandsAt d at st = Stands c spool k d (FileHere d) at st
 

@@ -7,7 +7,7 @@ use native.Mathlib.Omega.{arith}
 use borrow.Author.Tests.{eqb-true, eq-eqb}
 use lib.Dec.{eqb}
 use lib.IntN.{ℤ}
-use Rattle.rules.specs.declared.Digits.{Digits}
+use Rattle.rules.specs.declared.Class.{Class}
 use Rattle.rules.specs.Base.{isNil, hasNumber}
 use Rattle.rules.specs.Values.{amountAt}
 use Rattle.rules.specs.RefusalNumbers.{Got, got, bad, mapG, also, unless}
@@ -17,7 +17,7 @@ use Rattle.rules.specs.Rows.{Held, rowsAtLimit, shut, refuse, complete}
 use Rattle.rules.specs.Blocks.{elementTable}
 use Rattle.rules.specs.Sets.{Set, withVolume, usedIn}
 use Rattle.rules.specs.VolumesAndTotals.{layersUsed, countedHere, countedAll}
-use Rattle.rules.specs.Machine.{Line, Env, State, top, file, drawing, layerNames, defines, symbol, hide, elements, figures, successive, texts, placing, skipping, ended, setOf, inLayer, byAct, onTop, onElements}
+use Rattle.rules.specs.Machine.{Line, Env, State, top, file, drawing, layerNames, defines, symbol, hide, elements, figures, successive, texts, placing, skipping, ended, setOf, inLayer, byAct, onTop, onElements, limitedTo}
 use Rattle.rules.specs.LineByLine.{stepIn, isIgnored, isClose, isEof, completes, nextVolume, step}
 use Rattle.rules.proofs.Chains.{clash, never, unless-got, and-left, and-right, or-left}
 use Rattle.account.specs.declared.Now.{Now}
@@ -30,7 +30,7 @@ use Rattle.account.specs.Putting.{completed, numberFor, clearedBy}
 use Rattle.account.specs.SkippedLines.{Skips, inOwned}
 use Rattle.standing.specs.SoFar.{volumeOf}
 use Rattle.steps.specs.VolumeLines.{nextNow, lastStep}
-use Rattle.standing.specs.Reading.{nextNumber, nextState, Kept, limitedTo}
+use Rattle.standing.specs.Reading.{nextNumber, nextState, Kept}
 use Rattle.standing.specs.Standing.{Desk, Inside, Stands, deskNow, deskScratch, Made, Goes, Passes}
 use Rattle.standing.proofs.Completing.{completed-by, completed-none}
 use Rattle.standing.proofs.EntriesKept.{volume-anew}
@@ -138,7 +138,7 @@ data Behind (b : ℕ) : Type 0 where
   top-again : b ≡ 0 → Behind b
   none-more : b ≡ 12 → Behind b
 
-module _ (c : Digits) (spool : List ℕ) (k : ℕ) (l : Line) (d : Desk) (F : Set → ℕ → Held → ℕ → Type 0) where
+module _ (c : Class) (spool : List ℕ) (k : ℕ) (l : Line) (d : Desk) (F : Set → ℕ → Held → ℕ → Type 0) where
   ending-block : (st : State) → completes l st ≡ true → Inside c spool k d F st → Before (d .now .block)
   ending-block (top s m) h i = on-top (i .0)
   ending-block (file s n o p) h i = in-block (isNil (l .next)) _ h
@@ -156,7 +156,7 @@ module _ (c : Digits) (spool : List ℕ) (k : ℕ) (l : Line) (d : Desk) (F : Se
   ending-block (ended s) h i = in-block (isNil (l .next)) _ h
 
 -- ── after the last line ──
-module _ (c : Digits) (spool : List ℕ) (k : ℕ) (FileHere : Desk → Set → ℕ → Held → ℕ → Type 0) (limit : ℕ) where
+module _ (c : Class) (spool : List ℕ) (k : ℕ) (FileHere : Desk → Set → ℕ → Held → ℕ → Type 0) (limit : ℕ) where
   abbrev env : Env
   env = limitedTo c limit
 

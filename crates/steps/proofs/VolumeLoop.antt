@@ -7,12 +7,12 @@ use native.Mathlib.Omega.{arith}
 use lib.Dec.{eqb}
 use lib.IntN.{ℤ}
 use lib.ListN.{length}
-use Rattle.rules.specs.declared.Digits.{Digits}
+use Rattle.rules.specs.declared.Class.{Class}
 use Rattle.rules.specs.declared.Refusal.{Refusal}
 use Rattle.rules.specs.Base.{isNil}
 use Rattle.rules.specs.RefusalNumbers.{Got}
 use Rattle.rules.specs.Sets.{Set}
-use Rattle.rules.specs.Machine.{Line, State, top}
+use Rattle.rules.specs.Machine.{Line, State, top, limitedTo}
 use Rattle.rules.specs.LineByLine.{refused, thenRun, run}
 use Rattle.rules.specs.Answers.{linesOfVolume}
 use Rattle.rules.proofs.Chains.{clash}
@@ -34,7 +34,7 @@ use Rattle.account.specs.SkippedLines.{Low, SkipReady, SkipMet}
 use Rattle.steps.specs.VolumeLines.{completesOf, lastStep}
 use Rattle.standing.specs.Standing.{Desk, deskNow, deskScratch}
 use Rattle.standing.specs.FileStanding.{InFile}
-use Rattle.standing.specs.Reading.{Standing, LineReady, LinePromise, startOf, nextNumber, nextState, stopOf, throughOf, Kept, volumeDesk, limitedTo, VolumeReady, VolumeOut, VolumePromise}
+use Rattle.standing.specs.Reading.{Standing, LineReady, LinePromise, startOf, nextNumber, nextState, stopOf, throughOf, Kept, volumeDesk, VolumeReady, VolumeOut, VolumePromise}
 use Rattle.account.proofs.Walked.{next-seen}
 use Rattle.account.proofs.SeenLines.{past, seenLine, low-past}
 use Rattle.steps.proofs.VolumeEnds.{LastOut}
@@ -44,7 +44,7 @@ use Rattle.steps.proofs.VolumeRun.{stands-later, stands-between, Gone, 
 abbrev pub backDesk : Desk → Now → Desk
 backDesk d n = volumeDesk n (d .tally) (d .symbols) (d .layers) (d .serials) (d .usedAll)
 
-module _ (c : Digits) (spool body : List ℕ) (v : Volume) (following : List ℕ) (limit : ℕ) (d₀ : Desk) (table₀ : List ℤ) where
+module _ (c : Class) (spool body : List ℕ) (v : Volume) (following : List ℕ) (limit : ℕ) (d₀ : Desk) (table₀ : List ℤ) where
   abbrev k : ℕ
   k = v .number
 

@@ -8,7 +8,7 @@ use lib.IntN.{ℤ}
 use lib.ListN.{length}
 use lib.Dec.{eqb}
 use borrow.Author.Tests.{ne-eqb}
-use Rattle.rules.specs.declared.Digits.{Digits}
+use Rattle.rules.specs.declared.Class.{Class}
 use Rattle.rules.specs.declared.Refusal.{Refusal}
 use Rattle.rules.specs.Base.{isNil}
 use Rattle.lines.specs.declared.Seen.{Seen}
@@ -56,7 +56,7 @@ own-on d₁ s n o e = record { used = o .used; marks = o .marks; inner = o .inne
 pub skipped-further : (spool body : List ℕ) (v : Volume) (p q : Pos) (l : Left) → SkipMet spool body v p 4 l → l ≡ L.Go q → Further body v p (L.Go q)
 skipped-further spool body v p q l m a = subst (Further body v p) a (m .further)
 
-module _ (c : Digits) (spool body : List ℕ) (v : Volume) (following : List ℕ) (limit : ℕ) (d₀ : Desk) (table₀ : List ℤ) where
+module _ (c : Class) (spool body : List ℕ) (v : Volume) (following : List ℕ) (limit : ℕ) (d₀ : Desk) (table₀ : List ℤ) where
   -- the loop's invariant: how far the reading is, what keeps its length, and what the code asked once
   pub record Turn (p : Pos) (d : Desk) (own : ℕ) (table : List ℤ) (first lastVolume : Bool) : Type 0 where
     pub through : Through-to c spool body v following limit d₀ table₀ p d own table

@@ -8,14 +8,14 @@ use borrow.Author.Tests.{le-leb, lt-leb, ltb-true, ltb-false}
 use lib.Dec.{eqb, leb, ltb}
 use lib.IntN.{ℤ, pos}
 use lib.ListN.{length, replicate}
-use Rattle.rules.specs.declared.Digits.{Digits}
+use Rattle.rules.specs.declared.Class.{Class}
 use Rattle.rules.specs.declared.Refusal.{Refusal}
 use Rattle.rules.specs.Base.{isNil}
 use Rattle.rules.specs.RefusalNumbers.{Got, got, bad, unless}
 use Rattle.rules.specs.Lines.{Form, formIn}
 use Rattle.rules.specs.Rows.{Held}
 use Rattle.rules.specs.Sets.{Set, isFirst}
-use Rattle.rules.specs.Machine.{Line, Env, State, top, ended, setOf}
+use Rattle.rules.specs.Machine.{Line, Env, State, top, ended, setOf, unlimited, limitedTo}
 use Rattle.rules.specs.LineByLine.{stepIn, step, refused, thenRun, run}
 use Rattle.rules.proofs.Chains.{clash}
 use Rattle.promises.proofs.Limits.{capped, limited}
@@ -33,9 +33,9 @@ use Rattle.account.specs.Walk.{seenFrom, At, todo, Next}
 use Rattle.account.specs.SkippedLines.{Skips, inOwned, SkipMet}
 use Rattle.steps.specs.VolumeLines.{completesOf, lastStep}
 use Rattle.standing.specs.Kept.{Scratch, OwnAt}
-use Rattle.standing.specs.Standing.{Desk, inside, formSize, Inside, Stands, deskNow, deskScratch, unlimited, LineHere, Counted, Goes, StepOut}
+use Rattle.standing.specs.Standing.{Desk, inside, formSize, Inside, Stands, deskNow, deskScratch, LineHere, Counted, Goes, StepOut}
 use Rattle.standing.specs.FileStanding.{InFile}
-use Rattle.standing.specs.Reading.{Standing, PlacedForm, LinePromise, nextState, Kept, volumeDesk, limitedTo}
+use Rattle.standing.specs.Reading.{Standing, PlacedForm, LinePromise, nextState, Kept, volumeDesk}
 use Rattle.standing.proofs.FormPlaces.{line-placed}
 use Rattle.standing.proofs.KeptLaws.{kept-opens}
 use Rattle.standing.proofs.OpenBlocks
@@ -53,7 +53,7 @@ use Rattle.steps.proofs.VolumeStanding.{completes-of}
 use Rattle.steps.proofs.VolumeEnds.{Judged, LastOut, last-out}
 
 -- the same reading at a later place
-pub stands-later : (c : Digits) (spool : List ℕ) (k : ℕ) (d : Desk) (F : Set → ℕ → Held → ℕ → Type 0) (at to : ℕ) (st : State) → at ≤ to → Stands c spool k d F at st → Stands c spool k d F to st
+pub stands-later : (c : Class) (spool : List ℕ) (k : ℕ) (d : Desk) (F : Set → ℕ → Held → ℕ → Type 0) (at to : ℕ) (st : State) → at ≤ to → Stands c spool k d F at st → Stands c spool k d F to st
 stands-later c spool k d F at to st h z = record {
   lengths = z .lengths;
   scratch = z .scratch;
@@ -73,7 +73,7 @@ stands-later c spool k d F at to st h z = record {
 }
 
 -- between two volumes nothing is open: what only a block needs is as good as new, and FILE_FORMAT's part says nothing
-pub stands-between : (c : Digits) (spool : List ℕ) (k : ℕ) (d : Desk) (F G : Set → ℕ → Held → ℕ → Type 0) (at : ℕ) (b : Bool) (s : Set) → Stands c spool k d F at (nextState b s)
+pub stands-between : (c : Class) (spool : List ℕ) (k : ℕ) (d : Desk) (F G : Set → ℕ → Held → ℕ → Type 0) (at : ℕ) (b : Bool) (s : Set) → Stands c spool k d F at (nextState b s)
     → Stands c spool k (volumeDesk (d .now) (d .tally) (d .symbols) (d .layers) (d .serials) (d .usedAll)) G at (nextState b s)
 stands-between c spool k d F G at b s z = record {
   lengths = record {
@@ -116,13 +116,13 @@ stands-between c spool k d F G at b s z = record {
     same false h = h
 
 -- behind a skipped block no own record is open
-own-skipped : (c : Digits) (own : ℕ) {inside behind : State} → Skips inside behind → OwnAt c own behind
+own-skipped : (c : Class) (own : ℕ) {inside behind : State} → Skips inside behind → OwnAt c own behind
 own-skipped c own (inOwned s m fs i b) = tt
 
 same-skipped : {inside behind : State} → Skips inside behind → setOf inside ≡ setOf behind
 same-skipped (inOwned s m fs i b) = refl
 
-module _ (c : Digits) (spool body : List ℕ) (v : Volume) (following : List ℕ) (limit : ℕ) where
+module _ (c : Class) (spool body : List ℕ) (v : Volume) (following : List ℕ) (limit : ℕ) where
   abbrev k : ℕ
   k = v .number
 

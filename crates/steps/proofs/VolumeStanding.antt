@@ -4,7 +4,7 @@ use mathlib.Core.Bool.{Bool, true, false, cond, _&&_, _||_}
 use mathlib.Core.List.{List}
 use mathlib.Core.Path.{_≡_, refl, sym, _∙_, ap}
 use lib.Dec.{eqb}
-use Rattle.rules.specs.declared.Digits.{Digits}
+use Rattle.rules.specs.declared.Class.{Class}
 use Rattle.rules.specs.declared.LineForm.{LineForm}
 use Rattle.rules.specs.declared.LineForm.the-variants as L
 use Rattle.rules.specs.Base.{isNil}
@@ -64,7 +64,7 @@ module _ (spool : List ℕ) (l : Line) (f : LineForm) (e : l .form ≡ formIn sp
   elsewhere n m true p q = ap (λ (x : Bool). (x && eqb m 4) && eofForm f) p
   elsewhere n m false p q = ap (λ (x : Bool). cond x (closeForm f) ((eqb n 0 && eqb m 4) && ignoredForm f)) q ∙ ap (λ (x : Bool). (x && eqb m 4) && ignoredForm f) p
 
-  module _ (c : Digits) (k : ℕ) (d : Desk) (F : Set → ℕ → Held → ℕ → Type 0) where
+  module _ (c : Class) (k : ℕ) (d : Desk) (F : Set → ℕ → Held → ℕ → Type 0) where
     abbrev b : Bool
     b = isNil (l .next)
 

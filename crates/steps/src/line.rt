@@ -420,7 +420,7 @@ fn in_placed(
         s,
         &symbols[..ns],
         &layers[..nl],
-        x.class,
+        x.class.symbols,
         range,
         x.here,
         form,

@@ -24,7 +24,7 @@ use groundwork::putting::put_done;
 use groundwork::putting::within;
 use groundwork::walk::next_line;
 use leaves::truth::both;
-use rules::Digits;
+use rules::Class;
 use rules::LineForm;
 use rules::Refusal;
 ghost use mathlib.Core.Path.{_≡_};
@@ -163,7 +163,7 @@ pub fn read_volume(
     s: &[u8],
     body: &[u8],
     following: &[u8],
-    class: Digits,
+    class: Class,
     v: Volume,
     begin: Now,
     tally: &mut [u32],

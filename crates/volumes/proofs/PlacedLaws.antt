@@ -8,7 +8,7 @@ use borrow.Author.Tests.{leb-true, le-ltb, eqb-true}
 use lib.Dec.{eqb, leb}
 use lib.ListN.{length, getD, set, take, drop, take-append-drop}
 use Rattle.rules.specs.declared.Span.{Span}
-use Rattle.rules.specs.declared.Digits.{Digits}
+use Rattle.rules.specs.declared.Class.{Class}
 use Rattle.rules.specs.Base.{bytes, all, within}
 use Rattle.rules.specs.RefusalNumbers.{Got, got, bad, unless}
 use Rattle.rules.specs.Lines.{close, keyed, shapeOf, hasForm, bytesAt}
@@ -48,13 +48,13 @@ use Rattle.volumes.proofs.NotedLaws.{noted-line, placed-laid, set-parts
 use Rattle.pens.proofs.ShownLaws.{opensNothing, opens-not, held-more}
 
 -- ── class 15 knows every key, and no range that is served exceeds it ──
-served-full : (n : ℕ) → servedSymbols n ≡ true → exceeds (digitsOf n) fullClass ≡ false
+served-full : (n : ℕ) → servedSymbols n ≡ true → exceeds (digitsOf n) (fullClass .symbols) ≡ false
 served-full n e = go (within 0 5 n) refl e
   where
-    few : n / 10 % 10 ≤ 1 → n % 10 ≤ 5 → exceeds (digitsOf n) fullClass ≡ false
+    few : n / 10 % 10 ≤ 1 → n % 10 ≤ 5 → exceeds (digitsOf n) (fullClass .symbols) ≡ false
     few m l = rw (le-ltb 1 (n / 10 % 10) m, le-ltb 5 (n % 10) l)
 
-    go : (b : Bool) → within 0 5 n ≡ b → (b || within 11 15 n) ≡ true → exceeds (digitsOf n) fullClass ≡ false
+    go : (b : Bool) → within 0 5 n ≡ b → (b || within 11 15 n) ≡ true → exceeds (digitsOf n) (fullClass .symbols) ≡ false
     go true q e = let hi = leb-true n 5 (and-right (leb 0 n) _ q) in few (omega (arith, hi)) (omega (arith, hi))
     go false q e =
         let lo = leb-true 11 n (and-left (leb 11 n) _ e) in
@@ -75,7 +75,7 @@ opensText (opens i) = eqb i 1
 opensText (headed i p) = false
 opensText (either i) = false
 
-placed-rows : (all (λ r. reaches fullClass (r .least)) placedTable ≡ true) × (all (λ r. opensText (r .holds)) placedTable ≡ true) × (all opensNothing (textTable true 16 24) ≡ true)
+placed-rows : (all (λ r. reaches (fullClass .symbols) (r .least)) placedTable ≡ true) × (all (λ r. opensText (r .holds)) placedTable ≡ true) × (all opensNothing (textTable true 16 24) ≡ true)
 unfolding placedTable textTable
 placed-rows = (refl, refl, refl)
 
@@ -165,11 +165,11 @@ module _ (K : Known) (spool : List ℕ) (first : Bool) (p : Pen) (ns out : List 
         (rw (c, served-full (symbolRange s) (z .here .1 .home .0 .served)) at q)
     own-key z (found j r) f q =
         let (w, same-key) = found-row (bytesAt spool key) placedTable j r f in
-        let knows : reaches (e .class) (r .least) ≡ true = ap (λ (x : Digits). reaches x (r .least)) c ∙ row-all (λ r. reaches fullClass (r .least)) w (placed-rows .0) in
+        let knows : reaches (e .class .symbols) (r .least) ≡ true = ap (λ (x : Class). reaches (x .symbols) (r .least)) c ∙ row-all (λ r. reaches (fullClass .symbols) (r .least)) w (placed-rows .0) in
         row-acted (placing s m fs n (symbolBlock o) 0) _ _ _ (knownOf s) (rangeOf s) st′ (getD (rowsThere (partOf o 0)) j false) j r (restIn spool rest)
         (row-all (λ r. keyOk (r .key)) w (table-keys true 0 0 .15))
         (subst (λ (x : List ℕ). FormFits (keyed x (restIn spool rest))) (same-eq (bytesAt spool key) (r .key) same-key) (subst FormFits form fit))
-        (cond-true (reaches (e .class) (r .least)) _ _ (got st′) knows q)
+        (cond-true (reaches (e .class .symbols) (r .least)) _ _ (got st′) knows q)
         (λ v u x full a. enters 0 z key rest place line j r v f w u x a)
         (λ v u x full a. opens-part 0 z key rest place line j r v f w u (opens-text (r .holds) v (row-all (λ r. opensText (r .holds)) w (placed-rows .1)) x) a)
 
@@ -221,7 +221,7 @@ module _ (K : Known) (spool : List ℕ) (first : Bool) (p : Pen) (ns out : List 
   pub placing-close : (i : ℕ) → Pens K spool first p ns out (placing s m fs n (symbolBlock o) i) → stepIn e l (placing s m fs n (symbolBlock o) i) ≡ got st′
       → l .form ≡ close → CloseDone spool first p ns out out′ d → ns′ ≡ ns → LineOut K spool first st′ ns′ out′ d
   placing-close zero z q form done notes =
-      shut-did (placing s m fs n (symbolBlock o) 0) _ _ _ (complete (both (e .class) (rangeOf s)) placedTable (rowsThere (partOf o 0))) st′ (ap (onPlacing e s m fs n o 0) (sym form) ∙ q) (own-close form done notes z)
+      shut-did (placing s m fs n (symbolBlock o) 0) _ _ _ (complete (both (e .class .symbols) (rangeOf s)) placedTable (rowsThere (partOf o 0))) st′ (ap (onPlacing e s m fs n o 0) (sym form) ∙ q) (own-close form done notes z)
   placing-close (suc zero) z q form done notes =
       shut-did (placing s m fs n (symbolBlock o) 1) _ _ _ (complete (digits 0 0) (textTable true 16 24) (rowsThere (partOf o 1))) st′ (ap (onPlacing e s m fs n o 1) (sym form) ∙ q) (text-close form done notes z)
   placing-close (suc (suc i)) z q form done notes = absurd (omega (arith, z .here .1 .open-part))

@@ -312,19 +312,19 @@ module _ (K : Known) (first : Bool) (s₀ : Set) (start : isFirst s₀ ≡ first
 
     unknown-goes : (k : List ℕ) (c : Rest) → On (Goes (placing s m fs n (symbolBlock o) 0)) (onUnknown e s m fs n o k c)
     unknown-goes k c =
-        on-cond (Goes (placing s m fs n (symbolBlock o) 0)) (exceeds (rangeOf s) (e .class)) _ _
+        on-cond (Goes (placing s m fs n (symbolBlock o) 0)) (exceeds (rangeOf s) (e .class .symbols)) _ _
         (λ _. on-skip (Goes (placing s m fs n (symbolBlock o) 0)) (skipOf k c) _ _ (inside 0 o 0) (deeper 0 1))
         (λ _. on-byAct (Goes (placing s m fs n (symbolBlock o) 0)) (placing s m fs n (symbolBlock o) 0) _ _ _ (actUnknown c) (inside 0 o 0) (λ j v. tt) (λ i j v a. tt) tt)
 
     key-goes : (k : List ℕ) (c : Rest) (g : Found) → On (Goes (placing s m fs n (symbolBlock o) 0)) (onPlacedKey e s m fs n o k c g)
     key-goes k c absent = unknown-goes k c
     key-goes k c (found j r) =
-        on-cond (Goes (placing s m fs n (symbolBlock o) 0)) (reaches (e .class) (r .least)) _ _ (λ _. placed-goes 0 (actRow (knownOf s) (rangeOf s) (getD (rowsThere (partOf o 0)) j false) j r c)) (λ _. unknown-goes k c)
+        on-cond (Goes (placing s m fs n (symbolBlock o) 0)) (reaches (e .class .symbols) (r .least)) _ _ (λ _. placed-goes 0 (actRow (knownOf s) (rangeOf s) (getD (rowsThere (partOf o 0)) j false) j r c)) (λ _. unknown-goes k c)
 
     own-goes : (f : Form) → On (Goes (placing s m fs n (symbolBlock o) 0)) (onPlacedOwn e s m fs n o f)
     own-goes ignored = inside 0 o 0
     own-goes (wrong k) = tt
-    own-goes close = placed-goes 0 (act (knownOf s) placedTable (both (e .class) (rangeOf s)) (rowsThere (partOf o 0)) close)
+    own-goes close = placed-goes 0 (act (knownOf s) placedTable (both (e .class .symbols) (rangeOf s)) (rowsThere (partOf o 0)) close)
     own-goes eof = tt
     own-goes (keyed k c) = key-goes k c (find k placedTable)
 

@@ -1,7 +1,7 @@
 //! Blocks: which key may stand where, in which form, whether once, and what is required.
 
 use crate::lines::Form;
-use crate::ranges::{Attribute, Class, Ranges};
+use crate::ranges::{Attribute, Class, Ranges, WireAttribute};
 use crate::spool::Text;
 
 /// Where a line stands: the innermost open block.
@@ -27,7 +27,10 @@ pub enum Place {
     Text,
     /// `E_symbol` in a layer
     Placed,
-    /// A skipped opener, or a block in one: its depth, "the opener being 1"
+    /// `E_wire` in a layer, of which the class reads something
+    Wire,
+    /// A skipped opener, or a block in one: its depth, "the opener being 1". A wire that is skipped whole has depth 0: "an opener directly in
+    /// the wire's block has depth 1".
     Skipped(usize),
 }
 
@@ -87,6 +90,8 @@ pub struct Circumstances<'r> {
     pub first_volume: bool,
     pub ranges: &'r Ranges,
     pub class: Class,
+    /// In the innermost block stood a key that is no element of a wire.
+    pub elements_over: bool,
 }
 
 fn once(forms: Forms) -> Permission {
@@ -160,6 +165,8 @@ pub fn permission(place: Place, key: &[u8], here: &Circumstances<'_>) -> Permiss
                 1 => repeating(Forms::Content),
                 _ => repeating(Forms::Open),
             },
+            // The wire's own line is read at every wire part.
+            b"E_wire" => only_if(here.ranges.e_wire != 0, repeating(Forms::Open)),
             _ => figure(key),
         },
         Place::Text => match key {
@@ -168,6 +175,7 @@ pub fn permission(place: Place, key: &[u8], here: &Circumstances<'_>) -> Permiss
             _ => Permission::NotAllowed,
         },
         Place::Placed => placed(key, here),
+        Place::Wire => wire(key, here),
         Place::Skipped(_) => Permission::Skipped,
     }
 }
@@ -224,6 +232,37 @@ fn attribute_of(attribute: Attribute) -> Permission {
     }
 }
 
+/// "lines and arcs first, nothing else before or among them"
+pub fn is_wire_element(key: &[u8]) -> bool {
+    key == b"line" || key == b"circle"
+}
+
+/// A key directly in a wire's block: "document 01's range class rules, with E_wire's last two digits and the wire part".
+fn wire(key: &[u8], here: &Circumstances<'_>) -> Permission {
+    if is_wire_element(key) {
+        return only_if(!here.elements_over, repeating(Forms::Content));
+    }
+    let e_wire = here.ranges.e_wire_digits();
+    match WireAttribute::from_key(key) {
+        Some(attribute) if here.class.knows_in_wire(attribute) => only_if(e_wire.allow_in_wire(attribute), wire_attribute(attribute)),
+        _ if e_wire.exceed(here.class.wire_digits()) => Permission::Skipped,
+        _ => Permission::NotAllowed,
+    }
+}
+
+fn wire_attribute(attribute: WireAttribute) -> Permission {
+    let forms = match attribute {
+        WireAttribute::Text => Forms::Open,
+        WireAttribute::Length | WireAttribute::Circuit | WireAttribute::Power => Forms::ContentOrEmpty,
+        WireAttribute::Direc | WireAttribute::Piend | WireAttribute::Num | WireAttribute::Serial => Forms::Content,
+    };
+    if attribute.repeats() {
+        repeating(forms)
+    } else {
+        once(forms)
+    }
+}
+
 /// "one of B A E P M, `_`, three digits"
 pub fn is_layer_id(bytes: &[u8]) -> bool {
     matches!(bytes, [b'B' | b'A' | b'E' | b'P' | b'M', b'_', b'0'..=b'9', b'0'..=b'9', b'0'..=b'9'])
@@ -260,6 +299,11 @@ pub fn required(place: Place, here: &Circumstances<'_>) -> Vec<&'static [u8]> {
             // "`text`, may be missing"; "a skipped key may be missing"
             let read = Attribute::ALL.into_iter().filter(|&a| a != Attribute::Text && e_sym.allow(a) && here.class.knows(a)).map(Attribute::key);
             std::iter::once(&b"symbol"[..]).chain(read).collect()
+        }
+        Place::Wire => {
+            let e_wire = here.ranges.e_wire_digits();
+            let read = WireAttribute::ALL.into_iter().filter(|&a| !a.repeats() && e_wire.allow_in_wire(a) && here.class.knows_in_wire(a));
+            read.map(WireAttribute::key).collect()
         }
         _ => Vec::new(),
     }

@@ -1,8 +1,8 @@
-//! Figures: the values of their lines.
+//! Figures, placed symbols and wires: the values of their lines.
 
 use crate::refusal::Faults;
-use crate::set::{OneLine, Typed, Value};
-use crate::values::{decimal, exactly, figure_type, ONE};
+use crate::set::{OneLine, Typed, Value, WireSerial};
+use crate::values::{count, decimal, exactly, figure_type, ONE};
 
 /// What one value of a line must be.
 #[derive(Clone, Copy, PartialEq, Eq)]
@@ -21,13 +21,22 @@ pub enum Column {
     Flag,
     /// "`pos`, 1 to 5"
     Position,
+    /// `direc`'s sign: one digit, 0 to 4
+    Sign,
+    /// One digit, whichever: `power`'s phase and wires, which its table limits
+    Digit,
+    /// `num`'s power wires, `power`'s volts
+    Count,
+    /// `num`'s angle: 0 to 180
+    HalfAngle,
 }
 
 impl Column {
     /// The value, or the number of the rule it breaks: 10 if not written as said, 11 if out of its limits.
     pub fn read(self, bytes: &[u8], in_symbol: bool) -> Result<Value, u8> {
         let value = match self {
-            Column::Flag | Column::Position => Value::Digit(exactly(bytes, 1).ok_or(10)?),
+            Column::Flag | Column::Position | Column::Sign | Column::Digit => Value::Digit(exactly(bytes, 1).ok_or(10)?),
+            Column::Count => Value::Count(count(bytes).ok_or(10)?),
             _ => Value::Decimal(decimal(bytes).ok_or(10)?),
         };
         let number = value.number();
@@ -39,6 +48,9 @@ impl Column {
             Column::Angle => (0..=360 * ONE).contains(&number),
             Column::Flag => number <= 1,
             Column::Position => (1..=5).contains(&number),
+            Column::Sign => number <= 4,
+            Column::Digit | Column::Count => true,
+            Column::HalfAngle => (0..=180 * ONE).contains(&number),
         };
         if !kept {
             return Err(11);
@@ -47,7 +59,7 @@ impl Column {
     }
 }
 
-use Column::{AboveZero, Angle, AnySign, Coordinate, Flag, NotNegative};
+use Column::{AboveZero, Angle, AnySign, Coordinate, Count, Digit, Flag, HalfAngle, NotNegative, Sign};
 
 /// x,y,x,y
 const LINE: &[Column] = &[Coordinate, Coordinate, Coordinate, Coordinate];
@@ -63,6 +75,31 @@ const TEXT: &[Column] = &[Coordinate, Coordinate, AboveZero, AboveZero, NotNegat
 const PLACED: &[Column] = &[Coordinate, Coordinate, Angle, AboveZero];
 /// x,y
 const WALL: &[Column] = &[AnySign, AnySign];
+/// sign,x,y,angle
+const DIREC: &[Column] = &[Sign, Coordinate, Coordinate, Angle];
+/// x,y,angle
+const PIEND: &[Column] = &[Coordinate, Coordinate, Angle];
+/// earth,power,x,y,angle
+const NUM: &[Column] = &[Flag, Count, Coordinate, Coordinate, HalfAngle];
+/// phase,wires,volts
+const POWER: &[Column] = &[Digit, Digit, Count];
+
+/// 000, table 5: the phase, wires and volts that go together.
+const POWERS: [[i64; 3]; 13] = [
+    [1, 2, 100],
+    [1, 2, 200],
+    [1, 2, 231],
+    [1, 3, 200],
+    [3, 3, 200],
+    [3, 3, 400],
+    [3, 3, 3300],
+    [3, 3, 6600],
+    [3, 3, 22000],
+    [3, 3, 33000],
+    [3, 3, 66000],
+    [3, 4, 173],
+    [3, 4, 400],
+];
 
 /// The values of some columns, or the smallest number that they earn. "A wrong count of values" is 10.
 fn read_columns(columns: &[Column], items: &[&[u8]], in_symbol: bool) -> Result<Vec<Value>, u8> {
@@ -146,4 +183,39 @@ pub fn serial(content: &[u8]) -> Result<Vec<i64>, u8> {
         return Err(11);
     }
     Ok(numbers)
+}
+
+/// The values of a wire's `direc`.
+pub fn direc(content: &[u8]) -> Result<Vec<Value>, u8> {
+    read_columns(DIREC, &split(content), false)
+}
+
+/// The values of a wire's `piend`.
+pub fn piend(content: &[u8]) -> Result<Vec<Value>, u8> {
+    read_columns(PIEND, &split(content), false)
+}
+
+/// The values of a wire's `num`.
+pub fn num(content: &[u8]) -> Result<Vec<Value>, u8> {
+    read_columns(NUM, &split(content), false)
+}
+
+/// The values of a wire's `power`, which are a row of table 5 of document 000.
+pub fn power(content: &[u8]) -> Result<Vec<Value>, u8> {
+    let values = read_columns(POWER, &split(content), false)?;
+    let row: Vec<i64> = values.iter().map(|value| value.number()).collect();
+    if !POWERS.iter().any(|power| power[..] == row) {
+        return Err(11);
+    }
+    Ok(values)
+}
+
+/// A wire's `serial`: own number, then always two partners, of which either may be empty.
+pub fn wire_serial(content: &[u8]) -> Result<WireSerial, u8> {
+    let [own, start, end] = split(content)[..] else { return Err(10) };
+    let partner = |bytes: &[u8]| match bytes {
+        b"" => Ok(None),
+        _ => crate::values::serial(bytes).map(Some).ok_or(10),
+    };
+    Ok(WireSerial { own: crate::values::serial(own).ok_or(10)?, partners: [partner(start)?, partner(end)?] })
 }

@@ -1,8 +1,10 @@
 //! Fixed form: "Same volumes, names and record order; every value and text read stays; no comments, blanks or empty lines; keys in the order
 //! above".
 
-use crate::set::{Drawing, Figure, Header, OneLine, Part, Placed, Point, Set, Shape, State, Symbol, TextFigure, Typed, Value, VolumeRead};
-use crate::spool::{FINAL_BYTE, MARK, NAME_BYTES};
+use crate::set::{
+    Drawing, Figure, Header, OneLine, Part, Placed, Point, Set, Shape, State, Symbol, TextFigure, Typed, Value, VolumeRead, Wire, WireSerial,
+};
+use crate::spool::{Text, FINAL_BYTE, MARK, NAME_BYTES};
 use crate::values::ONE;
 
 /// The whole spool in the fixed form.
@@ -45,8 +47,22 @@ pub fn decimal(number: i64) -> String {
 fn value(value: &Value) -> String {
     match value {
         Value::Decimal(number) => decimal(*number),
-        Value::Digit(digit) => digit.to_string(),
+        Value::Digit(number) | Value::Count(number) => number.to_string(),
     }
+}
+
+fn values(values: &[Value]) -> String {
+    joined(values.iter().map(value))
+}
+
+/// A wire's own number and its two partners; an empty one stays empty.
+fn wire_serial(serial: &WireSerial) -> String {
+    let partners = serial.partners.into_iter().map(|partner| partner.map_or(String::new(), |number| number.to_string()));
+    joined(std::iter::once(serial.own.to_string()).chain(partners))
+}
+
+fn circuit(circuit: &Text<'_>) -> String {
+    String::from_utf8_lossy(circuit.bytes).into_owned()
 }
 
 fn joined(items: impl Iterator<Item = String>) -> String {
@@ -130,7 +146,7 @@ impl Lines {
             Some(_) => {
                 self.open("elec=001");
                 self.range("E_sym", ranges.e_sym);
-                self.range("E_wire", 0);
+                self.range("E_wire", ranges.e_wire);
                 self.range("E_cirno", 0);
                 self.close();
             }
@@ -240,6 +256,7 @@ impl Lines {
                 }
                 Shape::Text(text) => self.text(text),
                 Shape::Placed(placed) => self.placed(set, placed),
+                Shape::Wire(wire) => self.wire(wire),
             }
         }
     }
@@ -270,9 +287,32 @@ impl Lines {
         }
         self.maybe_empty("hight", &placed.hight, |hight| decimal(*hight));
         self.maybe_empty("pos", &placed.pos, |pos| pos.to_string());
-        self.maybe_empty("circuit", &placed.circuit, |circuit| String::from_utf8_lossy(circuit.bytes).into_owned());
+        self.maybe_empty("circuit", &placed.circuit, circuit);
         if let Some(numbers) = &placed.serial {
             self.entry("serial", joined(numbers.iter().map(|number| number.to_string())));
+        }
+        self.close();
+    }
+
+    /// Elements in the order written, then the attributes by their keys, several of one key in the order written.
+    fn wire(&mut self, wire: &Wire<'_>) {
+        self.open("E_wire");
+        for element in &wire.elements {
+            self.entry(if element.kind == OneLine::Line { "line" } else { "circle" }, typed(&element.typed));
+        }
+        for (key, all) in [("direc", &wire.direcs), ("piend", &wire.piends), ("num", &wire.nums)] {
+            for one in all {
+                self.entry(key, values(one));
+            }
+        }
+        for text in &wire.texts {
+            self.text(text);
+        }
+        self.maybe_empty("length", &wire.length, |length| decimal(*length));
+        self.maybe_empty("circuit", &wire.circuit, circuit);
+        self.maybe_empty("power", &wire.power, |power| values(power));
+        if let Some(serial) = &wire.serial {
+            self.entry("serial", wire_serial(serial));
         }
         self.close();
     }

@@ -2,18 +2,18 @@
 
 use std::io::{self, Read, Write};
 
-use crate::generate::{sound_set, CLASSES};
+use crate::generate::{sound_set, CLASSES, WIRE_PARTS};
 use crate::mutate::damaged;
 use crate::random::Random;
-use crate::ranges::Class;
-use crate::reader::read_set;
+use crate::ranges::{Asked, Class, ServedWires};
+use crate::reader::{read_set, Terms};
 use crate::records::{self, NUMBERS};
 use crate::{check, fixed, read, rewrite};
 
 /// What is asked: the reader, the check and the rewriter about one spool.
 #[derive(Clone, Debug, PartialEq, Eq)]
 pub struct Question {
-    pub class: u8,
+    pub class: Asked,
     /// The table's length in numbers.
     pub table_len: u32,
     /// The output's length in bytes.
@@ -23,7 +23,7 @@ pub struct Question {
 
 impl Question {
     pub fn write(&self, to: &mut impl Write) -> io::Result<()> {
-        to.write_all(&[self.class])?;
+        to.write_all(&[self.class.class, self.class.wire])?;
         to.write_all(&self.table_len.to_be_bytes())?;
         to.write_all(&self.out_len.to_be_bytes())?;
         to.write_all(&(self.spool.len() as u32).to_be_bytes())?;
@@ -36,6 +36,8 @@ impl Question {
         if from.read(&mut class)? == 0 {
             return Ok(None);
         }
+        let mut wire = [0];
+        from.read_exact(&mut wire)?;
         let mut number = || -> io::Result<u32> {
             let mut bytes = [0; 4];
             from.read_exact(&mut bytes)?;
@@ -44,32 +46,38 @@ impl Question {
         let (table_len, out_len, length) = (number()?, number()?, number()?);
         let mut spool = vec![0; length as usize];
         from.read_exact(&mut spool)?;
-        Ok(Some(Question { class: class[0], table_len, out_len, spool }))
+        Ok(Some(Question { class: Asked { class: class[0], wire: wire[0] }, table_len, out_len, spool }))
     }
 }
 
 /// The question of a number, from a seed: the same whichever others are asked.
-pub fn question(seed: u64, number: u64) -> Question {
+pub fn question(seed: u64, number: u64, served: ServedWires) -> Question {
     let mut random = Random::of_question(seed, number);
     let sound = random.chance(48, 100);
     let rich = !sound && random.chance(3, 5);
-    let mut draft = sound_set(&mut random, rich);
+    let mut draft = sound_set(&mut random, rich, served);
     let spool = if sound { draft.spool() } else { damaged(&mut random, &mut draft) };
     let mut class = draft.class;
     if !sound && random.chance(1, 8) {
-        class = *random.pick(&CLASSES);
+        class.class = *random.pick(&CLASSES);
+    }
+    if !sound && random.chance(1, 8) {
+        class.wire = *random.pick(&WIRE_PARTS);
     }
     if random.chance(3, 100) {
-        class = *random.pick(&[0, 6, 7, 9, 10, 16, 17, 20, 21, 25, 101, 115, 255]);
+        class.class = *random.pick(&[0, 6, 7, 9, 10, 16, 17, 20, 21, 25, 101, 115, 255]);
     }
-    let (numbers, bytes) = needed(&spool, class);
+    if random.chance(2, 100) {
+        class.wire = *random.pick(&[9, 10, 19, 20, 21, 28, 101, 118, 255]);
+    }
+    let (numbers, bytes) = needed(&spool, class, served);
     Question { class, table_len: length(&mut random, numbers, 64 * NUMBERS), out_len: length(&mut random, bytes, 4096), spool }
 }
 
 /// How many numbers and bytes an accepted set needs.
-fn needed(spool: &[u8], class: u8) -> (Option<usize>, Option<usize>) {
-    let at = |class| read_set(spool, class, usize::MAX).ok();
-    let numbers = Class::from_number(class).and_then(|class| at(class).map(|set| records::table(&set, class).len()));
+fn needed(spool: &[u8], class: Asked, served: ServedWires) -> (Option<usize>, Option<usize>) {
+    let at = |class| read_set(spool, Terms { class, served, room: usize::MAX }).ok();
+    let numbers = Class::of(class).and_then(|class| at(class).map(|set| records::table(&set, class).len()));
     let bytes = at(Class::HIGHEST).map(|set| fixed::spool(&set).len());
     (numbers, bytes)
 }
@@ -97,10 +105,10 @@ fn length(random: &mut Random, needed: Option<usize>, usual: usize) -> u32 {
 }
 
 /// The answers to a question, on one line.
-pub fn answer_line(question: &Question) -> String {
-    let read = read(&question.spool, question.class, question.table_len as usize);
-    let check = check(&question.spool, question.class);
-    let rewritten = rewrite(&question.spool, question.out_len as usize);
+pub fn answer_line(question: &Question, served: ServedWires) -> String {
+    let read = read(&question.spool, question.class, served, question.table_len as usize);
+    let check = check(&question.spool, question.class, served);
+    let rewritten = rewrite(&question.spool, served, question.out_len as usize);
     let table_hash = fnv1a(read.lent.iter().flat_map(|number| number.to_le_bytes()));
     let output_hash = fnv1a(rewritten.lent.iter().copied());
     format!(

@@ -1,21 +1,27 @@
-//! Sound sets from a seed: every rule and option of document 01 comes up sooner or later, limits reached exactly included.
+//! Sound sets from a seed: every rule and option of document 01, and of the wires that are served, comes up sooner or later, limits reached
+//! exactly included.
+
+mod wires;
 
 use std::collections::HashSet;
 
 use crate::random::Random;
-use crate::ranges::{Attribute, Class, Digits};
+use crate::ranges::{Asked, Attribute, Class, Digits, ServedWires, WireAttribute};
 use crate::spool::{FINAL_BYTE, LONGEST_LINE, MARK, MOST_BYTES, NAME_BYTES};
 
 pub type Line = Vec<u8>;
 
 pub const CLASSES: [u8; 10] = [1, 2, 3, 4, 5, 11, 12, 13, 14, 15];
+pub const WIRE_PARTS: [u8; 17] = [0, 1, 2, 3, 4, 5, 6, 7, 8, 11, 12, 13, 14, 15, 16, 17, 18];
 const E_SYMS: [i64; 11] = [0, 1, 2, 3, 4, 5, 11, 12, 13, 14, 15];
 
 /// A set as lines, before it is put together into a spool.
 #[derive(Clone)]
 pub struct Draft {
-    /// The class at which the set is sound. At class 15 it needn't be: a lower class skips what it doesn't know.
-    pub class: u8,
+    /// The class at which the set is sound. At class 15 with 18 it needn't be: a lower class skips what it doesn't know.
+    pub class: Asked,
+    /// Which wires the set may hold.
+    pub served: ServedWires,
     pub volumes: Vec<DraftVolume>,
 }
 
@@ -67,6 +73,15 @@ enum Size {
     Large,
 }
 
+/// What is asked of a set before anything of it is decided.
+struct Kind {
+    class: Asked,
+    rich: bool,
+    /// E_sym and E_wire have the middle digit 1.
+    numbered: bool,
+    served: ServedWires,
+}
+
 /// What is decided once for a set.
 struct Plan {
     class: Class,
@@ -80,6 +95,11 @@ struct Plan {
     arc: Option<i64>,
     elec: Option<i64>,
     e_sym: i64,
+    e_wire: i64,
+    /// Wires also hold what only a lower wire part skips.
+    unread_wires: bool,
+    /// Partners are own numbers of the set.
+    partners_exist: bool,
     air: bool,
     pipe: bool,
     sym: Option<i64>,
@@ -87,18 +107,25 @@ struct Plan {
     layers: Vec<String>,
     symbols: Vec<String>,
     serials: HashSet<u64>,
+    /// Own numbers in the order in which they came up.
+    own_numbers: Vec<u64>,
 }
 
 impl Plan {
-    fn new(random: &mut Random, class: u8, rich: bool) -> Plan {
+    fn new(random: &mut Random, kind: Kind) -> Plan {
+        let Kind { class, rich, numbered, served } = kind;
         let part = |random: &mut Random, needed: bool| match random.below(10) {
             0 if !needed => None,
             1 if !needed => Some(0),
             _ => Some(1),
         };
-        let (arc, elec, sym) = (part(random, false), part(random, rich), part(random, rich));
-        let e_sym = if elec == Some(1) { *random.pick(&E_SYMS[if rich { 2 } else { 0 }..]) } else { 0 };
-        let class = Class::from_number(class).unwrap();
+        let (arc, elec, sym) = (part(random, false), part(random, rich || numbered), part(random, rich));
+        let e_syms = if numbered { &E_SYMS[6..] } else { &E_SYMS[if rich { 2 } else { 0 }..] };
+        let e_sym = if elec == Some(1) { *random.pick(e_syms) } else { 0 };
+        let e_wire = if elec == Some(1) { wires::e_wire(random, served, numbered) } else { 0 };
+        let class = Class::of(class).unwrap();
+        let numbered = Digits::of(e_sym).allow(Attribute::Serial) && Digits::of(e_wire).allow_in_wire(WireAttribute::Serial);
+        let tested = numbered && class.knows(Attribute::Serial) && class.knows_in_wire(WireAttribute::Serial);
         let size = match random.below(100) {
             0..=86 => Size::Small,
             87..=97 => Size::Middle,
@@ -114,6 +141,10 @@ impl Plan {
             arc,
             elec,
             e_sym,
+            e_wire,
+            unread_wires: Digits::of(e_wire).exceed(class.wire_digits()) && random.chance(1, 3),
+            // A class that doesn't test them takes any; the highest mostly has something to accept.
+            partners_exist: tested || (numbered && random.chance(3, 4)),
             air: random.chance(1, 2),
             pipe: random.chance(1, 2),
             sym,
@@ -125,6 +156,7 @@ impl Plan {
             layers: Vec::new(),
             symbols: Vec::new(),
             serials: HashSet::new(),
+            own_numbers: Vec::new(),
         }
     }
 
@@ -153,11 +185,13 @@ fn block(opener: &str, lines: Vec<Line>) -> Vec<Line> {
 }
 
 /// A set that keeps every rule at its class. `rich`: with symbols, mostly placed as blocks.
-pub fn sound_set(random: &mut Random, rich: bool) -> Draft {
-    let class = *random.pick(&CLASSES);
-    let mut plan = Plan::new(random, class, rich);
+pub fn sound_set(random: &mut Random, rich: bool, served: ServedWires) -> Draft {
+    // Symbols and wires with serials that the class reads, so that partners are tested: seldom otherwise.
+    let numbered = served.middle == 1 && random.chance(1, 4);
+    let class = if numbered { wires::numbered_class(random) } else { Asked { class: *random.pick(&CLASSES), wire: wires::wire_part(random) } };
+    let mut plan = Plan::new(random, Kind { class, rich, numbered, served });
     loop {
-        let draft = set_of(random, &mut plan, class);
+        let draft = set_of(random, &mut plan, class, served);
         if draft.spool().len() <= MOST_BYTES {
             return draft;
         }
@@ -165,12 +199,16 @@ pub fn sound_set(random: &mut Random, rich: bool) -> Draft {
     }
 }
 
-fn set_of(random: &mut Random, plan: &mut Plan, class: u8) -> Draft {
+fn set_of(random: &mut Random, plan: &mut Plan, class: Asked, served: ServedWires) -> Draft {
     plan.serials.clear();
+    plan.own_numbers.clear();
     plan.layers = layer_ids(random, plan.size);
     plan.symbols = if plan.s_elec >= 1 && (plan.rich || random.chance(9, 10)) { symbol_names(random, plan.size) } else { Vec::new() };
     let names = volume_names(random, plan.size);
-    let elements = elements(random, plan, names.len());
+    let mut elements = elements(random, plan, names.len());
+    for element in &mut elements {
+        element.lines.iter_mut().for_each(|line| name_partners(random, line, &plan.own_numbers));
+    }
     let counts: Vec<usize> = elements.iter().map(|element| element.keys).collect();
     let (date, time) = (date(random), time(random));
     let symbol_define = symbol_define(random, plan);
@@ -205,7 +243,7 @@ fn set_of(random: &mut Random, plan: &mut Plan, class: u8) -> Draft {
             decorate(random, &mut volume.lines, index == last);
         }
     }
-    let mut draft = Draft { class, volumes };
+    let mut draft = Draft { class, served, volumes };
     // "1 to 61,440 bytes", reached exactly
     if plan.size == Size::Large && random.chance(1, 12) {
         draft.pad(random.below(last + 1), MOST_BYTES);
@@ -411,7 +449,11 @@ fn range(random: &mut Random, plan: &Plan) -> Vec<Line> {
         None => {}
         Some(0) => groups.push(vec![entry("elec", "000")]),
         Some(_) => {
-            let held = vec![vec![entry("E_sym", format!("{:03}", plan.e_sym))], vec![entry("E_wire", "000")], vec![entry("E_cirno", "000")]];
+            let held = vec![
+                vec![entry("E_sym", format!("{:03}", plan.e_sym))],
+                vec![entry("E_wire", format!("{:03}", plan.e_wire))],
+                vec![entry("E_cirno", "000")],
+            ];
             groups.push(block("elec=001", plan.any_order(random, held)));
         }
     }
@@ -538,6 +580,9 @@ fn elements(random: &mut Random, plan: &mut Plan, volumes: usize) -> Vec<Element
 }
 
 fn figure_in_layer(random: &mut Random, plan: &mut Plan) -> Vec<Line> {
+    if plan.e_wire > 0 && random.chance(1, 2) {
+        return wires::wire(random, plan);
+    }
     if plan.e_sym > 0 && !plan.symbols.is_empty() && random.chance(if plan.rich { 3 } else { 2 }, 4) {
         return placed_symbol(random, plan);
     }
@@ -550,6 +595,7 @@ enum Wanted {
     NotNegative,
     AboveZero,
     Angle,
+    HalfAngle,
 }
 
 /// A decimal in one of its spellings: needless zeros, `-0`, both ends.
@@ -562,6 +608,8 @@ fn decimal(random: &mut Random, wanted: Wanted) -> String {
         (Wanted::Angle, 4) => "-0".into(),
         (Wanted::Angle, 5) => "0000090.50".into(),
         (Wanted::Angle, _) => random.below(360).to_string(),
+        (Wanted::HalfAngle, 0..=3) => random.pick(&["0", "180", "180.0000", "179.9999", "-0.0", "0000090.50"]).to_string(),
+        (Wanted::HalfAngle, _) => random.below(180).to_string(),
         (Wanted::AboveZero, 0 | 1) => random.pick(&["0.0001", "0.5", "0.1000"]).to_string(),
         (Wanted::AnySign | Wanted::NotNegative, 0) => "-0".into(),
         (Wanted::AnySign | Wanted::NotNegative, 1) => random.pick(&["0", "-0.0000", "0.0", "0000000"]).to_string(),
@@ -684,7 +732,7 @@ fn placed_symbol(random: &mut Random, plan: &mut Plan) -> Vec<Line> {
     let mut groups = vec![vec![entry("symbol", content)]];
     for attribute in Attribute::ALL {
         if plan.unread && !plan.class.knows(attribute) {
-            groups.extend(unread(random, attribute.key()));
+            groups.extend(skipped_groups(random, attribute.key()));
         } else if Digits::of(plan.e_sym).allow(attribute) {
             groups.extend(attribute_lines(random, plan, attribute));
         }
@@ -692,14 +740,14 @@ fn placed_symbol(random: &mut Random, plan: &mut Plan) -> Vec<Line> {
     if plan.unread {
         for _ in 0..random.below(3) {
             let key = *random.pick(&["foo", "line", "type", "character", "project", "E_symbol", "EOF", "}", "range", "a:"]);
-            groups.extend(unread(random, key.as_bytes()));
+            groups.extend(skipped_groups(random, key.as_bytes()));
         }
     }
     block("E_symbol", plan.any_order(random, groups))
 }
 
 /// What a class that doesn't know a key skips: missing, once or twice, of any form and content.
-fn unread(random: &mut Random, key: &[u8]) -> Vec<Vec<Line>> {
+fn skipped_groups(random: &mut Random, key: &[u8]) -> Vec<Vec<Line>> {
     (0..random.below(3)).map(|_| skipped(random, key, 1)).collect()
 }
 
@@ -736,37 +784,74 @@ fn attribute_lines(random: &mut Random, plan: &mut Plan, attribute: Attribute) -
         Attribute::Hight => entry("hight", decimal(random, Wanted::AnySign)),
         Attribute::Pos if empty => entry("pos", ""),
         Attribute::Pos => entry("pos", random.between(1, 5).to_string()),
-        Attribute::Circuit if empty => entry("circuit", ""),
-        Attribute::Circuit => {
-            let length = *random.pick(&[1, 3, 9, 10]);
-            entry("circuit", letters(random, b"ABab01-.", length))
-        }
+        Attribute::Circuit => circuit(random),
         Attribute::Serial => serial(random, plan),
     };
     vec![vec![line]]
 }
 
-/// "`serial`, own number then 0 to 100 partners, 1 to 10 digits each"; a hundred of them fit a line of 512 bytes only if they are short.
-fn serial(random: &mut Random, plan: &mut Plan) -> Line {
-    let own = loop {
+/// "`circuit`, 0-10 of letters, digits, `-`, `.`"
+fn circuit(random: &mut Random) -> Line {
+    let length = *random.pick(&[0, 0, 1, 3, 9, 10]);
+    entry("circuit", letters(random, b"ABab01-.", length))
+}
+
+/// An own number that no other symbol or wire has. A class that doesn't read it doesn't compare it.
+fn own_number(random: &mut Random, plan: &mut Plan, read: bool) -> String {
+    loop {
         let limit = *random.pick(&[10, 100, 10_000, 9_999_999_999]);
         let own = random.next() % (limit + 1);
-        // A class that doesn't read serials doesn't compare them.
-        if plan.serials.insert(own) || (!plan.reads(Attribute::Serial) && random.chance(1, 8)) {
-            break own;
+        if plan.serials.insert(own) || (!read && random.chance(1, 8)) {
+            plan.own_numbers.push(own);
+            return spelt(random, own as usize, 10);
         }
-    };
+    }
+}
+
+/// Stands for a partner until all own numbers of the set are known.
+const PARTNER: &str = "@";
+
+/// A partner of up to so many digits: any number, or one that is put in later.
+fn partner(random: &mut Random, plan: &Plan, longest: usize) -> String {
+    if plan.partners_exist {
+        return PARTNER.into();
+    }
+    let length = random.between(1, longest);
+    digits(random, length)
+}
+
+/// Puts own numbers of the set, before or after this line, in place of the partners that are still to be named.
+fn name_partners(random: &mut Random, line: &mut Line, own_numbers: &[u64]) {
+    let Some(content) = line.strip_prefix(b"serial=") else { return };
+    let mut items: Vec<Vec<u8>> = content.split(|&b| b == b',').map(<[u8]>::to_vec).collect();
+    let many = items.len() > 1 + FEW_PARTNERS;
+    let usable: Vec<u64> = own_numbers.iter().copied().filter(|&number| !many || number < 1000).collect();
+    if usable.is_empty() {
+        items.retain(|item| item != PARTNER.as_bytes());
+    }
+    for item in items.iter_mut().filter(|item| item[..] == *PARTNER.as_bytes()) {
+        let number = *random.pick(&usable) as usize;
+        *item = spelt(random, number, if many { 3 } else { 10 }).into_bytes();
+    }
+    *line = entry("serial", items.join(&b','));
+}
+
+/// So many partners fit a line of 512 bytes however long they are.
+const FEW_PARTNERS: usize = 5;
+
+/// "`serial`, own number then 0 to 100 partners, 1 to 10 digits each"; a hundred of them fit a line of 512 bytes only if they are short.
+fn serial(random: &mut Random, plan: &mut Plan) -> Line {
+    let read = plan.reads(Attribute::Serial);
+    let mut numbers = vec![own_number(random, plan, read)];
     let partners = match random.below(20) {
         0..=9 => 0,
-        10..=17 => random.between(1, 5),
-        18 => random.between(6, 99),
+        10..=17 => random.between(1, FEW_PARTNERS),
+        18 => random.between(FEW_PARTNERS + 1, 99),
         _ => 100,
     };
-    let longest = if partners > 5 { 3 } else { 10 };
-    let mut numbers = vec![spelt(random, own as usize, 10)];
+    let longest = if partners > FEW_PARTNERS { 3 } else { 10 };
     for _ in 0..partners {
-        let length = random.between(1, longest);
-        numbers.push(digits(random, length));
+        numbers.push(partner(random, plan, longest));
     }
     entry("serial", numbers.join(","))
 }

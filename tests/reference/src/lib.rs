@@ -1,4 +1,4 @@
-//! Document 01 read a second time, as a plain program, so that the product can be compared with it.
+//! Document 01 and the wires of document 02 read a second time, as a plain program, so that the product can be compared with it.
 //!
 //! A module for each section of the document; nothing is shared with the product's own sources.
 //!
@@ -6,8 +6,8 @@
 //! - `lines`: comments, blanks, allowed bytes, forms
 //! - `values`: decimals, counts, dates, types
 //! - `blocks`: which key may stand where, in which form, and what is required
-//! - `figures`: the values of figures
-//! - `ranges`: range parts, E_sym's digits, the range class
+//! - `figures`: the values of figures, placed symbols and wires
+//! - `ranges`: range parts, E_sym's and E_wire's digits, the range class, which wires are served
 //! - `set`: the set as a tree, as it was read
 //! - `reader`: line by line, the first broken rule
 //! - `records`: the record table of a set
@@ -32,8 +32,8 @@ pub mod generate;
 pub mod mutate;
 pub mod random;
 
-use ranges::Class;
-use reader::read_set;
+use ranges::{Asked, Class, ServedWires};
+use reader::{read_set, Terms};
 use refusal::Refusal;
 
 /// "A table of 256 records of its own."
@@ -63,12 +63,12 @@ impl<T: Copy + Default> Answer<T> {
     }
 }
 
-/// The reader: a spool, a range class and a lent table of so many numbers.
-pub fn read(spool: &[u8], class: u8, table_len: usize) -> Answer<i64> {
+/// The reader: a spool, a range class with its wire part and a lent table of so many numbers.
+pub fn read(spool: &[u8], class: Asked, served: ServedWires, table_len: usize) -> Answer<i64> {
     let room = table_len / records::NUMBERS;
-    let refusal = match Class::from_number(class) {
+    let refusal = match Class::of(class) {
         None => Refusal { number: 1, volume: 0, line: 0 },
-        Some(class) => match read_set(spool, class, room) {
+        Some(class) => match read_set(spool, Terms { class, served, room }) {
             Err(refusal) => refusal,
             Ok(set) => {
                 let table = records::table(&set, class);
@@ -79,9 +79,9 @@ pub fn read(spool: &[u8], class: u8, table_len: usize) -> Answer<i64> {
     Answer::refused(refusal, table_len)
 }
 
-/// The rewriter: "reads at class 15 and has no table limit".
-pub fn rewrite(spool: &[u8], out_len: usize) -> Answer<u8> {
-    let set = match read_set(spool, Class::HIGHEST, usize::MAX) {
+/// The rewriter: "reads at class 15 and has no table limit"; the class's wire part is 18.
+pub fn rewrite(spool: &[u8], served: ServedWires, out_len: usize) -> Answer<u8> {
+    let set = match read_set(spool, Terms { class: Class::HIGHEST, served, room: usize::MAX }) {
         Err(refusal) => return Answer::refused(refusal, out_len),
         Ok(set) => set,
     };
@@ -93,7 +93,7 @@ pub fn rewrite(spool: &[u8], out_len: usize) -> Answer<u8> {
 }
 
 /// The check: "answer + 100 × volume + 10,000 × line".
-pub fn check(spool: &[u8], class: u8) -> u64 {
-    let read = read(spool, class, CHECK_RECORDS * records::NUMBERS);
+pub fn check(spool: &[u8], class: Asked, served: ServedWires) -> u64 {
+    let read = read(spool, class, served, CHECK_RECORDS * records::NUMBERS);
     read.answer as u64 + 100 * read.volume as u64 + 10_000 * read.line as u64
 }

@@ -1,9 +1,11 @@
 //! Damage: sets changed in one or a few places, in every way that some rule speaks of.
 
+mod wires;
+
 use crate::generate::{blanks, ignored, sound_set, text_of, Draft, DraftVolume, Line};
 use crate::random::Random;
 use crate::ranges::Class;
-use crate::reader::read_set;
+use crate::reader::{read_set, Terms};
 use crate::refusal::Refusal;
 use crate::spool::{LONGEST_LINE, MOST_BYTES};
 
@@ -29,8 +31,8 @@ pub fn damaged(random: &mut Random, draft: &mut Draft) -> Vec<u8> {
 /// A volume cut short at the very line that is refused, or a line later: an early end beside another number.
 fn cut_at_fault(random: &mut Random, draft: &mut Draft) {
     let spool = draft.spool();
-    let Some(class) = Class::from_number(draft.class) else { return };
-    if let Err(Refusal { volume, line, .. }) = read_set(&spool, class, usize::MAX) {
+    let Some(class) = Class::of(draft.class) else { return };
+    if let Err(Refusal { volume, line, .. }) = read_set(&spool, Terms { class, served: draft.served, room: usize::MAX }) {
         if line > 0 {
             draft.volumes[volume - 1].lines.truncate(line + random.below(2));
         }
@@ -80,21 +82,25 @@ const CHANGES: &[(usize, Change)] = &[
     (1, too_long),
     (9, range_changed),
     (3, chain_changed),
+    (3, wires::wire_inserted),
 ];
 
 fn change(random: &mut Random, draft: &mut Draft) {
     for _ in 0..12 {
         // A volume may have been dropped that was the only one.
-        if draft.volumes.is_empty() || any_change(random)(random, draft).is_some() {
+        if draft.volumes.is_empty() || any_change(random, draft)(random, draft).is_some() {
             return;
         }
     }
 }
 
-fn any_change(random: &mut Random) -> Change {
-    let all: usize = CHANGES.iter().map(|(weight, _)| weight).sum();
+/// A change of any sort; where there are wires, every second time one of theirs.
+fn any_change(random: &mut Random, draft: &Draft) -> Change {
+    let has_wires = !lines_where(draft, |line| trimmed(line) == b"E_wire:{").is_empty();
+    let changes = if has_wires && random.chance(1, 2) { wires::CHANGES } else { CHANGES };
+    let all: usize = changes.iter().map(|(weight, _)| weight).sum();
     let mut left = random.below(all);
-    for (weight, change) in CHANGES {
+    for (weight, change) in changes {
         if left < *weight {
             return *change;
         }
@@ -255,7 +261,7 @@ const KEYS: &[&str] = &[
     "pipe", "sym", "S_base", "S_elec", "all_line", "this_line", "all_ele", "this_ele", "next_file", "date", "time", "cad", "os", "hard", "ver",
     "corp", "make", "tel", "name", "size", "scale", "project", "drawname", "drawer", "floor_height", "layer_name", "E_151", "B_000", "NON",
     "E_symbol", "element", "hide", "wall", "LAYER", "line", "circle", "ellipse", "point", "successive", "text", "type", "character", "symbol",
-    "hight", "pos", "circuit", "serial", "EOF", "}", "foo", "include", "B_symbol",
+    "hight", "pos", "circuit", "serial", "EOF", "}", "foo", "include", "B_symbol", "E_wire", "direc", "piend", "num", "length", "power",
 ];
 
 /// The key of a line, changed for another, or in its case, or by a blank.
@@ -290,10 +296,12 @@ const DATES: &[&str] =
 const TIMES: &[&str] = &["000000", "235959", "240000", "236000", "235960", "23595", "2359590", "00000a", "195959"];
 const RANGES: &[&str] = &[
     "000", "001", "002", "003", "004", "005", "006", "009", "010", "011", "012", "013", "014", "015", "016", "020", "021", "100", "101", "111", "00",
-    "0001", "abc", "0 1", "-01", "999", "001:{", "000:{", "002:{",
+    "0001", "abc", "0 1", "-01", "999", "001:{", "000:{", "002:{", "007", "008", "018", "019", "110", "112", "118", "201", "218", "308", "311",
+    "400", "401", "408", "411", "418", "419", "501",
 ];
 const RANGE_KEYS: &[&str] = &[
-    "base", "B_sym", "arc", "elec", "elec", "E_sym", "E_sym", "E_sym", "E_wire", "E_cirno", "air", "pipe", "sym", "sym", "S_base", "S_elec", "S_elec",
+    "base", "B_sym", "arc", "elec", "elec", "E_sym", "E_sym", "E_sym", "E_wire", "E_wire", "E_wire", "E_cirno", "air", "pipe", "sym", "sym",
+    "S_base", "S_elec", "S_elec",
 ];
 const SIZES: &[&str] = &[
     "A0", "A4", "A5", "4A0", "4A1", "4A2", "8A1", "81A0", "81A1", "100A0", "1A0", "04A1", "a1", "A1 ", "A", "4", "A00", "64A1", "16A4", "2A0",
@@ -314,7 +322,18 @@ const POSITIONS: &[&str] = &["", "0", "1", "5", "6", "9", "01", "-1", "1.0", "a"
 const CIRCUITS: &[&str] = &["", "A", "a-1.B", "ABCDEFGHIJ", "ABCDEFGHIJK", "A_B", "A:{", ":{", " ", "1,2"];
 const SERIALS: &[&str] = &[
     "0", "1", "01", "0000000001", "00000000001", "9999999999", "10000000000", "1,", ",1", "1,,2", "1,2,3", "1,a", "-1", "", "1 ", "1:{", "1,1", "2",
-    "0,0000000000", "3,12345678901",
+    "0,0000000000", "3,12345678901", "1,,", "2,1,", "2,,1", "2,1,3,4", ",1,", ",,", "1,1,1", "0,,0",
+];
+const DIRECS: &[&str] =
+    &["1,1,1,1", "0,0,0,0", "4,1,1,360", "5,1,1,1", "01,1,1,1", "1,150,150.0", "1,-1,1,1", "1,1,1,361", "", "1,1,1,1:{", "1,1,1,1,1"];
+const PIENDS: &[&str] = &["1,1,1", "0,-0,360", "1,1,360.0001", "-1,1,1", "1,1", "1,1,1,1", "", "1,1,1:{"];
+const NUMS: &[&str] = &[
+    "0,2,1,1,1", "1,2,1,1,1", "0,3,1,1,1", "2,2,1,1,1", "0,2,1,1,180", "0,2,1,1,180.0001", "00,2,1,1,1", "0,2.0,1,1,1", "0,2,1,1", "", "0,2,1,1,1:{",
+];
+const LENGTHS: &[&str] = &["", "0", "-0", "-0.0001", "0.0001", "9999999.9999", "10000000", "1,2", "a", "1:{"];
+const POWERS: &[&str] = &[
+    "", "1,2,100", "1,2,105", "1,3,200", "1,3,100", "3,3,66000", "3,4,173", "3,4,182", "3,4,400", "0,0,0", "1,5,100", "1,2,", "1,2", "1,2,100.0",
+    "01,2,100", "1,2,000000100", "1,2,0000000100", "1,2,100,1", "1,2,100:{", "3,3,000066000", "2,2,100", "a,2,100",
 ];
 const WALLS: &[&str] = &["", "1,2", "-1,-2", "1", "1,2,3", "1,", ",", "-0,0.0", "1,2:{", "9999999.9999,-9999999.9999", "a,b"];
 const TELEPHONES: &[&str] = &["", "03-1234-5678(901)", "01234567890123456789", "012345678901234567890", "+81", "1 2", "1:{", ":{", "1a"];
@@ -331,6 +350,11 @@ fn contents_of(key: &[u8]) -> &'static [&'static str] {
         b"pos" => POSITIONS,
         b"circuit" => CIRCUITS,
         b"serial" => SERIALS,
+        b"direc" => DIRECS,
+        b"piend" => PIENDS,
+        b"num" => NUMS,
+        b"length" => LENGTHS,
+        b"power" => POWERS,
         b"wall" => WALLS,
         b"tel" => TELEPHONES,
         b"NON" => &["", "x", ":{", "x:{"],
@@ -367,6 +391,10 @@ const ABOVE_ZERO: &[&str] = &["0", "-0", "0.0001", "0.0000", "-0.0001", "9999999
 const NOT_NEGATIVE: &[&str] = &["0", "-0", "-0.0001", "0.0001", "9999999.9999", "-1", "1."];
 const ANGLES: &[&str] = &["0", "-0", "-0.0001", "360", "360.0000", "360.0001", "361", "359.9999", "0.0001", "1000", "+1"];
 const FLAGS: &[&str] = &["0", "1", "2", "9", "00", "01", "-0", "1.0", "", "a"];
+const HALF_ANGLES: &[&str] = &["0", "-0", "-0.0001", "180", "180.0000", "180.0001", "181", "179.9999", "360", "+1"];
+const SIGNS: &[&str] = &["0", "4", "5", "9", "00", "04", "-0", "1.0", "", "a"];
+const DIGITS: &[&str] = &["0", "1", "2", "3", "4", "5", "01", "", "-1", "a"];
+const VOLTS: &[&str] = &["100", "105", "173", "200", "231", "400", "3300", "0000000100", "000000100", "100.0", "", "-1", "66000"];
 const TYPES: &[&str] = &["0000", "9999", "123", "12345", "12a4", "", "-123", "1.23", " 123"];
 
 /// Which item of which key, and values just inside and just outside its limits.
@@ -411,6 +439,23 @@ const LIMITS: &[(&str, usize, &[&str])] = &[
     ("E_symbol", 2, COORDINATES),
     ("E_symbol", 3, ANGLES),
     ("E_symbol", 4, ABOVE_ZERO),
+    ("direc", 0, SIGNS),
+    ("direc", 1, COORDINATES),
+    ("direc", 2, COORDINATES),
+    ("direc", 3, ANGLES),
+    ("piend", 0, COORDINATES),
+    ("piend", 1, COORDINATES),
+    ("piend", 2, ANGLES),
+    ("num", 0, FLAGS),
+    ("num", 1, COUNTS),
+    ("num", 2, COORDINATES),
+    ("num", 3, COORDINATES),
+    ("num", 4, HALF_ANGLES),
+    ("length", 0, LENGTHS),
+    ("power", 0, DIGITS),
+    ("power", 1, DIGITS),
+    ("power", 2, VOLTS),
+    ("power", 2, VOLTS),
     ("floor_height", 0, NOT_NEGATIVE),
     ("hight", 0, COORDINATES),
     ("pos", 0, POSITIONS),
@@ -445,15 +490,20 @@ const LIMITS: &[(&str, usize, &[&str])] = &[
 fn limit_touched(random: &mut Random, draft: &mut Draft) -> Option<()> {
     let (key, item, values) = *random.pick(LIMITS);
     let at = any_where(random, draft, |line| key_of(line) == Some(key.as_bytes()))?;
-    let line = line_at(draft, at);
-    let mut items = items_of(line);
-    *items.get_mut(item)? = random.pick(values).as_bytes().to_vec();
+    touched(random, line_at(draft, at), item, values)?;
     if random.chance(1, 4) {
         // another value of the same line: "on one line the smallest number"
         let others: Vec<_> = LIMITS.iter().filter(|(other, _, _)| *other == key).collect();
         let (_, item, values) = **random.pick(&others);
-        *items.get_mut(item)? = random.pick(values).as_bytes().to_vec();
+        touched(random, line_at(draft, at), item, values)?;
     }
+    Some(())
+}
+
+/// One item of a line, changed for one of these values.
+fn touched(random: &mut Random, line: &mut Line, item: usize, values: &[&str]) -> Option<()> {
+    let mut items = items_of(line);
+    *items.get_mut(item)? = random.pick(values).as_bytes().to_vec();
     *line = with_content(line, &items.join(&b','));
     Some(())
 }
@@ -769,7 +819,7 @@ const IN_BLOCKS: &[(&str, &[&str])] = &[
         ],
     ),
     ("base=001:{", &["B_sym=000", "B_sym=", "B_sym=001:{", "E_sym=001", "B_sym:{"]),
-    ("elec=001:{", &["E_sym=002", "E_wire=000", "E_wire=001", "E_cirno=", "S_base=000", "E_sym=010"]),
+    ("elec=001:{", &["E_sym=002", "E_wire=000", "E_wire=001", "E_wire=", "E_wire=418:{", "E_wire:{", "E_cirno=", "S_base=000", "E_sym=010"]),
     ("sym=001:{", &["S_base=000", "S_elec=003", "S_elec=", "E_sym=000"]),
     (
         "FILE_FORMAT:{",
@@ -788,7 +838,13 @@ const IN_BLOCKS: &[(&str, &[&str])] = &[
     ("successive:{", &["line=0000,1,1,2,2", "point=", "point:{", "point=0000,-1,1", "type=", "point=0000,1,1", "text:{"]),
     ("hide:{", &["line=0000,1,1,2,2", "point=", "point:{", "point=0000,-1,1", "point=0000,1", "hide:{"]),
     ("element:{", &["E_symbol=A,1,1,0,1", "E_symbol:{", "point=0000,-1,-1", "line=", "text=", "successive=", "LAYER=E_151:{", "circle:{"]),
-    ("text:{", &["type=", "type:{", "character=:{", "character=", "character:{", "foo=", "character=a", "point=0000,1,1", "text:{"]),
+    (
+        "text:{",
+        &[
+            "type=", "type:{", "type=0000,1,1,1,1,0,0,0", "character=:{", "character=", "character:{", "foo=", "character=a", "point=0000,1,1",
+            "text:{",
+        ],
+    ),
     ("ELEMENT:{", &["LAYER=", "LAYER:{", "LAYER=E_151", "LAYER=:{", "line=0000,1,1,2,2", "ELEMENT:{", "FILE_FORMAT:{", "NON="]),
 ];
 
@@ -901,7 +957,7 @@ fn odd_line(random: &mut Random, draft: &mut Draft) -> Option<()> {
 }
 
 fn line_from_another_set(random: &mut Random, draft: &mut Draft) -> Option<()> {
-    let other = sound_set(random, false);
+    let other = sound_set(random, false, draft.served);
     let (from, to) = (any_line(random, &other)?, any_line(random, draft)?);
     let line = other.volumes[from.0].lines[from.1].clone();
     let same = any_where(random, draft, |there| key_of(there).is_some() && key_of(there) == key_of(&line));
@@ -1008,7 +1064,7 @@ fn nested_deeper(random: &mut Random, draft: &mut Draft) -> Option<()> {
     draft.volumes[volume].lines.splice(at..at, lines);
     // A class that is likely to skip it: below the file's E_sym.
     if random.chance(7, 8) {
-        draft.class = *random.pick(&[1, 1, 2, 3]);
+        draft.class.class = *random.pick(&[1, 1, 2, 3]);
     }
     Some(())
 }

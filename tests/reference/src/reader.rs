@@ -5,24 +5,40 @@ use std::collections::HashSet;
 use crate::blocks::{self, Circumstances, Permission, Place};
 use crate::figures::{self, Column};
 use crate::lines::{self, Form, Tail};
-use crate::ranges::{self, Class};
+use crate::ranges::{self, Attribute, Class, ServedWires, WireAttribute};
 use crate::refusal::{Faults, Refusal};
-use crate::set::{Declared, Figure, Layer, OneLine, Part, Placed, Point, Set, Shape, State, Symbol, TextFigure, VolumeRead, NO_TEXT};
+use crate::set::{
+    Declared, Figure, Join, Layer, OneLine, Part, Placed, Point, Set, Shape, State, Symbol, TextFigure, Typed, VolumeRead, Wire, WireElement, NO_TEXT,
+};
 use crate::spool::{self, Text, Volume};
 use crate::values;
 
 /// "blocks nest to depth 4, the opener being 1"
 const DEEPEST_SKIPPED: usize = 4;
 
-/// The set in a spool, or its first broken rule. `room`: how many records the table takes.
-pub fn read_set(spool: &[u8], class: Class, room: usize) -> Result<Set<'_>, Refusal> {
+/// The first digit of E_wire at which "every end is joined to the next start".
+const JOINED: i64 = 4;
+/// 000: "direc 0 ~ 2" for one wire
+const MOST_DIRECS: usize = 2;
+
+/// On what terms a spool is read.
+#[derive(Clone, Copy, Debug)]
+pub struct Terms {
+    pub class: Class,
+    pub served: ServedWires,
+    /// How many records the table takes.
+    pub room: usize,
+}
+
+/// The set in a spool, or its first broken rule.
+pub fn read_set(spool: &[u8], terms: Terms) -> Result<Set<'_>, Refusal> {
     let volumes = spool::volumes(spool).ok_or(Refusal { number: 2, volume: 0, line: 0 })?;
     let mut lines_of = Vec::new();
     for (index, volume) in volumes.iter().enumerate() {
         // "3 the first such volume, line 0"
         lines_of.push(spool::lines(volume.body).ok_or(Refusal { number: 3, volume: index + 1, line: 0 })?);
     }
-    let mut reader = Reader::new(&volumes, class, room);
+    let mut reader = Reader::new(&volumes, terms);
     for (index, lines) in lines_of.iter().enumerate() {
         let volume = index + 1;
         // "A volume that ends early is refused at its last line, 0 if it has none."
@@ -47,12 +63,13 @@ struct Open<'s> {
     seen: Vec<&'s [u8]>,
     /// How many lines with a key stood in it.
     items: usize,
+    /// A key stood in it that is no element of a wire, skipped or not.
+    elements_over: bool,
 }
 
 struct Reader<'s, 'v> {
     volumes: &'v [Volume<'s>],
-    class: Class,
-    room: usize,
+    terms: Terms,
     taken: usize,
     set: Set<'s>,
     /// The number of the volume, from 0, and of the line, from 1.
@@ -65,18 +82,19 @@ struct Reader<'s, 'v> {
     /// Keys directly in layers: of this volume, and of the set.
     keys_in_volume: i64,
     keys_in_set: i64,
+    /// Own numbers, of symbols and wires, and all their partners.
     serials: HashSet<i64>,
+    partners: Vec<i64>,
 }
 
 const FIRST_VOLUME_BLOCKS: &[&[u8]] = &[b"FILE_FORMAT", b"DRAWING_FORMAT", b"SYMBOL_DEFINE", b"ELEMENT"];
 const LATER_VOLUME_BLOCKS: &[&[u8]] = &[b"FILE_FORMAT", b"ELEMENT"];
 
 impl<'s, 'v> Reader<'s, 'v> {
-    fn new(volumes: &'v [Volume<'s>], class: Class, room: usize) -> Self {
+    fn new(volumes: &'v [Volume<'s>], terms: Terms) -> Self {
         Reader {
             volumes,
-            class,
-            room,
+            terms,
             taken: 0,
             set: Set::new(),
             volume: 0,
@@ -87,6 +105,7 @@ impl<'s, 'v> Reader<'s, 'v> {
             keys_in_volume: 0,
             keys_in_set: 0,
             serials: HashSet::new(),
+            partners: Vec::new(),
         }
     }
 
@@ -102,7 +121,8 @@ impl<'s, 'v> Reader<'s, 'v> {
     }
 
     fn here(&self) -> Circumstances<'_> {
-        Circumstances { first_volume: self.volume == 0, ranges: &self.set.header.ranges, class: self.class }
+        let elements_over = self.open.last().is_some_and(|open| open.elements_over);
+        Circumstances { first_volume: self.volume == 0, ranges: &self.set.header.ranges, class: self.terms.class, elements_over }
     }
 
     fn in_symbol(&self) -> bool {
@@ -163,6 +183,15 @@ impl<'s, 'v> Reader<'s, 'v> {
         let used = |number| self.set.volumes.iter().any(|volume| volume.layers.iter().any(|layer| layer.number == number));
         faults.add_if(!(0..self.set.drawing.layers.len()).all(used), 14);
         faults.add_if(self.set.header.all_ele != self.keys_in_set, 17);
+        faults.add_if(self.partners_are_tested() && !self.partners.iter().all(|partner| self.serials.contains(partner)), 21);
+    }
+
+    /// "partners are tested where file and class both know serials of symbols and of wires"
+    fn partners_are_tested(&self) -> bool {
+        let (ranges, class) = (&self.set.header.ranges, self.terms.class);
+        let of_symbols = ranges.e_sym_digits().allow(Attribute::Serial) && class.knows(Attribute::Serial);
+        let of_wires = ranges.e_wire_digits().allow_in_wire(WireAttribute::Serial) && class.knows_in_wire(WireAttribute::Serial);
+        of_symbols && of_wires
     }
 
     /// `}`
@@ -197,7 +226,11 @@ impl<'s, 'v> Reader<'s, 'v> {
     /// A line with a key.
     fn key_line(&mut self, key: Text<'s>, tail: Tail<'s>, faults: &mut Faults) {
         let place = self.place();
-        let known = match blocks::permission(place, key.bytes, &self.here()) {
+        let permission = blocks::permission(place, key.bytes, &self.here());
+        if let Some(open) = self.open.last_mut() {
+            open.elements_over |= !blocks::is_wire_element(key.bytes);
+        }
+        let known = match permission {
             Permission::Skipped => return self.skip(place, key, tail, faults),
             Permission::NotAllowed => {
                 // In `layer_name` every content is a layer name, and so free text.
@@ -247,12 +280,12 @@ impl<'s, 'v> Reader<'s, 'v> {
     }
 
     fn enter(&mut self, place: Place) {
-        self.open.push(Open { place, seen: Vec::new(), items: 0 });
+        self.open.push(Open { place, seen: Vec::new(), items: 0, elements_over: false });
     }
 
     /// "record doesn't fit the table"
     fn take_record(&mut self, faults: &mut Faults) {
-        faults.add_if(self.taken >= self.room, 19);
+        faults.add_if(self.taken >= self.terms.room, 19);
         self.taken += 1;
     }
 
@@ -281,6 +314,7 @@ impl<'s, 'v> Reader<'s, 'v> {
             Place::Successive => self.successive_point(content.bytes, faults),
             Place::Text => self.text(key.bytes, content, faults),
             Place::Placed => self.placed(key.bytes, content, faults),
+            Place::Wire => self.wire(key.bytes, content, faults),
             // Every key in a skipped block is skipped before it comes here.
             Place::Skipped(_) => unreachable!(),
         }
@@ -341,12 +375,13 @@ impl<'s, 'v> Reader<'s, 'v> {
     }
 
     fn range_part(&mut self, key: &[u8], bytes: &[u8], opens: bool, faults: &mut Faults) {
-        let served: fn(i64) -> bool = match key {
-            b"base" => ranges::one,
-            b"B_sym" | b"arc" | b"S_base" | b"elec" | b"sym" => ranges::none_or_one,
-            b"E_sym" => ranges::e_sym,
-            b"S_elec" => ranges::s_elec,
-            _ => ranges::none,
+        let served = |number: i64| match key {
+            b"base" => ranges::one(number),
+            b"B_sym" | b"arc" | b"S_base" | b"elec" | b"sym" => ranges::none_or_one(number),
+            b"E_sym" => ranges::e_sym(number),
+            b"E_wire" => self.terms.served.serve(number),
+            b"S_elec" => ranges::s_elec(number),
+            _ => ranges::none(number),
         };
         match ranges::value(bytes, served) {
             Err(number) => faults.add(number),
@@ -357,12 +392,13 @@ impl<'s, 'v> Reader<'s, 'v> {
                     b"arc" => ranges.arc = Some(number),
                     b"elec" => ranges.elec = Some(number),
                     b"E_sym" => ranges.e_sym = number,
+                    b"E_wire" => ranges.e_wire = number,
                     b"air" => ranges.air = Some(number),
                     b"pipe" => ranges.pipe = Some(number),
                     b"sym" => ranges.sym = Some(number),
                     b"S_base" => ranges.s_base = number,
                     b"S_elec" => ranges.s_elec = number,
-                    // base is always 001; E_wire and E_cirno are always 000.
+                    // base is always 001, E_cirno always 000.
                     _ => {}
                 }
             }
@@ -503,6 +539,7 @@ impl<'s, 'v> Reader<'s, 'v> {
                 self.add_figure(Shape::Text(TextFigure::default()), faults);
                 return self.enter(Place::Text);
             }
+            b"E_wire" => return self.open_wire(faults),
             // A placed symbol: at range 001 on one line, otherwise a block.
             _ if self.set.header.ranges.e_sym == 1 => {
                 let mut placed = Placed::default();
@@ -530,12 +567,13 @@ impl<'s, 'v> Reader<'s, 'v> {
         }
     }
 
-    /// A line of a text: of a figure, or of a placed symbol.
+    /// A line of a text: of a figure, of a placed symbol, or of a wire.
     fn text(&mut self, key: &[u8], content: Text<'s>, faults: &mut Faults) {
         let in_symbol = self.in_symbol();
         let text = match self.shape() {
             Shape::Text(text) => text,
             Shape::Placed(placed) => placed.text.get_or_insert_with(TextFigure::default),
+            Shape::Wire(wire) => wire.texts.last_mut().unwrap(),
             _ => unreachable!(),
         };
         match key {
@@ -570,17 +608,11 @@ impl<'s, 'v> Reader<'s, 'v> {
             }
             b"hight" => keep_number(&mut placed.hight, Column::AnySign, content.bytes, faults),
             b"pos" => keep_number(&mut placed.pos, Column::Position, content.bytes, faults),
-            b"circuit" if content.bytes.is_empty() => placed.circuit = State::Empty,
-            b"circuit" => {
-                let written = |b: &u8| b.is_ascii_alphanumeric() || *b == b'-' || *b == b'.';
-                faults.add_if(content.bytes.len() > 10 || !content.bytes.iter().all(written), 11);
-                placed.circuit = State::Given(content);
-            }
+            b"circuit" => placed.circuit = circuit(content, faults),
             b"serial" => match figures::serial(content.bytes) {
                 Err(number) => faults.add(number),
                 Ok(numbers) => {
-                    // "Own numbers differ as numbers over the set."
-                    faults.add_if(!self.serials.insert(numbers[0]), 15);
+                    self.number(numbers[0], numbers[1..].iter().copied(), faults);
                     placed.serial = Some(numbers);
                 }
             },
@@ -588,6 +620,114 @@ impl<'s, 'v> Reader<'s, 'v> {
         }
         *self.shape() = Shape::Placed(placed);
     }
+
+    /// An own number and its partners. "Own numbers differ as numbers over the set", those of wires and of symbols together.
+    fn number(&mut self, own: i64, partners: impl Iterator<Item = i64>, faults: &mut Faults) {
+        faults.add_if(!self.serials.insert(own), 15);
+        self.partners.extend(partners);
+    }
+
+    /// `E_wire:{` in a layer. It has two records at its own line.
+    fn open_wire(&mut self, faults: &mut Faults) {
+        self.take_record(faults);
+        self.add_figure(Shape::Wire(Wire::default()), faults);
+        self.enter(if self.terms.class.reads_wires() { Place::Wire } else { Place::Skipped(0) });
+    }
+
+    /// The wire that is open.
+    fn open_wire_read(&mut self) -> &mut Wire<'s> {
+        match self.shape() {
+            Shape::Wire(wire) => wire,
+            _ => unreachable!(),
+        }
+    }
+
+    /// A line directly in a wire's block, of those that the wire part reads.
+    fn wire(&mut self, key: &[u8], content: Text<'s>, faults: &mut Faults) {
+        match key {
+            b"line" => self.wire_element(OneLine::Line, content.bytes, faults),
+            b"circle" => self.wire_element(OneLine::Circle, content.bytes, faults),
+            b"direc" => self.wire_direc(content.bytes, faults),
+            b"piend" => {
+                let piend = or_fault(figures::piend(content.bytes), faults);
+                self.open_wire_read().piends.push(piend);
+            }
+            b"num" => self.wire_num(content.bytes, faults),
+            b"text" => {
+                self.open_wire_read().texts.push(TextFigure::default());
+                self.enter(Place::Text);
+            }
+            b"length" => keep_number(&mut self.open_wire_read().length, Column::NotNegative, content.bytes, faults),
+            b"circuit" => self.open_wire_read().circuit = circuit(content, faults),
+            b"power" if content.bytes.is_empty() => self.open_wire_read().power = State::Empty,
+            b"power" => self.open_wire_read().power = State::Given(or_fault(figures::power(content.bytes), faults)),
+            b"serial" => match figures::wire_serial(content.bytes) {
+                Err(number) => faults.add(number),
+                Ok(serial) => {
+                    self.number(serial.own, serial.partners.into_iter().flatten(), faults);
+                    self.open_wire_read().serial = Some(serial);
+                }
+            },
+            _ => unreachable!(),
+        }
+    }
+
+    fn wire_element(&mut self, kind: OneLine, content: &[u8], faults: &mut Faults) {
+        self.take_record(faults);
+        let typed = match figures::one_line(kind, content, false) {
+            Ok(typed) => typed,
+            Err(number) => return faults.add(number),
+        };
+        let demanded = self.set.header.ranges.joining() == JOINED;
+        let line = self.line;
+        let elements = &mut self.open_wire_read().elements;
+        let join = match elements.last() {
+            Some(former) if demanded => or_fault(join(former, kind, &typed), faults),
+            _ => Join::None,
+        };
+        elements.push(WireElement { line, kind, typed, join });
+    }
+
+    fn wire_direc(&mut self, content: &[u8], faults: &mut Faults) {
+        let direc = or_fault(figures::direc(content), faults);
+        let direcs = &mut self.open_wire_read().direcs;
+        direcs.push(direc);
+        // "one item too many, at its line"
+        faults.add_if(direcs.len() > MOST_DIRECS, 11);
+    }
+
+    /// 000: several may stand, "but earth and power wires of all must be the same".
+    fn wire_num(&mut self, content: &[u8], faults: &mut Faults) {
+        let num = match figures::num(content) {
+            Ok(num) => num,
+            Err(number) => return faults.add(number),
+        };
+        let nums = &mut self.open_wire_read().nums;
+        faults.add_if(nums.first().is_some_and(|first| first[..2] != num[..2]), 11);
+        nums.push(num);
+    }
+}
+
+/// "tested for equal values between two lines, and recorded as untested where an arc takes part"; "a join that fails is 11 at the later line"
+fn join(former: &WireElement, kind: OneLine, this: &Typed) -> Result<Join, u8> {
+    if former.kind != OneLine::Line || kind != OneLine::Line {
+        return Ok(Join::Untested);
+    }
+    // x,y,x,y: the former's end, this one's start
+    if former.typed.values[2..] != this.values[..2] {
+        return Err(11);
+    }
+    Ok(Join::Tested)
+}
+
+/// "`circuit`, 0-10 of letters, digits, `-`, `.`"
+fn circuit<'s>(content: Text<'s>, faults: &mut Faults) -> State<Text<'s>> {
+    if content.bytes.is_empty() {
+        return State::Empty;
+    }
+    let written = |b: &u8| b.is_ascii_alphanumeric() || *b == b'-' || *b == b'.';
+    faults.add_if(content.bytes.len() > 10 || !content.bytes.iter().all(written), 11);
+    State::Given(content)
 }
 
 /// Keeps a number, date or time, "not written as said" being 10.

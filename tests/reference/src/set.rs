@@ -15,17 +15,18 @@ pub enum State<T> {
     Given(T),
 }
 
-/// A value of a figure, as it is kept: a decimal in ten-thousandths, or one digit.
+/// A value of a figure, as it is kept: a decimal in ten-thousandths, one digit, or a count.
 #[derive(Clone, Copy, Debug, PartialEq, Eq)]
 pub enum Value {
     Decimal(i64),
     Digit(i64),
+    Count(i64),
 }
 
 impl Value {
     pub fn number(self) -> i64 {
         match self {
-            Value::Decimal(number) | Value::Digit(number) => number,
+            Value::Decimal(number) | Value::Digit(number) | Value::Count(number) => number,
         }
     }
 }
@@ -78,12 +79,59 @@ pub enum OneLine {
     Point,
 }
 
+/// How an element of a wire is joined to the one before.
+#[derive(Clone, Copy, Debug, Default, PartialEq, Eq)]
+pub enum Join {
+    /// It is the first, or E_wire's first digit demands nothing.
+    #[default]
+    None,
+    /// Between two lines: the values are equal.
+    Tested,
+    /// "recorded as untested where an arc takes part"
+    Untested,
+}
+
+/// A line or an arc of a wire, with its line number.
+#[derive(Clone, Debug)]
+pub struct WireElement {
+    pub line: usize,
+    pub kind: OneLine,
+    pub typed: Typed,
+    pub join: Join,
+}
+
+/// A wire's own number, and its partners at start and end.
+#[derive(Clone, Debug)]
+pub struct WireSerial {
+    pub own: i64,
+    pub partners: [Option<i64>; 2],
+}
+
+/// A wire; of one that the class skips whole, nothing is kept.
+#[derive(Clone, Debug, Default)]
+pub struct Wire<'s> {
+    pub elements: Vec<WireElement>,
+    /// sign, x, y, angle of each
+    pub direcs: Vec<Vec<Value>>,
+    /// x, y, angle of each
+    pub piends: Vec<Vec<Value>>,
+    /// earth, power, x, y, angle of each
+    pub nums: Vec<Vec<Value>>,
+    pub texts: Vec<TextFigure<'s>>,
+    pub length: State<i64>,
+    pub circuit: State<Text<'s>>,
+    /// phase, wires, volts
+    pub power: State<Vec<Value>>,
+    pub serial: Option<WireSerial>,
+}
+
 #[derive(Clone, Debug)]
 pub enum Shape<'s> {
     OneLine(OneLine, Typed),
     Successive(Vec<Point>),
     Text(TextFigure<'s>),
     Placed(Placed<'s>),
+    Wire(Wire<'s>),
 }
 
 #[derive(Clone, Debug)]

@@ -3,6 +3,7 @@
 use std::fs;
 use std::path::PathBuf;
 
+use reference::ranges::{asked, ServedWires};
 use reference::records::NUMBERS;
 
 fn folder() -> PathBuf {
@@ -15,10 +16,10 @@ fn every_listed_answer_agrees() {
     let mut tables = 0;
     for row in listed.lines().skip(1) {
         let cells: Vec<&str> = row.split('\t').collect();
-        let [file, class, room, answer, volume, line, count, _why] = cells[..] else { panic!("{row}") };
+        let [file, class, wire, room, answer, volume, line, count, _why] = cells[..] else { panic!("{row}") };
         let spool = fs::read(folder().join(file)).expect(file);
         let room: usize = room.parse().unwrap();
-        let got = reference::read(&spool, class.parse().unwrap(), room * NUMBERS);
+        let got = reference::read(&spool, asked(class.parse().unwrap(), wire.parse().unwrap()), ServedWires::ALL, room * NUMBERS);
         let said = format!("{} {} {} {}", got.answer, got.volume, got.line, got.count);
         assert_eq!(said, format!("{answer} {volume} {line} {count}"), "{row}");
         if got.answer != 0 {
@@ -46,7 +47,7 @@ fn every_fixed_form_agrees() {
         }
         let fixed = fs::read(&path).unwrap();
         let spool = fs::read(path.with_extension("spool")).unwrap();
-        let got = reference::rewrite(&spool, fixed.len());
+        let got = reference::rewrite(&spool, ServedWires::ALL, fixed.len());
         assert_eq!((got.answer, got.count), (0, fixed.len()), "{}", path.display());
         assert!(got.lent == fixed, "{}: another fixed form", path.display());
         forms += 1;

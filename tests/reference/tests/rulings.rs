@@ -1,8 +1,9 @@
 //! Document 01's sample rulings, the three readings that it keeps out, and a ruling for each point where lines earn more than one number.
 
 use reference::generate::{Draft, DraftVolume};
+use reference::ranges::{asked, Asked, ServedWires, HIGHEST_ASKED};
 use reference::records::NUMBERS;
-use reference::{check, read, rewrite};
+use reference::Answer;
 
 /// A sound set of one volume, E_sym 015: every block, every figure, two placed symbols.
 const SOUND: &str = "FILE_FORMAT:{
@@ -103,12 +104,24 @@ serial=2
 }
 EOF";
 
+fn read(spool: &[u8], class: Asked, table_len: usize) -> Answer<i64> {
+    reference::read(spool, class, ServedWires::ALL, table_len)
+}
+
+fn rewrite(spool: &[u8], out_len: usize) -> Answer<u8> {
+    reference::rewrite(spool, ServedWires::ALL, out_len)
+}
+
+fn check(spool: &[u8], class: Asked) -> u64 {
+    reference::check(spool, class, ServedWires::ALL)
+}
+
 fn volume(name: &str, text: &str) -> DraftVolume {
     DraftVolume { name: name.into(), lines: text.lines().map(|line| line.as_bytes().to_vec()).collect() }
 }
 
 fn spool(volumes: Vec<DraftVolume>) -> Vec<u8> {
-    Draft { class: 15, volumes }.spool()
+    Draft { class: HIGHEST_ASKED, served: ServedWires::ALL, volumes }.spool()
 }
 
 fn one_volume(text: &str) -> Vec<u8> {
@@ -122,12 +135,12 @@ fn with(old: &str, new: &str) -> Vec<u8> {
 }
 
 fn answer(spool: &[u8], class: u8) -> u8 {
-    read(spool, class, 256 * NUMBERS).answer
+    read(spool, asked(class, 18), 256 * NUMBERS).answer
 }
 
 /// Answer and line, at class 15.
 fn ruling(old: &str, new: &str) -> (u8, usize) {
-    let read = read(&with(old, new), 15, 256 * NUMBERS);
+    let read = read(&with(old, new), HIGHEST_ASKED, 256 * NUMBERS);
     (read.answer, read.line)
 }
 
@@ -163,7 +176,7 @@ fn volumes_in_their_own_order() {
     let volumes = vec![volume("TEST1", &first), volume("TEST2", &later("TEST10", "")), volume("TEST10", &later("", "EOF"))];
     assert_eq!(answer(&spool(volumes), 15), 0);
     let volumes = vec![volume("TEST1", &first), volume("TEST10", &later("TEST2", "")), volume("TEST2", &later("", "EOF"))];
-    let read = read(&spool(volumes), 15, 256 * NUMBERS);
+    let read = read(&spool(volumes), HIGHEST_ASKED, 256 * NUMBERS);
     assert_eq!((read.answer, read.volume, read.line), (16, 1, 34));
 }
 
@@ -185,8 +198,8 @@ fn skipped_characters_open_nothing() {
 #[test]
 fn unread() {
     let spool = one_volume(SOUND);
-    let high = read(&spool, 15, 256 * NUMBERS).lent;
-    let low = read(&spool, 3, 256 * NUMBERS).lent;
+    let high = read(&spool, HIGHEST_ASKED, 256 * NUMBERS).lent;
+    let low = read(&spool, asked(3, 18), 256 * NUMBERS).lent;
     let placed = |table: &[i64]| table.chunks(NUMBERS).find(|record| record[0] == 16).unwrap().to_vec();
     let (high, low) = (placed(&high), placed(&low));
     assert_eq!(high[5..16], [0, 1_000_000, 1_000_000, 900_000, 10_000, -12_005_000, 5, high[12], 5, 1, 2]);
@@ -199,13 +212,13 @@ fn unread() {
 
 #[test]
 fn packed_and_short() {
-    assert_eq!(check(&one_volume(SOUND), 15), 0);
-    assert_eq!(check(&with("4A1", "8A1"), 15), 11 + 100 + 10_000 * 36);
-    assert_eq!(check(&with("4A1", "8A1"), 6), 1);
+    assert_eq!(check(&one_volume(SOUND), HIGHEST_ASKED), 0);
+    assert_eq!(check(&with("4A1", "8A1"), HIGHEST_ASKED), 11 + 100 + 10_000 * 36);
+    assert_eq!(check(&with("4A1", "8A1"), asked(6, 18)), 1);
     let fixed = rewrite(&one_volume(SOUND), 61_440);
     assert_eq!(fixed.answer, 0);
     assert_eq!(rewrite(&one_volume(SOUND), fixed.count - 1).answer, 20);
-    assert_eq!(read(&one_volume(SOUND), 15, NUMBERS).answer, 19);
+    assert_eq!(read(&one_volume(SOUND), HIGHEST_ASKED, NUMBERS).answer, 19);
 }
 
 /// Many lines, each in place of another, and the number that it is given.
@@ -339,6 +352,21 @@ fn early_ends() {
     assert_eq!(at_last_line(&cut("line=1307,5", "#")), 9);
     assert_eq!(at_last_line(&cut("name=\n}\nDRAW", "}")), 8);
     assert_eq!(at_last_line(&cut("DRAWING_FORMAT", "#")), 9);
-    let nothing = read(&one_volume(""), 15, NUMBERS);
+    let nothing = read(&one_volume(""), HIGHEST_ASKED, NUMBERS);
     assert_eq!((nothing.answer, nothing.volume, nothing.line), (9, 1, 0));
+}
+
+/// A class and a wire part that are none: 1, before anything of the spool is read.
+#[test]
+fn classes() {
+    let sound = one_volume(SOUND);
+    for class in 0..=255 {
+        for wire in 0..=255 {
+            let is_class = [1, 2, 3, 4, 5, 11, 12, 13, 14, 15].contains(&class);
+            let is_wire_part = wire <= 8 || (11..=18).contains(&wire);
+            let got = read(if is_class && is_wire_part { &sound } else { b"" }, asked(class, wire), 64 * NUMBERS);
+            let expected = if is_class && is_wire_part { 0 } else { 1 };
+            assert_eq!((got.answer, got.volume, got.line), (expected, 0, 0), "class {class}, wire part {wire}");
+        }
+    }
 }

@@ -1,99 +1,38 @@
-//! Sound sets are accepted, and what document 01 demands of readings and fixed forms holds for them and for damaged ones.
+//! Sound sets are accepted; tables just too small; questions as bytes.
 
-use reference::frames::{answer_line, question, Question};
-use reference::generate::{sound_set, CLASSES};
+use std::collections::BTreeSet;
+
+use reference::frames::{answer_line, Question};
+use reference::generate::{Draft, WIRE_PARTS};
 use reference::random::Random;
+use reference::ranges::{asked, Asked, Class, ServedWires, HIGHEST_ASKED};
+use reference::reader::{read_set, Terms};
 use reference::records::NUMBERS;
-use reference::{check, read, rewrite};
+use reference::set::Set;
+use reference::Answer;
 
-/// A table that every record of a spool fits: no line that takes one is shorter than `E_151=` and its end.
-fn room(spool: &[u8]) -> usize {
-    (spool.len() / 8 + 2) * NUMBERS
+fn read(spool: &[u8], class: Asked, table_len: usize) -> Answer<i64> {
+    reference::read(spool, class, ServedWires::ALL, table_len)
 }
 
-fn records(spool: &[u8], class: u8) -> Option<Vec<i64>> {
+fn question(seed: u64, number: u64) -> Question {
+    reference::frames::question(seed, number, ServedWires::ALL)
+}
+
+fn sound_set(random: &mut Random, rich: bool) -> Draft {
+    reference::generate::sound_set(random, rich, ServedWires::ALL)
+}
+
+/// A table that every record of a spool fits: `E_wire:{` and `}` with their ends are 13 bytes and take two, `E_151=` with its end is 8 and
+/// takes one.
+fn room(spool: &[u8]) -> usize {
+    (spool.len() / 6 + 2) * NUMBERS
+}
+
+fn records(spool: &[u8], class: Asked) -> Option<Vec<i64>> {
     let read = read(spool, class, room(spool));
     let records = read.lent[..read.count * NUMBERS].to_vec();
     (read.answer == 0).then_some(records)
-}
-
-/// Where a record holds the place and length of a text.
-fn text_places(record: &[i64]) -> Vec<usize> {
-    match record[0] {
-        1 => (16..32).step_by(2).collect(),
-        3 => vec![12, 14, 16],
-        4 => vec![5],
-        5 => vec![7],
-        15 | 35 => vec![12],
-        16 => vec![12, 24],
-        _ => vec![],
-    }
-}
-
-/// The numbers of the records without line numbers and byte places, and the texts.
-fn without_places(spool: &[u8], records: &[i64]) -> (Vec<i64>, Vec<Vec<u8>>) {
-    let mut numbers = records.to_vec();
-    let mut texts = Vec::new();
-    for record in numbers.chunks_mut(NUMBERS) {
-        record[3] = 0;
-        for at in text_places(record) {
-            let (place, length) = (record[at] as usize, record[at + 1] as usize);
-            texts.push(spool[place..place + length].to_vec());
-            record[at] = 0;
-        }
-    }
-    (numbers, texts)
-}
-
-/// "Written in the fixed form and read back it gives the same records and texts."
-fn fixed_form_holds(spool: &[u8], what: &str) {
-    let rewritten = rewrite(spool, spool.len());
-    assert_eq!(rewritten.answer, 0, "{what}: the fixed form is never longer");
-    let fixed = &rewritten.lent[..rewritten.count];
-    let again = rewrite(fixed, fixed.len());
-    assert_eq!((again.answer, again.count, &again.lent[..]), (0, fixed.len(), fixed), "{what}: the fixed form is its own");
-    for class in CLASSES {
-        let (Some(first), Some(second)) = (records(spool, class), records(fixed, class)) else { continue };
-        assert!(without_places(spool, &first) == without_places(fixed, &second), "{what}: class {class} reads the same in the fixed form");
-    }
-    if rewritten.count > 0 {
-        let short = rewrite(spool, rewritten.count - 1);
-        assert_eq!((short.answer, short.volume, short.line, short.count), (20, 0, 0, 0), "{what}");
-        assert!(short.lent.iter().all(|&b| b == 0), "{what}");
-    }
-}
-
-/// "The lower accepts what the higher accepts."
-fn lower_accepts(spool: &[u8], what: &str) {
-    let digits = |class: u8| (class % 10, class / 10);
-    for higher in CLASSES {
-        let Some(records_of_higher) = records(spool, higher) else { continue };
-        for lower in CLASSES {
-            if digits(lower).0 > digits(higher).0 || digits(lower).1 > digits(higher).1 {
-                continue;
-            }
-            let records_of_lower = records(spool, lower).unwrap_or_else(|| panic!("{what}: {lower} refuses what {higher} accepts"));
-            assert_eq!(records_of_lower.len(), records_of_higher.len(), "{what}");
-            for (lower, higher) in records_of_lower.chunks(NUMBERS).zip(records_of_higher.chunks(NUMBERS)) {
-                same_but_unread(lower, higher, what);
-            }
-        }
-    }
-}
-
-/// "with the same records but for the attributes it doesn't know, which are marked unread"
-fn same_but_unread(lower: &[i64], higher: &[i64], what: &str) {
-    const HELD: [std::ops::Range<usize>; 5] = [16..26, 10..11, 11..12, 12..14, 14..16];
-    let mut expected = higher.to_vec();
-    if lower[0] == 16 {
-        for (attribute, held) in HELD.into_iter().enumerate() {
-            if lower[26 + attribute] == 3 {
-                expected[held].fill(0);
-                expected[26 + attribute] = 3;
-            }
-        }
-    }
-    assert_eq!(lower, expected, "{what}");
 }
 
 #[test]
@@ -103,22 +42,55 @@ fn sound_sets_are_accepted() {
         let draft = sound_set(&mut random, seed % 2 == 0);
         let spool = draft.spool();
         let read = read(&spool, draft.class, room(&spool));
-        assert_eq!((read.answer, read.volume, read.line), (0, 0, 0), "seed {seed}, class {}", draft.class);
+        assert_eq!((read.answer, read.volume, read.line), (0, 0, 0), "seed {seed}, class {:?}", draft.class);
     }
 }
 
+/// What is served grows step by step; at each step the generator keeps to it, and so does the reader.
 #[test]
-fn demands_hold() {
-    for number in 0..1500 {
-        let question = question(7, number);
-        let what = format!("question {number}");
-        lower_accepts(&question.spool, &what);
-        if records(&question.spool, 15).is_some() {
-            fixed_form_holds(&question.spool, &what);
+fn steps_of_serving() {
+    const STEPS: [ServedWires; 5] = [
+        ServedWires::NONE,
+        ServedWires { first: 0, middle: 0, last: 1 },
+        ServedWires { first: 4, middle: 0, last: 1 },
+        ServedWires { first: 4, middle: 0, last: 8 },
+        ServedWires::ALL,
+    ];
+    for (step, served) in STEPS.into_iter().enumerate() {
+        let mut seen = BTreeSet::new();
+        for seed in 0..600 {
+            let draft = reference::generate::sound_set(&mut Random::new(seed), seed % 2 == 0, served);
+            let spool = draft.spool();
+            let e_wire = set_of(&draft, &spool).header.ranges.e_wire;
+            seen.insert(e_wire);
+            for (read_at, read_served) in STEPS.into_iter().enumerate() {
+                let got = reference::read(&spool, draft.class, read_served, room(&spool)).answer;
+                let expected = if read_served.serve(e_wire) { 0 } else { 12 };
+                assert_eq!(got, expected, "seed {seed}, E_wire {e_wire:03}, made at step {step}, read at step {read_at}");
+            }
         }
-        let read = read(&question.spool, question.class, 256 * NUMBERS);
-        let packed = read.answer as u64 + 100 * read.volume as u64 + 10_000 * read.line as u64;
-        assert_eq!(check(&question.spool, question.class), packed, "{what}");
+        let served_count = (0..1000).filter(|&e_wire| served.serve(e_wire)).count();
+        assert!(seen.iter().all(|&e_wire| served.serve(e_wire)));
+        assert!(seen.len() * 10 >= served_count * 9, "step {step}: {} of {served_count} values", seen.len());
+    }
+}
+
+/// The set, as the class at which it is sound reads it.
+fn set_of<'s>(draft: &Draft, spool: &'s [u8]) -> Set<'s> {
+    let class = Class::of(draft.class).unwrap();
+    read_set(spool, Terms { class, served: ServedWires::ALL, room: usize::MAX }).unwrap()
+}
+
+/// Where E_wire is 000, every wire part reads the same.
+#[test]
+fn wire_parts_without_wires() {
+    const NONE: ServedWires = ServedWires::NONE;
+    for number in 0..500 {
+        let question = reference::frames::question(8, number, NONE);
+        let at = |wire| reference::read(&question.spool, asked(question.class.class, wire), NONE, question.table_len as usize);
+        for wire in WIRE_PARTS {
+            assert_eq!(at(wire), at(18), "question {number}, wire part {wire}");
+        }
     }
 }
 
@@ -150,11 +122,19 @@ fn frames_read_back() {
     assert_eq!(Question::read(&mut from).unwrap(), None);
 }
 
+/// The bytes of a question: class, wire part, three lengths with the high byte first, the spool.
+#[test]
+fn a_frame() {
+    let mut frame = Vec::new();
+    Question { class: asked(13, 17), table_len: 0x0102, out_len: 0x0304_0506, spool: b"VP".to_vec() }.write(&mut frame).unwrap();
+    assert_eq!(frame, [13, 17, 0, 0, 1, 2, 3, 4, 5, 6, 0, 0, 0, 2, b'V', b'P']);
+}
+
 /// The line that another program must print: an empty spool, class 15, a table of two numbers, an output of one byte.
 #[test]
 fn an_answer_line() {
-    let question = Question { class: 15, table_len: 2, out_len: 1, spool: Vec::new() };
+    let question = Question { class: HIGHEST_ASKED, table_len: 2, out_len: 1, spool: Vec::new() };
     let zeros = |count| reference::frames::fnv1a(std::iter::repeat_n(0, count));
-    assert_eq!(answer_line(&question), format!("2 0 0 0 {:016x} 2 2 0 0 0 {:016x}", zeros(16), zeros(1)));
+    assert_eq!(answer_line(&question, ServedWires::ALL), format!("2 0 0 0 {:016x} 2 2 0 0 0 {:016x}", zeros(16), zeros(1)));
     assert_eq!(format!("{:016x}", zeros(1)), "af63bd4c8601b7df");
 }

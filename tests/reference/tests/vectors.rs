@@ -1,11 +1,14 @@
 //! The vectors: spools with the answers, records and fixed forms that are expected of them.
 //!
-//! The folder is taken from VECTORS, and is ../vectors otherwise.
+//! The folder is taken from VECTORS, and is ../vectors otherwise. Its folder wish01 has those of sets with wires.
 
 use std::fs;
-use std::path::PathBuf;
+use std::path::{Path, PathBuf};
 
+use reference::generate::WIRE_PARTS;
+use reference::ranges::{asked, Asked, ServedWires};
 use reference::records::NUMBERS;
+use reference::Answer;
 
 fn folder() -> PathBuf {
     match std::env::var_os("VECTORS") {
@@ -14,67 +17,139 @@ fn folder() -> PathBuf {
     }
 }
 
-/// The numbers of a file of records, in a table of so many records.
-fn table_in(records: &str, room: usize) -> Vec<i64> {
+/// The numbers of a file of records, in a table of so many numbers.
+fn table_in(records: &str, length: usize) -> Vec<i64> {
     let mut table: Vec<i64> = records.split_whitespace().map(|number| number.parse().unwrap()).collect();
-    table.resize(room * NUMBERS, 0);
+    table.resize(length, 0);
     table
 }
 
+/// What is asked about a spool, and what is expected of it.
+struct Row<'i> {
+    text: &'i str,
+    folder: &'i Path,
+    name: &'i str,
+    /// Of a table in numbers, of an output in bytes.
+    length: usize,
+    /// Answer, volume, line, count.
+    expected: String,
+    served: ServedWires,
+}
+
+#[derive(Default)]
+struct Tally {
+    questions: usize,
+    tables: usize,
+    disagreements: Vec<String>,
+}
+
+impl Row<'_> {
+    fn spool(&self) -> Vec<u8> {
+        fs::read(self.folder.join(format!("{}.spool", self.name))).expect(self.text)
+    }
+
+    /// Whether answer, volume, line and count are as expected, and the lent memory is all zeros where they are a refusal.
+    fn answered<T: Copy + Default + PartialEq>(&self, got: &Answer<T>, tally: &mut Tally) -> bool {
+        tally.questions += 1;
+        let said = format!("{} {} {} {}", got.answer, got.volume, got.line, got.count);
+        if said != self.expected {
+            tally.disagreements.push(format!("{}: we say {said}", self.text));
+            return false;
+        }
+        assert!(got.answer == 0 || got.lent.iter().all(|number| *number == T::default()), "{}", self.text);
+        true
+    }
+
+    /// The reader's answer, and its records where they are listed in a file with this ending.
+    fn read(&self, class: Asked, records: &str, tally: &mut Tally) {
+        let spool = self.spool();
+        let got = reference::read(&spool, class, self.served, self.length);
+        if !self.answered(&got, tally) {
+            return;
+        }
+        if let (0, Ok(records)) = (got.answer, fs::read_to_string(self.folder.join(format!("{}.{records}", self.name)))) {
+            tally.tables += 1;
+            if got.lent != table_in(&records, self.length) {
+                tally.disagreements.push(format!("{}: other records at {class:?}", self.text));
+            }
+        }
+        if self.length == reference::CHECK_RECORDS * NUMBERS {
+            let checked = got.answer as u64 + 100 * got.volume as u64 + 10_000 * got.line as u64;
+            assert_eq!(reference::check(&spool, class, self.served), checked, "{}", self.text);
+        }
+    }
+
+    fn rewrite(&self, tally: &mut Tally) {
+        let got = reference::rewrite(&self.spool(), self.served, self.length);
+        if !self.answered(&got, tally) || got.answer != 0 {
+            return;
+        }
+        tally.tables += 1;
+        let mut fixed = fs::read(self.folder.join(format!("{}.fixed", self.name))).expect(self.text);
+        fixed.resize(self.length, 0);
+        if got.lent != fixed {
+            tally.disagreements.push(format!("{}: another fixed form", self.text));
+        }
+    }
+}
+
+impl Tally {
+    fn must_agree(self) {
+        println!("{} questions, {} tables and fixed forms compared", self.questions, self.tables);
+        assert!(self.questions > 0 && self.tables > 0);
+        assert!(self.disagreements.is_empty(), "{} disagree:\n{}", self.disagreements.len(), self.disagreements.join("\n"));
+    }
+}
+
+fn index_of(folder: &Path) -> String {
+    fs::read_to_string(folder.join("index.tsv")).unwrap_or_else(|error| panic!("{}: {error}", folder.join("index.tsv").display()))
+}
+
+/// Sets without wires, as document 01 alone answers them: every wire part reads the same, where the one listed is a wire part. What isn't
+/// refused for a range that isn't served is answered the same where every wire is.
 #[test]
-fn every_vector_agrees() {
+fn every_vector_agrees_at_every_wire_part() {
     let folder = folder();
-    let index = fs::read_to_string(folder.join("index.tsv")).expect("the vectors' index.tsv");
-    let mut questions = 0;
-    let mut tables = 0;
-    let mut disagreements = Vec::new();
-    for row in index.lines().skip(1) {
-        let cells: Vec<&str> = row.split('\t').collect();
-        let [spool_name, what, class, length, answer, volume, line, count] = cells[..] else { panic!("{row}") };
-        let spool = fs::read(folder.join(format!("{spool_name}.spool"))).unwrap();
-        let length: usize = length.parse().unwrap();
-        let expected = format!("{answer} {volume} {line} {count}");
-        questions += 1;
-        if what == "read" {
-            let class: u8 = class.parse().unwrap();
-            let got = reference::read(&spool, class, length * NUMBERS);
-            let said = format!("{} {} {} {}", got.answer, got.volume, got.line, got.count);
-            if said != expected {
-                disagreements.push(format!("{row}: we say {said}"));
+    let mut tally = Tally::default();
+    for text in index_of(&folder).lines().skip(1) {
+        let cells: Vec<&str> = text.split('\t').collect();
+        let [name, what, class, wire, length, answer, volume, line, count] = cells[..] else { panic!("{text}") };
+        let unit = if what == "read" { NUMBERS } else { 1 };
+        let length = length.parse::<usize>().unwrap() * unit;
+        for served in [ServedWires::NONE, ServedWires::ALL] {
+            if served == ServedWires::ALL && answer == "12" {
                 continue;
             }
-            if got.answer != 0 {
-                assert!(got.lent.iter().all(|&number| number == 0), "{row}");
-            } else if let Ok(records) = fs::read_to_string(folder.join(format!("{spool_name}.class{class}"))) {
-                tables += 1;
-                if got.lent != table_in(&records, length) {
-                    disagreements.push(format!("{row}: other records"));
-                }
-            }
-            if length == reference::CHECK_RECORDS {
-                let checked = got.answer as u64 + 100 * got.volume as u64 + 10_000 * got.line as u64;
-                assert_eq!(reference::check(&spool, class), checked, "{row}");
-            }
-        } else {
-            let got = reference::rewrite(&spool, length);
-            let said = format!("{} {} {} {}", got.answer, got.volume, got.line, got.count);
-            if said != expected {
-                disagreements.push(format!("{row}: we say {said}"));
+            let row = Row { text, folder: &folder, name, length, expected: format!("{answer} {volume} {line} {count}"), served };
+            if what != "read" {
+                row.rewrite(&mut tally);
                 continue;
             }
-            if got.answer != 0 {
-                assert!(got.lent.iter().all(|&byte| byte == 0), "{row}");
-            } else {
-                tables += 1;
-                let mut fixed = fs::read(folder.join(format!("{spool_name}.fixed"))).unwrap();
-                fixed.resize(length, 0);
-                if got.lent != fixed {
-                    disagreements.push(format!("{row}: another fixed form"));
-                }
+            let listed: u8 = wire.parse().unwrap();
+            let parts = if WIRE_PARTS.contains(&listed) { WIRE_PARTS.to_vec() } else { vec![listed] };
+            for wire in parts {
+                row.read(asked(class.parse().unwrap(), wire), &format!("class{class}"), &mut tally);
             }
         }
     }
-    println!("{questions} questions, {tables} tables and fixed forms compared");
-    assert!(questions > 0);
-    assert!(disagreements.is_empty(), "{} disagree:\n{}", disagreements.len(), disagreements.join("\n"));
+    tally.must_agree();
+}
+
+/// Sets with wires.
+#[test]
+fn every_vector_with_wires_agrees() {
+    let folder = folder().join("wish01");
+    let mut tally = Tally::default();
+    for text in index_of(&folder).lines().skip(1) {
+        let cells: Vec<&str> = text.split('\t').collect();
+        let [name, what, class, wire, length, "-", answer, volume, line, count] = cells[..] else { panic!("{text}") };
+        let expected = format!("{answer} {volume} {line} {count}");
+        let row = Row { text, folder: &folder, name, length: length.parse().unwrap(), expected, served: ServedWires::ALL };
+        if what == "read" {
+            row.read(asked(class.parse().unwrap(), wire.parse().unwrap()), &format!("class{class}-{wire}"), &mut tally);
+        } else {
+            row.rewrite(&mut tally);
+        }
+    }
+    tally.must_agree();
 }

@@ -4,6 +4,7 @@ use std::io::{self, BufReader, BufWriter, Write};
 use std::process::ExitCode;
 
 use reference::frames::{answer_line, Question};
+use reference::ranges::SERVED;
 
 fn main() -> ExitCode {
     let mut input = BufReader::new(io::stdin().lock());
@@ -12,7 +13,7 @@ fn main() -> ExitCode {
         match Question::read(&mut input) {
             Ok(None) => break,
             Ok(Some(question)) => {
-                if writeln!(out, "{}", answer_line(&question)).is_err() {
+                if writeln!(out, "{}", answer_line(&question, SERVED)).is_err() {
                     return ExitCode::FAILURE;
                 }
             }

@@ -3,6 +3,8 @@
 use std::io::{self, Read, Write};
 use std::process::ExitCode;
 
+use reference::ranges::SERVED;
+
 const MOST_WRITTEN: usize = 61_440;
 
 fn main() -> ExitCode {
@@ -11,7 +13,7 @@ fn main() -> ExitCode {
         eprintln!("fixed: {error}");
         return ExitCode::FAILURE;
     }
-    let rewritten = reference::rewrite(&spool, MOST_WRITTEN);
+    let rewritten = reference::rewrite(&spool, SERVED, MOST_WRITTEN);
     if rewritten.answer != 0 {
         eprintln!("fixed: refused, {} at volume {}, line {}", rewritten.answer, rewritten.volume, rewritten.line);
         return ExitCode::FAILURE;

@@ -7,7 +7,11 @@ use std::io::{self, BufWriter, Write};
 use std::process::ExitCode;
 
 use reference::frames::question;
+use reference::ranges::SERVED;
 use reference::{read, rewrite};
+
+/// How many numbers an answer may be: 0, and the refusals 1 to 21.
+const NUMBERS: usize = 22;
 
 const USAGE: &str = "spools N SEED\nspools --only K SEED\nspools --spool K SEED\nspools --survey N SEED";
 
@@ -21,9 +25,9 @@ fn main() -> ExitCode {
     };
     let mut out = BufWriter::new(io::stdout().lock());
     let written = match &mode[..] {
-        "" => (0..number).try_for_each(|index| question(seed, index).write(&mut out)),
-        "--only" => question(seed, number).write(&mut out),
-        "--spool" => out.write_all(&question(seed, number).spool),
+        "" => (0..number).try_for_each(|index| question(seed, index, SERVED).write(&mut out)),
+        "--only" => question(seed, number, SERVED).write(&mut out),
+        "--spool" => out.write_all(&question(seed, number, SERVED).spool),
         "--survey" => survey(number, seed, &mut out),
         _ => {
             eprintln!("{USAGE}");
@@ -38,13 +42,13 @@ fn main() -> ExitCode {
 }
 
 fn survey(count: u64, seed: u64, out: &mut impl Write) -> io::Result<()> {
-    let mut read_answers = [0; 21];
-    let mut rewrite_answers = [0; 21];
+    let mut read_answers = [0; NUMBERS];
+    let mut rewrite_answers = [0; NUMBERS];
     let (mut bytes, mut records) = (0, 0);
     for index in 0..count {
-        let question = question(seed, index);
-        let read = read(&question.spool, question.class, question.table_len as usize);
-        let rewritten = rewrite(&question.spool, question.out_len as usize);
+        let question = question(seed, index, SERVED);
+        let read = read(&question.spool, question.class, SERVED, question.table_len as usize);
+        let rewritten = rewrite(&question.spool, SERVED, question.out_len as usize);
         read_answers[read.answer as usize] += 1;
         rewrite_answers[rewritten.answer as usize] += 1;
         bytes += question.spool.len();
@@ -52,7 +56,7 @@ fn survey(count: u64, seed: u64, out: &mut impl Write) -> io::Result<()> {
     }
     writeln!(out, "{count} spools, {bytes} bytes, {records} records")?;
     writeln!(out, "answer      read   rewrite")?;
-    for answer in 0..=20 {
+    for answer in 0..NUMBERS {
         writeln!(out, "{answer:6} {:9} {:9}", read_answers[answer], rewrite_answers[answer])?;
     }
     Ok(())

@@ -1,35 +1,44 @@
-use Rattle.groundwork.proofs.ClassDigits.{within-is, class-low, class-high, class-none}
+use Rattle.groundwork.proofs.ClassDigits.{symbol-part-few, wire-part-few, no-symbol-part, no-wire-part, both-parts}
 use mathlib.Core.Path.{sym, _∙_}
-use native.Mathlib.Omega.{arith}
+use borrow.Author.Tests.{not-true, not-false}
 use borrow.Author.Needs.{needs}
 use Rattle.groundwork.proofs.classes.class_of.Statement.{statement}
 use Rattle.groundwork.proofs.classes.class_of.Tie as tie
+use Rattle.groundwork.proofs.classes.class_of.Reads as reads
+use Rattle.groundwork.proofs.classes.class_of.Lts as lts
+use Rattle.groundwork.proofs.classes.is_symbol_part.Reads as is-symbol-part-reads
+use Rattle.groundwork.proofs.classes.is_wire_part.Reads as is-wire-part-reads
+use Rattle.groundwork.proofs.classes.part_digits.Reads as part-digits-reads
 
-within-requires : tie.Need-within-requires
-within-requires c κs = search needs
-
-cast-t3 : tie.Need-cast-t3
-cast-t3 c = omega (arith, within-is 1 5 (c .before .before .args .n) (sym (c .before .within .ensures) ∙ c .if1 .taken) .1)
+is-symbol-part-requires : tie.Need-is-symbol-part-requires
+is-symbol-part-requires c κs = search needs
 
 returns : tie.Need-returns
-returns c = sym (class-low (c .before .before .args .n) (sym (c .before .within .ensures) ∙ c .if1 .taken))
+returns c = no-symbol-part (c .before .before .args .n) (c .before .before .args .wire) (sym (c .before .is-symbol-part .ensures) ∙ not-true _ (c .if1 .taken))
 
-within-requires-2 : tie.Need-within-requires-2
-within-requires-2 c κs = search needs
-
-sub-t6 : tie.Need-sub-t6
-sub-t6 c = omega (arith, within-is 11 15 (c .before .before .before .before .args .n) (sym (c .before .within2 .ensures) ∙ c .if2 .taken) .0)
-
-cast-t7 : tie.Need-cast-t7
-cast-t7 c = omega (arith, within-is 11 15 (c .before .before .before .before .args .n) (sym (c .before .within2 .ensures) ∙ c .if2 .taken) .1)
+is-wire-part-requires : tie.Need-is-wire-part-requires
+is-wire-part-requires c κs = search needs
 
 returns-2 : tie.Need-returns-2
-returns-2 c = sym (class-high (c .before .before .before .before .args .n) (sym (c .before .before .before .within .ensures) ∙ c .before .before .if1 .left) (sym (c .before .within2 .ensures) ∙ c .if2 .taken))
+returns-2 c = no-wire-part (c .before .before .before .before .args .n) (c .before .before .before .before .args .wire) (sym (c .before .before .before .is-symbol-part .ensures) ∙ not-false _ (c .before .before .if1 .left)) (sym (c .before .is-wire-part .ensures) ∙ not-true _ (c .if2 .taken))
+
+part-digits-requires : tie.Need-part-digits-requires
+part-digits-requires c κs = symbol-part-few (c .before .before .before .before .args .n) (sym (c .before .before .before .is-symbol-part .ensures) ∙ not-false _ (c .before .before .if1 .left))
+
+part-digits-requires-2 : tie.Need-part-digits-requires-2
+part-digits-requires-2 c κs = wire-part-few (c .before .before .before .before .before .args .wire) (sym (c .before .before .is-wire-part .ensures) ∙ not-false _ (c .before .if2 .left))
 
 returns-3 : tie.Need-returns-3
-returns-3 c = sym (class-none (c .before .before .before .before .args .n) (sym (c .before .before .before .within .ensures) ∙ c .before .before .if1 .left) (sym (c .before .within2 .ensures) ∙ c .if2 .left))
+returns-3 c = both-parts (c .before .before .before .before .before .before .args .n) (c .before .before .before .before .before .before .args .wire) (c .before .part-digits .result) (c .part-digits2 .result) (sym (c .before .before .before .before .before .is-symbol-part .ensures) ∙ not-false _ (c .before .before .before .before .if1 .left)) (sym (c .before .before .before .is-wire-part .ensures) ∙ not-false _ (c .before .before .if2 .left)) (c .before .part-digits .ensures) (c .part-digits2 .ensures)
 
 pub class-of-spec : {M : Type 1} → statement M
 class-of-spec =
     tie.close
-    (tie.spec within-requires cast-t3 returns within-requires-2 sub-t6 cast-t7 returns-2 returns-3)
+    (tie.spec
+    is-symbol-part-requires
+    returns
+    is-wire-part-requires
+    returns-2
+    part-digits-requires
+    part-digits-requires-2
+    returns-3)

@@ -35,19 +35,19 @@ same-length : tie.Need-same-length
 same-length c = search needs
 
 returns : tie.Need-returns
-returns c = reads-none (c .before .before .before .before .before .before .before .args .class) (length (c .before .before .before .before .before .before .before .args .t .now)) (c .before .before .before .before .before .before .before .args .s .now) (c .before .before .before .before .clear .last .0) (sym (c .enum-told .given .1) ∙ c .before .before .class-of .ensures) (c .before .before .before .before .clear .ensures)
+returns c = reads-none (c .before .before .before .before .before .before .before .args .class) (c .before .before .before .before .before .before .before .args .wire) (length (c .before .before .before .before .before .before .before .args .t .now)) (c .before .before .before .before .before .before .before .args .s .now) (c .before .before .before .before .clear .last .0) (sym (c .enum-told .given .1) ∙ c .before .before .class-of .ensures) (c .before .before .before .before .clear .ensures)
 
 same-length-2 : tie.Need-same-length-2
 same-length-2 c = search needs
 
 returns-2 : tie.Need-returns-2
-returns-2 c = reads-accepted (c .before .before .before .before .before .before .before .before .before .before .before .before .before .before .args .class) (length (c .before .before .before .before .before .before .before .before .before .before .before .before .before .before .args .t .now)) (c .before .before .before .before .before .before .before .before .before .before .before .before .before .before .args .s .now) (c .before .before .before .before .before .before .before .c .given .0 .0) (sym (c .before .before .before .before .before .before .before .c .given .1) ∙ c .before .before .before .before .before .before .before .before .before .class-of .ensures) (c .before .r .given .0 .0) (c .before .before .before .before .before .before .before .before .before .before .before .clear .last .0) (c .before .before .before .before .read-set .last .1 .1 .1 .0) (c .before .before .before .before .before .before .before .before .before .before .before .clear .kept .0) (subst (SetOut (c .before .before .before .before .before .before .before .c .given .0 .0) (c .before .before .before .before .before .before .before .before .before .before .before .before .before .before .args .s .now) (length (c .before .before .before .before .before .before .before .before .before .before .before .before .before .before .args .t .now) / 32) (c .before .before .before .before .before .before .before .before .before .before .before .clear .last .0) (c .before .before .before .before .read-set .last .1 .1 .1 .0)) (c .before .r .given .1) (c .before .before .before .before .read-set .ensures))
+returns-2 c = reads-accepted (c .before .before .before .before .before .before .before .before .before .before .before .before .before .before .args .class) (c .before .before .before .before .before .before .before .before .before .before .before .before .before .before .args .wire) (length (c .before .before .before .before .before .before .before .before .before .before .before .before .before .before .args .t .now)) (c .before .before .before .before .before .before .before .before .before .before .before .before .before .before .args .s .now) (c .before .before .before .before .before .before .before .c .given .0 .0) (sym (c .before .before .before .before .before .before .before .c .given .1) ∙ c .before .before .before .before .before .before .before .before .before .class-of .ensures) (c .before .r .given .0 .0) (c .before .before .before .before .before .before .before .before .before .before .before .clear .last .0) (c .before .before .before .before .read-set .last .1 .1 .1 .0) (c .before .before .before .before .before .before .before .before .before .before .before .clear .kept .0) (subst (SetOut (c .before .before .before .before .before .before .before .c .given .0 .0) (c .before .before .before .before .before .before .before .before .before .before .before .before .before .before .args .s .now) (length (c .before .before .before .before .before .before .before .before .before .before .before .before .before .before .args .t .now) / 32) (c .before .before .before .before .before .before .before .before .before .before .before .clear .last .0) (c .before .before .before .before .read-set .last .1 .1 .1 .0)) (c .before .r .given .1) (c .before .before .before .before .read-set .ensures))
 
 same-length-3 : tie.Need-same-length-3
 same-length-3 c = search needs
 
 returns-3 : tie.Need-returns-3
-returns-3 c = reads-refused (c .before .before .before .before .before .before .before .before .before .before .before .before .before .before .before .before .before .args .class) (length (c .before .before .before .before .before .before .before .before .before .before .before .before .before .before .before .before .before .args .t .now)) (c .before .before .before .before .before .before .before .before .before .before .before .before .before .before .before .before .before .args .s .now) (c .before .before .before .before .before .before .before .before .before .before .c .given .0 .0) (sym (c .before .before .before .before .before .before .before .before .before .before .c .given .1) ∙ c .before .before .before .before .before .before .before .before .before .before .before .before .class-of .ensures) (c .before .before .before .before .r2 .given .0 .0) (c .before .before .before .before .before .before .before .before .before .before .before .before .before .before .clear .last .0) (c .before .before .before .before .before .before .before .read-set .last .1 .1 .1 .0) (c .before .clear2 .last .0) (c .before .before .before .before .before .before .before .before .before .before .before .before .before .before .clear .kept .0) (c .before .before .before .before .before .before .before .read-set .kept .1 .1 .1 .0) (subst (SetOut (c .before .before .before .before .before .before .before .before .before .before .c .given .0 .0) (c .before .before .before .before .before .before .before .before .before .before .before .before .before .before .before .before .before .args .s .now) (length (c .before .before .before .before .before .before .before .before .before .before .before .before .before .before .before .before .before .args .t .now) / 32) (c .before .before .before .before .before .before .before .before .before .before .before .before .before .before .clear .last .0) (c .before .before .before .before .before .before .before .read-set .last .1 .1 .1 .0)) (c .before .before .before .before .r2 .given .1) (c .before .before .before .before .before .before .before .read-set .ensures)) (c .before .clear2 .ensures)
+returns-3 c = reads-refused (c .before .before .before .before .before .before .before .before .before .before .before .before .before .before .before .before .before .args .class) (c .before .before .before .before .before .before .before .before .before .before .before .before .before .before .before .before .before .args .wire) (length (c .before .before .before .before .before .before .before .before .before .before .before .before .before .before .before .before .before .args .t .now)) (c .before .before .before .before .before .before .before .before .before .before .before .before .before .before .before .before .before .args .s .now) (c .before .before .before .before .before .before .before .before .before .before .c .given .0 .0) (sym (c .before .before .before .before .before .before .before .before .before .before .c .given .1) ∙ c .before .before .before .before .before .before .before .before .before .before .before .before .class-of .ensures) (c .before .before .before .before .r2 .given .0 .0) (c .before .before .before .before .before .before .before .before .before .before .before .before .before .before .clear .last .0) (c .before .before .before .before .before .before .before .read-set .last .1 .1 .1 .0) (c .before .clear2 .last .0) (c .before .before .before .before .before .before .before .before .before .before .before .before .before .before .clear .kept .0) (c .before .before .before .before .before .before .before .read-set .kept .1 .1 .1 .0) (subst (SetOut (c .before .before .before .before .before .before .before .before .before .before .c .given .0 .0) (c .before .before .before .before .before .before .before .before .before .before .before .before .before .before .before .before .before .args .s .now) (length (c .before .before .before .before .before .before .before .before .before .before .before .before .before .before .before .before .before .args .t .now) / 32) (c .before .before .before .before .before .before .before .before .before .before .before .before .before .before .clear .last .0) (c .before .before .before .before .before .before .before .read-set .last .1 .1 .1 .0)) (c .before .before .before .before .r2 .given .1) (c .before .before .before .before .before .before .before .read-set .ensures)) (c .before .clear2 .ensures)
 
 pub read-spec : {M : Type 1} → statement M
 read-spec =

@@ -1,0 +1,116 @@
+-- The lower class shows no more records than the higher.
+use Prim.Native.Nat.{ℕ, zero, suc, _≤_}
+use mathlib.Core.List.{List, [], _∷_, _++_, map}
+use mathlib.Core.Path.{_≡_, refl}
+use native.Mathlib.Nat.{le-refl}
+use native.Mathlib.Omega.{arith}
+use lib.ListN.{length, length-append, length-map}
+use Rattle.rules.specs.declared.Digits.{Digits}
+use Rattle.rules.specs.declared.Class.{Class}
+use Rattle.rules.specs.Base.{flat}
+use Rattle.rules.specs.RangeClass.{hides}
+use Rattle.rules.specs.Sets.{Figure, plain, chain, lettering, placed, Drawing, Symbol, Contents, Set, rangeOf}
+use Rattle.rules.specs.Machine.{Home, inElement, inLayer, State, top, file, drawing, layerNames, defines, symbol, hide, elements, figures, successive, texts, placing, skipping, ended, symbolBlock}
+use Rattle.rules.proofs.Chains.{by-cond, nil-map}
+use Rattle.promises.specs.Acceptance.{Place, place}
+use Rattle.promises.proofs.RecordLines.{pointPlaces, figurePlaces, figuresPlaces, blockPlaces, bodyPlaces, laterPlaces, frontPlaces, setPlaces}
+use Rattle.promises.proofs.CountState.{number, filePlaces, openPlaces, within, inFigures, shown}
+use Rattle.promises.proofs.Lower.{textLeast, lowerFigure, lowerFigures, lowerBlock, lowerContents, lowerSet, lowerSoFar, lower}
+
+abbrev Fewer : List Place → List Place → Type 0
+Fewer a b = length a ≤ length b
+
+fewer-append : (a b a′ b′ : List Place) → Fewer a a′ → Fewer b b′ → Fewer (a ++ b) (a′ ++ b′)
+fewer-append a b a′ b′ p q = rw (length-append a b, length-append a′ b′) (omega (arith, p, q))
+
+fewer-flat : {A : Type 0} (f : A → List Place) (g : A → A) → ((a : A) → Fewer (f (g a)) (f a)) → (s : List A) → Fewer (flat (map f (map g s))) (flat (map f s))
+fewer-flat f g h [] = le-refl 0
+fewer-flat f g h (a ∷ s) = fewer-append (f (g a)) (flat (map f (map g s))) (f a) (flat (map f s)) (h a) (fewer-flat f g h s)
+
+-- ── what is read of layers ──
+module _ (c : Class) (d : Digits) where
+  figure-fewer : (k : ℕ) (f : Figure) → Fewer (figurePlaces k (lowerFigure c d f)) (figurePlaces k f)
+  figure-fewer k (plain n j v) = le-refl 1
+  figure-fewer k (chain n ps) = le-refl (length (figurePlaces k (chain n ps)))
+  figure-fewer k (lettering n s) = le-refl 1
+  figure-fewer k (placed n h) = le-refl 1
+
+  figures-fewer : (k : ℕ) (fs : List Figure) → Fewer (figuresPlaces k (lowerFigures c d fs)) (figuresPlaces k fs)
+  figures-fewer k fs = fewer-flat (figurePlaces k) (lowerFigure c d) (figure-fewer k) fs
+
+  body-fewer : (k : ℕ) (v : Contents) → Fewer (bodyPlaces k (lowerContents c d v)) (bodyPlaces k v)
+  body-fewer k v = fewer-flat (blockPlaces k) (lowerBlock c d) (λ u. figures-fewer k (u .figures)) (v .blocks)
+
+  abbrev lowered : List Contents → List Contents
+  lowered vs = map (lowerContents c d) vs
+
+  later-fewer : (k : ℕ) (vs : List Contents) → Fewer (laterPlaces k (lowered vs)) (laterPlaces k vs)
+  later-fewer k [] = le-refl 0
+  later-fewer k (v ∷ vs) =
+      fewer-append (place k (v .line) ∷ bodyPlaces k (lowerContents c d v)) (laterPlaces (suc k) (lowered vs)) (place k (v .line) ∷ bodyPlaces k v) (laterPlaces (suc k) vs)
+      (omega (arith, body-fewer k v)) (later-fewer (suc k) vs)
+
+  set-fewer : (dr : Drawing) (ys : List Symbol) (vs : List Contents) → Fewer (setPlaces dr ys (lowered vs)) (setPlaces dr ys vs)
+  set-fewer dr ys [] = le-refl 0
+  set-fewer dr ys (v ∷ vs) =
+      fewer-append (frontPlaces 1 dr ys v ++ bodyPlaces 1 (lowerContents c d v)) (laterPlaces 2 (lowered vs)) (frontPlaces 1 dr ys v ++ bodyPlaces 1 v) (laterPlaces 2 vs)
+      (fewer-append (frontPlaces 1 dr ys v) (bodyPlaces 1 (lowerContents c d v)) (frontPlaces 1 dr ys v) (bodyPlaces 1 v) (le-refl (length (frontPlaces 1 dr ys v))) (body-fewer 1 v))
+      (later-fewer 2 vs)
+
+  open-fewer : (dr : Drawing) (ys : List Symbol) (vs : List Contents) (v : Contents) → Fewer (openPlaces dr ys (lowered vs) (lowerContents c d v)) (openPlaces dr ys vs v)
+  open-fewer dr ys [] v = le-refl (length (frontPlaces 1 dr ys v))
+  open-fewer dr ys (u ∷ us) v =
+      fewer-append (setPlaces dr ys (lowered (u ∷ us))) (place (suc (length (lowered (u ∷ us)))) (v .line) ∷ []) (setPlaces dr ys (u ∷ us)) (place (suc (length (u ∷ us))) (v .line) ∷ [])
+      (set-fewer dr ys (u ∷ us)) (le-refl 1)
+
+-- ── a state ──
+module _ (took : ℕ) (c : Class) where
+  number-same : (s : Set) → number (lowerSet took c s) ≡ number s
+  number-same s = rw (length-map (s .volumes) (lowerContents c (rangeOf s)))
+
+  closed-fewer : (s : Set) → Fewer (setPlaces (s .drawing) (s .symbols) (lowerSet took c s .volumes)) (setPlaces (s .drawing) (s .symbols) (s .volumes))
+  closed-fewer s = set-fewer c (rangeOf s) (s .drawing) (s .symbols) (s .volumes)
+
+  within-fewer : (s : Set) → Fewer (within (lowerSet took c s)) (within s)
+  within-fewer s =
+      rw (number-same s)
+      (fewer-append (openPlaces (s .drawing) (s .symbols) (lowerSet took c s .volumes) (lowerSet took c s .now)) (bodyPlaces (number s) (lowerSet took c s .now))
+      (openPlaces (s .drawing) (s .symbols) (s .volumes) (s .now)) (bodyPlaces (number s) (s .now))
+      (open-fewer c (rangeOf s) (s .drawing) (s .symbols) (s .volumes) (s .now)) (body-fewer c (rangeOf s) (number s) (s .now)))
+
+  in-fewer : (s : Set) (h : Home) (fs : List Figure) → Fewer (inFigures (lowerSet took c s) h (lowerSoFar c (rangeOf s) h fs)) (inFigures s h fs)
+  in-fewer s (inElement y) fs = rw (number-same s) (le-refl (length (inFigures s (inElement y) fs)))
+  in-fewer s (inLayer k) fs =
+      fewer-append (within (lowerSet took c s)) (figuresPlaces (number (lowerSet took c s)) (lowerFigures c (rangeOf s) fs)) (within s) (figuresPlaces (number s) fs)
+      (within-fewer s) (rw (number-same s) (figures-fewer c (rangeOf s) (number s) fs))
+
+  -- with an open figure's own records behind
+  open-figure : (s : Set) (h : Home) (fs : List Figure) (a b : List Place) → length a ≡ length b → Fewer (inFigures (lowerSet took c s) h (lowerSoFar c (rangeOf s) h fs) ++ a) (inFigures s h fs ++ b)
+  open-figure s h fs a b e = fewer-append (inFigures (lowerSet took c s) h (lowerSoFar c (rangeOf s) h fs)) a (inFigures s h fs) b (in-fewer s h fs) (omega (arith, e))
+
+  pub fewer : (st : State) → Fewer (shown (lower took c st)) (shown st)
+  fewer (top s zero) = closed-fewer s
+  fewer (top s (suc zero)) = le-refl 2
+  fewer (top s (suc (suc zero))) = rw (number-same s) (le-refl (length (shown (top s 2))))
+  fewer (top s (suc (suc (suc zero)))) = within-fewer s
+  fewer (top s (suc (suc (suc (suc k))))) = closed-fewer s
+  fewer (file s n h p) =
+      fewer-append (setPlaces (s .drawing) (s .symbols) (lowerSet took c s .volumes)) (filePlaces (lowerSet took c s .volumes) n) (setPlaces (s .drawing) (s .symbols) (s .volumes)) (filePlaces (s .volumes) n)
+      (closed-fewer s) (rw (number-same s, nil-map (lowerContents c (rangeOf s)) (s .volumes)) (le-refl (length (filePlaces (s .volumes) n))))
+  fewer (drawing s d) = rw (number-same s) (le-refl (length (shown (drawing s d))))
+  fewer (layerNames s d) = rw (number-same s) (le-refl (length (shown (layerNames s d))))
+  fewer (defines s b) = rw (number-same s) (le-refl (length (shown (defines s b))))
+  fewer (symbol s y) = rw (number-same s) (le-refl (length (shown (symbol s y))))
+  fewer (hide s y ps) = rw (number-same s) (le-refl (length (shown (hide s y ps))))
+  fewer (elements s) = within-fewer s
+  fewer (figures s h fs) = in-fewer s h fs
+  fewer (successive s h fs n ps) =
+      open-figure s h fs (place (number (lowerSet took c s)) n ∷ pointPlaces (number (lowerSet took c s)) ps) (place (number s) n ∷ pointPlaces (number s) ps) (rw (number-same s))
+  fewer (texts s h fs n o) = open-figure s h fs (place (number (lowerSet took c s)) n ∷ []) (place (number s) n ∷ []) refl
+  fewer (placing s k fs n (symbolBlock o) zero) = open-figure s (inLayer k) fs (place (number (lowerSet took c s)) n ∷ []) (place (number s) n ∷ []) refl
+  fewer (placing s k fs n (symbolBlock o) (suc p)) =
+      by-cond (λ st. Fewer (shown st) (shown (placing s k fs n (symbolBlock o) (suc p)))) (hides (c .symbols) (rangeOf s) textLeast)
+      (λ _. open-figure s (inLayer k) fs (place (number (lowerSet took c s)) n ∷ []) (place (number s) n ∷ []) refl)
+      (λ _. open-figure s (inLayer k) fs (place (number (lowerSet took c s)) n ∷ []) (place (number s) n ∷ []) refl)
+  fewer (skipping s k fs n b d) = open-figure s (inLayer k) fs (place (number (lowerSet took c s)) n ∷ []) (place (number s) n ∷ []) refl
+  fewer (ended s) = closed-fewer s
