@@ -1,9 +1,10 @@
 -- The parts of FILE_FORMAT: their tables, their marks, what is kept of their rows, and the name of the next volume.
 use Prim.Native.Nat.{ℕ, zero, suc, _+_, _-_, _<_, _≤_}
-use mathlib.Core.Bool.{Bool, true, false}
+use mathlib.Core.Bool.{Bool, true, false, cond, _&&_}
 use mathlib.Core.List.{List, [], _∷_, map}
-use mathlib.Core.Path.{_≡_, refl, sym, _∙_, ap}
+use mathlib.Core.Path.{_≡_, refl, sym, _∙_, ap, ap₂}
 use native.Mathlib.Omega.{arith}
+use lib.Dec.{eqb}
 use lib.IntN.{ℤ, pos}
 use lib.ListN.{length, getD, set, drop, drop-of-length-le, length-take, length-drop}
 use mir.Syntax.{w64}
@@ -15,7 +16,7 @@ use Rattle.rules.specs.Values.{capital}
 use Rattle.rules.specs.Blocks.{fileTable, rangeTable, baseTable, elecTable, symTable, laterTable, around}
 use Rattle.leaves.proofs.Scan.{at, same-long}
 use Rattle.tables.specs.Tables.{tableOf}
-use Rattle.account.specs.FileLines.{PartOpen, fileTableOf, marksFrom, marksTo, partMarks, keptName, keptFirst, keptLater}
+use Rattle.account.specs.FileLines.{PartOpen, fileTableOf, marksFrom, marksTo, partMarks, keptName, keptFirst, keptLater, keptWires}
 
 -- ── by number ──
 pub from-last : (p : ℕ) → (p ≡ 0 → ⊥) → (p ≡ 1 → ⊥) → (p ≡ 2 → ⊥) → (p ≡ 3 → ⊥) → 26 ≡ marksFrom p
@@ -82,6 +83,20 @@ module _ (row : ℕ) (h : List ℤ) where
 
   pub later-other : (row ≡ 2 → ⊥) → (row ≡ 3 → ⊥) → (row ≡ 4 → ⊥) → h ≡ keptLater row h
   later-other a b c = sym (rw (ne-eqb row 2 a, ne-eqb row 3 b, ne-eqb row 4 c))
+
+-- .. and of the inner parts, E_wire's in `elec`
+module _ (p row : ℕ) (h : List ℤ) where
+  abbrev wired : Bool → List ℤ
+  wired kept = cond kept (set h 70 (getD h 64 (pos 0))) h
+
+  pub wires-other-part : (p ≡ 3 → ⊥) → h ≡ keptWires p row h
+  wires-other-part n = sym (ap (λ (b : Bool). wired (b && eqb row 1)) (ne-eqb p 3 n))
+
+  pub wires-other-row : p ≡ 3 → (row ≡ 1 → ⊥) → h ≡ keptWires p row h
+  wires-other-row e n = sym (ap₂ (λ (a b : Bool). wired (a && b)) (eq-eqb p 3 e) (ne-eqb row 1 n))
+
+  pub wires-kept : SFits w64 (getD h 64 (pos 0)) → p ≡ 3 → row ≡ 1 → set h 70 (toZ w64 (ofZ w64 (getD h 64 (pos 0)))) ≡ keptWires p row h
+  wires-kept f e r = ap (set h 70) (toZ-ofZ f) ∙ sym (ap₂ (λ (a b : Bool). wired (a && b)) (eq-eqb p 3 e) (eq-eqb row 1 r))
 
 -- ── the next volume's name ──
 pub capital-length : (c : List ℕ) → length (map capital c) ≡ length c

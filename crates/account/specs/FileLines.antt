@@ -24,6 +24,7 @@ use Rattle.account.specs.Numbering.{blockTop, blockFile, turnDrawing, tu
 use Rattle.account.specs.Numbering.{rowsFile, rowsLater, marksRange, marksBase, marksElec, marksSym, rowNextFile, rowLaterNextFile, rowLaterDate, rowLaterTime}
 use Rattle.account.specs.Numbering.{headerArc, headerSymbolRange, headerDefineRange, headerAll, headerDate, headerTime, headerHere, headerLaterHere}
 use Rattle.account.specs.Numbering.{headerLast, headerLastLength, headerNextFile, headerNextFileLength, headerLaterDate, headerLaterTime}
+use Rattle.account.specs.Numbering.{innerElec, rowWireRange, headerWireRange, tallyWireRange}
 use Rattle.rules.specs.RecordTable.{width}
 
 -- ── the parts ──
@@ -57,7 +58,7 @@ partMarks first p marks = take (marksTo first p - marksFrom p) (drop (marksFrom 
 
 -- ── the header kept apart ──
 -- `headerLength` numbers: the records of the first volume (64) or of a later one (32), what a row without a place left last, next_file's
--- place and length, a later volume's date and time. All are counts.
+-- place and length, a later volume's date and time, the first one's E_wire. All are counts.
 abbrev pub isCount : ℤ → Bool
 isCount (pos n) = ltb n 4294967296
 isCount (negsuc n) = false
@@ -89,10 +90,13 @@ abbrev pub kept : Bool → ℕ → List ℤ → List ℤ
 kept true row h = keptFirst row h
 kept false row h = keptLater row h
 
--- the inner parts have nothing to keep
+-- of the inner parts, `elec` has E_wire to keep
+abbrev pub keptWires : ℕ → ℕ → List ℤ → List ℤ
+keptWires p row h = cond (eqb p innerElec && eqb row rowWireRange) (set h headerWireRange (getD h headerLast (pos 0))) h
+
 abbrev pub keptIn : Bool → ℕ → ℕ → List ℤ → List ℤ
 keptIn first zero row h = kept first row h
-keptIn first (suc p) row h = h
+keptIn first (suc p) row h = keptWires (suc p) row h
 
 -- ── the close ──
 -- "next_file names the next volume (a-z read as A-Z) and is empty in the last"
@@ -117,12 +121,16 @@ rangesTally h tally = sets tally tallyArc (countAt h headerArc ∷ countAt h hea
 abbrev pub setTally : List ℤ → List ℕ → List ℕ
 setTally h tally = sets tally tallyDate (countAt h headerDate ∷ countAt h headerTime ∷ countAt h headerAll ∷ [])
 
+-- .. and E_wire
+abbrev pub wiresTally : List ℤ → List ℕ → List ℕ
+wiresTally h tally = set tally tallyWireRange (countAt h headerWireRange)
+
 -- and of the volume at hand: this_ele, of which none is counted yet
 abbrev pub hereTally : ℕ → List ℕ → List ℕ
 hereTally this tally = sets tally tallyHere (this ∷ 0 ∷ [])
 
 abbrev pub firstTally : List ℤ → List ℕ → List ℕ
-firstTally h tally = hereTally (countAt h headerHere) (setTally h (rangesTally h tally))
+firstTally h tally = wiresTally h (hereTally (countAt h headerHere) (setTally h (rangesTally h tally)))
 
 abbrev pub laterTally : List ℤ → List ℕ → List ℕ
 laterTally h tally = hereTally (countAt h headerLaterHere) tally

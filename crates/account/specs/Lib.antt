@@ -14,4 +14,5 @@ pub mod ElementLines
 pub mod FigureLines
 pub mod SymbolLines
 pub mod PlacedLines
+pub mod WireLines
 pub mod Putting

@@ -39,8 +39,12 @@ blockText = 10
 abbrev pub blockPlaced : ℕ
 blockPlaced = 11
 
+abbrev pub blockWire : ℕ
+blockWire = 12
+
+-- (13 and 14 are free for blocks of figures)
 abbrev pub blockEnded : ℕ
-blockEnded = 12
+blockEnded = 15
 
 -- ── what comes next at the top level ──
 -- one of the four blocks, by its row in the table, then EOF
@@ -64,6 +68,10 @@ turnEof = 4
 abbrev pub innerNone : ℕ
 innerNone = 0
 
+-- in FILE_FORMAT's `range`
+abbrev pub innerElec : ℕ
+innerElec = 3
+
 -- in a symbol, beside `hide`
 abbrev pub innerElement : ℕ
 innerElement = 1
@@ -75,9 +83,20 @@ innerText = 2
 abbrev pub innerPlaced : ℕ
 innerPlaced = 3
 
+abbrev pub innerWire : ℕ
+innerWire = 4
+
 -- in a placed symbol
 abbrev pub innerPlacedText : ℕ
 innerPlacedText = 1
+
+-- ── a wire ──
+-- its lines are read, or it is skipped whole
+abbrev pub wireRead : ℕ
+wireRead = 0
+
+abbrev pub wireSkipped : ℕ
+wireSkipped = 2
 
 -- ── rows ──
 -- how many a table has, under the table's name
@@ -99,6 +118,9 @@ rowsSymbol = 4
 abbrev pub rowsLayer : ℕ
 rowsLayer = 7
 
+abbrev pub rowsWiredLayer : ℕ
+rowsWiredLayer = 8
+
 abbrev pub rowsFigures : ℕ
 rowsFigures = 6
 
@@ -107,6 +129,9 @@ rowsPlaced = 6
 
 abbrev pub rowsText : ℕ
 rowsText = 2
+
+abbrev pub rowsWire : ℕ
+rowsWire = 2
 
 -- where the marks of FILE_FORMAT's inner blocks begin, behind those of its own rows
 abbrev pub marksRange : ℕ
@@ -127,6 +152,10 @@ rowNextFile = 5
 
 abbrev pub rowLaterNextFile : ℕ
 rowLaterNextFile = 2
+
+-- (in `elec`)
+abbrev pub rowWireRange : ℕ
+rowWireRange = 1
 
 abbrev pub rowLaterDate : ℕ
 rowLaterDate = 3
@@ -168,7 +197,7 @@ headerLast = 64
 abbrev pub headerLastLength : ℕ
 headerLastLength = 65
 
--- and what is kept of it: next_file, and in a later volume date and time
+-- and what is kept of it: next_file, in the first volume E_wire, and in a later volume date and time
 abbrev pub headerNextFile : ℕ
 headerNextFile = 66
 
@@ -180,6 +209,9 @@ headerLaterDate = 68
 
 abbrev pub headerLaterTime : ℕ
 headerLaterTime = 69
+
+abbrev pub headerWireRange : ℕ
+headerWireRange = 70
 
 -- ── places in other records ──
 -- a symbol's name
@@ -196,6 +228,44 @@ placeLetter = 5
 -- a placed symbol's own number, the first of `serial`
 abbrev pub placeOwn : ℕ
 placeOwn = 14
+
+-- of a wire's line: where it starts and where it ends
+abbrev pub placeStartX : ℕ
+placeStartX = 5
+
+abbrev pub placeStartY : ℕ
+placeStartY = 6
+
+abbrev pub placeEndX : ℕ
+placeEndX = 7
+
+abbrev pub placeEndY : ℕ
+placeEndY = 8
+
+-- Of a wire's two records, on the scratch: how many elements it has, E_wire's first digit, the two marks (`RecordTable: placeElements` and
+-- the following, behind the first record of the scratch);
+abbrev pub wireElements : ℕ
+wireElements = 37
+
+abbrev pub wireJoinDigit : ℕ
+wireJoinDigit = 62
+
+abbrev pub wireMark : ℕ
+wireMark = 63
+
+abbrev pub wireMoreMark : ℕ
+wireMoreMark = 95
+
+-- and, in places that are 0 when they are complete, what an open wire must know of its last element: the end's x and y, and 1 for a line,
+-- 2 for an arc, 0 for none
+abbrev pub formerX : ℕ
+formerX = 36
+
+abbrev pub formerY : ℕ
+formerY = 68
+
+abbrev pub formerRow : ℕ
+formerRow = 94
 
 -- ── kinds ──
 -- the kind of a figure that is a block is this and its inner number
@@ -243,10 +313,14 @@ tallyLayers = 10
 abbrev pub tallySerials : ℕ
 tallySerials = 11
 
+-- the range E_wire
+abbrev pub tallyWireRange : ℕ
+tallyWireRange = 12
+
 -- ── lengths ──
 -- the tally
 abbrev pub tallyLength : ℕ
-tallyLength = 12
+tallyLength = 13
 
 -- the rows that are marked at once: FILE_FORMAT's and its inner parts'
 abbrev pub mostRows : ℕ
@@ -254,9 +328,10 @@ mostRows = 28
 
 -- FILE_FORMAT's numbers (`FileLines`)
 abbrev pub headerLength : ℕ
-headerLength = 70
+headerLength = 71
 
--- the scratch of three records: the open drawing's or symbol's own, the open figure's or a line's, a point's of the open `successive`
+-- the scratch of three records: the open drawing's or symbol's own or an element's of the open wire, the open figure's or a line's, a point's
+-- of the open `successive` or the open wire's second
 abbrev pub scratchLength : ℕ
 scratchLength = 96
 

@@ -8,7 +8,9 @@ use Rattle.rules.specs.Base.{isNil}
 use Rattle.rules.specs.Lines.{equals, Form, ignored, wrong, close, eof, keyed, shapeOf}
 use Rattle.rules.specs.RangeClass.{Skip, passes, deeper, noForm, skipShape, skipOf}
 use Rattle.rules.specs.Sets.{Set, Figure}
-use Rattle.rules.specs.Machine.{Line, Env, Owned, State, placing, skipping}
+use Rattle.rules.specs.Rows.{Held}
+use Rattle.rules.specs.Machine.{Line, Env, Owned, symbolBlock, State, placing, skipping}
+use Rattle.rules.specs.PlacedSymbol.{skipEnded}
 use Rattle.rules.specs.LineByLine.{refused, run}
 use Rattle.account.specs.declared.Volume.{Volume}
 use Rattle.account.specs.declared.Pos.{Pos}
@@ -53,13 +55,13 @@ skipped d s h fs n b = skipping s h fs n b d
 
 -- the last of d skipped blocks has closed
 abbrev pub unskipped : ℕ → InOwned
-unskipped zero s h fs n b = placing s h fs n b 0
-unskipped (suc zero) s h fs n b = placing s h fs n b 0
+unskipped zero s h fs n b = skipEnded s h fs n b
+unskipped (suc zero) s h fs n b = skipEnded s h fs n b
 unskipped (suc (suc d)) s h fs n b = skipping s h fs n b (suc d)
 
--- a line that opens a skipped block: behind it the one state, past the block's `}` the other
+-- a line that opens a skipped block in a placed symbol: behind it the one state, past the block's `}` the other
 pub data Skips : State → State → Type 0 where
-  inOwned : (s : Set) (h : ℕ) (fs : List Figure) (n : ℕ) (b : Owned) → Skips (skipping s h fs n b 1) (placing s h fs n b 0)
+  inPlaced : (s : Set) (h : ℕ) (fs : List Figure) (n : ℕ) (o : Held) → Skips (skipping s h fs n (symbolBlock o) 1) (placing s h fs n (symbolBlock o) 0)
 
 -- from p on these lines are left; the reading came from there, in one state of any such block, to q, in another, and lines are left
 pub record Came (s body : List ℕ) (v : Volume) (p : Pos) (ls : List (List ℕ)) (from to : InOwned) (q : Pos) : Type 0 where

@@ -48,7 +48,10 @@ pub const BLOCK_TEXT: u8 = 10;
 
 pub const BLOCK_PLACED: u8 = 11;
 
-pub const BLOCK_ENDED: u8 = 12;
+pub const BLOCK_WIRE: u8 = 12;
+
+// (13 and 14 are free for blocks of figures)
+pub const BLOCK_ENDED: u8 = 15;
 
 // What comes next at the top level: one of the four blocks, by its row in the table, then EOF.
 pub const TURN_FILE: u8 = 0;
@@ -64,6 +67,9 @@ pub const TURN_EOF: u8 = 4;
 // The inner blocks of a block, as the tables number them: none is open, the lines are the block's own;
 pub const INNER_NONE: u8 = 0;
 
+// in FILE_FORMAT's `range`;
+pub const INNER_ELEC: u8 = 3;
+
 // in a symbol, beside `hide`;
 pub const INNER_ELEMENT: u8 = 1;
 
@@ -72,8 +78,15 @@ pub const INNER_TEXT: u8 = 2;
 
 pub const INNER_PLACED: u8 = 3;
 
+pub const INNER_WIRE: u8 = 4;
+
 // in a placed symbol.
 pub const INNER_PLACED_TEXT: u8 = 1;
+
+// A wire: its lines are read, or it is skipped whole.
+pub const WIRE_READ: u8 = 0;
+
+pub const WIRE_UNREAD: u8 = 2;
 
 // How many rows a table has, under the table's name;
 pub const ROWS_TOP: usize = 4;
@@ -88,11 +101,15 @@ pub const ROWS_SYMBOL: usize = 4;
 
 pub const ROWS_LAYER: usize = 7;
 
+pub const ROWS_WIRED_LAYER: usize = 8;
+
 pub const ROWS_FIGURES: usize = 6;
 
 pub const ROWS_PLACED: usize = 6;
 
 pub const ROWS_TEXT: usize = 2;
+
+pub const ROWS_WIRE: usize = 2;
 
 // where the marks of FILE_FORMAT's inner blocks begin, behind those of its own rows;
 pub const MARKS_RANGE: usize = 16;
@@ -107,6 +124,9 @@ pub const MARKS_SYM: usize = 26;
 pub const ROW_NEXT_FILE: u8 = 5;
 
 pub const ROW_LATER_NEXT_FILE: u8 = 2;
+
+// (in `elec`)
+pub const ROW_WIRE_RANGE: u8 = 1;
 
 pub const ROW_LATER_DATE: u8 = 3;
 
@@ -135,7 +155,7 @@ pub const HEADER_LAST: usize = 64;
 
 pub const HEADER_LAST_LENGTH: usize = 65;
 
-// and what is kept of it: next_file, and in a later volume date and time.
+// and what is kept of it: next_file, in the first volume E_wire, and in a later volume date and time.
 pub const HEADER_NEXT_FILE: usize = 66;
 
 pub const HEADER_NEXT_FILE_LENGTH: usize = 67;
@@ -143,6 +163,8 @@ pub const HEADER_NEXT_FILE_LENGTH: usize = 67;
 pub const HEADER_LATER_DATE: usize = 68;
 
 pub const HEADER_LATER_TIME: usize = 69;
+
+pub const HEADER_WIRE_RANGE: usize = 70;
 
 // Places in other records: a symbol's name;
 pub const PLACE_NAME: usize = 5;
@@ -152,8 +174,36 @@ pub const PLACE_NAME_LENGTH: usize = 6;
 // a layer's letter (its number and name follow);
 pub const PLACE_LETTER: usize = 5;
 
-// a placed symbol's own number, the first of `serial`.
+// a placed symbol's own number, the first of `serial`;
 pub const PLACE_OWN: usize = 14;
+
+// a wire's line or arc: where a line starts and where it ends, and how it is joined to the one before it;
+pub const PLACE_START_X: usize = 5;
+
+pub const PLACE_START_Y: usize = 6;
+
+pub const PLACE_END_X: usize = 7;
+
+pub const PLACE_END_Y: usize = 8;
+
+pub const PLACE_JOIN: usize = 11;
+
+// of a wire's two records, on the scratch: how many elements it has, E_wire's first digit, the two marks;
+pub const WIRE_ELEMENTS: usize = 37;
+
+pub const WIRE_JOIN_DIGIT: usize = 62;
+
+pub const WIRE_MARK: usize = 63;
+
+pub const WIRE_MORE_MARK: usize = 95;
+
+// and, in places that are 0 when they are complete, what an open wire must know of its last element: the end's x and y, and 1 for a line, 2
+// for an arc, 0 for none.
+pub const FORMER_X: usize = 36;
+
+pub const FORMER_Y: usize = 68;
+
+pub const FORMER_ROW: usize = 94;
 
 // The kind of a figure that is a block is this and its inner number.
 pub const KIND_BLOCKS: u8 = 13;
@@ -162,7 +212,8 @@ pub const KIND_BLOCKS: u8 = 13;
 pub struct Now {
     // the block
     pub block: u8,
-    // at the top level: one of TURN_..; in FILE_FORMAT and a placed symbol: one of INNER_..; in SYMBOL_DEFINE: 1 after `NON=`
+    // at the top level: one of TURN_..; in FILE_FORMAT and a placed symbol: one of INNER_..; in a wire: one of WIRE_..; in SYMBOL_DEFINE:
+    // 1 after `NON=`
     pub part: u8,
     // the figures are a layer's, not a symbol's
     pub layered: bool,
@@ -170,7 +221,8 @@ pub struct Now {
     pub owner: u32,
     // how many records were taken so far
     pub records: usize,
-    // how many figures the layer or symbol has so far, and how many points the chain or `hide`
+    // how many figures the layer or symbol has so far, and how many points the chain or `hide`, how many elements the wire; in a wire that
+    // is skipped whole, how many skipped blocks are open in it
     pub figures: u32,
     pub points: u32,
 }
@@ -183,7 +235,7 @@ pub struct LineAt {
     pub class: Class,
 }
 
-// The tally of a set, twelve numbers: the ranges arc, E_sym and S_elec;
+// The tally of a set: the ranges arc, E_sym and S_elec;
 pub const TALLY_ARC: usize = 0;
 
 pub const TALLY_SYMBOL_RANGE: usize = 1;
@@ -208,16 +260,20 @@ pub const TALLY_LAYERS: usize = 10;
 
 pub const TALLY_SERIALS: usize = 11;
 
+// and the range E_wire.
+pub const TALLY_WIRE_RANGE: usize = 12;
+
 // How many numbers of each are lent down: the tally;
-pub const TALLY_LENGTH: usize = 12;
+pub const TALLY_LENGTH: usize = 13;
 
 // the rows that are marked at once: FILE_FORMAT's and its inner parts';
 pub const MOST_ROWS: usize = 28;
 
 // FILE_FORMAT's numbers;
-pub const HEADER_LENGTH: usize = 70;
+pub const HEADER_LENGTH: usize = 71;
 
-// the scratch of three records: the open drawing's or symbol's own, the open figure's or a line's, a point's of the open `successive`;
+// the scratch of three records: the open drawing's or symbol's own or an element's of the open wire, the open figure's or a line's, a
+// point's of the open `successive` or the open wire's second;
 pub const SCRATCH_LENGTH: usize = 96;
 
 // and what a line of a `successive` is lent of it, its own record and the point's;
@@ -239,11 +295,12 @@ pub enum Step {
     Stop(u8),
 }
 
-// What a line made complete: nothing, the record that stands on the scratch at this place, or FILE_FORMAT's.
+// What a line made complete: nothing, the record that stands on the scratch at this place, FILE_FORMAT's, or a wire's two.
 pub enum Complete {
     Nothing,
     Record(usize),
     Header,
+    Wire,
 }
 
 // A block read to its end, or the refusal.

@@ -25,12 +25,13 @@ use Rattle.account.specs.declared.Now.{Now}
 use Rattle.account.specs.declared.Step.{Step}
 use Rattle.account.specs.declared.Step.the-variants as S
 use Rattle.account.specs.Account.{atBlock}
-use Rattle.account.specs.FileLines.{fileTableOf, marksFrom, marksTo, partMarks, Header, kept, keptIn, closedFile, shutFile, Shut, FileClosed, FileReady, FileLine}
+use Rattle.account.specs.Numbering.{headerLength}
+use Rattle.account.specs.FileLines.{fileTableOf, marksFrom, marksTo, partMarks, Header, kept, keptWires, keptIn, closedFile, shutFile, Shut, FileClosed, FileReady, FileLine}
 use Rattle.account.proofs.RowsTaken.{entry-taken, begin-taken}
 use Rattle.account.proofs.FileParts.{marks-long, mark-inside}
 
 -- any table's rows have room in the header
-pub header-room : (h : List ℤ) (tb : ℕ) → length h ≡ 70 → all (roomy 64 (length h)) (tableOf tb) ≡ true
+pub header-room : (h : List ℤ) (tb : ℕ) → length h ≡ headerLength → all (roomy 64 (length h)) (tableOf tb) ≡ true
 header-room h tb l = room-more 64 66 (length h) (tableOf tb) (omega (arith, l)) (room-file tb)
 
 -- what is kept, by the part
@@ -38,7 +39,7 @@ pub kept-own : (first : Bool) (p j : ℕ) (h : List ℤ) → p ≡ 0 → kept fi
 kept-own first zero j h e = refl
 kept-own first (suc p) j h e = absurd (omega (arith, e))
 
-pub kept-inner : (first : Bool) (p j : ℕ) (h : List ℤ) → (p ≡ 0 → ⊥) → h ≡ keptIn first p j h
+pub kept-inner : (first : Bool) (p j : ℕ) (h : List ℤ) → (p ≡ 0 → ⊥) → keptWires p j h ≡ keptIn first p j h
 kept-inner first zero j h n = absurd (n refl)
 kept-inner first (suc p) j h n = refl
 

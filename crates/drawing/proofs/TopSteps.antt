@@ -51,7 +51,7 @@ module _ (n : Now) (at : Where) (tally : List ℕ) (used : List Bool) where
     pub eof-uncounted : all (λ b. b) (take (layersOf tally) used) ≡ true → (allOf tally ≡ totalOf tally → ⊥) → S.Stop 17 ≡ stepOf (eofNow n at tally used)
     eof-uncounted u h = rw (eq-eqb (n .part) 4 p, e, u, ne-eqb (allOf tally) (totalOf tally) h)
 
-    pub eof-ends : (m : Now) → all (λ b. b) (take (layersOf tally) used) ≡ true → allOf tally ≡ totalOf tally → m ≡ atBlock n 12 0 → S.Go m ≡ stepOf (eofNow n at tally used)
+    pub eof-ends : (m : Now) → all (λ b. b) (take (layersOf tally) used) ≡ true → allOf tally ≡ totalOf tally → m ≡ atBlock n 15 0 → S.Go m ≡ stepOf (eofNow n at tally used)
     eof-ends m u h q = rw (eq-eqb (n .part) 4 p, e, u, eq-eqb (allOf tally) (totalOf tally) h) (ap (λ (x : Now). S.Go x) q)
 
 -- ── a block opens ──

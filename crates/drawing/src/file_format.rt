@@ -15,6 +15,8 @@ use account::HEADER_NEXT_FILE;
 use account::HEADER_NEXT_FILE_LENGTH;
 use account::HEADER_SYMBOL_RANGE;
 use account::HEADER_TIME;
+use account::HEADER_WIRE_RANGE;
+use account::INNER_ELEC;
 use account::INNER_NONE;
 use account::MARKS_BASE;
 use account::MARKS_ELEC;
@@ -26,6 +28,7 @@ use account::ROW_LATER_DATE;
 use account::ROW_LATER_NEXT_FILE;
 use account::ROW_LATER_TIME;
 use account::ROW_NEXT_FILE;
+use account::ROW_WIRE_RANGE;
 use account::ROWS_FILE;
 use account::ROWS_LATER;
 use account::Step;
@@ -37,6 +40,7 @@ use account::TALLY_ELEMENTS_HERE;
 use account::TALLY_HERE;
 use account::TALLY_SYMBOL_RANGE;
 use account::TALLY_TIME;
+use account::TALLY_WIRE_RANGE;
 use account::TURN_DRAWING;
 use account::TURN_ELEMENT;
 use entries::Next;
@@ -61,15 +65,13 @@ ghost use Rattle.rules.specs.Rows.{act};
 ghost use Rattle.rules.specs.Blocks.{around};
 ghost use Rattle.tables.specs.Tables.{tableOf};
 ghost use Rattle.entries.specs.Names.{knownIn};
-ghost use Rattle.account.specs.FileLines.{fileTableOf, marksFrom, marksTo, partMarks, Header, keptName, keptFirst, keptLater, kept, datedAs, rangesTally, setTally, hereTally, firstTally, laterTally, FileClosed, FileReady, FileLine};
+ghost use Rattle.account.specs.FileLines.{fileTableOf, marksFrom, marksTo, partMarks, Header, keptName, keptFirst, keptLater, kept, keptWires, keptIn, datedAs, rangesTally, setTally, wiresTally, hereTally, firstTally, laterTally, FileClosed, FileReady, FileLine};
 ghost use Rattle.account.specs.Numbering.{tallyLength, headerLength};
 
-// FILE_FORMAT's inner blocks; the last is `sym`.
+// FILE_FORMAT's inner blocks, beside `elec`; the last is `sym`.
 const INNER_RANGE: u8 = 1;
 
 const INNER_BASE: u8 = 2;
-
-const INNER_ELEC: u8 = 3;
 
 // Where the marks of a part's rows begin and end: FILE_FORMAT's own, `range`, `base`, `elec`, `sym`.
 fn marks_from(part: u8) -> usize
@@ -188,6 +190,31 @@ fn keep(first: bool, row: u8, header: &mut [i64])
     keep_later(row, header);
 }
 
+// Of the inner parts, `elec` has such a row: E_wire.
+fn keep_wires(part: u8, row: u8, header: &mut [i64])
+    requires { ⌜ length (now header) ≡ headerLength ⌝ }
+    ensures { λ _. ⌜ now (header .exit) ≡ keptWires part row (now (header .entry)) ⌝ }
+{
+    if part != INNER_ELEC {
+        return;
+    }
+    if row != ROW_WIRE_RANGE {
+        return;
+    }
+    header[HEADER_WIRE_RANGE] = header[HEADER_LAST];
+}
+
+fn keep_in(first: bool, part: u8, row: u8, header: &mut [i64])
+    requires { ⌜ length (now header) ≡ headerLength ⌝ }
+    ensures { λ _. ⌜ now (header .exit) ≡ keptIn first part row (now (header .entry)) ⌝ }
+{
+    if part == INNER_NONE {
+        keep(first, row, header);
+        return;
+    }
+    keep_wires(part, row, header);
+}
+
 // "next_file names the next volume (a-z read as A-Z) and is empty in the last"
 fn names(c: &[u8], name: &[u8]) -> bool
     ensures { λ r. ⌜ r ≡ same (map capital (now (c .entry))) (now (name .entry)) ⌝ }
@@ -205,7 +232,7 @@ fn names(c: &[u8], name: &[u8]) -> bool
     true
 }
 
-// What the first volume's header says of the set: the ranges; date, time and all_ele.
+// What the first volume's header says of the set: the ranges; date, time and all_ele; E_wire.
 fn ranges_tally(header: &[i64], tally: &mut [u32])
     requires { ⌜ Header (now header) × (length (now tally) ≡ tallyLength) ⌝ }
     ensures { λ _. ⌜ now (tally .exit) ≡ rangesTally (now (header .entry)) (now (tally .entry)) ⌝ }
@@ -224,6 +251,13 @@ fn set_tally(header: &[i64], tally: &mut [u32])
     tally[TALLY_ALL] = header[HEADER_ALL] as u32;
 }
 
+fn wires_tally(header: &[i64], tally: &mut [u32])
+    requires { ⌜ Header (now header) × (length (now tally) ≡ tallyLength) ⌝ }
+    ensures { λ _. ⌜ now (tally .exit) ≡ wiresTally (now (header .entry)) (now (tally .entry)) ⌝ }
+{
+    tally[TALLY_WIRE_RANGE] = header[HEADER_WIRE_RANGE] as u32;
+}
+
 // What a header says of its volume: this_ele, of which none is counted yet.
 fn here_tally(this: u32, tally: &mut [u32])
     requires { ⌜ length (now tally) ≡ tallyLength ⌝ }
@@ -240,6 +274,7 @@ fn first_tally(header: &[i64], tally: &mut [u32])
     ranges_tally(header, tally);
     set_tally(header, tally);
     here_tally(header[HEADER_HERE] as u32, tally);
+    wires_tally(header, tally);
 }
 
 fn later_tally(header: &[i64], tally: &mut [u32])
@@ -323,9 +358,7 @@ pub fn on_file(
         Next::Stay => Step::Go(here),
         Next::Entry(row) => {
             marks[from + row as usize] = true;
-            if here.part == INNER_NONE {
-                keep(first, row, header);
-            }
+            keep_in(first, here.part, row, header);
             Step::Go(here)
         }
         Next::Begin(inner) => {

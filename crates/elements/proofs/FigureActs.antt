@@ -1,12 +1,12 @@
 -- A line that opens a block; and a line among the figures, from what `act` promises to the line's own contract.
 use Prim.Native.Nat.{ℕ, _<_, _≤_}
-use mathlib.Core.Bool.{Bool, true, false, cond}
+use mathlib.Core.Bool.{Bool, true, false, cond, not}
 use mathlib.Core.List.{List, [], _∷_}
 use mathlib.Core.Path.{_≡_, refl, sym, _∙_, ap, subst}
 use native.Mathlib.Omega.{arith}
 use lib.Dec.{eqb, leb}
 use lib.IntN.{ℤ}
-use lib.ListN.{length, getD, take, replicate}
+use lib.ListN.{length, getD, take, replicate, length-replicate}
 use borrow.Author.Tests.{leb-true}
 use Rattle.rules.specs.declared.Digits.{Digits}
 use Rattle.rules.specs.Base.{all}
@@ -29,7 +29,7 @@ use Rattle.account.specs.declared.Where.{Where}
 use Rattle.account.specs.declared.Step.{Step}
 use Rattle.account.specs.declared.Step.the-variants as S
 use Rattle.account.specs.Account.{headAt}
-use Rattle.account.specs.FigureLines.{homeTable, homeRows, homeRule, lineKind, blockKind, moreFigures, figureOpened, figuresClosed, unmarkedIf, FigureLine}
+use Rattle.account.specs.FigureLines.{layerTableNumber, homeTable, homeRows, homeRule, lineKind, blockKind, moreFigures, blockTakes, figureOpened, figuresClosed, unmarkedIf, FigureLine}
 use Rattle.elements.proofs.BlocksActs.{told, row-of}
 
 -- ── a line that opens a block: its row, and what it holds ──
@@ -93,87 +93,106 @@ module _ (k : Known) (t : List Rule) where
   act-begun d full f i j v e = subst (Begins k t) e (act-begins d full f)
 
 -- ── the tables of figures ──
--- seven rows, of which none is ever full
-abbrev pub sevenFree : List Bool
-sevenFree = false ∷ false ∷ false ∷ false ∷ false ∷ false ∷ false ∷ []
+-- eight rows, of which none is ever full
+abbrev pub eightFree : List Bool
+eightFree = false ∷ false ∷ false ∷ false ∷ false ∷ false ∷ false ∷ false ∷ []
 
-home-free : (layered : Bool) → take (homeRows layered) sevenFree ≡ replicate (homeRows layered) false
-home-free true = refl
-home-free false = refl
-
-by-home : (P : ℕ → Type 0) → P 12 → P 11 → P 13 → (layered : Bool) (range : ℕ) → P (homeTable layered range)
-by-home P a b c true range = go (eqb range 1)
+home-free : (layered : Bool) (wires : ℕ) → take (homeRows layered wires) eightFree ≡ replicate (homeRows layered wires) false
+home-free true wires = go (eqb wires 0)
   where
-    go : (t : Bool) → P (cond t 12 11)
-    go true = a
-    go false = b
-by-home P a b c false range = c
-
-pub home-long : (layered : Bool) (range : ℕ) → length (replicate (homeRows layered) false) ≡ length (tableOf (homeTable layered range))
-unfolding tableOf layerTable figureTable
-home-long true range = go (eqb range 1)
-  where
-    go : (t : Bool) → 7 ≡ length (tableOf (cond t 12 11))
+    go : (none : Bool) → take (cond none 7 8) eightFree ≡ replicate (cond none 7 8) false
     go true = refl
     go false = refl
-home-long false range = refl
+home-free false wires = refl
 
-pub home-room : (layered : Bool) (range table n : ℕ) → table ≡ homeTable layered range → n ≡ 32 → all (roomy 0 n) (tableOf table) ≡ true
+by-home : (P : ℕ → Type 0) → P 11 → P 12 → P 21 → P 22 → P 13 → (layered : Bool) (range wires : ℕ) → P (homeTable layered range wires)
+by-home P a b c d e true range wires = go (not (eqb wires 0)) (eqb range 1)
+  where
+    go : (wired single : Bool) → P (layerTableNumber single wired)
+    go true true = d
+    go true false = c
+    go false true = b
+    go false false = a
+by-home P a b c d e false range wires = e
+
+pub home-long : (layered : Bool) (range wires : ℕ) → length (replicate (homeRows layered wires) false) ≡ length (tableOf (homeTable layered range wires))
 unfolding tableOf layerTable figureTable
-home-room layered range table n e h = rw (e, h) (by-home (λ t. all (roomy 0 32) (tableOf t) ≡ true) refl refl refl layered range)
+home-long true range wires = go (eqb wires 0) (eqb range 1)
+  where
+    go : (none single : Bool) → length (replicate (cond none 7 8) false) ≡ length (tableOf (layerTableNumber single (not none)))
+    go true true = refl
+    go true false = refl
+    go false true = refl
+    go false false = refl
+home-long false range wires = refl
 
-home-inner : (layered : Bool) (range : ℕ) → all (λ r. leb (innerOf (r .holds)) 3) (tableOf (homeTable layered range)) ≡ true
+pub home-room : (layered : Bool) (range wires table n : ℕ) → table ≡ homeTable layered range wires → n ≡ 32 → all (roomy 0 n) (tableOf table) ≡ true
 unfolding tableOf layerTable figureTable
-home-inner layered range = by-home (λ n. all (λ r. leb (innerOf (r .holds)) 3) (tableOf n) ≡ true) refl refl refl layered range
+home-room layered range wires table n e h = rw (e, h) (by-home (λ t. all (roomy 0 32) (tableOf t) ≡ true) refl refl refl refl refl layered range wires)
 
-rows-seven : (layered : Bool) → length (replicate (homeRows layered) false) ≤ 7
-rows-seven true = omega arith
-rows-seven false = omega arith
+home-inner : (layered : Bool) (range wires : ℕ) → all (λ r. leb (innerOf (r .holds)) 4) (tableOf (homeTable layered range wires)) ≡ true
+unfolding tableOf layerTable figureTable
+home-inner layered range wires = by-home (λ n. all (λ r. leb (innerOf (r .holds)) 4) (tableOf n) ≡ true) refl refl refl refl refl layered range wires
+
+rows-most : (layered : Bool) (wires : ℕ) → homeRows layered wires ≤ 8
+rows-most true wires = go (eqb wires 0)
+  where
+    go : (none : Bool) → cond none 7 8 ≤ 8
+    go true = omega arith
+    go false = omega arith
+rows-most false wires = omega arith
 
 -- as the code lends it
-pub home-rows-most : (layered : Bool) (m : ℕ) → m ≡ homeRows layered → m ≤ 7
-home-rows-most true m e = omega (arith, e)
-home-rows-most false m e = omega (arith, e)
+pub home-rows-most : (layered : Bool) (wires m : ℕ) → m ≡ homeRows layered wires → m ≤ 8
+home-rows-most layered wires m e = subst (λ (n : ℕ). n ≤ 8) (sym e) (rows-most layered wires)
 
-pub home-lent : (layered : Bool) (m : ℕ) → m ≡ homeRows layered → m ≡ length (take m sevenFree)
-home-lent true m e = rw e
-home-lent false m e = rw e
+pub home-lent : (layered : Bool) (wires m : ℕ) → m ≡ homeRows layered wires → m ≡ length (take m eightFree)
+home-lent layered wires m e =
+    e ∙ sym (length-replicate (homeRows layered wires) false) ∙ ap length (sym (home-free layered wires)) ∙ ap (λ (n : ℕ). length (take n eightFree)) (sym e)
 
-pub home-lent-long : (layered : Bool) (range t m : ℕ) → t ≡ homeTable layered range → m ≡ homeRows layered → length (take m sevenFree) ≡ length (tableOf t)
-home-lent-long layered range t m e h = rw (e, h, home-free layered) (home-long layered range)
+pub home-lent-long : (layered : Bool) (range wires t m : ℕ) → t ≡ homeTable layered range wires → m ≡ homeRows layered wires → length (take m eightFree) ≡ length (tableOf t)
+home-lent-long layered range wires t m e h = rw (e, h, home-free layered wires) (home-long layered range wires)
 
-pub home-acts : (layered : Bool) (range t m : ℕ) (d : Digits) (k : Known) (f : Form) (rec₀ rec₁ : List ℤ) (next : Next)
-    → t ≡ homeTable layered range → m ≡ homeRows layered → d ≡ digitsOf range → Acts (ruleAt (tableOf t)) 0 rec₀ (act k (tableOf t) d (take m sevenFree) f) rec₁ next
-    → Acts (homeRule layered range) 0 rec₀ (act k (tableOf (homeTable layered range)) (digitsOf range) (replicate (homeRows layered) false) f) rec₁ next
-home-acts layered range t m d k f rec₀ rec₁ next e h q x =
-    subst (λ (u : List Bool). Acted (homeTable layered range) (digitsOf range) u) (ap (λ (m : ℕ). take m sevenFree) h ∙ home-free layered)
-    (subst (λ (d : Digits). Acted (homeTable layered range) d (take m sevenFree)) q (subst (λ (t : ℕ). Acted t d (take m sevenFree)) e x))
+pub home-acts : (layered : Bool) (range wires t m : ℕ) (d : Digits) (k : Known) (f : Form) (rec₀ rec₁ : List ℤ) (next : Next)
+    → t ≡ homeTable layered range wires → m ≡ homeRows layered wires → d ≡ digitsOf range → Acts (ruleAt (tableOf t)) 0 rec₀ (act k (tableOf t) d (take m eightFree) f) rec₁ next
+    → Acts (homeRule layered range wires) 0 rec₀ (act k (tableOf (homeTable layered range wires)) (digitsOf range) (replicate (homeRows layered wires) false) f) rec₁ next
+home-acts layered range wires t m d k f rec₀ rec₁ next e h q x =
+    subst (λ (u : List Bool). Acted (homeTable layered range wires) (digitsOf range) u) (ap (λ (m : ℕ). take m eightFree) h ∙ home-free layered wires)
+    (subst (λ (d : Digits). Acted (homeTable layered range wires) d (take m eightFree)) q (subst (λ (t : ℕ). Acted t d (take m eightFree)) e x))
   where
     Acted : ℕ → Digits → List Bool → Type 0
     Acted t d u = Acts (ruleAt (tableOf t)) 0 rec₀ (act k (tableOf t) d u f) rec₁ next
 
-module _ (k : Known) (layered : Bool) (range : ℕ) (d : Digits) (full : List Bool) (f : Form) where
+module _ (k : Known) (layered : Bool) (range wires : ℕ) (d : Digits) (full : List Bool) (f : Form) where
   abbrev a : Act
-  a = act k (tableOf (homeTable layered range)) d full f
+  a = act k (tableOf (homeTable layered range wires)) d full f
 
-  pub entry-row : (j : ℕ) → N.Entry j ≡ nextOf a → j < 7
+  pub entry-row : (j : ℕ) → N.Entry j ≡ nextOf a → j < 8
   entry-row j e =
-      let w : j < length (tableOf (homeTable layered range)) = row-of k (tableOf (homeTable layered range)) d full f (N.Entry j) e in
-      omega (arith, w, home-long layered range, rows-seven layered)
+      let w : j < length (tableOf (homeTable layered range wires)) = row-of k (tableOf (homeTable layered range wires)) d full f (N.Entry j) e in
+      omega (arith, w, home-long layered range wires, length-replicate (homeRows layered wires) false, rows-most layered wires)
 
-  pub begin-block : (b : Inner) → N.Begin b ≡ nextOf a → b .block ≤ 3
+  pub begin-block : (b : Inner) → N.Begin b ≡ nextOf a → b .block ≤ 4
   begin-block b e =
       let (v, q) = told (N.Begin b) a e in
-      let w = act-begun k (tableOf (homeTable layered range)) d full f (b .block) (b .row) v q in
-      omega (arith, leb-true (innerOf (w .rule .holds)) 3 (row-all (λ r. leb (innerOf (r .holds)) 3) (w .row) (home-inner layered range)), w .inner)
+      let w = act-begun k (tableOf (homeTable layered range wires)) d full f (b .block) (b .row) v q in
+      omega (arith, leb-true (innerOf (w .rule .holds)) 4 (row-all (λ r. leb (innerOf (r .holds)) 4) (w .row) (home-inner layered range wires)), w .inner)
+
+-- ── the records of a figure that is a block ──
+pub takes-most : (i : ℕ) → blockTakes i ≤ 2
+takes-most i = go (eqb i 4)
+  where
+    go : (b : Bool) → cond b 2 1 ≤ 2
+    go true = omega arith
+    go false = omega arith
 
 -- ── the line ──
-module _ (n : Now) (range : ℕ) (at : Where) (rec₀ rec₁ : List ℤ) (m₀ i₀ : List Bool) where
+module _ (n : Now) (range wires : ℕ) (at : Where) (rec₀ rec₁ : List ℤ) (m₀ i₀ : List Bool) where
   abbrev Line : Act → List ℤ → List Bool → List Bool → Step → Type 0
-  Line a rec₂ m i r = FigureLine a n range at rec₀ rec₂ m₀ m i₀ i r
+  Line a rec₂ m i r = FigureLine a n range wires at rec₀ rec₂ m₀ m i₀ i r
 
   abbrev Put : Act → Type 0
-  Put a = Entered (homeRule (n .layered) range) 0 rec₀ a rec₁
+  Put a = Entered (homeRule (n .layered) range wires) 0 rec₀ a rec₁
 
   pub figures-stay : (a : Act) → N.Stay ≡ nextOf a → Put a → Line a rec₁ m₀ i₀ (S.Go n)
   figures-stay a e = subst (λ (a : Act). Put a → Line a rec₁ m₀ i₀ (S.Go n)) (sym (told N.Stay a e)) λ h. record { answer = refl; rec = h; marks = refl; inner = refl }

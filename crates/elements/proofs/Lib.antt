@@ -5,4 +5,5 @@ pub mod TextsLines
 pub mod FigureActs
 pub mod ElementActs
 pub mod KeyedLines
+pub mod WireActs
 pub mod Unique

@@ -7,6 +7,7 @@ use mathlib.Core.Path.{_≡_, sym, _∙_, ap}
 use lib.Dec.{eqb}
 use lib.IntN.{ℤ}
 use denote.Ref.{now}
+use Rattle.rules.specs.declared.Class.{Class}
 use Rattle.rules.specs.declared.Digits.{Digits}
 use Rattle.rules.specs.Lines.{Rest, Form, ignored, wrong, close, eof, keyed, formIn}
 use Rattle.rules.specs.RangeClass.{digitsOf, reaches, skipOf}
@@ -19,9 +20,11 @@ use Rattle.leaves.proofs.Unique.{One}
 use Rattle.account.specs.declared.Now.{Now}
 use Rattle.account.specs.declared.Skipped.{Skipped}
 use Rattle.account.specs.declared.Step.{Step}
+use Rattle.account.specs.declared.Where.{Where}
 use Rattle.account.specs.ElementLines.{tallied}
 use Rattle.account.specs.PlacedLines.{Lent, lent, ownNumber, placedStep, RowLine, FoundLine, KeyLine, OwnLine, PlacedLine}
 use Rattle.account.specs.SkippedLines.{skippedAs}
+use Rattle.account.specs.WireLines.{begunStep, begunPut, WireLine}
 use Rattle.elements.proofs.element.count_layer as count-layer′
 use Rattle.elements.proofs.element.on_elements as on-elements′
 use Rattle.elements.proofs.figures.on_figures as on-figures′
@@ -29,6 +32,8 @@ use Rattle.elements.proofs.placed.on_placed as on-placed′
 use Rattle.elements.proofs.points.on_chain as on-chain′
 use Rattle.elements.proofs.points.on_hide as on-hide′
 use Rattle.elements.proofs.texts.on_text as on-text′
+use Rattle.elements.proofs.wires.begin_wire as begin-wire′
+use Rattle.elements.proofs.wires.on_wire as on-wire′
 
 -- ── the tally ──
 pub count-layer-unique : (n : Now) (tally tally₁ tally₂ : List ℕ) → tally₁ ≡ tallied tally (n .figures) → tally₂ ≡ tallied tally (n .figures) → tally₁ ≡ tally₂
@@ -36,6 +41,16 @@ count-layer-unique n tally tally₁ tally₂ c₁ c₂ = c₁ ∙ sym c₂
 
 count-layer-code : One count-layer′.Kinds.ps count-layer′.Kinds.r count-layer′.Reads.Learnt (λ κs r e. now (e .1 .0))
 count-layer-code κs x r₁ r₂ e₁ e₂ = count-layer-unique (x .0) (now (x .1 .0)) (now (e₁ .1 .0)) (now (e₂ .1 .0))
+
+-- ── a wire begins ──
+pub begin-wire-unique : (c : Class) (at : Where) (did r₁ r₂ : Step) (t t₁ t₂ : List ℤ) → (r₁ ≡ begunStep c did) × (t₁ ≡ begunPut at did t) → (r₂ ≡ begunStep c did) × (t₂ ≡ begunPut at did t) → (r₁ ≡ r₂) × (t₁ ≡ t₂)
+begin-wire-unique c at did r₁ r₂ t t₁ t₂ c₁ c₂ = (c₁ .0 ∙ sym (c₂ .0), c₁ .1 ∙ sym (c₂ .1))
+
+begin-wire-answer : One begin-wire′.Kinds.ps begin-wire′.Kinds.r begin-wire′.Reads.Learnt (λ κs r e. r)
+begin-wire-answer κs x r₁ r₂ e₁ e₂ c₁ c₂ = c₁ .0 ∙ sym (c₂ .0)
+
+begin-wire-code : One begin-wire′.Kinds.ps begin-wire′.Kinds.r begin-wire′.Reads.Learnt (λ κs r e. now (e .1 .1 .1 .0))
+begin-wire-code κs x r₁ r₂ e₁ e₂ c₁ c₂ = c₁ .1 ∙ sym (c₂ .1)
 
 -- ── the lines of a block ──
 -- Their answers; of what is lent nothing is said after a refusal.
@@ -91,3 +106,15 @@ on-placed-answer κs x r₁ r₂ e₁ e₂ =
     placed-answer (knownIn (now (x .0)) (now (x .1 .0)) (now (x .1 .1 .0))) (x .1 .1 .1 .0) (digitsOf (x .1 .1 .1 .1 .0)) (x .1 .1 .1 .1 .1 .0)
     (lent (now (rest .0)) (now (rest .1 .0)) (now (rest .1 .1 .0)) (now (rest .1 .1 .1 .0)))
     _ _ (now (rest .1 .1 .1 .1 .0)) _ _ r₁ r₂ (eqb (x .1 .1 .1 .1 .1 .0 .part) 1) (formIn (now (x .0)) (x .1 .1 .1 .1 .1 .1 .0))
+
+-- a wire
+wire-answer : (known : Known) (range : ℕ) (n : Now) (at : Where) (t₀ t₁ t₂ : List ℤ) (r₁ r₂ : Step) (b : Bool) (f : Form)
+    → WireLine known range n at t₀ t₁ r₁ b f → WireLine known range n at t₀ t₂ r₂ b f → r₁ ≡ r₂
+wire-answer known range n at t₀ t₁ t₂ r₁ r₂ true f c₁ c₂ = c₁ .answer ∙ sym (c₂ .answer)
+wire-answer known range n at t₀ t₁ t₂ r₁ r₂ false f c₁ c₂ = c₁ .answer ∙ sym (c₂ .answer)
+
+on-wire-answer : One on-wire′.Kinds.ps on-wire′.Kinds.r on-wire′.Reads.Learnt (λ κs r e. r)
+on-wire-answer κs x r₁ r₂ e₁ e₂ =
+    let rest = x .1 .1 .1 in
+    wire-answer (knownIn (now (x .0)) (now (x .1 .0)) (now (x .1 .1 .0))) (rest .0) (rest .1 .0) (rest .1 .1 .1 .0) (now (rest .1 .1 .1 .1 .0)) _ _ r₁ r₂
+    (eqb (rest .1 .0 .part) 2) (formIn (now (x .0)) (rest .1 .1 .0))

@@ -5,3 +5,4 @@ pub mod placed;
 pub mod points;
 pub mod skip;
 pub mod texts;
+pub mod wires;

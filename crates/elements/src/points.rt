@@ -60,8 +60,8 @@ fn chain_point_kind(layered: bool) -> u8
     KIND_POINT_IN_SYMBOL
 }
 
-// One more point.
-fn more_points(now: Now) -> Now
+// One more point, or element of a wire.
+pub(crate) fn more_points(now: Now) -> Now
     requires { ⌜ (now .records < 18446744073709551615) × (now .points < 4294967295) ⌝ }
     ensures { λ r. ⌜ r ≡ morePoints now ⌝ }
 {

@@ -13,7 +13,7 @@ use lib.Seq.{sets, getD-set-same, getD-set-other, drop-drop}
 use Rattle.rules.specs.Base.{split, headOnto, isNil, within, indexOf}
 use Rattle.rules.specs.Numbers.{readCount, readFixed, isDay, isClock, readDecimal}
 use Rattle.rules.specs.RefusalNumbers.{Got, got, bad, unless, mapG, orBad, keep, consG, andThen}
-use Rattle.rules.specs.Values.{Num, num, natural, Known, Part, count, digit, typeDigits, range, rangeOfSymbols, day, clock, decimal, symbolName, layerId, readPart, readAll, nums, Value, Across, nothingMore, endsDiffer, arcOfCircle, axesOfEllipse, valueAt, agree, isLayerId, servedSymbols, inBound}
+use Rattle.rules.specs.Values.{Num, num, natural, Known, Part, count, digit, typeDigits, range, rangeOfSymbols, rangeOfWires, day, clock, decimal, symbolName, layerId, readPart, readAll, nums, Value, Across, nothingMore, endsDiffer, arcOfCircle, axesOfEllipse, valueAt, agree, isLayerId, servedSymbols, servedWires, inBound}
 use Rattle.rules.specs.RecordTable.{numbers}
 use Rattle.leaves.specs.Bytes.{upTo, past}
 use Rattle.leaves.proofs.Scan.{rest-all}
@@ -96,6 +96,7 @@ ten-part k (digit lo hi) s = ten-kept 11 (within lo hi) (readFixed 1 s) (omega a
 ten-part k typeDigits s = ten-or 10 (readFixed 4 s) (omega arith)
 ten-part k (range lo hi) s = ten-kept 12 (within lo hi) (readFixed 3 s) (omega arith)
 ten-part k rangeOfSymbols s = ten-kept 12 servedSymbols (readFixed 3 s) (omega arith)
+ten-part k rangeOfWires s = ten-kept 12 servedWires (readFixed 3 s) (omega arith)
 ten-part k day s = ten-kept 10 isDay (readFixed 8 s) (omega arith)
 ten-part k clock s = ten-kept 10 isClock (readFixed 6 s) (omega arith)
 ten-part k (decimal b) s = ten-decimal (inBound b) (readDecimal s)

@@ -1,21 +1,21 @@
 -- One value between commas: what the code tests of a number that was read, and the definition's reading of the form.
-use Prim.Native.Nat.{ℕ, suc, _+_, _<_, _≤_, zero-le}
+use Prim.Native.Nat.{ℕ, suc, _+_, _/_, _%_, _<_, _≤_, zero-le}
 use mathlib.Core.Path.{_≡_, refl, ap, _∙_}
-use mathlib.Core.Bool.{Bool, true, false, cond, _||_}
+use mathlib.Core.Bool.{Bool, true, false, cond, _&&_, _||_}
 use mathlib.Core.List.{List, [], _∷_}
 use mathlib.Core.Option.{Option, none, some}
 use native.Mathlib.Omega.{arith}
-use lib.Dec.{leb}
+use lib.Dec.{eqb, leb}
 use lib.IntN.{ℤ, pos}
 use lib.ListN.{length, take}
 use mir.Syntax.{w64}
 use mir.Val.{toZ}
-use borrow.Author.Tests.{le-leb, leb-true, lt-ltb, le-ltb}
+use borrow.Author.Tests.{eqb-true, le-leb, leb-true, lt-ltb, le-ltb}
 use Rattle.rules.specs.Base.{same, mapO, indexOf, within}
 use Rattle.rules.specs.RefusalNumbers.{Got, got, unless, mapG, orBad, keep}
 use Rattle.rules.specs.Numbers.{readCount, readFixed, isDay, isClock, readDecimal}
-use Rattle.rules.specs.Values.{num, natural, inBound, Known, readPart}
-use Rattle.rules.proofs.Chains.{and-right}
+use Rattle.rules.specs.Values.{num, natural, inBound, Known, readPart, mostJoinDigit, mostWireMiddle, mostWireLast, servedWires}
+use Rattle.rules.proofs.Chains.{and-left, and-right}
 use Rattle.leaves.specs.Readings.{countOf, readingOf, kept, readUpToEight, readDay, readClock}
 use Rattle.leaves.specs.declared.Count.{Count}
 use Rattle.leaves.specs.declared.Count.the-variants as C
@@ -38,6 +38,17 @@ use Rattle.entries.specs.declared.Index.the-variants as I
 -- ── a number that was read ──
 pub within-below : (lo hi n : ℕ) → within lo hi n ≡ true → n ≤ hi
 within-below lo hi n e = leb-true n hi (and-right (leb lo n) (leb n hi) e)
+
+-- E_wire has three digits
+pub wires-below : (n : ℕ) → servedWires n ≡ true → n < 1000
+wires-below n e = go (eqb n 0) refl e
+  where
+    behind : Bool
+    behind = leb (n / 10 % 10) mostWireMiddle && within 1 mostWireLast (n % 10)
+
+    go : (zero : Bool) → eqb n 0 ≡ zero → (zero || (leb (n / 100) mostJoinDigit && behind)) ≡ true → n < 1000
+    go true z h = let q = eqb-true n 0 z in omega (arith, q)
+    go false z h = let q = leb-true (n / 100) mostJoinDigit (and-left (leb (n / 100) mostJoinDigit) behind h) in omega (arith, q)
 
 module _ (p : ℕ → Bool) (m n : ℕ) (k : Count) (e : k ≡ C.Is n) where
   pub count-is : n < 100000000000 → p n ≡ true → Vs.Is (toZ w64 n) ≡ countVal p m k

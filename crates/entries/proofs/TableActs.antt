@@ -23,7 +23,7 @@ use Rattle.rules.specs.Values.{Known, Value, readKind}
 use Rattle.rules.specs.Rows.{Rule, Act, stay, entry, begin, shut, refuse, orRefuse, innerOf, readShape, shapeFor, fits, notTwice, actRow, actUnknown, actFound, Found, absent, found, find, present, complete}
 use Rattle.rules.specs.RecordTable.{ruleAt, columns}
 use Rattle.rules.specs.Blocks.{topTable, fileTable, rangeTable, baseTable, elecTable, symTable, laterTable, drawingTable, definesTable, symbolTable, elementTable}
-use Rattle.rules.specs.Figures.{layerTable, figureTable, pointTable, textTable, placedTable}
+use Rattle.rules.specs.Figures.{layerTable, figureTable, pointTable, textTable, placedTable, wireTable}
 use Rattle.rules.proofs.Chains.{and-left, and-right, or-true, by-cond, all-weaken}
 use Rattle.rules.proofs.Rows.{found-row, row-all, row-at, reaches-none}
 use Rattle.tables.specs.Tables.{tableOf}
@@ -35,9 +35,9 @@ use Rattle.entries.specs.declared.Next.{Next}
 use Rattle.entries.proofs.LineActs.{room-place, room-state, room-settled}
 
 -- ── a table by its number ──
-by-table : (P : ℕ → List Rule → Type 0) (n : ℕ) → P 0 topTable → P 1 fileTable → P 2 rangeTable → P 3 baseTable → P 4 elecTable → P 5 symTable → P 6 laterTable → P 7 drawingTable → P 8 definesTable → P 9 symbolTable → P 10 elementTable → P 11 (layerTable false) → P 12 (layerTable true) → P 13 figureTable → P 14 (pointTable true) → P 15 (pointTable false) → P 16 (textTable true 4 12) → P 17 (textTable false 4 12) → P 18 placedTable → P 19 (textTable true 16 24) → P n [] → P n (tableOf n)
+by-table : (P : ℕ → List Rule → Type 0) (n : ℕ) → P 0 topTable → P 1 fileTable → P 2 rangeTable → P 3 baseTable → P 4 elecTable → P 5 symTable → P 6 laterTable → P 7 drawingTable → P 8 definesTable → P 9 symbolTable → P 10 elementTable → P 11 (layerTable false false) → P 12 (layerTable true false) → P 13 figureTable → P 14 (pointTable true) → P 15 (pointTable false) → P 16 (textTable true 4 12) → P 17 (textTable false 4 12) → P 18 placedTable → P 19 (textTable true 16 24) → P 20 wireTable → P 21 (layerTable false true) → P 22 (layerTable true true) → P n [] → P n (tableOf n)
 unfolding tableOf
-by-table P n p0 p1 p2 p3 p4 p5 p6 p7 p8 p9 p10 p11 p12 p13 p14 p15 p16 p17 p18 p19 z =
+by-table P n p0 p1 p2 p3 p4 p5 p6 p7 p8 p9 p10 p11 p12 p13 p14 p15 p16 p17 p18 p19 p20 p21 p22 z =
     by-cond (P n) (eqb n 0) (λ e. subst (λ (m : ℕ). P m topTable) (sym (eqb-true n 0 e)) p0) λ _.
     by-cond (P n) (eqb n 1) (λ e. subst (λ (m : ℕ). P m fileTable) (sym (eqb-true n 1 e)) p1) λ _.
     by-cond (P n) (eqb n 2) (λ e. subst (λ (m : ℕ). P m rangeTable) (sym (eqb-true n 2 e)) p2) λ _.
@@ -49,15 +49,18 @@ by-table P n p0 p1 p2 p3 p4 p5 p6 p7 p8 p9 p10 p11 p12 p13 p14 p15 p16 p17 p18 p
     by-cond (P n) (eqb n 8) (λ e. subst (λ (m : ℕ). P m definesTable) (sym (eqb-true n 8 e)) p8) λ _.
     by-cond (P n) (eqb n 9) (λ e. subst (λ (m : ℕ). P m symbolTable) (sym (eqb-true n 9 e)) p9) λ _.
     by-cond (P n) (eqb n 10) (λ e. subst (λ (m : ℕ). P m elementTable) (sym (eqb-true n 10 e)) p10) λ _.
-    by-cond (P n) (eqb n 11) (λ e. subst (λ (m : ℕ). P m (layerTable false)) (sym (eqb-true n 11 e)) p11) λ _.
-    by-cond (P n) (eqb n 12) (λ e. subst (λ (m : ℕ). P m (layerTable true)) (sym (eqb-true n 12 e)) p12) λ _.
+    by-cond (P n) (eqb n 11) (λ e. subst (λ (m : ℕ). P m (layerTable false false)) (sym (eqb-true n 11 e)) p11) λ _.
+    by-cond (P n) (eqb n 12) (λ e. subst (λ (m : ℕ). P m (layerTable true false)) (sym (eqb-true n 12 e)) p12) λ _.
     by-cond (P n) (eqb n 13) (λ e. subst (λ (m : ℕ). P m figureTable) (sym (eqb-true n 13 e)) p13) λ _.
     by-cond (P n) (eqb n 14) (λ e. subst (λ (m : ℕ). P m (pointTable true)) (sym (eqb-true n 14 e)) p14) λ _.
     by-cond (P n) (eqb n 15) (λ e. subst (λ (m : ℕ). P m (pointTable false)) (sym (eqb-true n 15 e)) p15) λ _.
     by-cond (P n) (eqb n 16) (λ e. subst (λ (m : ℕ). P m (textTable true 4 12)) (sym (eqb-true n 16 e)) p16) λ _.
     by-cond (P n) (eqb n 17) (λ e. subst (λ (m : ℕ). P m (textTable false 4 12)) (sym (eqb-true n 17 e)) p17) λ _.
     by-cond (P n) (eqb n 18) (λ e. subst (λ (m : ℕ). P m placedTable) (sym (eqb-true n 18 e)) p18) λ _.
-    by-cond (P n) (eqb n 19) (λ e. subst (λ (m : ℕ). P m (textTable true 16 24)) (sym (eqb-true n 19 e)) p19) λ _. z
+    by-cond (P n) (eqb n 19) (λ e. subst (λ (m : ℕ). P m (textTable true 16 24)) (sym (eqb-true n 19 e)) p19) λ _.
+    by-cond (P n) (eqb n 20) (λ e. subst (λ (m : ℕ). P m wireTable) (sym (eqb-true n 20 e)) p20) λ _.
+    by-cond (P n) (eqb n 21) (λ e. subst (λ (m : ℕ). P m (layerTable false true)) (sym (eqb-true n 21 e)) p21) λ _.
+    by-cond (P n) (eqb n 22) (λ e. subst (λ (m : ℕ). P m (layerTable true true)) (sym (eqb-true n 22 e)) p22) λ _. z
 
 -- ── rows by number ──
 pub all-at : (q : Rule → Bool) (t : List Rule) (i : ℕ) → all q t ≡ true → i < length t → q (ruleAt t i) ≡ true
@@ -102,12 +105,12 @@ abbrev isOwn : ℕ → Bool
 isOwn n = needsNone n || (eqb n 2 || (eqb n 18 || (eqb n 7 || eqb n 9)))
 
 none-all : (n : ℕ) → (not (needsNone n) || all isOptional (tableOf n)) ≡ true
-unfolding topTable fileTable rangeTable baseTable elecTable symTable laterTable drawingTable definesTable symbolTable elementTable layerTable figureTable pointTable textTable placedTable
-none-all n = by-table (λ n t. (not (needsNone n) || all isOptional t) ≡ true) n refl refl refl refl refl refl refl refl refl refl refl refl refl refl refl refl refl refl refl refl (or-true (not (needsNone n)))
+unfolding topTable fileTable rangeTable baseTable elecTable symTable laterTable drawingTable definesTable symbolTable elementTable layerTable figureTable pointTable textTable placedTable wireTable
+none-all n = by-table (λ n t. (not (needsNone n) || all isOptional t) ≡ true) n refl refl refl refl refl refl refl refl refl refl refl refl refl refl refl refl refl refl refl refl refl refl refl (or-true (not (needsNone n)))
 
 plain-all : (n : ℕ) → (isOwn n || all isPlain (tableOf n)) ≡ true
-unfolding topTable fileTable rangeTable baseTable elecTable symTable laterTable drawingTable definesTable symbolTable elementTable layerTable figureTable pointTable textTable placedTable
-plain-all n = by-table (λ n t. (isOwn n || all isPlain t) ≡ true) n refl refl refl refl refl refl refl refl refl refl refl refl refl refl refl refl refl refl refl refl (or-true (isOwn n))
+unfolding topTable fileTable rangeTable baseTable elecTable symTable laterTable drawingTable definesTable symbolTable elementTable layerTable figureTable pointTable textTable placedTable wireTable
+plain-all n = by-table (λ n t. (isOwn n || all isPlain t) ≡ true) n refl refl refl refl refl refl refl refl refl refl refl refl refl refl refl refl refl refl refl refl refl refl refl (or-true (isOwn n))
 
 module _ (d : Digits) (i : ℕ) where
   pub none-wanted : (n : ℕ) → needsNone n ≡ true → i < length (tableOf n) → false ≡ wanted d (ruleAt (tableOf n) i)
@@ -290,15 +293,15 @@ room-more dump m n t h = all-weaken (roomy dump m) (roomy dump n) wider t
 
 -- the first FILE_FORMAT and its inner parts: two records, and two numbers behind them
 pub room-file : (n : ℕ) → all (roomy 64 66) (tableOf n) ≡ true
-unfolding topTable fileTable rangeTable baseTable elecTable symTable laterTable drawingTable definesTable symbolTable elementTable layerTable figureTable pointTable textTable placedTable
-room-file n = by-table (λ n t. all (roomy 64 66) t ≡ true) n refl refl refl refl refl refl refl refl refl refl refl refl refl refl refl refl refl refl refl refl refl
+unfolding topTable fileTable rangeTable baseTable elecTable symTable laterTable drawingTable definesTable symbolTable elementTable layerTable figureTable pointTable textTable placedTable wireTable
+room-file n = by-table (λ n t. all (roomy 64 66) t ≡ true) n refl refl refl refl refl refl refl refl refl refl refl refl refl refl refl refl refl refl refl refl refl refl refl refl
 
 -- one record, and two numbers behind it
 pub room-volume : (n : ℕ) → (eqb n 1 || all (roomy 32 34) (tableOf n)) ≡ true
-unfolding topTable fileTable rangeTable baseTable elecTable symTable laterTable drawingTable definesTable symbolTable elementTable layerTable figureTable pointTable textTable placedTable
-room-volume n = by-table (λ n t. (eqb n 1 || all (roomy 32 34) t) ≡ true) n refl refl refl refl refl refl refl refl refl refl refl refl refl refl refl refl refl refl refl refl (or-true (eqb n 1))
+unfolding topTable fileTable rangeTable baseTable elecTable symTable laterTable drawingTable definesTable symbolTable elementTable layerTable figureTable pointTable textTable placedTable wireTable
+room-volume n = by-table (λ n t. (eqb n 1 || all (roomy 32 34) t) ≡ true) n refl refl refl refl refl refl refl refl refl refl refl refl refl refl refl refl refl refl refl refl refl refl refl (or-true (eqb n 1))
 
 -- one record alone, where every row with numbers has its place
 pub room-record : (n : ℕ) → (within 1 6 n || (eqb n 10 || all (roomy 32 32) (tableOf n))) ≡ true
-unfolding topTable fileTable rangeTable baseTable elecTable symTable laterTable drawingTable definesTable symbolTable elementTable layerTable figureTable pointTable textTable placedTable
-room-record n = by-table (λ n t. (within 1 6 n || (eqb n 10 || all (roomy 32 32) t)) ≡ true) n refl refl refl refl refl refl refl refl refl refl refl refl refl refl refl refl refl refl refl refl (rw (or-true (eqb n 10)) (or-true (within 1 6 n)))
+unfolding topTable fileTable rangeTable baseTable elecTable symTable laterTable drawingTable definesTable symbolTable elementTable layerTable figureTable pointTable textTable placedTable wireTable
+room-record n = by-table (λ n t. (within 1 6 n || (eqb n 10 || all (roomy 32 32) t)) ≡ true) n refl refl refl refl refl refl refl refl refl refl refl refl refl refl refl refl refl refl refl refl refl refl refl (rw (or-true (eqb n 10)) (or-true (within 1 6 n)))

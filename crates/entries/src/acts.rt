@@ -20,9 +20,11 @@ use tables::TABLE_DRAWING;
 use tables::TABLE_ELEMENT;
 use tables::TABLE_PLACED;
 use tables::TABLE_RANGE;
+use tables::TABLE_SINGLE_WIRED_LAYER;
 use tables::TABLE_SYMBOL;
 use tables::TABLE_SYMBOL_POINTS;
 use tables::TABLE_TOP;
+use tables::TABLE_WIRE;
 use tables::lookup::row_of;
 ghost use mathlib.Core.Path.{_≡_};
 ghost use mathlib.Core.Bool.{true, false, cond};
@@ -37,7 +39,7 @@ ghost use Rattle.entries.specs.Names.{knownIn};
 ghost use Rattle.entries.specs.Shapes.{restIn};
 ghost use Rattle.entries.specs.Acts.{roomy, nextOf, Acts, wanted, needsNone};
 
-// Blocks that need not have any of their rows: those outside all blocks, of definitions, layers, figures and points.
+// Blocks that need not have any of their rows: those outside all blocks, of definitions, layers, figures, points and wires.
 fn needs_none(table: u8) -> bool
     ensures { λ r. ⌜ r ≡ needsNone table ⌝ }
 {
@@ -46,6 +48,9 @@ fn needs_none(table: u8) -> bool
     }
     if table == TABLE_DEFINES {
         return true;
+    }
+    if TABLE_WIRE <= table {
+        return table <= TABLE_SINGLE_WIRED_LAYER;
     }
     if TABLE_ELEMENT <= table {
         return table <= TABLE_SYMBOL_POINTS;

@@ -29,15 +29,23 @@ use tables::PART_RANGE_0_2;
 use tables::PART_RANGE_1;
 use tables::PART_SYMBOL_NAME;
 use tables::PART_SYMBOL_RANGE;
+use tables::PART_WIRE_RANGE;
 ghost use mathlib.Core.Path.{_≡_};
 ghost use mathlib.Core.List.{[]};
 ghost use Prim.Native.Nat.{_<_, _≤_};
 ghost use lib.ListN.{length};
 ghost use Rattle.rules.specs.Base.{within as inRange};
-ghost use Rattle.rules.specs.Values.{servedSymbols, inBound, layerId, readPart};
+ghost use Rattle.rules.specs.Values.{servedSymbols, servedWires, inBound, layerId, readPart};
 ghost use Rattle.tables.specs.Rows.{boundOf, wholeOf, partOf};
 ghost use Rattle.entries.specs.Names.{knownIn};
 ghost use Rattle.entries.specs.Parts.{valOf, countVal, readingVal, indexVal, PieceIs};
+
+// The most that the first, the middle and the last digit of E_wire may be. (They have the same names in the definitions' Values.)
+const MOST_JOIN_DIGIT: u64 = 4;
+
+const MOST_WIRE_MIDDLE: u64 = 0;
+
+const MOST_WIRE_LAST: u64 = 1;
 
 // A number within limits; beyond them it has a refusal of its own.
 fn limited(n: Count, lo: u64, hi: u64, otherwise: u8) -> Val
@@ -64,6 +72,34 @@ fn served(n: Count) -> Val
         return Val::Is(v as i64);
     }
     if within(11, 15, v) {
+        return Val::Is(v as i64);
+    }
+    Val::Bad(12)
+}
+
+// E_wire: 000, or each digit within its limits.
+fn is_wire_range(n: u64) -> bool
+    ensures { λ r. ⌜ r ≡ servedWires n ⌝ }
+{
+    if n == 0 {
+        return true;
+    }
+    if MOST_JOIN_DIGIT < n / 100 {
+        return false;
+    }
+    if MOST_WIRE_MIDDLE < n / 10 % 10 {
+        return false;
+    }
+    within(1, MOST_WIRE_LAST, n % 10)
+}
+
+fn served_wires(n: Count) -> Val
+    ensures { λ r. ⌜ r ≡ countVal servedWires 12 n ⌝ }
+{
+    let Count::Is(v) = n else {
+        return Val::Bad(10);
+    };
+    if is_wire_range(v) {
         return Val::Is(v as i64);
     }
     Val::Bad(12)
@@ -160,6 +196,9 @@ fn whole(code: u64, s: &[u8], symbols: &[u32], layers: &[u32], c: &[u8]) -> Val
     }
     if code == PART_LAYER_ID {
         return layer(s, layers, c);
+    }
+    if code == PART_WIRE_RANGE {
+        return served_wires(fixed(c, 3));
     }
     limited(fixed(c, 4), 0, 9999, 10)
 }

@@ -4,7 +4,7 @@ use mathlib.Core.Bool.{Bool, true, false, cond, _&&_, _||_}
 use mathlib.Core.List.{List, _++_, append-assoc}
 use mathlib.Core.Path.{_≡_, refl, sym, _∙_, ap, subst}
 use native.Mathlib.Omega.{arith}
-use borrow.Author.Tests.{lt-ltb, le-ltb, eq-eqb, ne-eqb}
+use borrow.Author.Tests.{lt-ltb, le-ltb, eq-eqb, ne-eqb, eqb-true}
 use lib.Dec.{eqb, ltb}
 use lib.IntN.{ℤ, pos}
 use lib.ListN.{length, getD, set, take, drop, replicate, length-drop}
@@ -12,6 +12,7 @@ use lib.Seq.{paste, paste-zero, paste-suc, take-paste, drop-paste, take-add, dro
 use mir.Syntax.{w64}
 use mir.Val.{SFits, toZ, ofZ}
 use mir.Facts.{toZ-ofZ}
+use Rattle.rules.proofs.Chains.{clash}
 use Rattle.account.specs.declared.Now.{Now}
 use Rattle.account.specs.declared.Step.{Step}
 use Rattle.account.specs.declared.Step.the-variants as S
@@ -20,7 +21,7 @@ use Rattle.account.specs.declared.Complete.the-variants as C
 use Rattle.account.specs.Records.{partAt, withPart}
 use Rattle.account.proofs.Headers.{header-number}
 use Rattle.account.proofs.Lent.{lent-part}
-use Rattle.account.specs.Putting.{withinLimit, lineCompleted, closeCompleted, completed, closeNumber, numberFor, putRecord, putHeader, putBy, clearedBy, ownAfter}
+use Rattle.account.specs.Putting.{withinLimit, linePlace, lineCompleted, closeCompleted, completed, closeNumber, numberFor, putRecord, putHeader, putWire, putBy, clearedBy, ownAfter}
 
 -- ── numbers moved ──
 -- behind the first n of them, m more
@@ -101,18 +102,27 @@ put-four number rec t t₁ t₂ t₃ t₄ h k e₁ e₂ e₃ e₄ =
     ∙ sym (ap (λ (b : Bool). cond b (withPart w rec t) t) (lt-ltb number (length t / 32) h))
 
 -- ── which record, and its number ──
+pub place-point : (block : ℕ) → block ≡ 9 → 64 ≡ linePlace block
+place-point block e = sym (rw (eq-eqb block 9 e) refl)
+
+pub place-element : (block : ℕ) → (block ≡ 9 → ⊥) → block ≡ 12 → 0 ≡ linePlace block
+place-element block h e = sym (rw (ne-eqb block 9 h, eq-eqb block 12 e) refl)
+
+pub place-own : (block : ℕ) → (block ≡ 9 → ⊥) → (block ≡ 12 → ⊥) → 32 ≡ linePlace block
+place-own block h e = sym (rw (ne-eqb block 9 h, ne-eqb block 12 e) refl)
+
 module _ (was is : Now) where
   pub line-none : was .records ≡ is .records → C.Nothing ≡ lineCompleted was is
   line-none e = sym (rw (eq-eqb (was .records) (is .records) e) refl)
 
-  pub line-point : (was .records ≡ is .records → ⊥) → was .block ≡ 9 → C.Record 64 ≡ lineCompleted was is
-  line-point h e = sym (rw (ne-eqb (was .records) (is .records) h, eq-eqb (was .block) 9 e) refl)
+  pub line-own : (was .records ≡ is .records → ⊥) → (place : ℕ) → place ≡ linePlace (was .block) → C.Record place ≡ lineCompleted was is
+  line-own h place e = ap C.Record e ∙ sym (ap (λ (b : Bool). cond b C.Nothing (C.Record (linePlace (was .block)))) (ne-eqb (was .records) (is .records) h))
 
-  pub line-own : (was .records ≡ is .records → ⊥) → (was .block ≡ 9 → ⊥) → C.Record 32 ≡ lineCompleted was is
-  line-own h e = sym (rw (ne-eqb (was .records) (is .records) h, ne-eqb (was .block) 9 e) refl)
+  pub close-wire : was .block ≡ 12 → C.Wire ≡ closeCompleted was is
+  close-wire e = sym (rw (lt-ltb 8 (was .block) (omega (arith, e)), eq-eqb (was .block) 12 e) refl)
 
-  pub close-figure : 8 < was .block → C.Record 32 ≡ closeCompleted was is
-  close-figure h = sym (rw (lt-ltb 8 (was .block) h) refl)
+  pub close-figure : (was .block ≡ 12 → ⊥) → 8 < was .block → C.Record 32 ≡ closeCompleted was is
+  close-figure b h = sym (rw (lt-ltb 8 (was .block) h, ne-eqb (was .block) 12 b) refl)
 
   module _ (h : was .block ≤ 8) where
     pub close-symbol : was .block ≡ 5 → is .block ≡ 4 → C.Record 0 ≡ closeCompleted was is
@@ -146,11 +156,14 @@ module _ (was is : Now) where
     pub number-chain : (r : ℕ) → r ≡ is .records - (was .points + 1) → was .block ≡ 9 → r ≡ closeNumber was is own
     number-chain r e b = e ∙ sym (rw (eq-eqb (was .block) 9 b) refl)
 
-    pub number-last : (r : ℕ) → r ≡ is .records - 1 → (was .block ≡ 9 → ⊥) → 9 < was .block → r ≡ closeNumber was is own
-    number-last r e b h = e ∙ sym (rw (ne-eqb (was .block) 9 b, lt-ltb 9 (was .block) h) refl)
+    pub number-wire : (r : ℕ) → r ≡ is .records - (was .points + 2) → (was .block ≡ 9 → ⊥) → was .block ≡ 12 → r ≡ closeNumber was is own
+    number-wire r e b h = e ∙ sym (rw (ne-eqb (was .block) 9 b, eq-eqb (was .block) 12 h) refl)
 
-    pub number-own : (was .block ≡ 9 → ⊥) → was .block ≤ 9 → own ≡ closeNumber was is own
-    number-own b h = sym (rw (ne-eqb (was .block) 9 b, le-ltb 9 (was .block) h) refl)
+    pub number-last : (r : ℕ) → r ≡ is .records - 1 → (was .block ≡ 9 → ⊥) → (was .block ≡ 12 → ⊥) → 9 < was .block → r ≡ closeNumber was is own
+    number-last r e b w h = e ∙ sym (rw (ne-eqb (was .block) 9 b, ne-eqb (was .block) 12 w, lt-ltb 9 (was .block) h) refl)
+
+    pub number-own : (was .block ≡ 9 → ⊥) → (was .block ≡ 12 → ⊥) → was .block ≤ 9 → own ≡ closeNumber was is own
+    number-own b w h = sym (rw (ne-eqb (was .block) 9 b, ne-eqb (was .block) 12 w, le-ltb 9 (was .block) h) refl)
 
     pub number-line : was .block ≡ is .block → was .records ≡ numberFor was is own
     number-line b = sym (ap (λ (x : Bool). cond x (was .records) (closeNumber was is own)) (eq-eqb (was .block) (is .block) b))
@@ -188,6 +201,7 @@ abbrev Inside : Complete → Type 0
 Inside C.Nothing = Unit {0}
 Inside (C.Record from) = from + 32 ≤ 96
 Inside C.Header = Unit {0}
+Inside C.Wire = Unit {0}
 
 inside-if : (b : Bool) (x y : Complete) → Inside x → Inside y → Inside (cond b x y)
 inside-if true x y p q = p
@@ -196,19 +210,67 @@ inside-if false x y p q = q
 inside-done : (was is : Now) → Inside (completed was is)
 inside-done was is =
     inside-if (eqb (was .block) (is .block)) _ _
-    (inside-if (eqb (was .records) (is .records)) C.Nothing _ tt (inside-place (eqb (was .block) 9)))
-    (inside-if (ltb 8 (was .block)) (C.Record 32) _ (omega arith)
+    (inside-if (eqb (was .records) (is .records)) C.Nothing _ tt (inside-place (eqb (was .block) 9) (eqb (was .block) 12)))
+    (inside-if (ltb 8 (was .block)) _ _ (inside-if (eqb (was .block) 12) C.Wire (C.Record 32) tt (omega arith))
     (inside-if (eqb (was .block) 5 && eqb (is .block) 4) (C.Record 0) _ (omega arith)
     (inside-if (eqb (was .block) 2 && eqb (is .block) 0) (C.Record 0) _ (omega arith)
     (inside-if (eqb (was .block) 1) C.Header C.Nothing tt tt))))
   where
-    inside-place : (b : Bool) → Inside (C.Record (cond b 64 32))
-    inside-place true = omega arith
-    inside-place false = omega arith
+    inside-place : (b w : Bool) → Inside (C.Record (cond b 64 (cond w 0 32)))
+    inside-place true w = omega arith
+    inside-place false true = omega arith
+    inside-place false false = omega arith
 
 -- the place that is told is one of its three
 pub told-inside : (was is : Now) (done : Complete) (from : ℕ) → done ≡ completed was is → done ≡ C.Record from → from + 32 ≤ 96
 told-inside was is done from e q = subst Inside (sym e ∙ q) (inside-done was is)
+
+-- ── a wire's two ──
+abbrev isWire : Complete → Bool
+isWire C.Nothing = false
+isWire (C.Record from) = false
+isWire C.Header = false
+isWire C.Wire = true
+
+module _ (was is : Now) where
+  -- a line that leaves its block open completes none
+  no-line : isWire (lineCompleted was is) ≡ false
+  no-line = by (eqb (was .records) (is .records)) (linePlace (was .block))
+    where
+      by : (b : Bool) (from : ℕ) → isWire (cond b C.Nothing (C.Record from)) ≡ false
+      by true from = refl
+      by false from = refl
+
+  -- nor one behind which the same block is open
+  left-behind : completed was is ≡ C.Wire → eqb (was .block) (is .block) ≡ false
+  left-behind q = by (eqb (was .block) (is .block)) refl (ap isWire q)
+    where
+      by : (b : Bool) → eqb (was .block) (is .block) ≡ b → isWire (cond b (lineCompleted was is) (closeCompleted was is)) ≡ true → eqb (was .block) (is .block) ≡ false
+      by true e h = clash h no-line
+      by false e h = e
+
+  wire-block : completed was is ≡ C.Wire → was .block ≡ 12
+  wire-block q =
+      let h : isWire (closeCompleted was is) ≡ true = sym (ap (λ (b : Bool). isWire (cond b (lineCompleted was is) (closeCompleted was is))) (left-behind q)) ∙ ap isWire q in
+      eqb-true (was .block) 12 (by (ltb 8 (was .block)) (eqb (was .block) 12) (eqb (was .block) 5 && eqb (is .block) 4) (eqb (was .block) 2 && eqb (is .block) 0) (eqb (was .block) 1) h)
+    where
+      by : (figure wire symbol drawing file : Bool) → isWire (cond figure (cond wire C.Wire (C.Record 32)) (cond symbol (C.Record 0) (cond drawing (C.Record 0) (cond file C.Header C.Nothing)))) ≡ true
+          → wire ≡ true
+      by true true symbol drawing file h = refl
+      by true false symbol drawing file h = clash h refl
+      by false wire true drawing file h = clash h refl
+      by false wire false true file h = clash h refl
+      by false wire false false true h = clash h refl
+      by false wire false false false h = clash h refl
+
+  wire-number : (own : ℕ) → completed was is ≡ C.Wire → numberFor was is own ≡ is .records - (was .points + 2)
+  wire-number own q =
+      ap (λ (b : Bool). cond b (was .records) (closeNumber was is own)) (left-behind q)
+      ∙ ap (λ (i : ℕ). cond (eqb i 9) (is .records - (was .points + 1)) (cond (eqb i 12) (is .records - (was .points + 2)) (cond (ltb 9 i) (is .records - 1) own))) (wire-block q)
+
+  -- the second's number is one more
+  pub wire-fits : (own : ℕ) (done : Complete) → done ≡ completed was is → done ≡ C.Wire → (number : ℕ) → number ≡ numberFor was is own → is .records ≤ 18446744073709551615 → number < 18446744073709551615
+  wire-fits own done e q number n r = omega (arith, n ∙ wire-number own (sym e ∙ q), r)
 
 -- ── all of it ──
 module _ (first : Bool) (number : ℕ) (h t : List ℤ) where
@@ -218,9 +280,17 @@ module _ (first : Bool) (number : ℕ) (h t : List ℤ) where
   pub header-later : (t₁ : List ℤ) → t₁ ≡ putRecord number (partAt 0 h) t → first ≡ false → t₁ ≡ putHeader first number h t
   header-later t₁ e f = e ∙ sym (ap (λ (b : Bool). putHeader b number h t) f)
 
+module _ (number : ℕ) (s t : List ℤ) where
+  pub wire-put : (t₁ t₂ : List ℤ) → t₁ ≡ putRecord number (partAt 32 s) t → t₂ ≡ putRecord (number + 1) (partAt 64 s) t₁ → t₂ ≡ putWire number s t
+  wire-put t₁ t₂ e₁ e₂ = e₂ ∙ ap (putRecord (number + 1) (partAt 64 s)) e₁
+
 -- s₁, t₁: the scratch and the table on return
 abbrev Put : Complete → Bool → ℕ → List ℤ → List ℤ → List ℤ → List ℤ → List ℤ → Type 0
 Put done first number h s t s₁ t₁ = (s₁ ≡ clearedBy done s) × (t₁ ≡ putBy done first number h s t)
+
+-- a part that is lent and comes back
+abbrev lentPart : ℕ → List ℤ → List ℤ → List ℤ
+lentPart n u s = take n s ++ (u ++ drop 32 (drop n s))
 
 module _ (first : Bool) (was is : Now) (own : ℕ) (h s t : List ℤ) (done : Complete) (e : done ≡ completed was is) where
   pub done-nothing : done ≡ C.Nothing → Put (completed was is) first (numberFor was is own) h s t s t
@@ -241,3 +311,13 @@ module _ (first : Bool) (was is : Now) (own : ℕ) (h s t : List ℤ) (done : Co
   done-header q t₁ g =
       let kept : own ≡ numberFor was is own = sym (header-number was is own (sym e ∙ q)) in
       subst (λ (y : Complete). Put y first (numberFor was is own) h s t s t₁) (sym q ∙ e) (refl, g ∙ ap (λ (i : ℕ). putHeader first i h t) kept)
+
+  -- both parts, as the code lends them one after the other
+  pub done-wire : done ≡ C.Wire → (number : ℕ) → number ≡ numberFor was is own → (t₁ : List ℤ) → t₁ ≡ putWire number s t → (u v : List ℤ) → u ≡ replicate 32 (pos 0) → v ≡ replicate 32 (pos 0)
+      → Put (completed was is) first (numberFor was is own) h s t (lentPart 64 v (lentPart 32 u s)) t₁
+  done-wire q number p t₁ g u v f k =
+      subst (λ (y : Complete). Put y first (numberFor was is own) h s t (lentPart 64 v (lentPart 32 u s)) t₁) (sym q ∙ e) (
+        lent-part 64 32 (lentPart 32 u s) v refl ∙ ap (withPart 64 v) (lent-part 32 32 s u refl)
+            ∙ ap (λ (y : List ℤ). withPart 64 y (withPart 32 u s)) k ∙ ap (λ (y : List ℤ). withPart 64 (replicate 32 (pos 0)) (withPart 32 y s)) f,
+        g ∙ ap (λ (i : ℕ). putWire i s t) p,
+      )

@@ -7,6 +7,7 @@ use account::BLOCK_FIGURES;
 use account::BLOCK_FILE;
 use account::BLOCK_SYMBOL;
 use account::BLOCK_TOP;
+use account::BLOCK_WIRE;
 use account::Complete;
 use account::Now;
 use account::SCRATCH_LENGTH;
@@ -17,7 +18,7 @@ ghost use Prim.Native.Nat.{_+_, _*_, _-_, _≤_, _<_};
 ghost use lib.IntN.{pos};
 ghost use lib.ListN.{length, replicate, drop};
 ghost use lib.Seq.{paste};
-ghost use Rattle.account.specs.Putting.{withinLimit, lineCompleted, closeCompleted, completed, closeNumber, numberFor, putRecord, putHeader, putBy, clearedBy, ownAfter};
+ghost use Rattle.account.specs.Putting.{withinLimit, linePlace, lineCompleted, closeCompleted, completed, closeNumber, numberFor, putRecord, putHeader, putWire, putBy, clearedBy, ownAfter};
 ghost use Rattle.account.specs.Numbering.{headerLength, scratchLength};
 ghost use Rattle.rules.specs.RecordTable.{width};
 
@@ -37,6 +38,19 @@ pub fn within(limit: usize, did: Step) -> Step
     }
 }
 
+// Where a line's own record stands on the scratch: a point's behind that of its `successive`, an element's before its wire's two.
+fn line_place(block: u8) -> usize
+    ensures { λ r. ⌜ r ≡ linePlace block ⌝ }
+{
+    if block == BLOCK_CHAIN {
+        return WIDTH + WIDTH;
+    }
+    if block == BLOCK_WIRE {
+        return 0;
+    }
+    WIDTH
+}
+
 // In the block that stays open: the record of the line, where it took one.
 fn line_completed(was: Now, is: Now) -> Complete
     ensures { λ r. ⌜ r ≡ lineCompleted was is ⌝ }
@@ -44,16 +58,16 @@ fn line_completed(was: Now, is: Now) -> Complete
     if was.records == is.records {
         return Complete::Nothing;
     }
-    if was.block == BLOCK_CHAIN {
-        return Complete::Record(WIDTH + WIDTH);
-    }
-    Complete::Record(WIDTH)
+    Complete::Record(line_place(was.block))
 }
 
 // Into another block: that of the block that closed, where it has one.
 fn close_completed(was: Now, is: Now) -> Complete
     ensures { λ r. ⌜ r ≡ closeCompleted was is ⌝ }
 {
+    if was.block == BLOCK_WIRE {
+        return Complete::Wire;
+    }
     if BLOCK_FIGURES < was.block {
         return Complete::Record(WIDTH);
     }
@@ -99,6 +113,9 @@ fn close_number(was: Now, is: Now, own: usize) -> usize
 {
     if was.block == BLOCK_CHAIN {
         return less_by(is.records, was.points as usize + 1);
+    }
+    if was.block == BLOCK_WIRE {
+        return less_by(is.records, was.points as usize + 2);
     }
     if BLOCK_CHAIN < was.block {
         return less_by(is.records, 1);
@@ -165,6 +182,15 @@ fn put_header(first: bool, header: &[i64], number: usize, t: &mut [i64])
     }
 }
 
+// A wire's two, which stand behind the first record of the scratch.
+fn put_wire(scratch: &[i64], number: usize, t: &mut [i64])
+    requires { ⌜ (length (now scratch) ≡ scratchLength) × (number < 18446744073709551615) ⌝ }
+    ensures { λ _. ⌜ now (t .exit) ≡ putWire number (now (scratch .entry)) (now (t .entry)) ⌝ }
+{
+    put_record(&scratch[WIDTH..WIDTH + WIDTH], number, t);
+    put_record(&scratch[WIDTH + WIDTH..SCRATCH_LENGTH], number + 1, t);
+}
+
 // Zeros in the place of a record.
 fn clear_record(rec: &mut [i64])
     requires { ⌜ length (now rec) ≡ width ⌝ }
@@ -198,6 +224,11 @@ pub fn put_done(
             clear_record(&mut scratch[from..to]);
         }
         Complete::Header => put_header(first, header, own, t),
+        Complete::Wire => {
+            put_wire(scratch, number_for(was, is, own), t);
+            clear_record(&mut scratch[WIDTH..WIDTH + WIDTH]);
+            clear_record(&mut scratch[WIDTH + WIDTH..SCRATCH_LENGTH]);
+        }
     }
 }
 

@@ -70,7 +70,7 @@ module _ (κs κs′ : Lfts 3) (x : Dens κs read′.Kinds.ps) (x′ : Dens κs�
   higher = read-call κs′ x′ r′ e′ c′
 
   pub lower-reads : (two : TwoCalls (readBy lower) (readBy higher)) → r′ ≡ 0
-      → (r ≡ 0) × (lower .count ≡ higher .count) × Accepts (readBy lower) (readBy higher) (two .low) (higher .count)
+      → (r ≡ 0) × (w : Accepts (readBy lower) (readBy higher) (two .low) (higher .count)) × (lower .count ≡ w .count)
   lower-reads two = lower-host-accepts lower higher two
 
   pub higher-reads : TwoCalls (readBy lower) (readBy higher) → 0 < r

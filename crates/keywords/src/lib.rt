@@ -17,11 +17,14 @@ use tables::TABLE_PLACED;
 use tables::TABLE_PLACED_TEXT;
 use tables::TABLE_RANGE;
 use tables::TABLE_SINGLE_LAYER;
+use tables::TABLE_SINGLE_WIRED_LAYER;
 use tables::TABLE_SYM;
 use tables::TABLE_SYMBOL;
 use tables::TABLE_SYMBOL_POINTS;
 use tables::TABLE_SYMBOL_TEXT;
 use tables::TABLE_TOP;
+use tables::TABLE_WIRE;
+use tables::TABLE_WIRED_LAYER;
 use tables::keys::AIR;
 use tables::keys::ALL_ELE;
 use tables::keys::ALL_LINE;
@@ -82,7 +85,7 @@ use tables::keys::VER;
 use tables::keys::WALL;
 ghost use mathlib.Core.Bool.{false, true};
 ghost use Rattle.rules.specs.Blocks.{topTable, fileTable, rangeTable, baseTable, elecTable, symTable, laterTable, drawingTable, definesTable, symbolTable, elementTable};
-ghost use Rattle.rules.specs.Figures.{layerTable, figureTable, pointTable, textTable, placedTable};
+ghost use Rattle.rules.specs.Figures.{layerTable, figureTable, pointTable, textTable, placedTable, wireTable};
 ghost use Rattle.leaves.specs.Writing.{Puts};
 ghost use Rattle.keywords.specs.Keys.{keyAt};
 ghost use Rattle.tables.specs.Tables.{tableOf};
@@ -322,7 +325,7 @@ fn element_key(row: u8, out: &mut [u8]) -> Wrote
 
 // The figures of a layer, and a placed symbol among them.
 fn layer_key(row: u8, out: &mut [u8]) -> Wrote
-    ensures { λ r. ⌜ Puts (keyAt (layerTable false) row) (now (out .entry)) (now (out .exit)) r ⌝ }
+    ensures { λ r. ⌜ Puts (keyAt (layerTable false false) row) (now (out .entry)) (now (out .exit)) r ⌝ }
 {
     if row == 0 {
         return put(&LINE, out);
@@ -421,6 +424,50 @@ fn placed_key(row: u8, out: &mut [u8]) -> Wrote
     Wrote::Bytes(0)
 }
 
+// A wire's block.
+fn wire_key(row: u8, out: &mut [u8]) -> Wrote
+    ensures { λ r. ⌜ Puts (keyAt wireTable row) (now (out .entry)) (now (out .exit)) r ⌝ }
+{
+    if row == 0 {
+        return put(&LINE, out);
+    }
+    if row == 1 {
+        return put(&CIRCLE, out);
+    }
+    Wrote::Bytes(0)
+}
+
+// The figures of a layer, and a placed symbol and a wire among them.
+fn wired_layer_key(row: u8, out: &mut [u8]) -> Wrote
+    ensures { λ r. ⌜ Puts (keyAt (layerTable false true) row) (now (out .entry)) (now (out .exit)) r ⌝ }
+{
+    if row == 0 {
+        return put(&LINE, out);
+    }
+    if row == 1 {
+        return put(&CIRCLE, out);
+    }
+    if row == 2 {
+        return put(&ELLIPSE, out);
+    }
+    if row == 3 {
+        return put(&POINT, out);
+    }
+    if row == 4 {
+        return put(&SUCCESSIVE, out);
+    }
+    if row == 5 {
+        return put(&TEXT, out);
+    }
+    if row == 6 {
+        return put(&E_SYMBOL, out);
+    }
+    if row == 7 {
+        return put(&E_WIRE, out);
+    }
+    Wrote::Bytes(0)
+}
+
 // The key of a table's row at the front of out, where it fits; what is no row has no key.
 pub fn put_key(table: u8, row: u8, out: &mut [u8]) -> Wrote
     ensures { λ r. ⌜ Puts (keyAt (tableOf table) row) (now (out .entry)) (now (out .exit)) r ⌝ }
@@ -484,6 +531,15 @@ pub fn put_key(table: u8, row: u8, out: &mut [u8]) -> Wrote
     }
     if table == TABLE_PLACED_TEXT {
         return lettering_key(row, out);
+    }
+    if table == TABLE_WIRE {
+        return wire_key(row, out);
+    }
+    if table == TABLE_WIRED_LAYER {
+        return wired_layer_key(row, out);
+    }
+    if table == TABLE_SINGLE_WIRED_LAYER {
+        return wired_layer_key(row, out);
     }
     Wrote::Bytes(0)
 }

@@ -93,6 +93,7 @@ module _ (spool : List ℕ) (first : Bool) (p : Pen) (ns before after : List ℕ
   done-text b e h w = record {
     figures = other 10 8 refl h;
     chain = other 10 9 refl h;
+    wire = other 10 12 refl h;
     text = λ _. subst (λ (x : ℕ). ShutsRows spool x p 8 ns before after d) e w;
     placed = other 10 11 refl h;
     placed-text = other 10 11 refl h;
@@ -110,6 +111,7 @@ module _ (spool : List ℕ) (first : Bool) (p : Pen) (ns before after : List ℕ
   done-drawing h w = record {
     figures = other 2 8 refl h;
     chain = other 2 9 refl h;
+    wire = other 2 12 refl h;
     text = other 2 10 refl h;
     placed = other 2 11 refl h;
     placed-text = other 2 11 refl h;
@@ -127,6 +129,7 @@ module _ (spool : List ℕ) (first : Bool) (p : Pen) (ns before after : List ℕ
   done-symbol h w = record {
     figures = other 5 8 refl h;
     chain = other 5 9 refl h;
+    wire = other 5 12 refl h;
     text = other 5 10 refl h;
     placed = other 5 11 refl h;
     placed-text = other 5 11 refl h;
@@ -148,6 +151,7 @@ module _ (spool : List ℕ) (first : Bool) (p : Pen) (ns before after : List ℕ
   done-placed h o w = record {
     figures = other 11 8 refl h;
     chain = other 11 9 refl h;
+    wire = other 11 12 refl h;
     text = other 11 10 refl h;
     placed = λ _ _. w;
     placed-text = λ _ i e. no-part i (rw h) o e;
@@ -165,6 +169,7 @@ module _ (spool : List ℕ) (first : Bool) (p : Pen) (ns before after : List ℕ
   done-file b e h o w = record {
     figures = other 1 8 refl h;
     chain = other 1 9 refl h;
+    wire = other 1 12 refl h;
     text = other 1 10 refl h;
     placed = other 1 11 refl h;
     placed-text = other 1 11 refl h;
@@ -186,6 +191,7 @@ module _ (spool : List ℕ) (first : Bool) (p : Pen) (ns before after : List ℕ
   done-placed-text h o w = record {
     figures = other 11 8 refl h;
     chain = other 11 9 refl h;
+    wire = other 11 12 refl h;
     text = other 11 10 refl h;
     placed = λ _ e. none-open o e;
     placed-text = λ _. w;
@@ -203,6 +209,7 @@ module _ (spool : List ℕ) (first : Bool) (p : Pen) (ns before after : List ℕ
   done-file-part h o w = record {
     figures = other 1 8 refl h;
     chain = other 1 9 refl h;
+    wire = other 1 12 refl h;
     text = other 1 10 refl h;
     placed = other 1 11 refl h;
     placed-text = other 1 11 refl h;
@@ -222,6 +229,7 @@ module _ (spool : List ℕ) (first : Bool) (p : Pen) (ns before after : List ℕ
   done-shut b e w x10 x11 x1 x2 x5 = record {
     figures = λ h. there _ (rw h);
     chain = λ h. there 8 (rw h);
+    wire = λ h. there 8 (rw h);
     text = λ h. absurd (x10 h);
     placed = λ h. absurd (x11 h);
     placed-text = λ h. absurd (x11 h);

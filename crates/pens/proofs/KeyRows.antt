@@ -105,7 +105,7 @@ line-kind row h =
 
 -- the block that a figure opens
 abbrev openedBlock : ℕ → ℕ
-openedBlock i = cond (eqb i 1) 9 (cond (eqb i 2) 10 11)
+openedBlock i = cond (eqb i 1) 9 (cond (eqb i 2) 10 (cond (eqb i 4) 12 11))
 
 pub line-block : (row : Row) → (row .kind ≡ 8 → ⊥) → _≡_ {A = ℕ} 8 (figureBlock (kindOf row) (innerOf (kindOf row)))
 line-block row h = sym (ap (λ (b : Bool). cond b (openedBlock (innerOf (kindOf row))) 8) (line-kind row h))

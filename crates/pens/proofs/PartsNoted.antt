@@ -41,7 +41,7 @@ pub record PartTable (b p : ℕ) : Type 0 where
   pub apart : differ (tableOf (partTable b p)) ≡ true
   pub many : rowsIn (partTable b p) ≡ length (rowsOf b p)
   pub inward : all (λ r. ltb (innerOf (r .holds)) (length (tablesOf b))) (rowsOf b p) ≡ true
-  pub known : eqb (partTable b p) 20 ≡ false
+  pub known : eqb (partTable b p) 255 ≡ false
 
 file-part : (p : ℕ) → p < 5 → PartTable 1 p
 unfolding tableOf fileTable rangeTable baseTable elecTable symTable
@@ -165,10 +165,10 @@ module _ (k : Known) (b : ℕ) (h : Held) where
 -- ── the code's steps ──
 module _ (spool : List ℕ) (b : ℕ) (ns : List ℕ) where
   -- an inner part
-  pub part-none : (depth inner : ℕ) (before : List ℕ) → inner ≡ 20 → PrintsPart spool depth b inner ns before before (W.Bytes 0)
-  part-none depth inner before e = (λ _. prints-none before, λ n k h p z l t. absurd (eqb-false (partTable b p) 20 (part-table b p n l .known) (sym t ∙ e)))
+  pub part-none : (depth inner : ℕ) (before : List ℕ) → inner ≡ 255 → PrintsPart spool depth b inner ns before before (W.Bytes 0)
+  part-none depth inner before e = (λ _. prints-none before, λ n k h p z l t. absurd (eqb-false (partTable b p) 255 (part-table b p n l .known) (sym t ∙ e)))
 
-  module _ (depth inner : ℕ) (there : inner ≡ 20 → ⊥) (before x : List ℕ) where
+  module _ (depth inner : ℕ) (there : inner ≡ 255 → ⊥) (before x : List ℕ) where
     pub part-full : PrintsRows spool depth b inner 0 ns before x W.Full → PrintsPart spool depth b inner ns before x W.Full
     part-full f = (
       λ e. absurd (there e),
@@ -220,7 +220,7 @@ module _ (spool : List ℕ) (b : ℕ) (ns : List ℕ) where
           go none e = g .0 e
           go (some v) e = by (opensBlock (q .holds) v) e
             where
-              by : (t : Bool) → inner ≡ cond t (partTable b (innerOf (q .holds))) 20 → Prints (cond t (lineBytes (rowsFrom k b h depth (innerOf (q .holds)) 0) ++ shutBytes) []) lent after r
+              by : (t : Bool) → inner ≡ cond t (partTable b (innerOf (q .holds))) 255 → Prints (cond t (lineBytes (rowsFrom k b h depth (innerOf (q .holds)) 0) ++ shutBytes) []) lent after r
               by true e = g .1 n k h (innerOf (q .holds)) z (inner-below b p (part-table b p n l) j m) e
               by false e = g .0 e
 

@@ -189,7 +189,7 @@ module _ (spool : List ℕ) (table number note : ℕ) (before : List ℕ) where
   noted-none e k q none w z = prints-none before
   noted-none e k q (some v) w z = absurd (omega (arith, e, z .0))
 
-  pub inner-none : (base : ℕ) → note ≡ 0 → TellsInner spool base table number note before before 20
+  pub inner-none : (base : ℕ) → note ≡ 0 → TellsInner spool base table number note before before 255
   inner-none base e k q none w z = (spared-same [] before, λ _. refl)
   inner-none base e k q (some v) w z = absurd (omega (arith, e, z .0))
 
@@ -213,7 +213,7 @@ module _ (spool : List ℕ) (table number note : ℕ) (before : List ℕ) where
               room (length (q .key)) (length before) (λ l. absurd (no-room q w l))
               (λ l. prints-full (rowBytes k q (some v)) before mid (omega (arith, l, line-long k q v)))
 
-      pub inner-absent : (base : ℕ) → TellsInner spool base table number note before mid 20
+      pub inner-absent : (base : ℕ) → TellsInner spool base table number note before mid 255
       inner-absent base k q none w z = absurd (there z)
       inner-absent base k q (some v) w z = (mid-spared k q v w, λ l. absurd (no-room q w (omega (arith, l, line-long k q v))))
 
@@ -248,7 +248,7 @@ module _ (spool : List ℕ) (table number note : ℕ) (before : List ℕ) where
         opens-is : (k : Known) (q : Rule) (v : Value) → IsRow table number q row → Reads k q (restOf spool (q .holds) note) v → b ≡ opensBlock (q .holds) v
         opens-is k q v x z = o k q v (x .rule) (reads-so k q v x z)
 
-        pub inner-shut : b ≡ false → TellsInner spool base table number note before mid 20
+        pub inner-shut : b ≡ false → TellsInner spool base table number note before mid 255
         inner-shut s k q none w z = absurd (there z)
         inner-shut s k q (some v) w z = (
           mid-spared k q v w,
@@ -264,5 +264,5 @@ module _ (spool : List ℕ) (table number note : ℕ) (before : List ℕ) where
               let does : opensBlock (q .holds) v ≡ true = sym (opens-is k q v x (z .1)) ∙ s in
               let holds : kindOf row ≡ q .holds = ap (λ (u : Rule). u .holds) (x .rule) in
               let inner : innerOf (q .holds) ≡ row .inner = ap innerOf (sym holds) ∙ inner-is row v (ap (λ (d : Kind). opensBlock d v) holds ∙ does) in
-              g ∙ ap (partTable base) (sym inner) ∙ sym (ap (λ (u : Bool). cond u (partTable base (innerOf (q .holds))) 20) does),
+              g ∙ ap (partTable base) (sym inner) ∙ sym (ap (λ (u : Bool). cond u (partTable base (innerOf (q .holds))) 255) does),
         )

@@ -12,10 +12,10 @@ use Rattle.rules.specs.Base.{bytes, all}
 use Rattle.rules.specs.Values.{Value, nums, Known, charsOf}
 use Rattle.rules.specs.Rows.{Rule, Slots, Held, partOf}
 use Rattle.rules.specs.Blocks.{drawingTable, symbolTable}
-use Rattle.rules.specs.Figures.{figureTable, pointTable, textTable, placedTables}
-use Rattle.rules.specs.Sets.{Point, Figure, plain, chain, lettering, placed, Layer, Drawing, Symbol, LayerBlock}
+use Rattle.rules.specs.Figures.{figureTable, pointTable, textTable, placedTables, wireTable}
+use Rattle.rules.specs.Sets.{Point, Edge, Figure, plain, chain, lettering, placed, wired, passed, Layer, Drawing, Symbol, LayerBlock}
 use Rattle.rules.specs.RecordTable.{ruleAt}
-use Rattle.rules.specs.FixedForm.{Text, openLine, opensBlock, innerOf, lineOf, showValue, showSlot, showSlots, noInner, showInner, showHeld, block, showPoints, showFigure, showFigures, showLayers, showDrawing, symbolInner, exchanged, showSymbol, showSymbols, showDefines, showBlocks}
+use Rattle.rules.specs.FixedForm.{Text, openLine, opensBlock, innerOf, lineOf, showValue, showSlot, showSlots, noInner, showInner, showHeld, block, showPoints, showEdges, showFigure, showFigures, showLayers, showDrawing, symbolInner, exchanged, showSymbol, showSymbols, showDefines, showBlocks}
 use Rattle.rules.proofs.Chains.{and-left, and-right}
 use Rattle.promises.proofs.Weights.{innerCost, inner-open}
 use Rattle.pens.specs.Noting.{showDepth}
@@ -109,12 +109,26 @@ module _ (k : Known) where
   pub points-last : (b : Bool) (ps : List Point) (p : Point) → showPoints k b (ps ++ p ∷ []) [] ≡ showPoints k b ps [] ++ lineOf k (ruleAt (pointTable b) 0) (nums (p .values)) ∷ []
   points-last b ps p = points-snoc b ps p [] ∙ points-more b ps (showPoints k b (p ∷ []) [])
 
+  -- ── a wire's lines and arcs ──
+  pub edges-more : (es : List Edge) → Before (showEdges k es)
+  edges-more [] ls = refl
+  edges-more (e ∷ es) ls = ap (λ (u : Text). lineOf k (ruleAt wireTable (e .row)) (nums (e .values)) ∷ u) (edges-more es ls)
+
+  pub edges-snoc : (es : List Edge) (e : Edge) (ls : Text) → showEdges k (es ++ e ∷ []) ls ≡ showEdges k es (showEdges k (e ∷ []) ls)
+  edges-snoc [] e ls = refl
+  edges-snoc (f ∷ es) e ls = ap (λ (u : Text). lineOf k (ruleAt wireTable (f .row)) (nums (f .values)) ∷ u) (edges-snoc es e ls)
+
+  pub edges-last : (es : List Edge) (e : Edge) → showEdges k (es ++ e ∷ []) [] ≡ showEdges k es [] ++ lineOf k (ruleAt wireTable (e .row)) (nums (e .values)) ∷ []
+  edges-last es e = edges-snoc es e [] ∙ edges-more es (showEdges k (e ∷ []) [])
+
   -- ── figures ──
   pub figure-more : (b : Bool) (t : List Rule) (f : Figure) → Before (showFigure k b t f)
   figure-more b t (plain n j v) ls = refl
   figure-more b t (chain n ps) ls = block-more (bytes "successive") (showPoints k b ps) (points-more b ps) ls
   figure-more b t (lettering n s) ls = block-more (bytes "text") (showSlots k (textTable b 4 12) s noInner) (slots-more noInner none-more (textTable b 4 12) s) ls
   figure-more b t (placed n h) ls = block-more (bytes "E_symbol") (showHeld k placedTables h) (held-more placedTables h) ls
+  figure-more b t (wired n w) ls = block-more (bytes "E_wire") (showEdges k (w .elements)) (edges-more (w .elements)) ls
+  figure-more b t (passed n) ls = refl
 
   pub figures-more : (b : Bool) (t : List Rule) (fs : List Figure) → Before (showFigures k b t fs)
   figures-more b t [] ls = refl

@@ -20,7 +20,7 @@ use Rattle.pens.specs.Moves.{moved}
 use Rattle.pens.specs.Noting.{Noted, NotedRows, tablesOf, NotedParts, showDepth}
 use Rattle.tables.specs.Numbering.{tableFile, tableLater, tableLayerText, tableSymbolText, tablePlaced}
 use Rattle.account.specs.Numbering.{blockTop, blockFile, blockDrawing, blockLayerNames, blockDefines, blockSymbol, blockHide, blockElements, blockFigures}
-use Rattle.account.specs.Numbering.{blockChain, blockText, blockPlaced}
+use Rattle.account.specs.Numbering.{blockChain, blockText, blockPlaced, blockWire}
 
 abbrev pub shutBytes : List ℕ
 shutBytes = ended (bytes "}")
@@ -65,7 +65,9 @@ ShutsSymbol spool p ns before after d =
 abbrev pub aroundBlock : Pen → ℕ
 aroundBlock p =
     cond (eqb (p .block) blockFigures) (cond (p .layered) blockElements blockSymbol)
-    (cond (eqb (p .block) blockChain) blockFigures (cond (eqb (p .block) blockLayerNames) blockDrawing (cond (eqb (p .block) blockHide) blockSymbol blockTop)))
+    (cond (eqb (p .block) blockChain) blockFigures
+    (cond (eqb (p .block) blockWire) blockFigures
+    (cond (eqb (p .block) blockLayerNames) blockDrawing (cond (eqb (p .block) blockHide) blockSymbol blockTop))))
 
 -- an inner part of FILE_FORMAT or of a placed symbol is open
 abbrev pub inPart : Pen → Bool
@@ -78,6 +80,7 @@ partClosed p = cond (eqb (p .block) blockFile) (moved p 0 blockFile (around (p .
 pub record CloseDone (spool : List ℕ) (first : Bool) (p : Pen) (ns before after : List ℕ) (d : Drawn) : Type 0 where
   pub figures : p .block ≡ blockFigures → Shuts p (cond (p .layered) blockElements blockSymbol) before after d
   pub chain : p .block ≡ blockChain → Shuts p blockFigures before after d
+  pub wire : p .block ≡ blockWire → Shuts p blockFigures before after d
   pub text : p .block ≡ blockText → ShutsRows spool (cond (p .layered) tableLayerText tableSymbolText) p blockFigures ns before after d
   pub placed : p .block ≡ blockPlaced → p .part ≡ 0 → ShutsRows spool tablePlaced p blockFigures ns before after d
   pub placed-text : p .block ≡ blockPlaced → (i : ℕ) → p .part ≡ suc i → ShutsPart p blockPlaced 0 before after d

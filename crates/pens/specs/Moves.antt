@@ -5,10 +5,10 @@ use lib.Dec.{eqb}
 use Rattle.rules.specs.Values.{Kind, values, text, word, volumeName, sheet, ratio, serials, nothing, opens, headed, either}
 use Rattle.pens.specs.declared.Pen.{Pen}
 use Rattle.tables.specs.Numbering.{tableTop, tableFile, tableRange, tableBase, tableElec, tableSym, tableLater, tableDrawing, tableDefines, tableSymbol}
-use Rattle.tables.specs.Numbering.{tableElement, tableLayer, tableSingleLayer, tableFigures, tableLayerPoints, tableSymbolPoints, tableLayerText}
-use Rattle.tables.specs.Numbering.{tableSymbolText, tablePlaced, tablePlacedText}
+use Rattle.tables.specs.Numbering.{tableElement, tableFigures, tableLayerPoints, tableSymbolPoints, tableLayerText, tableSymbolText, tablePlaced}
+use Rattle.tables.specs.Numbering.{tablePlacedText, tableWire, tableWiredLayer, tableSingleWiredLayer}
 use Rattle.account.specs.Numbering.{blockTop, blockFile, blockDrawing, blockLayerNames, blockDefines, blockSymbol, blockHide, blockElements, blockFigures}
-use Rattle.account.specs.Numbering.{blockChain, blockText, blockPlaced}
+use Rattle.account.specs.Numbering.{blockChain, blockText, blockPlaced, blockWire, innerWire}
 
 -- n more bytes, and another block is open
 abbrev pub moved : Pen → ℕ → ℕ → ℕ → Pen
@@ -68,9 +68,10 @@ definesPen p j n = cond (eqb j 0) (moved p n blockDefines 0) (begun p n blockSym
 abbrev pub symbolPen : Pen → ℕ → ℕ → Pen
 symbolPen p j n = cond (eqb j 1) (amongFigures p n false) (cond (eqb j 2) (moved p n blockHide 0) p)
 
--- a figure that is a block, by its number in the table: `successive`, text, a placed symbol
+-- a figure that is a block, by its number in the table: `successive`, text, a wire, a placed symbol
 abbrev pub figureBlock : Kind → ℕ → ℕ
-figureBlock d inner = cond (isOpener d) (cond (eqb inner 1) blockChain (cond (eqb inner 2) blockText blockPlaced)) blockFigures
+figureBlock d inner =
+    cond (isOpener d) (cond (eqb inner 1) blockChain (cond (eqb inner 2) blockText (cond (eqb inner innerWire) blockWire blockPlaced))) blockFigures
 
 abbrev pub placedPen : Pen → Kind → Pen
 placedPen p d = cond (isOpener d) (moved p 0 blockPlaced 1) p
@@ -80,6 +81,7 @@ abbrev pub keyPen : Pen → ℕ → Kind → Bool → ℕ → ℕ → Pen
 keyPen p j d opened inner n =
     cond (eqb (p .block) blockFigures) (moved p n (figureBlock d inner) 0)
     (cond (eqb (p .block) blockChain) (moved p n blockChain 0)
+    (cond (eqb (p .block) blockWire) (moved p n blockWire 0)
     (cond (eqb (p .block) blockText) p
     (cond (eqb (p .block) blockPlaced) (placedPen p d)
     (cond (eqb (p .block) blockTop) (topPen p j n)
@@ -88,7 +90,7 @@ keyPen p j d opened inner n =
     (cond (eqb (p .block) blockDefines) (definesPen p j n)
     (cond (eqb (p .block) blockSymbol) (symbolPen p j n)
     (cond (eqb (p .block) blockHide) (moved p n blockHide 0)
-    (amongFigures p n true))))))))))
+    (amongFigures p n true)))))))))))
 
 -- ── tables ──
 -- of FILE_FORMAT's part
@@ -97,15 +99,17 @@ fileTableOf first part =
     cond first
     (cond (eqb part 0) tableFile (cond (eqb part 1) tableRange (cond (eqb part 2) tableBase (cond (eqb part 3) tableElec tableSym)))) tableLater
 
--- of the figures in a layer: a placed symbol is a block there, or one line
+-- of the figures in a layer: a placed symbol is a block there, or one line. Wires may stand there: where E_wire is 000 none does in a set that
+-- was accepted, and the other rows are the same.
 abbrev pub figureTableOf : Bool → Bool → ℕ
-figureTableOf layered brace = cond layered (cond brace tableLayer tableSingleLayer) tableFigures
+figureTableOf layered brace = cond layered (cond brace tableWiredLayer tableSingleWiredLayer) tableFigures
 
 -- of the block that is open; brace: the line has `:{` behind its key
 abbrev pub tableFor : Bool → Pen → Bool → ℕ
 tableFor first p brace =
     cond (eqb (p .block) blockFigures) (figureTableOf (p .layered) brace)
     (cond (eqb (p .block) blockChain) (cond (p .layered) tableLayerPoints tableSymbolPoints)
+    (cond (eqb (p .block) blockWire) tableWire
     (cond (eqb (p .block) blockText) (cond (p .layered) tableLayerText tableSymbolText)
     (cond (eqb (p .block) blockPlaced) (cond (eqb (p .part) 0) tablePlaced tablePlacedText)
     (cond (eqb (p .block) blockTop) tableTop
@@ -113,4 +117,4 @@ tableFor first p brace =
     (cond (eqb (p .block) blockDrawing) tableDrawing
     (cond (eqb (p .block) blockDefines) tableDefines
     (cond (eqb (p .block) blockSymbol) tableSymbol
-    (cond (eqb (p .block) blockHide) tableSymbolPoints tableElement)))))))))
+    (cond (eqb (p .block) blockHide) tableSymbolPoints tableElement))))))))))

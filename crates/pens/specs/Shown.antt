@@ -12,8 +12,9 @@ use Rattle.rules.specs.Blocks.{fileTables}
 use Rattle.rules.specs.Figures.{figureTable}
 use Rattle.rules.specs.Sets.{Figure, Drawing, Symbol, Set, knownOf, layerTableOf}
 use Rattle.rules.specs.Machine.{Home, inElement, inLayer, State, top, file, drawing, layerNames, defines, symbol, hide, elements, figures, successive, texts}
-use Rattle.rules.specs.Machine.{placing, skipping, ended, isLayer}
-use Rattle.rules.specs.FixedForm.{Text, openLine, block, showHeld, showLayers, showDrawing, showPoints, showFigures, showSymbols, showDefines, showBlocks}
+use Rattle.rules.specs.Machine.{placing, skipping, ended, isLayer, Owned, symbolBlock, wireBlock, wireUnread}
+use Rattle.rules.specs.FixedForm.{Text, openLine, block, showHeld, showLayers, showDrawing, showPoints, showEdges, showFigures, showSymbols, showDefines}
+use Rattle.rules.specs.FixedForm.{showBlocks}
 
 -- K: what is known where the set is written; the header, the drawing and the symbols name nothing, so it is all one to them
 module _ (K : Known) where
@@ -86,6 +87,12 @@ module _ (K : Known) where
   abbrev pub figuresText : Bool → Set → Home → List Figure → Text
   figuresText first s h fs = homeText first s h ++ showFigures (homeKnown s h) (isLayer h) (homeRows s h) fs []
 
+  -- a placed symbol's first line; a wire's, and the lines and arcs that were read in it
+  abbrev pub ownedText : Set → Owned → Text
+  ownedText s (symbolBlock o) = openLine (bytes "E_symbol") ∷ []
+  ownedText s (wireBlock w) = openLine (bytes "E_wire") ∷ showEdges (knownOf s) (w .elements) []
+  ownedText s wireUnread = openLine (bytes "E_wire") ∷ []
+
   -- in any state
   abbrev pub shown : Bool → State → Text
   shown first (top s k) = topText first s k
@@ -99,6 +106,6 @@ module _ (K : Known) where
   shown first (figures s h fs) = figuresText first s h fs
   shown first (successive s h fs n ps) = figuresText first s h fs ++ openLine (bytes "successive") ∷ showPoints (homeKnown s h) (isLayer h) ps []
   shown first (texts s h fs n o) = figuresText first s h fs ++ openLine (bytes "text") ∷ []
-  shown first (placing s k fs n o p) = figuresText first s (inLayer k) fs ++ openLine (bytes "E_symbol") ∷ []
-  shown first (skipping s k fs n o d) = figuresText first s (inLayer k) fs ++ openLine (bytes "E_symbol") ∷ []
+  shown first (placing s k fs n o p) = figuresText first s (inLayer k) fs ++ ownedText s o
+  shown first (skipping s k fs n o d) = figuresText first s (inLayer k) fs ++ ownedText s o
   shown first (ended s) = frontText first s ++ elementText s ++ bytes "EOF" ∷ []

@@ -13,16 +13,16 @@ use Rattle.rules.specs.Figures.{textTable}
 use Rattle.rules.specs.Sets.{Drawing, Symbol, Set, isFirst, symbolRange, knownOf}
 use Rattle.rules.specs.RecordTable.{ruleAt}
 use Rattle.rules.specs.Machine.{Home, inElement, inLayer, State, top, file, drawing, layerNames, defines, symbol, hide, elements, figures, successive, texts}
-use Rattle.rules.specs.Machine.{placing, skipping, ended, isLayer, symbolBlock}
+use Rattle.rules.specs.Machine.{placing, skipping, ended, isLayer, symbolBlock, wireBlock, wireUnread}
 use Rattle.pens.specs.declared.Pen.{Pen}
 use Rattle.pens.specs.Texts.{lineBytes}
 use Rattle.pens.specs.Noting.{Noted, NotedRows, NotedParts}
 use Rattle.pens.specs.Shown.{drawingBegun, symbolBegun, homeKnown, shown}
 use Rattle.tables.specs.Numbering.{tableFile, tableLater, tablePlaced}
 use Rattle.account.specs.Numbering.{blockTop, blockFile, blockDrawing, blockLayerNames, blockDefines, blockSymbol, blockHide, blockElements, blockFigures}
-use Rattle.account.specs.Numbering.{blockChain, blockText, blockPlaced, mostRows}
+use Rattle.account.specs.Numbering.{blockChain, blockText, blockPlaced, blockWire, mostRows}
 
--- E_sym is one that is served, so at class 15 nothing is skipped
+-- E_sym is one that is served, so at class 15 nothing is skipped; nor is a wire, for the full class reads all
 abbrev pub Served : Set → Type 0
 Served s = servedSymbols (symbolRange s) ≡ true
 
@@ -93,6 +93,11 @@ module _ (K : Known) (spool : List ℕ) (first : Bool) (p : Pen) (ns : List ℕ)
     pub open-part : i < 2
     pub noted : NotedParts spool (knownOf s) tablePlaced ns o
 
+  -- a wire: no inner part of it is open
+  pub record InWire (s : Set) (m : ℕ) (i : ℕ) : Type 0 where
+    pub home : InHome s (inLayer m)
+    pub whole : i ≡ 0
+
   abbrev pub Here : State → Type 0
   Here (top s k) = (p .block ≡ blockTop) × TopHere s k
   Here (file s n h i) = (p .block ≡ blockFile) × InFile s h i
@@ -106,6 +111,8 @@ module _ (K : Known) (spool : List ℕ) (first : Bool) (p : Pen) (ns : List ℕ)
   Here (successive s h fs n ps) = (p .block ≡ blockChain) × InHome s h
   Here (texts s h fs n o) = (p .block ≡ blockText) × InHome s h × NotedRows spool (homeKnown K s h) (textTable (isLayer h) 4 12) 4 ns o
   Here (placing s m fs n (symbolBlock o) i) = (p .block ≡ blockPlaced) × InPlaced s m o i
+  Here (placing s m fs n (wireBlock w) i) = (p .block ≡ blockWire) × InWire s m i
+  Here (placing s m fs n wireUnread i) = ⊥
   Here (skipping s m fs n o d) = ⊥
   Here (ended s) = Served s
 

@@ -69,7 +69,7 @@ pub record Spared (text before after : List ℕ) : Type 0 where
 
 -- the number of no table: what opens no inner part has none
 abbrev pub noTable : ℕ
-noTable = 20
+noTable = 255
 
 -- the table of the inner part that a noted row opens
 abbrev pub innerTable : ℕ → Rule → Option Value → ℕ

@@ -19,6 +19,7 @@ use account::BLOCK_PLACED;
 use account::BLOCK_SYMBOL;
 use account::BLOCK_TEXT;
 use account::BLOCK_TOP;
+use account::BLOCK_WIRE;
 use leaves::Wrote;
 use prints::rows::put_plain;
 use tables::TABLE_DRAWING;
@@ -125,6 +126,9 @@ fn around_block(pen: Pen) -> u8
         return by_home(pen.layered, BLOCK_ELEMENTS, BLOCK_SYMBOL);
     }
     if pen.block == BLOCK_CHAIN {
+        return BLOCK_FIGURES;
+    }
+    if pen.block == BLOCK_WIRE {
         return BLOCK_FIGURES;
     }
     if pen.block == BLOCK_LAYER_NAMES {

@@ -21,6 +21,8 @@ use account::BLOCK_PLACED;
 use account::BLOCK_SYMBOL;
 use account::BLOCK_TEXT;
 use account::BLOCK_TOP;
+use account::BLOCK_WIRE;
+use account::INNER_WIRE;
 use entries::Rest;
 use entries::names::part;
 use leaves::Wrote;
@@ -38,18 +40,19 @@ use tables::TABLE_ELEMENT;
 use tables::TABLE_FIGURES;
 use tables::TABLE_FILE;
 use tables::TABLE_LATER;
-use tables::TABLE_LAYER;
 use tables::TABLE_LAYER_POINTS;
 use tables::TABLE_LAYER_TEXT;
 use tables::TABLE_PLACED;
 use tables::TABLE_PLACED_TEXT;
 use tables::TABLE_RANGE;
-use tables::TABLE_SINGLE_LAYER;
+use tables::TABLE_SINGLE_WIRED_LAYER;
 use tables::TABLE_SYM;
 use tables::TABLE_SYMBOL;
 use tables::TABLE_SYMBOL_POINTS;
 use tables::TABLE_SYMBOL_TEXT;
 use tables::TABLE_TOP;
+use tables::TABLE_WIRE;
+use tables::TABLE_WIRED_LAYER;
 use tables::lookup::row_of;
 ghost use mathlib.Core.Path.{_≡_};
 ghost use mathlib.Core.Bool.{cond};
@@ -75,7 +78,8 @@ fn is_brace(rest: Rest) -> bool
     }
 }
 
-// The table of the figures: in a layer a placed symbol is a block, or one line.
+// The table of the figures: in a layer a placed symbol is a block, or one line. The tables with wires do for a set without: it has no line
+// of theirs, and the other rows are the same.
 fn figure_table(layered: bool, rest: Rest) -> u8
     ensures { λ r. ⌜ r ≡ figureTableOf layered (isBrace rest) ⌝ }
 {
@@ -83,9 +87,9 @@ fn figure_table(layered: bool, rest: Rest) -> u8
         return TABLE_FIGURES;
     }
     if is_brace(rest) {
-        return TABLE_LAYER;
+        return TABLE_WIRED_LAYER;
     }
-    TABLE_SINGLE_LAYER
+    TABLE_SINGLE_WIRED_LAYER
 }
 
 // The table of FILE_FORMAT's open part; the volumes behind the first have no inner parts.
@@ -128,6 +132,9 @@ fn table_of(first: bool, pen: Pen, rest: Rest) -> u8
     }
     if pen.block == BLOCK_CHAIN {
         return by_home(pen.layered, TABLE_LAYER_POINTS, TABLE_SYMBOL_POINTS);
+    }
+    if pen.block == BLOCK_WIRE {
+        return TABLE_WIRE;
     }
     if pen.block == BLOCK_TEXT {
         return by_home(pen.layered, TABLE_LAYER_TEXT, TABLE_SYMBOL_TEXT);
@@ -322,6 +329,9 @@ fn figure_block(row: Row) -> u8
     if row.inner == 2 {
         return BLOCK_TEXT;
     }
+    if row.inner == INNER_WIRE {
+        return BLOCK_WIRE;
+    }
     BLOCK_PLACED
 }
 
@@ -395,6 +405,9 @@ fn row_line(
     }
     if pen.block == BLOCK_CHAIN {
         return put_at_once(table, row, s, rest, pen, BLOCK_CHAIN, out);
+    }
+    if pen.block == BLOCK_WIRE {
+        return put_at_once(table, row, s, rest, pen, BLOCK_WIRE, out);
     }
     if pen.block == BLOCK_TEXT {
         note(table, row, rest, notes);

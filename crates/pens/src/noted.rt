@@ -192,7 +192,7 @@ pub(crate) fn put_noted(table: u8, number: u8, s: &[u8], note: u32, out: &mut [u
 }
 
 // The number of no table: what opens no inner part has none.
-const NO_TABLE: u8 = 20;
+const NO_TABLE: u8 = 255;
 
 // The table of the inner part that a noted row opens.
 fn inner_table(base: u8, table: u8, number: u8, s: &[u8], note: u32, out: &mut [u8]) -> u8

@@ -13,7 +13,7 @@ use Rattle.rules.specs.Base.{bytes, all, same, within, indexOf, split, join}
 use Rattle.rules.specs.RefusalNumbers.{Got, got, bad, unless, mapG, andThen, orBad, keep}
 use Rattle.rules.specs.Numbers.{isDigit, digitRun, value, readCount, readFixed, isDay, isClock, readDecimal, fixedOnto, fixed, trim, showCount, showDecimal}
 use Rattle.rules.specs.Lines.{Rest, Shape, opener, noContent, content, opening, formless}
-use Rattle.rules.specs.Values.{Num, num, Value, empty, nums, chars, Known, byteIn, lettersAndDigits, capital, isLayerId, inBound, Part, count, digit, typeDigits, range, rangeOfSymbols, day, clock, decimal, symbolName, layerId, servedSymbols, natural, readPart, amount, showPart, readAll, showAll, agree, Kind, values, text, word, volumeName, sheet, ratio, serials, nothing, opens, headed, either, sheets, findSheet, readRatio, mostPartners, readSerials, linkedOf, showSerials, readKind, amountAt, showContent}
+use Rattle.rules.specs.Values.{Num, num, Value, empty, nums, chars, Known, byteIn, lettersAndDigits, capital, isLayerId, inBound, Part, count, digit, typeDigits, range, rangeOfSymbols, rangeOfWires, day, clock, decimal, symbolName, layerId, servedSymbols, servedWires, natural, readPart, amount, showPart, readAll, showAll, agree, Kind, values, text, word, volumeName, sheet, ratio, serials, nothing, opens, headed, either, sheets, findSheet, readRatio, mostPartners, readSerials, linkedOf, showSerials, readKind, amountAt, showContent}
 use Rattle.rules.specs.Rows.{Rule, Act, entry, begin, refuse, orRefuse, readShape, fits, innerOf, notTwice, shapeFor, actRow}
 use Rattle.rules.specs.RangeClass.{reaches}
 use Rattle.rules.specs.Lines.{hasForm}
@@ -75,6 +75,7 @@ stands (digit lo hi) = true
 stands typeDigits = true
 stands (range lo hi) = true
 stands rangeOfSymbols = true
+stands rangeOfWires = true
 stands day = true
 stands clock = true
 stands (decimal b) = false
@@ -100,6 +101,7 @@ part-stands k typeDigits s a t e =
     rw (← q) (sym (fixed-same 4 n s (or-got 10 (readFixed 4 s) n g)))
 part-stands k (range lo hi) s a t e = digits-stand 3 12 (within lo hi) s a e
 part-stands k rangeOfSymbols s a t e = digits-stand 3 12 servedSymbols s a e
+part-stands k rangeOfWires s a t e = digits-stand 3 12 servedWires s a e
 part-stands k day s a t e = digits-stand 8 10 isDay s a e
 part-stands k clock s a t e = digits-stand 6 10 isClock s a e
 part-stands k (decimal b) s a t e = clash t refl
@@ -121,7 +123,8 @@ whole-stands n e =
     by-cond S (eqb n 13) (λ _. refl) λ _.
     by-cond S (eqb n 14) (λ _. refl) λ _.
     by-cond S (eqb n 15) (λ _. refl) λ _.
-    by-cond S (eqb n 16) (λ _. refl) (λ _. refl)
+    by-cond S (eqb n 16) (λ _. refl) λ _.
+    by-cond S (eqb n 18) (λ _. refl) (λ _. refl)
   where
     S : Part → Type 0
     S p = stands p ≡ true

@@ -1,30 +1,45 @@
--- Any two wire parts give the same answer, records and table: no line is judged by the wire part, and no record made with it.
-use Prim.Native.Nat.{ℕ, zero, suc}
+-- Any two wire parts give the same answer, records and table where E_wire is 000: only the line that opens a wire is judged by the wire part,
+-- and no record made with it.
+use Prim.Native.Nat.{ℕ, zero, suc, _<_, _/_}
 use mathlib.Core.Bool.{Bool, true, false, cond, _&&_}
-use mathlib.Core.List.{List, [], _∷_, _++_}
+use mathlib.Core.List.{List, [], _∷_}
 use mathlib.Core.Option.{Option, none, some}
 use mathlib.Core.Path.{_≡_, refl, _∙_, ap}
+use native.Mathlib.Omega.{arith}
+use lib.Dec.{ltb}
+use borrow.Author.Tests.{ltb-true}
 use Rattle.rules.specs.declared.Digits.{Digits}
 use Rattle.rules.specs.declared.Class.{Class}
-use Rattle.rules.specs.Base.{flat}
+use Rattle.rules.specs.Base.{flat, all}
 use Rattle.rules.specs.RefusalNumbers.{Got, got, bad}
 use Rattle.rules.specs.Lines.{Rest, Form, ignored, wrong, close, eof, keyed}
 use Rattle.rules.specs.Spool.{Volume, volumesOf}
 use Rattle.rules.specs.RangeClass.{digitsOf, isSymbolPart, isWirePart, classOf}
-use Rattle.rules.specs.Rows.{Rule, Found, absent, found, find, Held}
-use Rattle.rules.specs.Figures.{placedTable}
-use Rattle.rules.specs.Sets.{Figure, plain, chain, lettering, placed, LayerBlock, Contents, Drawing, Set, nothingYet, rangeOf, layerTableOf}
+use Rattle.rules.specs.Values.{Value}
+use Rattle.rules.specs.Rows.{Rule, Found, absent, found, find, Held, rowsAtLimit, Act, stay, entry, begin, shut, refuse, innerOf, act}
+use Rattle.rules.specs.Blocks.{elecTable}
+use Rattle.rules.specs.Figures.{placedTable, layerTable}
+use Rattle.rules.specs.Sets.{Figure, plain, chain, lettering, placed, wired, passed, LayerBlock, Contents, Drawing, Set, nothingYet, rangeOf, wireRange, isSingle, isWired, knownOf, layerTableOf}
 use Rattle.rules.specs.Machine.{Line, Env, Home, inElement, inLayer, State, top, file, drawing, layerNames, defines, symbol, hide, elements, figures, successive, texts, placing, skipping, ended, openTop, onTop, onLayerNames, openFigure}
-use Rattle.rules.specs.Machine.{symbolBlock}
+use Rattle.rules.specs.Machine.{symbolBlock, wireBlock, wireUnread, setOf, byAct, homeTable, onFigures}
 use Rattle.rules.specs.PlacedSymbol.{onPlacedKey, onPlacing}
 use Rattle.rules.specs.LineByLine.{stepIn, step, Outcome, refused, accepted, thenRun, run}
-use Rattle.rules.specs.RecordTable.{View, figureRecords, blockRecords, bodyRecords, laterRecords, recordsFrom, recordsOf}
+use Rattle.rules.specs.RecordTable.{View, width, figureRecords, blockRecords, bodyRecords, laterRecords, recordsFrom, recordsOf}
 use Rattle.rules.specs.Answers.{Listed, listed, noLines, listVolumes, outcomeOfLines, outcomeOfVolumes, outcomeOf, outcomeAt, classOr, recordsIn, readOutcome, readRecords, readAnswer, readTable}
-use Rattle.rules.proofs.Chains.{map-agree}
-use Rattle.promises.specs.WireParts.{WireParts}
+use Rattle.rules.proofs.Chains.{clash, map-agree}
+use Rattle.rules.proofs.Rows.{row-all}
+use Rattle.rules.proofs.Runs.{not-accepted}
+use Rattle.promises.specs.WireParts.{goOn, readUpTo, setOfLines, setOfVolumes, setAt, setRead, SameRead, WireParts}
+use Rattle.promises.proofs.CountActs.{Begun, act-begin}
+use Rattle.promises.proofs.WireRange.{Settled, settled-on, none-before, whole-read}
 
 abbrev withWires : Digits → Digits → Class
 withWires symbols wires = record { symbols = symbols; wires = wires }
+
+-- before any line there is no E_wire
+nothing-wired : isWired nothingYet ≡ false
+unfolding elecTable
+nothing-wired = refl
 
 -- ── the reading ──
 module _ (symbols one other : Digits) (m : Option ℕ) where
@@ -54,12 +69,44 @@ module _ (symbols one other : Digits) (m : Option ℕ) where
   layers-same l s d eof = refl
   layers-same l s d (keyed k x) = refl
 
-  figure-same : (l : Line) (s : Set) (h : Home) (fs : List Figure) (i : ℕ) → openFigure here l s h fs i ≡ openFigure there l s h fs i
-  figure-same l s h fs zero = refl
-  figure-same l s h fs (suc zero) = refl
-  figure-same l s h fs (suc (suc zero)) = refl
-  figure-same l s (inElement y) fs (suc (suc (suc i))) = refl
-  figure-same l s (inLayer k) fs (suc (suc (suc i))) = refl
+  -- a layer's table without the row of wires opens three blocks alone
+  abbrev Inner : Home → ℕ → Type 0
+  Inner (inElement y) i = Unit {0}
+  Inner (inLayer k) i = i < 4
+
+  figure-same : (l : Line) (s : Set) (h : Home) (fs : List Figure) (i : ℕ) → Inner h i → openFigure here l s h fs i ≡ openFigure there l s h fs i
+  figure-same l s h fs zero w = refl
+  figure-same l s h fs (suc zero) w = refl
+  figure-same l s h fs (suc (suc zero)) w = refl
+  figure-same l s (inElement y) fs (suc (suc (suc zero))) w = refl
+  figure-same l s (inLayer k) fs (suc (suc (suc zero))) w = refl
+  figure-same l s (inElement y) fs (suc (suc (suc (suc i)))) w = refl
+  figure-same l s (inLayer k) fs (suc (suc (suc (suc i)))) w = absurd (omega (arith, w))
+
+  few-blocks : (single wires : Bool) → wires ≡ false → all (λ r. ltb (innerOf (r .holds)) 4) (layerTable single wires) ≡ true
+  unfolding layerTable
+  few-blocks true false e = refl
+  few-blocks false false e = refl
+  few-blocks single true e = clash refl e
+
+  opened-inner : (s : Set) (h : Home) {full : List Bool} {i j : ℕ} → isWired s ≡ false → Begun (homeTable s h) full i j → Inner h i
+  opened-inner s (inElement y) w b = tt
+  opened-inner s (inLayer k) {i = i} w b =
+      let inner = ltb-true (innerOf (b .rule .holds)) 4 (row-all (λ r. ltb (innerOf (r .holds)) 4) (b .row) (few-blocks (isSingle s) (isWired s) w)) in
+      rw (← b .inner) inner
+
+  opened-same : (st : State) (en : ℕ → Value → Got State) (op op′ : ℕ → ℕ → Value → Got State) (cl : Unit {0} → Got State) (a : Act)
+      → ((i j : ℕ) (v : Value) → a ≡ begin i j v → op i j v ≡ op′ i j v) → byAct st en op cl a ≡ byAct st en op′ cl a
+  opened-same st en op op′ cl stay h = refl
+  opened-same st en op op′ cl (entry j v) h = refl
+  opened-same st en op op′ cl (begin i j v) h = h i j v refl
+  opened-same st en op op′ cl shut h = refl
+  opened-same st en op op′ cl (refuse n) h = refl
+
+  figures-same : (l : Line) (s : Set) (h : Home) (fs : List Figure) (f : Form) → isWired s ≡ false → onFigures here l s h fs f ≡ onFigures there l s h fs f
+  figures-same l s h fs f w =
+      opened-same _ _ _ _ _ (act (knownOf s) (homeTable s h) (rangeOf s) (rowsAtLimit 0 (homeTable s h)) f)
+      λ i j v q. figure-same l s h fs i (opened-inner s h w (act-begin (knownOf s) (homeTable s h) (rangeOf s) (rowsAtLimit 0 (homeTable s h)) f q))
 
   key-same : (s : Set) (k : ℕ) (fs : List Figure) (n : ℕ) (o : Held) (key : List ℕ) (x : Rest) (f : Found)
       → onPlacedKey here s k fs n o key x f ≡ onPlacedKey there s k fs n o key x f
@@ -75,60 +122,74 @@ module _ (symbols one other : Digits) (m : Option ℕ) where
   placing-same s k fs n o (suc p) f = refl
 
   -- one line, in whichever block is open
-  in-same : (l : Line) (st : State) → stepIn here l st ≡ stepIn there l st
-  in-same l (top s k) = top-same l s k (l .form)
-  in-same l (file s n h p) = refl
-  in-same l (drawing s d) = refl
-  in-same l (layerNames s d) = layers-same l s d (l .form)
-  in-same l (defines s b) = refl
-  in-same l (symbol s y) = refl
-  in-same l (hide s y ps) = refl
-  in-same l (elements s) = refl
-  in-same l (figures s h fs) = simp figure-same
-  in-same l (successive s h fs n ps) = refl
-  in-same l (texts s h fs n o) = refl
-  in-same l (placing s k fs n (symbolBlock o) p) = placing-same s k fs n o p (l .form)
-  in-same l (skipping s k fs n b d) = refl
-  in-same l (ended s) = refl
+  in-same : (l : Line) (st : State) → isWired (setOf st) ≡ false → stepIn here l st ≡ stepIn there l st
+  in-same l (top s k) w = top-same l s k (l .form)
+  in-same l (file s n h p) w = refl
+  in-same l (drawing s d) w = refl
+  in-same l (layerNames s d) w = layers-same l s d (l .form)
+  in-same l (defines s b) w = refl
+  in-same l (symbol s y) w = refl
+  in-same l (hide s y ps) w = refl
+  in-same l (elements s) w = refl
+  in-same l (figures s h fs) w = figures-same l s h fs (l .form) w
+  in-same l (successive s h fs n ps) w = refl
+  in-same l (texts s h fs n o) w = refl
+  in-same l (placing s k fs n (symbolBlock o) p) w = placing-same s k fs n o p (l .form)
+  in-same l (placing s k fs n (wireBlock x) p) w = refl
+  in-same l (placing s k fs n wireUnread p) w = refl
+  in-same l (skipping s k fs n b d) w = refl
+  in-same l (ended s) w = refl
 
-  step-same : (l : Line) (st : State) → step here l st ≡ step there l st
-  step-same l st = rw (in-same l st)
+  step-same : (l : Line) (st : State) → isWired (setOf st) ≡ false → step here l st ≡ step there l st
+  step-same l st w = rw (in-same l st w)
 
-  run-same : (ls : List Line) (st : State) → run here st ls ≡ run there st ls
-  run-same [] st = refl
-  run-same (l ∷ ls) st = rw (step-same l st) (go (step there l st) (run-same ls))
+  run-same : (ls : List Line) (st : State) → Settled st → isWired (readUpTo here st ls) ≡ false → run here st ls ≡ run there st ls
+  run-same [] st i h = refl
+  run-same (l ∷ ls) st i h =
+      go (step here l st) refl (run-same ls) h ∙ ap (λ g. thenRun g l (λ st′. run there st′ ls)) (step-same l st (none-before here st (l ∷ ls) i h))
     where
-      go : (g : Got State) → ((st : State) → run here st ls ≡ run there st ls) → thenRun g l (λ st. run here st ls) ≡ thenRun g l (λ st. run there st ls)
-      go (got st) ih = ih st
-      go (bad k) ih = refl
+      go : (g : Got State) → step here l st ≡ g → ((st′ : State) → Settled st′ → isWired (readUpTo here st′ ls) ≡ false → run here st′ ls ≡ run there st′ ls)
+          → isWired (goOn g (setOf st) (λ st′. readUpTo here st′ ls)) ≡ false → thenRun g l (λ st′. run here st′ ls) ≡ thenRun g l (λ st′. run there st′ ls)
+      go (got st′) q ih h = ih st′ (settled-on here l st st′ i q .0) h
+      go (bad k) q ih h = refl
 
-  volumes-same : (o : Option (List Volume)) → outcomeOfVolumes here o ≡ outcomeOfVolumes there o
-  volumes-same none = refl
-  volumes-same (some vs) = go (listVolumes 1 vs)
+  volumes-same : (o : Option (List Volume)) → isWired (setOfVolumes here o) ≡ false → outcomeOfVolumes here o ≡ outcomeOfVolumes there o
+  volumes-same none h = refl
+  volumes-same (some vs) h = go (listVolumes 1 vs) h
     where
-      go : (l : Listed) → outcomeOfLines here l ≡ outcomeOfLines there l
-      go (listed ls) = run-same ls (top nothingYet 0)
-      go (noLines v) = refl
+      go : (l : Listed) → isWired (setOfLines here l) ≡ false → outcomeOfLines here l ≡ outcomeOfLines there l
+      go (listed ls) h = run-same ls (top nothingYet 0) (λ _. nothing-wired) h
+      go (noLines v) h = refl
+
+  volumes-read : (o : Option (List Volume)) (s : Set) → outcomeOfVolumes here o ≡ accepted s → setOfVolumes here o ≡ s
+  volumes-read none s q = not-accepted q
+  volumes-read (some vs) s q = go (listVolumes 1 vs) q
+    where
+      go : (l : Listed) → outcomeOfLines here l ≡ accepted s → setOfLines here l ≡ s
+      go (listed ls) q = whole-read here (top nothingYet 0) ls s q
+      go (noLines v) q = not-accepted q
 
 -- ── the records ──
 module _ (symbols one other : Digits) where
-  abbrev view : Digits → Digits → List Rule → View
-  view wires d t = record { class = withWires symbols wires; symbols = d; table = t }
+  module _ (d : Digits) (range : ℕ) (t : List Rule) where
+    abbrev view : Digits → View
+    view wires = record { class = withWires symbols wires; symbols = d; wires = range; table = t }
 
-  module _ (d : Digits) (t : List Rule) where
-    shown-same : (owner volume : ℕ) (f : Figure) → figureRecords (view one d t) 0 owner volume f ≡ figureRecords (view other d t) 0 owner volume f
+    shown-same : (owner volume : ℕ) (f : Figure) → figureRecords (view one) 0 owner volume f ≡ figureRecords (view other) 0 owner volume f
     shown-same owner volume (plain n j v) = refl
     shown-same owner volume (chain n ps) = refl
     shown-same owner volume (lettering n s) = refl
     shown-same owner volume (placed n h) = refl
+    shown-same owner volume (wired n w) = refl
+    shown-same owner volume (passed n) = refl
 
-    block-same : (k : ℕ) (u : LayerBlock) → blockRecords (view one d t) k u ≡ blockRecords (view other d t) k u
-    block-same k u = ap flat (map-agree (figureRecords (view one d t) 0 (u .layer) k) (figureRecords (view other d t) 0 (u .layer) k) (shown-same (u .layer) k) (u .figures))
+    block-same : (k : ℕ) (u : LayerBlock) → blockRecords (view one) k u ≡ blockRecords (view other) k u
+    block-same k u = ap flat (map-agree (figureRecords (view one) 0 (u .layer) k) (figureRecords (view other) 0 (u .layer) k) (shown-same (u .layer) k) (u .figures))
 
-    body-same : (k : ℕ) (v : Contents) → bodyRecords (view one d t) k v ≡ bodyRecords (view other d t) k v
-    body-same k v = ap flat (map-agree (blockRecords (view one d t) k) (blockRecords (view other d t) k) (block-same k) (v .blocks))
+    body-same : (k : ℕ) (v : Contents) → bodyRecords (view one) k v ≡ bodyRecords (view other) k v
+    body-same k v = ap flat (map-agree (blockRecords (view one) k) (blockRecords (view other) k) (block-same k) (v .blocks))
 
-    later-same : (k : ℕ) (vs : List Contents) → laterRecords (view one d t) k vs ≡ laterRecords (view other d t) k vs
+    later-same : (k : ℕ) (vs : List Contents) → laterRecords (view one) k vs ≡ laterRecords (view other) k vs
     later-same k [] = refl
     later-same k (v ∷ vs) = rw (body-same k v, later-same (suc k) vs)
 
@@ -138,7 +199,7 @@ module _ (symbols one other : Digits) where
     where
       go : (vs : List Contents) → recordsFrom (withWires symbols one) s vs ≡ recordsFrom (withWires symbols other) s vs
       go [] = refl
-      go (v ∷ vs) = rw (body-same (rangeOf s) (layerTableOf s) 1 v, later-same (rangeOf s) (layerTableOf s) 2 vs)
+      go (v ∷ vs) = rw (body-same (rangeOf s) (wireRange s) (layerTableOf s) 1 v, later-same (rangeOf s) (wireRange s) (layerTableOf s) 2 vs)
 
 -- ── two classes of one number ──
 data Alike : Option Class → Option Class → Type 0 where
@@ -153,10 +214,15 @@ alike class one other p q = rw (p, q) (go (isSymbolPart class))
     go true = each (digitsOf class) (digitsOf one) (digitsOf other)
     go false = neither
 
-at-same : {c c′ : Option Class} → Alike c c′ → (m : Option ℕ) (spool : List ℕ) → outcomeAt c m spool ≡ outcomeAt c′ m spool
+at-same : {c c′ : Option Class} → Alike c c′ → (m : ℕ) (spool : List ℕ) → isWired (setAt c m spool) ≡ false → outcomeAt c (some m) spool ≡ outcomeAt c′ (some m) spool
 unfolding outcomeOf
-at-same neither m spool = refl
-at-same (each symbols one other) m spool = volumes-same symbols one other m (volumesOf spool)
+at-same neither m spool h = refl
+at-same (each symbols one other) m spool h = volumes-same symbols one other (some m) (volumesOf spool) h
+
+read-at : {c c′ : Option Class} → Alike c c′ → (m : ℕ) (spool : List ℕ) (s : Set) → outcomeAt c (some m) spool ≡ accepted s → setAt c m spool ≡ s
+unfolding outcomeOf
+read-at neither m spool s q = not-accepted q
+read-at (each symbols one other) m spool s q = volumes-read symbols one other (some m) (volumesOf spool) s q
 
 taken-same : {c c′ : Option Class} → Alike c c′ → (o : Outcome) → recordsIn (classOr c) o ≡ recordsIn (classOr c′) o
 taken-same neither o = refl
@@ -165,25 +231,35 @@ taken-same (each symbols one other) (accepted s) = records-same symbols one othe
 
 -- ── the answers ──
 module _ (class one other : ℕ) (p : isWirePart one ≡ true) (q : isWirePart other ≡ true) (len : ℕ) (spool : List ℕ) where
-  outcome-same : readOutcome class one len spool ≡ readOutcome class other len spool
+  set-read : (s : Set) → readOutcome class one len spool ≡ accepted s → setRead class one len spool ≡ s
   unfolding readOutcome
-  outcome-same = at-same (alike class one other p q) _ spool
+  set-read s e = read-at (alike class one other p q) (len / width) spool s e
 
-  read-same : readRecords class one len spool ≡ readRecords class other len spool
-  unfolding readRecords
-  read-same = taken-same (alike class one other p q) (readOutcome class one len spool) ∙ ap (recordsIn (classOr (classOf class other))) outcome-same
+  module _ (h : isWired (setRead class one len spool) ≡ false) where
+    outcome-same : readOutcome class one len spool ≡ readOutcome class other len spool
+    unfolding readOutcome
+    outcome-same = at-same (alike class one other p q) (len / width) spool h
 
-  answer-same : readAnswer class one len spool ≡ readAnswer class other len spool
-  unfolding readAnswer
-  answer-same = rw (read-same, outcome-same)
+    read-same : readRecords class one len spool ≡ readRecords class other len spool
+    unfolding readRecords
+    read-same = taken-same (alike class one other p q) (readOutcome class one len spool) ∙ ap (recordsIn (classOr (classOf class other))) outcome-same
 
-  table-same : readTable class one len spool ≡ readTable class other len spool
-  unfolding readTable
-  table-same = rw read-same
+    answer-same : readAnswer class one len spool ≡ readAnswer class other len spool
+    unfolding readAnswer
+    answer-same = rw (read-same, outcome-same)
+
+    table-same : readTable class one len spool ≡ readTable class other len spool
+    unfolding readTable
+    table-same = rw read-same
+
+    all-same : SameRead class one other len spool
+    all-same = record { answer = answer-same; records = read-same; table = table-same }
+
+unwired : (s : Set) → wireRange s ≡ 0 → isWired s ≡ false
+unwired s e = rw e
 
 pub wire-parts : WireParts
-wire-parts class one other p q len spool = record {
-  answer = answer-same class one other p q len spool;
-  records = read-same class one other p q len spool;
-  table = table-same class one other p q len spool;
+wire-parts = record {
+  soFar = λ class one other p q len spool h. all-same class one other p q len spool (unwired (setRead class one len spool) h);
+  whole = λ class one other p q len spool set e w. all-same class one other p q len spool (ap isWired (set-read class one other p q len spool set e) ∙ unwired set w);
 }

@@ -13,7 +13,7 @@ use Rattle.rules.specs.Lines.{formOf}
 use Rattle.rules.specs.Values.{Num, nums, Known}
 use Rattle.rules.specs.Rows.{Rule, Slots, blank, rowsThere, limitReached, rowsAtLimit, act, entry, complete}
 use Rattle.rules.specs.Figures.{layerTable, figureTable, mostPoints, pointTable, textTable}
-use Rattle.rules.specs.Sets.{Point, Figure, plain, chain, lettering, placed, Symbol, Set, rangeOf, isSingle, knownOf}
+use Rattle.rules.specs.Sets.{Point, Figure, plain, chain, lettering, placed, Symbol, Set, rangeOf, isSingle, knownOf, Edge, wired, passed, isWired}
 use Rattle.rules.specs.Machine.{Home, inElement, inLayer, State, hide, figures, successive, texts, isLayer, homeTable}
 use Rattle.rules.specs.LineByLine.{stepIn}
 use Rattle.rules.specs.FixedForm.{opensBlock, lineOf, noInner, openLine, block, showSlots, showPoints}
@@ -31,32 +31,40 @@ abbrev pub takenPoints : ℕ → List Point → ℕ
 takenPoints n [] = n
 takenPoints n (p ∷ ps) = takenPoints (n + 1) ps
 
+abbrev pub takenEdges : ℕ → List Edge → ℕ
+takenEdges n [] = n
+takenEdges n (e ∷ es) = takenEdges (n + 1) es
+
 abbrev pub takenFigure : ℕ → Figure → ℕ
 takenFigure n (plain m j v) = n + 1
 takenFigure n (chain m ps) = takenPoints (n + 1) ps
 takenFigure n (lettering m s) = n + 1
 takenFigure n (placed m h) = n + 1
+takenFigure n (wired m w) = takenEdges (n + 2) (w .elements)
+takenFigure n (passed m) = n + 2
 
 abbrev pub takenFigures : ℕ → List Figure → ℕ
 takenFigures n [] = n
 takenFigures n (f ∷ fs) = takenFigures (takenFigure n f) fs
 
 -- ── rows that may stand again and again ──
-full-at : (n : ℕ) {t : List Rule} {i : ℕ} {r : Rule} → Row t i r → getD (rowsAtLimit n t) i false ≡ limitReached n (r .times)
+pub full-at : (n : ℕ) {t : List Rule} {i : ℕ} {r : Rule} → Row t i r → getD (rowsAtLimit n t) i false ≡ limitReached n (r .times)
 full-at n here = refl
 full-at n (there w) = full-at n w
 
-abbrev endless : List Rule → Bool
+abbrev pub endless : List Rule → Bool
 endless t = all (λ r. not (limitReached 0 (r .times))) t
 
 home-endless : (S : Set) (h : Home) → (endless (homeTable S h) ≡ true) × (differ (homeTable S h) ≡ true)
 unfolding figureTable layerTable
 home-endless S (inElement y) = (refl, refl)
-home-endless S (inLayer m) = go (isSingle S)
+home-endless S (inLayer m) = go (isSingle S) (isWired S)
   where
-    go : (b : Bool) → (endless (layerTable b) ≡ true) × (differ (layerTable b) ≡ true)
-    go true = (refl, refl)
-    go false = (refl, refl)
+    go : (b w : Bool) → (endless (layerTable b w) ≡ true) × (differ (layerTable b w) ≡ true)
+    go true true = (refl, refl)
+    go true false = (refl, refl)
+    go false true = (refl, refl)
+    go false false = (refl, refl)
 
 -- ── a figure that is one line ──
 module _ (next : List ℕ) (S : Set) (n : ℕ) (h : Home) (fs : List Figure) where

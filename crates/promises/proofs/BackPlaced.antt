@@ -16,7 +16,7 @@ use Rattle.rules.specs.Values.{Num, Value, nums, chars, Known, Kind, values, te
 use Rattle.rules.specs.Rows.{Rule, Slots, blank, Held, partOf, rowsThere, slotValue, held, fits, shapeFor, Act, stay, entry, begin, shut, refuse, orRefuse, innerOf, readShape, notTwice, actRow}
 use Rattle.rules.specs.Blocks.{blankHeld}
 use Rattle.rules.specs.Figures.{layerTable, textTable, placedTable, placedTables}
-use Rattle.rules.specs.Sets.{Figure, plain, chain, lettering, placed, Set, rangeOf, isSingle, knownOf, ownSerial, figureSerial, serialsIn, layerTableOf}
+use Rattle.rules.specs.Sets.{Figure, plain, chain, lettering, placed, Set, rangeOf, isSingle, knownOf, ownSerial, figureSerial, serialsIn, layerTableOf, wired, passed}
 use Rattle.rules.specs.Machine.{inLayer, State, figures, placing, symbolBlock}
 use Rattle.rules.specs.PlacedSymbol.{noneOf, newSerial}
 use Rattle.rules.specs.LineByLine.{stepIn}
@@ -26,11 +26,12 @@ use Rattle.rules.specs.RecordTable.{ruleAt}
 use Rattle.rules.proofs.Chains.{and-left, and-right, and-true, clash, map-append, On, on-map, flat-append}
 use Rattle.rules.proofs.Rows.{Row, here, there, differ, row-all, row-find, row-at}
 use Rattle.promises.specs.PlacesApart.{bareValue, bareSlots, bareHeld, bareFigure}
-use Rattle.promises.proofs.Good.{GoodRow, Always, restOf, none0, Closed, GoodPart, GoodFigure, GoodFigures, freshNumbers}
+use Rattle.promises.proofs.Good.{GoodRow, Always, restOf, none0, Closed, GoodPart, GoodFigure, GoodFigures, freshNumbers, rangesOf}
 use Rattle.promises.proofs.BackSlots.{lineFor, plainEnv, close-form, retaken, Reads, one-line, no-lines, _and_, Free, free-mark, Takes, read-slots, act-entry, opensIn, opensAt, still, filled, unfilled, opens-end, entered, opened, read-calm}
 use Rattle.promises.proofs.BackFile.{innerSlots, inner-whole, sound-differ}
 use Rattle.promises.proofs.BackFigures.{takenFigure, takenFigures, plain-line, read-chain, read-text, text-sound}
 use Rattle.promises.proofs.Bare.{serials-bare, marks-bare, serial-bare}
+use Rattle.promises.proofs.BackWires.{read-wire}
 
 -- ── only the row of serial numbers holds serial numbers ──
 abbrev isSerials : Kind → Bool
@@ -230,11 +231,13 @@ figure-fresh : (f : Figure) (seen : List ℕ) → freshNumbers seen (figureSeria
 figure-fresh (plain l j v) seen e = refl
 figure-fresh (chain l ps) seen e = refl
 figure-fresh (lettering l o) seen e = refl
+figure-fresh (wired l w) seen e = refl
+figure-fresh (passed l) seen e = refl
 figure-fresh (placed l h) seen e = fresh-none (serialsOf (slotValue (held "serial" placedTable (partOf h 0)))) seen e
 
 module _ (next : List ℕ) (S : Set) (m : ℕ) where
   abbrev good : Figure → Type 0
-  good f = GoodFigure (knownOf S) (rangeOf S) (isSingle S) f
+  good f = GoodFigure (knownOf S) (rangesOf S) f
 
   abbrev layered : Figure → Text → Text
   layered f = showFigure (knownOf S) true (layerTableOf S) f
@@ -253,9 +256,11 @@ module _ (next : List ℕ) (S : Set) (m : ℕ) where
       and subst (λ (h : Held). noneOf (figureSerial (placed l h)) (serialsIn S ++ flat (map figureSerial fs)) ≡ true
       → Reads next (placing (retaken (n + 1) S) m fs 0 (symbolBlock (blankHeld placedTables)) 0) (λ ls. showHeld (knownOf S) placedTables h (bytes "}" ∷ ls)) (figures (retaken (n + 1) S) (inLayer m) (fs ++ placed 0 (bareHeld h) ∷ [])))
       (sym (g .0 .is)) (λ z. read-placed next S (n + 1) m fs (g .0 .own) (g .0 .text) (g .0 .own-good) (g .0 .text-good) z) z
+  read-figure n fs (wired l w) g z = read-wire next S n m fs l w (g .0) (g .1)
+  read-figure n fs (passed l) g z = absurd g
 
   -- all figures of a layer
-  pub read-figures : (n : ℕ) (fs gs : List Figure) → GoodFigures (knownOf S) (rangeOf S) (isSingle S) gs
+  pub read-figures : (n : ℕ) (fs gs : List Figure) → GoodFigures (knownOf S) (rangesOf S) gs
       → freshNumbers (serialsIn S ++ flat (map figureSerial fs)) (flat (map figureSerial gs)) ≡ true
       → Reads next (figures (retaken n S) (inLayer m) fs) (showFigures (knownOf S) true (layerTableOf S) gs) (figures (retaken (takenFigures n gs) S) (inLayer m) (fs ++ map bareFigure gs))
   read-figures n fs [] g z = rw (append-nil fs) (no-lines next (figures (retaken n S) (inLayer m) fs))

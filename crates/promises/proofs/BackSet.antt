@@ -14,8 +14,7 @@ use Rattle.rules.specs.RangeClass.{digitsOf}
 use Rattle.rules.specs.Values.{Known}
 use Rattle.rules.specs.Rows.{Rule, blank, Held, partOf, numberOf}
 use Rattle.rules.specs.Blocks.{topTable, fileTable, rangeTable, elecTable, symTable, laterTable, fileTables, blankHeld, drawingTable, elementTable}
-use Rattle.rules.specs.Figures.{layerTable}
-use Rattle.rules.specs.Sets.{Contents, Set, noContents, nothingYet, withNow, withDrawing, withVolume, isFirst, headOr, firstContents, arcOf, symbolRange, rangeOf, defineRange, isSingle, knownOf, serialsOfVolume, elementsOf}
+use Rattle.rules.specs.Sets.{Contents, Set, noContents, nothingYet, withNow, withDrawing, withVolume, isFirst, headOr, firstContents, arcOf, rangeOf, defineRange, knownOf, serialsOfVolume, elementsOf}
 use Rattle.rules.specs.VolumesAndTotals.{ownTable, countedHere, countedAll, layersUsed}
 use Rattle.rules.specs.Machine.{Line, top, file, drawing, defines, elements, fileKinds}
 use Rattle.rules.specs.LineByLine.{accepted, stepIn, run}
@@ -24,7 +23,7 @@ use Rattle.rules.specs.Sets.{layerTableOf}
 use Rattle.rules.proofs.Chains.{and-left, and-right, map-append, nil-snoc, flat-append}
 use Rattle.rules.proofs.Runs.{head-snoc}
 use Rattle.promises.specs.PlacesApart.{bareForm, bareHeld, bareDrawing, bareSymbol, bareContents, bareSet}
-use Rattle.promises.proofs.Good.{GoodFile, GoodLater, GoodDrawing, GoodDefines, GoodVolume, GoodLaters, GoodSet, freshNumbers}
+use Rattle.promises.proofs.Good.{GoodFile, GoodLater, GoodDrawing, GoodDefines, GoodVolume, GoodLaters, GoodSet, freshNumbers, rangesOf, layerRows, rangesIn}
 use Rattle.promises.proofs.BackSlots.{lineFor, lay, layAll, plainEnv, close-form, retaken, Reads, one-line, _and_}
 use Rattle.promises.proofs.BackFile.{read-file, read-later}
 use Rattle.promises.proofs.BackDrawing.{takenLayers, read-drawing}
@@ -94,24 +93,22 @@ serials-snoc vs v =
 counted-bare : (S : Set) (first : Bool) (v : Contents) → S .now ≡ bareContents v → isFirst S ≡ first → eqb (numberOf "this_ele" (ownTable first) (partOf (v .file) 0)) (elementsOf v) ≡ true → countedHere S ≡ true
 counted-bare S first v e f c = rw (e, f, part-number "this_ele" (ownTable first) (v .file) 0, elements-bare v) c
 
+-- the ranges of a FILE_FORMAT, its places made 0
+ranges-bare : (f : Held) → rangesIn (bareHeld f) ≡ rangesIn f
+ranges-bare f = ap₂ (λ (a b : ℕ). record { symbols = a; wires = b }) (part-number "E_sym" elecTable f 3) (part-number "E_wire" elecTable f 3)
+
 module _ (k : Known) (f : Held) where
-  abbrev range : ℕ
-  range = numberOf "E_sym" elecTable (partOf f 3)
-
-  abbrev single : Bool
-  single = eqb range 1
-
-  read-volume : (next : List ℕ) (S : Set) (v : Contents) → knownOf S ≡ k → firstContents S .file ≡ bareHeld f → GoodVolume k (digitsOf range) single false next v → GoodLater (v .file)
+  read-volume : (next : List ℕ) (S : Set) (v : Contents) → knownOf S ≡ k → firstContents S .file ≡ bareHeld f → GoodVolume k (rangesIn f) false next v → GoodLater (v .file)
       → datedBy f (v .file) ≡ true → freshNumbers (flat (map serialsOfVolume (S .volumes ++ S .now ∷ []))) (serialsOfVolume v) ≡ true
-      → Reads next (top (withVolume S) 0) (λ ls. openLine (bytes "FILE_FORMAT") ∷ showHeld k (fileTables false) (v .file) (bytes "}" ∷ openLine (bytes "ELEMENT") ∷ showBlocks k (layerTable single) (v .blocks) ls))
+      → Reads next (top (withVolume S) 0) (λ ls. openLine (bytes "FILE_FORMAT") ∷ showHeld k (fileTables false) (v .file) (bytes "}" ∷ openLine (bytes "ELEMENT") ∷ showBlocks k (layerRows (rangesIn f)) (v .blocks) ls))
       (elements (nextSet S v))
   read-volume next S v p q g h d z =
       one-line next (openLine (bytes "FILE_FORMAT")) (top T 0) (file (retaken (S .taken + 1) T) 0 (blankHeld (fileTables false)) 0)
       (opens-file next T (S .taken) ∙ ap (λ b. got (file (retaken (S .taken + length (fileKinds b)) T) 0 (blankHeld (fileTables b)) 0)) later)
       and read-later next k (retaken (S .taken + 1) T) later (v .file) h (g .chain) (rw (head-snoc (S .now) (S .now) (S .volumes), q) (rw (dates-bare f (v .file)) d))
       and one-line next (openLine (bytes "ELEMENT")) (top (retaken (S .taken + 1) U) 3) (elements (retaken (S .taken + 1) U)) (opens-elements next (retaken (S .taken + 1) U))
-      and read-blocks next k range U (S .taken + 1) (v .blocks) p
-      (ap (λ (h : Held). numberOf "E_sym" elecTable (partOf h 3)) (ap (λ (c : Contents). c .file) (head-snoc (U .now) (S .now) (S .volumes)) ∙ q) ∙ part-number "E_sym" elecTable f 3)
+      and read-blocks next k (rangesIn f) U (S .taken + 1) (v .blocks) p
+      (ap rangesIn (ap (λ (c : Contents). c .file) (head-snoc (U .now) (S .now) (S .volumes)) ∙ q) ∙ ranges-bare f)
       (g .blocks) (g .once) (rw (append-nil (flat (map serialsOfVolume (S .volumes ++ S .now ∷ [])))) z)
     where
       T : Set
@@ -131,18 +128,18 @@ endsOnce (n ∷ m ∷ ns) = not (isNil n) && endsOnce (m ∷ ns)
 
 -- ── from ELEMENT's end on ──
 module _ (k : Known) (f : Held) (s : Set) (first-is : firstContents s .file ≡ f) where
-  read-rest : (next : List ℕ) (ns : List (List ℕ)) (S : Set) (vs : List Contents) → GoodLaters k (digitsOf (range k f)) (single k f) s ns vs
+  read-rest : (next : List ℕ) (ns : List (List ℕ)) (S : Set) (vs : List Contents) → GoodLaters k (rangesIn f) s ns vs
       → endsOnce (next ∷ ns) ≡ true → knownOf S ≡ k → firstContents S .file ≡ bareHeld f → countedHere S ≡ true
       → freshNumbers (flat (map serialsOfVolume (S .volumes ++ S .now ∷ []))) (flat (map serialsOfVolume vs)) ≡ true → layersUsed (closeAll S vs) ≡ true → countedAll (closeAll S vs) ≡ true
-      → run plainEnv (elements S) (lay next (bytes "}" ∷ ending vs) (layAll ns (laterLines k (layerTable (single k f)) vs))) ≡ accepted (closeAll S vs)
+      → run plainEnv (elements S) (lay next (bytes "}" ∷ ending vs) (layAll ns (laterLines k (layerRows (rangesIn f)) vs))) ≡ accepted (closeAll S vs)
   read-rest next [] S [] g e p q c z u a = end-last next S e c u a
   read-rest next [] S (v ∷ vs) g e p q c z u a = absurd g
   read-rest next (n ∷ ns) S [] g e p q c z u a = absurd g
   read-rest next (n ∷ ns) S (v ∷ vs) g e p q c z u a =
       let (z₁, z₂) = fresh-parts (flat (map serialsOfVolume (S .volumes ++ S .now ∷ []))) (serialsOfVolume v) (flat (map serialsOfVolume vs)) z in
       let here-read = read-volume k f n S v p q (g .0) (g .1) (subst (λ (h : Held). datedBy h (v .file) ≡ true) first-is (g .2)) z₁ in
-      end-more next S (layAll (n ∷ ns) (laterLines k (layerTable (single k f)) (v ∷ vs))) (not-true (isNil next) (and-left (not (isNil next)) _ e)) c
-      ∙ here-read .leads (bytes "}" ∷ ending vs) (layAll ns (laterLines k (layerTable (single k f)) vs)) refl
+      end-more next S (layAll (n ∷ ns) (laterLines k (layerRows (rangesIn f)) (v ∷ vs))) (not-true (isNil next) (and-left (not (isNil next)) _ e)) c
+      ∙ here-read .leads (bytes "}" ∷ ending vs) (layAll ns (laterLines k (layerRows (rangesIn f)) vs)) refl
       ∙ read-rest n ns (nextSet S v) vs (g .3) (and-right (not (isNil next)) _ e) p
       (ap (λ (c : Contents). c .file) (head-snoc (bareContents v) (S .now) (S .volumes)) ∙ q)
       (counted-bare (nextSet S v) false v refl (nil-snoc (S .volumes) (S .now)) (g .0 .count))
@@ -202,7 +199,7 @@ module _ (next : List ℕ) (s : Set) (v : Contents) (v-is : v .file ≡ firstCon
   number-is : (key : S.String) (t : List Rule) (p : ℕ) → numberOf key t (partOf (bareHeld (v .file)) p) ≡ numberOf key t (partOf (firstContents s .file) p)
   number-is key t p = part-number key t (v .file) p ∙ ap (λ (h : Held). numberOf key t (partOf h p)) v-is
 
-  read-first : GoodFile (v .file) → GoodDrawing (arcOf s) (s .drawing) → GoodDefines (defineRange s) (rangeOf s) (s .symbols) → GoodVolume k (rangeOf s) (isSingle s) true next v
+  read-first : GoodFile (v .file) → GoodDrawing (arcOf s) (s .drawing) → GoodDefines (defineRange s) (rangeOf s) (s .symbols) → GoodVolume k (rangesOf s) true next v
       → freshNumbers [] (serialsOfVolume v) ≡ true
       → Reads next (top nothingYet 0) (firstText s v) (elements (firstSet s v))
   read-first file-good drawing-good defines-good g z =
@@ -214,7 +211,7 @@ module _ (next : List ℕ) (s : Set) (v : Contents) (v-is : v .file ≡ firstCon
       and read-defines next k drawn (takenLayers 3 (s .drawing .layers)) (s .symbols) refl
       (subst₂ (λ (a b : ℕ). GoodDefines a (digitsOf b) (s .symbols)) (sym (number-is "S_elec" symTable 4)) (sym (number-is "E_sym" elecTable 3)) defines-good)
       and one-line next (openLine (bytes "ELEMENT")) (top named 3) (elements named) (opens-elements next named)
-      and read-blocks next k (symbolRange s) named (takenSymbols (takenLayers 3 (s .drawing .layers)) (s .symbols)) (v .blocks) (known-bare s) (number-is "E_sym" elecTable 3) (g .blocks) (g .once) z
+      and read-blocks next k (rangesOf s) named (takenSymbols (takenLayers 3 (s .drawing .layers)) (s .symbols)) (v .blocks) (known-bare s) (ranges-bare (v .file) ∙ ap rangesIn v-is) (g .blocks) (g .once) z
 
 -- ── the whole set ──
 module _ (nexts : List (List ℕ)) (s : Set) (g : GoodSet nexts s) (e : endsOnce nexts ≡ true) where

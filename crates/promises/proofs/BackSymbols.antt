@@ -15,7 +15,7 @@ use Rattle.rules.specs.Values.{Value, nums, Known, charsOf}
 use Rattle.rules.specs.Rows.{Rule, Slots, blank, rowsThere, slotValue, innerOf, present, complete}
 use Rattle.rules.specs.Blocks.{definesTable, symbolTable}
 use Rattle.rules.specs.Figures.{figureTable, mostPoints, pointTable}
-use Rattle.rules.specs.Sets.{Point, Figure, plain, chain, lettering, placed, Symbol, Set, withSymbol, symbolOwn, symbolFigures, symbolHidden, symbolOrder, rangeOf, defineRange, symbolNameOf, knownOf}
+use Rattle.rules.specs.Sets.{Point, Figure, plain, chain, lettering, placed, Symbol, Set, withSymbol, symbolOwn, symbolFigures, symbolHidden, symbolOrder, rangeOf, defineRange, symbolNameOf, knownOf, wired, passed}
 use Rattle.rules.specs.Machine.{inElement, top, defines, symbol, hide, figures, openSymbol, newName}
 use Rattle.rules.specs.LineByLine.{stepIn}
 use Rattle.rules.specs.FixedForm.{Text, opensBlock, lineOf, openLine, showSlots, showValue, showSlot, showFigure, showFigures, symbolInner, exchanged, showSymbol, showSymbols, showDefines}
@@ -47,6 +47,8 @@ module _ (next : List ℕ) (k : Known) (S : Set) (y : Symbol) where
   read-shape n fs (chain l ps) g = read-chain next k S n (inElement y) fs ps g
   read-shape n fs (lettering l o) g = read-text next k S n (inElement y) fs o g
   read-shape n fs (placed l h) g = absurd g
+  read-shape n fs (wired l w) g = absurd g
+  read-shape n fs (passed l) g = absurd g
 
   read-shapes : (n : ℕ) (fs gs : List Figure) → GoodShapes (rangeOf S) gs
       → Reads next (figures (retaken n S) (inElement y) fs) (showFigures k false figureTable gs) (figures (retaken (takenFigures n gs) S) (inElement y) (fs ++ map bareFigure gs))

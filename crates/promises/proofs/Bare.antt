@@ -1,7 +1,7 @@
 -- What is looked up in values, slots and sets is the same with their places made 0.
 use Prim.Native.Nat.{ℕ}
 use Prim.Native.String as S
-use mathlib.Core.Bool.{Bool, true, false}
+use mathlib.Core.Bool.{Bool, true, false, not}
 use mathlib.Core.List.{List, [], _∷_, _++_, map}
 use mathlib.Core.Option.{Option, none, some}
 use mathlib.Core.Path.{_≡_, refl, _∙_, ap, ap₂}
@@ -13,7 +13,7 @@ use Rattle.rules.specs.Values.{Value, empty, nums, chars, linked, Known, numsOf
 use Rattle.rules.specs.Rows.{Rule, Found, absent, found, find, Slots, blank, Held, partOf, enter, rowsThere, slotValue, heldAt, held, numberOf}
 use Rattle.rules.specs.Blocks.{fileTable, rangeTable, elecTable, symTable, laterTable, symbolTable}
 use Rattle.rules.specs.Figures.{placedTable}
-use Rattle.rules.specs.Sets.{Figure, plain, chain, lettering, placed, Layer, Symbol, Contents, Set, headOr, firstContents, isFirst, arcOf, symbolRange, defineRange, rangeOf, isSingle, symbolNameOf, knownOf, ownSerial, figureSerial, serialsOfBlock, serialsOfVolume, serialsIn, elementsOf, usedIn}
+use Rattle.rules.specs.Sets.{Figure, plain, chain, lettering, placed, Layer, Symbol, Contents, Set, headOr, firstContents, isFirst, arcOf, symbolRange, defineRange, rangeOf, isSingle, symbolNameOf, knownOf, ownSerial, figureSerial, serialsOfBlock, serialsOfVolume, serialsIn, elementsOf, usedIn, wired, passed, wireRange, isWired}
 use Rattle.rules.specs.VolumesAndTotals.{chained, dated, countedHere, countedAll, layersUsed, ownTable}
 use Rattle.rules.proofs.Chains.{nil-map, map-compose, map-agree, map-same, map-set, total-same}
 use Rattle.promises.specs.PlacesApart.{bareValue, bareSlots, bareHeld, bareFigure, bareLayer, bareSymbol, bareBlock, bareContents, bareSet}
@@ -114,6 +114,12 @@ range-bare s = ap digitsOf (sym-bare s)
 pub single-bare : (s : Set) → isSingle (bareSet s) ≡ isSingle s
 single-bare s = ap (λ n. eqb n 1) (sym-bare s)
 
+pub wire-bare : (s : Set) → wireRange (bareSet s) ≡ wireRange s
+wire-bare s = header-bare "E_wire" elecTable 3 s
+
+pub wired-bare : (s : Set) → isWired (bareSet s) ≡ isWired s
+wired-bare s = ap (λ n. not (eqb n 0)) (wire-bare s)
+
 pub name-bare : (y : Symbol) → symbolNameOf (bareSymbol y) ≡ symbolNameOf y
 name-bare y = rw (held-bare "name" symbolTable (y .own)) (chars-bare (slotValue (held "name" symbolTable (y .own))))
 
@@ -133,6 +139,8 @@ pub serial-bare : (f : Figure) → figureSerial (bareFigure f) ≡ figureSerial 
 serial-bare (plain n j v) = refl
 serial-bare (chain n ps) = refl
 serial-bare (lettering n s) = refl
+serial-bare (wired n w) = refl
+serial-bare (passed n) = refl
 serial-bare (placed n h) =
     rw (part-bare h 0, held-bare "serial" placedTable (partOf h 0)) (ap ownSerial (serials-bare (slotValue (held "serial" placedTable (partOf h 0)))))
 

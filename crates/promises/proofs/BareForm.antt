@@ -10,12 +10,12 @@ use Rattle.rules.specs.Values.{Value, empty, nums, chars, linked, Known, Kind, 
 use Rattle.rules.specs.Rows.{Rule, Slots, Held, partOf, innerOf}
 use Rattle.rules.specs.Blocks.{fileTables, drawingTable, symbolTable}
 use Rattle.rules.specs.Figures.{figureTable, textTable, placedTables}
-use Rattle.rules.specs.Sets.{Point, Figure, plain, chain, lettering, placed, Layer, Drawing, Symbol, LayerBlock, Contents, Set, knownOf}
-use Rattle.rules.specs.FixedForm.{Text, openLine, opensBlock, behind, lineOf, showValue, showSlots, noInner, showInner, showHeld, block, showPoints, showFigure, showFigures, showLayers, showDrawing, symbolInner, exchanged, showSymbol, showSymbols, showDefines, showBlocks, showFirst, showLater, ending, laterLines, volumeLines, volumesBytes, fixedForm}
+use Rattle.rules.specs.Sets.{Point, Figure, plain, chain, lettering, placed, Layer, Drawing, Symbol, LayerBlock, Contents, Set, knownOf, Edge, wired, passed}
+use Rattle.rules.specs.FixedForm.{Text, openLine, opensBlock, behind, lineOf, showValue, showSlots, noInner, showInner, showHeld, block, showPoints, showFigure, showFigures, showLayers, showDrawing, symbolInner, exchanged, showSymbol, showSymbols, showDefines, showBlocks, showFirst, showLater, ending, laterLines, volumeLines, volumesBytes, fixedForm, showEdges}
 use Rattle.rules.specs.Sets.{layerTableOf}
 use Rattle.rules.proofs.Chains.{nil-map}
-use Rattle.promises.specs.PlacesApart.{bareValue, bareSlots, bareHeld, barePoint, bareFigure, bareLayer, bareDrawing, bareSymbol, bareBlock, bareContents, bareSet}
-use Rattle.promises.proofs.Bare.{chars-bare, part-bare, single-bare, known-bare}
+use Rattle.promises.specs.PlacesApart.{bareValue, bareSlots, bareHeld, barePoint, bareFigure, bareLayer, bareDrawing, bareSymbol, bareBlock, bareContents, bareSet, bareEdge}
+use Rattle.promises.proofs.Bare.{chars-bare, part-bare, single-bare, known-bare, wired-bare}
 
 -- ── the fixed form ──
 exchanged-map : {A B : Type 0} (f : A → B) (b : Bool) (s : List A) → exchanged b (map f s) ≡ map f (exchanged b s)
@@ -74,11 +74,17 @@ module _ (k : Known) where
   showPoints-bare b [] ls = refl
   showPoints-bare b (p ∷ ps) ls = rw (showPoints-bare b ps ls)
 
+  showEdges-bare : (es : List Edge) (ls : Text) → showEdges k (map bareEdge es) ls ≡ showEdges k es ls
+  showEdges-bare [] ls = refl
+  showEdges-bare (e ∷ es) ls = rw (showEdges-bare es ls)
+
   showFigure-bare : (b : Bool) (t : List Rule) (f : Figure) (ls : Text) → showFigure k b t (bareFigure f) ls ≡ showFigure k b t f ls
   showFigure-bare b t (plain n j v) ls = refl
   showFigure-bare b t (chain n ps) ls = rw (showPoints-bare b ps (bytes "}" ∷ ls))
   showFigure-bare b t (lettering n s) ls = rw (showSlots-bare (textTable b 4 12) s noInner noInner (λ i ls. refl) (bytes "}" ∷ ls))
   showFigure-bare b t (placed n h) ls = rw (showHeld-bare placedTables h (bytes "}" ∷ ls))
+  showFigure-bare b t (wired n w) ls = rw (showEdges-bare (w .elements) (bytes "}" ∷ ls))
+  showFigure-bare b t (passed n) ls = refl
 
   showFigures-bare : (b : Bool) (t : List Rule) (fs : List Figure) (ls : Text) → showFigures k b t (map bareFigure fs) ls ≡ showFigures k b t fs ls
   showFigures-bare b t [] ls = refl
@@ -134,6 +140,6 @@ form-bare names s = ap (volumesBytes names) (go (s .volumes))
     go : (vs : List Contents) → volumeLines (bareSet s) (map bareContents vs) ≡ volumeLines s vs
     go [] = refl
     go (v ∷ vs) =
-        rw (known-bare s, single-bare s)
+        rw (known-bare s, single-bare s, wired-bare s)
         (ap₂ _∷_ (showFirst-bare (knownOf s) (layerTableOf s) s v (ending (map bareContents vs)) (ending vs) (ending-bare vs))
         (laterLines-bare (knownOf s) (layerTableOf s) vs))

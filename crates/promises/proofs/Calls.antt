@@ -1,6 +1,6 @@
 -- Demand 3 of two calls of the reader, proved from its contract and the theorems of the demands.
 use Prim.Native.Nat.{ℕ, _*_, _-_}
-use mathlib.Core.List.{List, [], _∷_, _++_, map, append-assoc}
+use mathlib.Core.List.{List, [], _∷_, _++_, append-assoc}
 use mathlib.Core.Path.{_≡_, refl, sym, _∙_, ap, ap₂}
 use native.Mathlib.Omega.{arith}
 use lib.IntN.{ℤ, pos}
@@ -8,15 +8,14 @@ use lib.ListN.{length, take, drop, replicate}
 use lib.Seq.{take-at, drop-at}
 use Rattle.rules.specs.declared.Answer.the-variants.{Accepted}
 use Rattle.rules.specs.Base.{flat}
-use Rattle.rules.specs.Sets.{Set, rangeOf}
+use Rattle.rules.specs.Sets.{Set}
 use Rattle.rules.specs.LineByLine.{Outcome, refused, accepted}
 use Rattle.rules.specs.RecordTable.{width}
 use Rattle.rules.specs.Answers.{answerWith, readOutcome, readRecords, readAnswer, readTable}
 use Rattle.promises.specs.DemandOne.{Wide, noRecord, oneMore}
-use Rattle.promises.specs.DemandThree.{unread}
+use Rattle.promises.specs.DemandThree.{lowered}
 use Rattle.promises.specs.TableTexts.{firstRecords}
-use Rattle.promises.specs.ReaderCalls.{eachRecord, LowerCallAccepts, HigherCallRefuses}
-use Rattle.promises.proofs.Widths.{flat-length}
+use Rattle.promises.specs.ReaderCalls.{laid, LowerCallAccepts, HigherCallRefuses}
 use Rattle.promises.proofs.Answered.{demand-one}
 use Rattle.promises.proofs.TwoClasses.{lower-accepts, higher-refuses}
 
@@ -42,15 +41,6 @@ table-records class wire len spool n e =
     let w = demand-one .reader class wire len spool .whenAccepted n e in
     ap₂ firstRecords (sym (w .count)) (w .stands) ∙ first-flat (readRecords class wire len spool) _ (w .wide)
 
--- the table of an accepted spool, its records changed
-each-table : (f : List ℤ → List ℤ) (class wire len : ℕ) (spool : List ℕ) (n : ℕ) → readAnswer class wire len spool ≡ Accepted n
-    → eachRecord f n (readTable class wire len spool) ≡ flat (map f (readRecords class wire len spool)) ++ replicate (len - n * width) (pos 0)
-each-table f class wire len spool n e =
-    let w = demand-one .reader class wire len spool .whenAccepted n e in
-    let rs = readRecords class wire len spool in
-    ap₂ _++_ (ap (λ us. flat (map f us)) (table-records class wire len spool n e))
-    (ap (drop (n * width)) (w .stands) ∙ drop-at (flat rs) _ (n * width) (flat-length rs (w .wide) ∙ ap (λ m. m * width) (w .count)))
-
 -- the two calls with one spool and one length
 pub lower-call-accepts : LowerCallAccepts
 lower-call-accepts lower higher two n e =
@@ -60,17 +50,19 @@ lower-call-accepts lower higher two n e =
     let high = sym (higher .answers) ∙ e in
     let (set, read) = accepted-set (higher .class) (higher .wire) len s n high in
     let (a, r) = lower-accepts (lower .class) (lower .wire) (higher .class) (higher .wire) (two .low) (two .high) (two .classes) len s set read in
-    let low = a ∙ high in
+    let shown = ap (firstRecords n) (higher .fills) ∙ table-records (higher .class) (higher .wire) len s n high in
+    let size = ap length (higher .fills) ∙ demand-one .reader (higher .class) (higher .wire) len s .size in
     record {
-      answer = lower .answers ∙ same ∙ low;
       set = set;
       reads = read;
+      count = length (lowered (two .low) set (readRecords (higher .class) (higher .wire) len s));
+      counts = ap (λ rs. length (lowered (two .low) set rs)) (sym shown);
+      answer = lower .answers ∙ same ∙ a;
       table =
           lower .fills ∙ ap₂ (readTable (lower .class) (lower .wire)) (two .lengths) (two .spools)
-          ∙ demand-one .reader (lower .class) (lower .wire) len s .whenAccepted n low .stands
-          ∙ ap (λ rs. flat rs ++ replicate (len - n * width) (pos 0)) r
-          ∙ sym (each-table (unread (two .low .symbols) (rangeOf set)) (higher .class) (higher .wire) len s n high)
-          ∙ ap (eachRecord (unread (two .low .symbols) (rangeOf set)) n) (sym (higher .fills));
+          ∙ demand-one .reader (lower .class) (lower .wire) len s .whenAccepted _ a .stands
+          ∙ ap (λ rs. flat rs ++ replicate (len - length (lowered (two .low) set (readRecords (higher .class) (higher .wire) len s)) * width) (pos 0)) r
+          ∙ ap₂ (λ m rs. laid m (lowered (two .low) set rs)) (sym size) (sym shown);
     }
 
 pub higher-call-refuses : HigherCallRefuses

@@ -11,11 +11,11 @@ use Rattle.rules.specs.Rows.{Rule, Held}
 use Rattle.rules.specs.Blocks.{symbolTable}
 use Rattle.rules.specs.Figures.{textTable, placedTables}
 use Rattle.rules.specs.Sets.{Figure, Drawing, Symbol, Contents, Set, withNow, withSymbol, withVolume, withBlock, isFirst, knownOf}
-use Rattle.rules.specs.Machine.{Home, inElement, inLayer, State, top, file, drawing, layerNames, defines, symbol, hide, elements, figures, successive, texts, placing, skipping, ended, isLayer, homeTable}
+use Rattle.rules.specs.Machine.{Home, inElement, inLayer, State, top, file, drawing, layerNames, defines, symbol, hide, elements, figures, successive, texts, placing, skipping, ended, isLayer, homeTable, wireBlock, wireUnread}
 use Rattle.rules.specs.Machine.{symbolBlock, Owned}
 use Rattle.rules.specs.Sets.{layerTableOf}
 use Rattle.rules.proofs.Chains.{total-more}
-use Rattle.promises.proofs.Weights.{slotsCost, heldCost, blockCost, pointsCost, figuresCost, drawingCost, symbolCost, ownCost, symbolsCost, own-cost, nonCost, layerHead, blocksCost, fileCost, elementCost, headCost, latersCost, volumesCost}
+use Rattle.promises.proofs.Weights.{slotsCost, heldCost, blockCost, pointsCost, figuresCost, drawingCost, symbolCost, ownCost, symbolsCost, own-cost, nonCost, layerHead, blocksCost, fileCost, elementCost, headCost, latersCost, volumesCost, edgesCost}
 
 -- the closing lines of the inner parts that are open
 abbrev pub depth : ℕ → ℕ
@@ -73,6 +73,8 @@ module _ (K : Known) where
 
   abbrev pub inOwned : Set → ℕ → List Figure → Owned → ℕ
   inOwned s n fs (symbolBlock o) = inFigures s (inLayer n) fs + blockCost (bytes "E_symbol") (heldCost (knownOf s) placedTables o)
+  inOwned s n fs (wireBlock w) = inFigures s (inLayer n) fs + blockCost (bytes "E_wire") (edgesCost (knownOf s) (w .elements))
+  inOwned s n fs wireUnread = inFigures s (inLayer n) fs + blockCost (bytes "E_wire") 0
 
   abbrev pub cost : State → ℕ
   cost (top s k) = topCost s k
@@ -154,6 +156,12 @@ abbrev pub homeOwes : Home → ℕ
 homeOwes (inElement y) = 9
 homeOwes (inLayer n) = 6
 
+-- a wire has no inner parts
+abbrev pub ownedDepth : Owned → ℕ → ℕ
+ownedDepth (symbolBlock o) p = depth p
+ownedDepth (wireBlock w) p = 0
+ownedDepth wireUnread p = 0
+
 abbrev pub owed : State → ℕ
 owed (top s k) = 0
 owed (file s n h p) = 3 + depth p
@@ -166,7 +174,7 @@ owed (elements s) = 3
 owed (figures s h fs) = homeOwes h
 owed (successive s h fs n ps) = homeOwes h + 3
 owed (texts s h fs n o) = homeOwes h + 3
-owed (placing s n fs m o p) = 9 + depth p
+owed (placing s n fs m o p) = 9 + ownedDepth o p
 owed (skipping s n fs m o d) = 9
 owed (ended s) = 0
 

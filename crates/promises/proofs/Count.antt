@@ -13,23 +13,24 @@ use Rattle.rules.specs.declared.Class.{Class}
 use Rattle.rules.specs.Base.{isNone, isNil, flat, among, hasNumber}
 use Rattle.rules.specs.RefusalNumbers.{Got, got, bad, mapG, also}
 use Rattle.rules.specs.Lines.{Rest, Form, ignored, wrong, close, eof, keyed, freeShapeOf}
-use Rattle.rules.specs.RangeClass.{digits, digitsOf, reaches, exceeds, both, skipOf, mostDepth}
-use Rattle.rules.specs.Values.{Value, amountAt, numsOf, isLayerId}
+use Rattle.rules.specs.RangeClass.{digits, digitsOf, reaches, exceeds, both, knowsWires, skipOf, mostDepth}
+use Rattle.rules.specs.Values.{Num, Value, amountAt, numsOf, isLayerId}
 use Rattle.rules.specs.Rows.{Found, absent, found, find, Slots, Held, partOf, rowsThere, rowsAtLimit, Act, shut, refuse, actRow, actUnknown, act, complete}
 use Rattle.rules.specs.Blocks.{topTable, fileTables, drawingTable, mostLayers, definesTable, symbolTable, elementTable}
-use Rattle.rules.specs.Figures.{pointTable, textTable, placedTable, placedTables, leastPoints}
-use Rattle.rules.specs.Sets.{Point, Figure, plain, chain, lettering, placed, Layer, Drawing, Symbol, LayerBlock, Contents, Set, nothingYet, withNow, withVolume, symbolOwn, isFirst, arcOf, rangeOf, defineRange, knownOf, usedIn}
+use Rattle.rules.specs.Figures.{pointTable, textTable, placedTable, placedTables, wireTable, leastPoints}
+use Rattle.rules.specs.Sets.{Point, Edge, Wire, Figure, plain, chain, lettering, placed, wired, passed, joinDigit, wiresOf, withRecords, Layer, Drawing, Symbol, LayerBlock, Contents, Set, nothingYet, withNow, withVolume, symbolOwn, isFirst, arcOf, rangeOf, defineRange, knownOf, usedIn}
 use Rattle.rules.specs.VolumesAndTotals.{chained, dated, countedHere, countedAll, layersUsed}
 use Rattle.rules.specs.Machine.{Line, Env, Home, inElement, inLayer, State, top, file, drawing, layerNames, defines, symbol, hide, elements, figures, successive, texts, placing, skipping, ended, byAct, roomFor, openTop, atEof, onTop, closeFile, onFile, onDrawing, layerValue, onLayerNames, newName, openSymbol, onSymbol, onDefines, pointAt, onHide, onElements, isLayer, homeTable, closeFigures, openPlaced, openFigure, onFigures, onSuccessive, onTexts}
-use Rattle.rules.specs.PlacedSymbol.{onUnknown, newSerial, onPlaced, onPlacedKey, onPlacedOwn, onPlacing, skipShut, onSkipping}
+use Rattle.rules.specs.PlacedSymbol.{onUnknown, newSerial, onPlaced, onPlacedKey, onPlacedOwn, onPlacing, skipEnded, unreadShut, skipShut, onSkipping}
 use Rattle.rules.specs.LineByLine.{stepIn, isIgnored, isClose, isEof, completes, nextVolume, step, accepted, thenRun, run}
-use Rattle.rules.specs.RecordTable.{recordsOf}
-use Rattle.rules.specs.Machine.{symbolBlock, Owned, fileKinds}
+use Rattle.rules.specs.RecordTable.{kindWire, kindWireMore, recordsOf}
+use Rattle.rules.specs.Wires.{joinsEnds, lastEdge, joinOf, joined, onElement, onWire}
+use Rattle.rules.specs.Machine.{symbolBlock, wireBlock, wireUnread, Owned, fileKinds, beginWire, openWire}
 use Rattle.rules.proofs.Chains.{and-left, and-false, or-left, clash, by-cond, cond-same, On, on-unless, on-cond, on-map, on-then, on-also, on-weaken, nil-snoc, map-append, flat-append}
 use Rattle.rules.proofs.Runs.{not-accepted, finish-ended}
 use Rattle.rules.proofs.Rows.{row-below}
 use Rattle.promises.specs.Acceptance.{Place, place, placeOf}
-use Rattle.promises.proofs.RecordLines.{pointPlaces, figurePlaces, figuresPlaces, symbolPlaces, symbolsPlaces, drawnPlaces, headPlaces, blockPlaces, bodyPlaces, laterPlaces, frontPlaces, setPlaces, records-at}
+use Rattle.promises.proofs.RecordLines.{pointPlaces, edgePlaces, figurePlaces, figuresPlaces, symbolPlaces, symbolsPlaces, drawnPlaces, headPlaces, blockPlaces, bodyPlaces, laterPlaces, frontPlaces, setPlaces, records-at}
 use Rattle.rules.proofs.OnActs.{on-byAct, on-taking, on-shut, on-skip}
 use Rattle.promises.proofs.CountActs.{Begun, act-begin}
 use Rattle.promises.proofs.CountState.{number, volumeOf, filePlaces, openPlaces, within, front, homePlaces, inFigures, shown, Inv, Adds, still, took, slotted-set, slotted-figs, slotted-dots, slotted-blank, SymbolOpens, symbol-begun}
@@ -44,6 +45,9 @@ snoc-behind x p a b c e = ap (λ z. x ++ (p ∷ z)) e ∙ sym (append-assoc x (p
 
 points-more : (k : ℕ) (ps : List Point) (p : Point) → pointPlaces k (ps ++ p ∷ []) ≡ pointPlaces k ps ++ place k (p .line) ∷ []
 points-more k ps p = map-append (λ q. place k (q .line)) ps (p ∷ [])
+
+edges-more : (k : ℕ) (es : List Edge) (e : Edge) → edgePlaces k (es ++ e ∷ []) ≡ edgePlaces k es ++ place k (e .line) ∷ []
+edges-more k es e = map-append (λ f. place k (f .line)) es (e ∷ [])
 
 figures-more : (s : Set) (h : Home) (fs : List Figure) (f : Figure) → inFigures s h (fs ++ f ∷ []) ≡ inFigures s h fs ++ figurePlaces (number s) f
 figures-more s h fs f =
@@ -271,11 +275,21 @@ module _ (e : Env) (l : Line) where
   inv-open-placed s (inElement y) fs i = tt
   inv-open-placed s (inLayer k) fs i = on-taking (Does (figures s (inLayer k) fs)) e 1 s _ (λ r. took 1 r i refl tt refl)
 
+  inv-begun-wire : (b : Bool) (s : Set) (k : ℕ) (fs : List Figure) → roomFor (e .limit) (s .taken + 2) ≡ true → Inv e (figures s (inLayer k) fs)
+      → Does (figures s (inLayer k) fs) (beginWire b (withRecords (kindWire ∷ kindWireMore ∷ []) s) k fs (l .line))
+  inv-begun-wire true s k fs r i = took 2 r i refl tt refl
+  inv-begun-wire false s k fs r i = took 2 r i refl tt refl
+
+  inv-open-wire : (s : Set) (h : Home) (fs : List Figure) → Inv e (figures s h fs) → On (Does (figures s h fs)) (openWire e l s h fs)
+  inv-open-wire s (inElement y) fs i = tt
+  inv-open-wire s (inLayer k) fs i = on-taking (Does (figures s (inLayer k) fs)) e 2 s _ (λ r. inv-begun-wire (knowsWires (e .class)) s k fs r i)
+
   inv-open-figure : (s : Set) (h : Home) (fs : List Figure) (m : ℕ) → Inv e (figures s h fs) → On (Does (figures s h fs)) (openFigure e l s h fs m)
   inv-open-figure s h fs zero i = tt
   inv-open-figure s h fs (suc zero) i = on-taking (Does (figures s h fs)) e 1 s _ (λ r. took 1 r i refl (i .kept) refl)
   inv-open-figure s h fs (suc (suc zero)) i = on-taking (Does (figures s h fs)) e 1 s _ (λ r. took 1 r i refl (i .kept) refl)
-  inv-open-figure s h fs (suc (suc (suc m))) i = inv-open-placed s h fs i
+  inv-open-figure s h fs (suc (suc (suc zero))) i = inv-open-placed s h fs i
+  inv-open-figure s h fs (suc (suc (suc (suc m)))) i = inv-open-wire s h fs i
 
   inv-figures : (s : Set) (h : Home) (fs : List Figure) (f : Form) → Inv e (figures s h fs) → On (Does (figures s h fs)) (onFigures e l s h fs f)
   inv-figures s h fs f i =
@@ -348,9 +362,43 @@ module _ (e : Env) (l : Line) where
   inv-placing s k fs n o (suc p) f i =
       inv-placed s k fs n o (suc p) (act (knownOf s) (getD placedTables (suc p) []) (digits 0 0) (rowsThere (partOf o (suc p))) f) i
 
+  -- a wire's line or arc takes one record
+  inv-element : (s : Set) (k : ℕ) (fs : List Figure) (n : ℕ) (w : Wire) (p row : ℕ) (v : List Num) → Inv e (placing s k fs n (wireBlock w) p)
+      → On (Does (placing s k fs n (wireBlock w) p)) (onElement e l s k fs n w row v)
+  inv-element s k fs n w p row v i =
+      let does = Does (placing s k fs n (wireBlock w) p) in
+      let former = lastEdge (w .elements) in
+      let ends = joinsEnds (joinDigit s) in
+      let new : Edge = record { line = l .line; row = row; values = v; join = joinOf ends former row } in
+      let at = place (number s) n in
+      on-unless does (joined ends former row v) 11 _ λ _.
+      on-taking does e 1 s _ λ r.
+      took 1 r i
+      (snoc-behind (inFigures s (inLayer k) fs) at (at ∷ edgePlaces (number s) (w .elements)) (place (number s) (l .line) ∷ []) _ (ap (λ z. at ∷ z) (edges-more (number s) (w .elements) new)))
+      tt refl
+
+  inv-wire : (s : Set) (k : ℕ) (fs : List Figure) (n : ℕ) (w : Wire) (p : ℕ) (f : Form) → Inv e (placing s k fs n (wireBlock w) p)
+      → On (Does (placing s k fs n (wireBlock w) p)) (onWire e l s k fs n w f)
+  inv-wire s k fs n w p f i =
+      on-byAct (Does (placing s k fs n (wireBlock w) p)) _ _ _ _ (act (knownOf s) wireTable (wiresOf s) (rowsAtLimit 0 wireTable) f) (still i refl tt refl)
+      (λ j v. inv-element s k fs n w p j (numsOf v) i)
+      (λ m j v b. tt)
+      (still i (figures-more s (inLayer k) fs (wired n w)) tt refl)
+
+  -- skipped lines take none
+  inv-skip-ended : (s : Set) (k : ℕ) (fs : List Figure) (n : ℕ) (b : Owned) (d : ℕ) → Inv e (skipping s k fs n b d) → Does (skipping s k fs n b d) (skipEnded s k fs n b)
+  inv-skip-ended s k fs n (symbolBlock o) d i = still i refl tt refl
+  inv-skip-ended s k fs n (wireBlock w) d i = still i refl tt refl
+  inv-skip-ended s k fs n wireUnread d i = still i refl tt refl
+
+  inv-unread-shut : (s : Set) (k : ℕ) (fs : List Figure) (n : ℕ) (b : Owned) (d : ℕ) → Inv e (skipping s k fs n b d) → On (Does (skipping s k fs n b d)) (unreadShut s k fs n b)
+  inv-unread-shut s k fs n (symbolBlock o) d i = tt
+  inv-unread-shut s k fs n (wireBlock w) d i = tt
+  inv-unread-shut s k fs n wireUnread d i = still i (figures-more s (inLayer k) fs (passed n)) tt refl
+
   inv-skip-shut : (s : Set) (k : ℕ) (fs : List Figure) (n : ℕ) (b : Owned) (d : ℕ) → Inv e (skipping s k fs n b d) → On (Does (skipping s k fs n b d)) (skipShut s k fs n b d)
-  inv-skip-shut s k fs n b zero i = tt
-  inv-skip-shut s k fs n b (suc zero) i = still i refl tt refl
+  inv-skip-shut s k fs n b zero i = inv-unread-shut s k fs n b 0 i
+  inv-skip-shut s k fs n b (suc zero) i = inv-skip-ended s k fs n b 1 i
   inv-skip-shut s k fs n b (suc (suc d)) i = still i refl tt refl
 
   inv-skipping : (s : Set) (k : ℕ) (fs : List Figure) (n : ℕ) (b : Owned) (d : ℕ) (f : Form) → Inv e (skipping s k fs n b d) → On (Does (skipping s k fs n b d)) (onSkipping s k fs n b d f)
@@ -374,6 +422,8 @@ module _ (e : Env) (l : Line) where
   inv-in (successive s h fs n ps) i = inv-successive s h fs n ps (l .form) i
   inv-in (texts s h fs n o) i = inv-texts s h fs n o (l .form) i
   inv-in (placing s h fs n (symbolBlock o) p) i = inv-placing s h fs n o p (l .form) i
+  inv-in (placing s h fs n (wireBlock w) p) i = inv-wire s h fs n w p (l .form) i
+  inv-in (placing s h fs n wireUnread p) i = tt
   inv-in (skipping s h fs n b d) i = inv-skipping s h fs n b d (l .form) i
   inv-in (ended s) i = tt
 

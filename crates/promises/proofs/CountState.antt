@@ -12,14 +12,14 @@ use Rattle.rules.specs.Base.{isNil, isNone, isSome}
 use Rattle.rules.specs.Values.{Value}
 use Rattle.rules.specs.Rows.{Slots, blank, rowsThere, innerOf}
 use Rattle.rules.specs.Blocks.{symbolTable}
-use Rattle.rules.specs.Sets.{Point, Figure, Drawing, Symbol, Contents, Set, isFirst}
+use Rattle.rules.specs.Sets.{Point, Figure, wired, passed, Drawing, Symbol, Contents, Set, isFirst}
 use Rattle.rules.specs.Machine.{Env, Home, inElement, inLayer, State, top, file, drawing, layerNames, defines, symbol, hide, elements, figures, successive, texts, placing, skipping, ended, setOf, roomFor}
 use Rattle.rules.specs.RecordTable.{ruleAt}
-use Rattle.rules.specs.Machine.{fileKinds}
+use Rattle.rules.specs.Machine.{fileKinds, Owned, symbolBlock, wireBlock, wireUnread}
 use Rattle.rules.proofs.Chains.{clash}
 use Rattle.rules.proofs.Rows.{row-at}
 use Rattle.promises.specs.Acceptance.{Place, place}
-use Rattle.promises.proofs.RecordLines.{pointPlaces, figuresPlaces, symbolPlaces, drawnPlaces, headPlaces, bodyPlaces, frontPlaces, setPlaces}
+use Rattle.promises.proofs.RecordLines.{pointPlaces, figurePlaces, figuresPlaces, symbolPlaces, drawnPlaces, headPlaces, bodyPlaces, frontPlaces, setPlaces}
 use Rattle.promises.proofs.CountActs.{Begun}
 
 -- ── the lines at which a state's records were taken ──
@@ -80,6 +80,12 @@ homePlaces s h = homeIn (front s) (within s) (number s) h
 abbrev pub inFigures : Set → Home → List Figure → List Place
 inFigures s h fs = homePlaces s h ++ figuresPlaces (number s) fs
 
+-- a layer's block with attributes, at line n of volume k: a wire has taken what it has so far
+abbrev pub ownedPlaces : ℕ → ℕ → Owned → List Place
+ownedPlaces k n (symbolBlock o) = place k n ∷ []
+ownedPlaces k n (wireBlock w) = figurePlaces k (wired n w)
+ownedPlaces k n wireUnread = figurePlaces k (passed n)
+
 -- at the top level, by the block that comes next
 abbrev topPlaces : Set → ℕ → List Place
 topPlaces s zero = closed s
@@ -100,8 +106,8 @@ shown (elements s) = within s
 shown (figures s h fs) = inFigures s h fs
 shown (successive s h fs n ps) = inFigures s h fs ++ (place (number s) n ∷ pointPlaces (number s) ps)
 shown (texts s h fs n o) = inFigures s h fs ++ place (number s) n ∷ []
-shown (placing s k fs n o p) = inFigures s (inLayer k) fs ++ place (number s) n ∷ []
-shown (skipping s k fs n o d) = inFigures s (inLayer k) fs ++ place (number s) n ∷ []
+shown (placing s k fs n o p) = inFigures s (inLayer k) fs ++ ownedPlaces (number s) n o
+shown (skipping s k fs n o d) = inFigures s (inLayer k) fs ++ ownedPlaces (number s) n o
 shown (ended s) = closed s
 
 -- ── what else is kept ──

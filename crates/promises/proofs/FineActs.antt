@@ -11,7 +11,7 @@ use Rattle.rules.specs.Base.{within, split}
 use Rattle.rules.specs.RefusalNumbers.{Got, got, bad, unless, mapG, andThen, orBad, keep, consG, also}
 use Rattle.rules.specs.Lines.{Rest, Form, ignored, wrong, close, eof, keyed, Shape, opener, noContent, content, opening, formless, hasForm, shapeOf}
 use Rattle.rules.specs.RangeClass.{reaches}
-use Rattle.rules.specs.Values.{Value, Known, Part, count, digit, typeDigits, range, rangeOfSymbols, day, clock, decimal, symbolName, layerId, readPart, readAll, Kind, values, text, word, volumeName, sheet, ratio, serials, nothing, opens, headed, either, readCounts, readSerials, readKind}
+use Rattle.rules.specs.Values.{Value, Known, Part, count, digit, typeDigits, range, rangeOfSymbols, rangeOfWires, day, clock, decimal, symbolName, layerId, readPart, readAll, Kind, values, text, word, volumeName, sheet, ratio, serials, nothing, opens, headed, either, readCounts, readSerials, readKind}
 use Rattle.rules.specs.Rows.{Rule, Found, absent, found, find, Act, stay, entry, begin, shut, refuse, orRefuse, innerOf, fits, shapeFor, readShape, notTwice, actRow, actUnknown, actFound, complete, act}
 use Rattle.rules.specs.Machine.{State, byAct}
 use Rattle.rules.proofs.Chains.{by-cond, On, on-unless, on-map, on-then, on-got, on-all}
@@ -87,6 +87,7 @@ fine-part k (digit lo hi) s = search fines
 fine-part k typeDigits s = search fines
 fine-part k (range lo hi) s = search fines
 fine-part k rangeOfSymbols s = search fines
+fine-part k rangeOfWires s = search fines
 fine-part k day s = search fines
 fine-part k clock s = search fines
 fine-part k (decimal b) s = search fines

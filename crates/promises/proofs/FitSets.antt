@@ -10,7 +10,7 @@ use Rattle.rules.specs.Values.{Value, empty, nums, chars, linked, Kind, values,
 use Rattle.rules.specs.Rows.{Rule, Slots, Held, partOf}
 use Rattle.rules.specs.Blocks.{fileTables, drawingTable, symbolTable, layerNameKind}
 use Rattle.rules.specs.Figures.{textTable, placedTables}
-use Rattle.rules.specs.Sets.{Figure, plain, chain, lettering, placed, Layer, Drawing, Symbol, LayerBlock, Contents, Set}
+use Rattle.rules.specs.Sets.{Figure, plain, chain, lettering, placed, Layer, Drawing, Symbol, LayerBlock, Contents, Set, Edge, wired, passed}
 use Rattle.rules.specs.RecordTable.{firstSlot, otherSlots}
 
 -- ── only rows of text hold text ──
@@ -51,8 +51,12 @@ Each P (a ∷ s) = P a × Each P s
 
 -- a figure that is one line has a row of its table
 abbrev pub FitPlain : Bool → ℕ → Type 0
-FitPlain true j = j < 7
+FitPlain true j = j < 8
 FitPlain false j = j < 6
+
+-- a wire's line or arc has a row of the wire's table
+abbrev pub FitEdge : Edge → Type 0
+FitEdge e = e .row < 2
 
 module _ (S : ℕ → List ℕ → Type 0) where
   -- the first arguments: the row is one of text, and shown
@@ -76,13 +80,17 @@ module _ (S : ℕ → List ℕ → Type 0) where
   abbrev pub FitHeld : List (List Rule) → Held → Type 0
   FitHeld ts h = (p : ℕ) → FitSlots (getD ts p []) (partOf h p)
 
-  -- a figure of a layer, or of a symbol, in which no symbol is placed
+  -- a figure of a layer, or of a symbol, in which no symbol is placed and no wire stands
   abbrev pub FitFigure : Bool → Figure → Type 0
   FitFigure inLayer (plain n j v) = FitPlain inLayer j
   FitFigure inLayer (chain n ps) = Unit {0}
   FitFigure inLayer (lettering n s) = FitSlots (textTable inLayer 4 12) s
   FitFigure true (placed n h) = FitHeld placedTables h
   FitFigure false (placed n h) = ⊥
+  FitFigure true (wired n w) = Each FitEdge (w .elements)
+  FitFigure false (wired n w) = ⊥
+  FitFigure true (passed n) = Unit {0}
+  FitFigure false (passed n) = ⊥
 
   abbrev pub FitLayer : Layer → Type 0
   FitLayer l = FitValue layerNameKind (l .name)

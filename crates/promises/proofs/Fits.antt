@@ -14,15 +14,15 @@ use Rattle.rules.specs.declared.Class.{Class}
 use Rattle.rules.specs.Base.{isNil, among, hasNumber}
 use Rattle.rules.specs.RefusalNumbers.{Got, got, bad, mapG, also}
 use Rattle.rules.specs.Lines.{Rest, brace, equals, Form, ignored, wrong, close, eof, keyed, freeShapeOf}
-use Rattle.rules.specs.RangeClass.{digits, digitsOf, reaches, exceeds, both, Skip, passes, deeper, noForm, skipOf, mostDepth}
+use Rattle.rules.specs.RangeClass.{digits, digitsOf, reaches, exceeds, both, Skip, passes, deeper, noForm, skipOf, mostDepth, knowsWires}
 use Rattle.rules.specs.Values.{Value, Known, numsOf, amountAt, isLayerId}
 use Rattle.rules.specs.Rows.{Rule, Found, absent, found, find, Slots, Held, partOf, rowsThere, rowsAtLimit, Act, stay, entry, begin, shut, refuse, actRow, actUnknown, act}
 use Rattle.rules.specs.Blocks.{topTable, fileTables, drawingTable, definesTable, symbolTable, elementTable, mostLayers, layerNameKind, around}
-use Rattle.rules.specs.Figures.{layerTable, figureTable, pointTable, textTable, placedTable, placedTables, leastPoints}
-use Rattle.rules.specs.Sets.{Point, Figure, plain, chain, lettering, placed, Drawing, Symbol, Set, nothingYet, isFirst, arcOf, defineRange, rangeOf, knownOf, usedIn, symbolOwn}
+use Rattle.rules.specs.Figures.{layerTable, figureTable, pointTable, textTable, placedTable, placedTables, leastPoints, wireTable}
+use Rattle.rules.specs.Sets.{Point, Figure, plain, chain, lettering, placed, Drawing, Symbol, Set, nothingYet, isFirst, arcOf, defineRange, rangeOf, knownOf, usedIn, symbolOwn, Wire, wired, passed, isSingle, isWired, joinDigit, wiresOf}
 use Rattle.rules.specs.VolumesAndTotals.{chained, dated, countedHere, countedAll, layersUsed}
-use Rattle.rules.specs.Machine.{Line, Env, Home, inElement, inLayer, State, top, file, drawing, layerNames, defines, symbol, hide, elements, figures, successive, texts, placing, skipping, ended, byAct, roomFor, openTop, onTop, closeFile, shutPart, onFile, onDrawing, layerValue, onLayerNames, onDefines, newName, openSymbol, onSymbol, onHide, onElements, isLayer, homeTable, closeFigures, openFigure, onFigures, onSuccessive, onTexts}
-use Rattle.rules.specs.PlacedSymbol.{bySkip, skipDeeper, onUnknown, newSerial, onPlaced, onPlacedKey, onPlacedOwn, onPlacing, onSkipping}
+use Rattle.rules.specs.Machine.{Line, Env, Home, inElement, inLayer, State, top, file, drawing, layerNames, defines, symbol, hide, elements, figures, successive, texts, placing, skipping, ended, byAct, roomFor, openTop, onTop, closeFile, shutPart, onFile, onDrawing, layerValue, onLayerNames, onDefines, newName, openSymbol, onSymbol, onHide, onElements, isLayer, homeTable, closeFigures, openFigure, onFigures, onSuccessive, onTexts, wireBlock, wireUnread, beginWire}
+use Rattle.rules.specs.PlacedSymbol.{bySkip, skipDeeper, onUnknown, newSerial, onPlaced, onPlacedKey, onPlacedOwn, onPlacing, onSkipping, skipEnded, unreadShut}
 use Rattle.rules.specs.LineByLine.{stepIn, completes, nextVolume, step, Outcome, refused, accepted, thenRun, finish, run}
 use Rattle.rules.specs.RecordTable.{recordsOf}
 use Rattle.rules.specs.Machine.{symbolBlock, Owned, fileKinds}
@@ -30,8 +30,9 @@ use Rattle.rules.proofs.Chains.{On, on-unless, on-cond, on-then, on-also, on-go
 use Rattle.rules.proofs.Rows.{Row, found-row, row-below}
 use Rattle.promises.specs.PlacesApart.{bareSet, placesApart}
 use Rattle.promises.proofs.RecordPlaces.{records-bare}
-use Rattle.promises.proofs.FitSets.{anyText, FitValue, FitSlots, FitHeld, Each, FitPlain, FitFigure, FitLayer, FitDrawing, FitSymbol, FitBlock, FitContents, FitSet}
+use Rattle.promises.proofs.FitSets.{anyText, FitValue, FitSlots, FitHeld, Each, FitPlain, FitFigure, FitLayer, FitDrawing, FitSymbol, FitBlock, FitContents, FitSet, FitEdge}
 use Rattle.promises.proofs.FitRows.{each-more, volume-more, fit-nil, fit-blank, fit-set, fit-blanks, fit-enter, FitForm, layer-fit, FitRow, FitAct, row-fit, unknown-fit, act-fit}
+use Rattle.rules.specs.Wires.{joinsEnds, lastEdge, joined, onWire}
 
 module _ (S : ℕ → List ℕ → Type 0) where
   -- ── states ──
@@ -51,6 +52,8 @@ module _ (S : ℕ → List ℕ → Type 0) where
 
   abbrev FitOwned : Set → List Figure → Owned → Type 0
   FitOwned s fs (symbolBlock o) = FitPlacing s fs o
+  FitOwned s fs (wireBlock w) = FitSet S s × FitNow s × Each (FitFigure S true) fs × Each FitEdge (w .elements)
+  FitOwned s fs wireUnread = FitSet S s × FitNow s × Each (FitFigure S true) fs
 
   -- at the top level the volume at hand is open from FILE_FORMAT's end to ELEMENT's
   abbrev pub FitState : State → Type 0
@@ -184,20 +187,31 @@ module _ (S : ℕ → List ℕ → Type 0) where
   closeFigures-fit s (inElement y) fs g = on-unless FitState (not (isNil fs)) 8 _ λ _. (g .0, g .1, (g .2 .0, g .3))
   closeFigures-fit s (inLayer k) fs g = (g .0, (g .1 .0, each-more (FitBlock S) (s .now .blocks) (record { layer = k; figures = fs }) (g .1 .1) (g .3)))
 
+  begin-fit : (b : Bool) (s : Set) (k : ℕ) (fs : List Figure) (n : ℕ) → FitFigures s (inLayer k) fs → FitState (beginWire b s k fs n)
+  begin-fit true s k fs n g = (g .0, g .1, g .3, tt)
+  begin-fit false s k fs n g = (g .0, g .1, g .3)
+
   openFigure-fit : (e : Env) (l : Line) (s : Set) (h : Home) (fs : List Figure) (i : ℕ) → FitFigures s h fs → On FitState (openFigure e l s h fs i)
   openFigure-fit e l s h fs zero g = tt
   openFigure-fit e l s h fs (suc zero) g = on-unless FitState (room e 1 s) 19 _ λ _. g
   openFigure-fit e l s h fs (suc (suc zero)) g = on-unless FitState (room e 1 s) 19 _ λ _. (g, fit-blank S (textTable (isLayer h) 4 12))
-  openFigure-fit e l s (inElement y) fs (suc (suc (suc i))) g = tt
-  openFigure-fit e l s (inLayer k) fs (suc (suc (suc i))) g = on-unless FitState (room e 1 s) 19 _ λ _. (g .0, g .1, g .3, fit-blanks S placedTables)
+  openFigure-fit e l s (inElement y) fs (suc (suc (suc zero))) g = tt
+  openFigure-fit e l s (inLayer k) fs (suc (suc (suc zero))) g = on-unless FitState (room e 1 s) 19 _ λ _. (g .0, g .1, g .3, fit-blanks S placedTables)
+  openFigure-fit e l s (inElement y) fs (suc (suc (suc (suc i)))) g = tt
+  openFigure-fit e l s (inLayer k) fs (suc (suc (suc (suc i)))) g = on-unless FitState (room e 2 s) 19 _ λ _. begin-fit (knowsWires (e .class)) _ k fs (l .line) g
 
   more-figures : (s : Set) (h : Home) (fs : List Figure) (x : Figure) → FitFigures s h fs → FitFigure S (isLayer h) x → FitFigures s h (fs ++ x ∷ [])
   more-figures s h fs x g w = (g .0, g .1, g .2, each-more (FitFigure S (isLayer h)) fs x (g .3) w)
 
+  layer-row : (single wires : Bool) {j : ℕ} {r : Rule} → Row (layerTable single wires) j r → j < 8
+  unfolding layerTable
+  layer-row single true w = row-below w
+  layer-row single false w = omega (arith, row-below w)
+
   home-row : (s : Set) (h : Home) {j : ℕ} {r : Rule} → Row (homeTable s h) j r → FitPlain (isLayer h) j
-  unfolding layerTable figureTable
+  unfolding figureTable
   home-row s (inElement y) w = row-below w
-  home-row s (inLayer k) w = row-below w
+  home-row s (inLayer k) w = layer-row (isSingle s) (isWired s) w
 
   onFigures-fit : (e : Env) (l : Line) (s : Set) (h : Home) (fs : List Figure) (f : Form) → FitForm S f → FitFigures s h fs → On FitState (onFigures e l s h fs f)
   onFigures-fit e l s h fs f x g =
@@ -257,11 +271,34 @@ module _ (S : ℕ → List ℕ → Type 0) where
       onPlaced-fit s i fs n o (suc p) (act (knownOf s) (getD placedTables (suc p) []) (digits 0 0) (rowsThere (partOf o (suc p))) f)
       (act-fit S (knownOf s) (getD placedTables (suc p) []) (digits 0 0) (rowsThere (partOf o (suc p))) f x) g
 
+  -- ── a wire ──
+  wire-row : {j : ℕ} {r : Rule} → Row wireTable j r → j < 2
+  unfolding wireTable
+  wire-row w = row-below w
+
+  onWire-fit : (e : Env) (l : Line) (s : Set) (i : ℕ) (fs : List Figure) (n : ℕ) (w : Wire) (f : Form) → FitForm S f → FitOwned s fs (wireBlock w) → On FitState (onWire e l s i fs n w f)
+  onWire-fit e l s i fs n w f x g =
+      by-line (knownOf s) wireTable (wiresOf s) (rowsAtLimit 0 wireTable) f x (placing s i fs n (wireBlock w) 0) _ _ _ g
+      (λ j v r. on-unless FitState (joined (joinsEnds (joinDigit s)) (lastEdge (w .elements)) j (numsOf v)) 11 _ λ _.
+      on-unless FitState (room e 1 s) 19 _ λ _. (g .0, g .1, g .2, each-more FitEdge (w .elements) _ (g .3) (wire-row (r .1))))
+      (λ i j v r. tt) (g .0, g .1, tt, each-more (FitFigure S true) fs (wired n w) (g .2) (g .3))
+
+  -- ── skipped lines ──
+  skipEnded-fit : (s : Set) (i : ℕ) (fs : List Figure) (n : ℕ) (b : Owned) → FitOwned s fs b → FitState (skipEnded s i fs n b)
+  skipEnded-fit s i fs n (symbolBlock o) g = g
+  skipEnded-fit s i fs n (wireBlock w) g = g
+  skipEnded-fit s i fs n wireUnread g = g
+
+  unreadShut-fit : (s : Set) (i : ℕ) (fs : List Figure) (n : ℕ) (b : Owned) → FitOwned s fs b → On FitState (unreadShut s i fs n b)
+  unreadShut-fit s i fs n (symbolBlock o) g = tt
+  unreadShut-fit s i fs n (wireBlock w) g = tt
+  unreadShut-fit s i fs n wireUnread g = (g .0, g .1, tt, each-more (FitFigure S true) fs (passed n) (g .2) tt)
+
   onSkipping-fit : (s : Set) (i : ℕ) (fs : List Figure) (n : ℕ) (b : Owned) (d : ℕ) (f : Form) → FitOwned s fs b → On FitState (onSkipping s i fs n b d f)
   onSkipping-fit s i fs n b d ignored g = g
   onSkipping-fit s i fs n b d (wrong m) g = tt
-  onSkipping-fit s i fs n b zero close g = tt
-  onSkipping-fit s i fs n b (suc zero) close g = g
+  onSkipping-fit s i fs n b zero close g = unreadShut-fit s i fs n b g
+  onSkipping-fit s i fs n b (suc zero) close g = skipEnded-fit s i fs n b g
   onSkipping-fit s i fs n b (suc (suc d)) close g = g
   onSkipping-fit s i fs n b d eof g = tt
   onSkipping-fit s i fs n b d (keyed k c) g =
@@ -281,6 +318,8 @@ module _ (S : ℕ → List ℕ → Type 0) where
   stepIn-fit e l (successive s h fs n ps) x g = onSuccessive-fit e l s h fs n ps (l .form) x g
   stepIn-fit e l (texts s h fs n o) x g = onTexts-fit s h fs n o (l .form) x g
   stepIn-fit e l (placing s k fs n (symbolBlock o) p) x g = onPlacing-fit e s k fs n o p (l .form) x g
+  stepIn-fit e l (placing s k fs n (wireBlock w) p) x g = onWire-fit e l s k fs n w (l .form) x g
+  stepIn-fit e l (placing s k fs n wireUnread p) x g = tt
   stepIn-fit e l (skipping s k fs n b d) x g = onSkipping-fit s k fs n b d (l .form) g
   stepIn-fit e l (ended s) x g = tt
 
@@ -357,7 +396,10 @@ any-lines (l ∷ ls) = (any-form (l .form), any-lines ls)
     any-form (keyed k brace) = tt
     any-form (keyed k (equals at c)) = tt
 
+pub accepted-any : (e : Env) (ls : List Line) (t : Set) → run e (top nothingYet 0) ls ≡ accepted t → FitSet anyText t
+accepted-any e ls t h = accepted-fit anyText e ls t (any-lines ls) h
+
 -- so the records of a set that was read differ from those of the bare set in their places alone
 pub records-read : (c : Class) (e : Env) (ls : List Line) (t : Set) → run e (top nothingYet 0) ls ≡ accepted t
     → map placesApart (recordsOf c t) ≡ map placesApart (recordsOf c (bareSet t))
-records-read c e ls t h = records-bare c t (accepted-fit anyText e ls t (any-lines ls) h)
+records-read c e ls t h = records-bare c t (accepted-any e ls t h)

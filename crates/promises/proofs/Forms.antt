@@ -13,7 +13,7 @@ use Rattle.rules.specs.Numbers.{isDigit, digitRun}
 use Rattle.rules.specs.Values.{isLayerId}
 use Rattle.rules.specs.Rows.{Rule}
 use Rattle.rules.specs.Blocks.{topTable, fileTable, rangeTable, baseTable, elecTable, symTable, laterTable, drawingTable, definesTable, symbolTable, elementTable}
-use Rattle.rules.specs.Figures.{layerTable, figureTable, pointTable, textTable, placedTable}
+use Rattle.rules.specs.Figures.{layerTable, figureTable, pointTable, textTable, placedTable, wireTable}
 use Rattle.rules.proofs.Chains.{and-left, and-right, and-true, by-cond, same-eq, all-weaken}
 use Rattle.promises.specs.PlacesApart.{bareForm}
 
@@ -57,9 +57,14 @@ keysOk t = all (λ r. keyOk (r .key)) t
 pub table-keys : (b : Bool) (p q : ℕ)
     → (keysOk topTable ≡ true) × (keysOk fileTable ≡ true) × (keysOk rangeTable ≡ true) × (keysOk baseTable ≡ true) × (keysOk elecTable ≡ true) × (keysOk symTable ≡ true)
     × (keysOk laterTable ≡ true) × (keysOk drawingTable ≡ true) × (keysOk definesTable ≡ true) × (keysOk symbolTable ≡ true) × (keysOk elementTable ≡ true)
-    × (keysOk (layerTable b) ≡ true) × (keysOk figureTable ≡ true) × (keysOk (pointTable b) ≡ true) × (keysOk (textTable b p q) ≡ true) × (keysOk placedTable ≡ true)
-unfolding topTable fileTable rangeTable baseTable elecTable symTable laterTable drawingTable definesTable symbolTable elementTable layerTable figureTable pointTable textTable placedTable
+    × (keysOk wireTable ≡ true) × (keysOk figureTable ≡ true) × (keysOk (pointTable b) ≡ true) × (keysOk (textTable b p q) ≡ true) × (keysOk placedTable ≡ true)
+unfolding topTable fileTable rangeTable baseTable elecTable symTable laterTable drawingTable definesTable symbolTable elementTable wireTable figureTable pointTable textTable placedTable
 table-keys b p q = (refl, refl, refl, refl, refl, refl, refl, refl, refl, refl, refl, refl, refl, refl, refl, refl)
+
+pub layer-keys : (single wires : Bool) → keysOk (layerTable single wires) ≡ true
+unfolding layerTable
+layer-keys single true = refl
+layer-keys single false = refl
 
 digit-key : (b : ℕ) → isDigit b ≡ true → keyByte b ≡ true
 digit-key b e =

@@ -14,8 +14,8 @@ use Rattle.rules.specs.RangeClass.{digits, digitsOf, reaches, both}
 use Rattle.rules.specs.Values.{Num, Value, nums, Known, isLayerId, charsOf, amountAt}
 use Rattle.rules.specs.Rows.{Rule, Slots, blank, Held, partOf, numberOf, rowsThere, complete, Act, entry, begin, innerOf, actRow}
 use Rattle.rules.specs.Blocks.{fileTable, rangeTable, baseTable, elecTable, symTable, laterTable, drawingTable, mostLayers, symbolTable}
-use Rattle.rules.specs.Figures.{layerTable, figureTable, mostPoints, leastPoints, pointTable, textTable, placedTable}
-use Rattle.rules.specs.Sets.{Point, Figure, plain, chain, lettering, placed, Layer, Drawing, Symbol, LayerBlock, Contents, Set, arcOf, rangeOf, defineRange, isSingle, symbolNameOf, knownOf, serialsOfVolume, elementsOf, usedIn}
+use Rattle.rules.specs.Figures.{layerTable, figureTable, mostPoints, leastPoints, pointTable, textTable, placedTable, wireTable}
+use Rattle.rules.specs.Sets.{Point, Figure, plain, chain, lettering, placed, Layer, Drawing, Symbol, LayerBlock, Contents, Set, arcOf, rangeOf, defineRange, symbolNameOf, knownOf, serialsOfVolume, elementsOf, usedIn, Edge, wired, passed, firstContents}
 use Rattle.rules.specs.VolumesAndTotals.{ownTable, chained, dated, countedAll, layersUsed}
 use Rattle.rules.specs.Machine.{layerValue}
 use Rattle.rules.specs.FixedForm.{opensBlock, behind, lineOf}
@@ -23,6 +23,7 @@ use Rattle.rules.specs.Answers.{fullClass}
 use Rattle.rules.specs.RecordTable.{ruleAt}
 use Rattle.rules.proofs.Rows.{Row}
 use Rattle.promises.specs.PlacesApart.{bareValue, bareForm}
+use Rattle.promises.proofs.Edges.{Behind, Joins}
 
 -- ── one row ──
 -- what stands behind the key of a written line
@@ -129,16 +130,47 @@ pub record GoodChain (b : Bool) (ps : List Point) : Type 0 where
 abbrev pub GoodText : Bool → Slots → Type 0
 GoodText b s = Closed (Always none0) none0 (textTable b 4 12) s
 
--- a figure of a layer
-abbrev pub GoodFigure : Known → Digits → Bool → Figure → Type 0
-GoodFigure k d single (plain n j v) = GoodLine (GoodRow k d) (layerTable single) j v
-GoodFigure k d single (chain n ps) = GoodChain true ps
-GoodFigure k d single (lettering n s) = GoodText true s
-GoodFigure k d single (placed n h) = GoodPlaced k d h × (single ≡ false) × (reaches d (digits 0 1) ≡ true)
+-- a wire's line or arc, behind the one before it, in a file of this E_wire
+pub record GoodEdge (wires : ℕ) (former : Option Edge) (e : Edge) : Type 0 where
+  pub line : GoodLine (Always (digitsOf wires)) wireTable (e .row) (e .values)
+  pub joins : Joins wires former e
 
-abbrev pub GoodFigures : Known → Digits → Bool → List Figure → Type 0
-GoodFigures k d single [] = Unit {0}
-GoodFigures k d single (f ∷ fs) = GoodFigure k d single f × GoodFigures k d single fs
+abbrev pub GoodEdges : ℕ → Option Edge → List Edge → Type 0
+GoodEdges wires = Behind (GoodEdge wires)
+
+-- the ranges of its file that a layer is read with: E_sym and E_wire
+pub record Ranges : Type 0 where
+  pub symbols : ℕ
+  pub wires : ℕ
+
+-- in a FILE_FORMAT, and of a set: in its first volume's
+abbrev pub rangesIn : Held → Ranges
+rangesIn f = record { symbols = numberOf "E_sym" elecTable (partOf f 3); wires = numberOf "E_wire" elecTable (partOf f 3) }
+
+abbrev pub rangesOf : Set → Ranges
+rangesOf s = rangesIn (firstContents s .file)
+
+abbrev pub symbolDigits : Ranges → Digits
+symbolDigits x = digitsOf (x .symbols)
+
+abbrev pub hasWires : Ranges → Bool
+hasWires x = not (eqb (x .wires) 0)
+
+abbrev pub layerRows : Ranges → List Rule
+layerRows x = layerTable (eqb (x .symbols) 1) (hasWires x)
+
+-- a figure of a layer; at class 15 no wire is skipped
+abbrev pub GoodFigure : Known → Ranges → Figure → Type 0
+GoodFigure k x (plain n j v) = GoodLine (GoodRow k (symbolDigits x)) (layerRows x) j v
+GoodFigure k x (chain n ps) = GoodChain true ps
+GoodFigure k x (lettering n s) = GoodText true s
+GoodFigure k x (placed n h) = GoodPlaced k (symbolDigits x) h × (eqb (x .symbols) 1 ≡ false) × (reaches (symbolDigits x) (digits 0 1) ≡ true)
+GoodFigure k x (wired n w) = (hasWires x ≡ true) × GoodEdges (x .wires) none (w .elements)
+GoodFigure k x (passed n) = ⊥
+
+abbrev pub GoodFigures : Known → Ranges → List Figure → Type 0
+GoodFigures k x [] = Unit {0}
+GoodFigures k x (f ∷ fs) = GoodFigure k x f × GoodFigures k x fs
 
 -- a figure of a symbol's element
 abbrev pub GoodShape : Digits → Figure → Type 0
@@ -146,6 +178,8 @@ GoodShape d (plain n j v) = GoodLine (Always d) figureTable j v
 GoodShape d (chain n ps) = GoodChain false ps
 GoodShape d (lettering n s) = GoodText false s
 GoodShape d (placed n h) = ⊥
+GoodShape d (wired n w) = ⊥
+GoodShape d (passed n) = ⊥
 
 abbrev pub GoodShapes : Digits → List Figure → Type 0
 GoodShapes d [] = Unit {0}
@@ -197,29 +231,29 @@ abbrev pub GoodDefines : ℕ → Digits → List Symbol → Type 0
 GoodDefines se d ys = GoodSymbols se d ys × (fresh [] (map symbolNameOf ys) ≡ true) × ((isNil ys || reaches (digitsOf se) (digits 0 1)) ≡ true)
 
 -- ── layers in use, volumes ──
-pub record GoodBlock (k : Known) (d : Digits) (single : Bool) (u : LayerBlock) : Type 0 where
+pub record GoodBlock (k : Known) (x : Ranges) (u : LayerBlock) : Type 0 where
   pub here : indexOf (getD (k .layers) (u .layer) []) (k .layers) ≡ some (u .layer)
   pub id : isLayerId (getD (k .layers) (u .layer) []) ≡ true
-  pub figures : GoodFigures k d single (u .figures)
+  pub figures : GoodFigures k x (u .figures)
 
-abbrev pub GoodBlocks : Known → Digits → Bool → List LayerBlock → Type 0
-GoodBlocks k d single [] = Unit {0}
-GoodBlocks k d single (u ∷ us) = GoodBlock k d single u × GoodBlocks k d single us
+abbrev pub GoodBlocks : Known → Ranges → List LayerBlock → Type 0
+GoodBlocks k x [] = Unit {0}
+GoodBlocks k x (u ∷ us) = GoodBlock k x u × GoodBlocks k x us
 
 -- a volume: its layers, each used once; the counts and the chain of its file format hold
-pub record GoodVolume (k : Known) (d : Digits) (single first : Bool) (next : List ℕ) (v : Contents) : Type 0 where
-  pub blocks : GoodBlocks k d single (v .blocks)
+pub record GoodVolume (k : Known) (x : Ranges) (first : Bool) (next : List ℕ) (v : Contents) : Type 0 where
+  pub blocks : GoodBlocks k x (v .blocks)
   pub once : freshNumbers [] (usedIn v) ≡ true
   pub chain : chained first next (v .file) ≡ true
   pub count : eqb (numberOf "this_ele" (ownTable first) (partOf (v .file) 0)) (elementsOf v) ≡ true
 
 -- the later volumes, with the name that follows each
-abbrev pub GoodLaters : Known → Digits → Bool → Set → List (List ℕ) → List Contents → Type 0
-GoodLaters k d single s [] [] = Unit {0}
-GoodLaters k d single s [] (v ∷ vs) = ⊥
-GoodLaters k d single s (n ∷ ns) [] = ⊥
-GoodLaters k d single s (n ∷ ns) (v ∷ vs) =
-    GoodVolume k d single false n v × GoodLater (v .file) × (dated s false (v .file) ≡ true) × GoodLaters k d single s ns vs
+abbrev pub GoodLaters : Known → Ranges → Set → List (List ℕ) → List Contents → Type 0
+GoodLaters k x s [] [] = Unit {0}
+GoodLaters k x s [] (v ∷ vs) = ⊥
+GoodLaters k x s (n ∷ ns) [] = ⊥
+GoodLaters k x s (n ∷ ns) (v ∷ vs) =
+    GoodVolume k x false n v × GoodLater (v .file) × (dated s false (v .file) ≡ true) × GoodLaters k x s ns vs
 
 -- ── the set, with the name that follows each of its volumes (nothing after the last) ──
 pub record GoodSet (nexts : List (List ℕ)) (s : Set) : Type 0 where
@@ -232,8 +266,8 @@ pub record GoodSet (nexts : List (List ℕ)) (s : Set) : Type 0 where
   pub file : GoodFile (first .file)
   pub drawing : GoodDrawing (arcOf s) (s .drawing)
   pub defines : GoodDefines (defineRange s) (rangeOf s) (s .symbols)
-  pub volume : GoodVolume (knownOf s) (rangeOf s) (isSingle s) true next first
-  pub laters : GoodLaters (knownOf s) (rangeOf s) (isSingle s) s others rest
+  pub volume : GoodVolume (knownOf s) (rangesOf s) true next first
+  pub laters : GoodLaters (knownOf s) (rangesOf s) s others rest
   pub serials : freshNumbers [] (flat (map serialsOfVolume (s .volumes))) ≡ true
   pub used : layersUsed s ≡ true
   pub counted : countedAll s ≡ true

@@ -16,14 +16,15 @@ use Rattle.rules.specs.Spool.{mostInLine}
 use Rattle.rules.specs.Values.{Value, nums, Known, isLayerId, charsOf}
 use Rattle.rules.specs.Rows.{Rule, Slots, Held, partOf}
 use Rattle.rules.specs.Blocks.{fileTable, rangeTable, baseTable, elecTable, symTable, laterTable, fileTables, drawingTable, symbolTable}
-use Rattle.rules.specs.Figures.{layerTable, figureTable, textTable, placedTable, placedTables}
-use Rattle.rules.specs.Sets.{Point, Figure, plain, chain, lettering, placed, Layer, Drawing, Symbol, LayerBlock, Contents, Set, rangeOf, isSingle, knownOf}
-use Rattle.rules.specs.FixedForm.{Text, openLine, opensBlock, innerOf, lineOf, showSlots, noInner, showInner, showHeld, block, showPoints, showFigure, showFigures, showLayers, showDrawing, symbolInner, exchanged, showSymbol, showSymbols, showDefines, showBlocks, ending, laterLines, volumeLines}
+use Rattle.rules.specs.Figures.{figureTable, textTable, placedTable, placedTables}
+use Rattle.rules.specs.Sets.{Point, Figure, plain, chain, lettering, placed, Layer, Drawing, Symbol, LayerBlock, Contents, Set, rangeOf, knownOf, Edge, wired, passed}
+use Rattle.rules.specs.FixedForm.{Text, openLine, opensBlock, innerOf, lineOf, showSlots, noInner, showInner, showHeld, block, showPoints, showFigure, showFigures, showLayers, showDrawing, symbolInner, exchanged, showSymbol, showSymbols, showDefines, showBlocks, ending, laterLines, volumeLines, showEdges}
 use Rattle.rules.specs.Sets.{layerTableOf}
 use Rattle.rules.proofs.Chains.{and-left, and-right, and-true, by-cond}
 use Rattle.rules.proofs.Rows.{row-at}
 use Rattle.promises.proofs.Forms.{layer-key, allowed-append, allowed-key, allowed-equal, plainLine, allowed-plain}
-use Rattle.promises.proofs.Good.{GoodRow, Always, GoodSlots, GoodPart, none0, isOne, GoodFile, GoodLater, GoodPoints, GoodPlaced, GoodText, GoodFigure, GoodFigures, GoodShape, GoodShapes, GoodLayers, GoodDrawing, GoodSymbol, GoodSymbols, GoodBlocks, GoodLaters, GoodSet, good-blank, InSlot}
+use Rattle.promises.proofs.Good.{GoodRow, Always, GoodSlots, GoodPart, none0, isOne, GoodFile, GoodLater, GoodPoints, GoodPlaced, GoodText, GoodFigure, GoodFigures, GoodShape, GoodShapes, GoodLayers, GoodDrawing, GoodSymbol, GoodSymbols, GoodBlocks, GoodLaters, GoodSet, good-blank, InSlot, Ranges, rangesOf, symbolDigits, layerRows, GoodEdges}
+use Rattle.rules.specs.RangeClass.{digitsOf}
 
 -- a line as a volume may have it
 abbrev pub fine : List ℕ → Bool
@@ -135,21 +136,31 @@ placed-keeps k d h g = rw (g .is) (held-keeps k placedTables (g .own ∷ g .text
     parts (suc zero) = part-slots k (isSome (getD (g .own) 1 none)) none0 none0 (textTable true 16 24) (g .text) (g .text-good)
     parts (suc (suc i)) = tt
 
-figure-keeps : (k : Known) (d : Digits) (single : Bool) (f : Figure) → GoodFigure k d single f → Keeps (showFigure k true (layerTable single) f)
-figure-keeps k d single (plain n j v) g ls e = rw (row-at (g .row) _) (and-true _ _ (row-fine k d (g .rule) (nums v) (g .good)) e)
-figure-keeps k d single (chain n ps) g ls e = block-keeps (bytes "successive") (showPoints k true ps) refl (points-keep k true ps (g .points)) ls e
-figure-keeps k d single (lettering n s) g ls e = block-keeps (bytes "text") (showSlots k (textTable true 4 12) s noInner) refl (text-keeps k true s g) ls e
-figure-keeps k d single (placed n h) g ls e = block-keeps (bytes "E_symbol") (showHeld k placedTables h) refl (placed-keeps k d h (g .0)) ls e
+edges-keep : (k : Known) (wires : ℕ) (former : Option Edge) (es : List Edge) → GoodEdges wires former es → Keeps (showEdges k es)
+edges-keep k wires former [] g ls e = e
+edges-keep k wires former (u ∷ es) g ls e =
+    let line = g .0 .line in
+    rw (row-at (line .row) _) (and-true _ _ (row-fine k (digitsOf wires) (line .rule) (nums (u .values)) (line .good k)) (edges-keep k wires (some u) es (g .1) ls e))
 
-figures-keep : (k : Known) (d : Digits) (single : Bool) (fs : List Figure) → GoodFigures k d single fs → Keeps (showFigures k true (layerTable single) fs)
-figures-keep k d single [] g ls e = e
-figures-keep k d single (f ∷ fs) g ls e = figure-keeps k d single f (g .0) _ (figures-keep k d single fs (g .1) ls e)
+figure-keeps : (k : Known) (x : Ranges) (f : Figure) → GoodFigure k x f → Keeps (showFigure k true (layerRows x) f)
+figure-keeps k x (plain n j v) g ls e = rw (row-at (g .row) _) (and-true _ _ (row-fine k (symbolDigits x) (g .rule) (nums v) (g .good)) e)
+figure-keeps k x (chain n ps) g ls e = block-keeps (bytes "successive") (showPoints k true ps) refl (points-keep k true ps (g .points)) ls e
+figure-keeps k x (lettering n s) g ls e = block-keeps (bytes "text") (showSlots k (textTable true 4 12) s noInner) refl (text-keeps k true s g) ls e
+figure-keeps k x (placed n h) g ls e = block-keeps (bytes "E_symbol") (showHeld k placedTables h) refl (placed-keeps k (symbolDigits x) h (g .0)) ls e
+figure-keeps k x (wired n w) g ls e = block-keeps (bytes "E_wire") (showEdges k (w .elements)) refl (edges-keep k (x .wires) none (w .elements) (g .1)) ls e
+figure-keeps k x (passed n) g ls e = absurd g
+
+figures-keep : (k : Known) (x : Ranges) (fs : List Figure) → GoodFigures k x fs → Keeps (showFigures k true (layerRows x) fs)
+figures-keep k x [] g ls e = e
+figures-keep k x (f ∷ fs) g ls e = figure-keeps k x f (g .0) _ (figures-keep k x fs (g .1) ls e)
 
 shape-keeps : (k : Known) (d : Digits) (f : Figure) → GoodShape d f → Keeps (showFigure k false figureTable f)
 shape-keeps k d (plain n j v) g ls e = rw (row-at (g .row) _) (and-true _ _ (row-fine k d (g .rule) (nums v) (g .good k)) e)
 shape-keeps k d (chain n ps) g ls e = block-keeps (bytes "successive") (showPoints k false ps) refl (points-keep k false ps (g .points)) ls e
 shape-keeps k d (lettering n s) g ls e = block-keeps (bytes "text") (showSlots k (textTable false 4 12) s noInner) refl (text-keeps k false s g) ls e
 shape-keeps k d (placed n h) g ls e = absurd g
+shape-keeps k d (wired n w) g ls e = absurd g
+shape-keeps k d (passed n) g ls e = absurd g
 
 shapes-keep : (k : Known) (d : Digits) (fs : List Figure) → GoodShapes d fs → Keeps (showFigures k false figureTable fs)
 shapes-keep k d [] g ls e = e
@@ -207,29 +218,29 @@ layer-fine id e =
     allowed-fine (bytes "LAYER=" ++ openLine id) (allowed-append (bytes "LAYER=") (openLine id) refl (allowed-key id (bytes ":{") (layer-key id e) refl))
     (le-leb (length (bytes "LAYER=" ++ openLine id)) 512 (omega (arith, id-length id e, length-append id (bytes ":{"))))
 
-blocks-keep : (k : Known) (d : Digits) (single : Bool) (us : List LayerBlock) → GoodBlocks k d single us → Keeps (showBlocks k (layerTable single) us)
-blocks-keep k d single [] g ls e = e
-blocks-keep k d single (u ∷ us) g ls e =
+blocks-keep : (k : Known) (x : Ranges) (us : List LayerBlock) → GoodBlocks k x us → Keeps (showBlocks k (layerRows x) us)
+blocks-keep k x [] g ls e = e
+blocks-keep k x (u ∷ us) g ls e =
     and-true _ _ (layer-fine (getD (k .layers) (u .layer) []) (g .0 .id))
-    (figures-keep k d single (u .figures) (g .0 .figures) (bytes "}" ∷ showBlocks k (layerTable single) us ls) (blocks-keep k d single us (g .1) ls e))
+    (figures-keep k x (u .figures) (g .0 .figures) (bytes "}" ∷ showBlocks k (layerRows x) us ls) (blocks-keep k x us (g .1) ls e))
 
 -- ── the volumes ──
 ending-fine : (vs : List Contents) → all fine (ending vs) ≡ true
 ending-fine [] = refl
 ending-fine (v ∷ vs) = refl
 
-element-keeps : (k : Known) (d : Digits) (single : Bool) (us : List LayerBlock) → GoodBlocks k d single us → Keeps (block (bytes "ELEMENT") (showBlocks k (layerTable single) us))
-element-keeps k d single us g = block-keeps (bytes "ELEMENT") (showBlocks k (layerTable single) us) refl (blocks-keep k d single us g)
+element-keeps : (k : Known) (x : Ranges) (us : List LayerBlock) → GoodBlocks k x us → Keeps (block (bytes "ELEMENT") (showBlocks k (layerRows x) us))
+element-keeps k x us g = block-keeps (bytes "ELEMENT") (showBlocks k (layerRows x) us) refl (blocks-keep k x us g)
 
-laters-fine : (k : Known) (d : Digits) (single : Bool) (s : Set) (ns : List (List ℕ)) (vs : List Contents) → GoodLaters k d single s ns vs
-    → all (all fine) (laterLines k (layerTable single) vs) ≡ true
-laters-fine k d single s ns [] g = refl
-laters-fine k d single s [] (v ∷ vs) g = absurd g
-laters-fine k d single s (n ∷ ns) (v ∷ vs) g =
+laters-fine : (k : Known) (x : Ranges) (s : Set) (ns : List (List ℕ)) (vs : List Contents) → GoodLaters k x s ns vs
+    → all (all fine) (laterLines k (layerRows x) vs) ≡ true
+laters-fine k x s ns [] g = refl
+laters-fine k x s [] (v ∷ vs) g = absurd g
+laters-fine k x s (n ∷ ns) (v ∷ vs) g =
     and-true _ _
     (block-keeps (bytes "FILE_FORMAT") (showHeld k (fileTables false) (v .file)) refl (later-keeps k (v .file) (g .1)) _
-    (element-keeps k d single (v .blocks) (g .0 .blocks) (ending vs) (ending-fine vs)))
-    (laters-fine k d single s ns vs (g .3))
+    (element-keeps k x (v .blocks) (g .0 .blocks) (ending vs) (ending-fine vs)))
+    (laters-fine k x s ns vs (g .3))
 
 pub lines-fine : (nexts : List (List ℕ)) (s : Set) → GoodSet nexts s → all (all fine) (volumeLines s (s .volumes)) ≡ true
 lines-fine nexts s g =
@@ -240,8 +251,8 @@ lines-fine nexts s g =
     (block-keeps (bytes "FILE_FORMAT") (showHeld k (fileTables true) (v .file)) refl (file-keeps k (v .file) (g .file)) _
     (block-keeps (bytes "DRAWING_FORMAT") (showDrawing k (s .drawing)) refl (drawing-keeps k _ (s .drawing) (g .drawing)) _
     (block-keeps (bytes "SYMBOL_DEFINE") (showDefines k (s .symbols)) refl (defines-keep k _ (rangeOf s) (s .symbols) (g .defines .0)) _
-    (element-keeps k (rangeOf s) (isSingle s) (v .blocks) (g .volume .blocks) (ending (g .rest)) (ending-fine (g .rest))))))
-    (laters-fine k (rangeOf s) (isSingle s) s (g .others) (g .rest) (g .laters)))
+    (element-keeps k (rangesOf s) (v .blocks) (g .volume .blocks) (ending (g .rest)) (ending-fine (g .rest))))))
+    (laters-fine k (rangesOf s) s (g .others) (g .rest) (g .laters)))
 
 -- ── how many ──
 -- each volume of the fixed form has lines
@@ -269,10 +280,10 @@ lines-count s = first (s .volumes)
     first (v ∷ vs) = ap suc (later (knownOf s) (layerTableOf s) vs)
 
 pub nexts-count : (nexts : List (List ℕ)) (s : Set) → GoodSet nexts s → length nexts ≡ length (s .volumes)
-nexts-count nexts s g = rw (g .nexts-are, g .volumes) (ap suc (later (knownOf s) (rangeOf s) (isSingle s) (g .others) (g .rest) (g .laters)))
+nexts-count nexts s g = rw (g .nexts-are, g .volumes) (ap suc (later (knownOf s) (rangesOf s) (g .others) (g .rest) (g .laters)))
   where
-    later : (k : Known) (d : Digits) (single : Bool) (ns : List (List ℕ)) (vs : List Contents) → GoodLaters k d single s ns vs → length ns ≡ length vs
-    later k d single [] [] h = refl
-    later k d single [] (v ∷ vs) h = absurd h
-    later k d single (n ∷ ns) [] h = absurd h
-    later k d single (n ∷ ns) (v ∷ vs) h = ap suc (later k d single ns vs (h .3))
+    later : (k : Known) (x : Ranges) (ns : List (List ℕ)) (vs : List Contents) → GoodLaters k x s ns vs → length ns ≡ length vs
+    later k x [] [] h = refl
+    later k x [] (v ∷ vs) h = absurd h
+    later k x (n ∷ ns) [] h = absurd h
+    later k x (n ∷ ns) (v ∷ vs) h = ap suc (later k x ns vs (h .3))

@@ -107,7 +107,7 @@ host-calls = record { checks = checked; reads = reads; rewrites = rewrites }
 pub lower-host-accepts : LowerHostAccepts
 lower-host-accepts lower higher two e =
     let w = lower-call-accepts (readBy lower) (readBy higher) two (higher .count) (read-accepted higher e) in
-    (lower .answers ∙ none-packed (readAs lower) (higher .count) (w .answer), lower .counts ∙ ap answerCount (w .answer), w)
+    (lower .answers ∙ none-packed (readAs lower) (w .count) (w .answer), w, lower .counts ∙ ap answerCount (w .answer))
 
 pub higher-host-refuses : HigherHostRefuses
 higher-host-refuses lower higher two h =

@@ -11,7 +11,7 @@ use Rattle.rules.specs.Lines.{Form, ignored, wrong, close, eof, keyed}
 use Rattle.rules.specs.Blocks.{elementTable}
 use Rattle.rules.specs.Sets.{Contents, Set, nothingYet}
 use Rattle.rules.specs.VolumesAndTotals.{countedHere, countedAll, layersUsed}
-use Rattle.rules.specs.Machine.{unlimited, Line, State, top, file, drawing, layerNames, defines, symbol, hide, elements, figures, successive, texts, placing, skipping, ended, onTop, onElements}
+use Rattle.rules.specs.Machine.{unlimited, Line, State, top, file, drawing, layerNames, defines, symbol, hide, elements, figures, successive, texts, placing, skipping, ended, onTop, onElements, wireBlock, wireUnread}
 use Rattle.rules.specs.LineByLine.{stepIn, isIgnored, isClose, isEof, completes, nextVolume, Outcome, refused, accepted, thenRun, finish, run}
 use Rattle.rules.specs.Answers.{fullClass}
 use Rattle.rules.specs.Machine.{symbolBlock}
@@ -22,6 +22,7 @@ use Rattle.promises.proofs.Sizes.{Tolds}
 use Rattle.promises.proofs.InvState.{untaken, TopInv, Over, fileOf, Start, Inv}
 use Rattle.promises.proofs.InvHead.{fullEnv, on-top, on-file, on-drawing, on-layers, on-defines, on-symbol, on-hide}
 use Rattle.promises.proofs.InvBody.{on-elements, on-figures, on-successive, on-texts, on-placing, on-skipping}
+use Rattle.promises.proofs.InvWires.{on-wire}
 
 -- ── the lines ──
 -- the names that follow the volumes, one for each last line
@@ -50,6 +51,8 @@ inv-in done fin l n fit e t (figures s h fs) was i = on-figures done fin l n fit
 inv-in done fin l n fit e t (successive s h fs m ps) was i = on-successive done fin l n fit s h fs m ps t i
 inv-in done fin l n fit e t (texts s h fs m o) was i = on-texts done fin l n fit s h fs m o t i
 inv-in done fin l n fit e t (placing s k fs m (symbolBlock o) p) was i = on-placing done fin l n fit s k fs m o p t i
+inv-in done fin l n fit e t (placing s k fs m (wireBlock w) p) was i = on-wire done fin l n fit s k fs m w p t i
+inv-in done fin l n fit e t (placing s k fs m wireUnread p) was i = tt
 inv-in done fin l n fit e t (skipping s k fs m b d) was i = on-skipping done fin l n fit s k fs m b d (l .form) i
 inv-in done fin l n fit e t (ended s) was i = tt
 

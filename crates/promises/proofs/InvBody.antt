@@ -8,7 +8,7 @@ use native.Mathlib.Omega.{arith}
 use lib.Dec.{eqb, leb, ltb}
 use lib.IntN.{pos}
 use lib.ListN.{length, getD}
-use borrow.Author.Tests.{not-true, eqb-true, leb-true, lt-leb}
+use borrow.Author.Tests.{not-true, eqb-true, leb-true}
 use Rattle.rules.specs.declared.Digits.{Digits}
 use Rattle.rules.specs.Base.{all, isNil, hasNumber, flat, indexOf}
 use Rattle.rules.specs.RefusalNumbers.{got, bad, orBad}
@@ -18,21 +18,21 @@ use Rattle.rules.specs.Values.{Num, num, Value, nums, Known, numsOf, amountAt, 
 use Rattle.rules.specs.Rows.{Rule, Found, absent, found, find, Slots, Held, partOf, slotValue, held, rowsThere, rowsAtLimit, shapeFor, Act, stay, entry, begin, shut, refuse, actRow, actUnknown, act, complete, innerOf}
 use Rattle.rules.specs.Blocks.{elementTable}
 use Rattle.rules.specs.Figures.{layerTable, figureTable, leastPoints, pointTable, textTable, placedTable, placedTables}
-use Rattle.rules.specs.Sets.{Point, Figure, plain, chain, lettering, placed, LayerBlock, Contents, Set, withRecords, withVolume, withBlock, rangeOf, isSingle, knownOf, figureSerial, serialsOfBlock, serialsOfVolume, serialsIn, usedIn}
+use Rattle.rules.specs.Sets.{Point, Figure, plain, chain, lettering, placed, LayerBlock, Contents, Set, withRecords, withVolume, withBlock, rangeOf, isSingle, knownOf, figureSerial, serialsOfBlock, serialsOfVolume, serialsIn, usedIn, wired, passed, isWired}
 use Rattle.rules.specs.VolumesAndTotals.{countedHere}
-use Rattle.rules.specs.Machine.{Line, Home, inElement, inLayer, State, elements, figures, successive, texts, placing, skipping, byAct, onElements, isLayer, homeTable, closeFigures, openFigure, onFigures, onSuccessive, onTexts}
-use Rattle.rules.specs.PlacedSymbol.{onUnknown, noneOf, newSerial, onPlaced, onPlacedKey, onPlacedOwn, onPlacing, skipShut, onSkipping}
+use Rattle.rules.specs.Machine.{Line, Home, inElement, inLayer, State, elements, figures, successive, texts, placing, skipping, byAct, onElements, isLayer, homeTable, closeFigures, openFigure, onFigures, onSuccessive, onTexts, wireBlock, wireUnread}
+use Rattle.rules.specs.PlacedSymbol.{onUnknown, noneOf, newSerial, onPlaced, onPlacedKey, onPlacedOwn, onPlacing, skipShut, onSkipping, skipEnded, unreadShut}
 use Rattle.rules.specs.Answers.{fullClass}
 use Rattle.rules.specs.RecordTable.{ruleAt, kindLine, kindSuccessive, kindText, kindPoint}
 use Rattle.rules.specs.Machine.{symbolBlock, Owned, kindIn}
 use Rattle.rules.specs.Sets.{layerTableOf}
-use Rattle.rules.proofs.Chains.{unless-got, map-got, or-got, map-append, On, on-unless, on-cond, or-left}
+use Rattle.rules.proofs.Chains.{unless-got, map-got, or-got, map-append, On, on-unless, on-cond, or-left, clash}
 use Rattle.rules.proofs.OnActs.{on-skip}
 use Rattle.rules.proofs.Rows.{found-row, row-all, row-at, row-did}
 use Rattle.rules.proofs.Runs.{head-file, head-snoc}
-use Rattle.promises.proofs.Forms.{keysOk, table-keys, Tells}
+use Rattle.promises.proofs.Forms.{keysOk, table-keys, Tells, layer-keys}
 use Rattle.promises.proofs.Values.{name-same}
-use Rattle.promises.proofs.Good.{Always, none0, GoodChain, GoodText, GoodFigure, GoodShape, freshNumbers, good-blank}
+use Rattle.promises.proofs.Good.{Always, none0, GoodChain, GoodText, GoodFigure, GoodShape, freshNumbers, good-blank, rangesOf}
 use Rattle.promises.proofs.InvRows.{Took, ActTold, read-begin, on-byAct, row-told, on-act, row-all-at, onlyNumbers, entry-numbers, level-by}
 use Rattle.promises.proofs.InvParts.{allNameless, took-set}
 use Rattle.promises.proofs.InvPlaced.{placed-start, placed-enter, placed-begin, text-enter, text-keys, text-opens, text-shut, placed-good}
@@ -91,7 +91,7 @@ close-layer done cur s n fs i =
       fixed = i .0 .fixed;
       closed = i .0 .closed;
       begun = i .0 .begun;
-      blocks = blocks-more (knownOf s) (rangeOf s) (isSingle s) (s .now .blocks) u (i .0 .blocks) (record { here = i .1 .here; id = i .1 .id; figures = i .2 });
+      blocks = blocks-more (knownOf s) (rangesOf s) (s .now .blocks) u (i .0 .blocks) (record { here = i .1 .here; id = i .1 .id; figures = i .2 });
       once = rw (map-append (λ (u : LayerBlock). u .layer) (s .now .blocks) (u ∷ [])) (number-more (usedIn (s .now)) n (i .0 .once) (i .1 .new));
       serials =
           rw (flat-more serialsOfBlock (s .now .blocks) u, ← append-assoc (flat (map serialsOfVolume (s .volumes))) (serialsOfVolume (s .now)) (figureSerials fs)) (i .3);
@@ -100,21 +100,23 @@ close-layer done cur s n fs i =
 -- ── figures ──
 abbrev pub HomeGood : Set → Home → Figure → Type 0
 HomeGood s (inElement y) f = GoodShape (rangeOf s) f
-HomeGood s (inLayer n) f = GoodFigure (knownOf s) (rangeOf s) (isSingle s) f
+HomeGood s (inLayer n) f = GoodFigure (knownOf s) (rangesOf s) f
 
 serial-add : (f : Figure) (s : List ℕ) → freshNumbers [] s ≡ true → noneOf (figureSerial f) s ≡ true → freshNumbers [] (s ++ figureSerial f) ≡ true
 serial-add (plain n j v) s g e = rw (append-nil s) g
 serial-add (chain n ps) s g e = rw (append-nil s) g
 serial-add (lettering n o) s g e = rw (append-nil s) g
+serial-add (wired n w) s g e = rw (append-nil s) g
+serial-add (passed n) s g e = rw (append-nil s) g
 serial-add (placed n h) s g e = serial-more s (serialsOf (slotValue (held "serial" placedTable (partOf h 0)))) g e
 
-add-figure : (done : List (List ℕ)) (cur : List ℕ) (s : Set) (h : Home) (fs : List Figure) (f : Figure) → FiguresInv done cur s h fs → HomeGood s h f
+pub add-figure : (done : List (List ℕ)) (cur : List ℕ) (s : Set) (h : Home) (fs : List Figure) (f : Figure) → FiguresInv done cur s h fs → HomeGood s h f
     → noneOf (figureSerial f) (serialsIn s ++ figureSerials fs) ≡ true → FiguresInv done cur s h (fs ++ f ∷ [])
 add-figure done cur s (inElement y) fs f i g e = (i .0, i .1, i .2, shapes-more (rangeOf s) fs f (i .3) g)
 add-figure done cur s (inLayer n) fs f i g e = (
   i .0,
   i .1,
-  figures-more (knownOf s) (rangeOf s) (isSingle s) fs f (i .2) g,
+  figures-more (knownOf s) (rangesOf s) fs f (i .2) g,
   rw (flat-more figureSerial fs f, ← append-assoc (serialsIn s) (figureSerials fs) (figureSerial f)) (serial-add f (serialsIn s ++ figureSerials fs) (i .3) e),
 )
 
@@ -125,12 +127,14 @@ records-taken done cur s (inLayer n) fs ks i = i
 
 home-keys : (s : Set) (h : Home) → keysOk (homeTable s h) ≡ true
 home-keys s (inElement y) = table-keys true 0 0 .12
-home-keys s (inLayer n) = table-keys (isSingle s) 0 0 .11
+home-keys s (inLayer n) = layer-keys (isSingle s) (isWired s)
 
-layer-numbers : (single : Bool) → all onlyNumbers (layerTable single) ≡ true
+layer-numbers : (single wires : Bool) → all onlyNumbers (layerTable single wires) ≡ true
 unfolding layerTable
-layer-numbers true = refl
-layer-numbers false = refl
+layer-numbers true true = refl
+layer-numbers true false = refl
+layer-numbers false true = refl
+layer-numbers false false = refl
 
 shape-rows : (all onlyNumbers figureTable ≡ true) × (allNameless figureTable ≡ true)
 unfolding figureTable
@@ -141,18 +145,29 @@ plain-good s (inElement y) m j v w =
     let e = entry-numbers (knownOf s) (rangeOf s) (getD (rowsAtLimit 0 figureTable) j false) j (w .rule) (w .rest) j v (row-all onlyNumbers (w .row) (shape-rows .0)) (w .from) in
     record { rule = w .rule; row = w .row; good = rw e (w .always (row-all (λ r. nameless (r .holds)) (w .row) (shape-rows .1))); alone = rw e (w .opened-is) }
 plain-good s (inLayer n) m j v w =
-    let e = entry-numbers (knownOf s) (rangeOf s) (getD (rowsAtLimit 0 (layerTableOf s)) j false) j (w .rule) (w .rest) j v (row-all onlyNumbers (w .row) (layer-numbers (isSingle s))) (w .from) in
+    let e = entry-numbers (knownOf s) (rangeOf s) (getD (rowsAtLimit 0 (layerTableOf s)) j false) j (w .rule) (w .rest) j v (row-all onlyNumbers (w .row) (layer-numbers (isSingle s) (isWired s))) (w .from) in
     record { rule = w .rule; row = w .row; good = rw e (w .good); alone = rw e (w .opened-is) }
 
+-- the row of a placed symbol, the sixth behind the first, alone opens block 3
+its-row : {j : ℕ} (r : Rule) → 3 ≡ innerOf (r .holds) → (eqb j 6 || not (eqb 3 (innerOf (r .holds)))) ≡ true → j ≡ 6
+its-row {j} r e z = eqb-true j 6 (or-left (eqb j 6) _ (ap (λ (i : ℕ). not (eqb 3 i)) (sym e)) z)
+
 -- a placed symbol's block opens at no single range, from 001 on
-placed-opens : {k : Known} {d : Digits} {full : List Bool} {j : ℕ} {v : Value} {m : ℕ} (single : Bool) → Took k d (layerTable single) full j v true (begin (suc (suc (suc m))) j v)
+placed-opens : {k : Known} {d : Digits} {full : List Bool} {j : ℕ} {v : Value} (single wires : Bool) → Took k d (layerTable single wires) full j v true (begin 3 j v)
     → (single ≡ false) × (reaches d (digits 0 1) ≡ true)
 unfolding layerTable
-placed-opens true w = absurd (omega (arith, w .inside, leb-true (innerOf (w .rule .holds)) 2 (row-all (λ r. leb (innerOf (r .holds)) 2) (w .row) refl)))
-placed-opens {j = j} false w = (refl, level-by w 6 (eqb-true j 6 (or-left (eqb j 6) (leb (innerOf (w .rule .holds)) 2) (no-less (w .rule) (w .inside)) (row-all-at (λ j r. eqb j 6 || leb (innerOf (r .holds)) 2) (w .row) refl))))
-  where
-    no-less : {m : ℕ} (r : Rule) → suc (suc (suc m)) ≡ innerOf (r .holds) → leb (innerOf (r .holds)) 2 ≡ false
-    no-less r e = lt-leb (innerOf (r .holds)) 2 (omega arith)
+placed-opens true true w = clash (row-all (λ r. not (eqb 3 (innerOf (r .holds)))) (w .row) refl) (ap (λ (i : ℕ). not (eqb 3 i)) (sym (w .inside)))
+placed-opens true false w = clash (row-all (λ r. not (eqb 3 (innerOf (r .holds)))) (w .row) refl) (ap (λ (i : ℕ). not (eqb 3 i)) (sym (w .inside)))
+placed-opens false true w = (refl, level-by w 6 (its-row (w .rule) (w .inside) (row-all-at (λ j r. eqb j 6 || not (eqb 3 (innerOf (r .holds)))) (w .row) refl)))
+placed-opens false false w = (refl, level-by w 6 (its-row (w .rule) (w .inside) (row-all-at (λ j r. eqb j 6 || not (eqb 3 (innerOf (r .holds)))) (w .row) refl)))
+
+-- a wire's opens where E_wire isn't 000
+wire-opens : {k : Known} {d : Digits} {full : List Bool} {j : ℕ} {v : Value} {m : ℕ} (single wires : Bool) → Took k d (layerTable single wires) full j v true (begin (suc (suc (suc (suc m)))) j v)
+    → wires ≡ true
+unfolding layerTable
+wire-opens single true w = refl
+wire-opens true false w = absurd (omega (arith, w .inside, leb-true (innerOf (w .rule .holds)) 3 (row-all (λ r. leb (innerOf (r .holds)) 3) (w .row) refl)))
+wire-opens false false w = absurd (omega (arith, w .inside, leb-true (innerOf (w .rule .holds)) 3 (row-all (λ r. leb (innerOf (r .holds)) 3) (w .row) refl)))
 
 chain-home : (s : Set) (h : Home) (n : ℕ) (ps : List Point) → GoodChain (isLayer h) ps → HomeGood s h (chain n ps)
 chain-home s (inElement y) n ps g = g
@@ -196,9 +211,11 @@ module _ (done fin : List (List ℕ)) (l : Line) (n : ℕ) (fit : n ≤ 512) whe
   open-figure s h fs zero j v i w = tt
   open-figure s h fs (suc zero) j v i w = (records-taken done (l .next) s h fs (kindIn h kindSuccessive ∷ []) i, (tt, refl))
   open-figure s h fs (suc (suc zero)) j v i w = (records-taken done (l .next) s h fs (kindIn h kindText ∷ []) i, good-blank (Always none0) (textTable (isLayer h) 4 12))
-  open-figure s (inElement y) fs (suc (suc (suc m))) j v i w = tt
-  open-figure s (inLayer k) fs (suc (suc (suc m))) j v i w =
-      let (single, level) = placed-opens (isSingle s) w in (i, placed-start (knownOf s) (rangeOf s) (serialsIn s ++ figureSerials fs), single, level)
+  open-figure s (inElement y) fs (suc (suc (suc zero))) j v i w = tt
+  open-figure s (inElement y) fs (suc (suc (suc (suc m)))) j v i w = tt
+  open-figure s (inLayer k) fs (suc (suc (suc (suc m)))) j v i w = (i, wire-opens (isSingle s) (isWired s) w, tt)
+  open-figure s (inLayer k) fs (suc (suc (suc zero))) j v i w =
+      let (single, level) = placed-opens (isSingle s) (isWired s) w in (i, placed-start (knownOf s) (rangeOf s) (serialsIn s ++ figureSerials fs), single, level)
 
   pub on-figures : (s : Set) (h : Home) (fs : List Figure) → Tells n (l .form) → J (figures s h fs) → On J (onFigures fullEnv l s h fs (l .form))
   on-figures s h fs t i =
@@ -272,9 +289,19 @@ module _ (done fin : List (List ℕ)) (l : Line) (n : ℕ) (fit : n ≤ 512) whe
       (λ i′ j v w. absurd (text-opens p w))
       (λ e. (i .0, text-shut (serialsIn s ++ figureSerials fs) p o (i .1) e, i .2, i .3))
 
+  skip-ended : (s : Set) (k : ℕ) (fs : List Figure) (m : ℕ) (b : Owned) (d : ℕ) → J (skipping s k fs m b d) → J (skipEnded s k fs m b)
+  skip-ended s k fs m (symbolBlock o) d i = i
+  skip-ended s k fs m (wireBlock w) d i = i
+  skip-ended s k fs m wireUnread d i = i
+
+  unread-shut : (s : Set) (k : ℕ) (fs : List Figure) (m : ℕ) (b : Owned) (d : ℕ) → J (skipping s k fs m b d) → On J (unreadShut s k fs m b)
+  unread-shut s k fs m (symbolBlock o) d i = tt
+  unread-shut s k fs m (wireBlock w) d i = tt
+  unread-shut s k fs m wireUnread d i = absurd i
+
   skip-shut : (s : Set) (k : ℕ) (fs : List Figure) (m : ℕ) (b : Owned) (d : ℕ) → J (skipping s k fs m b d) → On J (skipShut s k fs m b d)
-  skip-shut s k fs m b zero i = tt
-  skip-shut s k fs m b (suc zero) i = i
+  skip-shut s k fs m b zero i = unread-shut s k fs m b 0 i
+  skip-shut s k fs m b (suc zero) i = skip-ended s k fs m b 1 i
   skip-shut s k fs m b (suc (suc d)) i = i
 
   pub on-skipping : (s : Set) (k : ℕ) (fs : List Figure) (m : ℕ) (b : Owned) (d : ℕ) (f : Form) → J (skipping s k fs m b d) → On J (onSkipping s k fs m b d f)

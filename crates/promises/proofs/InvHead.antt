@@ -27,12 +27,12 @@ use Rattle.rules.proofs.Chains.{and-left, and-right, or-true, clash, map-append
 use Rattle.rules.proofs.Rows.{row-all, row-at, row-did}
 use Rattle.promises.specs.PlacesApart.{bareValue}
 use Rattle.promises.proofs.Forms.{table-keys, Tells}
-use Rattle.promises.proofs.Good.{restOf, Always, GoodSlots, none0, idsOf, GoodSymbol, GoodDefines, GoodLaters, GoodSet}
+use Rattle.promises.proofs.Good.{restOf, Always, GoodSlots, none0, idsOf, GoodSymbol, GoodDefines, GoodLaters, GoodSet, rangesIn}
 use Rattle.promises.proofs.RowGood.{layer-good}
 use Rattle.promises.proofs.InvRows.{Took, on-act, row-all-at, complete-at, onlyNumbers, entry-numbers, open-at, level-by}
 use Rattle.promises.proofs.InvParts.{allNameless, took-set, other-kept, opened-by, inner-by}
 use Rattle.promises.proofs.InvFile.{FileInv, FileGood, partTable, file-start, file-keys, file-enter, file-begin, file-shut-in, file-shut}
-use Rattle.promises.proofs.InvState.{fileOf, rangeIn, singleIn, datedIn, Laters, Volumes, untaken, Working, Over, Start, TopInv, DrawingInv, Defining, Making, nameIn, NewName, Points, Inv, points-more, layers-more, symbols-more, fresh-more}
+use Rattle.promises.proofs.InvState.{fileOf, datedIn, Laters, Volumes, untaken, Working, Over, Start, TopInv, DrawingInv, Defining, Making, nameIn, NewName, Points, Inv, points-more, layers-more, symbols-more, fresh-more}
 use Rattle.promises.proofs.Nameless.{nameless}
 
 -- the reading at class 15, with no limit of records
@@ -40,7 +40,7 @@ abbrev pub fullEnv : Env
 fullEnv = unlimited fullClass
 
 -- ── the end ──
-laters-good : (k : Known) (s : Set) (ns : List (List ℕ)) (vs : List Contents) → Laters k (fileOf s) ns vs → GoodLaters k (rangeIn (fileOf s)) (singleIn (fileOf s)) s ns vs
+laters-good : (k : Known) (s : Set) (ns : List (List ℕ)) (vs : List Contents) → Laters k (fileOf s) ns vs → GoodLaters k (rangesIn (fileOf s)) s ns vs
 laters-good k s [] [] g = tt
 laters-good k s [] (v ∷ vs) g = absurd g
 laters-good k s (n ∷ ns) [] g = absurd g

@@ -12,16 +12,16 @@ use Rattle.rules.specs.Base.{isNil, isSome, among, hasNumber, flat, indexOf}
 use Rattle.rules.specs.RangeClass.{digits, digitsOf, reaches}
 use Rattle.rules.specs.Values.{Known, nums, isLayerId}
 use Rattle.rules.specs.Rows.{Slots, Held, partOf, numberOf}
-use Rattle.rules.specs.Blocks.{fileTable, rangeTable, elecTable, symTable, laterTable, drawingTable, mostLayers, symbolTable}
+use Rattle.rules.specs.Blocks.{fileTable, rangeTable, symTable, laterTable, drawingTable, mostLayers, symbolTable}
 use Rattle.rules.specs.Figures.{mostPoints, pointTable, textTable}
-use Rattle.rules.specs.Sets.{Point, Figure, chain, Layer, Drawing, Symbol, LayerBlock, Contents, Set, headOr, firstContents, isFirst, arcOf, rangeOf, defineRange, isSingle, symbolNameOf, knownOf, ownSerial, figureSerial, serialsOfVolume, serialsIn, usedIn}
+use Rattle.rules.specs.Sets.{Point, Figure, chain, Layer, Drawing, Symbol, LayerBlock, Contents, Set, headOr, firstContents, isFirst, arcOf, rangeOf, defineRange, isSingle, symbolNameOf, knownOf, ownSerial, figureSerial, serialsOfVolume, serialsIn, usedIn, isWired, wireRange}
 use Rattle.rules.specs.VolumesAndTotals.{chained}
-use Rattle.rules.specs.Machine.{Home, inElement, inLayer, State, top, file, drawing, layerNames, defines, symbol, hide, elements, figures, successive, texts, placing, skipping, ended, isLayer}
+use Rattle.rules.specs.Machine.{Home, inElement, inLayer, State, top, file, drawing, layerNames, defines, symbol, hide, elements, figures, successive, texts, placing, skipping, ended, isLayer, wireBlock, wireUnread}
 use Rattle.rules.specs.PlacedSymbol.{noneOf}
 use Rattle.rules.specs.RecordTable.{ruleAt}
 use Rattle.rules.specs.Machine.{symbolBlock, Owned}
 use Rattle.rules.proofs.Chains.{and-left, and-right, and-true}
-use Rattle.promises.proofs.Good.{Always, GoodSlots, none0, GoodFile, GoodLater, GoodPoints, GoodFigure, GoodFigures, GoodShape, GoodShapes, fresh, freshNumbers, GoodLayer, GoodLayers, idsOf, GoodDrawing, GoodSymbol, GoodSymbols, GoodDefines, GoodBlock, GoodBlocks, GoodVolume, GoodSet}
+use Rattle.promises.proofs.Good.{Always, GoodSlots, none0, GoodFile, GoodLater, GoodPoints, GoodFigure, GoodFigures, GoodShape, GoodShapes, fresh, freshNumbers, GoodLayer, GoodLayers, idsOf, GoodDrawing, GoodSymbol, GoodSymbols, GoodDefines, GoodBlock, GoodBlocks, GoodVolume, GoodSet, Ranges, rangesOf, GoodEdges, rangesIn, symbolDigits}
 use Rattle.promises.proofs.InvFile.{FileInv}
 use Rattle.promises.proofs.InvPlaced.{PlacedInv}
 
@@ -30,14 +30,8 @@ use Rattle.promises.proofs.InvPlaced.{PlacedInv}
 abbrev pub fileOf : Set → Held
 fileOf s = firstContents s .file
 
-abbrev pub elecIn : Held → ℕ
-elecIn f = numberOf "E_sym" elecTable (partOf f 3)
-
 abbrev pub rangeIn : Held → Digits
-rangeIn f = digitsOf (elecIn f)
-
-abbrev pub singleIn : Held → Bool
-singleIn f = eqb (elecIn f) 1
+rangeIn f = symbolDigits (rangesIn f)
 
 abbrev pub arcIn : Held → ℕ
 arcIn f = numberOf "arc" rangeTable (partOf f 1)
@@ -55,14 +49,14 @@ abbrev pub Laters : Known → Held → List (List ℕ) → List Contents → Typ
 Laters k f [] [] = Unit {0}
 Laters k f [] (v ∷ vs) = ⊥
 Laters k f (n ∷ ns) [] = ⊥
-Laters k f (n ∷ ns) (v ∷ vs) = GoodVolume k (rangeIn f) (singleIn f) false n v × GoodLater (v .file) × (datedIn f (v .file) ≡ true) × Laters k f ns vs
+Laters k f (n ∷ ns) (v ∷ vs) = GoodVolume k (rangesIn f) false n v × GoodLater (v .file) × (datedIn f (v .file) ≡ true) × Laters k f ns vs
 
 -- all volumes that are closed
 abbrev pub Volumes : Known → Held → List (List ℕ) → List Contents → Type 0
 Volumes k f [] [] = Unit {0}
 Volumes k f [] (v ∷ vs) = ⊥
 Volumes k f (n ∷ ns) [] = ⊥
-Volumes k f (n ∷ ns) (v ∷ vs) = GoodVolume k (rangeIn f) (singleIn f) true n v × (v .file ≡ f) × Laters k f ns vs
+Volumes k f (n ∷ ns) (v ∷ vs) = GoodVolume k (rangesIn f) true n v × (v .file ≡ f) × Laters k f ns vs
 
 -- the FILE_FORMAT of the volume at hand, behind the closed ones
 abbrev pub Begun : Held → List Contents → List ℕ → Held → Type 0
@@ -92,7 +86,7 @@ pub record Working (done : List (List ℕ)) (cur : List ℕ) (f : Held) (s : Set
   pub fixed : Fixed f (s .drawing) (s .symbols)
   pub closed : Volumes (knownOf s) f done (s .volumes)
   pub begun : Begun f (s .volumes) cur (s .now .file)
-  pub blocks : GoodBlocks (knownOf s) (rangeIn f) (singleIn f) (s .now .blocks)
+  pub blocks : GoodBlocks (knownOf s) (rangesIn f) (s .now .blocks)
   pub once : freshNumbers [] (usedIn (s .now)) ≡ true
   pub serials : freshNumbers [] (serialsIn s) ≡ true
 
@@ -163,15 +157,18 @@ figureSerials fs = flat (map figureSerial fs)
 abbrev pub FiguresInv : List (List ℕ) → List ℕ → Set → Home → List Figure → Type 0
 FiguresInv done cur s (inElement y) fs = Defining done cur s × Making (defineRange s) (y .own) (y .hidden) × NewName s (y .own) × GoodShapes (rangeOf s) fs
 FiguresInv done cur s (inLayer n) fs =
-    Working done cur (fileOf s) (untaken s) × LayerOpen (knownOf s) (s .now) n × GoodFigures (knownOf s) (rangeOf s) (isSingle s) fs
+    Working done cur (fileOf s) (untaken s) × LayerOpen (knownOf s) (s .now) n × GoodFigures (knownOf s) (rangesOf s) fs
     × (freshNumbers [] (serialsIn s ++ figureSerials fs) ≡ true)
 
 abbrev pub PlacingInv : List (List ℕ) → List ℕ → Set → ℕ → List Figure → Held → ℕ → Type 0
 PlacingInv done cur s n fs o p =
     FiguresInv done cur s (inLayer n) fs × PlacedInv (knownOf s) (rangeOf s) (serialsIn s ++ figureSerials fs) p o × (isSingle s ≡ false) × (reaches (rangeOf s) (digits 0 1) ≡ true)
 
+-- at class 15 no wire is skipped
 abbrev pub OwnedInv : List (List ℕ) → List ℕ → Set → ℕ → List Figure → Owned → ℕ → Type 0
 OwnedInv done cur s n fs (symbolBlock o) p = PlacingInv done cur s n fs o p
+OwnedInv done cur s n fs (wireBlock w) p = FiguresInv done cur s (inLayer n) fs × (isWired s ≡ true) × GoodEdges (wireRange s) none (w .elements)
+OwnedInv done cur s n fs wireUnread p = ⊥
 
 -- ── the invariant (fin: the names that follow all volumes, where the set has ended) ──
 abbrev pub Inv : List (List ℕ) → List ℕ → List (List ℕ) → State → Type 0
@@ -195,9 +192,9 @@ pub points-more : (b : Bool) (ps : List Point) (p : Point) → GoodPoints b ps �
 points-more b [] p g x = (x, tt)
 points-more b (q ∷ ps) p g x = (g .0, points-more b ps p (g .1) x)
 
-pub figures-more : (k : Known) (d : Digits) (single : Bool) (fs : List Figure) (f : Figure) → GoodFigures k d single fs → GoodFigure k d single f → GoodFigures k d single (fs ++ f ∷ [])
-figures-more k d single [] f g x = (x, tt)
-figures-more k d single (e ∷ fs) f g x = (g .0, figures-more k d single fs f (g .1) x)
+pub figures-more : (k : Known) (x : Ranges) (fs : List Figure) (f : Figure) → GoodFigures k x fs → GoodFigure k x f → GoodFigures k x (fs ++ f ∷ [])
+figures-more k x [] f g z = (z, tt)
+figures-more k x (e ∷ fs) f g z = (g .0, figures-more k x fs f (g .1) z)
 
 pub shapes-more : (d : Digits) (fs : List Figure) (f : Figure) → GoodShapes d fs → GoodShape d f → GoodShapes d (fs ++ f ∷ [])
 shapes-more d [] f g x = (x, tt)
@@ -211,19 +208,19 @@ pub symbols-more : (se : ℕ) (d : Digits) (ys : List Symbol) (y : Symbol) → G
 symbols-more se d [] y g x = (x, tt)
 symbols-more se d (z ∷ ys) y g x = (g .0, symbols-more se d ys y (g .1) x)
 
-pub blocks-more : (k : Known) (d : Digits) (single : Bool) (us : List LayerBlock) (u : LayerBlock) → GoodBlocks k d single us → GoodBlock k d single u → GoodBlocks k d single (us ++ u ∷ [])
-blocks-more k d single [] u g x = (x, tt)
-blocks-more k d single (w ∷ us) u g x = (g .0, blocks-more k d single us u (g .1) x)
+pub blocks-more : (k : Known) (x : Ranges) (us : List LayerBlock) (u : LayerBlock) → GoodBlocks k x us → GoodBlock k x u → GoodBlocks k x (us ++ u ∷ [])
+blocks-more k x [] u g z = (z, tt)
+blocks-more k x (w ∷ us) u g z = (g .0, blocks-more k x us u (g .1) z)
 
 laters-more : (k : Known) (f : Held) (ns : List (List ℕ)) (vs : List Contents) (n : List ℕ) (v : Contents) → Laters k f ns vs
-    → GoodVolume k (rangeIn f) (singleIn f) false n v → GoodLater (v .file) → datedIn f (v .file) ≡ true → Laters k f (ns ++ n ∷ []) (vs ++ v ∷ [])
+    → GoodVolume k (rangesIn f) false n v → GoodLater (v .file) → datedIn f (v .file) ≡ true → Laters k f (ns ++ n ∷ []) (vs ++ v ∷ [])
 laters-more k f [] [] n v g x y z = (x, y, z, tt)
 laters-more k f [] (w ∷ vs) n v g x y z = absurd g
 laters-more k f (m ∷ ns) [] n v g x y z = absurd g
 laters-more k f (m ∷ ns) (w ∷ vs) n v g x y z = (g .0, g .1, g .2, laters-more k f ns vs n v (g .3) x y z)
 
 pub volumes-more : (k : Known) (f : Held) (ns : List (List ℕ)) (vs : List Contents) (n : List ℕ) (v : Contents) → Volumes k f ns vs → Begun f vs n (v .file)
-    → (chained (isNil vs) n (v .file) ≡ true → GoodVolume k (rangeIn f) (singleIn f) (isNil vs) n v) → Volumes k f (ns ++ n ∷ []) (vs ++ v ∷ [])
+    → (chained (isNil vs) n (v .file) ≡ true → GoodVolume k (rangesIn f) (isNil vs) n v) → Volumes k f (ns ++ n ∷ []) (vs ++ v ∷ [])
 volumes-more k f [] [] n v g b x = (x (b .1), b .0, tt)
 volumes-more k f [] (w ∷ vs) n v g b x = absurd g
 volumes-more k f (m ∷ ns) [] n v g b x = absurd g

@@ -7,7 +7,7 @@ use Rattle.rules.specs.Base.{total}
 use Rattle.rules.specs.RefusalNumbers.{Got, got, bad, mapG, also}
 use Rattle.rules.specs.Values.{Known}
 use Rattle.rules.specs.Sets.{Set, nothingYet, knownOf}
-use Rattle.rules.specs.Machine.{Line, Env, State, top, file, drawing, layerNames, defines, symbol, hide, elements, figures, successive, texts, placing, skipping, ended}
+use Rattle.rules.specs.Machine.{Line, Env, State, top, file, drawing, layerNames, defines, symbol, hide, elements, figures, successive, texts, placing, skipping, ended, wireBlock, wireUnread}
 use Rattle.rules.specs.LineByLine.{stepIn, completes, nextVolume, step, accepted, thenRun, run}
 use Rattle.rules.specs.FixedForm.{volumeLines}
 use Rattle.rules.specs.Machine.{symbolBlock}
@@ -19,6 +19,7 @@ use Rattle.promises.proofs.Weights.{weigh, volumes-weight}
 use Rattle.promises.proofs.Costs.{cost, closed-least, owed, Ok, Next}
 use Rattle.promises.proofs.LengthBlocks.{file-next, top-next, drawing-next, layers-next, defines-next, symbol-next, hide-next}
 use Rattle.promises.proofs.LengthFigures.{elements-next, figures-next, successive-next, texts-next, placing-next, skipping-next}
+use Rattle.promises.proofs.LengthWires.{wire-next}
 
 in-next : (K : Known) (n : ℕ) (e : Env) (l : Line) (st : State) → Ok st → Told n (l .form) → On (Next K st n) (stepIn e l st)
 in-next K n e l (top s k) ok t = top-next K n e l s k (l .form) ok t
@@ -33,6 +34,8 @@ in-next K n e l (figures s h fs) ok t = figures-next K n e l s h fs (l .form) ok
 in-next K n e l (successive s h fs m ps) ok t = successive-next K n e l s h fs m ps (l .form) ok t
 in-next K n e l (texts s h fs m o) ok t = texts-next K n s h fs m o (l .form) ok t
 in-next K n e l (placing s h fs m (symbolBlock o) p) ok t = placing-next K n s h fs m o e p (l .form) t
+in-next K n e l (placing s h fs m (wireBlock w) p) ok t = wire-next K n e l s h fs m w p (l .form) t
+in-next K n e l (placing s h fs m wireUnread p) ok t = tt
 in-next K n e l (skipping s h fs m b d) ok t = skipping-next K n s h fs m b d (l .form) t
 in-next K n e l (ended s) ok t = tt
 

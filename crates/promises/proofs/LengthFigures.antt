@@ -10,18 +10,18 @@ use Rattle.rules.specs.declared.Digits.{Digits}
 use Rattle.rules.specs.Base.{bytes, all, isNil, hasNumber}
 use Rattle.rules.specs.RefusalNumbers.{got, bad, unless}
 use Rattle.rules.specs.Lines.{Rest, Form, ignored, wrong, close, eof, keyed}
-use Rattle.rules.specs.RangeClass.{digits, reaches, exceeds, both, Skip, passes, deeper, noForm, skipOf, mostDepth}
+use Rattle.rules.specs.RangeClass.{digits, reaches, exceeds, both, Skip, passes, deeper, noForm, skipOf, mostDepth, knowsWires}
 use Rattle.rules.specs.Values.{Value, empty, nums, chars, linked, Known, layerId, headed, numsOf, amountAt, showContent}
 use Rattle.rules.specs.Rows.{Rule, Found, absent, found, find, Slots, blank, Held, partOf, enter, rowsThere, rowsAtLimit, begin, innerOf, actRow, act}
 use Rattle.rules.specs.Blocks.{elementTable, blankHeld}
 use Rattle.rules.specs.Figures.{layerTable, figureTable, leastPoints, pointTable, textTable, placedTable, placedTables}
-use Rattle.rules.specs.Sets.{Point, Figure, plain, chain, lettering, placed, Symbol, Set, withVolume, withRecords, symbolFigures, rangeOf, isSingle, knownOf, usedIn}
+use Rattle.rules.specs.Sets.{Point, Figure, plain, chain, lettering, placed, Symbol, Set, withVolume, withRecords, symbolFigures, rangeOf, isSingle, knownOf, usedIn, passed, isWired}
 use Rattle.rules.specs.VolumesAndTotals.{countedHere}
-use Rattle.rules.specs.Machine.{Line, Env, Home, inElement, inLayer, State, top, symbol, elements, figures, successive, texts, placing, skipping, taking, onElements, isLayer, homeTable, pointAt, closeFigures, openFigure, onFigures, onSuccessive, onTexts, shutPart}
-use Rattle.rules.specs.PlacedSymbol.{bySkip, skipDeeper, onUnknown, newSerial, onPlaced, onPlacedKey, onPlacing, onSkipping}
+use Rattle.rules.specs.Machine.{Line, Env, Home, inElement, inLayer, State, top, symbol, elements, figures, successive, texts, placing, skipping, taking, onElements, isLayer, homeTable, pointAt, closeFigures, openFigure, onFigures, onSuccessive, onTexts, shutPart, wireBlock, wireUnread, beginWire}
+use Rattle.rules.specs.PlacedSymbol.{bySkip, skipDeeper, onUnknown, newSerial, onPlaced, onPlacedKey, onPlacing, onSkipping, skipEnded, unreadShut}
 use Rattle.rules.specs.FixedForm.{openLine, lineOf}
 use Rattle.rules.specs.Machine.{symbolBlock, kindIn, Owned}
-use Rattle.rules.specs.RecordTable.{kindLine, kindSuccessive, kindText, kindPlaced, kindPoint}
+use Rattle.rules.specs.RecordTable.{kindLine, kindSuccessive, kindText, kindPlaced, kindPoint, kindWire, kindWireMore}
 use Rattle.rules.proofs.Chains.{On, on-unless, on-cond, clash, same-eq, total-more}
 use Rattle.rules.proofs.Rows.{Row, found-row, row-all, row-at, row-below}
 use Rattle.promises.proofs.Forms.{Told, keyOk, keysOk, table-keys}
@@ -53,16 +53,19 @@ abbrev figureHead : ℕ → ℕ
 figureHead zero = 0
 figureHead (suc zero) = 12
 figureHead (suc (suc zero)) = 6
-figureHead (suc (suc (suc i))) = 10
+figureHead (suc (suc (suc zero))) = 10
+figureHead (suc (suc (suc (suc i)))) = 8
 
 home-rows : (s : Set) (h : Home) → (keysOk (homeTable s h) ≡ true) × (heads figureHead (homeTable s h) ≡ true) × (figureRows (homeTable s h) ≡ true)
 unfolding figureTable layerTable
 home-rows s (inElement y) = (refl, refl, refl)
-home-rows s (inLayer k) = in-layer (isSingle s)
+home-rows s (inLayer k) = in-layer (isSingle s) (isWired s)
   where
-    in-layer : (b : Bool) → (keysOk (layerTable b) ≡ true) × (heads figureHead (layerTable b) ≡ true) × (figureRows (layerTable b) ≡ true)
-    in-layer true = (refl, refl, refl)
-    in-layer false = (refl, refl, refl)
+    in-layer : (b w : Bool) → (keysOk (layerTable b w) ≡ true) × (heads figureHead (layerTable b w) ≡ true) × (figureRows (layerTable b w) ≡ true)
+    in-layer true true = (refl, refl, refl)
+    in-layer true false = (refl, refl, refl)
+    in-layer false true = (refl, refl, refl)
+    in-layer false false = (refl, refl, refl)
 
 placed-rows : (p : ℕ) → (keysOk (getD placedTables p []) ≡ true) × (all (deepens p) (getD placedTables p []) ≡ true)
 unfolding placedTable textTable
@@ -94,13 +97,21 @@ module _ (K : Known) (n : ℕ) where
       (λ one. on-unless P (countedHere s) 17 (got (top (withVolume s) 4)) λ _. (tt, omega (arith, volume-cost K s)))
 
   -- ── figures ──
+  wire-begins : (b : Bool) (s : Set) (k : ℕ) (fs : List Figure) (m : ℕ) → 8 ≤ n
+      → Next K (figures s (inLayer k) fs) n (beginWire b (withRecords (kindWire ∷ kindWireMore ∷ []) s) k fs m)
+  wire-begins true s k fs m le = (tt, omega arith)
+  wire-begins false s k fs m le = (tt, omega arith)
+
   figure-opens : (e : Env) (l : Line) (s : Set) (h : Home) (fs : List Figure) (i : ℕ) → HomeOk s h → figureHead i ≤ n → On (Next K (figures s h fs) n) (openFigure e l s h fs i)
   figure-opens e l s h fs zero ok le = tt
   figure-opens e l s h fs (suc zero) ok le = on-home (Next K (figures s h fs) n) e (kindIn h kindSuccessive ∷ []) s h (λ s′ h′. successive s′ h′ fs (l .line) []) (λ y z. z) (λ k z. z) (ok, omega arith)
   figure-opens e l s h fs (suc (suc zero)) ok le =
       on-home (Next K (figures s h fs) n) e (kindIn h kindText ∷ []) s h (λ s′ h′. texts s′ h′ fs (l .line) (blank (textTable (isLayer h) 4 12))) (λ y z. z) (λ k z. z) (ok, omega (arith, blank-cost (homeKnown K s h) (textTable (isLayer h) 4 12)))
-  figure-opens e l s (inElement y) fs (suc (suc (suc i))) ok le = tt
-  figure-opens e l s (inLayer k) fs (suc (suc (suc i))) ok le =
+  figure-opens e l s (inElement y) fs (suc (suc (suc zero))) ok le = tt
+  figure-opens e l s (inElement y) fs (suc (suc (suc (suc i)))) ok le = tt
+  figure-opens e l s (inLayer k) fs (suc (suc (suc (suc i)))) ok le =
+      on-taking (Next K (figures s (inLayer k) fs) n) e (kindWire ∷ kindWireMore ∷ []) s (λ s′. beginWire (knowsWires (e .class)) s′ k fs (l .line)) (wire-begins (knowsWires (e .class)) s k fs (l .line) le)
+  figure-opens e l s (inLayer k) fs (suc (suc (suc zero))) ok le =
       on-taking (Next K (figures s (inLayer k) fs) n) e (kindPlaced ∷ []) s (λ s′. placing s′ k fs (l .line) (symbolBlock (blankHeld placedTables)) 0) (tt, omega (arith, blank-held (knownOf s) placedTables))
 
   figures-shut : (s : Set) (h : Home) (fs : List Figure) → HomeOk s h → 1 ≤ n → On (Next K (figures s h fs) n) (closeFigures s h fs)
@@ -109,7 +120,7 @@ module _ (K : Known) (n : ℕ) where
   figures-shut s (inLayer k) fs ok one = (tt, omega (arith, layer-cost K s k fs))
 
   -- a figure more
-  figure-more : (s : Set) (h : Home) (fs : List Figure) (f : Figure)
+  pub figure-more : (s : Set) (h : Home) (fs : List Figure) (f : Figure)
       → inFigures K s h (fs ++ f ∷ []) ≡ inFigures K s h fs + figureCost (homeKnown K s h) (isLayer h) (homeTable s h) f
   figure-more s h fs f = omega (arith, total-more (figureCost (homeKnown K s h) (isLayer h) (homeTable s h)) fs f)
 
@@ -142,6 +153,16 @@ module _ (K : Known) (n : ℕ) where
       (λ one. (ok, omega (arith, figure-more s h fs (lettering m o))))
 
   -- ── what is skipped ──
+  skip-ended : (s : Set) (h : ℕ) (fs : List Figure) (m : ℕ) (b : Owned) (d : ℕ) → Next K (skipping s h fs m b d) n (skipEnded s h fs m b)
+  skip-ended s h fs m (symbolBlock o) d = (tt, omega arith)
+  skip-ended s h fs m (wireBlock w) d = (tt, omega arith)
+  skip-ended s h fs m wireUnread d = (tt, omega arith)
+
+  unread-shut : (s : Set) (h : ℕ) (fs : List Figure) (m : ℕ) (b : Owned) (d : ℕ) → 1 ≤ n → On (Next K (skipping s h fs m b d) n) (unreadShut s h fs m b)
+  unread-shut s h fs m (symbolBlock o) d one = tt
+  unread-shut s h fs m (wireBlock w) d one = tt
+  unread-shut s h fs m wireUnread d one = (tt, omega (arith, figure-more s (inLayer h) fs (passed m)))
+
   module _ (s : Set) (h : ℕ) (fs : List Figure) (m : ℕ) (b : Owned) where
     skip-next : (d : ℕ) (z : Skip) → On (Next K (skipping s h fs m b d) n) (bySkip z (got (skipping s h fs m b d)) (skipDeeper d (skipping s h fs m b (suc d))))
     skip-next d passes = (tt, omega arith)
@@ -151,8 +172,8 @@ module _ (K : Known) (n : ℕ) where
     pub skipping-next : (d : ℕ) (f : Form) → Told n f → On (Next K (skipping s h fs m b d) n) (onSkipping s h fs m b d f)
     skipping-next d ignored tells = (tt, omega arith)
     skipping-next d (wrong q) tells = tt
-    skipping-next zero close tells = tt
-    skipping-next (suc zero) close tells = (tt, omega arith)
+    skipping-next zero close tells = unread-shut s h fs m b 0 (tells .0)
+    skipping-next (suc zero) close tells = skip-ended s h fs m b 1
     skipping-next (suc (suc d)) close tells = (tt, omega arith)
     skipping-next d eof tells = tt
     skipping-next d (keyed k c) tells = skip-next d (skipOf k c)

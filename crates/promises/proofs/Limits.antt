@@ -1,5 +1,5 @@
 -- The table's limit changes nothing of a set that fits: with it and without it the same lines give the same set.
-use Prim.Native.Nat.{ℕ, zero, suc, _≤_, _<_}
+use Prim.Native.Nat.{ℕ, zero, suc, _+_, _≤_, _<_}
 use mathlib.Core.Bool.{Bool, true, false, cond}
 use mathlib.Core.List.{List, [], _∷_}
 use mathlib.Core.Option.{Option}
@@ -12,15 +12,16 @@ use borrow.Author.Tests.{leb-true, leb-false, le-leb, lt-leb}
 use Rattle.rules.specs.declared.Class.{Class}
 use Rattle.rules.specs.RefusalNumbers.{Got, got, bad, unless, mapG, andThen, also}
 use Rattle.rules.specs.Lines.{Rest, Form, ignored, wrong, close, eof, keyed}
-use Rattle.rules.specs.RangeClass.{Skip, passes, deeper, noForm}
+use Rattle.rules.specs.RangeClass.{knowsWires, Skip, passes, deeper, noForm}
 use Rattle.rules.specs.Values.{Value}
 use Rattle.rules.specs.Rows.{Found, absent, found, Held, Act, stay, entry, begin, shut, refuse}
-use Rattle.rules.specs.Sets.{Figure, Symbol, Drawing, Set, nothingYet}
+use Rattle.rules.specs.Sets.{Wire, Figure, Symbol, Drawing, Set, nothingYet}
 use Rattle.rules.specs.RecordTable.{recordsOf}
 use Rattle.rules.specs.Machine.{Line, unlimited, limitedTo, Home, inElement, inLayer, State, top, file, drawing, layerNames, defines, symbol, hide, elements, figures, successive, texts, placing, skipping, ended, setOf, byAct, openTop, onTop, shutPart, onLayerNames, openSymbol, closeFigures, openPlaced, openFigure}
-use Rattle.rules.specs.PlacedSymbol.{bySkip, onUnknown, onPlacedKey, onPlacedOwn, onPlacing, skipShut, onSkipping}
+use Rattle.rules.specs.PlacedSymbol.{bySkip, onUnknown, onPlacedKey, onPlacedOwn, onPlacing, skipEnded, unreadShut, skipShut, onSkipping}
 use Rattle.rules.specs.LineByLine.{stepIn, completes, nextVolume, step, accepted, thenRun, run}
-use Rattle.rules.specs.Machine.{symbolBlock, Owned}
+use Rattle.rules.specs.Machine.{symbolBlock, wireBlock, wireUnread, Owned, beginWire, openWire}
+use Rattle.rules.specs.Wires.{onWire}
 use Rattle.rules.proofs.Chains.{never, On}
 use Rattle.rules.proofs.Runs.{not-accepted, finish-ended}
 use Rattle.promises.proofs.Count.{count-taken}
@@ -140,11 +141,20 @@ module _ (c : Class) (m : ℕ) (l : Line) where
   alike-placed s (inElement y) fs = refuses
   alike-placed s (inLayer k) fs = search alikes
 
+  begun-taken : (b : Bool) (s : Set) (k : ℕ) (fs : List Figure) → s .taken ≡ setOf (beginWire b s k fs (l .line)) .taken
+  begun-taken true s k fs = refl
+  begun-taken false s k fs = refl
+
+  alike-wire : (s : Set) (h : Home) (fs : List Figure) → Alike m (s .taken) (openWire (unlimited c) l s h fs) (openWire (limitedTo c m) l s h fs)
+  alike-wire s (inElement y) fs = refuses
+  alike-wire s (inLayer k) fs = alike-room (s .taken + 2) _ (le-add-right (s .taken) 2) (begun-taken (knowsWires c) _ k fs)
+
   alike-figure : (s : Set) (h : Home) (fs : List Figure) (i : ℕ) → Alike m (s .taken) (openFigure (unlimited c) l s h fs i) (openFigure (limitedTo c m) l s h fs i)
   alike-figure s h fs zero = refuses
   alike-figure s h fs (suc zero) = search alikes
   alike-figure s h fs (suc (suc zero)) = search alikes
-  alike-figure s h fs (suc (suc (suc i))) = alike-placed s h fs
+  alike-figure s h fs (suc (suc (suc zero))) = alike-placed s h fs
+  alike-figure s h fs (suc (suc (suc (suc i)))) = alike-wire s h fs
 
   alike-unknown : (s : Set) (h : ℕ) (fs : List Figure) (n : ℕ) (o : Held) (k : List ℕ) (x : Rest) → Alike m (s .taken) (onUnknown (unlimited c) s h fs n o k x) (onUnknown (limitedTo c m) s h fs n o k x)
   alike-unknown s h fs n o k x = search alikes
@@ -164,9 +174,22 @@ module _ (c : Class) (m : ℕ) (l : Line) where
   alike-placing s h fs n o zero f = alike-own s h fs n o f
   alike-placing s h fs n o (suc p) f = search alikes
 
+  alike-in-wire : (s : Set) (h : ℕ) (fs : List Figure) (n : ℕ) (w : Wire) (f : Form) → Alike m (s .taken) (onWire (unlimited c) l s h fs n w f) (onWire (limitedTo c m) l s h fs n w f)
+  alike-in-wire s h fs n w f = search alikes
+
+  alike-skip-ended : (s : Set) (h : ℕ) (fs : List Figure) (n : ℕ) (b : Owned) → Alike m (s .taken) (got (skipEnded s h fs n b)) (got (skipEnded s h fs n b))
+  alike-skip-ended s h fs n (symbolBlock o) = search alikes
+  alike-skip-ended s h fs n (wireBlock w) = search alikes
+  alike-skip-ended s h fs n wireUnread = search alikes
+
+  alike-unread-shut : (s : Set) (h : ℕ) (fs : List Figure) (n : ℕ) (b : Owned) → Alike m (s .taken) (unreadShut s h fs n b) (unreadShut s h fs n b)
+  alike-unread-shut s h fs n (symbolBlock o) = refuses
+  alike-unread-shut s h fs n (wireBlock w) = refuses
+  alike-unread-shut s h fs n wireUnread = search alikes
+
   alike-skip-shut : (s : Set) (h : ℕ) (fs : List Figure) (n : ℕ) (b : Owned) (d : ℕ) → Alike m (s .taken) (skipShut s h fs n b d) (skipShut s h fs n b d)
-  alike-skip-shut s h fs n b zero = refuses
-  alike-skip-shut s h fs n b (suc zero) = search alikes
+  alike-skip-shut s h fs n b zero = alike-unread-shut s h fs n b
+  alike-skip-shut s h fs n b (suc zero) = alike-skip-ended s h fs n b
   alike-skip-shut s h fs n b (suc (suc d)) = search alikes
 
   alike-skipping : (s : Set) (h : ℕ) (fs : List Figure) (n : ℕ) (b : Owned) (d : ℕ) (f : Form) → Alike m (s .taken) (onSkipping s h fs n b d f) (onSkipping s h fs n b d f)
@@ -189,6 +212,8 @@ module _ (c : Class) (m : ℕ) (l : Line) where
   alike-in (successive s h fs n ps) = search alikes
   alike-in (texts s h fs n o) = search alikes
   alike-in (placing s h fs n (symbolBlock o) p) = alike-placing s h fs n o p (l .form)
+  alike-in (placing s h fs n (wireBlock w) p) = alike-in-wire s h fs n w (l .form)
+  alike-in (placing s h fs n wireUnread p) = refuses
   alike-in (skipping s h fs n b d) = alike-skipping s h fs n b d (l .form)
   alike-in (ended s) = refuses
 

@@ -12,14 +12,14 @@ use borrow.Author.Tests.{le-leb, lt-ltb, leb-true, leb-false, ltb-true}
 use Rattle.rules.specs.declared.Digits.{Digits}
 use Rattle.rules.specs.declared.Class.{Class}
 use Rattle.rules.specs.Base.{total}
-use Rattle.rules.specs.RangeClass.{digits, reaches, exceeds, hides}
+use Rattle.rules.specs.RangeClass.{digits, reaches, exceeds, hides, knowsWires}
 use Rattle.rules.specs.Values.{Value}
 use Rattle.rules.specs.Rows.{Rule, Slots, blank, Held, partOf, enter}
 use Rattle.rules.specs.Blocks.{blankHeld}
 use Rattle.rules.specs.Figures.{placedTable, placedTables, textTable}
-use Rattle.rules.specs.Sets.{Figure, plain, chain, lettering, placed, LayerBlock, Contents, Set, headOr, rangeOf, elementsOf, usedIn}
+use Rattle.rules.specs.Sets.{Wire, Figure, plain, chain, lettering, placed, wired, passed, LayerBlock, Contents, Set, headOr, rangeOf, elementsOf, usedIn}
 use Rattle.rules.specs.Machine.{Home, inElement, inLayer, State, top, file, drawing, layerNames, defines, symbol, hide, elements, figures, successive, texts, placing, skipping, ended, setOf}
-use Rattle.rules.specs.Machine.{symbolBlock, Owned}
+use Rattle.rules.specs.Machine.{symbolBlock, wireBlock, wireUnread, Owned}
 use Rattle.rules.proofs.Chains.{and-left, and-right, and-true, and-false, or-true, clash, cond-same, ap-cond, map-compose, map-agree}
 use Rattle.rules.proofs.Rows.{Row, here, there}
 use Rattle.promises.specs.DemandThree.{NotAbove}
@@ -49,6 +49,10 @@ module _ (low high : Digits) (le : NotAbove low high) where
       go false b q e = refl
       go true true q e = rw (reaches-up l q)
       go true false q e = clash refl e
+
+-- a class that knows wires: none above it is without
+pub knows-up : (low high : Class) → NotAbove (low .wires) (high .wires) → knowsWires low ≡ true → knowsWires high ≡ true
+knows-up low high le e = reaches-up (low .wires) (high .wires) le _ e
 
 -- a level that the class knows is not left out; one that it doesn't know, and the file has, is, and a digit exceeds there
 pub known-shows : (c d l : Digits) → reaches c l ≡ true → hides c d l ≡ false
@@ -96,6 +100,8 @@ lowerFigure c d (plain n j v) = plain n j v
 lowerFigure c d (chain n ps) = chain n ps
 lowerFigure c d (lettering n s) = lettering n s
 lowerFigure c d (placed n h) = placed n (lowerHeld (c .symbols) d h)
+lowerFigure c d (wired n w) = cond (knowsWires c) (wired n w) (passed n)
+lowerFigure c d (passed n) = passed n
 
 abbrev pub lowerFigures : Class → Digits → List Figure → List Figure
 lowerFigures c d fs = map (lowerFigure c d) fs
@@ -127,6 +133,8 @@ depthIn (suc (suc p)) = 2
 
 abbrev pub lowerOwned : Class → Digits → Owned → Owned
 lowerOwned c d (symbolBlock o) = symbolBlock (lowerHeld (c .symbols) d o)
+lowerOwned c d (wireBlock w) = cond (knowsWires c) (wireBlock w) wireUnread
+lowerOwned c d wireUnread = wireUnread
 
 abbrev pub lowerPlacing : ℕ → Class → Set → ℕ → List Figure → ℕ → Held → ℕ → State
 lowerPlacing took c s k fs n o zero = placing (lowerSet took c s) k (lowerFigures c (rangeOf s) fs) n (symbolBlock (lowerHeld (c .symbols) (rangeOf s) o)) 0
@@ -134,6 +142,14 @@ lowerPlacing took c s k fs n o (suc p) =
     cond (hides (c .symbols) (rangeOf s) textLeast)
     (skipping (lowerSet took c s) k (lowerFigures c (rangeOf s) fs) n (symbolBlock (lowerHeld (c .symbols) (rangeOf s) o)) (depthIn (suc p)))
     (placing (lowerSet took c s) k (lowerFigures c (rangeOf s) fs) n (symbolBlock (lowerHeld (c .symbols) (rangeOf s) o)) (suc p))
+
+-- in a wire that is read: a class that knows wires is there too, another skips it whole. No line of a wire opens a block yet, so that none
+-- is open in what it skips.
+abbrev pub lowerWire : ℕ → Class → Set → ℕ → List Figure → ℕ → Wire → ℕ → State
+lowerWire took c s k fs n w p =
+    cond (knowsWires c)
+    (placing (lowerSet took c s) k (lowerFigures c (rangeOf s) fs) n (wireBlock w) p)
+    (skipping (lowerSet took c s) k (lowerFigures c (rangeOf s) fs) n wireUnread 0)
 
 abbrev pub lower : ℕ → Class → State → State
 lower took c (top s k) = top (lowerSet took c s) k
@@ -148,6 +164,8 @@ lower took c (figures s h fs) = figures (lowerSet took c s) h (lowerSoFar c (ran
 lower took c (successive s h fs n ps) = successive (lowerSet took c s) h (lowerSoFar c (rangeOf s) h fs) n ps
 lower took c (texts s h fs n o) = texts (lowerSet took c s) h (lowerSoFar c (rangeOf s) h fs) n o
 lower took c (placing s k fs n (symbolBlock o) p) = lowerPlacing took c s k fs n o p
+lower took c (placing s k fs n (wireBlock w) p) = lowerWire took c s k fs n w p
+lower took c (placing s k fs n wireUnread p) = placing (lowerSet took c s) k (lowerFigures c (rangeOf s) fs) n wireUnread p
 lower took c (skipping s k fs n b d) = skipping (lowerSet took c s) k (lowerFigures c (rangeOf s) fs) n (lowerOwned c (rangeOf s) b) d
 lower took c (ended s) = ended (lowerSet took c s)
 
@@ -203,6 +221,8 @@ count-lower took c (successive s h fs n ps) = refl
 count-lower took c (texts s h fs n o) = refl
 count-lower took c (placing s k fs n (symbolBlock o) zero) = refl
 count-lower took c (placing s k fs n (symbolBlock o) (suc p)) = ap-cond (recounted took) (hides (c .symbols) (rangeOf s) textLeast) _ _
+count-lower took c (placing s k fs n (wireBlock w) p) = ap-cond (recounted took) (knowsWires c) _ _
+count-lower took c (placing s k fs n wireUnread p) = refl
 count-lower took c (skipping s k fs n b d) = refl
 count-lower took c (ended s) = refl
 

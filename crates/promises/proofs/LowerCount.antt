@@ -1,21 +1,22 @@
 -- The lower class shows no more records than the higher.
 use Prim.Native.Nat.{ℕ, zero, suc, _≤_}
+use mathlib.Core.Bool.{Bool, true, false, cond}
 use mathlib.Core.List.{List, [], _∷_, _++_, map}
-use mathlib.Core.Path.{_≡_, refl}
+use mathlib.Core.Path.{_≡_}
 use native.Mathlib.Nat.{le-refl}
 use native.Mathlib.Omega.{arith}
 use lib.ListN.{length, length-append, length-map}
 use Rattle.rules.specs.declared.Digits.{Digits}
 use Rattle.rules.specs.declared.Class.{Class}
 use Rattle.rules.specs.Base.{flat}
-use Rattle.rules.specs.RangeClass.{hides}
-use Rattle.rules.specs.Sets.{Figure, plain, chain, lettering, placed, Drawing, Symbol, Contents, Set, rangeOf}
-use Rattle.rules.specs.Machine.{Home, inElement, inLayer, State, top, file, drawing, layerNames, defines, symbol, hide, elements, figures, successive, texts, placing, skipping, ended, symbolBlock}
+use Rattle.rules.specs.RangeClass.{hides, knowsWires}
+use Rattle.rules.specs.Sets.{Wire, Figure, plain, chain, lettering, placed, wired, passed, Drawing, Symbol, Contents, Set, rangeOf}
+use Rattle.rules.specs.Machine.{Home, inElement, inLayer, State, top, file, drawing, layerNames, defines, symbol, hide, elements, figures, successive, texts, placing, skipping, ended, symbolBlock, wireBlock, wireUnread, Owned}
 use Rattle.rules.proofs.Chains.{by-cond, nil-map}
 use Rattle.promises.specs.Acceptance.{Place, place}
 use Rattle.promises.proofs.RecordLines.{pointPlaces, figurePlaces, figuresPlaces, blockPlaces, bodyPlaces, laterPlaces, frontPlaces, setPlaces}
-use Rattle.promises.proofs.CountState.{number, filePlaces, openPlaces, within, inFigures, shown}
-use Rattle.promises.proofs.Lower.{textLeast, lowerFigure, lowerFigures, lowerBlock, lowerContents, lowerSet, lowerSoFar, lower}
+use Rattle.promises.proofs.CountState.{number, filePlaces, openPlaces, within, inFigures, ownedPlaces, shown}
+use Rattle.promises.proofs.Lower.{textLeast, lowerFigure, lowerFigures, lowerBlock, lowerContents, lowerSet, lowerSoFar, lowerOwned, lowerWire, lower}
 
 abbrev Fewer : List Place → List Place → Type 0
 Fewer a b = length a ≤ length b
@@ -34,6 +35,16 @@ module _ (c : Class) (d : Digits) where
   figure-fewer k (chain n ps) = le-refl (length (figurePlaces k (chain n ps)))
   figure-fewer k (lettering n s) = le-refl 1
   figure-fewer k (placed n h) = le-refl 1
+  figure-fewer k (wired n w) =
+      by-cond (λ f. Fewer (figurePlaces k f) (figurePlaces k (wired n w))) (knowsWires c) (λ _. le-refl (length (figurePlaces k (wired n w)))) (λ _. omega arith)
+  figure-fewer k (passed n) = le-refl 2
+
+  -- a block that is open in a layer: a wire that is skipped whole has the two records at its own line alone
+  owned-fewer : (k n : ℕ) (b : Owned) → Fewer (ownedPlaces k n (lowerOwned c d b)) (ownedPlaces k n b)
+  owned-fewer k n (symbolBlock o) = le-refl 1
+  owned-fewer k n (wireBlock w) =
+      by-cond (λ b. Fewer (ownedPlaces k n b) (ownedPlaces k n (wireBlock w))) (knowsWires c) (λ _. le-refl (length (ownedPlaces k n (wireBlock w)))) (λ _. omega arith)
+  owned-fewer k n wireUnread = le-refl 2
 
   figures-fewer : (k : ℕ) (fs : List Figure) → Fewer (figuresPlaces k (lowerFigures c d fs)) (figuresPlaces k fs)
   figures-fewer k fs = fewer-flat (figurePlaces k) (lowerFigure c d) (figure-fewer k) fs
@@ -85,8 +96,26 @@ module _ (took : ℕ) (c : Class) where
       (within-fewer s) (rw (number-same s) (figures-fewer c (rangeOf s) (number s) fs))
 
   -- with an open figure's own records behind
-  open-figure : (s : Set) (h : Home) (fs : List Figure) (a b : List Place) → length a ≡ length b → Fewer (inFigures (lowerSet took c s) h (lowerSoFar c (rangeOf s) h fs) ++ a) (inFigures s h fs ++ b)
-  open-figure s h fs a b e = fewer-append (inFigures (lowerSet took c s) h (lowerSoFar c (rangeOf s) h fs)) a (inFigures s h fs) b (in-fewer s h fs) (omega (arith, e))
+  open-figure : (s : Set) (h : Home) (fs : List Figure) (a b : List Place) → Fewer a b → Fewer (inFigures (lowerSet took c s) h (lowerSoFar c (rangeOf s) h fs) ++ a) (inFigures s h fs ++ b)
+  open-figure s h fs a b e = fewer-append (inFigures (lowerSet took c s) h (lowerSoFar c (rangeOf s) h fs)) a (inFigures s h fs) b (in-fewer s h fs) e
+
+  open-owned : (s : Set) (k : ℕ) (fs : List Figure) (n : ℕ) (b : Owned)
+      → Fewer (inFigures (lowerSet took c s) (inLayer k) (lowerFigures c (rangeOf s) fs) ++ ownedPlaces (number (lowerSet took c s)) n (lowerOwned c (rangeOf s) b)) (inFigures s (inLayer k) fs ++ ownedPlaces (number s) n b)
+  open-owned s k fs n b =
+      open-figure s (inLayer k) fs (ownedPlaces (number (lowerSet took c s)) n (lowerOwned c (rangeOf s) b)) (ownedPlaces (number s) n b)
+      (rw (number-same s) (owned-fewer c (rangeOf s) (number s) n b))
+
+  -- in a wire the lower class is in the wire too, or in one that it skips whole
+  open-wire : (s : Set) (k : ℕ) (fs : List Figure) (n : ℕ) (w : Wire) (p : ℕ) → Fewer (shown (lowerWire took c s k fs n w p)) (shown (placing s k fs n (wireBlock w) p))
+  open-wire s k fs n w p = go (knowsWires c) (open-owned s k fs n (wireBlock w))
+    where
+      behind : Owned → List Place
+      behind b = inFigures (lowerSet took c s) (inLayer k) (lowerFigures c (rangeOf s) fs) ++ ownedPlaces (number (lowerSet took c s)) n b
+
+      go : (t : Bool) → Fewer (behind (cond t (wireBlock w) wireUnread)) (shown (placing s k fs n (wireBlock w) p))
+          → Fewer (shown (cond t (placing (lowerSet took c s) k (lowerFigures c (rangeOf s) fs) n (wireBlock w) p) (skipping (lowerSet took c s) k (lowerFigures c (rangeOf s) fs) n wireUnread 0))) (shown (placing s k fs n (wireBlock w) p))
+      go true e = e
+      go false e = e
 
   pub fewer : (st : State) → Fewer (shown (lower took c st)) (shown st)
   fewer (top s zero) = closed-fewer s
@@ -105,12 +134,15 @@ module _ (took : ℕ) (c : Class) where
   fewer (elements s) = within-fewer s
   fewer (figures s h fs) = in-fewer s h fs
   fewer (successive s h fs n ps) =
-      open-figure s h fs (place (number (lowerSet took c s)) n ∷ pointPlaces (number (lowerSet took c s)) ps) (place (number s) n ∷ pointPlaces (number s) ps) (rw (number-same s))
-  fewer (texts s h fs n o) = open-figure s h fs (place (number (lowerSet took c s)) n ∷ []) (place (number s) n ∷ []) refl
-  fewer (placing s k fs n (symbolBlock o) zero) = open-figure s (inLayer k) fs (place (number (lowerSet took c s)) n ∷ []) (place (number s) n ∷ []) refl
+      open-figure s h fs (place (number (lowerSet took c s)) n ∷ pointPlaces (number (lowerSet took c s)) ps) (place (number s) n ∷ pointPlaces (number s) ps)
+      (rw (number-same s) (le-refl (length (place (number s) n ∷ pointPlaces (number s) ps))))
+  fewer (texts s h fs n o) = open-figure s h fs (place (number (lowerSet took c s)) n ∷ []) (place (number s) n ∷ []) (le-refl 1)
+  fewer (placing s k fs n (symbolBlock o) zero) = open-owned s k fs n (symbolBlock o)
   fewer (placing s k fs n (symbolBlock o) (suc p)) =
       by-cond (λ st. Fewer (shown st) (shown (placing s k fs n (symbolBlock o) (suc p)))) (hides (c .symbols) (rangeOf s) textLeast)
-      (λ _. open-figure s (inLayer k) fs (place (number (lowerSet took c s)) n ∷ []) (place (number s) n ∷ []) refl)
-      (λ _. open-figure s (inLayer k) fs (place (number (lowerSet took c s)) n ∷ []) (place (number s) n ∷ []) refl)
-  fewer (skipping s k fs n b d) = open-figure s (inLayer k) fs (place (number (lowerSet took c s)) n ∷ []) (place (number s) n ∷ []) refl
+      (λ _. open-owned s k fs n (symbolBlock o))
+      (λ _. open-owned s k fs n (symbolBlock o))
+  fewer (placing s k fs n (wireBlock w) p) = open-wire s k fs n w p
+  fewer (placing s k fs n wireUnread p) = open-owned s k fs n wireUnread
+  fewer (skipping s k fs n b d) = open-owned s k fs n b
   fewer (ended s) = closed-fewer s

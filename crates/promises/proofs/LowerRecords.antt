@@ -1,31 +1,33 @@
--- The records of the lower class are those of the higher, with what the lower doesn't know marked unread.
-use Prim.Native.Nat.{ℕ, zero, suc, _+_}
-use mathlib.Core.Bool.{Bool, true, false, cond}
+-- The records of the lower class are those of the higher, with what the lower doesn't know marked unread, and without the lines and arcs of
+-- wires that it skips.
+use Prim.Native.Nat.{ℕ, zero, suc, _+_, _<_}
+use mathlib.Core.Bool.{Bool, true, false, cond, _&&_, _||_, not}
 use mathlib.Core.List.{List, [], _∷_, _++_, map}
 use mathlib.Core.Option.{Option, none, some}
 use mathlib.Core.Path.{_≡_, refl, sym, _∙_, ap, ap₂}
 use native.Mathlib.Omega.{arith}
-use lib.Dec.{eqb}
+use lib.Dec.{eqb, ltb}
 use lib.IntN.{ℤ, pos, negsuc}
-use lib.ListN.{set}
+use lib.ListN.{length, set}
 use lib.Seq.{sets}
-use borrow.Author.Tests.{eqb-false, ne-eqb}
+use borrow.Author.Tests.{eqb-false, ne-eqb, ltb-true}
 use Rattle.rules.specs.declared.Digits.{Digits}
 use Rattle.rules.specs.declared.Class.{Class}
-use Rattle.rules.specs.Base.{flat}
-use Rattle.rules.specs.RangeClass.{digits, hides}
+use Rattle.rules.specs.Base.{flat, hasNumber, all}
+use Rattle.rules.specs.RangeClass.{digits, hides, knowsWires}
 use Rattle.rules.specs.Values.{Num, Value, nums}
 use Rattle.rules.specs.Rows.{Rule, Slots, Held, partOf}
 use Rattle.rules.specs.Blocks.{fileTable, rangeTable, baseTable, elecTable, symTable, laterTable, drawingTable, symbolTable}
-use Rattle.rules.specs.Figures.{figureTable, pointTable, textTable, placedTable}
-use Rattle.rules.specs.Sets.{Point, Figure, plain, chain, lettering, placed, Layer, Drawing, Symbol, LayerBlock, Contents, Set, rangeOf, isSingle}
+use Rattle.rules.specs.Figures.{figureTable, pointTable, textTable, placedTable, wireTable}
+use Rattle.rules.specs.Sets.{Point, Edge, Wire, Figure, plain, chain, lettering, placed, wired, passed, Layer, Drawing, Symbol, LayerBlock, Contents, Set, headOr, rangeOf, wireRange}
 use Rattle.rules.specs.RecordTable.{numbersOf, stateOf, columns, firstOr0, others, padded, putNumbers, putState, putSlot, firstSlot, otherSlots, putSlots, start, fileRecords, drawingRecord, layerRecord, layerRecords, ruleAt, plainRecord, pointRecords, chainRecord, textRecord, placedRecord, lineRecord, figureRecords, innerRecords, symbolRecords, blockRecords, bodyRecords, laterRecords, recordsFrom, recordsOf}
 use Rattle.rules.specs.Sets.{layerTableOf}
-use Rattle.rules.specs.RecordTable.{View, plainView}
+use Rattle.rules.specs.RecordTable.{View, plainView, twoOf, wireStart, wireNumbers, unreadNumbers, edgeRecord, edgeRecords}
 use Rattle.rules.proofs.Rows.{Row, here, there, reaches-none}
-use Rattle.rules.proofs.Chains.{by-cond, cond-same, map-append}
-use Rattle.promises.specs.DemandThree.{NotAbove, instead, isPlaced, unread}
+use Rattle.rules.proofs.Chains.{and-left, and-right, by-cond, clash, cond-same, map-append}
+use Rattle.promises.specs.DemandThree.{NotAbove, withoutWires, attributes, instead, unreadEach, isOf, placedKinds, wireKinds, edgeKinds, passedOver, unreadIn, keeps, filter, lowered}
 use Rattle.promises.proofs.Lower.{hides-up, known-shows, maskSlots, wiped, textLeast, innerPart, lowerHeld, lowerFigure, lowerBlock, lowerContents, lowerSet, part-own, part-inner, file-same}
+use Rattle.promises.proofs.LowerKinds.{layerRows, edgeRows, edgeRow, layerFigure, symbolFigure, symbolShapes, layerFigures, Rows}
 
 -- ── slots that are left out ──
 module _ (c d : Digits) where
@@ -98,14 +100,37 @@ unfolding placedTable textTable
 placed-as w more owner volume line h = refl
 
 -- ── the kind of a record: its first number, which no row changes ──
-abbrev is16 : ℤ → Bool
-is16 (pos k) = eqb k 16
-is16 (negsuc k) = false
+-- one of those that the lower class changes or leaves out
+abbrev special : ℤ → Bool
+special (pos k) = hasNumber k (16 ∷ 18 ∷ 19 ∷ 20 ∷ 21 ∷ [])
+special (negsuc k) = false
 
-placed-first : (r : List ℤ) → isPlaced r ≡ is16 (firstOr0 r)
-placed-first [] = refl
-placed-first (pos k ∷ r) = refl
-placed-first (negsuc k ∷ r) = refl
+low-kind : (k : ℕ) → k < 18 → eqb k 16 ≡ false → special (pos k) ≡ false
+low-kind k h e =
+    rw (e, ne-eqb k 18 (λ z. omega (arith, h, z)), ne-eqb k 19 (λ z. omega (arith, h, z)), ne-eqb k 20 (λ z. omega (arith, h, z)), ne-eqb k 21 (λ z. omega (arith, h, z)))
+
+high-kind : (k : ℕ) → 21 < k → special (pos k) ≡ false
+high-kind k h =
+    rw (ne-eqb k 16 (λ z. omega (arith, h, z)), ne-eqb k 18 (λ z. omega (arith, h, z)), ne-eqb k 19 (λ z. omega (arith, h, z)), ne-eqb k 20 (λ z. omega (arith, h, z)), ne-eqb k 21 (λ z. omega (arith, h, z)))
+
+pub record Plain (r : List ℤ) : Type 0 where
+  pub noSymbol : isOf placedKinds r ≡ false
+  pub noWire : isOf wireKinds r ≡ false
+  pub noEdge : isOf edgeKinds r ≡ false
+
+plain-record : (r : List ℤ) → special (firstOr0 r) ≡ false → Plain r
+plain-record [] e = record { noSymbol = refl; noWire = refl; noEdge = refl }
+plain-record (negsuc k ∷ r) e = record { noSymbol = refl; noWire = refl; noEdge = refl }
+plain-record (pos k ∷ r) e = go (eqb k 16) refl (eqb k 18) refl (eqb k 19) refl (eqb k 20) refl (eqb k 21) refl e
+  where
+    go : (a : Bool) → eqb k 16 ≡ a → (b : Bool) → eqb k 18 ≡ b → (c : Bool) → eqb k 19 ≡ c → (d : Bool) → eqb k 20 ≡ d → (f : Bool) → eqb k 21 ≡ f
+        → (a || (b || (c || (d || (f || false))))) ≡ false → Plain (pos k ∷ r)
+    go true x b y c z d u f v e = clash refl e
+    go false x true y c z d u f v e = clash refl e
+    go false x false y true z d u f v e = clash refl e
+    go false x false y false z true u f v e = clash refl e
+    go false x false y false z false u true v e = clash refl e
+    go false x false y false z false u false v e = record { noSymbol = rw x; noWire = rw (y, z); noEdge = rw (u, v) }
 
 first-set : (r : List ℤ) (i : ℕ) (z : ℤ) → firstOr0 (set r (suc i) z) ≡ firstOr0 r
 first-set [] i z = refl
@@ -151,7 +176,7 @@ module _ (low high : Digits) (le : NotAbove low high) (d : Digits) where
   as-lower o o′ b e f z = number-of (λ o. f (numbersOf o)) z b o o′ e
 
   sixteen-lower : (owner volume line : ℕ) (s s′ t t′ : Slots) → Masked s s′ t t′
-      → placedAs low d 16 owner volume line s′ t′ ≡ unread low d (placedAs high d 16 owner volume line s t)
+      → placedAs low d 16 owner volume line s′ t′ ≡ unreadEach low d attributes (placedAs high d 16 owner volume line s t)
   sixteen-lower owner volume line s s′ t t′ (a, b, e, f, g, h, x, y) = λ i.
       pos 16 ∷ pos owner ∷ pos volume ∷ pos line ∷ pos 0
       ∷ firstOr0 (numbersOf (a i)) ∷ firstOr0 (others (numbersOf (a i))) ∷ firstOr0 (others (others (numbersOf (a i)))) ∷ firstOr0 (others (others (others (numbersOf (a i))))) ∷ firstOr0 (others (others (others (others (numbersOf (a i))))))
@@ -181,47 +206,80 @@ module _ (low high : Digits) (le : NotAbove low high) (d : Digits) where
     nth-mask {t = placedTable} (there (there (there (there (there here))))) s,
   )
 
-module _ (low high : Class) (le : NotAbove (low .symbols) (high .symbols)) (d : Digits) where
-  abbrev view : Class → List Rule → View
-  view c t = record { class = c; symbols = d; table = t }
+-- a class is without wires where it doesn't know them
+abbrev pub Agree : Class → Type 0
+Agree c = withoutWires c ≡ not (knowsWires c)
 
-  placed-lower : (t : List Rule) (owner volume line : ℕ) (h : Held) → placedRecord (view low t) 0 owner volume line (lowerHeld (low .symbols) d h) ≡ unread (low .symbols) d (placedRecord (view high t) 0 owner volume line h)
+module _ (low high : Class) (le : NotAbove (low .symbols) (high .symbols)) (agree : Agree low) (d : Digits) (range : ℕ) where
+  has-wires : knowsWires low ≡ true → withoutWires low ≡ false
+  has-wires k = agree ∙ ap not k
+
+  no-wires : knowsWires low ≡ false → withoutWires low ≡ true
+  no-wires k = agree ∙ ap not k
+
+  abbrev view : Class → List Rule → View
+  view c t = record { class = c; symbols = d; wires = range; table = t }
+
+  abbrev u : List ℤ → List ℤ
+  u = unreadIn low d
+
+  placed-lower : (t : List Rule) (owner volume line : ℕ) (h : Held) → placedRecord (view low t) 0 owner volume line (lowerHeld (low .symbols) d h) ≡ u (placedRecord (view high t) 0 owner volume line h)
   placed-lower t owner volume line h =
       let w = own-masked (low .symbols) (high .symbols) le d (partOf h 0) in
       placed-as (view low t) 0 owner volume line (lowerHeld (low .symbols) d h)
       ∙ ap₂ (placedAs (low .symbols) d 16 owner volume line) (part-own (low .symbols) d h) (part-inner (low .symbols) d h 0)
       ∙ sixteen-lower (low .symbols) (high .symbols) le d owner volume line (partOf h 0) (maskSlots (low .symbols) d placedTable (partOf h 0)) (partOf h 1) (innerPart (low .symbols) d (partOf h 1))
       (w .0, w .1, w .2, w .3, w .4, w .5, nth-inner (low .symbols) d 0 (partOf h 1), nth-inner (low .symbols) d 1 (partOf h 1))
-      ∙ ap (unread (low .symbols) d) (sym (placed-as (view high t) 0 owner volume line h))
+      ∙ ap u (sym (placed-as (view high t) 0 owner volume line h))
 
-  -- ── records of other kinds ──
-  abbrev u : List ℤ → List ℤ
-  u = unread (low .symbols) d
+  -- ── lists of records ──
+  abbrev down : List (List ℤ) → List (List ℤ)
+  down rs = map u (filter (keeps low) rs)
+
+  filter-append : (a b : List (List ℤ)) → filter (keeps low) (a ++ b) ≡ filter (keeps low) a ++ filter (keeps low) b
+  filter-append [] b = refl
+  filter-append (r ∷ a) b = go (keeps low r) (filter-append a b)
+    where
+      go : (t : Bool) → filter (keeps low) (a ++ b) ≡ filter (keeps low) a ++ filter (keeps low) b
+          → cond t (r ∷ filter (keeps low) (a ++ b)) (filter (keeps low) (a ++ b)) ≡ cond t (r ∷ filter (keeps low) a) (filter (keeps low) a) ++ filter (keeps low) b
+      go true e = ap (λ z. r ∷ z) e
+      go false e = e
+
+  down-append : (a b : List (List ℤ)) → down (a ++ b) ≡ down a ++ down b
+  down-append a b = ap (map u) (filter-append a b) ∙ map-append u (filter (keeps low) a) (filter (keeps low) b)
 
   abbrev Same : List (List ℤ) → Type 0
-  Same rs = map u rs ≡ rs
+  Same rs = down rs ≡ rs
 
-  other : (r : List ℤ) → is16 (firstOr0 r) ≡ false → u r ≡ r
-  other r e = rw (placed-first r, e)
+  -- a record that stays, as it is or changed
+  stays : (r : List ℤ) (rs : List (List ℤ)) → keeps low r ≡ true → down (r ∷ rs) ≡ u r ∷ down rs
+  stays r rs e = ap (λ b. map u (cond b (r ∷ filter (keeps low) rs) (filter (keeps low) rs))) e
 
-  cons-same : (r : List ℤ) (rs : List (List ℤ)) → is16 (firstOr0 r) ≡ false → Same rs → Same (r ∷ rs)
-  cons-same r rs e h = ap₂ (λ a b. a ∷ b) (other r e) h
+  cons-same : (r : List ℤ) (rs : List (List ℤ)) → special (firstOr0 r) ≡ false → Same rs → Same (r ∷ rs)
+  cons-same r rs e h =
+      let w = plain-record r e in
+      stays r rs (rw (w .noEdge)) ∙ ap₂ (λ a b. a ∷ b) (rw (w .noSymbol, w .noWire)) h
 
   append-same : (a b : List (List ℤ)) → Same a → Same b → Same (a ++ b)
-  append-same a b p q = map-append u a b ∙ ap₂ (λ x y. x ++ y) p q
+  append-same a b p q = down-append a b ∙ ap₂ (λ x y. x ++ y) p q
 
-  slots-same : (t : List Rule) (s : Slots) (r : List ℤ) → is16 (firstOr0 r) ≡ false → is16 (firstOr0 (putSlots t s r)) ≡ false
+  slots-same : (t : List Rule) (s : Slots) (r : List ℤ) → special (firstOr0 r) ≡ false → special (firstOr0 (putSlots t s r)) ≡ false
   slots-same t s r e = rw (first-slots t s r) e
 
-  points-same : (kind owner volume : ℕ) → eqb kind 16 ≡ false → (ps : List Point) → Same (pointRecords kind owner volume ps)
+  points-same : (kind owner volume : ℕ) → special (pos kind) ≡ false → (ps : List Point) → Same (pointRecords kind owner volume ps)
   points-same kind owner volume e [] = refl
   points-same kind owner volume e (p ∷ ps) =
       cons-same (putSlot (ruleAt (pointTable true) 0) (some (nums (p .values))) (start kind owner volume (p .line))) (pointRecords kind owner volume ps)
       (rw (first-slot (ruleAt (pointTable true) 0) (some (nums (p .values))) (start kind owner volume (p .line))) e) (points-same kind owner volume e ps)
 
   -- ── figures in layers ──
-  line-lower : (t : List Rule) (owner volume n j : ℕ) (v : List Num) → lineRecord (view low t) 0 owner volume n j v ≡ u (lineRecord (view high t) 0 owner volume n j v)
-  line-lower t owner volume n j v = go (eqb j 6) refl
+  placed-down : (t : List Rule) (owner volume line : ℕ) (h : Held) → placedRecord (view low t) 0 owner volume line (lowerHeld (low .symbols) d h) ∷ [] ≡ down (placedRecord (view high t) 0 owner volume line h ∷ [])
+  placed-down t owner volume line h =
+      ap (λ r. r ∷ []) (placed-lower t owner volume line h)
+      ∙ sym (stays (placedRecord (view high t) 0 owner volume line h) [] (ap (keeps low) (placed-as (view high t) 0 owner volume line h)))
+
+  line-lower : (t : List Rule) (owner volume n j : ℕ) (v : List Num) → ltb j layerRows ≡ true → lineRecord (view low t) 0 owner volume n j v ∷ [] ≡ down (lineRecord (view high t) 0 owner volume n j v ∷ [])
+  line-lower t owner volume n j v below = go (eqb j 6) refl
     where
       alone : Held
       alone = (some (nums v) ∷ []) ∷ []
@@ -229,29 +287,120 @@ module _ (low high : Class) (le : NotAbove (low .symbols) (high .symbols)) (d : 
       kept : lowerHeld (low .symbols) d alone ≡ alone
       kept = first-alone (low .symbols) (high .symbols) le d (nums v)
 
-      go : (b : Bool) → eqb j 6 ≡ b → cond b (placedRecord (view low t) 0 owner volume n alone) (plainRecord (view low t) 0 owner volume n j v)
-          ≡ u (cond b (placedRecord (view high t) 0 owner volume n alone) (plainRecord (view high t) 0 owner volume n j v))
-      go true e = ap (placedRecord (view low t) 0 owner volume n) (sym kept) ∙ placed-lower t owner volume n alone
+      go : (b : Bool) → eqb j 6 ≡ b → cond b (placedRecord (view low t) 0 owner volume n alone) (plainRecord (view low t) 0 owner volume n j v) ∷ []
+          ≡ down (cond b (placedRecord (view high t) 0 owner volume n alone) (plainRecord (view high t) 0 owner volume n j v) ∷ [])
+      go true e = ap (λ h. placedRecord (view low t) 0 owner volume n h ∷ []) (sym kept) ∙ placed-down t owner volume n alone
       go false e =
-          sym (other (plainRecord (view high t) 0 owner volume n j v)
-          (rw (first-slot (ruleAt t j) (some (nums v)) (start (10 + 0 + j) owner volume n)) (ne-eqb (10 + 0 + j) 16 (λ z. eqb-false j 6 e (omega arith)))))
+          sym (cons-same (plainRecord (view high t) 0 owner volume n j v) []
+          (rw (first-slot (ruleAt t j) (some (nums v)) (start (10 + 0 + j) owner volume n))
+          (low-kind (10 + 0 + j) (let h = ltb-true j layerRows below in omega (arith, h)) (ne-eqb (10 + 0 + j) 16 (λ z. eqb-false j 6 e (omega arith))))) refl)
 
-  figure-lower : (t : List Rule) (owner volume : ℕ) (f : Figure) → figureRecords (view low t) 0 owner volume (lowerFigure low d f) ≡ map u (figureRecords (view high t) 0 owner volume f)
-  figure-lower t owner volume (plain n j v) = ap (λ r. r ∷ []) (line-lower t owner volume n j v)
-  figure-lower t owner volume (chain n ps) = sym (cons-same (chainRecord 0 owner volume n ps) (pointRecords 17 owner volume ps) refl (points-same 17 owner volume refl ps))
-  figure-lower t owner volume (lettering n s) = sym (cons-same (textRecord 0 owner volume n s) [] (slots-same (textTable true 4 12) s (start 15 owner volume n) refl) refl)
-  figure-lower t owner volume (placed n h) = ap (λ r. r ∷ []) (placed-lower t owner volume n h)
+  -- ── wires ──
+  abbrev readTwo : ℕ → ℕ → ℕ → Wire → List (List ℤ)
+  readTwo owner volume n w = twoOf (wireNumbers range (length (w .elements)) (wireStart owner volume n))
+
+  abbrev overTwo : ℕ → ℕ → ℕ → List (List ℤ)
+  overTwo owner volume n = twoOf (unreadNumbers (wireStart owner volume n))
+
+  edge-first : (owner volume : ℕ) (e : Edge) → firstOr0 (edgeRecord owner volume e) ≡ pos (20 + e .row)
+  edge-first owner volume e =
+      first-set (putSlot (ruleAt wireTable (e .row)) (some (nums (e .values))) (start (20 + e .row) owner volume (e .line))) 10 (pos (e .join))
+      ∙ first-slot (ruleAt wireTable (e .row)) (some (nums (e .values))) (start (20 + e .row) owner volume (e .line))
+
+  -- a class that knows wires has all their records
+  edges-same : knowsWires low ≡ true → (owner volume : ℕ) (es : List Edge) → Same (edgeRecords owner volume es)
+  edges-same k owner volume [] = refl
+  edges-same k owner volume (e ∷ es) =
+      stays (edgeRecord owner volume e) (edgeRecords owner volume es) (kept (isOf edgeKinds (edgeRecord owner volume e)))
+      ∙ ap₂ (λ a b. a ∷ b) (as-it-is (edgeRecord owner volume e) (no-symbol (edgeRecord owner volume e) (edge-first owner volume e))) (edges-same k owner volume es)
+    where
+      kept : (b : Bool) → not (b && withoutWires low) ≡ true
+      kept true = ap not (has-wires k)
+      kept false = refl
+
+      no-symbol : (r : List ℤ) → firstOr0 r ≡ pos (20 + e .row) → isOf placedKinds r ≡ false
+      no-symbol [] q = refl
+      no-symbol (negsuc m ∷ r) q = refl
+      no-symbol (pos m ∷ r) q = let h : m ≡ 20 + e .row = cc in rw (ne-eqb m 16 (λ z. omega (arith, h, z)))
+
+      as-it-is : (r : List ℤ) → isOf placedKinds r ≡ false → u r ≡ r
+      as-it-is r q = rw (q, has-wires k) (over (isOf wireKinds r))
+        where
+          over : (b : Bool) → cond (b && false) (passedOver r) r ≡ r
+          over true = refl
+          over false = refl
+
+  -- another has none of their lines and arcs
+  edges-gone : knowsWires low ≡ false → (owner volume : ℕ) (es : List Edge) → all edgeRow es ≡ true → down (edgeRecords owner volume es) ≡ []
+  edges-gone k owner volume [] w = refl
+  edges-gone k owner volume (e ∷ es) w =
+      ap (λ b. map u (cond (not (b && withoutWires low)) (edgeRecord owner volume e ∷ filter (keeps low) (edgeRecords owner volume es)) (filter (keeps low) (edgeRecords owner volume es))))
+      (is-edge (edgeRecord owner volume e) (edge-first owner volume e))
+      ∙ rw (no-wires k) (edges-gone k owner volume es (and-right (edgeRow e) _ w))
+    where
+      is-edge : (r : List ℤ) → firstOr0 r ≡ pos (20 + e .row) → isOf edgeKinds r ≡ true
+      is-edge [] q = absurd (let h : 0 ≡ 20 + e .row = cc in omega (arith, h))
+      is-edge (negsuc m ∷ r) q = absurd (let h : _≡_ {A = ℕ} 0 1 = cc in omega arith)
+      is-edge (pos m ∷ r) q =
+          let h : m ≡ 20 + e .row = cc in
+          go (eqb m 20) refl (eqb m 21) refl h (ltb-true (e .row) edgeRows (and-left (edgeRow e) _ w))
+        where
+          none-else : (m r : ℕ) → m ≡ 20 + r → r < 2 → (m ≡ 20 → ⊥) → (m ≡ 21 → ⊥) → ⊥
+          none-else m zero h z i j = i (omega (arith, h))
+          none-else m (suc zero) h z i j = j (omega (arith, h))
+          none-else m (suc (suc r)) h z i j = omega (arith, z)
+
+          go : (a : Bool) → eqb m 20 ≡ a → (b : Bool) → eqb m 21 ≡ b → m ≡ 20 + e .row → e .row < 2 → (eqb m 20 || (eqb m 21 || false)) ≡ true
+          go true x b y h z = rw x
+          go false x true y h z = rw (x, y)
+          go false x false y h z = absurd (none-else m (e .row) h z (eqb-false m 20 x) (eqb-false m 21 y))
+
+  wire-lower : (owner volume n : ℕ) (w : Wire) (t : List Rule) → all edgeRow (w .elements) ≡ true
+      → figureRecords (view low t) 0 owner volume (lowerFigure low d (wired n w)) ≡ down (figureRecords (view high t) 0 owner volume (wired n w))
+  wire-lower owner volume n w t rows = go (knowsWires low) refl
+    where
+      all-of-them : List (List ℤ)
+      all-of-them = readTwo owner volume n w ++ edgeRecords owner volume (w .elements)
+
+      known : knowsWires low ≡ true → down (readTwo owner volume n w) ≡ readTwo owner volume n w
+      known k = rw (has-wires k)
+
+      over : knowsWires low ≡ false → down (readTwo owner volume n w) ≡ overTwo owner volume n
+      over k = rw (no-wires k)
+
+      go : (b : Bool) → knowsWires low ≡ b → figureRecords (view low t) 0 owner volume (cond b (wired n w) (passed n)) ≡ down all-of-them
+      go true k =
+          sym (down-append (readTwo owner volume n w) (edgeRecords owner volume (w .elements))
+          ∙ ap₂ (λ x y. x ++ y) (known k) (edges-same k owner volume (w .elements)))
+      go false k =
+          sym (down-append (readTwo owner volume n w) (edgeRecords owner volume (w .elements))
+          ∙ ap₂ (λ x y. x ++ y) (over k) (edges-gone k owner volume (w .elements) rows))
+
+  passed-lower : (owner volume n : ℕ) → Same (overTwo owner volume n)
+  passed-lower owner volume n = go (knowsWires low) refl
+    where
+      go : (b : Bool) → knowsWires low ≡ b → Same (overTwo owner volume n)
+      go true k = rw (has-wires k)
+      go false k = rw (no-wires k)
+
+  figure-lower : (t : List Rule) (owner volume : ℕ) (f : Figure) → layerFigure f ≡ true → figureRecords (view low t) 0 owner volume (lowerFigure low d f) ≡ down (figureRecords (view high t) 0 owner volume f)
+  figure-lower t owner volume (plain n j v) w = line-lower t owner volume n j v w
+  figure-lower t owner volume (chain n ps) w = sym (cons-same (chainRecord 0 owner volume n ps) (pointRecords 17 owner volume ps) refl (points-same 17 owner volume refl ps))
+  figure-lower t owner volume (lettering n s) w = sym (cons-same (textRecord 0 owner volume n s) [] (slots-same (textTable true 4 12) s (start 15 owner volume n) refl) refl)
+  figure-lower t owner volume (placed n h) w = placed-down t owner volume n h
+  figure-lower t owner volume (wired n x) w = wire-lower owner volume n x t w
+  figure-lower t owner volume (passed n) w = sym (passed-lower owner volume n)
 
   -- lists of them
-  flat-lower : {A : Type 0} (f g : A → List (List ℤ)) (low′ : A → A) → ((a : A) → f (low′ a) ≡ map u (g a)) → (s : List A) → flat (map f (map low′ s)) ≡ map u (flat (map g s))
-  flat-lower f g low′ h [] = refl
-  flat-lower f g low′ h (a ∷ s) = ap₂ (λ x y. x ++ y) (h a) (flat-lower f g low′ h s) ∙ sym (map-append u (g a) (flat (map g s)))
+  flat-lower : {A : Type 0} (f g : A → List (List ℤ)) (low′ : A → A) (p : A → Bool) → ((a : A) → p a ≡ true → f (low′ a) ≡ down (g a)) → (s : List A) → all p s ≡ true → flat (map f (map low′ s)) ≡ down (flat (map g s))
+  flat-lower f g low′ p h [] e = refl
+  flat-lower f g low′ p h (a ∷ s) e = ap₂ (λ x y. x ++ y) (h a (and-left (p a) _ e)) (flat-lower f g low′ p h s (and-right (p a) _ e)) ∙ sym (down-append (g a) (flat (map g s)))
 
-  block-lower : (t : List Rule) (k : ℕ) (b : LayerBlock) → blockRecords (view low t) k (lowerBlock low d b) ≡ map u (blockRecords (view high t) k b)
-  block-lower t k b = flat-lower (figureRecords (view low t) 0 (b .layer) k) (figureRecords (view high t) 0 (b .layer) k) (lowerFigure low d) (figure-lower t (b .layer) k) (b .figures)
+  block-lower : (t : List Rule) (k : ℕ) (b : LayerBlock) → all layerFigure (b .figures) ≡ true → blockRecords (view low t) k (lowerBlock low d b) ≡ down (blockRecords (view high t) k b)
+  block-lower t k b w = flat-lower (figureRecords (view low t) 0 (b .layer) k) (figureRecords (view high t) 0 (b .layer) k) (lowerFigure low d) layerFigure (figure-lower t (b .layer) k) (b .figures) w
 
-  body-lower : (t : List Rule) (k : ℕ) (v : Contents) → bodyRecords (view low t) k (lowerContents low d v) ≡ map u (bodyRecords (view high t) k v)
-  body-lower t k v = flat-lower (blockRecords (view low t) k) (blockRecords (view high t) k) (lowerBlock low d) (block-lower t k) (v .blocks)
+  body-lower : (t : List Rule) (k : ℕ) (v : Contents) → layerFigures v ≡ true → bodyRecords (view low t) k (lowerContents low d v) ≡ down (bodyRecords (view high t) k v)
+  body-lower t k v w = flat-lower (blockRecords (view low t) k) (blockRecords (view high t) k) (lowerBlock low d) (λ b. all layerFigure (b .figures)) (block-lower t k) (v .blocks) w
 
   -- ── the rest ──
   file-records : (b : Bool) (k : ℕ) (v : Contents) → Same (fileRecords b k v)
@@ -259,38 +408,37 @@ module _ (low high : Class) (le : NotAbove (low .symbols) (high .symbols)) (d : 
   file-records true k v = refl
   file-records false k v = refl
 
-  later-lower : (t : List Rule) (k : ℕ) (vs : List Contents) → laterRecords (view low t) k (map (lowerContents low d) vs) ≡ map u (laterRecords (view high t) k vs)
-  later-lower t k [] = refl
-  later-lower t k (v ∷ vs) =
-      ap₂ (λ x y. x ++ y) (ap₂ (λ x y. x ++ y) (sym (file-records false k v)) (body-lower t k v)) (later-lower t (suc k) vs)
-      ∙ sym (map-append u (fileRecords false k v ++ bodyRecords (view high t) k v) (laterRecords (view high t) (suc k) vs) ∙ ap (λ x. x ++ map u (laterRecords (view high t) (suc k) vs)) (map-append u (fileRecords false k v) (bodyRecords (view high t) k v)))
+  later-lower : (t : List Rule) (k : ℕ) (vs : List Contents) → all layerFigures vs ≡ true → laterRecords (view low t) k (map (lowerContents low d) vs) ≡ down (laterRecords (view high t) k vs)
+  later-lower t k [] w = refl
+  later-lower t k (v ∷ vs) w =
+      ap₂ (λ x y. x ++ y) (ap₂ (λ x y. x ++ y) (sym (file-records false k v)) (body-lower t k v (and-left (layerFigures v) _ w))) (later-lower t (suc k) vs (and-right (layerFigures v) _ w))
+      ∙ sym (down-append (fileRecords false k v ++ bodyRecords (view high t) k v) (laterRecords (view high t) (suc k) vs) ∙ ap (λ x. x ++ down (laterRecords (view high t) (suc k) vs)) (down-append (fileRecords false k v) (bodyRecords (view high t) k v)))
 
   layers-same : (n : ℕ) (ls : List Layer) → Same (layerRecords n ls)
   layers-same n [] = refl
   layers-same n (l ∷ ls) = cons-same (layerRecord n l) (layerRecords (suc n) ls) refl (layers-same (suc n) ls)
 
-  shapes-same : (n : ℕ) (fs : List Figure) → Same (flat (map (figureRecords plainView 20 n 1) fs))
-  shapes-same n [] = refl
-  shapes-same n (f ∷ fs) =
-      append-same (figureRecords plainView 20 n 1 f) (flat (map (figureRecords plainView 20 n 1) fs)) (one f) (shapes-same n fs)
+  shapes-same : (n : ℕ) (fs : List Figure) → all symbolFigure fs ≡ true → Same (flat (map (figureRecords plainView 20 n 1) fs))
+  shapes-same n [] w = refl
+  shapes-same n (f ∷ fs) w =
+      append-same (figureRecords plainView 20 n 1 f) (flat (map (figureRecords plainView 20 n 1) fs)) (one f (and-left (symbolFigure f) _ w)) (shapes-same n fs (and-right (symbolFigure f) _ w))
     where
-      line-same : (m j : ℕ) (v : List Num) → is16 (firstOr0 (lineRecord plainView 20 n 1 m j v)) ≡ false
+      line-same : (m j : ℕ) (v : List Num) → special (firstOr0 (lineRecord plainView 20 n 1 m j v)) ≡ false
       line-same m j v =
-          by-cond (λ r. is16 (firstOr0 r) ≡ false) (eqb j 6)
-          (λ _. ap (λ r. is16 (firstOr0 r)) (placed-as plainView 20 n 1 m ((some (nums v) ∷ []) ∷ [])))
-          (λ _. rw (first-slot (ruleAt figureTable j) (some (nums v)) (start (10 + 20 + j) n 1 m)) (ne-eqb (10 + 20 + j) 16 (λ z. absurd (no z))))
-        where
-          no : 10 + 20 + j ≡ 16 → ⊥
-          no z = omega arith
+          by-cond (λ r. special (firstOr0 r) ≡ false) (eqb j 6)
+          (λ _. ap (λ r. special (firstOr0 r)) (placed-as plainView 20 n 1 m ((some (nums v) ∷ []) ∷ [])))
+          (λ _. rw (first-slot (ruleAt figureTable j) (some (nums v)) (start (10 + 20 + j) n 1 m)) (high-kind (10 + 20 + j) (omega arith)))
 
-      one : (f : Figure) → Same (figureRecords plainView 20 n 1 f)
-      one (plain m j v) = cons-same (lineRecord plainView 20 n 1 m j v) [] (line-same m j v) refl
-      one (chain m ps) = cons-same (chainRecord 20 n 1 m ps) (pointRecords 37 n 1 ps) refl (points-same 37 n 1 refl ps)
-      one (lettering m s) = cons-same (textRecord 20 n 1 m s) [] (slots-same (textTable true 4 12) s (start 35 n 1 m) refl) refl
-      one (placed m h) = cons-same (placedRecord plainView 20 n 1 m h) [] (ap (λ r. is16 (firstOr0 r)) (placed-as plainView 20 n 1 m h)) refl
+      one : (f : Figure) → symbolFigure f ≡ true → Same (figureRecords plainView 20 n 1 f)
+      one (plain m j v) w = cons-same (lineRecord plainView 20 n 1 m j v) [] (line-same m j v) refl
+      one (chain m ps) w = cons-same (chainRecord 20 n 1 m ps) (pointRecords 37 n 1 ps) refl (points-same 37 n 1 refl ps)
+      one (lettering m s) w = cons-same (textRecord 20 n 1 m s) [] (slots-same (textTable true 4 12) s (start 35 n 1 m) refl) refl
+      one (placed m h) w = cons-same (placedRecord plainView 20 n 1 m h) [] (ap (λ r. special (firstOr0 r)) (placed-as plainView 20 n 1 m h)) refl
+      one (wired m x) w = clash w refl
+      one (passed m) w = clash w refl
 
-  inner-same : (n : ℕ) (y : Symbol) → Same (innerRecords n y)
-  inner-same n y = go (y .hideFirst)
+  inner-same : (n : ℕ) (y : Symbol) → symbolShapes y ≡ true → Same (innerRecords n y)
+  inner-same n y w = go (y .hideFirst)
     where
       shown : List (List ℤ)
       shown = flat (map (figureRecords plainView 20 n 1) (y .figures))
@@ -299,41 +447,63 @@ module _ (low high : Class) (le : NotAbove (low .symbols) (high .symbols)) (d : 
       hidden = pointRecords 43 n 1 (y .hidden)
 
       go : (b : Bool) → Same (cond b (hidden ++ shown) (shown ++ hidden))
-      go true = append-same hidden shown (points-same 43 n 1 refl (y .hidden)) (shapes-same n (y .figures))
-      go false = append-same shown hidden (shapes-same n (y .figures)) (points-same 43 n 1 refl (y .hidden))
+      go true = append-same hidden shown (points-same 43 n 1 refl (y .hidden)) (shapes-same n (y .figures) w)
+      go false = append-same shown hidden (shapes-same n (y .figures) w) (points-same 43 n 1 refl (y .hidden))
 
-  symbols-same : (n : ℕ) (ys : List Symbol) → Same (symbolRecords n ys)
-  symbols-same n [] = refl
-  symbols-same n (y ∷ ys) =
+  symbols-same : (n : ℕ) (ys : List Symbol) → all symbolShapes ys ≡ true → Same (symbolRecords n ys)
+  symbols-same n [] w = refl
+  symbols-same n (y ∷ ys) w =
       append-same (putSlots symbolTable (y .own) (start 4 n 1 (y .line)) ∷ innerRecords n y) (symbolRecords (suc n) ys)
-      (cons-same (putSlots symbolTable (y .own) (start 4 n 1 (y .line))) (innerRecords n y) (slots-same symbolTable (y .own) (start 4 n 1 (y .line)) refl) (inner-same n y))
-      (symbols-same (suc n) ys)
+      (cons-same (putSlots symbolTable (y .own) (start 4 n 1 (y .line))) (innerRecords n y) (slots-same symbolTable (y .own) (start 4 n 1 (y .line)) refl) (inner-same n y (and-left (symbolShapes y) _ w)))
+      (symbols-same (suc n) ys (and-right (symbolShapes y) _ w))
 
   head-same : (dr : Drawing) → Same (drawingRecord dr ∷ layerRecords 0 (dr .layers))
   head-same dr = cons-same (drawingRecord dr) (layerRecords 0 (dr .layers)) (slots-same drawingTable (dr .own) (start 3 0 1 (dr .line)) refl) (layers-same 0 (dr .layers))
 
-  from-lower : (s s′ : Set) → s′ .drawing ≡ s .drawing → s′ .symbols ≡ s .symbols → rangeOf s′ ≡ d → isSingle s′ ≡ isSingle s → rangeOf s ≡ d → (vs : List Contents)
-      → recordsFrom low s′ (map (lowerContents low d) vs) ≡ map u (recordsFrom high s vs)
-  from-lower s s′ p q r o e [] = refl
-  from-lower s s′ p q r o e (v ∷ vs) = rw (p, q, r, o, e) (apart (layerTableOf s))
+  -- a set whose figures of layers are those of another at the lower class, and all else the same
+  pub record Beneath (s s′ : Set) : Type 0 where
+    pub drawings : s′ .drawing ≡ s .drawing
+    pub defined : s′ .symbols ≡ s .symbols
+    pub symbolsBelow : rangeOf s′ ≡ d
+    pub symbolsAbove : rangeOf s ≡ d
+    pub wiresBelow : wireRange s′ ≡ range
+    pub wiresAbove : wireRange s ≡ range
+    pub tables : layerTableOf s′ ≡ layerTableOf s
+
+  from-lower : (s s′ : Set) → Beneath s s′ → all symbolShapes (s .symbols) ≡ true → (vs : List Contents) → all layerFigures vs ≡ true
+      → recordsFrom low s′ (map (lowerContents low d) vs) ≡ down (recordsFrom high s vs)
+  from-lower s s′ b shapes [] w = refl
+  from-lower s s′ b shapes (v ∷ vs) w =
+      (λ i. from (b .drawings i) (b .defined i) (record { class = low; symbols = b .symbolsBelow i; wires = b .wiresBelow i; table = b .tables i }) (lowerContents low d v) (map (lowerContents low d) vs))
+      ∙ apart (layerTableOf s)
+      ∙ (λ i. down (from (s .drawing) (s .symbols) (record { class = high; symbols = sym (b .symbolsAbove) i; wires = sym (b .wiresAbove) i; table = layerTableOf s }) v vs))
     where
+      from : Drawing → List Symbol → View → Contents → List Contents → List (List ℤ)
+      from dr ys w v vs = fileRecords true 1 v ++ (drawingRecord dr ∷ layerRecords 0 (dr .layers)) ++ symbolRecords 0 ys ++ bodyRecords w 1 v ++ laterRecords w 2 vs
+
       head : List (List ℤ)
       head = fileRecords true 1 v ++ (drawingRecord (s .drawing) ∷ layerRecords 0 (s .drawing .layers)) ++ symbolRecords 0 (s .symbols)
 
       head-kept : Same head
       head-kept =
           append-same (fileRecords true 1 v ++ (drawingRecord (s .drawing) ∷ layerRecords 0 (s .drawing .layers))) (symbolRecords 0 (s .symbols))
-          (append-same (fileRecords true 1 v) (drawingRecord (s .drawing) ∷ layerRecords 0 (s .drawing .layers)) (file-records true 1 v) (head-same (s .drawing))) (symbols-same 0 (s .symbols))
+          (append-same (fileRecords true 1 v) (drawingRecord (s .drawing) ∷ layerRecords 0 (s .drawing .layers)) (file-records true 1 v) (head-same (s .drawing))) (symbols-same 0 (s .symbols) shapes)
 
       apart : (t : List Rule) → head ++ bodyRecords (view low t) 1 (lowerContents low d v) ++ laterRecords (view low t) 2 (map (lowerContents low d) vs)
-          ≡ map u (head ++ bodyRecords (view high t) 1 v ++ laterRecords (view high t) 2 vs)
+          ≡ down (head ++ bodyRecords (view high t) 1 v ++ laterRecords (view high t) 2 vs)
       apart t =
-          ap₂ (λ x y. x ++ y) (ap₂ (λ x y. x ++ y) (sym head-kept) (body-lower t 1 v)) (later-lower t 2 vs)
-          ∙ ap (λ x. x ++ map u (laterRecords (view high t) 2 vs)) (sym (map-append u head (bodyRecords (view high t) 1 v)))
-          ∙ sym (map-append u (head ++ bodyRecords (view high t) 1 v) (laterRecords (view high t) 2 vs))
+          ap₂ (λ x y. x ++ y) (ap₂ (λ x y. x ++ y) (sym head-kept) (body-lower t 1 v (and-left (layerFigures v) _ w))) (later-lower t 2 vs (and-right (layerFigures v) _ w))
+          ∙ ap (λ x. x ++ down (laterRecords (view high t) 2 vs)) (sym (down-append head (bodyRecords (view high t) 1 v)))
+          ∙ sym (down-append (head ++ bodyRecords (view high t) 1 v) (laterRecords (view high t) 2 vs))
 
 -- the records of a set, at the two classes
-pub records-lower : (low high : Class) → NotAbove (low .symbols) (high .symbols) → (took : ℕ) (s : Set) → recordsOf low (lowerSet took low s) ≡ map (unread (low .symbols) (rangeOf s)) (recordsOf high s)
+pub records-lower : (low high : Class) → NotAbove (low .symbols) (high .symbols) → Agree low → (took : ℕ) (s : Set) → Rows s → recordsOf low (lowerSet took low s) ≡ lowered low s (recordsOf high s)
 unfolding recordsOf
-records-lower low high le took s =
-    from-lower low high le (rangeOf s) s (lowerSet took low s) refl refl (simp (file-same low (rangeOf s) (s .now) (s .volumes))) (simp (file-same low (rangeOf s) (s .now) (s .volumes))) refl (s .volumes)
+records-lower low high le agree took s rows =
+    from-lower low high le agree (rangeOf s) (wireRange s) s (lowerSet took low s) beneath (rows .0) (s .volumes) (rows .1)
+  where
+    first : headOr (lowerSet took low s .now) (lowerSet took low s .volumes) .file ≡ headOr (s .now) (s .volumes) .file
+    first = file-same low (rangeOf s) (s .now) (s .volumes)
+
+    beneath : Beneath low high le agree (rangeOf s) (wireRange s) s (lowerSet took low s)
+    beneath = record { drawings = refl; defined = refl; symbolsBelow = simp first; symbolsAbove = refl; wiresBelow = simp first; wiresAbove = refl; tables = simp first }

@@ -13,7 +13,7 @@ use Rattle.rules.specs.Lines.{Rest, brace, equals, Shape, opener, noContent, co
 use Rattle.rules.specs.RangeClass.{digits, reaches, passes, deeper, skipShape, skipOf}
 use Rattle.rules.specs.Values.{Value, empty, nums, Known, Kind, values, text, word, volumeName, sheet, ratio, serials, nothing, opens, headed, either, isFree, readKind}
 use Rattle.rules.specs.Rows.{Rule, isContent, isEmpty, isOpener, fits, shapeFor, Act, stay, entry, begin, shut, refuse, innerOf, readShape, actRow}
-use Rattle.rules.specs.Figures.{placedTable, textTable}
+use Rattle.rules.specs.Figures.{placedTable, textTable, wireTable}
 use Rattle.rules.proofs.Chains.{and-left, and-right, and-false, clash, cond-same, same-eq, never, map-got}
 use Rattle.rules.proofs.Rows.{isRefusal, row-did}
 use Rattle.promises.proofs.Lower.{textLeast}
@@ -192,3 +192,11 @@ quiet-texts = refl
 pub flat-texts : all (λ r. flatKind (r .holds)) (textTable true 16 24) ≡ true
 unfolding textTable
 flat-texts = refl
+
+pub quiet-edges : all quiet wireTable ≡ true
+unfolding wireTable
+quiet-edges = refl
+
+pub flat-edges : all (λ r. flatKind (r .holds)) wireTable ≡ true
+unfolding wireTable
+flat-edges = refl

@@ -4,7 +4,7 @@
 use Prim.Native.Nat.{ℕ, zero, suc, _≤_}
 use mathlib.Core.Bool.{Bool, true, false, cond, _&&_, _||_}
 use mathlib.Core.List.{List, [], _∷_}
-use mathlib.Core.Path.{_≡_, refl, sym, _∙_, ap}
+use mathlib.Core.Path.{_≡_, refl, sym, _∙_, ap, subst}
 use native.Mathlib.Omega.{arith}
 use lib.Dec.{eqb, leb, ltb}
 use borrow.Author.Tests.{le-leb, leb-true, ltb-true, eq-eqb}
@@ -12,19 +12,22 @@ use Rattle.rules.specs.declared.Class.{Class}
 use Rattle.rules.specs.Base.{isNil}
 use Rattle.rules.specs.RefusalNumbers.{Got, got, bad, mapG, also}
 use Rattle.rules.specs.Lines.{Form, ignored, wrong, close, eof, keyed}
-use Rattle.rules.specs.RangeClass.{hides}
-use Rattle.rules.specs.Sets.{Set, nothingYet, rangeOf}
+use Rattle.rules.specs.RangeClass.{hides, knowsWires}
+use Rattle.rules.specs.Sets.{Wire, Figure, Set, nothingYet, rangeOf}
 use Rattle.rules.specs.VolumesAndTotals.{countedAll, layersUsed}
 use Rattle.rules.specs.Machine.{Line, inLastVolume, Env, unlimited, limitedTo, State, top, file, drawing, layerNames, defines, symbol, hide, elements, figures, successive, texts, placing, skipping, ended, setOf, atEof, onTop}
 use Rattle.rules.specs.LineByLine.{stepIn, Stage, between, withinElement, withinOther, atEnd, stageOf, isWithinElement, isAfterElement, inElements, afterElements, isIgnored, isClose, isEof, completes, begunAnew, nextVolume, step, refused, accepted, thenRun, finish, run}
-use Rattle.rules.specs.Machine.{symbolBlock}
+use Rattle.rules.specs.Machine.{symbolBlock, wireBlock, wireUnread}
+use Rattle.rules.specs.Wires.{onWire}
 use Rattle.rules.proofs.Runs.{not-accepted, finish-ended}
 use Rattle.rules.proofs.Chains.{and-left, and-right, or-true, clash, by-cond, never, unless-got, map-got, also-got, cond-true, on-got}
 use Rattle.promises.specs.DemandThree.{ClassNotAbove}
-use Rattle.promises.proofs.Lower.{textLeast, lowerSet, lowerPlacing, lower, uncounted, lower-counted}
+use Rattle.promises.proofs.Lower.{knows-up, textLeast, lowerFigures, lowerSet, lowerPlacing, lower, uncounted, lower-counted}
 use Rattle.promises.proofs.LowerSteps.{sim-top, sim-file, sim-drawing, sim-layerNames, sim-defines, sim-symbol, sim-hide, sim-elements, sim-figures, sim-successive, sim-texts, sim-skipping}
 use Rattle.promises.proofs.LowerPlaced.{sim-placing}
+use Rattle.promises.proofs.LowerWires.{sim-read, sim-over}
 use Rattle.promises.proofs.LowerCount.{fewer}
+use Rattle.promises.proofs.LowerKinds.{Rows, Kinds, rows-step}
 use Rattle.promises.proofs.CountState.{Inv}
 use Rattle.promises.proofs.Count.{inv-start, inv-step}
 use Rattle.promises.proofs.Limits.{alike-step, goes-unlimited, goes-limited}
@@ -50,21 +53,36 @@ module _ (low high : Class) (le : ClassNotAbove low high) where
       let (a, p, r) = map-got uncounted g′ (lower 0 low s′) (q ∙ ap (mapG (lower 0 low)) e) in
       (setOf a .taken, p ∙ ap got (lower-counted low a s′ r))
 
+  up : knowsWires low ≡ true → knowsWires high ≡ true
+  up = knows-up low high (le .wires)
+
+  -- a line of a wire that the higher reads
+  sim-wire : (l : Line) (took : ℕ) (s : Set) (k : ℕ) (fs : List Figure) (n : ℕ) (w : Wire) (p : ℕ) (s′ : State) → onWire hi l s k fs n w (l .form) ≡ got s′
+      → Goes (stepIn lo l (lower took low (placing s k fs n (wireBlock w) p))) s′
+  sim-wire l took s k fs n w p s′ e = go (knowsWires low) refl
+    where
+      go : (b : Bool) → knowsWires low ≡ b
+          → Goes (stepIn lo l (cond b (placing (lowerSet took low s) k (lowerFigures low (rangeOf s) fs) n (wireBlock w) p) (skipping (lowerSet took low s) k (lowerFigures low (rangeOf s) fs) n wireUnread 0))) s′
+      go true b = count-via (sim-read low high took l s k fs n w b (l .form)) e
+      go false b = (took, sim-over low high took l s k fs n w b (l .form) s′ e)
+
   sim-in : (l : Line) (took : ℕ) (s s′ : State) → stepIn hi l s ≡ got s′ → Goes (stepIn lo l (lower took low s)) s′
-  sim-in l took (top s k) s′ e = count-via (sim-top low high took l s k (l .form)) e
-  sim-in l took (file s n h p) s′ e = via took (sim-file low high took l s n h p (l .form)) e
-  sim-in l took (drawing s d) s′ e = via took (sim-drawing low high took s d (l .form)) e
-  sim-in l took (layerNames s d) s′ e = count-via (sim-layerNames low high took l s d (l .form)) e
-  sim-in l took (defines s b) s′ e = count-via (sim-defines low high took l s b (l .form)) e
-  sim-in l took (symbol s y) s′ e = via took (sim-symbol low high took s y (l .form)) e
-  sim-in l took (hide s y ps) s′ e = count-via (sim-hide low high took l s y ps (l .form)) e
-  sim-in l took (elements s) s′ e = via took (sim-elements low high took s (l .form)) e
-  sim-in l took (figures s h fs) s′ e = count-via (sim-figures low high took l s h fs (l .form)) e
-  sim-in l took (successive s h fs n ps) s′ e = count-via (sim-successive low high took l s h fs n ps (l .form)) e
-  sim-in l took (texts s h fs n o) s′ e = via took (sim-texts low high took s h fs n o (l .form)) e
+  sim-in l took (top s k) s′ e = count-via (sim-top low high up took l s k (l .form)) e
+  sim-in l took (file s n h p) s′ e = via took (sim-file low high up took l s n h p (l .form)) e
+  sim-in l took (drawing s d) s′ e = via took (sim-drawing low high up took s d (l .form)) e
+  sim-in l took (layerNames s d) s′ e = count-via (sim-layerNames low high up took l s d (l .form)) e
+  sim-in l took (defines s b) s′ e = count-via (sim-defines low high up took l s b (l .form)) e
+  sim-in l took (symbol s y) s′ e = via took (sim-symbol low high up took s y (l .form)) e
+  sim-in l took (hide s y ps) s′ e = count-via (sim-hide low high up took l s y ps (l .form)) e
+  sim-in l took (elements s) s′ e = via took (sim-elements low high up took s (l .form)) e
+  sim-in l took (figures s h fs) s′ e = count-via (sim-figures low high up took l s h fs (l .form)) e
+  sim-in l took (successive s h fs n ps) s′ e = count-via (sim-successive low high up took l s h fs n ps (l .form)) e
+  sim-in l took (texts s h fs n o) s′ e = via took (sim-texts low high up took s h fs n o (l .form)) e
   sim-in l took (placing s k fs n (symbolBlock o) p) s′ e =
       (took, sim-placing low high (le .symbols) took s k fs n o p (l .form) s′ e (lowerPlacing took low s k fs n o p) refl (stepIn lo l) (λ o p. refl) (λ o q. refl))
-  sim-in l took (skipping s k fs n b d) s′ e = via took (sim-skipping low high took s k fs n b d (l .form)) e
+  sim-in l took (placing s k fs n (wireBlock w) p) s′ e = sim-wire l took s k fs n w p s′ e
+  sim-in l took (placing s k fs n wireUnread p) s′ e = never e
+  sim-in l took (skipping s k fs n b d) s′ e = (took, sim-skipping low high up took s k fs n b d (l .form) s′ e)
   sim-in l took (ended s) s′ e = never e
 
   -- how far the set is, as far as the end of a volume asks: the same
@@ -88,6 +106,8 @@ module _ (low high : Class) (le : ClassNotAbove low high) where
   stage-same took (texts s h fs n o) = refl
   stage-same took (placing s k fs n (symbolBlock o) zero) = refl
   stage-same took (placing s k fs n (symbolBlock o) (suc p)) = by-cond (λ st. stageOf st ≡ withinOther) (hides (low .symbols) (rangeOf s) textLeast) (λ _. refl) (λ _. refl)
+  stage-same took (placing s k fs n (wireBlock w) p) = by-cond (λ st. stageOf st ≡ withinOther) (knowsWires low) (λ _. refl) (λ _. refl)
+  stage-same took (placing s k fs n wireUnread p) = refl
   stage-same took (skipping s k fs n b d) = refl
   stage-same took (ended s) = refl
 
@@ -239,13 +259,14 @@ module _ (low high : Class) (le : ClassNotAbove low high) (m : ℕ) where
   abbrev hi′ : Env
   hi′ = limitedTo high m
 
-  -- what each of the two classes has taken is what it shows, and the higher's fit
+  -- what each of the two classes has taken is what it shows, and the higher's fit; of which rows the higher's figures are
   pub record Beside (took : ℕ) (s : State) : Type 0 where
     pub below : Inv (unlimited low) (lower took low s)
     pub above : Inv hi′ s
+    pub rows : Kinds s
 
   pub beside-start : Beside 0 (top nothingYet 0)
-  beside-start = record { below = inv-start (unlimited low); above = inv-start hi′ }
+  beside-start = record { below = inv-start (unlimited low); above = inv-start hi′; rows = (refl, refl, refl) }
 
   abbrev After : Got State → State → Type 0
   After g s′ = (took : ℕ) × (g ≡ got (lower took low s′)) × Beside took s′
@@ -256,22 +277,23 @@ module _ (low high : Class) (le : ClassNotAbove low high) (m : ℕ) where
       let (n, p) = sim-step low high le l took s s′ (goes-unlimited (alike-step high m l s) e) in
       let below = on-got (Inv (unlimited low)) (step (unlimited low) l (lower took low s)) (lower n low s′) (inv-step (unlimited low) l (lower took low s) (w .below)) p in
       let above = on-got (Inv hi′) (step hi′ l s) s′ (inv-step hi′ l s (w .above)) e in
+      let rows = on-got Kinds (step hi′ l s) s′ (rows-step hi′ l s (w .rows)) e in
       let fits : setOf (lower n low s′) .taken ≤ m = omega (arith, below .counts, fewer n low s′, above .counts, leb-true (setOf s′ .taken) m (above .room)) in
-      (n, goes-limited (alike-step low m l (lower took low s)) p fits, record { below = below; above = above })
+      (n, goes-limited (alike-step low m l (lower took low s)) p fits, record { below = below; above = above; rows = rows })
 
   abbrev AcceptedToo : List Line → ℕ → State → Set → Type 0
-  AcceptedToo ls took s t = (n : ℕ) × (run lo′ (lower took low s) ls ≡ accepted (lowerSet n low t))
+  AcceptedToo ls took s t = (n : ℕ) × (run lo′ (lower took low s) ls ≡ accepted (lowerSet n low t)) × Rows t
 
   pub sim-run : (ls : List Line) (took : ℕ) (s : State) (t : Set) → Beside took s → run hi′ s ls ≡ accepted t → AcceptedToo ls took s t
-  sim-run [] took s t w e = (took, ap (λ st. finish (lower took low st)) (finish-ended s t e))
+  sim-run [] took s t w e = let q = finish-ended s t e in (took, ap (λ st. finish (lower took low st)) q, subst Kinds q (w .rows))
   sim-run (l ∷ ls) took s t w e = go (step hi′ l s) refl (λ n s′. sim-run ls n s′ t) e
     where
       go : (g : Got State) → step hi′ l s ≡ g → ((n : ℕ) (s′ : State) → Beside n s′ → run hi′ s′ ls ≡ accepted t → AcceptedToo ls n s′ t)
           → thenRun g l (λ s′. run hi′ s′ ls) ≡ accepted t → AcceptedToo (l ∷ ls) took s t
       go (got s′) q ih e =
           let (n, p, w′) = sim-limited l took s s′ w q in
-          let (k, r) = ih n s′ w′ e in
-          (k, rw p r)
+          let (k, r, rows) = ih n s′ w′ e in
+          (k, rw p r, rows)
       go (bad k) q ih e = not-accepted e
 
   abbrev RefusedToo : List Line → State → ℕ → ℕ → Type 0

@@ -10,11 +10,11 @@ use borrow.Author.Tests.{not-true}
 use Rattle.rules.specs.declared.Digits.{Digits}
 use Rattle.rules.specs.declared.Class.{Class}
 use Rattle.rules.specs.Base.{bytes, flat, hasNumber}
-use Rattle.rules.specs.RangeClass.{hides}
+use Rattle.rules.specs.RangeClass.{hides, knowsWires}
 use Rattle.rules.specs.Values.{Value, serialsOf}
 use Rattle.rules.specs.Rows.{Rule, Found, absent, found, find, Slots, partOf, slotValue, heldAt}
 use Rattle.rules.specs.Figures.{placedTable}
-use Rattle.rules.specs.Sets.{Figure, plain, chain, lettering, placed, LayerBlock, Contents, Set, ownSerial, figureSerial, serialsOfBlock, serialsOfVolume, serialsIn}
+use Rattle.rules.specs.Sets.{Figure, plain, chain, lettering, placed, wired, passed, LayerBlock, Contents, Set, ownSerial, figureSerial, serialsOfBlock, serialsOfVolume, serialsIn}
 use Rattle.rules.specs.PlacedSymbol.{noneOf, newSerial}
 use Rattle.rules.proofs.Chains.{and-left, and-right, and-true, or-true, clash, cond-same, map-compose}
 use Rattle.rules.proofs.Rows.{Row, here, there, found-row}
@@ -63,6 +63,12 @@ module _ (c : Class) (d : Digits) where
   serial-sub (plain n j v) m e = e
   serial-sub (chain n ps) m e = e
   serial-sub (lettering n s) m e = e
+  serial-sub (wired n w) m e = none-read (knowsWires c) e
+    where
+      none-read : (b : Bool) → hasNumber m (figureSerial (cond b (wired n w) (passed n))) ≡ true → hasNumber m (figureSerial (wired n w)) ≡ true
+      none-read true e = e
+      none-read false e = e
+  serial-sub (passed n) m e = e
   serial-sub (placed n h) m e = go (find (bytes "serial") placedTable) refl (rw (part-own (c .symbols) d h) at e)
     where
       go : (f : Found) → find (bytes "serial") placedTable ≡ f → hasNumber m (ownSerial (serialsOf (slotValue (heldAt f (maskSlots (c .symbols) d placedTable (partOf h 0)))))) ≡ true

@@ -1,23 +1,24 @@
 -- One line at two classes, with no limit: what the higher accepts the lower accepts, with the same state but for what it leaves out, and, where
 -- the line takes a record, but for the count.
 use Prim.Native.Nat.{ℕ, zero, suc}
-use mathlib.Core.Bool.{Bool, true, false}
+use mathlib.Core.Bool.{Bool, true, false, cond}
 use mathlib.Core.List.{List, [], _∷_, _++_}
-use mathlib.Core.Path.{_≡_, refl, _∙_, ap}
+use mathlib.Core.Path.{_≡_, refl, sym, _∙_, ap}
 use Rattle.rules.specs.declared.Digits.{Digits}
 use Rattle.rules.specs.declared.Class.{Class}
 use Rattle.rules.specs.RefusalNumbers.{Got, got, mapG}
 use Rattle.rules.specs.Lines.{Form, ignored, wrong, close, eof, keyed}
-use Rattle.rules.specs.RangeClass.{Skip, passes, deeper, noForm}
+use Rattle.rules.specs.RangeClass.{knowsWires, Skip, passes, deeper, noForm}
 use Rattle.rules.specs.Values.{Num}
 use Rattle.rules.specs.Rows.{Slots, Held}
-use Rattle.rules.specs.Sets.{Point, Figure, plain, chain, lettering, Drawing, Symbol, Contents, Set, withNow, withVolume, withBlock, rangeOf}
+use Rattle.rules.specs.Sets.{Point, Figure, plain, chain, lettering, passed, Drawing, Symbol, Contents, Set, withNow, withVolume, withBlock, withRecords, rangeOf}
 use Rattle.rules.specs.VolumesAndTotals.{dated}
-use Rattle.rules.specs.Machine.{unlimited, Line, Env, Home, inElement, inLayer, State, file, drawing, elements, figures, openTop, atEof, onTop, closeFile, shutPart, onFile, onDrawing, onLayerNames, onDefines, openSymbol, onSymbol, onHide, onElements, homeTable, closeFigures, openFigure, onFigures, onSuccessive, onTexts}
-use Rattle.rules.specs.PlacedSymbol.{bySkip, skipShut, onSkipping}
-use Rattle.rules.specs.Machine.{Owned, symbolBlock}
-use Rattle.rules.proofs.Chains.{map-append, nil-map, through}
+use Rattle.rules.specs.Machine.{unlimited, Line, Env, Home, inElement, inLayer, State, file, drawing, elements, figures, placing, skipping, openTop, atEof, onTop, closeFile, shutPart, onFile, onDrawing, onLayerNames, onDefines, openSymbol, onSymbol, onHide, onElements, homeTable, closeFigures, openFigure, onFigures, onSuccessive, onTexts}
+use Rattle.rules.specs.PlacedSymbol.{bySkip, skipEnded, skipShut, onSkipping}
+use Rattle.rules.specs.Machine.{Owned, symbolBlock, wireBlock, wireUnread, beginWire}
+use Rattle.rules.proofs.Chains.{clash, never, map-append, nil-map, through}
 use Rattle.rules.proofs.Runs.{map-act, head-file, head-snoc}
+use Rattle.promises.specs.DemandThree.{wireKinds}
 use Rattle.promises.proofs.BackSlots.{retaken}
 use Rattle.promises.proofs.Lower.{lowerFigure, lowerFigures, lowerIn, lowerSet, lowerSoFar, lower, uncounted, lower-blank, file-same, elements-same, totals-same, used-same, all-used-same, lowerOwned}
 
@@ -49,8 +50,9 @@ module _ (took : ℕ) (c : Class) where
   soFar-one d (inElement y) fs f e = refl
   soFar-one d (inLayer k) fs f e = map-append (lowerFigure c d) fs (f ∷ []) ∙ ap (λ g. lowerFigures c d fs ++ g ∷ []) e
 
--- ── steps that do not look at the class ──
-module _ (low high : Class) (took : ℕ) where
+-- ── steps that do not look at the class, and a wire's own line ──
+-- a higher class knows wires too
+module _ (low high : Class) (up : knowsWires low ≡ true → knowsWires high ≡ true) (took : ℕ) where
   abbrev lo : Env
   lo = unlimited low
 
@@ -119,8 +121,17 @@ module _ (low high : Class) (took : ℕ) where
   sim-openFigure l s h fs zero = refl
   sim-openFigure l s h fs (suc zero) = simp through
   sim-openFigure l s h fs (suc (suc zero)) = simp through
-  sim-openFigure l s (inElement y) fs (suc (suc (suc i))) = refl
-  sim-openFigure l s (inLayer k) fs (suc (suc (suc i))) = simp (through, lower-blank)
+  sim-openFigure l s (inElement y) fs (suc (suc (suc zero))) = refl
+  sim-openFigure l s (inLayer k) fs (suc (suc (suc zero))) = simp (through, lower-blank)
+  sim-openFigure l s (inElement y) fs (suc (suc (suc (suc i)))) = refl
+  sim-openFigure l s (inLayer k) fs (suc (suc (suc (suc i)))) = ap got (begins (knowsWires low) refl (knowsWires high) refl)
+    where
+      begins : (b : Bool) → knowsWires low ≡ b → (a : Bool) → knowsWires high ≡ a
+          → uncounted (beginWire b (withRecords wireKinds (lowerSet took low s)) k (lowerFigures low (rangeOf s) fs) (l .line)) ≡ lower 0 low (beginWire a (withRecords wireKinds s) k fs (l .line))
+      begins true p true q = rw p
+      begins true p false q = clash (up p) q
+      begins false p true q = rw p
+      begins false p false q = refl
 
   table-same : (s : Set) (h : Home) → homeTable (lowerSet took low s) h ≡ homeTable s h
   table-same s (inElement y) = refl
@@ -146,16 +157,36 @@ module _ (low high : Class) (took : ℕ) where
   map-skip g deeper a b = refl
   map-skip g noForm a b = refl
 
-  pub sim-skipShut : (s : Set) (k : ℕ) (fs : List Figure) (n : ℕ) (b : Owned) (d : ℕ)
-      → skipShut (lowerSet took low s) k (lowerFigures low (rangeOf s) fs) n (lowerOwned low (rangeOf s) b) d ≡ mapG (lower took low) (skipShut s k fs n b d)
-  sim-skipShut s k fs n b zero = refl
-  sim-skipShut s k fs n (symbolBlock o) (suc zero) = refl
-  sim-skipShut s k fs n b (suc (suc d)) = refl
+  -- the lines of a skipped block: where the higher goes on, the lower does
+  abbrev skipped : Set → ℕ → List Figure → ℕ → Owned → ℕ → Form → Got State
+  skipped s k fs n b d f = onSkipping (lowerSet took low s) k (lowerFigures low (rangeOf s) fs) n (lowerOwned low (rangeOf s) b) d f
 
-  pub sim-skipping : (s : Set) (k : ℕ) (fs : List Figure) (n : ℕ) (b : Owned) (d : ℕ) (f : Form)
-      → onSkipping (lowerSet took low s) k (lowerFigures low (rangeOf s) fs) n (lowerOwned low (rangeOf s) b) d f ≡ mapG (lower took low) (onSkipping s k fs n b d f)
-  sim-skipping s k fs n b d ignored = refl
-  sim-skipping s k fs n b d (wrong m) = refl
-  sim-skipping s k fs n b d close = sim-skipShut s k fs n b d
-  sim-skipping s k fs n b d eof = refl
-  sim-skipping s k fs n b d (keyed key x) = simp (through, map-skip)
+  via : {g : Got State} {s′ : State} → g ≡ got s′ → mapG (lower took low) g ≡ got (lower took low s′)
+  via e = ap (mapG (lower took low)) e
+
+  sim-shut : (s : Set) (k : ℕ) (fs : List Figure) (n : ℕ) (b : Owned) (d : ℕ) (s′ : State) → skipShut s k fs n b d ≡ got s′
+      → skipShut (lowerSet took low s) k (lowerFigures low (rangeOf s) fs) n (lowerOwned low (rangeOf s) b) d ≡ got (lower took low s′)
+  sim-shut s k fs n (symbolBlock o) zero s′ e = never e
+  sim-shut s k fs n (wireBlock w) zero s′ e = never e
+  sim-shut s k fs n wireUnread zero s′ e =
+      ap (λ gs. got (figures (lowerSet took low s) (inLayer k) gs)) (sym (map-append (lowerFigure low (rangeOf s)) fs (passed n ∷ []))) ∙ via e
+  sim-shut s k fs n (symbolBlock o) (suc zero) s′ e = via e
+  sim-shut s k fs n (wireBlock w) (suc zero) s′ e = back (knowsWires low) ∙ via e
+    where
+      back : (b : Bool) → got (skipEnded (lowerSet took low s) k (lowerFigures low (rangeOf s) fs) n (cond b (wireBlock w) wireUnread))
+          ≡ got (cond b (placing (lowerSet took low s) k (lowerFigures low (rangeOf s) fs) n (wireBlock w) 0) (skipping (lowerSet took low s) k (lowerFigures low (rangeOf s) fs) n wireUnread 0))
+      back true = refl
+      back false = refl
+  sim-shut s k fs n wireUnread (suc zero) s′ e = via e
+  sim-shut s k fs n b (suc (suc d)) s′ e = via e
+
+  pub sim-skipping : (s : Set) (k : ℕ) (fs : List Figure) (n : ℕ) (b : Owned) (d : ℕ) (f : Form) (s′ : State) → onSkipping s k fs n b d f ≡ got s′
+      → skipped s k fs n b d f ≡ got (lower took low s′)
+  sim-skipping s k fs n b d ignored s′ e = via e
+  sim-skipping s k fs n b d (wrong m) s′ e = never e
+  sim-skipping s k fs n b d close s′ e = sim-shut s k fs n b d s′ e
+  sim-skipping s k fs n b d eof s′ e = never e
+  sim-skipping s k fs n b d (keyed key x) s′ e = keyed-same ∙ via e
+    where
+      keyed-same : skipped s k fs n b d (keyed key x) ≡ mapG (lower took low) (onSkipping s k fs n b d (keyed key x))
+      keyed-same = simp (through, map-skip)

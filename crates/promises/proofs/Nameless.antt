@@ -7,7 +7,7 @@ use lib.IntN.{pos}
 use lib.ListN.{getD}
 use Rattle.rules.specs.Base.{all, split, join}
 use Rattle.rules.specs.RefusalNumbers.{mapG, keep}
-use Rattle.rules.specs.Values.{Num, num, Value, empty, nums, chars, linked, Known, Part, count, digit, typeDigits, range, rangeOfSymbols, day, clock, decimal, symbolName, layerId, readPart, showPart, readAll, showAll, agree, Kind, values, text, word, volumeName, sheet, ratio, serials, nothing, opens, headed, either, readKind, numsOf, showKind, showContent}
+use Rattle.rules.specs.Values.{Num, num, Value, empty, nums, chars, linked, Known, Part, count, digit, typeDigits, range, rangeOfSymbols, rangeOfWires, day, clock, decimal, symbolName, layerId, readPart, showPart, readAll, showAll, agree, Kind, values, text, word, volumeName, sheet, ratio, serials, nothing, opens, headed, either, readKind, numsOf, showKind, showContent}
 use Rattle.rules.specs.declared.Digits.{Digits}
 use Rattle.rules.specs.Lines.{Rest, Shape, opener, noContent, content, opening, formless}
 use Rattle.rules.specs.Rows.{Rule, shapeFor, readShape, actRow}
@@ -22,6 +22,7 @@ namelessPart (digit lo hi) = true
 namelessPart typeDigits = true
 namelessPart (range lo hi) = true
 namelessPart rangeOfSymbols = true
+namelessPart rangeOfWires = true
 namelessPart day = true
 namelessPart clock = true
 namelessPart (decimal b) = true
@@ -47,6 +48,7 @@ part-nameless (digit lo hi) e k k′ = (λ s. refl, λ a. refl)
 part-nameless typeDigits e k k′ = (λ s. refl, λ a. refl)
 part-nameless (range lo hi) e k k′ = (λ s. refl, λ a. refl)
 part-nameless rangeOfSymbols e k k′ = (λ s. refl, λ a. refl)
+part-nameless rangeOfWires e k k′ = (λ s. refl, λ a. refl)
 part-nameless day e k k′ = (λ s. refl, λ a. refl)
 part-nameless clock e k k′ = (λ s. refl, λ a. refl)
 part-nameless (decimal b) e k k′ = (λ s. refl, λ a. refl)

@@ -1,8 +1,8 @@
 -- The reading does not look at places.
 use Prim.Native.Nat.{ℕ, zero, suc}
-use mathlib.Core.Bool.{Bool, false, cond}
+use mathlib.Core.Bool.{Bool, false, cond, true}
 use mathlib.Core.List.{List, [], _∷_, map}
-use mathlib.Core.Option.{none, some}
+use mathlib.Core.Option.{none, some, Option}
 use mathlib.Core.Path.{_≡_, refl, sym, _∙_, ap, ap₂}
 use native.Mathlib.Omega.{arith}
 use lib.Dec.{eqb}
@@ -11,19 +11,20 @@ use Rattle.rules.specs.Base.{mapO}
 use Rattle.rules.specs.RefusalNumbers.{Got, got, bad, unless, mapG}
 use Rattle.rules.specs.Lines.{Rest, Form, ignored, wrong, close, eof, keyed, Shape, opener, noContent, content, opening, formless, freeShapeOf}
 use Rattle.rules.specs.RangeClass.{digits, digitsOf, reaches, exceeds, both, Skip, passes, deeper, noForm}
-use Rattle.rules.specs.Values.{Value}
+use Rattle.rules.specs.Values.{Value, Num}
 use Rattle.rules.specs.Rows.{Found, absent, found, find, Slots, Held, partOf, rowsThere, rowsAtLimit, Act, actRow, actUnknown, act}
 use Rattle.rules.specs.Blocks.{topTable, fileTables, drawingTable, definesTable, symbolTable, elementTable, layerNameKind, around}
-use Rattle.rules.specs.Figures.{layerTable, pointTable, textTable, placedTable, placedTables}
-use Rattle.rules.specs.Sets.{Point, Figure, Drawing, Symbol, Set, isFirst, arcOf, defineRange, rangeOf, knownOf, symbolOwn}
-use Rattle.rules.specs.Machine.{Line, Env, Home, inElement, inLayer, State, top, file, drawing, layerNames, defines, symbol, hide, elements, figures, successive, texts, placing, skipping, ended, openTop, atEof, onTop, closeFile, shutPart, onFile, onDrawing, layerValue, onLayerNames, onDefines, newName, openSymbol, onSymbol, onHide, onElements, isLayer, homeTable, closeFigures, openPlaced, openFigure, onFigures, onSuccessive, onTexts}
-use Rattle.rules.specs.PlacedSymbol.{bySkip, onUnknown, newSerial, onPlaced, onPlacedKey, onPlacedOwn, onPlacing, skipShut, onSkipping}
+use Rattle.rules.specs.Figures.{layerTable, pointTable, textTable, placedTable, placedTables, wireTable}
+use Rattle.rules.specs.Sets.{Point, Figure, Drawing, Symbol, Set, isFirst, arcOf, defineRange, rangeOf, knownOf, symbolOwn, Edge, Wire, joinDigit, wiresOf}
+use Rattle.rules.specs.Machine.{Line, Env, Home, inElement, inLayer, State, top, file, drawing, layerNames, defines, symbol, hide, elements, figures, successive, texts, placing, skipping, ended, openTop, atEof, onTop, closeFile, shutPart, onFile, onDrawing, layerValue, onLayerNames, onDefines, newName, openSymbol, onSymbol, onHide, onElements, isLayer, homeTable, closeFigures, openPlaced, openFigure, onFigures, onSuccessive, onTexts, wireBlock, wireUnread, beginWire, openWire}
+use Rattle.rules.specs.PlacedSymbol.{bySkip, onUnknown, newSerial, onPlaced, onPlacedKey, onPlacedOwn, onPlacing, skipShut, onSkipping, skipEnded, unreadShut}
 use Rattle.rules.specs.LineByLine.{stepIn, inElements, afterElements, isIgnored, isClose, isEof, completes, nextVolume, step, Outcome, refused, accepted, thenRun, finish, run}
 use Rattle.rules.specs.Machine.{symbolBlock, Owned}
 use Rattle.rules.proofs.Chains.{nil-map, map-cond, map-unless, through, map-append, map-set}
-use Rattle.promises.specs.PlacesApart.{bareValue, bareSlots, bareHeld, barePoint, bareFigure, bareLayer, bareDrawing, bareSymbol, bareSet, bareRest, bareForm, bareLine, bareAct, bareHome, bareState, bareOutcome, bareOwned}
-use Rattle.promises.proofs.Bare.{nums-bare, serials-bare, amount-bare, none-bare, marks-bare, at-bare, blank-bare, part-marks, enter-bare, held-blank, first-bare, arc-bare, sym-bare, define-bare, range-bare, single-bare, name-bare, names-bare, ids-bare, known-bare, figures-serials, set-serials, used-bare, chained-bare, dated-bare, here-bare, all-bare, layers-bare}
+use Rattle.promises.specs.PlacesApart.{bareValue, bareSlots, bareHeld, barePoint, bareFigure, bareLayer, bareDrawing, bareSymbol, bareSet, bareRest, bareForm, bareLine, bareAct, bareHome, bareState, bareOutcome, bareOwned, bareEdge, bareWire}
+use Rattle.promises.proofs.Bare.{nums-bare, serials-bare, amount-bare, none-bare, marks-bare, at-bare, blank-bare, part-marks, enter-bare, held-blank, first-bare, arc-bare, sym-bare, define-bare, range-bare, single-bare, name-bare, names-bare, ids-bare, known-bare, figures-serials, set-serials, used-bare, chained-bare, dated-bare, here-bare, all-bare, layers-bare, wire-bare, wired-bare}
 use Rattle.promises.proofs.BareActs.{bareShape, free-bare, skipped-bare, kind-bare, row-bare, unknown-bare, act-bare, by-act, by-line}
+use Rattle.rules.specs.Wires.{joinsEnds, lastEdge, joinOf, joined, onElement, onWire}
 
 -- ── each block ──
 openTop-bare : (e : Env) (l : Line) (s : Set) (k : ℕ) → mapG bareState (openTop e l s k) ≡ openTop e (bareLine l) (bareSet s) k
@@ -122,7 +123,7 @@ layer-bare (inLayer k) = refl
 
 home-bare : (s : Set) (h : Home) → homeTable (bareSet s) (bareHome h) ≡ homeTable s h
 home-bare s (inElement y) = refl
-home-bare s (inLayer k) = ap layerTable (single-bare s)
+home-bare s (inLayer k) = ap₂ layerTable (single-bare s) (wired-bare s)
 
 closeFigures-bare : (s : Set) (h : Home) (fs : List Figure) → mapG bareState (closeFigures s h fs) ≡ closeFigures (bareSet s) (bareHome h) (map bareFigure fs)
 closeFigures-bare s (inElement y) fs = rw (nil-map bareFigure fs) (simp through)
@@ -132,11 +133,20 @@ openPlaced-bare : (e : Env) (l : Line) (s : Set) (h : Home) (fs : List Figure) �
 openPlaced-bare e l s (inElement y) fs = refl
 openPlaced-bare e l s (inLayer k) fs = simp (through, blank-bare)
 
+begin-bare : (b : Bool) (s : Set) (k : ℕ) (fs : List Figure) (n : ℕ) → bareState (beginWire b s k fs n) ≡ beginWire b (bareSet s) k (map bareFigure fs) 0
+begin-bare true s k fs n = refl
+begin-bare false s k fs n = refl
+
+openWire-bare : (e : Env) (l : Line) (s : Set) (h : Home) (fs : List Figure) → mapG bareState (openWire e l s h fs) ≡ openWire e (bareLine l) (bareSet s) (bareHome h) (map bareFigure fs)
+openWire-bare e l s (inElement y) fs = refl
+openWire-bare e l s (inLayer k) fs = simp (through, begin-bare)
+
 openFigure-bare : (e : Env) (l : Line) (s : Set) (h : Home) (fs : List Figure) (i : ℕ) → mapG bareState (openFigure e l s h fs i) ≡ openFigure e (bareLine l) (bareSet s) (bareHome h) (map bareFigure fs) i
 openFigure-bare e l s h fs zero = refl
 openFigure-bare e l s h fs (suc zero) = simp through
 openFigure-bare e l s h fs (suc (suc zero)) = rw (layer-bare h) (simp (through, blank-bare))
-openFigure-bare e l s h fs (suc (suc (suc i))) = openPlaced-bare e l s h fs
+openFigure-bare e l s h fs (suc (suc (suc zero))) = openPlaced-bare e l s h fs
+openFigure-bare e l s h fs (suc (suc (suc (suc i)))) = openWire-bare e l s h fs
 
 onFigures-bare : (e : Env) (l : Line) (s : Set) (h : Home) (fs : List Figure) (f : Form)
     → mapG bareState (onFigures e l s h fs f) ≡ onFigures e (bareLine l) (bareSet s) (bareHome h) (map bareFigure fs) (bareForm f)
@@ -212,10 +222,51 @@ onPlacing-bare e s h fs n o (suc p) f =
     rw (known-bare s, part-marks o (suc p), act-bare (knownOf s) (getD placedTables (suc p) []) (digits 0 0) (rowsThere (partOf o (suc p))) f)
     (onPlaced-bare s h fs n o (suc p) (act (knownOf s) (getD placedTables (suc p) []) (digits 0 0) (rowsThere (partOf o (suc p))) f))
 
+-- ── a wire ──
+-- how an element joins goes by the rows and values of the two alone
+last-bare : (es : List Edge) → lastEdge (map bareEdge es) ≡ mapO bareEdge (lastEdge es)
+last-bare [] = refl
+last-bare (e ∷ []) = refl
+last-bare (e ∷ f ∷ es) = last-bare (f ∷ es)
+
+pub joined-bare : (b : Bool) (o : Option Edge) (row : ℕ) (v : List Num) → joined b (mapO bareEdge o) row v ≡ joined b o row v
+joined-bare false o row v = refl
+joined-bare true none row v = refl
+joined-bare true (some e) row v = refl
+
+pub join-bare : (b : Bool) (o : Option Edge) (row : ℕ) → joinOf b (mapO bareEdge o) row ≡ joinOf b o row
+join-bare false o row = refl
+join-bare true none row = refl
+join-bare true (some e) row = refl
+
+onElement-bare : (e : Env) (l : Line) (s : Set) (h : ℕ) (fs : List Figure) (n : ℕ) (w : Wire) (row : ℕ) (v : List Num)
+    → mapG bareState (onElement e l s h fs n w row v) ≡ onElement e (bareLine l) (bareSet s) h (map bareFigure fs) 0 (bareWire w) row v
+onElement-bare e l s h fs n w row v =
+    let ends = joinsEnds (joinDigit s) in
+    rw (wire-bare s, last-bare (w .elements), joined-bare ends (lastEdge (w .elements)) row v, join-bare ends (lastEdge (w .elements)) row) (simp (through, map-append))
+
+onWire-bare : (e : Env) (l : Line) (s : Set) (h : ℕ) (fs : List Figure) (n : ℕ) (w : Wire) (f : Form)
+    → mapG bareState (onWire e l s h fs n w f) ≡ onWire e (bareLine l) (bareSet s) h (map bareFigure fs) 0 (bareWire w) (bareForm f)
+onWire-bare e l s h fs n w f =
+    rw (known-bare s, ap digitsOf (wire-bare s))
+    (by-line (knownOf s) wireTable (wiresOf s) (rowsAtLimit 0 wireTable) f (placing s h fs n (wireBlock w) 0) _ _ _ _ _ _
+    (λ j v. rw (nums-bare v) (onElement-bare e l s h fs n w j _)) (λ i j v. refl) (simp map-append))
+
+-- ── skipped lines ──
+skipEnded-bare : (s : Set) (h : ℕ) (fs : List Figure) (n : ℕ) (b : Owned) → bareState (skipEnded s h fs n b) ≡ skipEnded (bareSet s) h (map bareFigure fs) 0 (bareOwned b)
+skipEnded-bare s h fs n (symbolBlock o) = refl
+skipEnded-bare s h fs n (wireBlock w) = refl
+skipEnded-bare s h fs n wireUnread = refl
+
+unreadShut-bare : (s : Set) (h : ℕ) (fs : List Figure) (n : ℕ) (b : Owned) → mapG bareState (unreadShut s h fs n b) ≡ unreadShut (bareSet s) h (map bareFigure fs) 0 (bareOwned b)
+unreadShut-bare s h fs n (symbolBlock o) = refl
+unreadShut-bare s h fs n (wireBlock w) = refl
+unreadShut-bare s h fs n wireUnread = simp map-append
+
 skipShut-bare : (s : Set) (h : ℕ) (fs : List Figure) (n : ℕ) (b : Owned) (d : ℕ)
     → mapG bareState (skipShut s h fs n b d) ≡ skipShut (bareSet s) h (map bareFigure fs) 0 (bareOwned b) d
-skipShut-bare s h fs n b zero = refl
-skipShut-bare s h fs n b (suc zero) = refl
+skipShut-bare s h fs n b zero = unreadShut-bare s h fs n b
+skipShut-bare s h fs n b (suc zero) = ap got (skipEnded-bare s h fs n b)
 skipShut-bare s h fs n b (suc (suc d)) = refl
 
 onSkipping-bare : (s : Set) (h : ℕ) (fs : List Figure) (n : ℕ) (b : Owned) (d : ℕ) (f : Form)
@@ -240,6 +291,8 @@ stepIn-bare e l (figures s h fs) = onFigures-bare e l s h fs (l .form)
 stepIn-bare e l (successive s h fs n ps) = onSuccessive-bare e l s h fs n ps (l .form)
 stepIn-bare e l (texts s h fs n o) = onTexts-bare s h fs n o (l .form)
 stepIn-bare e l (placing s h fs n (symbolBlock o) p) = onPlacing-bare e s h fs n o p (l .form)
+stepIn-bare e l (placing s h fs n (wireBlock w) p) = onWire-bare e l s h fs n w (l .form)
+stepIn-bare e l (placing s h fs n wireUnread p) = refl
 stepIn-bare e l (skipping s h fs n b d) = onSkipping-bare s h fs n b d (l .form)
 stepIn-bare e l (ended s) = refl
 

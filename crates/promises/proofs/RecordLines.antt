@@ -17,10 +17,10 @@ use Rattle.rules.specs.RangeClass.{digits, hides}
 use Rattle.rules.specs.Values.{Value, nums}
 use Rattle.rules.specs.Rows.{Rule, Slots, Held, partOf}
 use Rattle.rules.specs.Blocks.{fileTable, rangeTable, baseTable, elecTable, symTable, laterTable, fileTables, drawingTable, symbolTable}
-use Rattle.rules.specs.Figures.{layerTable, figureTable, pointTable, textTable, placedTable, placedTables}
-use Rattle.rules.specs.Sets.{Point, Figure, plain, chain, lettering, placed, Layer, Drawing, Symbol, LayerBlock, Contents, Set, isSingle}
+use Rattle.rules.specs.Figures.{layerTable, figureTable, pointTable, textTable, placedTable, placedTables, wireTable}
+use Rattle.rules.specs.Sets.{Point, Edge, Figure, plain, chain, lettering, placed, wired, passed, Layer, Drawing, Symbol, LayerBlock, Contents, Set, isSingle, isWired}
 use Rattle.rules.specs.RecordTable.{numbersOf, stateOf, columns, others, padded, putNumbers, putState, putSlot, firstSlot, otherSlots, putSlots, putParts, putHeld, unreadState, markUnread, start, fileRecords, drawingRecord, layerRecords, ruleAt, pointRecords, figureRecords, innerRecords, symbolRecords, blockRecords, bodyRecords, laterRecords, recordsFrom, recordsOf}
-use Rattle.rules.specs.RecordTable.{View, viewOf, plainView}
+use Rattle.rules.specs.RecordTable.{View, viewOf, plainView, kindEdge, placeJoin, edgeRecord, edgeRecords}
 use Rattle.rules.proofs.Chains.{and-left, and-right, by-cond, map-append}
 use Rattle.promises.specs.Acceptance.{Place, place, placeOf}
 use Rattle.promises.specs.TableTexts.{amountOf}
@@ -29,11 +29,17 @@ use Rattle.promises.specs.TableTexts.{amountOf}
 abbrev pub pointPlaces : ℕ → List Point → List Place
 pointPlaces k ps = map (λ p. place k (p .line)) ps
 
+abbrev pub edgePlaces : ℕ → List Edge → List Place
+edgePlaces k es = map (λ e. place k (e .line)) es
+
+-- both of a wire's own records are taken at its line
 abbrev pub figurePlaces : ℕ → Figure → List Place
 figurePlaces k (plain n j v) = place k n ∷ []
 figurePlaces k (chain n ps) = place k n ∷ pointPlaces k ps
 figurePlaces k (lettering n s) = place k n ∷ []
 figurePlaces k (placed n h) = place k n ∷ []
+figurePlaces k (wired n w) = place k n ∷ place k n ∷ edgePlaces k (w .elements)
+figurePlaces k (passed n) = place k n ∷ place k n ∷ []
 
 abbrev pub figuresPlaces : ℕ → List Figure → List Place
 figuresPlaces k fs = flat (map (figurePlaces k) fs)
@@ -189,10 +195,16 @@ clear-figure : clear figureTable ≡ true
 unfolding figureTable
 clear-figure = refl
 
-clear-layer : (single : Bool) → clear (layerTable single) ≡ true
+clear-layer : (single wires : Bool) → clear (layerTable single wires) ≡ true
 unfolding layerTable
-clear-layer true = refl
-clear-layer false = refl
+clear-layer true true = refl
+clear-layer true false = refl
+clear-layer false true = refl
+clear-layer false false = refl
+
+clear-wire : clear wireTable ≡ true
+unfolding wireTable
+clear-wire = refl
 
 -- the placed symbol's, and FILE_FORMAT's: in the first volume 34 and 35 are the second record's volume and line
 clear-placed : (all (all (misses 2)) placedTables ≡ true) × (all (all (misses 3)) placedTables ≡ true)
@@ -220,6 +232,19 @@ placed-at c d kind owner k n h =
     λ i e. unread-miss i c d placedTable (putHeld placedTables h t) (and-left (all (misses i) placedTable) _ e) ∙ parts-miss i 0 placedTables h t e in
     place-kept kind owner k n (markUnread c d placedTable (putHeld placedTables h t)) (at 2 (clear-placed .0)) (at 3 (clear-placed .1))
 
+edge-at : (owner k : ℕ) (e : Edge) → placeOf (edgeRecord owner k e) ≡ place k (e .line)
+edge-at owner k e =
+    let t = start (kindEdge + e .row) owner k (e .line) in
+    let r = ruleAt wireTable (e .row) in
+    let u = putSlot r (some (nums (e .values))) t in
+    let at : (i : ℕ) → not (eqb i placeJoin) ≡ true → all (misses i) wireTable ≡ true → getD (set u placeJoin (pos (e .join))) i (pos 0) ≡ getD t i (pos 0) =
+    λ i q m. set-miss placeJoin i (pos (e .join)) u q ∙ slot-miss i r (some (nums (e .values))) t (at-misses i wireTable (e .row) m) in
+    place-kept (kindEdge + e .row) owner k (e .line) (edgeRecord owner k e) (at 2 refl (at-two wireTable clear-wire)) (at 3 refl (at-three wireTable clear-wire))
+
+edges-at : (owner k : ℕ) (es : List Edge) → map placeOf (edgeRecords owner k es) ≡ edgePlaces k es
+edges-at owner k [] = refl
+edges-at owner k (e ∷ es) = ap₂ _∷_ (edge-at owner k e) (edges-at owner k es)
+
 figure-at : (w : View) → clear (w .table) ≡ true → (more owner k : ℕ) (f : Figure) → map placeOf (figureRecords w more owner k f) ≡ figurePlaces k f
 figure-at w e more owner k (plain n j v) =
     by-cond (λ (r : List ℤ). placeOf r ∷ [] ≡ place k n ∷ []) (eqb j 6)
@@ -228,6 +253,8 @@ figure-at w e more owner k (plain n j v) =
 figure-at w e more owner k (chain n ps) = ap (λ qs. place k n ∷ qs) (points-at (17 + more) owner k ps)
 figure-at w e more owner k (lettering n s) = ap (λ p. p ∷ []) (slots-place (15 + more) owner k n (textTable true 4 12) clear-text s)
 figure-at w e more owner k (placed n h) = ap (λ p. p ∷ []) (placed-at (w .class .symbols) (w .symbols) (16 + more) owner k n h)
+figure-at w e more owner k (wired n x) = ap (λ qs. place k n ∷ place k n ∷ qs) (edges-at owner k (x .elements))
+figure-at w e more owner k (passed n) = refl
 
 flat-at : {A : Type 0} (f : A → List (List ℤ)) (g : A → List Place) → ((a : A) → map placeOf (f a) ≡ g a) → (s : List A) → map placeOf (flat (map f s)) ≡ flat (map g s)
 flat-at f g h [] = refl
@@ -291,7 +318,7 @@ records-at c s = go (s .volumes)
     go [] = refl
     go (v ∷ vs) =
         let w = viewOf c s in
-        let e = clear-layer (isSingle s) in
+        let e = clear-layer (isSingle s) (isWired s) in
         let head = fileRecords true 1 v in
         let drawn = drawingRecord (s .drawing) ∷ layerRecords 0 (s .drawing .layers) in
         let symbols = symbolRecords 0 (s .symbols) in

@@ -15,13 +15,13 @@ use Rattle.rules.specs.RangeClass.{digits, hides}
 use Rattle.rules.specs.Values.{Num, Value, empty, nums, chars, linked, Kind, values, text, word, volumeName, sheet, ratio, serials, nothing, opens, headed, either}
 use Rattle.rules.specs.Rows.{Rule, Slots, Held, partOf}
 use Rattle.rules.specs.Blocks.{fileTable, rangeTable, baseTable, elecTable, symTable, laterTable, fileTables, drawingTable, symbolTable}
-use Rattle.rules.specs.Figures.{layerTable, pointTable, textTable, placedTable, placedTables}
-use Rattle.rules.specs.Sets.{Point, Figure, plain, chain, lettering, placed, Layer, Drawing, Symbol, Contents, Set}
-use Rattle.rules.specs.RecordTable.{numbers, numbersOf, stateOf, columns, firstOr0, others, padded, putNumbers, putState, putSlot, firstSlot, otherSlots, putSlots, putParts, putHeld, unreadState, markUnread, start, fileRecords, drawingRecord, layerRecord, layerRecords, ruleAt, plainRecord, lineRecord, pointRecords, firstType, chainRecord, textRecord, placedRecord, figureRecords, innerRecords, symbolRecords, blockRecords, bodyRecords, laterRecords, recordsFrom, recordsOf}
+use Rattle.rules.specs.Figures.{pointTable, textTable, placedTable, placedTables, wireTable}
+use Rattle.rules.specs.Sets.{Point, Figure, plain, chain, lettering, placed, Layer, Drawing, Symbol, Contents, Set, Edge, wired, passed}
+use Rattle.rules.specs.RecordTable.{numbers, numbersOf, stateOf, columns, firstOr0, others, padded, putNumbers, putState, putSlot, firstSlot, otherSlots, putSlots, putParts, putHeld, unreadState, markUnread, start, fileRecords, drawingRecord, layerRecord, layerRecords, ruleAt, plainRecord, lineRecord, pointRecords, firstType, chainRecord, textRecord, placedRecord, figureRecords, innerRecords, symbolRecords, blockRecords, bodyRecords, laterRecords, recordsFrom, recordsOf, kindEdge, placeJoin, edgeRecord, edgeRecords}
 use Rattle.rules.specs.RecordTable.{View, viewOf, plainView}
 use Rattle.rules.proofs.Chains.{and-left, and-right, cond-same, map-append}
-use Rattle.promises.specs.PlacesApart.{bareValue, bareSlots, bareHeld, barePoint, bareFigure, bareLayer, bareDrawing, bareSymbol, bareBlock, bareContents, bareSet, textPlaces, kindOf, without, placesApart}
-use Rattle.promises.proofs.Bare.{part-bare, range-bare, single-bare}
+use Rattle.promises.specs.PlacesApart.{bareValue, bareSlots, bareHeld, barePoint, bareFigure, bareLayer, bareDrawing, bareSymbol, bareBlock, bareContents, bareSet, textPlaces, kindOf, without, placesApart, bareEdge}
+use Rattle.promises.proofs.Bare.{part-bare, range-bare, single-bare, wire-bare, wired-bare}
 use Rattle.promises.proofs.FitSets.{isText, isShown, anyText, FitSlot, FitSlots, FitHeld, Each, FitFigure, FitSymbol, FitBlock, FitContents, FitVolumes, FitSet}
 
 -- ── lists that agree but at some places ──
@@ -160,7 +160,7 @@ kind-sets (z ∷ zs) [] i = kind-sets zs [] (suc i)
 kind-sets (z ∷ zs) (pos k ∷ t) i = kind-sets zs (pos k ∷ set t i z) (suc i)
 kind-sets (z ∷ zs) (negsuc k ∷ t) i = kind-sets zs (negsuc k ∷ set t i z) (suc i)
 
-kind-slot : (r : Rule) (o : Option Value) (t : List ℤ) → kindOf (putSlot r o t) ≡ kindOf t
+pub kind-slot : (r : Rule) (o : Option Value) (t : List ℤ) → kindOf (putSlot r o t) ≡ kindOf t
 kind-slot r o t = go (r .state) _ ∙ to (r .place) _
   where
     to : (q : ℕ) (zs : List ℤ) → kindOf (putNumbers q zs t) ≡ kindOf t
@@ -177,6 +177,17 @@ line-apart : (r : Rule) (o : Option Value) (kind owner volume line : ℕ)
 line-apart r o kind owner volume line =
     rw (kind-slot r o (start kind owner volume line), kind-slot r o (start kind owner volume 0))
     (slot-same (isPlace kind) r o (start kind owner volume line) (start kind owner volume 0) refl)
+
+edge-apart : (owner volume : ℕ) (e : Edge) → placesApart (edgeRecord owner volume e) ≡ placesApart (edgeRecord owner volume (bareEdge e))
+edge-apart owner volume e =
+    let r = ruleAt wireTable (e .row) in
+    let v = some (nums (e .values)) in
+    let kind = kindEdge + e .row in
+    let j = pos (e .join) in
+    let t = putSlot r v (start kind owner volume (e .line)) in
+    let u = putSlot r v (start kind owner volume 0) in
+    rw (kind-sets (j ∷ []) t 10, kind-sets (j ∷ []) u 10, kind-slot r v (start kind owner volume (e .line)), kind-slot r v (start kind owner volume 0))
+    (set-same (isPlace kind) t u placeJoin j (slot-same (isPlace kind) r v (start kind owner volume (e .line)) (start kind owner volume 0) refl))
 
 -- lists of records that are the same, places apart
 record Apart (s u : List (List ℤ)) : Type 0 where
@@ -283,6 +294,10 @@ plain-apart w more owner volume line j v = go (eqb j 6)
     go true = placed-line w more owner volume line h
     go false = line-apart (ruleAt (w .table) j) (some (nums v)) (10 + more + j) owner volume line
 
+edges-apart : (owner volume : ℕ) (es : List Edge) → Apart (edgeRecords owner volume es) (edgeRecords owner volume (map bareEdge es))
+edges-apart owner volume [] = no-record
+edges-apart owner volume (e ∷ es) = one-more (edge-apart owner volume e) (edges-apart owner volume es)
+
 figure-apart : (b : Bool) (w : View) (owner volume : ℕ) (f : Figure) → FitFigure anyText b f
     → Apart (figureRecords w (moreIn b) owner volume f) (figureRecords w (moreIn b) owner volume (bareFigure f))
 figure-apart b w owner volume (plain n j v) g = one-more (plain-apart w (moreIn b) owner volume n j v) no-record
@@ -290,6 +305,9 @@ figure-apart b w owner volume (chain n ps) g = one-more (chain-apart (moreIn b) 
 figure-apart b w owner volume (lettering n s) g = one-more (text-apart b owner volume n s g) no-record
 figure-apart true w owner volume (placed n h) g = one-more (placed-apart w owner volume n h g) no-record
 figure-apart false w owner volume (placed n h) g = absurd g
+figure-apart b w owner volume (wired n x) g =
+    rw (length-map (x .elements) bareEdge) (one-more refl (one-more refl (edges-apart owner volume (x .elements))))
+figure-apart b w owner volume (passed n) g = one-more refl (one-more refl no-record)
 
 -- ── the whole ──
 layers-apart : (n : ℕ) (ls : List Layer) → Apart (layerRecords n ls) (layerRecords n (map bareLayer ls))
@@ -336,8 +354,11 @@ pub records-bare : (c : Class) (s : Set) → FitSet anyText s → map placesApar
 unfolding recordsOf
 records-bare c s f = go (s .volumes) (f .2)
   where
+    view-bare : viewOf c (bareSet s) ≡ viewOf c s
+    view-bare = rw (range-bare s, single-bare s, wired-bare s, wire-bare s)
+
     go : (vs : List Contents) → FitVolumes anyText vs → map placesApart (recordsFrom c s vs) ≡ map placesApart (recordsFrom c (bareSet s) (map bareContents vs))
     go [] g = refl
     go (v ∷ vs) g =
         all-apart (viewOf c s) s v vs (f .0 .0) (f .1) g .eq
-        ∙ ap₂ (λ d t. map placesApart (allRecords (record { class = c; symbols = d; table = t }) (bareSet s) (bareContents v) (map bareContents vs))) (sym (range-bare s)) (ap layerTable (sym (single-bare s)))
+        ∙ ap (λ w. map placesApart (allRecords w (bareSet s) (bareContents v) (map bareContents vs))) (sym view-bare)

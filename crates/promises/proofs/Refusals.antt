@@ -16,13 +16,14 @@ use Rattle.rules.specs.RangeClass.{digits, both, Skip, passes, deeper, noForm}
 use Rattle.rules.specs.Rows.{Found, absent, found, find, Slots, Held, partOf, rowsThere, rowsAtLimit, Act}
 use Rattle.rules.specs.Blocks.{topTable}
 use Rattle.rules.specs.Figures.{placedTable}
-use Rattle.rules.specs.Sets.{Point, Figure, Drawing, Symbol, Set, nothingYet, rangeOf, knownOf}
+use Rattle.rules.specs.Sets.{Point, Wire, Figure, Drawing, Symbol, Set, nothingYet, rangeOf, knownOf}
 use Rattle.rules.specs.Machine.{Line, Env, Home, inElement, inLayer, State, top, file, drawing, layerNames, defines, symbol, hide, elements, figures, successive, texts, placing, skipping, ended, openTop, onTop, shutPart, onFile, onDrawing, layerValue, onLayerNames, openSymbol, onSymbol, onDefines, onHide, onElements, closeFigures, openPlaced, openFigure, onFigures, onSuccessive, onTexts}
-use Rattle.rules.specs.PlacedSymbol.{bySkip, onUnknown, onPlaced, onPlacedKey, onPlacedOwn, onPlacing, skipShut, onSkipping}
+use Rattle.rules.specs.PlacedSymbol.{bySkip, onUnknown, onPlaced, onPlacedKey, onPlacedOwn, onPlacing, unreadShut, skipShut, onSkipping}
 use Rattle.rules.specs.LineByLine.{stepIn, step, Outcome, refused, accepted, thenRun, finish, run}
 use Rattle.rules.specs.Spool.{Volume, volumesOf, linesOf, mostVolumes}
 use Rattle.rules.specs.Answers.{numbered, linesOfVolume, nextName, Listed, listed, noLines, ontoLines, listVolume, listVolumes, outcomeOfLines, outcomeOfVolumes, outcomeOf, outcomeAt}
-use Rattle.rules.specs.Machine.{symbolBlock, Owned}
+use Rattle.rules.specs.Machine.{symbolBlock, wireBlock, wireUnread, Owned, openWire}
+use Rattle.rules.specs.Wires.{onWire}
 use Rattle.rules.proofs.Chains.{and-left, and-right, clash, by-cond}
 use Rattle.rules.proofs.Runs.{not-accepted}
 use Rattle.promises.specs.DemandOne.{ofWhole, Located}
@@ -102,11 +103,16 @@ module _ (e : Env) (l : Line) where
   fine-open-placed s (inElement y) fs = refuses 6 tt
   fine-open-placed s (inLayer k) fs = search fines
 
+  fine-open-wire : (s : Set) (h : Home) (fs : List Figure) → Fine (openWire e l s h fs)
+  fine-open-wire s (inElement y) fs = refuses 6 tt
+  fine-open-wire s (inLayer k) fs = search fines
+
   fine-open-figure : (s : Set) (h : Home) (fs : List Figure) (i : ℕ) → Fine (openFigure e l s h fs i)
   fine-open-figure s h fs zero = refuses 5 tt
   fine-open-figure s h fs (suc zero) = search fines
   fine-open-figure s h fs (suc (suc zero)) = search fines
-  fine-open-figure s h fs (suc (suc (suc i))) = fine-open-placed s h fs
+  fine-open-figure s h fs (suc (suc (suc zero))) = fine-open-placed s h fs
+  fine-open-figure s h fs (suc (suc (suc (suc i)))) = fine-open-wire s h fs
 
   fine-figures : (s : Set) (h : Home) (fs : List Figure) {f : Form} → FineForm f → Fine (onFigures e l s h fs f)
   fine-figures s h fs w = search (steps, fine-close-figures, fine-open-figure)
@@ -138,8 +144,16 @@ module _ (e : Env) (l : Line) where
   fine-placing s k fs n o zero w = fine-own s k fs n o w
   fine-placing s k fs n o (suc p) w = search (fine-placed, fine-act)
 
+  fine-wire : (s : Set) (k : ℕ) (fs : List Figure) (n : ℕ) (w : Wire) {f : Form} → FineForm f → Fine (onWire e l s k fs n w f)
+  fine-wire s k fs n w v = search steps
+
+  fine-unread-shut : (s : Set) (k : ℕ) (fs : List Figure) (n : ℕ) (b : Owned) → Fine (unreadShut s k fs n b)
+  fine-unread-shut s k fs n (symbolBlock o) = refuses 9 tt
+  fine-unread-shut s k fs n (wireBlock w) = refuses 9 tt
+  fine-unread-shut s k fs n wireUnread = answers
+
   fine-skip-shut : (s : Set) (k : ℕ) (fs : List Figure) (n : ℕ) (b : Owned) (d : ℕ) → Fine (skipShut s k fs n b d)
-  fine-skip-shut s k fs n b zero = refuses 9 tt
+  fine-skip-shut s k fs n b zero = fine-unread-shut s k fs n b
   fine-skip-shut s k fs n b (suc zero) = answers
   fine-skip-shut s k fs n b (suc (suc d)) = answers
 
@@ -163,6 +177,8 @@ module _ (e : Env) (l : Line) where
   fine-in (successive s h fs n ps) w = fine-successive s h fs n ps w
   fine-in (texts s h fs n o) w = fine-texts s h fs n o w
   fine-in (placing s h fs n (symbolBlock o) p) w = fine-placing s h fs n o p w
+  fine-in (placing s h fs n (wireBlock x) p) w = fine-wire s h fs n x w
+  fine-in (placing s h fs n wireUnread p) w = refuses 9 tt
   fine-in (skipping s h fs n b d) w = fine-skipping s h fs n b d w
   fine-in (ended s) w = refuses 9 tt
 

@@ -7,23 +7,23 @@ use mathlib.Core.Path.{_≡_, refl, subst}
 use native.Mathlib.Omega.{arith}
 use lib.IntN.{ℤ, pos}
 use lib.ListN.{length, getD}
-use Rattle.rules.specs.declared.Digits.{Digits}
 use Rattle.rules.specs.declared.Class.{Class}
 use Rattle.rules.specs.Base.{flat}
-use Rattle.rules.specs.RangeClass.{digits}
 use Rattle.rules.specs.Values.{Num, Value, empty, nums, chars, linked, charsOf}
 use Rattle.rules.specs.Rows.{Rule, Slots, Held, partOf, slotValue}
 use Rattle.rules.specs.Blocks.{fileTable, rangeTable, baseTable, elecTable, symTable, laterTable, fileTables, drawingTable, symbolTable}
-use Rattle.rules.specs.Figures.{layerTable, figureTable, pointTable, textTable, placedTable, placedTables}
-use Rattle.rules.specs.Sets.{Point, Figure, plain, chain, lettering, placed, Layer, Drawing, Symbol, Contents, Set, rangeOf, isSingle, symbolNameOf}
-use Rattle.rules.specs.RecordTable.{numbersOf, firstOr0, others, firstSlot, otherSlots, putSlots, start, fileRecords, drawingRecord, layerRecords, pointRecords, chainRecord, lineRecord, textRecord, placedRecord, figureRecords, innerRecords, symbolRecords, blockRecords, bodyRecords, laterRecords, recordsFrom, recordsOf}
+use Rattle.rules.specs.Figures.{layerTable, figureTable, pointTable, textTable, placedTable, placedTables, wireTable}
+use Rattle.rules.specs.Sets.{Point, Figure, plain, chain, lettering, placed, Layer, Drawing, Symbol, Contents, Set, symbolNameOf, Edge, wired, passed}
+use Rattle.rules.specs.RecordTable.{numbersOf, firstOr0, others, firstSlot, otherSlots, putSlots, start, fileRecords, drawingRecord, layerRecords, pointRecords, chainRecord, lineRecord, textRecord, placedRecord, figureRecords, innerRecords, symbolRecords, blockRecords, bodyRecords, laterRecords, recordsFrom, recordsOf, edgeRecord, edgeRecords}
 use Rattle.rules.specs.RecordTable.{View, plainView}
 use Rattle.rules.proofs.Chains.{clash}
 use Rattle.promises.specs.PlacesApart.{textPlaces, kindOf}
 use Rattle.promises.specs.TableTexts.{Shows, ShowsAt, ShowTexts}
-use Rattle.promises.specs.TextsKept.{Kept, fileKept, drawingKept, layerKept, noTexts, pointKept, figureKept, innerKept, symbolKept, blockKept, bodyKept, laterKept, keptFrom, textsKept}
-use Rattle.promises.proofs.FitSets.{Each, FitSlot, FitSlots, FitHeld, FitFigure, FitLayer, FitSymbol, FitBlock, FitContents, FitVolumes, FitSet}
+use Rattle.promises.specs.TextsKept.{Kept, fileKept, drawingKept, layerKept, noTexts, pointKept, figureKept, innerKept, symbolKept, blockKept, bodyKept, laterKept, keptFrom, textsKept, edgeKept}
+use Rattle.promises.proofs.FitSets.{Each, FitSlot, FitSlots, FitHeld, FitFigure, FitLayer, FitSymbol, FitBlock, FitContents, FitVolumes, FitSet, FitEdge}
 use Rattle.promises.proofs.RecordPlaces.{moreIn}
+use Rattle.promises.proofs.Good.{Ranges, rangesOf, symbolDigits, hasWires, layerRows}
+use lib.Dec.{eqb}
 
 -- a text and its place, as a record has them
 abbrev pub Standing : List ℕ → ℕ → List ℕ → Type 0
@@ -138,19 +138,27 @@ module _ (spool : List ℕ) where
   LineShows w more owner volume n j v =
       ShowsAt spool (lineRecord w more owner volume n j v) (textPlaces (kindOf (lineRecord w more owner volume n j v))) (noTexts (10 + more + j))
 
-  abbrev inLayers : Class → Digits → Bool → View
-  inLayers c d single = record { class = c; symbols = d; table = layerTable single }
+  abbrev inLayers : Class → Ranges → View
+  inLayers c x = record { class = c; symbols = symbolDigits x; wires = x .wires; table = layerRows x }
 
-  line-layer : (c : Class) (d : Digits) (single : Bool) (owner volume n j : ℕ) (v : List Num) → j < 7 → LineShows (inLayers c d single) 0 owner volume n j v
+  -- the row behind that of a placed symbol, where there is one, opens a block
+  line-wire : (c : Class) (x : Ranges) (wires : Bool) (owner volume n : ℕ) (v : List Num)
+      → LineShows (record { class = c; symbols = symbolDigits x; wires = x .wires; table = layerTable (eqb (x .symbols) 1) wires }) 0 owner volume n 7 v
+  unfolding layerTable
+  line-wire c x true owner volume n v = tt
+  line-wire c x false owner volume n v = tt
+
+  line-layer : (c : Class) (x : Ranges) (owner volume n j : ℕ) (v : List Num) → j < 8 → LineShows (inLayers c x) 0 owner volume n j v
   unfolding layerTable placedTable textTable
-  line-layer c d single owner volume n zero v h = tt
-  line-layer c d single owner volume n (suc zero) v h = tt
-  line-layer c d single owner volume n (suc (suc zero)) v h = tt
-  line-layer c d single owner volume n (suc (suc (suc zero))) v h = tt
-  line-layer c d single owner volume n (suc (suc (suc (suc zero)))) v h = tt
-  line-layer c d single owner volume n (suc (suc (suc (suc (suc zero))))) v h = (Shows.empty, tt)
-  line-layer c d single owner volume n (suc (suc (suc (suc (suc (suc zero)))))) v h = (Shows.empty, (Shows.empty, tt))
-  line-layer c d single owner volume n (suc (suc (suc (suc (suc (suc (suc j))))))) v h = absurd (omega arith)
+  line-layer c x owner volume n zero v h = tt
+  line-layer c x owner volume n (suc zero) v h = tt
+  line-layer c x owner volume n (suc (suc zero)) v h = tt
+  line-layer c x owner volume n (suc (suc (suc zero))) v h = tt
+  line-layer c x owner volume n (suc (suc (suc (suc zero)))) v h = tt
+  line-layer c x owner volume n (suc (suc (suc (suc (suc zero))))) v h = (Shows.empty, tt)
+  line-layer c x owner volume n (suc (suc (suc (suc (suc (suc zero)))))) v h = (Shows.empty, (Shows.empty, tt))
+  line-layer c x owner volume n (suc (suc (suc (suc (suc (suc (suc zero))))))) v h = line-wire c x (hasWires x) owner volume n v
+  line-layer c x owner volume n (suc (suc (suc (suc (suc (suc (suc (suc j)))))))) v h = absurd (omega arith)
 
   line-symbol : (owner volume n j : ℕ) (v : List Num) → j < 6 → LineShows plainView 20 owner volume n j v
   unfolding figureTable
@@ -162,9 +170,9 @@ module _ (spool : List ℕ) where
   line-symbol owner volume n (suc (suc (suc (suc (suc zero))))) v h = (Shows.empty, tt)
   line-symbol owner volume n (suc (suc (suc (suc (suc (suc j)))))) v h = absurd (omega arith)
 
-  abbrev viewIn : Bool → Class → Digits → Bool → View
-  viewIn true c d single = inLayers c d single
-  viewIn false c d single = plainView
+  abbrev viewIn : Bool → Class → Ranges → View
+  viewIn true c x = inLayers c x
+  viewIn false c x = plainView
 
   chain-shows : (b : Bool) (owner volume n : ℕ) (ps : List Point)
       → Show (chainRecord (moreIn b) owner volume n ps ∷ pointRecords (17 + moreIn b) owner volume ps) ([] ∷ map pointKept ps)
@@ -180,19 +188,34 @@ module _ (spool : List ℕ) where
   unfolding textTable placedTable
   placed-shows w owner volume n h f = record { texts = ((column 4 (partOf h 0) (f 0 .1 .1 .1 .1 .0), (column 1 (partOf h 1) (f 1 .1 .0), tt)), tt) }
 
-  figure-shows : (b single : Bool) (c : Class) (d : Digits) (owner volume : ℕ) (f : Figure) → FitFigure S b f
-      → Show (figureRecords (viewIn b c d single) (moreIn b) owner volume f) (figureKept (moreIn b) f)
-  figure-shows true single c d owner volume (plain n j v) g = one-more (line-layer c d single owner volume n j v g) no-record
-  figure-shows false single c d owner volume (plain n j v) g = one-more (line-symbol owner volume n j v g) no-record
-  figure-shows b single c d owner volume (chain n ps) g = chain-shows b owner volume n ps
-  figure-shows b single c d owner volume (lettering n s) g = text-shows b owner volume n s g
-  figure-shows true single c d owner volume (placed n h) g = placed-shows (inLayers c d single) owner volume n h g
-  figure-shows false single c d owner volume (placed n h) g = absurd g
+  edge-shows : (owner volume n row : ℕ) (v : List Num) (join : ℕ) → row < 2
+      → let t = edgeRecord owner volume (record { line = n; row = row; values = v; join = join }) in ShowsAt spool t (textPlaces (kindOf t)) []
+  unfolding wireTable
+  edge-shows owner volume n zero v join h = tt
+  edge-shows owner volume n (suc zero) v join h = tt
+  edge-shows owner volume n (suc (suc row)) v join h = absurd (omega arith)
+
+  edges-show : (owner volume : ℕ) (es : List Edge) → Each FitEdge es → Show (edgeRecords owner volume es) (map edgeKept es)
+  edges-show owner volume [] g = no-record
+  edges-show owner volume (e ∷ es) g = one-more (edge-shows owner volume (e .line) (e .row) (e .values) (e .join) (g .0)) (edges-show owner volume es (g .1))
+
+  figure-shows : (b : Bool) (c : Class) (x : Ranges) (owner volume : ℕ) (f : Figure) → FitFigure S b f
+      → Show (figureRecords (viewIn b c x) (moreIn b) owner volume f) (figureKept (moreIn b) f)
+  figure-shows true c x owner volume (plain n j v) g = one-more (line-layer c x owner volume n j v g) no-record
+  figure-shows false c x owner volume (plain n j v) g = one-more (line-symbol owner volume n j v g) no-record
+  figure-shows b c x owner volume (chain n ps) g = chain-shows b owner volume n ps
+  figure-shows b c x owner volume (lettering n s) g = text-shows b owner volume n s g
+  figure-shows true c x owner volume (placed n h) g = placed-shows (inLayers c x) owner volume n h g
+  figure-shows false c x owner volume (placed n h) g = absurd g
+  figure-shows true c x owner volume (wired n w) g = one-more tt (one-more tt (edges-show owner volume (w .elements) g))
+  figure-shows false c x owner volume (wired n w) g = absurd g
+  figure-shows true c x owner volume (passed n) g = one-more tt (one-more tt no-record)
+  figure-shows false c x owner volume (passed n) g = absurd g
 
   -- ── the whole ──
   inner-shows : (n : ℕ) (y : Symbol) → FitSymbol S y → Show (innerRecords n y) (innerKept y)
   inner-shows n y g =
-      go (y .hideFirst) (each-item (FitFigure S false) _ (figureKept 20) (figure-shows false false (plainView .class) (digits 0 0) n 1) (y .figures) (g .1)) (points-show 43 n 1 (y .hidden) refl)
+      go (y .hideFirst) (each-item (FitFigure S false) _ (figureKept 20) (figure-shows false (plainView .class) (record { symbols = 0; wires = 0 }) n 1) (y .figures) (g .1)) (points-show 43 n 1 (y .hidden) refl)
     where
       go : (b : Bool) {rs us : List (List ℤ)} {cs ds : List Kept} → Show rs cs → Show us ds → Show (cond b (us ++ rs) (rs ++ us)) (cond b (ds ++ cs) (cs ++ ds))
       go true p q = behind-it q p
@@ -202,14 +225,14 @@ module _ (spool : List ℕ) where
   symbols-show n [] g = no-record
   symbols-show n (y ∷ ys) g = one-more (symbol-shows n y (g .0 .0)) (behind-it (inner-shows n y (g .0)) (symbols-show (suc n) ys (g .1)))
 
-  module _ (c : Class) (d : Digits) (single : Bool) where
-    body-shows : (k : ℕ) (v : Contents) → Each (FitBlock S) (v .blocks) → Show (bodyRecords (inLayers c d single) k v) (bodyKept v)
+  module _ (c : Class) (x : Ranges) where
+    body-shows : (k : ℕ) (v : Contents) → Each (FitBlock S) (v .blocks) → Show (bodyRecords (inLayers c x) k v) (bodyKept v)
     body-shows k v g =
-        each-item (FitBlock S) (blockRecords (inLayers c d single) k) blockKept
-        (λ u h. each-item (FitFigure S true) (figureRecords (inLayers c d single) 0 (u .layer) k) (figureKept 0) (figure-shows true single c d (u .layer) k) (u .figures) h)
+        each-item (FitBlock S) (blockRecords (inLayers c x) k) blockKept
+        (λ u h. each-item (FitFigure S true) (figureRecords (inLayers c x) 0 (u .layer) k) (figureKept 0) (figure-shows true c x (u .layer) k) (u .figures) h)
         (v .blocks) g
 
-    volumes-show : (k : ℕ) (vs : List Contents) → Each (FitContents S false) vs → Show (laterRecords (inLayers c d single) k vs) (flat (map laterKept vs))
+    volumes-show : (k : ℕ) (vs : List Contents) → Each (FitContents S false) vs → Show (laterRecords (inLayers c x) k vs) (flat (map laterKept vs))
     volumes-show k [] g = no-record
     volumes-show k (v ∷ vs) g = behind-it (behind-it (later-shows k v) (body-shows k v (g .0 .1))) (volumes-show (suc k) vs (g .1))
 
@@ -223,5 +246,5 @@ module _ (spool : List ℕ) where
           behind-it
           (behind-it
           (behind-it (behind-it (header-shows 1 v (g .0 .0)) (one-more (drawing-shows (s .drawing) (f .0 .0)) (layers-show 0 (s .drawing .layers) (f .0 .1)))) (symbols-show 0 (s .symbols) (f .1)))
-          (body-shows c (rangeOf s) (isSingle s) 1 v (g .0 .1)))
-          (volumes-show c (rangeOf s) (isSingle s) 2 vs (g .1))
+          (body-shows c (rangesOf s) 1 v (g .0 .1)))
+          (volumes-show c (rangesOf s) 2 vs (g .1))

@@ -55,7 +55,7 @@ read-shows e c spool s h =
     let lines = listing-fits spool 1 (p .volumes) (p .texts) (p .theirs) (volumes-stand spool (p .volumes) (p .found)) in
     set-shows spool c s (accepted-fit (Standing spool) e (listing 1 (p .volumes) (p .texts)) s lines (p .runs))
 
-no-class : (len : ℕ) (spool : List ℕ) (class wire : ℕ) → classOf class wire ≡ none → readOutcome class wire len spool ≡ refused 1 0 0
+pub no-class : (len : ℕ) (spool : List ℕ) (class wire : ℕ) → classOf class wire ≡ none → readOutcome class wire len spool ≡ refused 1 0 0
 unfolding readOutcome
 no-class len spool class wire p = rw p
 

@@ -8,10 +8,10 @@ use Rattle.rules.specs.Base.{flat}
 use Rattle.rules.specs.Values.{charsOf}
 use Rattle.rules.specs.Rows.{Rule, Slots, partOf, slotValue, held}
 use Rattle.rules.specs.Figures.{textTable, placedTable}
-use Rattle.rules.specs.Sets.{Point, Figure, plain, chain, lettering, placed, Layer, Drawing, Symbol, Contents, Set}
+use Rattle.rules.specs.Sets.{Point, Figure, plain, chain, lettering, placed, Layer, Drawing, Symbol, Contents, Set, wired, passed}
 use Rattle.rules.proofs.Chains.{map-same}
-use Rattle.promises.specs.PlacesApart.{bareSlots, barePoint, bareFigure, bareLayer, bareDrawing, bareSymbol, bareBlock, bareContents, bareSet}
-use Rattle.promises.specs.TextsKept.{Kept, keptAt, headerKept, fileKept, drawingKept, layerKept, pointKept, figureKept, symbolKept, blockKept, bodyKept, laterKept, keptFrom, textsKept}
+use Rattle.promises.specs.PlacesApart.{bareSlots, barePoint, bareFigure, bareLayer, bareDrawing, bareSymbol, bareBlock, bareContents, bareSet, bareEdge}
+use Rattle.promises.specs.TextsKept.{Kept, keptAt, headerKept, fileKept, drawingKept, layerKept, pointKept, figureKept, symbolKept, blockKept, bodyKept, laterKept, keptFrom, textsKept, edgeKept}
 use Rattle.promises.proofs.Bare.{chars-bare, held-bare, part-bare, name-bare}
 
 text-bare : (k : S.String) (t : List Rule) (s : Slots) → keptAt k t (bareSlots s) ≡ keptAt k t s
@@ -27,6 +27,8 @@ figure-bare : (more : ℕ) (f : Figure) → figureKept more (bareFigure f) ≡ f
 figure-bare more (plain n j v) = refl
 figure-bare more (chain n ps) = ap (λ (s : List Kept). [] ∷ s) (points-bare ps)
 figure-bare more (lettering n s) = rw (text-bare "character" (textTable true 4 12) s)
+figure-bare more (wired n w) = ap (λ (s : List Kept). [] ∷ [] ∷ s) (map-same edgeKept bareEdge (λ e. refl) (w .elements))
+figure-bare more (passed n) = refl
 figure-bare more (placed n h) =
     rw (part-bare h 0, part-bare h 1, text-bare "circuit" placedTable (partOf h 0), text-bare "character" (textTable true 16 24) (partOf h 1))
 

@@ -1,26 +1,31 @@
 -- Demand 3, proved.
-use Prim.Native.Nat.{ℕ, _/_}
-use mathlib.Core.Bool.{true}
-use mathlib.Core.List.{List, [], _∷_, map}
+use Prim.Native.Nat.{ℕ, zero, suc, _/_, _%_, _≤_}
+use mathlib.Core.Bool.{Bool, true, false, _&&_, _||_}
+use mathlib.Core.List.{List, [], _∷_}
 use mathlib.Core.Option.{Option, none, some}
-use mathlib.Core.Path.{_≡_, refl, sym, _∙_, ap}
+use mathlib.Core.Path.{_≡_, refl, sym, _∙_, ap, subst}
 use native.Mathlib.Omega.{arith}
-use lib.ListN.{length, length-map}
+use lib.Dec.{eqb, leb}
+use lib.ListN.{length}
+use borrow.Author.Tests.{eqb-true, eqb-false, leb-true, le-leb}
 use Rattle.rules.specs.declared.Class.{Class}
 use Rattle.rules.specs.declared.Refusal.{Refusal}
 use Rattle.rules.specs.declared.Answer.the-variants.{Accepted, Refused}
 use Rattle.rules.specs.Spool.{Volume, volumesOf}
-use Rattle.rules.specs.RangeClass.{classOf}
-use Rattle.rules.specs.Sets.{Set, nothingYet, rangeOf}
+use Rattle.rules.specs.Base.{within}
+use Rattle.rules.specs.RangeClass.{digitsOf, isSymbolPart, isWirePart, classOf}
+use Rattle.rules.specs.Sets.{Set, nothingYet}
 use Rattle.rules.specs.Machine.{limitedTo, Env, top}
 use Rattle.rules.specs.LineByLine.{Outcome, refused, accepted}
 use Rattle.rules.specs.RecordTable.{width, recordsOf}
 use Rattle.rules.specs.Answers.{Listed, listed, noLines, listVolumes, outcomeOfLines, outcomeOfVolumes, outcomeOf, answerWith, refusal, readOutcome, readRecords, readAnswer}
+use Rattle.rules.proofs.Chains.{and-left, and-right, and-false, clash, cond-some}
 use Rattle.rules.proofs.Runs.{not-accepted}
-use Rattle.promises.specs.DemandThree.{ClassNotAbove, unread, LowerAccepts, HigherRefuses}
+use Rattle.promises.specs.DemandThree.{ClassNotAbove, lowered, LowerAccepts, HigherRefuses}
 use Rattle.promises.proofs.Frame.{volumes-inv}
 use Rattle.promises.proofs.Lower.{lowerSet}
-use Rattle.promises.proofs.LowerRecords.{records-lower}
+use Rattle.promises.proofs.LowerKinds.{Rows}
+use Rattle.promises.proofs.LowerRecords.{Agree, records-lower}
 use Rattle.promises.proofs.LowerRun.{notAfter, notAfter-refl, beside-start, sim-run, refused-too}
 use Rattle.promises.proofs.Listing.{lines-whole, lines-proper}
 
@@ -32,7 +37,7 @@ module _ (low high : Class) (le : ClassNotAbove low high) (m : ℕ) where
   hi = limitedTo high m
 
   abbrev AcceptedToo : Outcome → Set → Type 0
-  AcceptedToo o s = (took : ℕ) × (o ≡ accepted (lowerSet took low s))
+  AcceptedToo o s = (took : ℕ) × (o ≡ accepted (lowerSet took low s)) × Rows s
 
   accepts : (o : Option (List Volume)) (s : Set) → outcomeOfVolumes hi o ≡ accepted s → AcceptedToo (outcomeOfVolumes lo o) s
   accepts none s e = not-accepted e
@@ -72,18 +77,47 @@ pub outcome-at : (len : ℕ) (spool : List ℕ) (class wire : ℕ) (c : Class) �
 unfolding readOutcome outcomeOf
 outcome-at len spool class wire c p = rw p
 
+-- a listed class knows wires where its wire part isn't 0: no listed part has the last digit 0 but 0
+part-digits : (w : ℕ) → isWirePart w ≡ true → w % 10 ≡ 0 → w / 10 % 10 ≡ 0
+part-digits w e z = go (within 0 8 w) refl (within 11 18 w) refl e
+  where
+    go : (a : Bool) → within 0 8 w ≡ a → (b : Bool) → within 11 18 w ≡ b → (a || b) ≡ true → w / 10 % 10 ≡ 0
+    go true p b q e = let h = leb-true w 8 (and-right (leb 0 w) _ p) in omega (arith, h)
+    go false p true q e =
+        let h = leb-true 11 w (and-left (leb 11 w) _ q) in
+        let i = leb-true w 18 (and-right (leb 11 w) _ q) in
+        absurd (omega (arith, h, i, z))
+    go false p false q e = clash e refl
+
+digits-agree : (c : Class) → (c .wires .last ≡ 0 → c .wires .middle ≡ 0) → Agree c
+digits-agree c h = go (eqb (c .wires .last) 0) refl
+  where
+    go : (b : Bool) → eqb (c .wires .last) 0 ≡ b → Agree c
+    go true e =
+        let z = eqb-true (c .wires .last) 0 e in
+        rw (z, h z)
+    go false e = rw (e, le-leb 0 (c .wires .middle) (omega arith), le-leb 1 (c .wires .last) (pos-one (c .wires .last) (eqb-false (c .wires .last) 0 e))) (and-false (eqb (c .wires .middle) 0))
+      where
+        pos-one : (n : ℕ) → (n ≡ 0 → ⊥) → 1 ≤ n
+        pos-one zero f = absurd (f refl)
+        pos-one (suc n) f = omega arith
+
+listed-agrees : (class wire : ℕ) (c : Class) → classOf class wire ≡ some c → Agree c
+unfolding classOf
+listed-agrees class wire c e =
+    let (p, q) = cond-some (isSymbolPart class && isWirePart wire) (record { symbols = digitsOf class; wires = digitsOf wire }) c e in
+    digits-agree c (subst (λ (k : Class). k .wires .last ≡ 0 → k .wires .middle ≡ 0) q (part-digits wire (and-right (isSymbolPart class) _ p)))
+
 pub lower-accepts : LowerAccepts
 lower-accepts lo loWire hi hiWire low high cs len spool set e =
     let m = len / width in
     let up = outcome-at len spool hi hiWire high (cs .higher) in
-    let (took, p) = accepts low high (cs .below) m (volumesOf spool) set (sym up ∙ e) in
+    let (took, p, rows) = accepts low high (cs .below) m (volumesOf spool) set (sym up ∙ e) in
     let down = outcome-at len spool lo loWire low (cs .lower) ∙ p in
     let a = taken len spool hi hiWire high set (cs .higher) e in
     let b = taken len spool lo loWire low (lowerSet took low set) (cs .lower) down in
-    let r = records-lower low high (cs .below .symbols) took set in (
-      b .1 ∙ ap (λ rs. Accepted (length rs)) r ∙ ap Accepted (length-map (recordsOf high set) (unread (low .symbols) (rangeOf set))) ∙ sym (a .1),
-      b .0 ∙ r ∙ ap (map (unread (low .symbols) (rangeOf set))) (sym (a .0)),
-    )
+    let r = records-lower low high (cs .below .symbols) (listed-agrees lo loWire low (cs .lower)) took set rows ∙ ap (lowered low set) (sym (a .0)) in
+    (b .1 ∙ ap (λ rs. Accepted (length rs)) r, b .0 ∙ r)
 
 -- an answer that refuses comes of an outcome that refuses
 refused-inv : (len : ℕ) (spool : List ℕ) (class wire : ℕ) (r : Refusal) → readAnswer class wire len spool ≡ Refused r → readOutcome class wire len spool ≡ refused (r .number) (r .volume) (r .line)

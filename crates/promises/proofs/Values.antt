@@ -13,7 +13,7 @@ use Rattle.rules.specs.Base.{mapO, isNil, all, same, indexOf, within, Cut, whol
 use Rattle.rules.specs.RefusalNumbers.{got, mapG, orBad, keep}
 use Rattle.rules.specs.Numbers.{isDigit, readCount, readFixed, isDay, isClock, readDecimal, fixedOnto, fixed, showCount}
 use Rattle.rules.specs.Lines.{allowed, stem}
-use Rattle.rules.specs.Values.{Num, num, Value, nums, chars, linked, Known, isLetter, lettersAndDigits, byteIn, capital, isLayerId, inBound, Part, count, digit, typeDigits, range, rangeOfSymbols, day, clock, decimal, symbolName, layerId, servedSymbols, natural, readPart, amount, showPart, readAll, showAll, agree, Kind, values, text, word, volumeName, sheet, ratio, serials, nothing, opens, headed, either, sheets, twoNums, findSheet, showSheet, goodRatio, withOne, ratioParts, readCounts, readRatio, showRatio, mostPartners, readSerials, linkedOf, showSerials, readKind, showContent}
+use Rattle.rules.specs.Values.{Num, num, Value, nums, chars, linked, Known, isLetter, lettersAndDigits, byteIn, capital, isLayerId, inBound, Part, count, digit, typeDigits, range, rangeOfSymbols, rangeOfWires, day, clock, decimal, symbolName, layerId, servedSymbols, servedWires, natural, readPart, amount, showPart, readAll, showAll, agree, Kind, values, text, word, volumeName, sheet, ratio, serials, nothing, opens, headed, either, sheets, twoNums, findSheet, showSheet, goodRatio, withOne, ratioParts, readCounts, readRatio, showRatio, mostPartners, readSerials, linkedOf, showSerials, readKind, showContent}
 use Rattle.rules.proofs.Chains.{map-some, and-left, and-right, and-true, by-cond, clash, same-eq, never, none-some, unless-got, map-got, keep-got, or-got, cons-got, all-weaken, all-append}
 use Rattle.promises.specs.PlacesApart.{bareValue}
 use Rattle.promises.proofs.Numbers.{within-both, both-within, numeric, free, all-free, free-head, free-tail, cut-none, cut-at, cut-parts, some-full, Again, count-back, fixed-same, decimal-back}
@@ -63,6 +63,7 @@ part-back k typeDigits s a e =
     written-same k typeDigits s a (rw (← q) (fixed-same 4 n s (or-got 10 (readFixed 4 s) n g))) e
 part-back k (range lo hi) s a e = written-same k (range lo hi) s a (digits-same 3 12 (within lo hi) s a e) e
 part-back k rangeOfSymbols s a e = written-same k rangeOfSymbols s a (digits-same 3 12 servedSymbols s a e) e
+part-back k rangeOfWires s a e = written-same k rangeOfWires s a (digits-same 3 12 servedWires s a e) e
 part-back k day s a e = written-same k day s a (digits-same 8 10 isDay s a e) e
 part-back k clock s a e = written-same k clock s a (digits-same 6 10 isClock s a e) e
 part-back k (decimal b) s a e =

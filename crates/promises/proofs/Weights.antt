@@ -10,10 +10,10 @@ use Rattle.rules.specs.Base.{bytes, isNil, total}
 use Rattle.rules.specs.Values.{Value, nums, Known, Part, Kind, values, text, word, volumeName, sheet, ratio, serials, nothing, opens, headed, either, charsOf}
 use Rattle.rules.specs.Rows.{Rule, Slots, blank, Held, partOf, rowsThere}
 use Rattle.rules.specs.Blocks.{fileTable, rangeTable, baseTable, elecTable, symTable, laterTable, fileTables, drawingTable, symbolTable, blankHeld}
-use Rattle.rules.specs.Figures.{figureTable, pointTable, textTable, placedTable, placedTables}
-use Rattle.rules.specs.Sets.{Point, Figure, plain, chain, lettering, placed, Layer, Drawing, Symbol, LayerBlock, Contents, Set, knownOf}
+use Rattle.rules.specs.Figures.{figureTable, pointTable, textTable, placedTable, placedTables, wireTable}
+use Rattle.rules.specs.Sets.{Point, Figure, plain, chain, lettering, placed, Layer, Drawing, Symbol, LayerBlock, Contents, Set, knownOf, Edge, wired, passed}
 use Rattle.rules.specs.RecordTable.{ruleAt}
-use Rattle.rules.specs.FixedForm.{Text, openLine, opensBlock, innerOf, lineOf, showValue, showSlots, noInner, showInner, showHeld, block, showPoints, showFigure, showFigures, showLayers, showDrawing, symbolInner, exchanged, showSymbol, showSymbols, showDefines, showBlocks, showFirst, showLater, ending, laterLines, volumeLines}
+use Rattle.rules.specs.FixedForm.{Text, openLine, opensBlock, innerOf, lineOf, showValue, showSlots, noInner, showInner, showHeld, block, showPoints, showFigure, showFigures, showLayers, showDrawing, symbolInner, exchanged, showSymbol, showSymbols, showDefines, showBlocks, showFirst, showLater, ending, laterLines, volumeLines, showEdges}
 use Rattle.rules.specs.Sets.{layerTableOf}
 use Rattle.rules.proofs.Chains.{clash}
 use Rattle.rules.proofs.Rows.{Row, here, there}
@@ -179,11 +179,23 @@ pub points-weight : (k : Known) (b : Bool) (ps : List Point) (ls : Text) → wei
 points-weight k b [] ls = omega arith
 points-weight k b (p ∷ ps) ls = omega (arith, points-weight k b ps ls)
 
+abbrev pub edgeCost : Known → Edge → ℕ
+edgeCost k e = length (lineOf k (ruleAt wireTable (e .row)) (nums (e .values))) + 2
+
+abbrev pub edgesCost : Known → List Edge → ℕ
+edgesCost k es = total (edgeCost k) es
+
+edges-weight : (k : Known) (es : List Edge) (ls : Text) → weigh (showEdges k es ls) ≤ edgesCost k es + weigh ls
+edges-weight k [] ls = omega arith
+edges-weight k (e ∷ es) ls = omega (arith, edges-weight k es ls)
+
 abbrev pub figureCost : Known → Bool → List Rule → Figure → ℕ
 figureCost k b t (plain n j v) = length (lineOf k (ruleAt t j) (nums v)) + 2
 figureCost k b t (chain n ps) = blockCost (bytes "successive") (pointsCost k b ps)
 figureCost k b t (lettering n s) = blockCost (bytes "text") (slotsCost k (textTable b 4 12) s)
 figureCost k b t (placed n h) = blockCost (bytes "E_symbol") (heldCost k placedTables h)
+figureCost k b t (wired n w) = blockCost (bytes "E_wire") (edgesCost k (w .elements))
+figureCost k b t (passed n) = blockCost (bytes "E_wire") 0
 
 abbrev pub figuresCost : Known → Bool → List Rule → List Figure → ℕ
 figuresCost k b t fs = total (figureCost k b t) fs
@@ -197,6 +209,8 @@ figure-weight k b t (plain n j v) ls = omega arith
 figure-weight k b t (chain n ps) ls = omega (arith, points-weight k b ps (bytes "}" ∷ ls))
 figure-weight k b t (lettering n s) ls = omega (arith, text-weight k b s (bytes "}" ∷ ls))
 figure-weight k b t (placed n h) ls = omega (arith, placed-weight k h (bytes "}" ∷ ls))
+figure-weight k b t (wired n w) ls = omega (arith, edges-weight k (w .elements) (bytes "}" ∷ ls))
+figure-weight k b t (passed n) ls = omega arith
 
 pub figures-weight : (k : Known) (b : Bool) (t : List Rule) (fs : List Figure) (ls : Text) → weigh (showFigures k b t fs ls) ≤ figuresCost k b t fs + weigh ls
 figures-weight k b t [] ls = omega arith

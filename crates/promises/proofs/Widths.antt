@@ -5,9 +5,9 @@ use mathlib.Core.List.{List, [], _∷_, _++_, map}
 use mathlib.Core.Option.{some}
 use mathlib.Core.Path.{_≡_, refl, _∙_, ap}
 use native.Mathlib.Omega.{arith}
-use lib.IntN.{ℤ}
+use lib.IntN.{ℤ, pos}
 use lib.Dec.{eqb}
-use lib.ListN.{length, take, drop, replicate, length-append, length-take, length-drop, length-replicate}
+use lib.ListN.{length, take, drop, replicate, length-append, length-take, length-drop, length-replicate, length-set}
 use lib.Seq.{take-append-add}
 use Rattle.rules.specs.declared.Digits.{Digits}
 use Rattle.rules.specs.declared.Class.{Class}
@@ -16,10 +16,10 @@ use Rattle.rules.specs.RangeClass.{digits}
 use Rattle.rules.specs.Values.{nums}
 use Rattle.rules.specs.Rows.{Rule, Held}
 use Rattle.rules.specs.Blocks.{fileTables, drawingTable, symbolTable}
-use Rattle.rules.specs.Figures.{pointTable, textTable, placedTable, placedTables}
-use Rattle.rules.specs.Sets.{Point, Figure, plain, chain, lettering, placed, Layer, Symbol, Contents, Set}
+use Rattle.rules.specs.Figures.{pointTable, textTable, placedTable, placedTables, wireTable}
+use Rattle.rules.specs.Sets.{Point, Edge, Figure, plain, chain, lettering, placed, wired, passed, Layer, Symbol, Contents, Set}
 use Rattle.rules.specs.RecordTable.{putHeld, markUnread, start, twoOf, fileRecords, layerRecords, ruleAt, pointRecords, figureRecords, innerRecords, symbolRecords, bodyRecords, laterRecords, recordsFrom, recordsOf}
-use Rattle.rules.specs.RecordTable.{View, viewOf, plainView}
+use Rattle.rules.specs.RecordTable.{View, viewOf, plainView, putSlot, wireStart, wireNumbers, unreadNumbers, kindEdge, placeJoin, edgeRecords}
 use Rattle.rules.proofs.Chains.{by-cond}
 use Rattle.rules.proofs.RecordLengths.{length-slot, length-slots, length-parts, length-unread}
 use Rattle.promises.specs.DemandOne.{Wide, noRecord, oneMore}
@@ -46,6 +46,21 @@ wide-points : (kind owner volume : ℕ) (ps : List Point) → Wide (pointRecords
 wide-points kind owner volume [] = noRecord
 wide-points kind owner volume (p ∷ ps) = oneMore (length-slot (ruleAt (pointTable true) 0) (some (nums (p .values))) _) (wide-points kind owner volume ps)
 
+-- 64 numbers, cut into 32 and 32
+wide-two : (t : List ℤ) → length t ≡ 64 → Wide (twoOf t)
+wide-two t e =
+    let first : length (take 32 t) ≡ 32 = omega (arith, length-take 32 t) in
+    let second : length (drop 32 t) ≡ 32 = omega (arith, length-drop 32 t) in
+    oneMore first (oneMore second noRecord)
+
+wide-edges : (owner volume : ℕ) (es : List Edge) → Wide (edgeRecords owner volume es)
+wide-edges owner volume [] = noRecord
+wide-edges owner volume (e ∷ es) =
+    let t = start (kindEdge + e .row) owner volume (e .line) in
+    let r = ruleAt wireTable (e .row) in
+    let v = some (nums (e .values)) in
+    oneMore (length-set (putSlot r v t) placeJoin (pos (e .join)) ∙ length-slot r v t) (wide-edges owner volume es)
+
 wide-figure : (w : View) (more owner volume : ℕ) (f : Figure) → Wide (figureRecords w more owner volume f)
 wide-figure w more owner volume (plain n j v) =
     oneMore
@@ -56,6 +71,9 @@ wide-figure w more owner volume (plain n j v) =
 wide-figure w more owner volume (chain n ps) = oneMore refl (wide-points (17 + more) owner volume ps)
 wide-figure w more owner volume (lettering n s) = oneMore (length-slots (textTable true 4 12) s _) noRecord
 wide-figure w more owner volume (placed n h) = oneMore (placed-length (w .class .symbols) (w .symbols) h _) noRecord
+wide-figure w more owner volume (wired n x) =
+    wide-append _ _ (wide-two (wireNumbers (w .wires) (length (x .elements)) (wireStart owner volume n)) refl) (wide-edges owner volume (x .elements))
+wide-figure w more owner volume (passed n) = wide-two (unreadNumbers (wireStart owner volume n)) refl
 
 wide-inner : (n : ℕ) (y : Symbol) → Wide (innerRecords n y)
 wide-inner n y =
@@ -73,13 +91,6 @@ wide-layers n (l ∷ ls) = oneMore refl (wide-layers (suc n) ls)
 
 wide-body : (w : View) (k : ℕ) (v : Contents) → Wide (bodyRecords w k v)
 wide-body w k v = wide-flat _ (λ u. wide-flat _ (wide-figure w 0 (u .layer) k) (u .figures)) (v .blocks)
-
--- the header's 64 numbers, cut into 32 and 32
-wide-two : (t : List ℤ) → length t ≡ 64 → Wide (twoOf t)
-wide-two t e =
-    let first : length (take 32 t) ≡ 32 = omega (arith, length-take 32 t) in
-    let second : length (drop 32 t) ≡ 32 = omega (arith, length-drop 32 t) in
-    oneMore first (oneMore second noRecord)
 
 wide-file : (b : Bool) (k : ℕ) (v : Contents) → Wide (fileRecords b k v)
 wide-file true k v = wide-two (putHeld (fileTables true) (v .file) (start 1 0 k (v .line) ++ start 2 0 k (v .line))) (length-parts 0 (fileTables true) (v .file) (start 1 0 k (v .line) ++ start 2 0 k (v .line)))

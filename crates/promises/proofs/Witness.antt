@@ -1,10 +1,10 @@
 -- The small set and what it is answered, computed.
 use mathlib.Core.Path.{refl}
-use Rattle.rules.specs.Answers.{readAnswer, written, rewriteAnswer, checkAnswer}
-use Rattle.promises.specs.Witnesses.{small, cut, Witnesses}
+use Rattle.rules.specs.Answers.{readAnswer, written, rewriteAnswer, checkAnswer, readRecords}
+use Rattle.promises.specs.Witnesses.{small, cut, wiredOf, serialsWith, Witnesses}
 
 pub witnesses : Witnesses
-unfolding small cut readAnswer written rewriteAnswer checkAnswer
+unfolding small cut wiredOf serialsWith readAnswer readRecords written rewriteAnswer checkAnswer
 witnesses = record {
   accepted = refl;
   checked = refl;
@@ -16,4 +16,13 @@ witnesses = record {
   noByte = refl;
   noClass = refl;
   noWirePart = refl;
+  wires = refl;
+  wiresFixed = refl;
+  joins = refl;
+  apart = refl;
+  deep = refl;
+  tooDeep = refl;
+  serials = refl;
+  serialsTaken = refl;
+  serialTwice = refl;
 }

@@ -1,24 +1,26 @@
 -- Demand 3, its words: of two front ends, one class not above the other in either digit, same spool, tables of equal length. "If the
 -- higher accepts, the lower accepts with the same records, except that attributes the file's range allows and the lower doesn't know
 -- are marked unread. If the lower refuses, the higher refuses too, at the same line or before it." Document 02: "Demand 3 is read with
--- both parts, digit by digit."
-use Prim.Native.Nat.{ℕ, _≤_}
-use mathlib.Core.Bool.{Bool, true, false, cond, _&&_, _||_}
-use mathlib.Core.List.{List, [], _∷_, map}
+-- both parts, digit by digit; of a wire that the lower class skips whole, the records at its own line stand as said for 0 and those of
+-- later lines are left out of its list".
+use Prim.Native.Nat.{ℕ, suc, _-_, _≤_}
+use mathlib.Core.Bool.{Bool, true, false, cond, _&&_, _||_, not}
+use mathlib.Core.List.{List, [], _∷_, _++_, map}
 use mathlib.Core.Option.{some}
 use mathlib.Core.Path.{_≡_}
 use lib.Dec.{eqb, leb, ltb}
 use lib.IntN.{ℤ, pos, negsuc}
-use lib.ListN.{getD, set}
+use lib.ListN.{length, getD, set, take, replicate}
 use Rattle.rules.specs.declared.Digits.{Digits}
 use Rattle.rules.specs.declared.Class.{Class}
 use Rattle.rules.specs.declared.Refusal.{Refusal}
-use Rattle.rules.specs.declared.Answer.the-variants.{Refused}
+use Rattle.rules.specs.declared.Answer.the-variants.{Accepted, Refused}
+use Rattle.rules.specs.Base.{hasNumber}
 use Rattle.rules.specs.RangeClass.{digits, classOf, hides}
 use Rattle.rules.specs.Sets.{Set, rangeOf}
 use Rattle.rules.specs.LineByLine.{accepted}
 use Rattle.rules.specs.Answers.{readOutcome, readAnswer, readRecords}
-use Rattle.rules.specs.RecordTable.{kindPlaced}
+use Rattle.rules.specs.RecordTable.{kindPlaced, kindWire, kindWireMore, kindEdge, placeMark, unreadMark}
 
 -- ── classes ──
 -- one part not above the other in either digit
@@ -36,6 +38,10 @@ pub record Classes (lo loWire hi hiWire : ℕ) (low high : Class) : Type 0 where
   pub lower : classOf lo loWire ≡ some low
   pub higher : classOf hi hiWire ≡ some high
   pub below : ClassNotAbove low high
+
+-- "1 to 8 or 11 to 18, or 0": the wire part is 0, and "A class with 0 skips whole wires"
+abbrev pub withoutWires : Class → Bool
+withoutWires c = eqb (c .wires .middle) 0 && eqb (c .wires .last) 0
 
 -- ── what may differ in a record, and what it is instead ──
 -- an attribute of a placed symbol: the digits from which on it is known, its places in the record, its state's place
@@ -71,14 +77,54 @@ abbrev pub unreadEach : Digits → Digits → List Attribute → List ℤ → Li
 unreadEach c d [] r = r
 unreadEach c d (a ∷ as′) r = unreadOne (hides c d (a .least)) a (unreadEach c d as′ r)
 
-abbrev pub isPlaced : List ℤ → Bool
-isPlaced [] = false
-isPlaced (pos k ∷ r) = eqb k kindPlaced
-isPlaced (negsuc k ∷ r) = false
+-- a record is of one of these kinds
+abbrev pub isOf : List ℕ → List ℤ → Bool
+isOf kinds [] = false
+isOf kinds (pos k ∷ r) = hasNumber k kinds
+isOf kinds (negsuc k ∷ r) = false
 
--- a record of a higher class as a class has it whose part of symbols is c, in a file of the range d
-abbrev pub unread : Digits → Digits → List ℤ → List ℤ
-unread c d r = cond (isPlaced r) (unreadEach c d attributes r) r
+-- "16 placed symbol"; "18 and 19, both at the wire's line"; a wire's lines and arcs, which have lines of their own
+abbrev pub placedKinds : List ℕ
+placedKinds = kindPlaced ∷ []
+
+abbrev pub wireKinds : List ℕ
+wireKinds = kindWire ∷ kindWireMore ∷ []
+
+abbrev pub edgeKinds : List ℕ
+edgeKinds = kindEdge ∷ suc kindEdge ∷ []
+
+-- "marked unread, zeros from place 4 on but for that mark and the states": kind, owner, volume and line stay, and the mark is the last of
+-- the 32 numbers. No attribute of a wire is served yet, so that its states are 0.
+abbrev pub zerosFrom : ℕ
+zerosFrom = 4
+
+abbrev pub passedOver : List ℤ → List ℤ
+passedOver r = take zerosFrom r ++ replicate (placeMark - zerosFrom) (pos 0) ++ unreadMark ∷ []
+
+-- a record of a wire's own line, at a class
+abbrev pub unreadWire : Class → List ℤ → List ℤ
+unreadWire c r = cond (isOf wireKinds r && withoutWires c) (passedOver r) r
+
+-- a record of a higher class as a class has it, in a file of the range d
+abbrev pub unreadIn : Class → Digits → List ℤ → List ℤ
+unreadIn c d r = cond (isOf placedKinds r) (unreadEach (c .symbols) d attributes r) (unreadWire c r)
+
+-- in a file that reads as this set
+abbrev pub unread : Class → Set → List ℤ → List ℤ
+unread c s r = unreadIn c (rangeOf s) r
+
+-- ── which records there are ──
+-- "those of later lines are left out of its list"
+abbrev pub keeps : Class → List ℤ → Bool
+keeps c r = not (isOf edgeKinds r && withoutWires c)
+
+abbrev pub filter : {A : Type 0} → (A → Bool) → List A → List A
+filter p [] = []
+filter p (a ∷ s) = cond (p a) (a ∷ filter p s) (filter p s)
+
+-- the records of a higher class as a class has them
+abbrev pub lowered : Class → Set → List (List ℤ) → List (List ℤ)
+lowered c s rs = map (unread c s) (filter (keeps c) rs)
 
 -- ── the two halves ──
 -- "if the higher accepts, the lower accepts with the same records, except .."
@@ -86,7 +132,8 @@ abbrev pub LowerAccepts : Type 0
 LowerAccepts =
     (lo loWire hi hiWire : ℕ) (low high : Class) → Classes lo loWire hi hiWire low high
     → (len : ℕ) (spool : List ℕ) (set : Set) → readOutcome hi hiWire len spool ≡ accepted set
-    → (readAnswer lo loWire len spool ≡ readAnswer hi hiWire len spool) × (readRecords lo loWire len spool ≡ map (unread (low .symbols) (rangeOf set)) (readRecords hi hiWire len spool))
+    → (readAnswer lo loWire len spool ≡ Accepted (length (lowered low set (readRecords hi hiWire len spool))))
+    × (readRecords lo loWire len spool ≡ lowered low set (readRecords hi hiWire len spool))
 
 -- a place in the set is at or before another
 abbrev pub atOrBefore : Refusal → Refusal → Bool

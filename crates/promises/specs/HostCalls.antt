@@ -105,7 +105,7 @@ pub record HostCalls : Type 0 where
 abbrev pub LowerHostAccepts : Type 0
 LowerHostAccepts =
     (lower higher : HostRead) (two : TwoCalls (readBy lower) (readBy higher)) → higher .number ≡ 0
-    → (lower .number ≡ 0) × (lower .count ≡ higher .count) × Accepts (readBy lower) (readBy higher) (two .low) (higher .count)
+    → (lower .number ≡ 0) × (w : Accepts (readBy lower) (readBy higher) (two .low) (higher .count)) × (lower .count ≡ w .count)
 
 abbrev pub HigherHostRefuses : Type 0
 HigherHostRefuses =

@@ -3,6 +3,7 @@ pub mod DemandOne
 pub mod DemandThree
 pub mod DemandTwo
 pub mod HostCalls
+pub mod OwnNumbers
 pub mod PlacesApart
 pub mod ReaderCalls
 pub mod RewriterCalls
@@ -11,4 +12,5 @@ pub mod TableTexts
 pub mod TakenApart
 pub mod TextsKept
 pub mod WireParts
+pub mod WiresJoined
 pub mod Witnesses

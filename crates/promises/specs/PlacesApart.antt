@@ -9,9 +9,9 @@ use Rattle.rules.specs.Base.{mapO, hasNumber}
 use Rattle.rules.specs.Lines.{Rest, brace, equals, Form, ignored, wrong, close, eof, keyed}
 use Rattle.rules.specs.Values.{Value, empty, nums, chars, linked}
 use Rattle.rules.specs.Rows.{Slots, Held, Act, stay, entry, begin, shut, refuse}
-use Rattle.rules.specs.Sets.{Point, Figure, plain, chain, lettering, placed, Layer, Drawing, Symbol, LayerBlock, Contents, Set}
+use Rattle.rules.specs.Sets.{Point, Edge, Wire, Figure, plain, chain, lettering, placed, wired, passed, Layer, Drawing, Symbol, LayerBlock, Contents, Set}
 use Rattle.rules.specs.Machine.{Line, Home, inElement, inLayer, State, top, file, drawing, layerNames, defines, symbol, hide, elements, figures, successive}
-use Rattle.rules.specs.Machine.{texts, placing, skipping, ended, symbolBlock, Owned}
+use Rattle.rules.specs.Machine.{texts, placing, skipping, ended, symbolBlock, wireBlock, wireUnread, Owned}
 use Rattle.rules.specs.LineByLine.{Outcome, refused, accepted}
 use Rattle.rules.specs.RecordTable.{kindHeader, kindDrawing, kindSymbol, kindLayer, kindText, kindPlaced, inSymbol}
 
@@ -31,11 +31,19 @@ bareHeld h = map bareSlots h
 abbrev pub barePoint : Point → Point
 barePoint p = record { line = 0; values = p .values }
 
+abbrev pub bareEdge : Edge → Edge
+bareEdge e = record { line = 0; row = e .row; values = e .values; join = e .join }
+
+abbrev pub bareWire : Wire → Wire
+bareWire w = record { elements = map bareEdge (w .elements) }
+
 abbrev pub bareFigure : Figure → Figure
 bareFigure (plain n j v) = plain 0 j v
 bareFigure (chain n ps) = chain 0 (map barePoint ps)
 bareFigure (lettering n s) = lettering 0 (bareSlots s)
 bareFigure (placed n h) = placed 0 (bareHeld h)
+bareFigure (wired n w) = wired 0 (bareWire w)
+bareFigure (passed n) = passed 0
 
 abbrev pub bareLayer : Layer → Layer
 bareLayer l = record { line = 0; id = l .id; name = bareValue (l .name) }
@@ -91,6 +99,8 @@ bareHome (inLayer k) = inLayer k
 
 abbrev pub bareOwned : Owned → Owned
 bareOwned (symbolBlock o) = symbolBlock (bareHeld o)
+bareOwned (wireBlock w) = wireBlock (bareWire w)
+bareOwned wireUnread = wireUnread
 
 abbrev pub bareState : State → State
 bareState (top s k) = top (bareSet s) k
@@ -114,7 +124,7 @@ bareOutcome (refused n v l) = refused n 0 0
 bareOutcome (accepted s) = accepted (bareSet s)
 
 -- ── one record ──
--- where a record of a kind has the byte places of its texts (document 01, "Record table")
+-- where a record of a kind has the byte places of its texts (document 01, "Record table"); a wire's, 18 to 21, have none
 abbrev pub textPlaces : ℕ → List ℕ
 textPlaces kind =
     cond (eqb kind kindHeader) (16 ∷ 18 ∷ 20 ∷ 22 ∷ 24 ∷ 26 ∷ 28 ∷ 30 ∷ [])

@@ -10,7 +10,7 @@ use Rattle.rules.specs.Values.{charsOf}
 use Rattle.rules.specs.Rows.{Rule, Slots, partOf, slotValue, held}
 use Rattle.rules.specs.Blocks.{fileTable, drawingTable}
 use Rattle.rules.specs.Figures.{textTable, placedTable}
-use Rattle.rules.specs.Sets.{Point, Figure, plain, chain, lettering, placed, Layer, Drawing, Symbol, LayerBlock, Contents, Set, symbolNameOf}
+use Rattle.rules.specs.Sets.{Point, Figure, plain, chain, lettering, placed, Layer, Drawing, Symbol, LayerBlock, Contents, Set, symbolNameOf, Edge, wired, passed}
 use Rattle.rules.specs.LineByLine.{accepted}
 use Rattle.rules.specs.declared.Answer.the-variants.{Accepted}
 use Rattle.rules.specs.Answers.{readOutcome, readRecords}
@@ -49,12 +49,17 @@ noTexts kind = map (λ p. []) (textPlaces kind)
 abbrev pub pointKept : Point → Kept
 pointKept p = []
 
+abbrev pub edgeKept : Edge → Kept
+edgeKept e = []
+
 -- "plus 20 inside a symbol": `more`
 abbrev pub figureKept : ℕ → Figure → List Kept
 figureKept more (plain n j v) = noTexts (10 + more + j) ∷ []
 figureKept more (chain n ps) = [] ∷ map pointKept ps
 figureKept more (lettering n s) = (keptAt "character" (textTable true 4 12) s ∷ []) ∷ []
 figureKept more (placed n h) = (keptAt "circuit" placedTable (partOf h 0) ∷ keptAt "character" (textTable true 16 24) (partOf h 1) ∷ []) ∷ []
+figureKept more (wired n w) = [] ∷ [] ∷ map edgeKept (w .elements)
+figureKept more (passed n) = [] ∷ [] ∷ []
 
 -- a symbol's figures and hide points, in the order written
 abbrev pub innerKept : Symbol → List Kept

@@ -3,12 +3,17 @@ use Prim.Native.Nat.{ℕ, _*_, _-_}
 use Prim.Native.String as S
 use mathlib.Core.List.{List, [], _∷_, _++_, map}
 use mathlib.Core.Path.{_≡_}
-use lib.ListN.{length, take}
+use lib.ListN.{length, take, drop}
 use Rattle.rules.specs.declared.Answer.the-variants.{Accepted}
-use Rattle.rules.specs.Base.{bytes}
+use Rattle.rules.specs.Base.{bytes, flat}
 use Rattle.rules.specs.Spool.{unlines, volumeBytes}
 use Rattle.rules.specs.RecordTable.{width}
-use Rattle.rules.specs.Answers.{refusal, readAnswer, written, rewriteAnswer, checkAnswer, fullNumber, fullWire}
+use Rattle.rules.specs.Answers.{refusal, readAnswer, written, rewriteAnswer, checkAnswer, fullNumber, fullWire, readRecords}
+use mathlib.Core.Bool.{cond}
+use lib.Dec.{eqb}
+use lib.IntN.{pos}
+use Rattle.promises.specs.OwnNumbers.{ownNumber}
+use Rattle.promises.specs.TableTexts.{numberAt}
 
 -- "1 to 5 or 11 to 15"
 abbrev pub classes : List ℕ
@@ -29,13 +34,23 @@ atEach f = map (λ class. map (f class) wireParts) classes
 abbrev pub oneVolume : List S.String → List ℕ
 oneVolume ls = volumeBytes (bytes "SMALL") (unlines (map bytes ls))
 
--- no layer, no symbol, no figure
+-- the lines of a set with no symbol: its ranges but base, its counts, its layers, what ELEMENT holds
+abbrev pub fileLines : List S.String → List S.String → List S.String
+fileLines ranges counts =
+    "FILE_FORMAT:{" ∷ "range:{" ∷ "base=001:{" ∷ "B_sym=000" ∷ "}" ∷ ranges ++ "}" ∷ counts
+    ++ "next_file=" ∷ "date=19970401" ∷ "time=120000" ∷ "cad=C" ∷ "os=D" ∷ "hard=P" ∷ "ver=1" ∷ "corp=" ∷ "make=" ∷ "tel=" ∷ "name=" ∷ "}" ∷ []
+
+abbrev pub linesWith : List S.String → List S.String → List S.String → List S.String
+linesWith symbols layers inside =
+    "DRAWING_FORMAT:{" ∷ "size=A4" ∷ "scale=1" ∷ "project=P" ∷ "drawname=D" ∷ "date=19970401" ∷ "drawer=" ∷ "layer_name:{" ∷ layers ++ "}" ∷ "}"
+    ∷ "SYMBOL_DEFINE:{" ∷ symbols ++ "}" ∷ "ELEMENT:{" ∷ inside ++ "}" ∷ []
+
+abbrev pub otherLines : List S.String → List S.String → List S.String
+otherLines layers inside = linesWith ("NON=" ∷ []) layers inside
+
+-- no layer, no figure
 abbrev pub beforeEof : List S.String
-beforeEof =
-    "FILE_FORMAT:{" ∷ "range:{" ∷ "base=001:{" ∷ "B_sym=000" ∷ "}" ∷ "}" ∷ "all_line=38" ∷ "this_line=38" ∷ "all_ele=0" ∷ "this_ele=0"
-    ∷ "next_file=" ∷ "date=19970401" ∷ "time=120000" ∷ "cad=C" ∷ "os=D" ∷ "hard=P" ∷ "ver=1" ∷ "corp=" ∷ "make=" ∷ "tel=" ∷ "name=" ∷ "}"
-    ∷ "DRAWING_FORMAT:{" ∷ "size=A4" ∷ "scale=1" ∷ "project=P" ∷ "drawname=D" ∷ "date=19970401" ∷ "drawer=" ∷ "layer_name:{" ∷ "}" ∷ "}"
-    ∷ "SYMBOL_DEFINE:{" ∷ "NON=" ∷ "}" ∷ "ELEMENT:{" ∷ "}" ∷ []
+beforeEof = fileLines [] ("all_line=38" ∷ "this_line=38" ∷ "all_ele=0" ∷ "this_ele=0" ∷ []) ++ otherLines [] []
 
 unfoldable pub small : List ℕ
 small = oneVolume (beforeEof ++ "EOF" ∷ [])
@@ -43,6 +58,48 @@ small = oneVolume (beforeEof ++ "EOF" ∷ [])
 -- the same without its last line, number 38
 unfoldable pub cut : List ℕ
 cut = oneVolume beforeEof
+
+-- a layer with one wire of these lines, the first of them number 45, in a file of E_wire 401
+unfoldable pub wiredOf : List S.String → List ℕ
+wiredOf inside =
+    oneVolume
+    (fileLines ("elec=001:{" ∷ "E_sym=000" ∷ "E_wire=401" ∷ "E_cirno=000" ∷ "}" ∷ []) ("all_line=51" ∷ "this_line=51" ∷ "all_ele=1" ∷ "this_ele=1" ∷ [])
+    ++ otherLines ("E_001=" ∷ []) ("LAYER=E_001:{" ∷ "E_wire:{" ∷ inside ++ "}" ∷ "}" ∷ []) ++ "EOF" ∷ [])
+
+-- a line, this line, and an arc
+abbrev pub wiredWith : S.String → List ℕ
+wiredWith second = wiredOf ("line=1307,0,0,10,5" ∷ second ∷ "circle=1307,-5,5,3,0,90,1" ∷ [])
+
+abbrev pub joinedLine : S.String
+joinedLine = "line=1307,10,5,10,9"
+
+abbrev pub apartLine : S.String
+apartLine = "line=1307,10,6,10,9"
+
+-- four blocks, each in the one before it, and five
+abbrev pub fourDeep : List S.String
+fourDeep = "a:{" ∷ "b:{" ∷ "c:{" ∷ "d:{" ∷ "}" ∷ "}" ∷ "}" ∷ "}" ∷ []
+
+abbrev pub fiveDeep : List S.String
+fiveDeep = "a:{" ∷ "b:{" ∷ "c:{" ∷ "d:{" ∷ "e:{" ∷ "}" ∷ "}" ∷ "}" ∷ "}" ∷ "}" ∷ []
+
+-- two placed symbols in a file of E_sym 011, the first of own number 7, the second of this one, at line 61
+unfoldable pub serialsWith : S.String → List ℕ
+serialsWith second =
+    oneVolume
+    (fileLines ("elec=001:{" ∷ "E_sym=011" ∷ "E_wire=000" ∷ "E_cirno=000" ∷ "}" ∷ "sym=001:{" ∷ "S_base=000" ∷ "S_elec=001" ∷ "}" ∷ [])
+    ("all_line=65" ∷ "this_line=65" ∷ "all_ele=2" ∷ "this_ele=2" ∷ [])
+    ++ linesWith ("E_symbol:{" ∷ "name=LAMP" ∷ "element:{" ∷ "circle=1307,0,0,2,0,360,0" ∷ "}" ∷ "hide:{" ∷ "}" ∷ "}" ∷ []) ("E_001=" ∷ [])
+    ("LAYER=E_001:{" ∷ "E_symbol:{" ∷ "symbol=LAMP,1,2,90,1.5" ∷ "serial=7" ∷ "}" ∷ "E_symbol:{" ∷ "symbol=LAMP,3,2,90,1.5" ∷ second ∷ "}" ∷ "}" ∷ [])
+    ++ "EOF" ∷ [])
+
+-- the own numbers that a class shows of it
+abbrev pub ownAt : ℕ → List ℕ → List ℕ
+ownAt class spool = flat (map ownNumber (readRecords class fullWire (8 * width) spool))
+
+-- a class with 0 keeps the wire's own two records alone
+abbrev pub recordsWith : ℕ → ℕ
+recordsWith wire = cond (eqb wire 0) 6 9
 
 pub record Witnesses : Type 0 where
   -- its three records fit a table of 96 numbers: accepted at each of the ten classes with each of the 17 wire parts, by the check too
@@ -59,3 +116,18 @@ pub record Witnesses : Type 0 where
   pub noByte : readAnswer fullNumber fullWire (3 * width) (take (length small - 1) small) ≡ refusal 2 0 0
   pub noClass : readAnswer 6 fullWire (3 * width) small ≡ refusal 1 0 0
   pub noWirePart : map (λ wire. readAnswer fullNumber wire (3 * width) small) noWireParts ≡ map (λ _. refusal 1 0 0) noWireParts
+  -- a wire is read with every wire part but 0, which skips it, and accepted where its lines meet; it is in the fixed form
+  pub wires : map (λ wire. readAnswer fullNumber wire (9 * width) (wiredWith joinedLine)) wireParts ≡ map (λ wire. Accepted (recordsWith wire)) wireParts
+  pub wiresFixed : written (wiredWith joinedLine) ≡ wiredWith joinedLine
+  -- its first line is joined to none, the second was tested, the arc was not
+  pub joins : map (λ r. numberAt r 11) (drop 6 (readRecords fullNumber fullWire (9 * width) (wiredWith joinedLine))) ≡ pos 0 ∷ pos 1 ∷ pos 2 ∷ []
+  -- where they do not meet it is 11 at the later line, but for the class that skips it
+  pub apart : map (λ wire. readAnswer fullNumber wire (9 * width) (wiredWith apartLine)) wireParts
+      ≡ map (λ wire. cond (eqb wire 0) (Accepted 6) (refusal 11 1 46)) wireParts
+  -- "an opener directly in the wire's block has depth 1" where it is skipped, and 4 is the most
+  pub deep : readAnswer fullNumber 0 (6 * width) (wiredOf fourDeep) ≡ Accepted 6
+  pub tooDeep : readAnswer fullNumber 0 (6 * width) (wiredOf fiveDeep) ≡ refusal 18 1 49
+  -- own numbers are shown as they were written, at a class that knows them; one that was used is 15, as a number, and a partner's is none
+  pub serials : map (λ class. ownAt class (serialsWith "serial=08,7")) (11 ∷ 15 ∷ 5 ∷ []) ≡ (7 ∷ 8 ∷ []) ∷ (7 ∷ 8 ∷ []) ∷ [] ∷ []
+  pub serialsTaken : readAnswer fullNumber fullWire (8 * width) (serialsWith "serial=08,7") ≡ Accepted 8
+  pub serialTwice : readAnswer fullNumber fullWire (8 * width) (serialsWith "serial=007") ≡ refusal 15 1 61

@@ -17,7 +17,7 @@ use Rattle.rules.specs.RangeClass.{digits, classOf}
 use Rattle.rules.specs.Numbers.{fixedOnto, showCount}
 use Rattle.rules.specs.Blocks.{topTable, fileTable, rangeTable, baseTable, elecTable, symTable, laterTable, drawingTable, definesTable, symbolTable}
 use Rattle.rules.specs.Blocks.{elementTable}
-use Rattle.rules.specs.Figures.{layerTable, figureTable, pointTable, textTable, placedTable}
+use Rattle.rules.specs.Figures.{layerTable, figureTable, pointTable, textTable, placedTable, wireTable}
 use Rattle.rules.specs.Values.{sheets}
 use Rattle.rules.specs.Sets.{nothingYet}
 use Rattle.rules.specs.Machine.{Line, Env, top}
@@ -71,7 +71,7 @@ outcomeOfVolumes e (some vs) = outcomeOfLines e (listVolumes 1 vs)
 -- the reading of a spool; to open it is to open every table
 unfoldable pub outcomeOf : Env → List ℕ → Outcome
 unfolding formOf linesOf volumesOf sheets topTable fileTable rangeTable baseTable elecTable symTable laterTable drawingTable definesTable
-    symbolTable elementTable layerTable figureTable pointTable textTable placedTable
+    symbolTable elementTable layerTable figureTable pointTable textTable placedTable wireTable
 outcomeOf e s = outcomeOfVolumes e (volumesOf s)
 
 -- "Order: 1, 2, 3 over all volumes, then line by line"

@@ -2,7 +2,7 @@
 use Prim.Native.Nat.{ℕ, zero, suc, _+_}
 use mathlib.Core.Bool.{Bool, true, false}
 use mathlib.Core.List.{List, [], _∷_, map}
-use Rattle.rules.specs.Values.{Part, count, range, rangeOfSymbols, day, clock, decimal, anySign, notNegative, layerId, Kind, values, text, word}
+use Rattle.rules.specs.Values.{Part, count, range, rangeOfSymbols, rangeOfWires, day, clock, decimal, anySign, notNegative, layerId, Kind, values, text, word}
 use Rattle.rules.specs.Values.{volumeName, sheet, ratio, nothing, opens, headed, either, anyBytes, ascii, lettersAndDigits, telephone, nothingMore}
 use Rattle.rules.specs.Rows.{Rule, row, mayBeEmpty, from, optional, repeated, stateAt, anyNumber, blank, Held}
 
@@ -52,11 +52,10 @@ rangeTable =
 unfoldable pub baseTable : List Rule
 baseTable = row "B_sym" (one (range 0 1)) 5 ∷ []
 
--- (wish 1 reads E_wire)
 unfoldable pub elecTable : List Rule
 elecTable =
     row "E_sym" (one rangeOfSymbols) 8
-    ∷ row "E_wire" (one (range 0 0)) 0
+    ∷ row "E_wire" (one rangeOfWires) 0
     ∷ row "E_cirno" (one (range 0 0)) 0 ∷ []
 
 unfoldable pub symTable : List Rule

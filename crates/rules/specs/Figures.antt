@@ -30,10 +30,16 @@ abbrev pub pointKind : Bool → Kind
 pointKind inLayer = values typeDigits (coordinate inLayer ∷ coordinate inLayer ∷ []) nothingMore
 
 -- the lines that are a figure each: type and values from place 4 of the record on
+abbrev pub lineRow : Bool → Rule
+lineRow inLayer = row "line" (values typeDigits (coordinate inLayer ∷ coordinate inLayer ∷ coordinate inLayer ∷ coordinate inLayer ∷ []) endsDiffer) 4
+
+abbrev pub circleRow : Rule
+circleRow = row "circle" (values typeDigits (centre ∷ centre ∷ measure ∷ degrees ∷ degrees ∷ flag ∷ []) arcOfCircle) 4
+
 abbrev pub plainRows : Bool → List Rule
 plainRows inLayer =
-    row "line" (values typeDigits (coordinate inLayer ∷ coordinate inLayer ∷ coordinate inLayer ∷ coordinate inLayer ∷ []) endsDiffer) 4
-    ∷ row "circle" (values typeDigits (centre ∷ centre ∷ measure ∷ degrees ∷ degrees ∷ flag ∷ []) arcOfCircle) 4
+    lineRow inLayer
+    ∷ circleRow
     ∷ row "ellipse" (values typeDigits (centre ∷ centre ∷ measure ∷ measure ∷ degrees ∷ degrees ∷ degrees ∷ flag ∷ []) axesOfEllipse) 4
     ∷ row "point" (pointKind inLayer) 4 ∷ []
 
@@ -58,9 +64,14 @@ abbrev pub anyOf : List Rule → List Rule
 anyOf [] = []
 anyOf (r ∷ rs) = repeated anyNumber r ∷ anyOf rs
 
--- the figures of a layer, and those of a symbol's `element`
-unfoldable pub layerTable : Bool → List Rule
-layerTable single = anyOf (plainRows true ++ blockRows ++ placedRow single ∷ [])
+-- `E_wire:{` .. `}` "directly in a layer, any number"; where E_wire is 000 the key is not known (6): whether it is another
+abbrev pub wireRows : Bool → List Rule
+wireRows false = []
+wireRows true = row "E_wire" (opens 4) 0 ∷ []
+
+-- the figures of a layer, by whether E_sym is 001 and whether E_wire isn't 000, and those of a symbol's `element`
+unfoldable pub layerTable : Bool → Bool → List Rule
+layerTable single wired = anyOf (plainRows true ++ blockRows ++ placedRow single ∷ wireRows wired)
 
 unfoldable pub figureTable : List Rule
 figureTable = anyOf (plainRows false ++ blockRows)
@@ -91,6 +102,10 @@ placedTable =
     ∷ stateAt 28 (from 0 4 (mayBeEmpty (row "pos" (values (digit 1 5) [] nothingMore) 11)))
     ∷ stateAt 29 (from 0 5 (mayBeEmpty (row "circuit" (word 10 circuitBytes) 12)))
     ∷ stateAt 30 (from 1 0 (row "serial" serials 14)) ∷ []
+
+-- a wire's block: "lines and arcs first, nothing else before or among them", with the values of those in a layer
+unfoldable pub wireTable : List Rule
+wireTable = anyOf (lineRow true ∷ circleRow ∷ [])
 
 -- the placed symbol's own keys, and those of its text
 abbrev pub placedTables : List (List Rule)

@@ -12,8 +12,9 @@ use Rattle.rules.specs.Values.{Value, nums, Known, Kind, values, text, w
 use Rattle.rules.specs.Values.{showContent, charsOf, amountAt}
 use Rattle.rules.specs.Rows.{Rule, Slots, Held, partOf}
 use Rattle.rules.specs.Blocks.{fileTables, drawingTable, symbolTable}
-use Rattle.rules.specs.Figures.{layerTable, figureTable, pointTable, textTable, placedTables}
-use Rattle.rules.specs.Sets.{Point, Figure, plain, chain, lettering, placed, Layer, Drawing, Symbol, LayerBlock, Contents, Set, isSingle, knownOf}
+use Rattle.rules.specs.Figures.{figureTable, pointTable, textTable, placedTables, wireTable}
+use Rattle.rules.specs.Sets.{Point, Edge, Figure, plain, chain, lettering, placed, wired, passed, Layer, Drawing, Symbol, LayerBlock, Contents, Set}
+use Rattle.rules.specs.Sets.{layerTableOf, knownOf}
 use Rattle.rules.specs.RecordTable.{ruleAt}
 
 abbrev pub Text : Type 0
@@ -89,12 +90,19 @@ abbrev pub showPoints : Known → Bool → List Point → Text → Text
 showPoints k inLayer [] ls = ls
 showPoints k inLayer (p ∷ ps) ls = lineOf k (ruleAt (pointTable inLayer) 0) (nums (p .values)) ∷ showPoints k inLayer ps ls
 
--- a figure of a layer, or of a symbol, with its table of figures
+-- a wire's lines and arcs, in the order written
+abbrev pub showEdges : Known → List Edge → Text → Text
+showEdges k [] ls = ls
+showEdges k (e ∷ es) ls = lineOf k (ruleAt wireTable (e .row)) (nums (e .values)) ∷ showEdges k es ls
+
+-- a figure of a layer, or of a symbol, with its table of figures; no wire is skipped at the class that is written from
 abbrev pub showFigure : Known → Bool → List Rule → Figure → Text → Text
 showFigure k inLayer t (plain n j v) ls = lineOf k (ruleAt t j) (nums v) ∷ ls
 showFigure k inLayer t (chain n ps) ls = block (bytes "successive") (showPoints k inLayer ps) ls
 showFigure k inLayer t (lettering n s) ls = block (bytes "text") (showSlots k (textTable inLayer 4 12) s noInner) ls
 showFigure k inLayer t (placed n h) ls = block (bytes "E_symbol") (showHeld k placedTables h) ls
+showFigure k inLayer t (wired n w) ls = block (bytes "E_wire") (showEdges k (w .elements)) ls
+showFigure k inLayer t (passed n) ls = block (bytes "E_wire") (λ rest. rest) ls
 
 abbrev pub showFigures : Known → Bool → List Rule → List Figure → Text → Text
 showFigures k inLayer t [] ls = ls
@@ -164,7 +172,7 @@ abbrev pub volumeLines : Set → List Contents → List Text
 volumeLines s [] = []
 volumeLines s (v ∷ vs) =
     let k = knownOf s in
-    let t = layerTable (isSingle s) in
+    let t = layerTableOf s in
     showFirst k t s v (ending vs) ∷ laterLines k t vs
 
 -- each volume's lines behind its head

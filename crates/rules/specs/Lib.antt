@@ -12,8 +12,10 @@ pub mod Sets
 pub mod VolumesAndTotals
 pub mod Machine
 pub mod PlacedSymbol
+pub mod Wires
 pub mod LineByLine
 pub mod RecordTable
 pub mod FixedForm
 pub mod Answers
 pub mod SampleRulings
+pub mod WireRulings

@@ -9,11 +9,13 @@ use Rattle.rules.specs.Lines.{Form, ignored, wrong, close, eof, keyed}
 use Rattle.rules.specs.Sets.{Set}
 use Rattle.rules.specs.Machine.{Line, inLastVolume, Env, State, pastElement, onTop, onFile, onDrawing, onLayerNames, onDefines, onSymbol, onHide}
 use Rattle.rules.specs.Machine.{onElements, onFigures, onSuccessive, onTexts, top, file, drawing, layerNames, defines, symbol, hide, elements, figures}
-use Rattle.rules.specs.Machine.{successive, texts, symbolBlock, placing, skipping, ended}
+use Rattle.rules.specs.Machine.{successive, texts, symbolBlock, wireBlock, wireUnread, placing, skipping, ended}
 use Rattle.rules.specs.PlacedSymbol.{onPlacing, onSkipping}
+use Rattle.rules.specs.Wires.{onWire}
 
 -- ── one line ──
--- in the block that is open; after EOF no line comes, for it is its volume's last and the volume the set's last (`atEof`)
+-- in the block that is open; after EOF no line comes, for it is its volume's last and the volume the set's last (`atEof`). A wire that is
+-- skipped whole is always in `skipping`, so its clause of `placing` is never reached.
 abbrev pub stepIn : Env → Line → State → Got State
 stepIn e l (top s k) = onTop e l s k (l .form)
 stepIn e l (file s n h p) = onFile l s n h p (l .form)
@@ -27,6 +29,8 @@ stepIn e l (figures s h fs) = onFigures e l s h fs (l .form)
 stepIn e l (successive s h fs n ps) = onSuccessive e l s h fs n ps (l .form)
 stepIn e l (texts s h fs n o) = onTexts s h fs n o (l .form)
 stepIn e l (placing s h fs n (symbolBlock o) p) = onPlacing e s h fs n o p (l .form)
+stepIn e l (placing s h fs n (wireBlock w) p) = onWire e l s h fs n w (l .form)
+stepIn e l (placing s h fs n wireUnread p) = bad 9
 stepIn e l (skipping s h fs n o d) = onSkipping s h fs n o d (l .form)
 stepIn e l (ended s) = bad 9
 

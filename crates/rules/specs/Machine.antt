@@ -9,15 +9,15 @@ use Rattle.rules.specs.declared.Class.{Class}
 use Rattle.rules.specs.Base.{isNil, isNone, among, hasNumber}
 use Rattle.rules.specs.RefusalNumbers.{Got, got, bad, unless, andThen}
 use Rattle.rules.specs.Lines.{Rest, Form, ignored, wrong, close, eof, keyed, freeShapeOf, Shape, opener, noContent, content, opening, formless}
-use Rattle.rules.specs.RangeClass.{digits, digitsOf}
+use Rattle.rules.specs.RangeClass.{digits, digitsOf, knowsWires}
 use Rattle.rules.specs.Values.{Value, empty, numsOf, amountAt, isLayerId, readKind}
 use Rattle.rules.specs.Rows.{Rule, Slots, blank, Held, partOf, enter, rowsThere, rowsAtLimit, Act, stay, entry, begin, shut, refuse, act}
 use Rattle.rules.specs.Blocks.{topTable, fileTables, around, blankHeld, drawingTable, mostLayers, layerNameKind, definesTable, symbolTable, elementTable}
 use Rattle.rules.specs.Figures.{figureTable, leastPoints, pointTable, textTable, placedTables}
-use Rattle.rules.specs.Sets.{Point, Figure, plain, chain, lettering, Drawing, Symbol, Set, withNow, withDrawing, withSymbol, withVolume, withRecords}
+use Rattle.rules.specs.Sets.{Point, Wire, Figure, plain, chain, lettering, Drawing, Symbol, Set, withNow, withDrawing, withSymbol, withVolume, withRecords}
 use Rattle.rules.specs.Sets.{withBlock, withLayer, withOwn, symbolOwn, symbolFigures, symbolHidden, symbolOrder, isFirst, arcOf, rangeOf, defineRange}
 use Rattle.rules.specs.Sets.{layerTableOf, symbolNameOf, knownOf, usedIn}
-use Rattle.rules.specs.RecordTable.{kindHeader, kindVolume, kindDrawing, kindSymbol, kindLayer, kindLine, kindSuccessive, kindText, kindPlaced, kindPoint}
+use Rattle.rules.specs.RecordTable.{kindHeader, kindVolume, kindDrawing, kindSymbol, kindLayer, kindLine, kindSuccessive, kindText, kindPlaced, kindPoint, kindWire, kindWireMore}
 use Rattle.rules.specs.RecordTable.{inSymbol, kindHidden}
 use Rattle.rules.specs.VolumesAndTotals.{chained, dated, countedHere, countedAll, layersUsed}
 
@@ -49,9 +49,11 @@ pub data Home : Type 0 where
   inElement : Symbol → Home
   inLayer : ℕ → Home
 
--- what a layer's block with attributes holds so far: a placed symbol's block
+-- what a layer's block with attributes holds so far: a placed symbol's block, a wire's, or a wire's that is skipped whole
 pub data Owned : Type 0 where
   symbolBlock : Held → Owned
+  wireBlock : Wire → Owned
+  wireUnread : Owned
 
 pub data State : Type 0 where
   top : Set → ℕ → State  -- none: the number of the block that comes next (0 to 3, 4 after ELEMENT)
@@ -272,12 +274,26 @@ abbrev pub openPlaced : Env → Line → Set → Home → List Figure → Got St
 openPlaced e l s (inElement y) fs = bad 6
 openPlaced e l s (inLayer k) fs = taking e (kindPlaced ∷ []) s λ s′. placing s′ k fs (l .line) (symbolBlock (blankHeld placedTables)) 0
 
--- by the numbers of the inner blocks in `layerTable` and `figureTable`: successive 1, text 2, a placed symbol 3; 0 is never reached
+-- "A class with 0 skips whole wires": what the reading of a wire begins with, its line and whether its wire part is another
+abbrev pub noWire : Wire
+noWire = record { elements = [] }
+
+abbrev pub beginWire : Bool → Set → ℕ → List Figure → ℕ → State
+beginWire true s k fs n = placing s k fs n (wireBlock noWire) 0
+beginWire false s k fs n = skipping s k fs n wireUnread 0
+
+-- in layers only, as a placed symbol; "both at the wire's line": its two records
+abbrev pub openWire : Env → Line → Set → Home → List Figure → Got State
+openWire e l s (inElement y) fs = bad 6
+openWire e l s (inLayer k) fs = taking e (kindWire ∷ kindWireMore ∷ []) s λ s′. beginWire (knowsWires (e .class)) s′ k fs (l .line)
+
+-- by the numbers of the inner blocks in `layerTable` and `figureTable`: successive 1, text 2, a placed symbol 3, a wire 4; 0 is never reached
 abbrev pub openFigure : Env → Line → Set → Home → List Figure → ℕ → Got State
 openFigure e l s h fs zero = bad 5
 openFigure e l s h fs (suc zero) = taking e (kindIn h kindSuccessive ∷ []) s λ s′. successive s′ h fs (l .line) []
 openFigure e l s h fs (suc (suc zero)) = taking e (kindIn h kindText ∷ []) s λ s′. texts s′ h fs (l .line) (blank (textTable (isLayer h) 4 12))
-openFigure e l s h fs (suc (suc (suc i))) = openPlaced e l s h fs
+openFigure e l s h fs (suc (suc (suc zero))) = openPlaced e l s h fs
+openFigure e l s h fs (suc (suc (suc (suc i)))) = openWire e l s h fs
 
 abbrev pub onFigures : Env → Line → Set → Home → List Figure → Form → Got State
 onFigures e l s h fs f =

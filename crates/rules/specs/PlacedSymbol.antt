@@ -12,8 +12,8 @@ use Rattle.rules.specs.RangeClass.{digits, reaches, exceeds, both, Skip,
 use Rattle.rules.specs.Values.{Value, serialsOf}
 use Rattle.rules.specs.Rows.{Found, absent, found, find, Held, partOf, enter, rowsThere, Act, actRow, actUnknown, act}
 use Rattle.rules.specs.Figures.{placedTable, placedTables}
-use Rattle.rules.specs.Sets.{Figure, placed, Set, rangeOf, knownOf, ownSerial, figureSerial, serialsIn}
-use Rattle.rules.specs.Machine.{Env, Owned, symbolBlock, State, byAct, shutPart, inLayer, figures, placing, skipping}
+use Rattle.rules.specs.Sets.{Figure, placed, passed, Set, rangeOf, knownOf, ownSerial, figureSerial, serialsIn}
+use Rattle.rules.specs.Machine.{Env, Owned, symbolBlock, wireBlock, wireUnread, State, byAct, shutPart, inLayer, figures, placing, skipping}
 
 -- what the line of a key that the class doesn't know does: "skipped when a digit of E_sym exceeds the class's, and refused otherwise"
 abbrev pub bySkip : Skip → Got State → Got State → Got State
@@ -70,10 +70,22 @@ onPlacing e s h fs n o (suc p) f =
     onPlaced s h fs n o (suc p) (act (knownOf s) (getD placedTables (suc p) []) (digits 0 0) (rowsThere (partOf o (suc p))) f)
 
 -- ── skipped blocks: "A skipped opener takes all lines to its own `}`" ──
--- where so many skipped blocks are open; there is one at least, so the first clause is never reached
+-- behind the last of the skipped blocks: the block around it, or the wire that is skipped whole
+abbrev pub skipEnded : Set → ℕ → List Figure → ℕ → Owned → State
+skipEnded s h fs n (symbolBlock o) = placing s h fs n (symbolBlock o) 0
+skipEnded s h fs n (wireBlock w) = placing s h fs n (wireBlock w) 0
+skipEnded s h fs n wireUnread = skipping s h fs n wireUnread 0
+
+-- where none is open: "every line to the wire's `}` is a skipped line" of a wire that is skipped whole, and no other has this
+abbrev pub unreadShut : Set → ℕ → List Figure → ℕ → Owned → Got State
+unreadShut s h fs n (symbolBlock o) = bad 9
+unreadShut s h fs n (wireBlock w) = bad 9
+unreadShut s h fs n wireUnread = got (figures s (inLayer h) (fs ++ passed n ∷ []))
+
+-- where so many skipped blocks are open
 abbrev pub skipShut : Set → ℕ → List Figure → ℕ → Owned → ℕ → Got State
-skipShut s h fs n o zero = bad 9
-skipShut s h fs n o (suc zero) = got (placing s h fs n o 0)
+skipShut s h fs n o zero = unreadShut s h fs n o
+skipShut s h fs n o (suc zero) = got (skipEnded s h fs n o)
 skipShut s h fs n o (suc (suc d)) = got (skipping s h fs n o (suc d))
 
 abbrev pub onSkipping : Set → ℕ → List Figure → ℕ → Owned → ℕ → Form → Got State

@@ -46,6 +46,10 @@ both c d = digits (min (c .middle) (d .middle)) (min (c .last) (d .last))
 abbrev pub hides : Digits → Digits → Digits → Bool
 hides c d l = reaches d l && not (reaches c l)
 
+-- "A class with 0 skips whole wires where the file's E_wire isn't 000": any other wire part has the least digits of E_wire, 001's, at least
+abbrev pub knowsWires : Class → Bool
+knowsWires c = reaches (c .wires) (digits 0 1)
+
 -- ── skipped lines ──
 -- what a skipped line does: nothing, or it opens a block; or it has no form (5)
 pub data Skip : Type 0 where

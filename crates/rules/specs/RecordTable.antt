@@ -1,5 +1,5 @@
 -- Document 01, "Record table": the records of a set, 32 numbers each, in the order of their lines.
-use Prim.Native.Nat.{ℕ, zero, suc, _+_}
+use Prim.Native.Nat.{ℕ, zero, suc, _+_, _/_}
 use mathlib.Core.Bool.{Bool, true, false, cond}
 use mathlib.Core.List.{List, [], _∷_, _++_, map}
 use mathlib.Core.Option.{Option, none, some}
@@ -16,8 +16,9 @@ use Rattle.rules.specs.Values.{Num, Value, empty, nums, chars, linked, v
 use Rattle.rules.specs.Values.{opens, headed, either}
 use Rattle.rules.specs.Rows.{Rule, row, Slots, Held, partOf}
 use Rattle.rules.specs.Blocks.{fileTables, drawingTable, symbolTable}
-use Rattle.rules.specs.Figures.{figureTable, pointTable, textTable, placedTable, placedTables}
-use Rattle.rules.specs.Sets.{Point, Figure, plain, chain, lettering, placed, Layer, Drawing, Symbol, LayerBlock, Contents, Set, rangeOf, layerTableOf}
+use Rattle.rules.specs.Figures.{figureTable, pointTable, textTable, placedTable, placedTables, wireTable}
+use Rattle.rules.specs.Sets.{Point, Edge, Figure, plain, chain, lettering, placed, wired, passed, Layer, Drawing, Symbol, LayerBlock, Contents, Set}
+use Rattle.rules.specs.Sets.{rangeOf, wireRange, layerTableOf}
 
 -- ── what a line's value puts into its record ──
 -- "Text is byte place in the spool, from 0, and length; 0 and 0 if empty."
@@ -144,6 +145,17 @@ kindPlaced = 16
 abbrev pub kindPoint : ℕ
 kindPoint = 17
 
+-- "A wire's own record, or a fixed number more at the same line": two. "its lines and arcs have records after it": the kind of a line, and
+-- behind it that of an arc
+abbrev pub kindWire : ℕ
+kindWire = 18
+
+abbrev pub kindWireMore : ℕ
+kindWireMore = 19
+
+abbrev pub kindEdge : ℕ
+kindEdge = 20
+
 -- "plus 20 inside a symbol"
 abbrev pub inSymbol : ℕ
 inSymbol = 20
@@ -180,19 +192,20 @@ layerRecords n [] = []
 layerRecords n (l ∷ ls) = layerRecord n l ∷ layerRecords (suc n) ls
 
 -- ── figures ──
--- what the records of figures are made with: the class, the file's range of symbols, the table of the figures' rows
+-- what the records of figures are made with: the class, the file's range of symbols, its E_wire, the table of the figures' rows
 pub record View : Type 0 where
   pub class : Class
   pub symbols : Digits
+  pub wires : ℕ
   pub table : List Rule
 
 -- in layers, at a class
 abbrev pub viewOf : Class → Set → View
-viewOf c s = record { class = c; symbols = rangeOf s; table = layerTableOf s }
+viewOf c s = record { class = c; symbols = rangeOf s; wires = wireRange s; table = layerTableOf s }
 
 -- in a symbol: nothing there goes by the class
 abbrev pub plainView : View
-plainView = record { class = record { symbols = digits 0 0; wires = digits 0 0 }; symbols = digits 0 0; table = figureTable }
+plainView = record { class = record { symbols = digits 0 0; wires = digits 0 0 }; symbols = digits 0 0; wires = 0; table = figureTable }
 
 -- a row of a table by its number
 abbrev pub ruleAt : List Rule → ℕ → Rule
@@ -232,12 +245,50 @@ abbrev pub lineRecord : View → ℕ → ℕ → ℕ → ℕ → ℕ → List Nu
 lineRecord w more owner volume n j v =
     cond (eqb j placedNumber) (placedRecord w more owner volume n ((some (nums v) ∷ []) ∷ [])) (plainRecord w more owner volume n j v)
 
+-- ── wires: "18 and 19, both at the wire's line", one list of 64 numbers ──
+abbrev pub wireStart : ℕ → ℕ → ℕ → List ℤ
+wireStart owner volume line = start kindWire owner volume line ++ start kindWireMore owner volume line
+
+-- places in it: how many lines and arcs; E_wire's first digit; the marks of the two
+abbrev pub placeElements : ℕ
+placeElements = 5
+
+abbrev pub placeJoinDigit : ℕ
+placeJoinDigit = 30
+
+abbrev pub placeMark : ℕ
+placeMark = 31
+
+abbrev pub wireNumbers : ℕ → ℕ → List ℤ → List ℤ
+wireNumbers range elements t = set (set t placeElements (pos elements)) placeJoinDigit (pos (range / 100))
+
+-- "each keeping what records a wire has at its own line, marked unread, zeros from place 4 on but for that mark and the states"
+abbrev pub unreadMark : ℤ
+unreadMark = pos 3
+
+abbrev pub unreadNumbers : List ℤ → List ℤ
+unreadNumbers t = set (set t placeMark unreadMark) (width + placeMark) unreadMark
+
+-- a wire's line or arc: its values as those of a figure, and at place 11 how it is joined
+abbrev pub placeJoin : ℕ
+placeJoin = 11
+
+abbrev pub edgeRecord : ℕ → ℕ → Edge → List ℤ
+edgeRecord owner volume e =
+    set (putSlot (ruleAt wireTable (e .row)) (some (nums (e .values))) (start (kindEdge + e .row) owner volume (e .line))) placeJoin (pos (e .join))
+
+abbrev pub edgeRecords : ℕ → ℕ → List Edge → List (List ℤ)
+edgeRecords owner volume es = map (edgeRecord owner volume) es
+
 -- "plus 20 inside a symbol": `more`
 abbrev pub figureRecords : View → ℕ → ℕ → ℕ → Figure → List (List ℤ)
 figureRecords w more owner volume (plain n j v) = lineRecord w more owner volume n j v ∷ []
 figureRecords w more owner volume (chain n ps) = chainRecord more owner volume n ps ∷ pointRecords (kindPoint + more) owner volume ps
 figureRecords w more owner volume (lettering n s) = textRecord more owner volume n s ∷ []
 figureRecords w more owner volume (placed n h) = placedRecord w more owner volume n h ∷ []
+figureRecords w more owner volume (wired n x) =
+    twoOf (wireNumbers (w .wires) (length (x .elements)) (wireStart owner volume n)) ++ edgeRecords owner volume (x .elements)
+figureRecords w more owner volume (passed n) = twoOf (unreadNumbers (wireStart owner volume n))
 
 -- ── symbols ──
 -- "4 symbol: name, wall state, x, y"; its figures and hide points follow in the order written

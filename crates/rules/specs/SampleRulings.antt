@@ -23,12 +23,16 @@ Lines = List S.String
 abbrev pub volume : S.String → Lines → List ℕ
 volume n ls = volumeBytes (bytes n) (unlines (map bytes ls))
 
--- FILE_FORMAT of a first volume: E_sym, the two counts of elements, next_file
-abbrev pub fileLines : S.String → S.String → S.String → S.String → Lines
-fileLines esym allEle thisEle next =
-    "FILE_FORMAT:{" ∷ "range:{" ∷ "base=001:{" ∷ "B_sym=001" ∷ "}" ∷ "elec=001:{" ∷ esym ∷ "E_wire=000" ∷ "E_cirno=000" ∷ "}"
-    ∷ "sym=001:{" ∷ "S_base=000" ∷ "S_elec=001" ∷ "}" ∷ "}" ∷ "all_line=0070" ∷ "this_line=70" ∷ allEle ∷ thisEle ∷ next
+-- FILE_FORMAT of a first volume: E_sym, E_wire, all_line, the two counts of elements, next_file
+abbrev pub fileLinesWith : S.String → S.String → S.String → S.String → S.String → S.String → Lines
+fileLinesWith esym ewire allLine allEle thisEle next =
+    "FILE_FORMAT:{" ∷ "range:{" ∷ "base=001:{" ∷ "B_sym=001" ∷ "}" ∷ "elec=001:{" ∷ esym ∷ ewire ∷ "E_cirno=000" ∷ "}"
+    ∷ "sym=001:{" ∷ "S_base=000" ∷ "S_elec=001" ∷ "}" ∷ "}" ∷ allLine ∷ "this_line=70" ∷ allEle ∷ thisEle ∷ next
     ∷ "date=19970401" ∷ "time=235959" ∷ "cad=C-CADEC" ∷ "os=DOS" ∷ "hard=PC" ∷ "ver=1.0" ∷ "corp=" ∷ "make=" ∷ "tel=(03)1-2" ∷ "name=" ∷ "}" ∷ []
+
+-- .. without wires
+abbrev pub fileLines : S.String → S.String → S.String → S.String → Lines
+fileLines esym allEle thisEle next = fileLinesWith esym "E_wire=000" "all_line=0070" allEle thisEle next
 
 -- DRAWING_FORMAT and SYMBOL_DEFINE: size
 abbrev pub drawingLines : S.String → Lines

@@ -1,7 +1,7 @@
 -- What is read: the set of volumes, block by block, in the order written.
 -- Lines and byte places are plain data, kept with what takes a record.
-use Prim.Native.Nat.{ℕ, _+_}
-use mathlib.Core.Bool.{Bool}
+use Prim.Native.Nat.{ℕ, _+_, _/_}
+use mathlib.Core.Bool.{Bool, not}
 use mathlib.Core.List.{List, [], _∷_, _++_, map}
 use lib.Dec.{eqb}
 use lib.ListN.{length}
@@ -18,11 +18,24 @@ pub record Point : Type 0 where
   pub line : ℕ
   pub values : List Num
 
+-- a wire's line or arc: its line in the volume, its row in the wire's table, its values, how it is joined to the one before it (`Wires: joinOf`)
+pub record Edge : Type 0 where
+  pub line : ℕ
+  pub row : ℕ
+  pub values : List Num
+  pub join : ℕ
+
+-- a wire that is read: its lines and arcs, in the order written
+pub record Wire : Type 0 where
+  pub elements : List Edge
+
 pub data Figure : Type 0 where
   plain : ℕ → ℕ → List Num → Figure  -- its line, its row in the table of figures, its values
   chain : ℕ → List Point → Figure  -- successive
   lettering : ℕ → Slots → Figure  -- text
   placed : ℕ → Held → Figure  -- a placed symbol's block
+  wired : ℕ → Wire → Figure  -- a wire's block
+  passed : ℕ → Figure  -- a wire that is skipped whole
 
 -- ── the drawing ──
 pub record Layer : Type 0 where
@@ -132,6 +145,9 @@ symbolRange s = numberOf "E_sym" elecTable (partOf (firstContents s .file) 3)
 abbrev pub defineRange : Set → ℕ
 defineRange s = numberOf "S_elec" symTable (partOf (firstContents s .file) 4)
 
+abbrev pub wireRange : Set → ℕ
+wireRange s = numberOf "E_wire" elecTable (partOf (firstContents s .file) 3)
+
 -- the file's E_sym as digits
 abbrev pub rangeOf : Set → Digits
 rangeOf s = digitsOf (symbolRange s)
@@ -140,9 +156,21 @@ rangeOf s = digitsOf (symbolRange s)
 abbrev pub isSingle : Set → Bool
 isSingle s = eqb (symbolRange s) 1
 
+-- E_wire isn't 000
+abbrev pub isWired : Set → Bool
+isWired s = not (eqb (wireRange s) 0)
+
+-- "The first digit 0 to 4 says how elements join."
+abbrev pub joinDigit : Set → ℕ
+joinDigit s = wireRange s / 100
+
+-- the file's E_wire as digits: "E_wire's last two digits"
+abbrev pub wiresOf : Set → Digits
+wiresOf s = digitsOf (wireRange s)
+
 -- the table of a layer's figures, by the file's ranges
 abbrev pub layerTableOf : Set → List Rule
-layerTableOf s = layerTable (isSingle s)
+layerTableOf s = layerTable (isSingle s) (isWired s)
 
 abbrev pub symbolNameOf : Symbol → List ℕ
 symbolNameOf y = charsOf (slotValue (held "name" symbolTable (y .own)))
@@ -160,6 +188,8 @@ figureSerial (plain n j v) = []
 figureSerial (chain n ps) = []
 figureSerial (lettering n s) = []
 figureSerial (placed n h) = ownSerial (serialsOf (slotValue (held "serial" placedTable (partOf h 0))))
+figureSerial (wired n w) = []
+figureSerial (passed n) = []
 
 abbrev pub serialsOfBlock : LayerBlock → List ℕ
 serialsOfBlock u = flat (map figureSerial (u .figures))

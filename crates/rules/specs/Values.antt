@@ -1,6 +1,6 @@
 -- What a key may hold: the values between commas, texts, words; how they are read, with the numbers 10 to 14, and written.
 -- (Document 01, "Lines", "Blocks" and "Figures"; the tables of keys in Blocks and Figures are made of these.)
-use Prim.Native.Nat.{ℕ, _+_, _-_}
+use Prim.Native.Nat.{ℕ, _+_, _-_, _/_, _%_}
 use mathlib.Core.Bool.{Bool, true, false, cond, _&&_, _||_, not}
 use mathlib.Core.List.{List, [], _∷_, _++_, map}
 use mathlib.Core.Option.{Option, none, some}
@@ -73,6 +73,7 @@ pub data Part : Type 0 where
   typeDigits : Part  -- "Type is four digits": the first value of a figure
   range : ℕ → ℕ → Part  -- three digits, lo to hi (else 12)
   rangeOfSymbols : Part  -- E_sym: three digits, 000 to 005 or 011 to 015 (else 12)
+  rangeOfWires : Part  -- E_wire: three digits, 000 or those of `servedWires` (else 12)
   day clock : Part  -- a date, a time
   decimal : Bound → Part  -- a decimal, within the bound (else 11)
   symbolName : Part  -- a defined symbol's name (else 13): its number
@@ -80,6 +81,20 @@ pub data Part : Type 0 where
 
 abbrev pub servedSymbols : ℕ → Bool
 servedSymbols n = within 0 5 n || within 11 15 n
+
+-- "12, for E_wire, now covers values other than 000 and those above": the first digit 0 to 4; of the middle and the last digit those that
+-- are read so far
+abbrev pub mostJoinDigit : ℕ
+mostJoinDigit = 4
+
+abbrev pub mostWireMiddle : ℕ
+mostWireMiddle = 0
+
+abbrev pub mostWireLast : ℕ
+mostWireLast = 1
+
+abbrev pub servedWires : ℕ → Bool
+servedWires n = eqb n 0 || (leb (n / 100) mostJoinDigit && (leb (n / 10 % 10) mostWireMiddle && within 1 mostWireLast (n % 10)))
 
 abbrev pub natural : Got ℕ → Got Num
 natural g = mapG (λ n. num (pos n)) g
@@ -90,6 +105,7 @@ readPart k (digit lo hi) s = natural (keep 11 (within lo hi) (orBad 10 (readFixe
 readPart k typeDigits s = natural (orBad 10 (readFixed 4 s))
 readPart k (range lo hi) s = natural (keep 12 (within lo hi) (orBad 10 (readFixed 3 s)))
 readPart k rangeOfSymbols s = natural (keep 12 servedSymbols (orBad 10 (readFixed 3 s)))
+readPart k rangeOfWires s = natural (keep 12 servedWires (orBad 10 (readFixed 3 s)))
 readPart k day s = natural (keep 10 isDay (orBad 10 (readFixed 8 s)))
 readPart k clock s = natural (keep 10 isClock (orBad 10 (readFixed 6 s)))
 readPart k (decimal b) s = mapG num (keep 11 (inBound b) (orBad 10 (readDecimal s)))
@@ -110,6 +126,7 @@ showPart k (digit lo hi) n = fixed 1 (amount n)
 showPart k typeDigits n = fixed 4 (amount n)
 showPart k (range lo hi) n = fixed 3 (amount n)
 showPart k rangeOfSymbols n = fixed 3 (amount n)
+showPart k rangeOfWires n = fixed 3 (amount n)
 showPart k day n = fixed 8 (amount n)
 showPart k clock n = fixed 6 (amount n)
 showPart k (decimal b) n = showDecimal (n .value)

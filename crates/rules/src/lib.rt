@@ -83,6 +83,13 @@ pub const KIND_PLACED: u8 = 16;
 
 pub const KIND_POINT: u8 = 17;
 
+// a wire's two, and the first of its elements': line, arc
+pub const KIND_WIRE: u8 = 18;
+
+pub const KIND_WIRE_MORE: u8 = 19;
+
+pub const KIND_EDGE: u8 = 20;
+
 // what is added to the kinds of figures inside a symbol
 pub const IN_SYMBOL: u8 = 20;
 

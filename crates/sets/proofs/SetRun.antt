@@ -134,7 +134,7 @@ module _ (c : Class) (spool : List ℕ) (limit lent : ℕ) (l : Layout) where
     pub count-few : l .count ≤ 12
     count-few = omega (arith, count-is, volumes-laid spool (w .all) (w .are) .few)
 
-    pub tally-long : length (d .tally) ≡ 12
+    pub tally-long : length (d .tally) ≡ 13
     tally-long = ap length (w .stands .tally)
 
     left-long : length (w .left) ≡ l .count - i

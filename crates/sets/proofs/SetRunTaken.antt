@@ -10,17 +10,19 @@ use lib.ListN.{length, getD, set}
 use Rattle.rules.specs.Base.{isNil, among, hasNumber}
 use Rattle.rules.specs.RefusalNumbers.{Got, got, bad, unless, also}
 use Rattle.rules.specs.Lines.{Rest, Form, ignored, wrong, close, eof, keyed, freeShapeOf}
-use Rattle.rules.specs.RangeClass.{digits, digitsOf, reaches, exceeds, both, skipOf, mostDepth}
-use Rattle.rules.specs.Values.{amountAt, isLayerId}
+use Rattle.rules.specs.RangeClass.{digits, digitsOf, reaches, exceeds, both, knowsWires, skipOf, mostDepth}
+use Rattle.rules.specs.Values.{Num, amountAt, numsOf, isLayerId}
 use Rattle.rules.specs.Rows.{Found, absent, found, find, Slots, Held, partOf, rowsThere, rowsAtLimit, Act, actRow, actUnknown, act}
 use Rattle.rules.specs.Blocks.{topTable, fileTables, drawingTable, mostLayers, definesTable, symbolTable, elementTable}
-use Rattle.rules.specs.Figures.{leastPoints, pointTable, textTable, placedTable, placedTables}
-use Rattle.rules.specs.Sets.{Point, Figure, Drawing, Symbol, Set, nothingYet, symbolOwn, isFirst, arcOf, rangeOf, defineRange, knownOf, usedIn}
+use Rattle.rules.specs.Figures.{leastPoints, pointTable, textTable, placedTable, placedTables, wireTable}
+use Rattle.rules.specs.Sets.{Point, Wire, Figure, Drawing, Symbol, Set, nothingYet, withRecords, symbolOwn, isFirst, arcOf, rangeOf, defineRange, joinDigit, wiresOf, knownOf, usedIn}
 use Rattle.rules.specs.VolumesAndTotals.{chained, dated, countedHere, countedAll, layersUsed}
-use Rattle.rules.specs.Machine.{Line, Env, Home, inElement, inLayer, State, top, file, drawing, layerNames, defines, symbol, hide, elements, figures, successive, texts, placing, skipping, ended, roomFor, openTop, onTop, onFile, onDrawing, layerValue, onLayerNames, newName, openSymbol, onSymbol, onDefines, onHide, onElements, isLayer, homeTable, closeFigures, openPlaced, openFigure, onFigures, onSuccessive, onTexts}
-use Rattle.rules.specs.PlacedSymbol.{onUnknown, newSerial, onPlaced, onPlacedKey, onPlacing, skipShut, onSkipping}
+use Rattle.rules.specs.Machine.{Line, Env, Home, inElement, inLayer, State, top, file, drawing, layerNames, defines, symbol, hide, elements, figures, successive, texts, placing, skipping, ended, roomFor, openTop, onTop, onFile, onDrawing, layerValue, onLayerNames, newName, openSymbol, onSymbol, onDefines, onHide, onElements, isLayer, homeTable, closeFigures, openPlaced, beginWire, openWire, openFigure, onFigures, onSuccessive, onTexts}
+use Rattle.rules.specs.PlacedSymbol.{onUnknown, newSerial, onPlaced, onPlacedKey, onPlacing, skipEnded, unreadShut, skipShut, onSkipping}
+use Rattle.rules.specs.Wires.{joinsEnds, lastEdge, joined, onElement, onWire}
+use Rattle.rules.specs.RecordTable.{kindWire, kindWireMore}
 use Rattle.rules.specs.LineByLine.{stepIn, completes, nextVolume, step, accepted, thenRun, run}
-use Rattle.rules.specs.Machine.{symbolBlock, fileKinds, Owned, setOf}
+use Rattle.rules.specs.Machine.{symbolBlock, wireBlock, wireUnread, fileKinds, Owned, setOf}
 use Rattle.rules.proofs.OnActs.{on-byAct, on-shut, on-skip}
 use Rattle.rules.proofs.Chains.{On, on-unless, on-cond, on-map, on-then, on-also, on-weaken}
 use Rattle.rules.proofs.Runs.{not-accepted, finish-ended}
@@ -116,11 +118,20 @@ module _ (e : Env) (l : Line) (s : Set) where
   few-placing (inElement y) fs = tt
   few-placing (inLayer k) fs = taken 1 _ (omega arith) refl
 
+  few-begun : (reads : Bool) (k : ℕ) (fs : List Figure) → setOf (beginWire reads (withRecords (kindWire ∷ kindWireMore ∷ []) s) k fs (l .line)) .taken ≡ s .taken + 2
+  few-begun true k fs = refl
+  few-begun false k fs = refl
+
+  few-wiring : (h : Home) (fs : List Figure) → On Few (openWire e l s h fs)
+  few-wiring (inElement y) fs = tt
+  few-wiring (inLayer k) fs = taken 2 _ (omega arith) (few-begun (knowsWires (e .class)) k fs)
+
   few-figure : (h : Home) (fs : List Figure) (i : ℕ) → On Few (openFigure e l s h fs i)
   few-figure h fs zero = tt
   few-figure h fs (suc zero) = taken 1 _ (omega arith) refl
   few-figure h fs (suc (suc zero)) = taken 1 _ (omega arith) refl
-  few-figure h fs (suc (suc (suc i))) = few-placing h fs
+  few-figure h fs (suc (suc (suc zero))) = few-placing h fs
+  few-figure h fs (suc (suc (suc (suc i)))) = few-wiring h fs
 
   few-figures : (h : Home) (fs : List Figure) (f : Form) → On Few (onFigures e l s h fs f)
   few-figures h fs f =
@@ -159,9 +170,26 @@ module _ (e : Env) (l : Line) (s : Set) where
   few-own k fs n o zero (keyed key c) = few-key k fs n o key c (find key placedTable)
   few-own k fs n o (suc p) f = few-placed k fs n o (suc p) (act (knownOf s) (getD placedTables (suc p) []) (digits 0 0) (rowsThere (partOf o (suc p))) f)
 
+  few-element : (k : ℕ) (fs : List Figure) (n : ℕ) (w : Wire) (row : ℕ) (v : List Num) → On Few (onElement e l s k fs n w row v)
+  few-element k fs n w row v = on-unless Few (joined (joinsEnds (joinDigit s)) (lastEdge (w .elements)) row v) 11 _ λ _. taken 1 _ (omega arith) refl
+
+  few-wire : (k : ℕ) (fs : List Figure) (n : ℕ) (w : Wire) (f : Form) → On Few (onWire e l s k fs n w f)
+  few-wire k fs n w f =
+      on-byAct Few _ _ _ _ (act (knownOf s) wireTable (wiresOf s) (rowsAtLimit 0 wireTable) f) none-taken (λ j v. few-element k fs n w j (numsOf v)) (λ i j v _. tt) none-taken
+
+  few-shut : (k : ℕ) (fs : List Figure) (n : ℕ) (b : Owned) → On Few (unreadShut s k fs n b)
+  few-shut k fs n (symbolBlock o) = tt
+  few-shut k fs n (wireBlock w) = tt
+  few-shut k fs n wireUnread = none-taken
+
+  ended-taken : (k : ℕ) (fs : List Figure) (n : ℕ) (b : Owned) → Few (skipEnded s k fs n b)
+  ended-taken k fs n (symbolBlock o) = none-taken
+  ended-taken k fs n (wireBlock w) = none-taken
+  ended-taken k fs n wireUnread = none-taken
+
   few-unskipped : (k : ℕ) (fs : List Figure) (n : ℕ) (b : Owned) (d : ℕ) → On Few (skipShut s k fs n b d)
-  few-unskipped k fs n b zero = tt
-  few-unskipped k fs n b (suc zero) = none-taken
+  few-unskipped k fs n b zero = few-shut k fs n b
+  few-unskipped k fs n b (suc zero) = ended-taken k fs n b
   few-unskipped k fs n b (suc (suc d)) = none-taken
 
   few-skipping : (k : ℕ) (fs : List Figure) (n : ℕ) (b : Owned) (d : ℕ) (f : Form) → On Few (onSkipping s k fs n b d f)
@@ -184,6 +212,8 @@ few-in e l (figures s h fs) = few-figures e l s h fs (l .form)
 few-in e l (successive s h fs n ps) = few-chain e l s h fs n ps (l .form)
 few-in e l (texts s h fs n o) = few-texts e l s h fs n o (l .form)
 few-in e l (placing s k fs n (symbolBlock o) p) = few-own e l s k fs n o p (l .form)
+few-in e l (placing s k fs n (wireBlock w) p) = few-wire e l s k fs n w (l .form)
+few-in e l (placing s k fs n wireUnread p) = tt
 few-in e l (skipping s k fs n b d) = few-skipping e l s k fs n b d (l .form)
 few-in e l (ended s) = tt
 

@@ -1,9 +1,9 @@
 // The reader.
 use account::BLOCK_TOP;
-use account::MaybeClass;
 use account::MOST_LAYERS;
 use account::MOST_SERIALS;
 use account::MOST_SYMBOLS;
+use account::MaybeClass;
 use account::Now;
 use account::TALLY_LENGTH;
 use account::Through;

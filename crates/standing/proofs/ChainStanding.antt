@@ -34,7 +34,7 @@ use Rattle.standing.specs.Standing.{Desk, usedOf, inside, InChain, Stand
 use Rattle.account.specs.Points.{pointTableOf, chainKind, pointAct, morePoints, pointPut, chainPut, chainTyped, chainClosed, chainStep, ChainRecords, ChainLine}
 use Rattle.standing.proofs.Openers.{isBegin, no-begin}
 use Rattle.standing.proofs.ForeParts.{part-long}
-use Rattle.standing.proofs.Completing.{goes-still, goes-filling, completed-by, completed-point, number-by, number-same}
+use Rattle.standing.proofs.Completing.{goes-still, goes-filling, completed-by, completed-line, number-by, number-same}
 use Rattle.standing.proofs.ScratchKept.{chain-long, chain-own, chain-figure-part, chain-point}
 use Rattle.standing.proofs.LinesKept.{pointRecord, point-fills}
 use Rattle.standing.proofs.ChainKept.{Pointed, pointed, counted-own, chain-fills}
@@ -152,7 +152,7 @@ module _ (c : Class) (spool : List ℕ) (k : ℕ) (FileHere : Desk → Set → �
 
       on-entry : Out (S.Go now)
       on-entry =
-          goes-filling c spool k FileHere own l to st d₁ now st′ (ap (byAct _ _ _ _) a) 64 (d .now .records) (completed-point (d .now) now (z .block .0) (z .block .0) refl)
+          goes-filling c spool k FileHere own l to st d₁ now st′ (ap (byAct _ _ _ _) a) 64 (d .now .records) (completed-line (d .now) now 9 64 (z .block .0) refl (z .block .0) refl)
           (number-same (d .now) now own refl) 1 refl refl
           (point-fills c s h fs n ps p (d .now .records) (y .size) t₁ (chain-point (d .scratch) (z .lengths .scratch) recs₁ (parts .long) ∙ parts .behind))
           (stands-on c spool k FileHere d at to st st′ z now (d .marks) (d .inner) (withPart 64 emptyRecord t₁) (same-sight (kindIn h kindPoint) s h fs n ps (ps ++ p ∷ [])) (z .lengths .marks) (z .lengths .inner)

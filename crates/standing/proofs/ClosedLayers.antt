@@ -18,7 +18,7 @@ abbrev tallyBy : Held → ℕ → ℕ → ℕ → ℕ → ℕ → ℕ → List �
 tallyBy f here now closed symbols layers serials =
     numberOf "arc" rangeTable (partOf f 1) ∷ numberOf "E_sym" elecTable (partOf f 3) ∷ numberOf "S_elec" symTable (partOf f 4)
     ∷ numberOf "date" fileTable (partOf f 0) ∷ numberOf "time" fileTable (partOf f 0) ∷ numberOf "all_ele" fileTable (partOf f 0)
-    ∷ here ∷ now ∷ closed ∷ symbols ∷ layers ∷ serials ∷ []
+    ∷ here ∷ now ∷ closed ∷ symbols ∷ layers ∷ serials ∷ numberOf "E_wire" elecTable (partOf f 3) ∷ []
 
 -- ── a closed layer ──
 module _ (s : Set) (m : ℕ) (fs : List Figure) where

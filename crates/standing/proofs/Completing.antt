@@ -1,13 +1,12 @@
 -- What a line made complete, by what was open before and behind it.
 use Prim.Native.Nat.{ℕ, _+_}
-use mathlib.Core.Bool.{Bool, false, cond}
+use mathlib.Core.Bool.{Bool, cond}
 use mathlib.Core.List.{List, append-nil}
 use mathlib.Core.Path.{_≡_, refl, sym, _∙_, ap, subst}
 use native.Mathlib.Omega.{arith}
 use borrow.Author.Tests.{eq-eqb, ne-eqb}
-use lib.Dec.{eqb}
 use lib.IntN.{ℤ}
-use lib.ListN.{take}
+use lib.ListN.{length, take, drop}
 use Rattle.rules.specs.declared.Class.{Class}
 use Rattle.rules.specs.RefusalNumbers.{got}
 use Rattle.rules.specs.Rows.{Held}
@@ -20,7 +19,7 @@ use Rattle.account.specs.declared.Complete.the-variants as C
 use Rattle.account.specs.Account.{atBlock}
 use Rattle.account.specs.Records.{withPart}
 use Rattle.account.specs.FileLines.{fileWidth}
-use Rattle.account.specs.Putting.{lineCompleted, closeCompleted, completed, closeNumber, numberFor, clearedBy}
+use Rattle.account.specs.Putting.{linePlace, lineCompleted, closeCompleted, completed, closeNumber, numberFor, clearedBy}
 use Rattle.standing.specs.SoFar.{emptyRecord}
 use Rattle.standing.specs.Kept.{shutSoFar, Opens, Fills, FillsAll}
 use Rattle.standing.specs.Standing.{Desk, deskNow, deskScratch, Made, StandsAt, Goes}
@@ -41,20 +40,16 @@ completed-same : (was is : Now) → was .block ≡ is .block
 completed-same was is b = ap (λ (x : Bool). cond x (lineCompleted was is) (closeCompleted was is)) (eq-eqb (was .block) (is .block) b)
 
 pub completed-none : (was is : Now) → was .block ≡ is .block → was .records ≡ is .records → completed was is ≡ C.Nothing
-completed-none was is b r = completed-same was is b ∙ ap (λ (x : Bool). cond x C.Nothing (C.Record (cond (eqb (was .block) 9) 64 32))) (eq-eqb (was .records) (is .records) r)
+completed-none was is b r = completed-same was is b ∙ ap (λ (x : Bool). cond x C.Nothing (C.Record (linePlace (was .block)))) (eq-eqb (was .records) (is .records) r)
 
-completed-more : (was is : Now) → was .block ≡ is .block → is .records ≡ was .records + 1 → completed was is ≡ C.Record (cond (eqb (was .block) 9) 64 32)
+completed-more : (was is : Now) → was .block ≡ is .block → is .records ≡ was .records + 1 → completed was is ≡ C.Record (linePlace (was .block))
 completed-more was is b r =
     completed-same was is b
-    ∙ ap (λ (x : Bool). cond x C.Nothing (C.Record (cond (eqb (was .block) 9) 64 32))) (ne-eqb (was .records) (is .records) (λ q. absurd (omega (arith, q, r))))
+    ∙ ap (λ (x : Bool). cond x C.Nothing (C.Record (linePlace (was .block)))) (ne-eqb (was .records) (is .records) (λ q. absurd (omega (arith, q, r))))
 
 -- a record of one line
-pub completed-line : (was is : Now) (a : ℕ) → was .block ≡ a → eqb a 9 ≡ false → is .block ≡ a → is .records ≡ was .records + 1 → completed was is ≡ C.Record 32
-completed-line was is a p f q r = completed-more was is (p ∙ sym q) r ∙ ap (λ (x : Bool). C.Record (cond x 64 32)) (ap (λ (x : ℕ). eqb x 9) p ∙ f)
-
--- a point of a `successive`
-pub completed-point : (was is : Now) → was .block ≡ 9 → is .block ≡ 9 → is .records ≡ was .records + 1 → completed was is ≡ C.Record 64
-completed-point was is p q r = completed-more was is (p ∙ sym q) r ∙ ap (λ (x : ℕ). C.Record (cond (eqb x 9) 64 32)) p
+pub completed-line : (was is : Now) (a from : ℕ) → was .block ≡ a → linePlace a ≡ from → is .block ≡ a → is .records ≡ was .records + 1 → completed was is ≡ C.Record from
+completed-line was is a from p f q r = completed-more was is (p ∙ sym q) r ∙ ap C.Record (ap linePlace p ∙ f)
 
 pub number-same : (was is : Now) (own : ℕ) → was .block ≡ is .block → numberFor was is own ≡ was .records
 number-same was is own b = ap (λ (x : Bool). cond x (was .records) (closeNumber was is own)) (eq-eqb (was .block) (is .block) b)
@@ -105,3 +100,8 @@ module _ (c : Class) (spool : List ℕ) (k : ℕ) (FileHere : Desk → Set → �
   pub goes-heading : completed (d .now) n ≡ C.Header → numberFor (d .now) n own ≡ own → n .records ≡ d .now .records → setOf st′ .taken ≡ setOf st .taken
       → FillsAll c st st′ 0 own (take (fileWidth (isFirst (setOf st))) (d .header)) → Behind (d .scratch) → Goes c spool k FileHere own l to st d n
   goes-heading q p r t fills stands = goes-by C.Header q own p 0 (omega (arith, r)) (omega (arith, t)) fills stands
+
+  -- a wire's two, which it took when it opened
+  pub goes-wiring : (number : ℕ) → completed (d .now) n ≡ C.Wire → numberFor (d .now) n own ≡ number → n .records ≡ d .now .records → setOf st′ .taken ≡ setOf st .taken
+      → length (d .scratch) ≡ 96 → FillsAll c st st′ 0 number (take 64 (drop 32 (d .scratch))) → Behind (withPart 64 emptyRecord (withPart 32 emptyRecord (d .scratch))) → Goes c spool k FileHere own l to st d n
+  goes-wiring number q p r t long fills stands = goes-by C.Wire q number p 0 (omega (arith, r)) (omega (arith, t)) (long, fills) stands

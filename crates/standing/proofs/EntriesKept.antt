@@ -23,7 +23,7 @@ use Rattle.account.specs.Placing.{Shaped}
 use Rattle.account.specs.Records.{partAt, withPart}
 use Rattle.account.proofs.RowsTaken.{Taken}
 use Rattle.standing.specs.SoFar.{volumeOf, frontRecords, baseRecords, homeOwner, homeVolume, homeMore, emptyRecord}
-use Rattle.standing.specs.Kept.{ownOpen, figureOpen, shutSoFar, Scratch, Enters}
+use Rattle.standing.specs.Kept.{ownOpen, figureOpen, secondOpen, shutSoFar, Scratch, Enters}
 use Rattle.standing.proofs.OwnLines.{housed}
 use Rattle.standing.proofs.SlotLengths.{length-line}
 use Rattle.standing.proofs.MoreRecords.{element-more, hide-more, layer-closed, volume-closed, shown}
@@ -41,12 +41,12 @@ pub stays : (c : Class) (st : State) (t : List ℤ) → Scratch t st → Enters 
 stays c st t x = record { same = refl; scratch = x }
 
 -- two states of which the table and the scratch say the same
-alike : (c : Class) (st st′ : State) (t : List ℤ) → shutSoFar c st′ ≡ shutSoFar c st → ownOpen st ≡ ownOpen st′ → figureOpen st ≡ figureOpen st′ → Scratch t st → Enters c st st′ t
-alike c st st′ t same own figure x = record { same = same; scratch = scratch-same t st st′ x own figure }
+alike : (c : Class) (st st′ : State) (t : List ℤ) → shutSoFar c st′ ≡ shutSoFar c st → ownOpen st ≡ ownOpen st′ → figureOpen st ≡ figureOpen st′ → secondOpen st ≡ secondOpen st′ → Scratch t st → Enters c st st′ t
+alike c st st′ t same own figure second x = record { same = same; scratch = scratch-same t st st′ x own figure second }
 
 -- ── FILE_FORMAT: its numbers are kept apart ──
 pub file-enters : (c : Class) (s : Set) (n : ℕ) (h h′ : Held) (p p′ : ℕ) (t : List ℤ) → Scratch t (file s n h p) → Enters c (file s n h p) (file s n h′ p′) t
-file-enters c s n h h′ p p′ t x = alike c (file s n h p) (file s n h′ p′) t refl refl refl x
+file-enters c s n h h′ p p′ t x = alike c (file s n h p) (file s n h′ p′) t refl refl refl refl x
 
 -- ── DRAWING_FORMAT ──
 module _ (c : Class) (s : Set) (d : Drawing) (t : List ℤ) where
@@ -64,22 +64,22 @@ module _ (c : Class) (s : Set) (d : Drawing) (t : List ℤ) where
     row-long = length-line (ruleAt drawingTable j) 0 v (partAt 0 t) ∙ ap length (x .own) ∙ drawing-length d
 
     pub drawing-row : Enters c (drawing s d) (drawing s d′) (lineIn 0 drawingTable j v t)
-    drawing-row = record { same = refl; scratch = scratch-own t (drawing s d) (drawing s d′) x rec row-long row-in refl }
+    drawing-row = record { same = refl; scratch = scratch-own t (drawing s d) (drawing s d′) x rec row-long row-in refl refl }
 
     -- `layer_name:{`
     pub names-open : Enters c (drawing s d) (layerNames s d′) (lineIn 0 drawingTable j v t)
-    names-open = record { same = refl; scratch = scratch-own t (drawing s d) (layerNames s d′) x rec row-long row-in refl }
+    names-open = record { same = refl; scratch = scratch-own t (drawing s d) (layerNames s d′) x rec row-long row-in refl refl }
 
   pub names-close : Scratch t (layerNames s d) → Enters c (layerNames s d) (drawing s d) t
-  names-close x = alike c (layerNames s d) (drawing s d) t refl refl refl x
+  names-close x = alike c (layerNames s d) (drawing s d) t refl refl refl refl x
 
 -- ── SYMBOL_DEFINE ──
 -- `NON=`
 pub non-enters : (c : Class) (s : Set) (b b′ : Bool) (t : List ℤ) → Scratch t (defines s b) → Enters c (defines s b) (defines s b′) t
-non-enters c s b b′ t x = alike c (defines s b) (defines s b′) t refl refl refl x
+non-enters c s b b′ t x = alike c (defines s b) (defines s b′) t refl refl refl refl x
 
 pub defines-close : (c : Class) (s : Set) (b : Bool) (t : List ℤ) → isFirst s ≡ true → Scratch t (defines s b) → Enters c (defines s b) (top s 3) t
-defines-close c s b t first x = alike c (defines s b) (top s 3) t (ap (baseRecords c s) first) refl refl x
+defines-close c s b t first x = alike c (defines s b) (top s 3) t (ap (baseRecords c s) first) refl refl refl x
 
 module _ (c : Class) (s : Set) (y : Symbol) (t : List ℤ) where
   abbrev n : ℕ
@@ -100,17 +100,17 @@ module _ (c : Class) (s : Set) (y : Symbol) (t : List ℤ) where
     long = length-line (ruleAt symbolTable j) 0 v (partAt 0 t) ∙ ap length (x .own) ∙ length-slots symbolTable (y .own) (start kindSymbol n 1 (y .line))
 
     pub symbol-row : Enters c (symbol s y) (symbol s y′) (lineIn 0 symbolTable j v t)
-    symbol-row = record { same = refl; scratch = scratch-own t (symbol s y) (symbol s y′) x made long entered refl }
+    symbol-row = record { same = refl; scratch = scratch-own t (symbol s y) (symbol s y′) x made long entered refl refl }
 
     -- `element:{`
     pub element-open : Enters c (symbol s y) (figures s (inElement y′) []) (lineIn 0 symbolTable j v t)
-    element-open = record { same = append-nil (shutSoFar c (symbol s y)); scratch = scratch-own t (symbol s y) (figures s (inElement y′) []) x made long entered refl }
+    element-open = record { same = append-nil (shutSoFar c (symbol s y)); scratch = scratch-own t (symbol s y) (figures s (inElement y′) []) x made long entered refl refl }
 
     -- `hide:{`; b: it comes before `element`
     pub hide-open : (b : Bool) → y .hidden ≡ [] → Enters c (symbol s y) (hide s (symbolOrder b y′) []) (lineIn 0 symbolTable j v t)
     hide-open b none = record {
       same = append-nil (shutSoFar c (symbol s (symbolOrder b y′))) ∙ ap (λ (r : List (List ℤ)). frontRecords s ++ emptyRecord ∷ r) (sym (same-order n y′ b none));
-      scratch = scratch-own t (symbol s y) (hide s (symbolOrder b y′) []) x made long entered refl;
+      scratch = scratch-own t (symbol s y) (hide s (symbolOrder b y′) []) x made long entered refl refl;
     }
 
   -- their ends: the symbol is open again
@@ -118,29 +118,29 @@ module _ (c : Class) (s : Set) (y : Symbol) (t : List ℤ) where
       → Enters c (figures s (inElement y) fs) (symbol s (symbolFigures fs y)) t
   element-close fs none order x =
       alike c (figures s (inElement y) fs) (symbol s (symbolFigures fs y)) t
-      (ap (λ (r : List (List ℤ)). frontRecords s ++ emptyRecord ∷ r) (element-more n y fs none order) ∙ sym (append-assoc (frontRecords s) (emptyRecord ∷ innerRecords n y) (shown n y fs))) refl refl x
+      (ap (λ (r : List (List ℤ)). frontRecords s ++ emptyRecord ∷ r) (element-more n y fs none order) ∙ sym (append-assoc (frontRecords s) (emptyRecord ∷ innerRecords n y) (shown n y fs))) refl refl refl x
 
   pub hide-close : (ps : List Point) → y .hidden ≡ [] → (y .hideFirst ≡ true → y .figures ≡ []) → Scratch t (hide s y ps) → Enters c (hide s y ps) (symbol s (symbolHidden ps y)) t
   hide-close ps none order x =
       alike c (hide s y ps) (symbol s (symbolHidden ps y)) t
       (ap (λ (r : List (List ℤ)). frontRecords s ++ emptyRecord ∷ r) (hide-more n y ps none order)
-      ∙ sym (append-assoc (frontRecords s) (emptyRecord ∷ innerRecords n y) (pointRecords kindHidden n 1 ps))) refl refl x
+      ∙ sym (append-assoc (frontRecords s) (emptyRecord ∷ innerRecords n y) (pointRecords kindHidden n 1 ps))) refl refl refl x
 
 -- ── ELEMENT ──
 pub layer-close : (c : Class) (s : Set) (k : ℕ) (fs : List Figure) (t : List ℤ) → Scratch t (figures s (inLayer k) fs)
     → Enters c (figures s (inLayer k) fs) (elements (withBlock (record { layer = k; figures = fs }) s)) t
 layer-close c s k fs t x =
-    alike c (figures s (inLayer k) fs) (elements (withBlock (record { layer = k; figures = fs }) s)) t (layer-closed c (record { layer = k; figures = fs }) s) refl refl x
+    alike c (figures s (inLayer k) fs) (elements (withBlock (record { layer = k; figures = fs }) s)) t (layer-closed c (record { layer = k; figures = fs }) s) refl refl refl x
 
 pub elements-close : (c : Class) (s : Set) (t : List ℤ) → Scratch t (elements s) → Enters c (elements s) (top (withVolume s) 4) t
-elements-close c s t x = alike c (elements s) (top (withVolume s) 4) t (volume-closed c s) refl refl x
+elements-close c s t x = alike c (elements s) (top (withVolume s) 4) t (volume-closed c s) refl refl refl x
 
 -- the next volume, and the end
 pub volume-anew : (c : Class) (s : Set) (t : List ℤ) → Scratch t (top s 4) → Enters c (top s 4) (top s 0) t
-volume-anew c s t x = alike c (top s 4) (top s 0) t refl refl refl x
+volume-anew c s t x = alike c (top s 4) (top s 0) t refl refl refl refl x
 
 pub eof-enters : (c : Class) (s : Set) (t : List ℤ) → Scratch t (top s 4) → Enters c (top s 4) (ended s) t
-eof-enters c s t x = alike c (top s 4) (ended s) t refl refl refl x
+eof-enters c s t x = alike c (top s 4) (ended s) t refl refl refl refl x
 
 -- ── a figure's text ──
 pub text-row : (c : Class) (s : Set) (h : Home) (fs : List Figure) (n : ℕ) (o : Slots) (t : List ℤ) → Scratch t (texts s h fs n o) → (j : ℕ) (v : Value) → length o ≡ 2
@@ -152,7 +152,7 @@ text-row c s h fs n o t x j v slots it =
       scratch =
           scratch-figure t (texts s h fs n o) (texts s h fs n (set o j (some v))) x (putLine rule 0 v (partAt 32 t))
           (length-line rule 0 v (partAt 32 t) ∙ ap length (x .figure) ∙ text-length (homeMore h) (homeOwner s h) (homeVolume s h) n o)
-          (ap (putLine rule 0 v) (x .figure) ∙ text-entry (isLayer h) o j v (homeMore h) (homeOwner s h) (homeVolume s h) n slots it) refl;
+          (ap (putLine rule 0 v) (x .figure) ∙ text-entry (isLayer h) o j v (homeMore h) (homeOwner s h) (homeVolume s h) n slots it) refl refl;
     }
 
 -- ── a placed symbol ──
@@ -173,9 +173,9 @@ module _ (c : Class) (s : Set) (k : ℕ) (fs : List Figure) (n : ℕ) (o : Held)
         scratch =
             scratch-figure t (placing s k fs n (symbolBlock o) p) (placing s k fs n (symbolBlock (enter o q j v)) p′) x (putLine rule 0 v (partAt 32 t))
             (length-line rule 0 v (partAt 32 t) ∙ ap length (x .figure) ∙ length-held placedTables o begun)
-            (ap (putLine rule 0 v) (x .figure) ∙ placed-entry o q j v begun shape h it (housed-part q h)) refl;
+            (ap (putLine rule 0 v) (x .figure) ∙ placed-entry o q j v begun shape h it (housed-part q h)) refl refl;
       }
 
   -- the end of its text
   pub part-close : (p p′ : ℕ) → Scratch t (placing s k fs n (symbolBlock o) p) → Enters c (placing s k fs n (symbolBlock o) p) (placing s k fs n (symbolBlock o) p′) t
-  part-close p p′ x = alike c (placing s k fs n (symbolBlock o) p) (placing s k fs n (symbolBlock o) p′) t refl refl refl x
+  part-close p p′ x = alike c (placing s k fs n (symbolBlock o) p) (placing s k fs n (symbolBlock o) p′) t refl refl refl refl x

@@ -2,6 +2,7 @@
 use Prim.Native.Nat.{ℕ, zero, suc, _+_, _*_, _≤_, _<_}
 use mathlib.Core.Bool.{Bool, true, false, cond, _&&_, _||_, not}
 use mathlib.Core.List.{List, [], _∷_, _++_, map}
+use mathlib.Core.Option.{none}
 use mathlib.Core.Path.{_≡_, refl, sym, _∙_, ap, subst}
 use native.Mathlib.Omega.{arith}
 use borrow.Author.Tests.{eqb-true, eq-eqb, leb-true, not-true}
@@ -13,17 +14,18 @@ use Rattle.rules.specs.declared.Class.{Class}
 use Rattle.rules.specs.declared.LineForm.{LineForm}
 use Rattle.rules.specs.Base.{flat, isNil, hasNumber}
 use Rattle.rules.specs.RefusalNumbers.{got, unless}
-use Rattle.rules.specs.RangeClass.{digitsOf}
+use Rattle.rules.specs.RangeClass.{digitsOf, knowsWires}
 use Rattle.rules.specs.Lines.{Rest, brace, formIn}
 use Rattle.rules.specs.Values.{Known, Value, nums, numsOf}
 use Rattle.rules.specs.Rows.{Rule, Held, blank, rowsThere, rowsAtLimit, Act, stay, entry, begin, shut, refuse, act, innerOf}
 use Rattle.rules.specs.Blocks.{blankHeld}
 use Rattle.rules.specs.Figures.{textTable, placedTables}
-use Rattle.rules.specs.Sets.{Figure, plain, Symbol, Set, symbolRange, rangeOf, knownOf, withRecords, symbolFigures, usedIn}
+use Rattle.rules.specs.Sets.{Figure, plain, Symbol, Set, symbolRange, wireRange, rangeOf, knownOf, withRecords, symbolFigures, usedIn}
 use Rattle.rules.specs.Machine as M
 use Rattle.rules.specs.Machine.{Line, Home, inElement, inLayer, isLayer, State, symbol, elements, figures, successive, texts, placing, byAct}
-use Rattle.rules.specs.RecordTable.{numbers, ruleAt, start, kindLine, kindSuccessive, kindText, kindPlaced}
-use Rattle.rules.specs.Machine.{symbolBlock, kindIn}
+use Rattle.rules.specs.RecordTable.{numbers, ruleAt, start, kindLine, kindSuccessive, kindText, kindPlaced, kindWire, kindWireMore}
+use Rattle.rules.specs.Machine.{symbolBlock, kindIn, noWire, beginWire, setOf, unlimited}
+use Rattle.rules.specs.LineByLine.{stepIn}
 use Rattle.rules.proofs.Chains.{clash, and-left, and-right, same-eq, or-left}
 use Rattle.rules.proofs.Rows.{row-at, row-all, found-row}
 use Rattle.tables.specs.Tables.{tableOf}
@@ -35,11 +37,14 @@ use Rattle.account.specs.declared.Step.{Step}
 use Rattle.account.specs.declared.Step.the-variants as S
 use Rattle.account.specs.Placing.{fills}
 use Rattle.account.specs.Records.{partAt, withPart}
-use Rattle.account.specs.Account.{atBlock, recordMade}
+use Rattle.account.specs.declared.Complete.the-variants as C
+use Rattle.account.specs.Account.{atBlock, headAt, recordMade}
+use Rattle.account.specs.Putting.{completed}
+use Rattle.account.specs.WireLines.{wireBegun, begunStep, begunPut}
 use Rattle.standing.specs.SoFar.{homeOwner, homeVolume, homeMore, homeFigure, emptyRecord}
-use Rattle.standing.specs.Kept.{Scratch, Begins, Enters}
+use Rattle.standing.specs.Kept.{Scratch, Opens, Begins, Enters}
 use Rattle.standing.specs.Reading.{tallyAfter}
-use Rattle.standing.specs.Standing.{Desk, InHome, InSymbol, Stands, Counted, LineHere, StepOut, formSize, restSize}
+use Rattle.standing.specs.Standing.{Desk, InHome, InSymbol, Inside, Stands, Counted, LineHere, Goes, StepOut, formSize, restSize, openFigures, nameBytes, serialBytes}
 use Rattle.account.specs.FigureLines.{homeTable, homeRows, homeRule, lineKind, blockKind, moreFigures, figureOpened, figuresClosed, figureStep, FigureRecord, unmarkedIf, MarksFor, FigureLine}
 use Rattle.account.proofs.RowsTaken.{entry-taken}
 use Rattle.standing.proofs.LineOrigins.{From, isValues, entry-from, begin-from, entry-nums}
@@ -52,7 +57,9 @@ use Rattle.standing.proofs.OpenersKept.{headOf, chain-opens, text-opens
 use Rattle.standing.proofs.EntriesKept.{element-close, layer-close}
 use Rattle.standing.proofs.ClosesKept.{line-fills}
 use Rattle.standing.proofs.ClearedKept.{line-there, line-cleared}
-use Rattle.standing.proofs.Standings.{deskWith, stands-on, known, deskKept, lengths-kept, nil-count, stands-still}
+use Rattle.standing.proofs.WireScratch.{wireScratch, scratch-wire, scratch-unread, wire-begun}
+use Rattle.standing.proofs.WireKept.{wire-opens, unread-opens, wire-sight, unread-sight}
+use Rattle.standing.proofs.Standings.{sight, deskWith, stands-on, known, deskKept, lengths-kept, nil-count, stands-still}
 use Rattle.standing.proofs.HomeFacts.{home-layered, home-owner, home-volume, home-on}
 use Rattle.standing.proofs.SlotLengths.{length-line}
 use Rattle.standing.proofs.Marks.{marks-length}
@@ -67,8 +74,8 @@ or-second false b q e = e
 -- ── the act that the code goes by ──
 abbrev pub figureAct : List ℕ → Desk → LineForm → Act
 figureAct spool d form =
-    act (knownIn spool (take (getD (d .tally) 9 0) (d .symbols)) (take (getD (d .tally) 10 0) (d .layers))) (tableOf (homeTable (d .now .layered) (getD (d .tally) 1 0))) (digitsOf (getD (d .tally) 1 0))
-    (replicate (homeRows (d .now .layered)) false) (formIn spool form)
+    act (knownIn spool (take (getD (d .tally) 9 0) (d .symbols)) (take (getD (d .tally) 10 0) (d .layers))) (tableOf (homeTable (d .now .layered) (getD (d .tally) 1 0) (getD (d .tally) 12 0)))
+    (digitsOf (getD (d .tally) 1 0)) (replicate (homeRows (d .now .layered) (getD (d .tally) 12 0)) false) (formIn spool form)
 
 -- ── the tally behind the line ──
 abbrev pub deskLent : Desk → List ℕ → List Bool → List Bool → List ℤ → Desk
@@ -78,6 +85,9 @@ module _ (c : Class) (spool : List ℕ) (k : ℕ) (FileHere : Desk → Set → �
     (x : LineHere spool k at to form w l) (s : Set) (fs : List Figure) where
   abbrev range : ℕ
   range = getD (d .tally) 1 0
+
+  abbrev wires : ℕ
+  wires = getD (d .tally) 12 0
 
   abbrev rec₀ : List ℤ
   rec₀ = partAt 32 (d .scratch)
@@ -104,16 +114,22 @@ module _ (c : Class) (spool : List ℕ) (k : ℕ) (FileHere : Desk → Set → �
     range-here : range ≡ symbolRange s
     range-here = ap (λ (t : List ℕ). getD t 1 0) (z .tally)
 
-    rows-here : tableOf (homeTable (d .now .layered) range) ≡ rows
-    rows-here = ap (λ (y : Bool). tableOf (homeTable y range)) layered ∙ ap (λ (m : ℕ). tableOf (homeTable (isLayer h) m)) range-here ∙ home-rows s h
+    wires-here : wires ≡ wireRange s
+    wires-here = ap (λ (t : List ℕ). getD t 12 0) (z .tally)
+
+    rows-here : tableOf (homeTable (d .now .layered) range wires) ≡ rows
+    rows-here =
+        ap (λ (y : Bool). tableOf (homeTable y range wires)) layered ∙ ap (λ (m : ℕ). tableOf (homeTable (isLayer h) m wires)) range-here
+        ∙ ap (λ (m : ℕ). tableOf (homeTable (isLayer h) (symbolRange s) m)) wires-here ∙ home-rows s h
 
     figures-act : figureAct spool d form ≡ did
     figures-act =
-        let f : List Bool = replicate (homeRows (d .now .layered)) false in
-        ap (λ (m : Known). act m (tableOf (homeTable (d .now .layered) range)) (digitsOf range) f (formIn spool form)) (known c spool k FileHere d at to st st z refl)
+        let f : List Bool = replicate (homeRows (d .now .layered) wires) false in
+        ap (λ (m : Known). act m (tableOf (homeTable (d .now .layered) range wires)) (digitsOf range) f (formIn spool form)) (known c spool k FileHere d at to st st z refl)
         ∙ ap (λ (t : List Rule). act (knownOf s) t (digitsOf range) f (formIn spool form)) rows-here
         ∙ ap (λ (m : ℕ). act (knownOf s) rows (digitsOf m) f (formIn spool form)) range-here
-        ∙ ap (λ (y : Bool). act (knownOf s) rows (rangeOf s) (replicate (homeRows y) false) (formIn spool form)) layered
+        ∙ ap (λ (y : Bool). act (knownOf s) rows (rangeOf s) (replicate (homeRows y wires) false) (formIn spool form)) layered
+        ∙ ap (λ (m : ℕ). act (knownOf s) rows (rangeOf s) (replicate (homeRows (isLayer h) m) false) (formIn spool form)) wires-here
         ∙ ap (λ (y : List Bool). act (knownOf s) rows (rangeOf s) y (formIn spool form)) (home-full s h)
         ∙ ap (act (knownOf s) rows (rangeOf s) (rowsAtLimit 0 rows)) (sym (x .is))
 
@@ -148,11 +164,11 @@ module _ (c : Class) (spool : List ℕ) (k : ℕ) (FileHere : Desk → Set → �
       abbrev headed : ℕ → List ℤ → List ℤ
       headed kind r = sets r 0 (heading kind)
 
-      put : (j : ℕ) (v : Value) (kind kind′ : ℕ) → kind ≡ kind′ → rec₁ ≡ recordMade kind (d .now) w (homeRule (d .now .layered) range j) v rec₀
+      put : (j : ℕ) (v : Value) (kind kind′ : ℕ) → kind ≡ kind′ → rec₁ ≡ recordMade kind (d .now) w (homeRule (d .now .layered) range wires j) v rec₀
           → rec₁ ≡ headed kind′ (putLine (ruleAt rows j) 0 v emptyRecord)
       put j v kind kind′ g q =
           q
-          ∙ line-put (d .now) w kind (homeOwner s h) (homeVolume s h) (l .line) (homeRule (d .now .layered) range j) v rec₀ (z .scratch .figure)
+          ∙ line-put (d .now) w kind (homeOwner s h) (homeVolume s h) (l .line) (homeRule (d .now .layered) range wires j) v rec₀ (z .scratch .figure)
           (home-owner spool k (d .now) (d .marks) (d .inner) s h home) (x .volume ∙ home-volume spool k (d .now) (d .marks) (d .inner) s h home) (x .line)
           ∙ ap (λ (y : List Rule). headed kind (putLine (ruleAt y j) 0 v emptyRecord)) rows-here
           ∙ ap (λ (m : ℕ). headed m (putLine (ruleAt rows j) 0 v emptyRecord)) g
@@ -188,7 +204,7 @@ module _ (c : Class) (spool : List ℕ) (k : ℕ) (FileHere : Desk → Set → �
         abbrev made : List ℤ
         made = lineMade s h (l .line) j (numsOf v)
 
-        on-entry : Counted c own d st → rec₁ ≡ recordMade (lineKind (d .now .layered) j) (d .now) w (homeRule (d .now .layered) range j) v rec₀ → m₁ ≡ d .marks → i₁ ≡ d .inner
+        on-entry : Counted c own d st → rec₁ ≡ recordMade (lineKind (d .now .layered) j) (d .now) w (homeRule (d .now .layered) range wires j) v rec₀ → m₁ ≡ d .marks → i₁ ≡ d .inner
             → Out (S.Go (moreFigures (d .now)))
         on-entry count q qm qi =
             let n : Now = moreFigures (d .now) in
@@ -201,7 +217,7 @@ module _ (c : Class) (spool : List ℕ) (k : ℕ) (FileHere : Desk → Set → �
             let there : partAt 32 t₁ ≡ rec₁ = line-there (d .scratch) rec₁ st long (z .scratch) in
             with-marks n qm qi
             (goes-filling c spool k FileHere own l to st (deskWith d (d .now) (d .marks) (d .inner) t₁) n st′ (ap (byAct _ _ _ _) a) 32 (d .now .records)
-            (completed-line (d .now) n 8 (z .block .0) refl (z .block .0) refl) (number-same (d .now) n own refl) 1 refl refl
+            (completed-line (d .now) n 8 32 (z .block .0) refl (z .block .0) refl) (number-same (d .now) n own refl) 1 refl refl
             (line-fills c s kind h fs now-plain (d .now .records) (count .size) t₁ (ap length there ∙ long) (sym made-is ∙ ap (λ (r : List ℤ). r ∷ []) (sym (there ∙ p))))
             (stands-on c spool k FileHere d at to st st′ z n (d .marks) (d .inner) (withPart 32 emptyRecord t₁) (plain-sight kind s h fs (l .line) j (numsOf v)) (z .lengths .marks) (z .lengths .inner)
             (line-cleared s (kind ∷ []) h fs (fs ++ now-plain ∷ []) (d .scratch) rec₁ long (z .scratch))
@@ -235,7 +251,7 @@ module _ (c : Class) (spool : List ℕ) (k : ℕ) (FileHere : Desk → Set → �
             omega (arith, begun .0, leb-true (innerOf (q .holds)) (mostBlock h) (and-right (leb 1 (innerOf (q .holds))) (leb (innerOf (q .holds)) (mostBlock h)) (and-right (isOpens (q .holds)) _ is-block)))
 
         -- the record has its head alone
-        put-begun : (kind : ℕ) → blockKind (isLayer h) i ≡ kind → rec₁ ≡ recordMade (blockKind (d .now .layered) i) (d .now) w (homeRule (d .now .layered) range j) v rec₀
+        put-begun : (kind : ℕ) → blockKind (isLayer h) i ≡ kind → rec₁ ≡ recordMade (blockKind (d .now .layered) i) (d .now) w (homeRule (d .now .layered) range wires j) v rec₀
             → rec₁ ≡ start kind (homeOwner s h) (homeVolume s h) (l .line)
         put-begun kind g y =
             let none-put : putLine (ruleAt rows j) 0 v emptyRecord ≡ emptyRecord =
@@ -254,7 +270,7 @@ module _ (c : Class) (spool : List ℕ) (k : ℕ) (FileHere : Desk → Set → �
       on-scratch st′ made q o = subst (λ (r : List ℤ). Scratch (withPart 32 r (d .scratch)) st′) (sym q) o
 
       -- `successive`
-      on-chain : (j : ℕ) (v : Value) → did ≡ begin 1 j v → rec₁ ≡ recordMade (blockKind (d .now .layered) 1) (d .now) w (homeRule (d .now .layered) range j) v rec₀
+      on-chain : (j : ℕ) (v : Value) → did ≡ begin 1 j v → rec₁ ≡ recordMade (blockKind (d .now .layered) 1) (d .now) w (homeRule (d .now .layered) range wires j) v rec₀
           → m₁ ≡ d .marks → i₁ ≡ d .inner → Out (S.Go (figureOpened (d .now) 1))
       on-chain j v a q qm qi =
           let n : Now = figureOpened (d .now) 1 in
@@ -270,7 +286,7 @@ module _ (c : Class) (spool : List ℕ) (k : ℕ) (FileHere : Desk → Set → �
           (refl, record { home = home-on spool k (d .now) n (d .marks) (d .inner) (d .inner) s (kind ∷ []) h refl refl home; figures = z .block .2; points = refl; few = omega arith })))
 
       -- a text
-      on-text : (j : ℕ) (v : Value) → did ≡ begin 2 j v → rec₁ ≡ recordMade (blockKind (d .now .layered) 2) (d .now) w (homeRule (d .now .layered) range j) v rec₀
+      on-text : (j : ℕ) (v : Value) → did ≡ begin 2 j v → rec₁ ≡ recordMade (blockKind (d .now .layered) 2) (d .now) w (homeRule (d .now .layered) range wires j) v rec₀
           → m₁ ≡ d .marks → i₁ ≡ replicate (length (d .inner)) false → Out (S.Go (figureOpened (d .now) 2))
       on-text j v a q qm qi =
           let n : Now = figureOpened (d .now) 2 in
@@ -296,7 +312,7 @@ module _ (c : Class) (spool : List ℕ) (k : ℕ) (FileHere : Desk → Set → �
     t = withPart 32 rec₁ (d .scratch)
 
     -- a placed symbol
-    on-placed : (j : ℕ) (v : Value) → did h z ≡ begin 3 j v → rec₁ ≡ recordMade (blockKind (d .now .layered) 3) (d .now) w (homeRule (d .now .layered) range j) v rec₀
+    on-placed : (j : ℕ) (v : Value) → did h z ≡ begin 3 j v → rec₁ ≡ recordMade (blockKind (d .now .layered) 3) (d .now) w (homeRule (d .now .layered) range wires j) v rec₀
         → m₁ ≡ replicate (length (d .marks)) false → i₁ ≡ d .inner → Out h z m₁ i₁ rec₁ (S.Go (figureOpened (d .now) 3))
     on-placed j v a q qm qi =
         let n : Now = figureOpened (d .now) 3 in
@@ -328,6 +344,56 @@ module _ (c : Class) (spool : List ℕ) (k : ℕ) (FileHere : Desk → Set → �
             opened = λ y. absurd (omega (arith, y));
           },
         )))
+
+    -- a wire: its second record gets its head behind the line, and it is read or skipped whole
+    abbrev begunDesk : Desk
+    begunDesk = deskWith d (d .now) m₁ i₁ (headAt 64 kindWireMore (d .now .owner) w t)
+
+    module _ (j : ℕ) (v : Value) (a : did h z ≡ begin 4 j v) (q : rec₁ ≡ recordMade (blockKind (d .now .layered) 4) (d .now) w (homeRule (d .now .layered) range wires j) v rec₀) (qm : m₁ ≡ d .marks)
+        (qi : i₁ ≡ d .inner) where
+      abbrev opened-now : Now
+      opened-now = figureOpened (d .now) 4
+
+      abbrev ks : List ℕ
+      ks = kindWire ∷ kindWireMore ∷ []
+
+      -- what stands on the scratch then
+      begun-scratch : headAt 64 kindWireMore (d .now .owner) w t ≡ wireScratch m (homeVolume s h) (l .line) none
+      begun-scratch =
+          wire-begun s m fs (l .line) (d .scratch) rec₁ (z .scratch) (d .now .owner) w (put-begun h z m₁ i₁ rec₁ 4 j v a 18 refl q)
+          (home-owner spool k (d .now) (d .marks) (d .inner) s h (z .block .1)) (x .volume ∙ home-volume spool k (d .now) (d .marks) (d .inner) s h (z .block .1)) (x .line)
+
+      -- st′: the wire's state; n′: what is open there
+      on-begun : (st′ : State) (n′ : Now) → stepIn (unlimited c) l (figures s h fs) ≡ got st′ → completed (d .now) n′ ≡ C.Nothing → n′ .records ≡ d .now .records + 2
+          → setOf st′ .taken ≡ s .taken + 2 → Opens c (figures s h fs) st′ 2 → sight (figures s h fs) ≡ sight st′ → Scratch (wireScratch m (homeVolume s h) (l .line) none) st′
+          → openFigures st′ ≡ length fs + 0 → nameBytes st′ ≡ 0 → serialBytes st′ ≡ 20
+          → Inside c spool k (deskWith d n′ m₁ i₁ (headAt 64 kindWireMore (d .now .owner) w t)) (FileHere (deskWith d n′ m₁ i₁ (headAt 64 kindWireMore (d .now .owner) w t))) st′
+          → Goes c spool k FileHere own l to (figures s h fs) begunDesk n′
+      on-begun st′ n′ step none-made taken-more taken opens seen begun few named numbered block =
+          goes-opening c spool k FileHere own l to (figures s h fs) begunDesk n′ st′ step none-made 2 taken-more taken opens
+          (stands-on c spool k FileHere d at to (figures s h fs) st′ z n′ m₁ i₁ (headAt 64 kindWireMore (d .now .owner) w t) seen (ap length qm ∙ z .lengths .marks) (ap length qi ∙ z .lengths .inner)
+          (subst (λ (u : List ℤ). Scratch u st′) (sym begun-scratch) begun)
+          (omega (arith, z .counted, later, few)) (omega (arith, z .named, later, named)) (omega (arith, z .numbered, later, numbered)) block)
+
+      abbrev Begun : Bool → Type 0
+      Begun b =
+          StepOut c spool k FileHere own l to (figures s h fs)
+          (deskLent d (tallyAfter (d .tally) (S.Go (cond b opened-now (atBlock opened-now 12 2)))) m₁ i₁ (headAt 64 kindWireMore (d .now .owner) w t))
+          (S.Go (cond b opened-now (atBlock opened-now 12 2)))
+
+      step-is : (b : Bool) → knowsWires c ≡ b → stepIn (unlimited c) l (figures s h fs) ≡ got (beginWire b (withRecords ks s) m fs (l .line))
+      step-is b e = ap (byAct _ _ _ _) a ∙ ap (λ (y : Bool). got (beginWire y (withRecords ks s) m fs (l .line))) e
+
+      on-wire : (b : Bool) → knowsWires c ≡ b → Begun b
+      on-wire true e =
+          on-begun (beginWire true (withRecords ks s) m fs (l .line)) opened-now (step-is true e) (completed-by (d .now) opened-now 8 12 (z .block .0) refl) refl refl
+          (wire-opens c s ks m fs (l .line)) (wire-sight ks s m fs (l .line) noWire) (scratch-wire (withRecords ks s) m fs (l .line) noWire none refl) refl refl refl
+          (refl, refl, record { home = home-on spool k (d .now) opened-now (d .marks) (d .inner) (d .inner) s ks h refl refl (z .block .1); figures = z .block .2; part = refl; points = refl })
+      on-wire false e =
+          let n′ : Now = atBlock opened-now 12 2 in
+          on-begun (beginWire false (withRecords ks s) m fs (l .line)) n′ (step-is false e) (completed-by (d .now) n′ 8 12 (z .block .0) refl) refl refl
+          (unread-opens c s ks m fs (l .line)) (unread-sight ks s m fs (l .line) 0) (scratch-unread (withRecords ks s) m fs (l .line) 0) refl refl refl
+          (refl, omega arith, record { home = home-on spool k (d .now) n′ (d .marks) (d .inner) (d .inner) s ks h refl refl (z .block .1); figures = z .block .2; part = refl; points = refl })
 
     -- its end
     on-layer-end : did h z ≡ shut → rec₁ ≡ rec₀ → m₁ ≡ d .marks → i₁ ≡ d .inner
@@ -397,14 +463,20 @@ module _ (c : Class) (spool : List ℕ) (k : ℕ) (FileHere : Desk → Set → �
 
   -- ── the line ──
   module _ (h : Home) (z : Stands c spool k d (FileHere d) at (figures s h fs)) (m₁ i₁ : List Bool) (rec₁ : List ℤ) where
+    -- f: the step of the figures' own part of the line
     abbrev Tallied : Step → Type 0
-    Tallied r = StepOut c spool k FileHere own l to (figures s h fs) (deskLent d (tallyAfter (d .tally) r) m₁ i₁ (withPart 32 rec₁ (d .scratch))) r
+    Tallied f =
+        StepOut c spool k FileHere own l to (figures s h fs) (deskLent d (tallyAfter (d .tally) (begunStep c f)) m₁ i₁ (begunPut w f (withPart 32 rec₁ (d .scratch)))) (begunStep c f)
 
-    -- no layer closed
+    -- no layer closed, and no wire opened
     same-tally : (n : Now) → n .block ≡ 8 → Out h z m₁ i₁ rec₁ (S.Go n) → Tallied (S.Go n)
     same-tally n q o =
-        subst (λ (t : List ℕ). StepOut c spool k FileHere own l to (figures s h fs) (deskLent d t m₁ i₁ (withPart 32 rec₁ (d .scratch))) (S.Go n))
-        (sym (ap (λ (m : ℕ). cond (eqb m 7) (set (d .tally) 7 (getD (d .tally) 7 0 + n .figures)) (d .tally)) q)) o
+        let t : List ℤ = withPart 32 rec₁ (d .scratch) in
+        let other : eqb (n .block) 12 ≡ false = ap (λ (m : ℕ). eqb m 12) q in
+        let stays-open : eqb (n .block) 7 ≡ false = ap (λ (m : ℕ). eqb m 7) q in
+        subst (λ (b : Bool). StepOut c spool k FileHere own l to (figures s h fs)
+        (deskLent d (tallyAfter (d .tally) (cond b (S.Go (wireBegun c n)) (S.Go n))) m₁ i₁ (cond b (headAt 64 kindWireMore (n .owner) w t) t)) (cond b (S.Go (wireBegun c n)) (S.Go n))) (sym other)
+        (subst (λ (b : Bool). StepOut c spool k FileHere own l to (figures s h fs) (deskLent d (cond b (set (d .tally) 7 (getD (d .tally) 7 0 + n .figures)) (d .tally)) m₁ i₁ t) (S.Go n)) (sym stays-open) o)
 
   on-end : (h : Home) (z : Stands c spool k d (FileHere d) at (figures s h fs)) (m₁ i₁ : List Bool) (rec₁ : List ℤ) → did h z ≡ shut → rec₁ ≡ rec₀ → m₁ ≡ d .marks → i₁ ≡ d .inner
       → Tallied h z m₁ i₁ rec₁ (figuresClosed (d .now))
@@ -420,26 +492,29 @@ module _ (c : Class) (spool : List ℕ) (k : ℕ) (FileHere : Desk → Set → �
       (on-layer-end m z m₁ i₁ rec₁ a q qm qi)
 
   on-open : (h : Home) (z : Stands c spool k d (FileHere d) at (figures s h fs)) (m₁ i₁ : List Bool) (rec₁ : List ℤ) (i j : ℕ) (v : Value) → did h z ≡ begin i j v
-      → rec₁ ≡ recordMade (blockKind (d .now .layered) i) (d .now) w (homeRule (d .now .layered) range j) v rec₀
+      → rec₁ ≡ recordMade (blockKind (d .now .layered) i) (d .now) w (homeRule (d .now .layered) range wires j) v rec₀
       → m₁ ≡ unmarkedIf (eqb i 3) (d .marks) → i₁ ≡ unmarkedIf (eqb i 2) (d .inner) → Tallied h z m₁ i₁ rec₁ (S.Go (figureOpened (d .now) i))
   on-open h z m₁ i₁ rec₁ zero j v a q qm qi = absurd (omega (arith, from-one h z m₁ i₁ rec₁ 0 j v a))
   on-open h z m₁ i₁ rec₁ (suc zero) j v a q qm qi = on-chain h z m₁ i₁ rec₁ j v a q qm qi
   on-open h z m₁ i₁ rec₁ (suc (suc zero)) j v a q qm qi = on-text h z m₁ i₁ rec₁ j v a q qm qi
   on-open (inElement y) z m₁ i₁ rec₁ (suc (suc (suc i))) j v a q qm qi = absurd (omega (arith, at-most (inElement y) z m₁ i₁ rec₁ (suc (suc (suc i))) j v a))
   on-open (inLayer m) z m₁ i₁ rec₁ (suc (suc (suc zero))) j v a q qm qi = on-placed m z m₁ i₁ rec₁ j v a q qm qi
-  on-open (inLayer m) z m₁ i₁ rec₁ (suc (suc (suc (suc i)))) j v a q qm qi = absurd (omega (arith, at-most (inLayer m) z m₁ i₁ rec₁ (suc (suc (suc (suc i)))) j v a))
+  on-open (inLayer m) z m₁ i₁ rec₁ (suc (suc (suc (suc zero)))) j v a q qm qi = on-wire m z m₁ i₁ rec₁ j v a q qm qi (knowsWires c) refl
+  on-open (inLayer m) z m₁ i₁ rec₁ (suc (suc (suc (suc (suc i))))) j v a q qm qi = absurd (omega (arith, at-most (inLayer m) z m₁ i₁ rec₁ (suc (suc (suc (suc (suc i))))) j v a))
 
   module _ (h : Home) (z : Stands c spool k d (FileHere d) at (figures s h fs)) (y : Counted c own d (figures s h fs)) (m₁ i₁ : List Bool) (rec₁ : List ℤ) where
-    by-act : (f : Act) → did h z ≡ f → FigureRecord (d .now) range w rec₀ rec₁ f → MarksFor 3 (d .marks) m₁ f → MarksFor 2 (d .inner) i₁ f → Tallied h z m₁ i₁ rec₁ (figureStep (d .now) f)
+    by-act : (f : Act) → did h z ≡ f → FigureRecord (d .now) range wires w rec₀ rec₁ f → MarksFor 3 (d .marks) m₁ f → MarksFor 2 (d .inner) i₁ f → Tallied h z m₁ i₁ rec₁ (figureStep (d .now) f)
     by-act stay a q qm qi = same-tally h z m₁ i₁ rec₁ (d .now) (z .block .0) (on-stay h z m₁ i₁ rec₁ a q qm qi)
     by-act (entry j v) a q qm qi = same-tally h z m₁ i₁ rec₁ (moreFigures (d .now)) (z .block .0) (on-entry h z m₁ i₁ rec₁ j v a y q qm qi)
     by-act (begin i j v) a q qm qi = on-open h z m₁ i₁ rec₁ i j v a q qm qi
     by-act shut a q qm qi = on-end h z m₁ i₁ rec₁ a q qm qi
     by-act (refuse m) a q qm qi = on-refuse h z m₁ i₁ rec₁ m a
 
-    pub figures-line : (r : Step) → FigureLine (figureAct spool d form) (d .now) (getD (d .tally) 1 0) w (partAt 32 (d .scratch)) rec₁ (d .marks) m₁ (d .inner) i₁ r
-        → StepOut c spool k FileHere own l to (figures s h fs) (deskLent d (tallyAfter (d .tally) r) m₁ i₁ (withPart 32 rec₁ (d .scratch))) r
-    figures-line r f =
+    -- f: the figures' own part; behind it a wire that opened is begun
+    pub figures-line : (f : Step)
+        → FigureLine (figureAct spool d form) (d .now) (getD (d .tally) 1 0) (getD (d .tally) 12 0) w (partAt 32 (d .scratch)) rec₁ (d .marks) m₁ (d .inner) i₁ f
+        → StepOut c spool k FileHere own l to (figures s h fs) (deskLent d (tallyAfter (d .tally) (begunStep c f)) m₁ i₁ (begunPut w f (withPart 32 rec₁ (d .scratch)))) (begunStep c f)
+    figures-line f y =
         let p : figureAct spool d form ≡ did h z = figures-act h z in
-        subst (Tallied h z m₁ i₁ rec₁) (sym (f .answer ∙ ap (figureStep (d .now)) p))
-        (by-act (did h z) refl (subst (FigureRecord (d .now) range w rec₀ rec₁) p (f .rec)) (subst (MarksFor 3 (d .marks) m₁) p (f .marks)) (subst (MarksFor 2 (d .inner) i₁) p (f .inner)))
+        subst (Tallied h z m₁ i₁ rec₁) (sym (y .answer ∙ ap (figureStep (d .now)) p))
+        (by-act (did h z) refl (subst (FigureRecord (d .now) range wires w rec₀ rec₁) p (y .rec)) (subst (MarksFor 3 (d .marks) m₁) p (y .marks)) (subst (MarksFor 2 (d .inner) i₁) p (y .inner)))

@@ -10,7 +10,7 @@ use lib.ListN.{length, getD}
 use Rattle.rules.specs.declared.Class.{Class}
 use Rattle.rules.specs.Base.{isNil, same, total}
 use Rattle.rules.specs.Rows.{Held}
-use Rattle.rules.specs.Sets.{Drawing, Symbol, Contents, Set, withNow, arcOf, symbolRange, defineRange, elementsOf}
+use Rattle.rules.specs.Sets.{Drawing, Symbol, Contents, Set, withNow, arcOf, symbolRange, defineRange, wireRange, elementsOf}
 use Rattle.rules.specs.VolumesAndTotals.{chained, dated}
 use Rattle.rules.specs.Machine.{Line, top, file}
 use Rattle.rules.proofs.Chains.{clash}
@@ -61,7 +61,7 @@ module _ (c : Class) (spool : List ℕ) (k : ℕ) (d : Desk) (at to : ℕ) (dr :
         let hd : List ℤ = d .header in
         let s′ : Set = headed [] in
         let one : k ≡ 1 = f .volume in
-        let said : ℕ → ℕ → ℕ → ℕ → ℕ → ℕ → ℕ → List ℕ = λ a b c d e f g. a ∷ b ∷ c ∷ d ∷ e ∷ f ∷ g ∷ 0 ∷ 0 ∷ length sy ∷ length (dr .layers) ∷ 0 ∷ [] in
+        let said : ℕ → ℕ → ℕ → ℕ → ℕ → ℕ → ℕ → ℕ → List ℕ = λ a b c d e f g i. a ∷ b ∷ c ∷ d ∷ e ∷ f ∷ g ∷ 0 ∷ 0 ∷ length sy ∷ length (dr .layers) ∷ 0 ∷ i ∷ [] in
         record {
           lengths = lengths-kept d (atBlock (d .now) 0 1) tally₁ m₁ (d .inner) h₁ (d .scratch) (z .lengths) (ap length em ∙ z .lengths .marks) (z .lengths .inner) (ap length eh ∙ z .lengths .header) (z .lengths .scratch);
           scratch = file-cleared (setWith []) n h p (d .scratch) (z .scratch);
@@ -69,10 +69,10 @@ module _ (c : Class) (spool : List ℕ) (k : ℕ) (d : Desk) (at to : ℕ) (dr :
           this = λ _. refl;
           tally =
               et ∙ ap (firstTally hd) (z .tally)
-              ∙ ap₂ (λ (a b : ℕ). said a b (countAt hd 11) (countAt hd 14) (countAt hd 15) (countAt hd 13) (countAt hd 38)) (arc-back k n h hd (f .header) (f .filled) (f .counted)) (sym-back k n h hd (f .header) (f .filled) (f .counted))
-              ∙ ap₂ (λ (a b : ℕ). said (arcOf s′) (symbolRange s′) a b (countAt hd 15) (countAt hd 13) (countAt hd 38)) (elec-back k n h hd (f .header) (f .filled) (f .counted)) (date-back k n h hd (f .header) (f .filled) (f .counted))
-              ∙ ap₂ (λ (a b : ℕ). said (arcOf s′) (symbolRange s′) (defineRange s′) (fileNumber "date" s′) a b (countAt hd 38)) (time-back k n h hd (f .header) (f .filled) (f .counted)) (all-back k n h hd (f .header) (f .filled) (f .counted))
-              ∙ ap (said (arcOf s′) (symbolRange s′) (defineRange s′) (fileNumber "date" s′) (fileNumber "time" s′) (fileNumber "all_ele" s′)) (this-back k n h hd (f .header) (f .filled) (f .counted));
+              ∙ ap₂ (λ (a b : ℕ). said a b (countAt hd 11) (countAt hd 14) (countAt hd 15) (countAt hd 13) (countAt hd 38) (countAt hd 70)) (arc-back k n h hd (f .header) (f .filled) (f .counted)) (sym-back k n h hd (f .header) (f .filled) (f .counted))
+              ∙ ap₂ (λ (a b : ℕ). said (arcOf s′) (symbolRange s′) a b (countAt hd 15) (countAt hd 13) (countAt hd 38) (countAt hd 70)) (elec-back k n h hd (f .header) (f .filled) (f .counted)) (date-back k n h hd (f .header) (f .filled) (f .counted))
+              ∙ ap₂ (λ (a b : ℕ). said (arcOf s′) (symbolRange s′) (defineRange s′) (fileNumber "date" s′) a b (countAt hd 38) (countAt hd 70)) (time-back k n h hd (f .header) (f .filled) (f .counted)) (all-back k n h hd (f .header) (f .filled) (f .counted))
+              ∙ ap₂ (said (arcOf s′) (symbolRange s′) (defineRange s′) (fileNumber "date" s′) (fileNumber "time" s′) (fileNumber "all_ele" s′)) (this-back k n h hd (f .header) (f .filled) (f .counted)) (f .wires refl);
           symbols = z .symbols;
           layers = z .layers;
           few-layers = z .few-layers;
@@ -98,7 +98,7 @@ module _ (c : Class) (spool : List ℕ) (k : ℕ) (d : Desk) (at to : ℕ) (dr :
           this = λ _. refl;
           tally =
               et ∙ ap (laterTally hd) (z .tally)
-              ∙ ap (λ (a : ℕ). arcOf s′ ∷ symbolRange s′ ∷ defineRange s′ ∷ fileNumber "date" s′ ∷ fileNumber "time" s′ ∷ fileNumber "all_ele" s′ ∷ a ∷ 0 ∷ total elementsOf (y ∷ vs) ∷ length sy ∷ length (dr .layers) ∷ length (closedSerials s′) ∷ []) (later-back k n h hd (f .header) (f .filled) (f .counted));
+              ∙ ap (λ (a : ℕ). arcOf s′ ∷ symbolRange s′ ∷ defineRange s′ ∷ fileNumber "date" s′ ∷ fileNumber "time" s′ ∷ fileNumber "all_ele" s′ ∷ a ∷ 0 ∷ total elementsOf (y ∷ vs) ∷ length sy ∷ length (dr .layers) ∷ length (closedSerials s′) ∷ wireRange s′ ∷ []) (later-back k n h hd (f .header) (f .filled) (f .counted));
           symbols = z .symbols;
           layers = z .layers;
           few-layers = z .few-layers;

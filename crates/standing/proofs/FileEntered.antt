@@ -3,7 +3,7 @@ use Prim.Native.Nat.{ℕ, zero, suc, _+_, _<_}
 use mathlib.Core.Bool.{Bool, true, false}
 use mathlib.Core.List.{List, [], _∷_, map}
 use mathlib.Core.Option.{none, some}
-use mathlib.Core.Path.{_≡_, refl, sym, _∙_, ap, subst}
+use mathlib.Core.Path.{_≡_, refl, sym, _∙_, ap, ap₂, subst}
 use native.Mathlib.Omega.{arith}
 use borrow.Author.Tests.{eqb-true, eqb-false}
 use lib.Dec.{eqb}
@@ -12,7 +12,7 @@ use lib.ListN.{length, getD, set, take}
 use lib.Seq.{getD-set-same, getD-set-other}
 use Rattle.rules.specs.Base.{all}
 use Rattle.rules.specs.Lines.{span, bytesAt}
-use Rattle.rules.specs.Values.{Num, Value, nums, capital, day, clock, values, volumeName, nothingMore}
+use Rattle.rules.specs.Values.{Num, Value, nums, capital, rangeOfWires, day, clock, values, volumeName, nothingMore}
 use Rattle.rules.specs.Rows.{Rule, Slots, Held, partOf, enter, rowsThere, numberOf}
 use Rattle.rules.specs.Blocks.{fileTable, rangeTable, baseTable, elecTable, symTable, laterTable, fileTables}
 use Rattle.rules.specs.Sets.{Set, isFirst}
@@ -28,11 +28,12 @@ use Rattle.account.proofs.RowsTaken.{Taken}
 use Rattle.standing.proofs.Puts.{held-set}
 use Rattle.standing.proofs.Marks.{marks-set, mark-free}
 use Rattle.standing.proofs.Openers.{plainKind}
-use Rattle.account.proofs.FileParts.{first-other}
+use Rattle.account.proofs.FileParts.{first-other, wires-other-part}
 use Rattle.standing.proofs.FileKeeps.{nextRow, records-taken}
 use Rattle.standing.proofs.FilePartMarks.{part-open, part-number, mark-own, mark-other}
 use Rattle.standing.proofs.FileEntries.{NameHere}
 use Rattle.standing.proofs.FileNames.{next-on, date-on, time-on}
+use Rattle.standing.proofs.FileWires.{wires-on}
 use Rattle.standing.proofs.FileClosing.{fileDesk}
 use Rattle.standing.proofs.HeldParts.{enter-other, enter-own, shaped-enter, shaped-at}
 
@@ -76,6 +77,27 @@ time-kind true p j e o w = clash refl e
 time-kind false zero j e o w = (ap (λ (i : ℕ). ruleAt laterTable i .holds) w ∙ time-of .0, ap (λ (i : ℕ). ruleAt laterTable i .may) w ∙ time-of .1)
 time-kind false (suc p) j e o w = absurd (omega (arith, o .later refl))
 
+-- E_wire is a number; it stands in `elec`, which opens nothing
+wires-of : (ruleAt elecTable 1 .holds ≡ values rangeOfWires [] nothingMore) × (ruleAt elecTable 1 .may ≡ false)
+unfolding elecTable
+wires-of = (refl, refl)
+
+pub wires-kind : (first : Bool) (p j : ℕ) → PartOpen first p → p ≡ 3 → j ≡ 1
+    → (ruleAt (getD (fileTables first) p []) j .holds ≡ values rangeOfWires [] nothingMore) × (ruleAt (getD (fileTables first) p []) j .may ≡ false)
+wires-kind true p j o z w = (
+  ap₂ (λ (a b : ℕ). ruleAt (getD (fileTables true) a []) b .holds) z w ∙ wires-of .0,
+  ap₂ (λ (a b : ℕ). ruleAt (getD (fileTables true) a []) b .may) z w ∙ wires-of .1,
+)
+wires-kind false p j o z w = absurd (omega (arith, z, o .later refl))
+
+elec-plain : all (λ r. plainKind (r .holds)) elecTable ≡ true
+unfolding elecTable
+elec-plain = refl
+
+pub plain-elec : (first : Bool) (p : ℕ) → PartOpen first p → p ≡ 3 → all (λ r. plainKind (r .holds)) (getD (fileTables first) p []) ≡ true
+plain-elec true p o z = ap (λ (a : ℕ). all (λ r. plainKind (r .holds)) (getD (fileTables true) a [])) z ∙ elec-plain
+plain-elec false p o z = absurd (omega (arith, z, o .later refl))
+
 -- a later volume's FILE_FORMAT opens nothing
 pub plain-later : (first : Bool) (p : ℕ) → first ≡ false → PartOpen first p → all (λ r. plainKind (r .holds)) (getD (fileTables first) p []) ≡ true
 unfolding laterTable
@@ -84,12 +106,12 @@ plain-later false zero e o = refl
 plain-later false (suc p) e o = absurd (omega (arith, o .later refl))
 
 -- of a row that opens a part nothing is kept
-pub kept-open : (first : Bool) (p j : ℕ) (t : List ℤ) → (first ≡ false → ⊥) → (p ≡ 0 → j ≡ nextRow first → ⊥) → keptIn first p j t ≡ t
-kept-open true zero j t f n = sym (first-other j t (n refl))
-kept-open false zero j t f n = absurd (f refl)
-kept-open first (suc p) j t f n = refl
+pub kept-open : (first : Bool) (p j : ℕ) (t : List ℤ) → (first ≡ false → ⊥) → (p ≡ 0 → j ≡ nextRow first → ⊥) → (p ≡ 3 → ⊥) → keptIn first p j t ≡ t
+kept-open true zero j t f n w = sym (first-other j t (n refl))
+kept-open false zero j t f n w = absurd (f refl)
+kept-open first (suc p) j t f n w = sym (wires-other-part (suc p) j t w)
 
--- ── a later volume's date and time, by what the parts are ──
+-- ── a later volume's date and time, and the first one's E_wire, by what the parts are ──
 module _ (j : ℕ) (h : Held) (v : Value) (h₀ h₁ : List ℤ) (g : Header h₀) (c : all isCount (numbers v) ≡ true) where
   abbrev One : Type 0
   One = (n : Num) × (v ≡ nums (n ∷ []))
@@ -107,6 +129,12 @@ module _ (j : ℕ) (h : Held) (v : Value) (h₀ h₁ : List ℤ) (g : Header h�
   time-by true p o sh tk e y f a = clash refl f
   time-by false zero o sh tk e y f a = time-on j h v h₀ h₁ sh tk g c e (y f) a
   time-by false (suc p) o sh tk e y f a = absurd (omega (arith, o .later refl))
+
+  wires-by : (first : Bool) (p : ℕ) → PartOpen first p → Shaped 0 (fileTables first) h → Taken (getD (fileTables first) p []) (rowsThere (partOf h p)) j v
+      → h₁ ≡ keptIn first p j (putLine (ruleAt (getD (fileTables first) p []) j) 64 v h₀) → (p ≡ 3 → j ≡ 1 → One) → first ≡ true
+      → countAt h₀ 70 ≡ numberOf "E_wire" elecTable (partOf h 3) → countAt h₁ 70 ≡ numberOf "E_wire" elecTable (partOf (enter h p j v) 3)
+  wires-by true p o sh tk e y f a = wires-on p j h v h₀ h₁ o sh tk g c e y a
+  wires-by false p o sh tk e y f a = clash f refl
 
 -- ── what FILE_FORMAT holds then ──
 module _ (spool : List ℕ) (k : ℕ) (d : Desk) (s : Set) (n : ℕ) (h : Held) (p : ℕ) (f : InFile spool k d s n h p) (tally₁ : List ℕ) (m₁ : List Bool) (h₁ : List ℤ) (now : Now) where
@@ -133,6 +161,7 @@ module _ (spool : List ℕ) (k : ℕ) (d : Desk) (s : Set) (n : ℕ) (h : Held) 
     next = f .next ∙ ap (λ (t : List ℤ). map capital (bytesAt spool (span (countAt t 66) (countAt t 67)))) (sym eh);
     date = λ w. ap (λ (t : List ℤ). countAt t 68) eh ∙ f .date w;
     time = λ w. ap (λ (t : List ℤ). countAt t 69) eh ∙ f .time w;
+    wires = λ w. ap (λ (t : List ℤ). countAt t 70) eh ∙ f .wires w;
     counted = f .counted;
     unnamed = λ w. ap (λ (t : List ℤ). countAt t 65) eh ∙ f .unnamed w;
   }
@@ -141,6 +170,7 @@ module _ (spool : List ℕ) (k : ℕ) (d : Desk) (s : Set) (n : ℕ) (h : Held) 
   module _ (j : ℕ) (v : Value) (tk : Taken rows (rowsThere (partOf h p)) j v) (c : all isCount (numbers v) ≡ true) (em : m₁ ≡ set (d .marks) (marksFrom p + j) true)
       (eh : h₁ ≡ keptIn first p j (putLine (ruleAt rows j) 64 v (d .header))) (g : Header h₁) (name : p ≡ 0 → j ≡ nextRow first → NameHere spool v)
       (date : first ≡ false → j ≡ 3 → (i : Num) × (v ≡ nums (i ∷ []))) (time : first ≡ false → j ≡ 4 → (i : Num) × (v ≡ nums (i ∷ [])))
+      (wires : p ≡ 3 → j ≡ 1 → (i : Num) × (v ≡ nums (i ∷ [])))
       (one : columns (ruleAt rows j .holds) ≡ 1 → isNumbers (some v) ≡ true) where
     there : (p < length h) × (length (partOf h p) ≡ length rows)
     there =
@@ -198,6 +228,7 @@ module _ (spool : List ℕ) (k : ℕ) (d : Desk) (s : Set) (n : ℕ) (h : Held) 
           next = named .0;
           date = λ w. date-by j h v (d .header) h₁ (f .header) c first p (f .parts) (f .shaped) tk eh date w (f .date w);
           time = λ w. time-by j h v (d .header) h₁ (f .header) c first p (f .parts) (f .shaped) tk eh time w (f .time w);
+          wires = λ w. wires-by j h v (d .header) h₁ (f .header) c first p (f .parts) (f .shaped) tk eh wires w (f .wires w);
           counted = put-counted;
           unnamed = named .1;
         }

@@ -13,7 +13,7 @@ use Rattle.rules.specs.Base.{isNil}
 use Rattle.rules.specs.RefusalNumbers.{got, unless}
 use Rattle.rules.specs.RangeClass.{digits}
 use Rattle.rules.specs.Lines.{formIn}
-use Rattle.rules.specs.Values.{Known, Value, day, clock, nothingMore}
+use Rattle.rules.specs.Values.{Known, Value, rangeOfWires, day, clock, nothingMore}
 use Rattle.rules.specs.Rows.{Rule, Held, partOf, enter, rowsThere, Act, stay, entry, begin, shut, refuse, act}
 use Rattle.rules.specs.Blocks.{around, fileTables}
 use Rattle.rules.specs.Sets.{Contents, Set, isFirst, knownOf}
@@ -30,6 +30,7 @@ use Rattle.account.specs.declared.Where.{Where}
 use Rattle.account.specs.declared.Step.{Step}
 use Rattle.account.specs.declared.Step.the-variants as S
 use Rattle.account.specs.Account.{atBlock}
+use Rattle.account.specs.Numbering.{headerLength}
 use Rattle.standing.specs.Kept.{Enters, FillsAll}
 use Rattle.standing.specs.Standing.{Desk, deskNow, Stands, LineHere, Counted, StepOut}
 use Rattle.account.specs.FileLines.{fileTableOf, marksFrom, partMarks, keptIn, agrees, closedFile, closedTally, fileWidth, shutFile, fileStep, FileMarks, FileHeader, Shut, AtShut, FileLine}
@@ -46,7 +47,7 @@ use Rattle.standing.proofs.FileGoes.{Behind, file-behind}
 use Rattle.standing.proofs.FileKeeps.{nextRow}
 use Rattle.standing.proofs.FilePartMarks.{file-table, part-number}
 use Rattle.standing.proofs.FileEntries.{name-value, name-closed, one-numbers, one-number}
-use Rattle.standing.proofs.FileEntered.{name-kind, date-kind, time-kind, plain-later, kept-open, part-moved, row-entered}
+use Rattle.standing.proofs.FileEntered.{name-kind, date-kind, time-kind, wires-kind, plain-elec, plain-later, kept-open, part-moved, row-entered}
 use Rattle.standing.proofs.FileClosing.{fileDesk, agree-is, closed-first, closed-later}
 
 module _ (c : Class) (spool : List ℕ) (k : ℕ) (d : Desk) (at to own : ℕ) (l : Line) (w : Where) (form : LineForm)
@@ -106,7 +107,7 @@ module _ (c : Class) (spool : List ℕ) (k : ℕ) (d : Desk) (at to own : ℕ) (
     Out r = StepOut c spool k (InFile spool k) own l to st desk₁ r
 
     -- FILE_FORMAT stays open
-    stays : (now : Now) (h′ : Held) (q : ℕ) → stepIn (unlimited c) l st ≡ got (file s n h′ q) → tally₁ ≡ d .tally → length m₁ ≡ 28 → length h₁ ≡ 70 → now .records ≡ d .now .records → now .block ≡ 1
+    stays : (now : Now) (h′ : Held) (q : ℕ) → stepIn (unlimited c) l st ≡ got (file s n h′ q) → tally₁ ≡ d .tally → length m₁ ≡ 28 → length h₁ ≡ headerLength → now .records ≡ d .now .records → now .block ≡ 1
         → InFile spool k (deskNow desk₁ now) s n h′ q → Out (S.Go now)
     stays now h′ q step et lm lh records block held =
         let entered : Enters c st (file s n h′ q) (d .scratch) = file-enters c s n h h′ p q (d .scratch) (z .scratch) in
@@ -120,7 +121,7 @@ module _ (c : Class) (spool : List ℕ) (k : ℕ) (d : Desk) (at to own : ℕ) (
     same-marks : m₁ ≡ d .marks → length m₁ ≡ 28
     same-marks em = ap length em ∙ z .lengths .marks
 
-    same-header : h₁ ≡ d .header → length h₁ ≡ 70
+    same-header : h₁ ≡ d .header → length h₁ ≡ headerLength
     same-header eh = ap length eh ∙ z .lengths .header
 
     -- the header and the part behind the line
@@ -160,6 +161,8 @@ module _ (c : Class) (spool : List ℕ) (k : ℕ) (d : Desk) (at to own : ℕ) (
           one-number (knownOf s) rows (digits 0 0) (rowsThere (partOf h p)) (l .form) j v day nothingMore from (ap (λ (y : Rule). y .holds) (sym the-row) ∙ y .0) (ap (λ (y : Rule). y .may) (sym the-row) ∙ y .1))
           (λ b r. let y = time-kind first p j b (f .parts) r in
           one-number (knownOf s) rows (digits 0 0) (rowsThere (partOf h p)) (l .form) j v clock nothingMore from (ap (λ (y : Rule). y .holds) (sym the-row) ∙ y .0) (ap (λ (y : Rule). y .may) (sym the-row) ∙ y .1))
+          (λ q r. let y = wires-kind first p j (f .parts) q r in
+          one-number (knownOf s) rows (digits 0 0) (rowsThere (partOf h p)) (l .form) j v rangeOfWires nothingMore from (ap (λ (y : Rule). y .holds) (sym the-row) ∙ y .0) (ap (λ (y : Rule). y .may) (sym the-row) ∙ y .1))
           (λ r. one-numbers (knownOf s) rows (digits 0 0) (rowsThere (partOf h p)) (l .form) j (entry j v) from (ap (λ (y : Rule). columns (y .holds)) (sym the-row) ∙ r)) p (f .part) (f .parts))
 
     -- ── a part opens ──
@@ -177,6 +180,9 @@ module _ (c : Class) (spool : List ℕ) (k : ℕ) (d : Desk) (at to own : ℕ) (
       not-later : first ≡ false → ⊥
       not-later b = clash (ap isBegin a) (no-begin (knownOf s) rows (digits 0 0) (rowsThere (partOf h p)) (l .form) (plain-later first p b (f .parts)))
 
+      not-elec : p ≡ 3 → ⊥
+      not-elec q = clash (ap isBegin a) (no-begin (knownOf s) rows (digits 0 0) (rowsThere (partOf h p)) (l .form) (plain-elec first p (f .parts) q))
+
       not-name : p ≡ 0 → j ≡ nextRow first → ⊥
       not-name q r = name-closed (knownOf s) rows (digits 0 0) (rowsThere (partOf h p)) (l .form) i j v opener (ap (λ (y : Rule). y .holds) (sym its-row) ∙ name-kind first p j q r)
 
@@ -184,8 +190,8 @@ module _ (c : Class) (spool : List ℕ) (k : ℕ) (d : Desk) (at to own : ℕ) (
       on-begin =
           stays (atBlock (d .now) 1 i) (enter h p j v) i (ap (byAct _ _ _ _) a) et (ap length em ∙ length-set (d .marks) (marksFrom p + j) true ∙ z .lengths .marks) (opened .0 .long) refl refl
           (row-entered spool k d s n h p f tally₁ m₁ h₁ (atBlock (d .now) 1 i) j v (begin-taken (knownOf s) rows (digits 0 0) (rowsThere (partOf h p)) (l .form) i j v a) (subst Holds a holds .0) em
-          (eh ∙ ap (λ (t : List Rule). putLine (ruleAt t j) 64 v (d .header)) table-is ∙ sym (kept-open first p j (putLine (ruleAt rows j) 64 v (d .header)) not-later not-name)) (opened .0)
-          (λ q r. absurd (not-name q r)) (λ b r. absurd (not-later b)) (λ b r. absurd (not-later b))
+          (eh ∙ ap (λ (t : List Rule). putLine (ruleAt t j) 64 v (d .header)) table-is ∙ sym (kept-open first p j (putLine (ruleAt rows j) 64 v (d .header)) not-later not-name not-elec)) (opened .0)
+          (λ q r. absurd (not-name q r)) (λ b r. absurd (not-later b)) (λ b r. absurd (not-later b)) (λ q r. absurd (not-elec q))
           (λ r. one-numbers (knownOf s) rows (digits 0 0) (rowsThere (partOf h p)) (l .form) j (begin i j v) opener (ap (λ (y : Rule). columns (y .holds)) (sym its-row) ∙ r)) i refl (opened .1))
 
     -- ── an end ──

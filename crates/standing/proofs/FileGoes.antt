@@ -1,6 +1,6 @@
 -- From one line of FILE_FORMAT to the next: what a line finds is found again behind it.
 use Prim.Native.Nat.{ℕ, zero, suc, _≤_}
-use mathlib.Core.Bool.{Bool, true, false}
+use mathlib.Core.Bool.{Bool, true, false, _&&_}
 use mathlib.Core.List.{List, [], _∷_}
 use mathlib.Core.Path.{_≡_, refl, sym, _∙_, subst}
 use native.Mathlib.Omega.{arith}
@@ -64,7 +64,7 @@ kept-header false row h g =
 
 keptIn-header : (first : Bool) (p row : ℕ) (h : List ℤ) → Header h → Header (keptIn first p row h)
 keptIn-header first zero row h g = kept-header first row h g
-keptIn-header first (suc p) row h g = g
+keptIn-header first (suc p) row h g = by-cond Header (eqb (suc p) 3 && eqb row 1) (λ _. set-header h 70 (getD h 64 (pos 0)) g (header-count h g 64)) (λ _. g)
 
 -- what the next line finds of the header and the open part; after a refusal there is none
 abbrev pub Behind : Bool → ℕ → List ℤ → Act → Type 0

@@ -14,7 +14,7 @@ use Rattle.rules.specs.Base.{bytes, mapO, all, same, split}
 use Rattle.rules.specs.RefusalNumbers.{got, bad, unless, mapG, orBad, keep}
 use Rattle.rules.specs.Numbers.{isDigit, digitRun, value, isDay, isClock}
 use Rattle.rules.specs.Lines.{Rest, brace, equals, Form, ignored, wrong, close, eof, keyed, Shape, opener, noContent, content, opening, formless, hasForm, stem, byStem, shapeOf, freeShapeOf}
-use Rattle.rules.specs.Values.{Num, Value, empty, nums, chars, Known, byteIn, lettersAndDigits, capital, Part, count, digit, typeDigits, range, rangeOfSymbols, day, clock, decimal, symbolName, layerId, servedSymbols, natural, readPart, readAll, agree, Kind, values, text, word, volumeName, sheet, ratio, serials, nothing, opens, headed, either, isFree, readKind}
+use Rattle.rules.specs.Values.{Num, Value, empty, nums, chars, Known, byteIn, lettersAndDigits, capital, Part, count, digit, typeDigits, range, rangeOfSymbols, rangeOfWires, day, clock, decimal, symbolName, layerId, servedSymbols, servedWires, natural, readPart, readAll, agree, Kind, values, text, word, volumeName, sheet, ratio, serials, nothing, opens, headed, either, isFree, readKind}
 use Rattle.rules.specs.Rows.{Rule, Found, absent, found, find, shapeFor, Act, stay, entry, begin, shut, refuse, orRefuse, innerOf, readShape, actRow, actFound, complete, act}
 use Rattle.rules.specs.RecordTable.{numbers}
 use Rattle.rules.specs.Blocks.{fileTable, rangeTable, baseTable, elecTable, symTable, laterTable}
@@ -32,6 +32,7 @@ countPart (digit lo hi) = true
 countPart typeDigits = true
 countPart (range lo hi) = true
 countPart rangeOfSymbols = true
+countPart rangeOfWires = true
 countPart day = true
 countPart clock = true
 countPart (decimal b) = false
@@ -77,6 +78,7 @@ part-count k (digit lo hi) s n c e = kept-count _ 10 11 _ n (λ i. run-count 1 1
 part-count k typeDigits s n c e = natural-count _ 10 n (λ i. run-count 4 4 s i (omega arith)) e
 part-count k (range lo hi) s n c e = kept-count _ 10 12 _ n (λ i. run-count 3 3 s i (omega arith)) e
 part-count k rangeOfSymbols s n c e = kept-count _ 10 12 servedSymbols n (λ i. run-count 3 3 s i (omega arith)) e
+part-count k rangeOfWires s n c e = kept-count _ 10 12 servedWires n (λ i. run-count 3 3 s i (omega arith)) e
 part-count k day s n c e = kept-count _ 10 10 isDay n (λ i. run-count 8 8 s i (omega arith)) e
 part-count k clock s n c e = kept-count _ 10 10 isClock n (λ i. run-count 6 6 s i (omega arith)) e
 part-count k (decimal b) s n c e = clash c refl

@@ -17,7 +17,7 @@ use Rattle.rules.specs.Blocks.{fileTable, rangeTable, baseTable, elecTable, sym
 use Rattle.rules.proofs.Chains.{and-left, and-right, by-cond}
 use Rattle.entries.specs.Acts.{placeOf, putLine}
 use Rattle.account.specs.Placing.{putValue, fills}
-use Rattle.account.specs.FileLines.{PartOpen, keptName, kept, keptIn, fileWidth}
+use Rattle.account.specs.FileLines.{PartOpen, keptName, kept, keptWires, keptIn, fileWidth}
 use Rattle.standing.proofs.Puts.{all-at, fills-le}
 use Rattle.standing.proofs.ForeParts.{fore-sets}
 
@@ -63,9 +63,13 @@ kept-taken first false j h =
     by-cond P (eqb j 3) (λ _. stored-behind first (getD h 64 (pos 0) ∷ []) h 68 (omega arith)) λ _.
     by-cond P (eqb j 4) (λ _. stored-behind first (getD h 64 (pos 0) ∷ []) h 69 (omega arith)) λ _. refl
 
+wires-taken : (first : Bool) (p j : ℕ) (h : List ℤ) → take (fileWidth first) (keptWires p j h) ≡ take (fileWidth first) h
+wires-taken first p j h =
+    by-cond (λ (u : List ℤ). take (fileWidth first) u ≡ take (fileWidth first) h) (eqb p 3 && eqb j 1) (λ _. stored-behind first (getD h 64 (pos 0) ∷ []) h 70 (omega arith)) (λ _. refl)
+
 pub records-taken : (first : Bool) (p j : ℕ) (r : Rule) (v : Value) (h : List ℤ) → take (fileWidth first) (keptIn first p j (putLine r 64 v h)) ≡ putValue r v (take (fileWidth first) h)
 records-taken first zero j r v h = kept-taken first first j (putLine r 64 v h) ∙ line-taken first r v h
-records-taken first (suc p) j r v h = line-taken first r v h
+records-taken first (suc p) j r v h = wires-taken first (suc p) j (putLine r 64 v h) ∙ line-taken first r v h
 
 -- ── a line's numbers, behind the records ──
 sets-before : (vs l : List ℤ) (i q : ℕ) → i + length vs ≤ q → getD (sets l i vs) q (pos 0) ≡ getD l q (pos 0)
@@ -110,6 +114,15 @@ pub later-row : (j : ℕ) → j < length laterTable → short 66 (ruleAt laterTa
 unfolding laterTable
 later-row j l = all-at (short 66) laterTable j l refl
 
+pub first-row : (p j : ℕ) → PartOpen true p → j < length (getD (fileTables true) p []) → short 66 (ruleAt (getD (fileTables true) p []) j) ≡ true
+unfolding fileTable rangeTable baseTable elecTable symTable
+first-row zero j o l = all-at (short 66) fileTable j l refl
+first-row (suc zero) j o l = all-at (short 66) rangeTable j l refl
+first-row (suc (suc zero)) j o l = all-at (short 66) baseTable j l refl
+first-row (suc (suc (suc zero))) j o l = all-at (short 66) elecTable j l refl
+first-row (suc (suc (suc (suc zero)))) j o l = all-at (short 66) symTable j l refl
+first-row (suc (suc (suc (suc (suc p))))) j o l = absurd (omega (arith, o .five))
+
 -- what is kept of such a row lies behind 67
 kept-else : (first : Bool) (j q : ℕ) (h : List ℤ) → (j ≡ nextRow first → ⊥) → q ≤ 67 → getD (kept first j h) q (pos 0) ≡ getD h q (pos 0)
 kept-else true j q h n l = ap (λ (b : Bool). getD (cond b (keptName h) h) q (pos 0)) (ne-eqb j 5 n)
@@ -122,7 +135,8 @@ kept-else false j q h n l =
 
 pub keptIn-else : (first : Bool) (p j q : ℕ) (h : List ℤ) → (p ≡ 0 → j ≡ nextRow first → ⊥) → q ≤ 67 → getD (keptIn first p j h) q (pos 0) ≡ getD h q (pos 0)
 keptIn-else first zero j q h n l = kept-else first j q h (n refl) l
-keptIn-else first (suc p) j q h n l = refl
+keptIn-else first (suc p) j q h n l =
+    by-cond (λ (u : List ℤ). getD u q (pos 0) ≡ getD h q (pos 0)) (eqb (suc p) 3 && eqb j 1) (λ _. getD-set-other h 70 q (getD h 64 (pos 0)) (pos 0) (λ e. absurd (omega (arith, e, l)))) (λ _. refl)
 
 -- a later volume's date and time
 pub later-else : (j q : ℕ) (h : List ℤ) → (q ≡ 68 → j ≡ 3 → ⊥) → (q ≡ 69 → j ≡ 4 → ⊥) → 68 ≤ q → getD (kept false j h) q (pos 0) ≡ getD h q (pos 0)
@@ -132,3 +146,11 @@ later-else j q h a b l =
     by-cond P (eqb j 2) (λ _. sets-before (z ∷ getD h 65 (pos 0) ∷ []) h 66 q (omega (arith, l))) λ _.
     by-cond P (eqb j 3) (λ e. getD-set-other h 68 q z (pos 0) (λ w. a w (eqb-true j 3 e))) λ _.
     by-cond P (eqb j 4) (λ e. getD-set-other h 69 q z (pos 0) (λ w. b w (eqb-true j 4 e))) λ _. refl
+
+-- the first one's E_wire
+pub wires-else : (p j : ℕ) (h : List ℤ) → (p ≡ 3 → j ≡ 1 → ⊥) → getD (keptIn true p j h) 70 (pos 0) ≡ getD h 70 (pos 0)
+wires-else zero j h n =
+    by-cond (λ (u : List ℤ). getD u 70 (pos 0) ≡ getD h 70 (pos 0)) (eqb j 5) (λ _. sets-before (getD h 64 (pos 0) ∷ getD h 65 (pos 0) ∷ []) h 66 70 (omega arith)) (λ _. refl)
+wires-else (suc p) j h n =
+    by-cond (λ (u : List ℤ). getD u 70 (pos 0) ≡ getD h 70 (pos 0)) (eqb (suc p) 3 && eqb j 1)
+    (λ e. absurd (n (eqb-true (suc p) 3 (and-left (eqb (suc p) 3) _ e)) (eqb-true j 1 (and-right (eqb (suc p) 3) _ e)))) (λ _. refl)

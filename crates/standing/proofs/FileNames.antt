@@ -1,5 +1,5 @@
 -- What the numbers behind the records say after a line: next_file's place and length, and a later volume's date and time.
-use Prim.Native.Nat.{ℕ, zero, suc, _+_, _≤_, _<_}
+use Prim.Native.Nat.{ℕ, _+_, _≤_, _<_}
 use mathlib.Core.Bool.{Bool, true, false}
 use mathlib.Core.List.{List, [], _∷_, map}
 use mathlib.Core.Option.{Option, none, some}
@@ -20,6 +20,7 @@ use Rattle.rules.specs.VolumesAndTotals.{ownTable}
 use Rattle.rules.proofs.Chains.{and-left, none-some}
 use Rattle.entries.specs.Acts.{putLine}
 use Rattle.account.specs.Placing.{Shaped}
+use Rattle.account.specs.Numbering.{headerLength}
 use Rattle.account.specs.FileLines.{PartOpen, Header, isCount, countAt, keptName, keptIn}
 use Rattle.account.proofs.RowsTaken.{Taken}
 use Rattle.standing.proofs.Marks.{mark-free}
@@ -42,12 +43,19 @@ pub time-slot : (o : Slots) → numberOf "time" laterTable o ≡ amountAt (slotV
 unfolding laterTable
 time-slot o = refl
 
-slot-else : (h : Held) (p j i : ℕ) (v : Value) → 0 < length h → (p ≡ 0 → i ≡ j → ⊥) → getD (partOf (enter h p j v) 0) i none ≡ getD (partOf h 0) i none
-slot-else h zero j i v l n = ap (λ (o : Slots). getD o i none) (enter-own h 0 j v l) ∙ getD-set-other (partOf h 0) j i (some v) none (n refl)
-slot-else h (suc p) j i v l n = ap (λ (o : Slots). getD o i none) (enter-other h (suc p) 0 j v (λ e. absurd (omega (arith, e))))
+-- another slot than the one that is entered
+pub slot-else : (h : Held) (p q j i : ℕ) (v : Value) → p < length h → (p ≡ q → i ≡ j → ⊥) → getD (partOf (enter h p j v) q) i none ≡ getD (partOf h q) i none
+slot-else h p q j i v l n = go (eqb q p) refl
+  where
+    go : (b : Bool) → eqb q p ≡ b → getD (partOf (enter h p j v) q) i none ≡ getD (partOf h q) i none
+    go true e =
+        let w = eqb-true q p e in
+        ap (λ (m : ℕ). getD (partOf (enter h p j v) m) i none) w ∙ ap (λ (o : Slots). getD o i none) (enter-own h p j v l)
+        ∙ getD-set-other (partOf h p) j i (some v) none (n (sym w)) ∙ ap (λ (m : ℕ). getD (partOf h m) i none) (sym w)
+    go false e = ap (λ (o : Slots). getD o i none) (enter-other h p q j v (eqb-false q p e))
 
 -- a name's two numbers, kept
-name-kept : (x : List ℤ) → length x ≡ 70 → (getD (keptName x) 65 (pos 0) ≡ getD x 65 (pos 0)) × (getD (keptName x) 66 (pos 0) ≡ getD x 64 (pos 0)) × (getD (keptName x) 67 (pos 0) ≡ getD x 65 (pos 0))
+name-kept : (x : List ℤ) → length x ≡ headerLength → (getD (keptName x) 65 (pos 0) ≡ getD x 65 (pos 0)) × (getD (keptName x) 66 (pos 0) ≡ getD x 64 (pos 0)) × (getD (keptName x) 67 (pos 0) ≡ getD x 65 (pos 0))
 name-kept x l =
     let a : ℤ = getD x 64 (pos 0) in
     let b : ℤ = getD x 65 (pos 0) in (
@@ -76,8 +84,8 @@ module _ (spool : List ℕ) (first : Bool) (p j : ℕ) (h : Held) (v : Value) (h
   abbrev put : List ℤ
   put = putLine (ruleAt (getD (fileTables first) p []) j) 64 v h₀
 
-  some-part : 0 < length h
-  some-part = let w = shaped-at (fileTables first) 0 p h sh (part-number first p o) in omega (arith, w .0)
+  part-there : p < length h
+  part-there = let w = shaped-at (fileTables first) 0 p h sh (part-number first p o) in omega (arith, w .0)
 
   abbrev Named : Held → List ℤ → Type 0
   Named h t = charsOf (slotValue (held "next_file" (ownTable first) (partOf h 0))) ≡ map capital (bytesAt spool (span (countAt t 66) (countAt t 67)))
@@ -94,7 +102,7 @@ module _ (spool : List ℕ) (first : Bool) (p j : ℕ) (h : Held) (v : Value) (h
 
     same-slot : held "next_file" (ownTable first) (partOf (enter h p j v) 0) ≡ held "next_file" (ownTable first) (partOf h 0)
     same-slot =
-        next-slot first (partOf (enter h p j v) 0) ∙ slot-else h p j (nextRow first) v some-part (λ z w. n z (sym w)) ∙ sym (next-slot first (partOf h 0))
+        next-slot first (partOf (enter h p j v) 0) ∙ slot-else h p 0 j (nextRow first) v part-there (λ z w. n z (sym w)) ∙ sym (next-slot first (partOf h 0))
 
     next-else : Named h h₀ → Named (enter h p j v) h₁
     next-else y =
@@ -120,13 +128,13 @@ module _ (spool : List ℕ) (first : Bool) (p j : ℕ) (h : Held) (v : Value) (h
     new-slot : held "next_file" (ownTable first) (partOf (enter h p j v) 0) ≡ some v
     new-slot =
         next-slot first (partOf (enter h p j v) 0) ∙ ap (λ (i : ℕ). getD (partOf (enter h i j v) 0) (nextRow first) none) z
-        ∙ ap (λ (s : Slots). getD s (nextRow first) none) (enter-own h 0 j v some-part) ∙ ap (λ (i : ℕ). getD (set (partOf h 0) j (some v)) i none) (sym w)
+        ∙ ap (λ (s : Slots). getD s (nextRow first) none) (enter-own h 0 j v (omega (arith, part-there))) ∙ ap (λ (i : ℕ). getD (set (partOf h 0) j (some v)) i none) (sym w)
         ∙ getD-set-same (partOf h 0) j (some v) none (rows 0 z)
 
     old-slot : held "next_file" (ownTable first) (partOf h 0) ≡ none
     old-slot = next-slot first (partOf h 0) ∙ ap₂ (λ (a b : ℕ). getD (partOf h a) b none) (sym z) (sym w) ∙ mark-free (partOf h p) j (tk .free)
 
-    long : length x ≡ 70
+    long : length x ≡ headerLength
     long = length-sets h₀ 64 (numbers v) ∙ g .long
 
     at-66 : countAt h₁ 66 ≡ countAt x 64
@@ -167,22 +175,23 @@ module _ (spool : List ℕ) (first : Bool) (p j : ℕ) (h : Held) (v : Value) (h
       go true q false r = let n : p ≡ 0 → j ≡ nextRow first → ⊥ = λ z w. eqb-false j (nextRow first) r w in (next-else n a, unnamed-else n u)
       go false q d r = let n : p ≡ 0 → j ≡ nextRow first → ⊥ = λ z w. eqb-false p 0 q z in (next-else n a, unnamed-else n u)
 
--- ── a later volume's date and time ──
-kept-number : (n : Num) (h : List ℤ) (q : ℕ) → length h ≡ 70 → q < 70 → isCount (n .value) ≡ true → countAt (set (sets h 64 (n .value ∷ [])) q (getD (sets h 64 (n .value ∷ [])) 64 (pos 0))) q ≡ amountAt (nums (n ∷ [])) 0
+-- ── a number, kept ──
+pub kept-number : (n : Num) (h : List ℤ) (q : ℕ) → length h ≡ headerLength → q < headerLength → isCount (n .value) ≡ true → countAt (set (sets h 64 (n .value ∷ [])) q (getD (sets h 64 (n .value ∷ [])) 64 (pos 0))) q ≡ amountAt (nums (n ∷ [])) 0
 kept-number n h q l m c =
     let z : ℤ = n .value in
     ap natAbs (getD-set-same (set h 64 z) q (getD (set h 64 z) 64 (pos 0)) (pos 0) (omega (arith, l, m, length-set h 64 z)) ∙ getD-set-same h 64 z (pos 0) (omega (arith, l)))
     ∙ amount-back n c
 
+-- ── a later volume's date and time ──
 module _ (j : ℕ) (h : Held) (v : Value) (h₀ h₁ : List ℤ) (sh : Shaped 0 (fileTables false) h) (tk : Taken laterTable (rowsThere (partOf h 0)) j v)
     (g : Header h₀) (c : all isCount (numbers v) ≡ true) (e : h₁ ≡ keptIn false 0 j (putLine (ruleAt laterTable j) 64 v h₀)) where
   later-same : (i q : ℕ) → (i ≡ j → ⊥) → (q ≡ 68 → j ≡ 3 → ⊥) → (q ≡ 69 → j ≡ 4 → ⊥) → 68 ≤ q → countAt h₀ q ≡ amountAt (slotValue (getD (partOf h 0) i none)) 0
       → countAt h₁ q ≡ amountAt (slotValue (getD (partOf (enter h 0 j v) 0) i none)) 0
   later-same i q n a b l y =
       ap (λ (t : List ℤ). countAt t q) e ∙ ap natAbs (later-else j q (putLine (ruleAt laterTable j) 64 v h₀) a b l ∙ short-put 66 (ruleAt laterTable j) v h₀ q (later-row j (tk .row)) (tk .fill) (omega (arith, l)))
-      ∙ y ∙ ap (λ (o : Option Value). amountAt (slotValue o) 0) (sym (slot-else h 0 j i v (sh .0) (λ _. n)))
+      ∙ y ∙ ap (λ (o : Option Value). amountAt (slotValue o) 0) (sym (slot-else h 0 0 j i v (sh .0) (λ _. n)))
 
-  new-number : (i q : ℕ) (n : Num) → j ≡ i → q < 70 → v ≡ nums (n ∷ []) → ((v : Value) (h : List ℤ) → keptIn false 0 i (putLine (ruleAt laterTable i) 64 v h) ≡ set (sets h 64 (numbers v)) q (getD (sets h 64 (numbers v)) 64 (pos 0)))
+  new-number : (i q : ℕ) (n : Num) → j ≡ i → q < headerLength → v ≡ nums (n ∷ []) → ((v : Value) (h : List ℤ) → keptIn false 0 i (putLine (ruleAt laterTable i) 64 v h) ≡ set (sets h 64 (numbers v)) q (getD (sets h 64 (numbers v)) 64 (pos 0)))
       → countAt h₁ q ≡ amountAt (slotValue (getD (partOf (enter h 0 j v) 0) i none)) 0
   new-number i q n w m u f =
       let is-count : isCount (n .value) ≡ true = and-left (isCount (n .value)) _ (subst (λ (x : Value). all isCount (numbers x) ≡ true) u c) in

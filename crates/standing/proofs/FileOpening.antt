@@ -22,20 +22,21 @@ use Rattle.account.specs.Placing.{Shaped}
 use Rattle.account.specs.Account.{headAt}
 use Rattle.standing.specs.SoFar.{volumeOf}
 use Rattle.standing.specs.Standing.{Desk, Bare}
+use Rattle.account.specs.Numbering.{headerLength}
 use Rattle.account.specs.TopLines.{headerBegun}
 use Rattle.account.specs.FileLines.{partMarks, Header, isCount, countAt, fileWidth}
 use Rattle.standing.specs.FileStanding.{fileHead, isNumbers, InFile}
 
--- ── the header kept apart: seventy numbers ──
+-- ── the header kept apart ──
 abbrev begun : Bool → Where → List ℤ
-begun first w = headerBegun first w (replicate 70 (pos 0))
+begun first w = headerBegun first w (replicate headerLength (pos 0))
 
 -- whatever it held before
-pub header-same : (first : Bool) (w : Where) (h : List ℤ) → length h ≡ 70 → headerBegun first w h ≡ headerBegun first w (replicate 70 (pos 0))
+pub header-same : (first : Bool) (w : Where) (h : List ℤ) → length h ≡ headerLength → headerBegun first w h ≡ headerBegun first w (replicate headerLength (pos 0))
 header-same true w h e = ap (λ (n : ℕ). headAt 32 2 0 w (headAt 0 1 0 w (replicate n (pos 0)))) e
 header-same false w h e = ap (λ (n : ℕ). headAt 0 2 0 w (replicate n (pos 0))) e
 
-pub begun-long : (w : Where) (first : Bool) → length (begun first w) ≡ 70
+pub begun-long : (w : Where) (first : Bool) → length (begun first w) ≡ headerLength
 begun-long w true = refl
 begun-long w false = refl
 
@@ -48,9 +49,9 @@ unfolding fileTable rangeTable baseTable elecTable symTable laterTable
 begun-filled true w = refl
 begun-filled false w = refl
 
-begun-name : (first : Bool) (w : Where) → (countAt (begun first w) 65 ≡ 0) × (countAt (begun first w) 67 ≡ 0) × (countAt (begun first w) 68 ≡ 0) × (countAt (begun first w) 69 ≡ 0)
-begun-name true w = (refl, refl, refl, refl)
-begun-name false w = (refl, refl, refl, refl)
+begun-name : (first : Bool) (w : Where) → (countAt (begun first w) 65 ≡ 0) × (countAt (begun first w) 67 ≡ 0) × (countAt (begun first w) 68 ≡ 0) × (countAt (begun first w) 69 ≡ 0) × (countAt (begun first w) 70 ≡ 0)
+begun-name true w = (refl, refl, refl, refl, refl)
+begun-name false w = (refl, refl, refl, refl, refl)
 
 -- ── nothing held ──
 blank-shaped : (first : Bool) → Shaped 0 (fileTables first) (blankHeld (fileTables first))
@@ -89,9 +90,14 @@ unfolding laterTable
 blank-dated true e = clash refl e
 blank-dated false e = (refl, refl)
 
+blank-wires : (first : Bool) → first ≡ true → numberOf "E_wire" elecTable (partOf (blankHeld (fileTables first)) 3) ≡ 0
+unfolding fileTable rangeTable baseTable elecTable symTable
+blank-wires true e = refl
+blank-wires false e = clash e refl
+
 -- ── so it stands behind its opening line w ──
 pub file-begins : (spool : List ℕ) (k : ℕ) (d : Desk) (s : Set) (w : Where) (line : ℕ) → w .volume ≡ k → w .line ≡ line → w .volume < 4294967296 → w .line < 4294967296
-    → k ≡ volumeOf s → (isFirst s ≡ true → Bare s) → d .now .part ≡ 0 → d .marks ≡ replicate 28 false → d .header ≡ headerBegun (isFirst s) w (replicate 70 (pos 0))
+    → k ≡ volumeOf s → (isFirst s ≡ true → Bare s) → d .now .part ≡ 0 → d .marks ≡ replicate 28 false → d .header ≡ headerBegun (isFirst s) w (replicate headerLength (pos 0))
     → InFile spool k d s line (blankHeld (fileTables (isFirst s))) 0
 file-begins spool k d s w line ew el bv bl ev bare ep em eh =
     let first : Bool = isFirst s in
@@ -111,6 +117,7 @@ file-begins spool k d s w line ew el bv bl ev bare ep em eh =
           ∙ ap (λ (t : List ℤ). map capital (bytesAt spool (span (countAt t 66) (countAt t 67)))) (sym eh);
       date = λ e. ap (λ (t : List ℤ). countAt t 68) eh ∙ zeros .2 ∙ sym (blank-dated first e .0);
       time = λ e. ap (λ (t : List ℤ). countAt t 69) eh ∙ zeros .3 ∙ sym (blank-dated first e .1);
+      wires = λ e. ap (λ (t : List ℤ). countAt t 70) eh ∙ zeros .4 ∙ sym (blank-wires first e);
       counted = λ q j _. ap isNumbers (blank-held (fileTables first) q j);
       unnamed = λ _. ap (λ (t : List ℤ). countAt t 65) eh ∙ zeros .0;
     })

@@ -108,7 +108,7 @@ module _ (c : Class) (spool : List ℕ) (k : ℕ) (FileHere : Desk → Set → �
 
       on-entry : Out (S.Go n)
       on-entry =
-          goes-filling c spool k FileHere own l to st d₁ n st′ (ap (byAct _ _ _ _) a) 32 (d .now .records) (completed-line (d .now) n 6 (z .block .0) refl (z .block .0) refl)
+          goes-filling c spool k FileHere own l to st d₁ n st′ (ap (byAct _ _ _ _) a) 32 (d .now .records) (completed-line (d .now) n 6 32 (z .block .0) refl (z .block .0) refl)
           (number-same (d .now) n own refl) 1 refl refl (hidden-fills c s v ps point (d .now .records) (y .size) t₁ (line-there (d .scratch) rec₁ st long (z .scratch) ∙ made))
           (stands-on c spool k FileHere d at to st st′ z n (d .marks) (d .inner) (withPart 32 emptyRecord t₁) refl (z .lengths .marks) (z .lengths .inner)
           (hidden-cleared s (kindHidden ∷ []) v ps (ps ++ point ∷ []) (d .scratch) rec₁ long (z .scratch))

@@ -179,7 +179,7 @@ module _ (c : Class) (spool : List ℕ) (k : ℕ) (FileHere : Desk → Set → �
           let cleared : Scratch (withPart 32 emptyRecord t₁) (next v) = layer-cleared s (kindLayer ∷ []) g (layer v) (d .scratch) rec₁ long (z .scratch) in
           let n : Now = layerTaken (d .now) in
           goes-filling c spool k FileHere own l to st (deskNames d tally₁ layers₁ t₁) n (next v) (same-step ∙ ap (mapG next) q) 32 (d .now .records)
-          (completed-line (d .now) n 3 (z .block .0) refl (z .block .0) refl) (number-same (d .now) n own refl) 1 refl refl (layer-fills c s g (layer v) (d .now .records) (y .size) t₁ put)
+          (completed-line (d .now) n 3 32 (z .block .0) refl (z .block .0) refl) (number-same (d .now) n own refl) 1 refl refl (layer-fills c s g (layer v) (d .now .records) (y .size) t₁ put)
           (record {
             lengths = record {
               symbols = z .lengths .symbols;

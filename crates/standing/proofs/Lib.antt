@@ -16,6 +16,8 @@ pub mod FileKept
 pub mod LinesKept
 pub mod ScratchKept
 pub mod OpenersKept
+pub mod WireScratch
+pub mod WireKept
 pub mod EntriesKept
 pub mod OwnKept
 pub mod ClearedKept
@@ -51,6 +53,8 @@ pub mod PlacedTables
 pub mod PlacedTextStanding
 pub mod PlacedKeyStanding
 pub mod PlacedStanding
+pub mod WireStanding
+pub mod UnreadStanding
 pub mod DrawingStanding
 pub mod FileOpening
 pub mod LayerNamesStanding
@@ -64,6 +68,7 @@ pub mod FileEntries
 pub mod FileFormatStanding
 pub mod FileKeeps
 pub mod FileNames
+pub mod FileWires
 pub mod FilePartMarks
 pub mod FileReadBack
 pub mod StepParts

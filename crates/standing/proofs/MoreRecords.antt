@@ -1,6 +1,6 @@
 -- The records of a set's parts, as a line or a closed block adds to them.
 use Prim.Native.Nat.{ℕ, suc, _+_}
-use mathlib.Core.Bool.{Bool, true, false, cond}
+use mathlib.Core.Bool.{Bool, true, false, cond, not}
 use mathlib.Core.List.{List, [], _∷_, _++_, map, append-assoc, append-nil}
 use mathlib.Core.Option.{some}
 use mathlib.Core.Path.{_≡_, refl, sym, _∙_, ap}
@@ -15,7 +15,7 @@ use Rattle.rules.specs.Values.{nums}
 use Rattle.rules.specs.Rows.{Held, partOf, numberOf}
 use Rattle.rules.specs.Blocks.{elecTable}
 use Rattle.rules.specs.Figures.{layerTable, pointTable}
-use Rattle.rules.specs.Sets.{Point, Figure, Layer, Drawing, Symbol, LayerBlock, Contents, Set, isFirst, symbolRange, withBlock, withRecords, withVolume, withSymbol, symbolFigures, symbolHidden, firstContents, headOr}
+use Rattle.rules.specs.Sets.{Point, Figure, Layer, Drawing, Symbol, LayerBlock, Contents, Set, isFirst, symbolRange, wireRange, withBlock, withRecords, withVolume, withSymbol, symbolFigures, symbolHidden, firstContents, headOr}
 use Rattle.rules.specs.Machine.{inLayer}
 use Rattle.rules.specs.RecordTable.{putSlot, ruleAt, start, fileRecords, drawingRecord, layerRecord, layerRecords, pointRecords, figureRecords, innerRecords, symbolRecords, blockRecords, bodyRecords, laterRecords, recordsFrom}
 use Rattle.rules.specs.RecordTable.{View, viewOf, plainView}
@@ -97,6 +97,9 @@ file-block u s = go (s .volumes)
 range-block : (u : LayerBlock) (s : Set) → symbolRange (withBlock u s) ≡ symbolRange s
 range-block u s = ap (λ (f : Held). numberOf "E_sym" elecTable (partOf f 3)) (file-block u s)
 
+wires-block : (u : LayerBlock) (s : Set) → wireRange (withBlock u s) ≡ wireRange s
+wires-block u s = ap (λ (f : Held). numberOf "E_wire" elecTable (partOf f 3)) (file-block u s)
+
 closed-block : (c : Class) (u : LayerBlock) (s : Set) → closedRecords c (withBlock u s) ≡ closedRecords c s
 closed-block c u s = go (s .volumes) refl
   where
@@ -108,16 +111,18 @@ base-block : (c : Class) (u : LayerBlock) (s : Set) (b : Bool) → baseRecords c
 base-block c u s true = refl
 base-block c u s false = ap (λ (r : Records). r ++ fileRecords false (volumeOf s) (s .now)) (closed-block c u s)
 
--- the records of closed layers, by the file's E_sym
-abbrev pub layersBy : Class → Set → List LayerBlock → ℕ → Records
-layersBy c s us n = flat (map (blockRecords (record { class = c; symbols = digitsOf n; table = layerTable (eqb n 1) }) (volumeOf s)) us)
+-- the records of closed layers, by the file's E_sym and E_wire
+abbrev pub layersBy : Class → Set → List LayerBlock → ℕ → ℕ → Records
+layersBy c s us n wires =
+    flat (map (blockRecords (record { class = c; symbols = digitsOf n; wires = wires; table = layerTable (eqb n 1) (not (eqb wires 0)) }) (volumeOf s)) us)
 
 pub layer-closed : (c : Class) (u : LayerBlock) (s : Set) → layersRecords c (withBlock u s) ≡ layersRecords c s ++ flat (map (homeFigure c s (inLayer (u .layer))) (u .figures))
 layer-closed c u s =
-    ap (λ (n : ℕ). baseRecords c (withBlock u s) (isFirst s) ++ layersBy c s (s .now .blocks ++ u ∷ []) n) (range-block u s)
-    ∙ ap (λ (r : Records). r ++ layersBy c s (s .now .blocks ++ u ∷ []) (symbolRange s)) (base-block c u s (isFirst s))
+    ap (λ (n : ℕ). baseRecords c (withBlock u s) (isFirst s) ++ layersBy c s (s .now .blocks ++ u ∷ []) n (wireRange (withBlock u s))) (range-block u s)
+    ∙ ap (λ (n : ℕ). baseRecords c (withBlock u s) (isFirst s) ++ layersBy c s (s .now .blocks ++ u ∷ []) (symbolRange s) n) (wires-block u s)
+    ∙ ap (λ (r : Records). r ++ layersBy c s (s .now .blocks ++ u ∷ []) (symbolRange s) (wireRange s)) (base-block c u s (isFirst s))
     ∙ ap (λ (r : Records). baseRecords c s (isFirst s) ++ r) (flat-map-more (blockRecords (viewOf c s) (volumeOf s)) (s .now .blocks) u)
-    ∙ sym (append-assoc (baseRecords c s (isFirst s)) (layersBy c s (s .now .blocks) (symbolRange s)) (flat (map (homeFigure c s (inLayer (u .layer))) (u .figures))))
+    ∙ sym (append-assoc (baseRecords c s (isFirst s)) (layersBy c s (s .now .blocks) (symbolRange s) (wireRange s)) (flat (map (homeFigure c s (inLayer (u .layer))) (u .figures))))
 
 -- ── a closed volume ──
 module _ (w : View) where

@@ -6,9 +6,9 @@ use mathlib.Core.Path.{_≡_, sym, subst}
 use lib.ListN.{getD}
 use Rattle.rules.specs.declared.Class.{Class}
 use Rattle.rules.specs.Rows.{Slots, Held}
-use Rattle.rules.specs.Sets.{Point, Figure, Drawing, Symbol, Set}
+use Rattle.rules.specs.Sets.{Point, Wire, Figure, Drawing, Symbol, Set}
 use Rattle.rules.specs.Machine.{Home, State, top, file, drawing, layerNames, defines, symbol, hide, elements, figures, successive, texts, placing, skipping, ended}
-use Rattle.rules.specs.Machine.{symbolBlock}
+use Rattle.rules.specs.Machine.{symbolBlock, wireBlock, wireUnread}
 use Rattle.standing.specs.Standing.{Desk, Inside}
 
 pub data AtTop : State → Type 0 where
@@ -47,9 +47,14 @@ pub data InAText : State → Type 0 where
 pub data InAPlaced : State → Type 0 where
   here : (s : Set) (m : ℕ) (fs : List Figure) (n : ℕ) (o : Held) (p : ℕ) → InAPlaced (placing s m fs n (symbolBlock o) p)
 
+-- read, or skipped whole
+pub data InAWire : State → Type 0 where
+  here : (s : Set) (m : ℕ) (fs : List Figure) (n : ℕ) (w : Wire) (p : ℕ) → InAWire (placing s m fs n (wireBlock w) p)
+  unread : (s : Set) (m : ℕ) (fs : List Figure) (n : ℕ) (p : ℕ) → InAWire (skipping s m fs n wireUnread p)
+
 -- the blocks by their numbers; behind EOF none is open
 abbrev Open : ℕ → State → Type 0
-Open n st = getD (AtTop st ∷ InFileFormat st ∷ InDrawingFormat st ∷ InLayerNames st ∷ InDefines st ∷ InASymbol st ∷ InAHide st ∷ InElement st ∷ AmongFigures st ∷ InAChain st ∷ InAText st ∷ InAPlaced st ∷ []) n (Unit {0})
+Open n st = getD (AtTop st ∷ InFileFormat st ∷ InDrawingFormat st ∷ InLayerNames st ∷ InDefines st ∷ InASymbol st ∷ InAHide st ∷ InElement st ∷ AmongFigures st ∷ InAChain st ∷ InAText st ∷ InAPlaced st ∷ InAWire st ∷ []) n (Unit {0})
 
 module _ (c : Class) (spool : List ℕ) (k : ℕ) (d : Desk) (F : Set → ℕ → Held → ℕ → Type 0) where
   open-block : (st : State) → Inside c spool k d F st → Open (d .now .block) st
@@ -65,7 +70,11 @@ module _ (c : Class) (spool : List ℕ) (k : ℕ) (d : Desk) (F : Set → ℕ �
   open-block (successive s h fs n ps) i = subst (λ (block : ℕ). Open block (successive s h fs n ps)) (sym (i .0)) (here s h fs n ps)
   open-block (texts s h fs n o) i = subst (λ (block : ℕ). Open block (texts s h fs n o)) (sym (i .0)) (here s h fs n o)
   open-block (placing s m fs n (symbolBlock o) p) i = subst (λ (block : ℕ). Open block (placing s m fs n (symbolBlock o) p)) (sym (i .0)) (here s m fs n o p)
-  open-block (skipping s m fs n o p) i = absurd i
+  open-block (placing s m fs n (wireBlock w) p) i = subst (λ (block : ℕ). Open block (placing s m fs n (wireBlock w) p)) (sym (i .0)) (here s m fs n w p)
+  open-block (placing s m fs n wireUnread p) i = absurd i
+  open-block (skipping s m fs n (symbolBlock o) p) i = absurd i
+  open-block (skipping s m fs n (wireBlock w) p) i = absurd i
+  open-block (skipping s m fs n wireUnread p) i = subst (λ (block : ℕ). Open block (skipping s m fs n wireUnread p)) (sym (i .0)) (unread s m fs n p)
   open-block (ended s) i = subst (λ (block : ℕ). Open block (ended s)) (sym i) tt
 
   pub at-top : (st : State) → Inside c spool k d F st → d .now .block ≡ 0 → AtTop st
@@ -103,3 +112,6 @@ module _ (c : Class) (spool : List ℕ) (k : ℕ) (d : Desk) (F : Set → ℕ �
 
   pub in-placed : (st : State) → Inside c spool k d F st → d .now .block ≡ 11 → InAPlaced st
   in-placed st i q = subst (λ (block : ℕ). Open block st) q (open-block st i)
+
+  pub in-wire : (st : State) → Inside c spool k d F st → d .now .block ≡ 12 → InAWire st
+  in-wire st i q = subst (λ (block : ℕ). Open block st) q (open-block st i)

@@ -18,7 +18,7 @@ use Rattle.standing.proofs.Standings.{first-volume}
 
 module _ (c : Class) (spool : List ℕ) (k : ℕ) (d : Desk) (at : ℕ) (st : State) (z : Standing c spool k d at st) where
   -- ── in every block ──
-  pub tally-long : length (d .tally) ≡ 12
+  pub tally-long : length (d .tally) ≡ 13
   tally-long = ap length (z .tally)
 
   -- ── points ──

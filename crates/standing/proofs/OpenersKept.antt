@@ -28,7 +28,7 @@ pub file-opens : (c : Class) (s : Set) (line : ℕ) (t : List ℤ) → Scratch t
     → Begins c (top s 0) (file (withRecords (fileKinds (isFirst s)) s) line (blankHeld (fileTables (isFirst s))) 0) (length (fileKinds (isFirst s))) t
 file-opens c s line t x = record {
   opens = ap (λ (r : List (List ℤ)). r ++ emptyRecords (isFirst s)) (closed-taken c s (fileKinds (isFirst s))) ∙ ap (λ (r : List (List ℤ)). closedRecords c s ++ r) (zeros-for (isFirst s));
-  scratch = scratch-same t (top s 0) (file (withRecords (fileKinds (isFirst s)) s) line (blankHeld (fileTables (isFirst s))) 0) x refl refl;
+  scratch = scratch-same t (top s 0) (file (withRecords (fileKinds (isFirst s)) s) line (blankHeld (fileTables (isFirst s))) 0) x refl refl refl;
 }
   where
     zeros-for : (b : Bool) → emptyRecords b ≡ replicate (length (fileKinds b)) emptyRecord
@@ -41,14 +41,14 @@ drawing-opens c s line t x = record {
   opens = refl;
   scratch =
       scratch-own t (top s 1) (drawing (withRecords (kindDrawing ∷ []) s) (record { line = line; own = blank drawingTable; layers = [] })) x (start kindDrawing 0 1 line) refl
-      (sym (begun-drawing line)) refl;
+      (sym (begun-drawing line)) refl refl;
 }
 
 -- SYMBOL_DEFINE, where no symbol is closed yet
 pub defines-opens : (c : Class) (s : Set) (t : List ℤ) → s .symbols ≡ [] → Scratch t (top s 2) → Enters c (top s 2) (defines s false) t
 defines-opens c s t none x = record {
   same = ap (λ (ys : List Symbol). sheetRecords s (s .drawing) ++ symbolRecords 0 ys) none ∙ append-nil (sheetRecords s (s .drawing));
-  scratch = scratch-same t (top s 2) (defines s false) x refl refl;
+  scratch = scratch-same t (top s 2) (defines s false) x refl refl refl;
 }
 
 pub symbol-opens : (c : Class) (s : Set) (b : Bool) (line : ℕ) (t : List ℤ) → Scratch t (defines s b)
@@ -57,7 +57,7 @@ symbol-opens c s b line t x = record {
   opens = refl;
   scratch =
       scratch-own t (defines s b) (symbol (withRecords (kindSymbol ∷ []) s) (newSymbol line)) x (start kindSymbol (length (s .symbols)) 1 line) refl
-      (sym (blank-record (length (s .symbols)) line)) refl;
+      (sym (blank-record (length (s .symbols)) line)) refl refl;
 }
 
 -- ELEMENT, where no layer is closed yet
@@ -66,11 +66,11 @@ elements-opens c s t none x = record {
   same =
       ap (λ (us : List LayerBlock). baseRecords c s (isFirst s) ++ flat (map (blockRecords (viewOf c s) (volumeOf s)) us)) none
       ∙ append-nil (baseRecords c s (isFirst s));
-  scratch = scratch-same t (top s 3) (elements s) x refl refl;
+  scratch = scratch-same t (top s 3) (elements s) x refl refl refl;
 }
 
 pub layer-opens : (c : Class) (s : Set) (k : ℕ) (t : List ℤ) → Scratch t (elements s) → Enters c (elements s) (figures s (inLayer k) []) t
-layer-opens c s k t x = record { same = append-nil (shutSoFar c (elements s)); scratch = scratch-same t (elements s) (figures s (inLayer k) []) x refl refl }
+layer-opens c s k t x = record { same = append-nil (shutSoFar c (elements s)); scratch = scratch-same t (elements s) (figures s (inLayer k) []) x refl refl refl }
 
 -- ── figures that are blocks ──
 -- the count of records says nothing of what is open
@@ -89,7 +89,7 @@ chain-opens c s h fs line t x =
     let st′ : State = successive (withRecords ks s) h fs line [] in
     record {
       opens = ap (λ (r : List (List ℤ)). r ++ emptyRecord ∷ []) (shut-taken c s ks h fs);
-      scratch = scratch-figure t (figures s h fs) st′ x (headOf s h kindSuccessive line) refl (head-is ks h) (own-taken s ks h);
+      scratch = scratch-figure t (figures s h fs) st′ x (headOf s h kindSuccessive line) refl (head-is ks h) (own-taken s ks h) refl;
     }
   where
     head-is : (ks : List ℕ) (h : Home) → headOf s h kindSuccessive line ≡ figureOpen (successive (withRecords ks s) h fs line [])
@@ -103,7 +103,7 @@ text-opens c s h fs line t x =
     let st′ : State = texts (withRecords ks s) h fs line (blank (textTable (isLayer h) 4 12)) in
     record {
       opens = ap (λ (r : List (List ℤ)). r ++ emptyRecord ∷ []) (shut-taken c s ks h fs);
-      scratch = scratch-figure t (figures s h fs) st′ x (headOf s h kindText line) refl (head-is ks h) (own-taken s ks h);
+      scratch = scratch-figure t (figures s h fs) st′ x (headOf s h kindText line) refl (head-is ks h) (own-taken s ks h) refl;
     }
   where
     head-is : (ks : List ℕ) (h : Home) → headOf s h kindText line ≡ figureOpen (texts (withRecords ks s) h fs line (blank (textTable (isLayer h) 4 12)))
@@ -116,5 +116,5 @@ placed-opens c s k fs line t x = record {
   opens = ap (λ (r : List (List ℤ)). r ++ emptyRecord ∷ []) (shut-taken c s (kindPlaced ∷ []) (inLayer k) fs);
   scratch =
       scratch-figure t (figures s (inLayer k) fs) (placing (withRecords (kindPlaced ∷ []) s) k fs line (symbolBlock (blankHeld placedTables)) 0) x (start kindPlaced k (volumeOf s) line) refl
-      (sym (placed-begun k (volumeOf s) line)) refl;
+      (sym (placed-begun k (volumeOf s) line)) refl refl;
 }

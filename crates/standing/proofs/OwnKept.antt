@@ -1,6 +1,6 @@
 -- The number of the open drawing's, symbol's or FILE_FORMAT's record, kept from line to line.
 use Prim.Native.Nat.{ℕ, zero, suc, _+_, _*_}
-use mathlib.Core.Bool.{Bool, false, _&&_, _||_, not}
+use mathlib.Core.Bool.{Bool, true, false, _&&_, _||_, not}
 use mathlib.Core.List.{List, [], _∷_, map}
 use mathlib.Core.Path.{_≡_, sym, _∙_, ap, subst}
 use mathlib.Core.Option.{some}
@@ -12,18 +12,19 @@ use Rattle.rules.specs.declared.Class.{Class}
 use Rattle.rules.specs.Base.{flat, isNil, among, hasNumber}
 use Rattle.rules.specs.RefusalNumbers.{got}
 use Rattle.rules.specs.Lines.{Rest, Form, ignored, wrong, close, eof, keyed, freeShapeOf}
-use Rattle.rules.specs.RangeClass.{digits, digitsOf, reaches, exceeds, both, skipOf, mostDepth}
-use Rattle.rules.specs.Values.{amountAt, isLayerId}
+use Rattle.rules.specs.RangeClass.{digits, digitsOf, reaches, exceeds, both, skipOf, mostDepth, knowsWires}
+use Rattle.rules.specs.Values.{amountAt, isLayerId, numsOf}
 use Rattle.rules.specs.Rows.{Slots, Found, absent, found, find, Held, partOf, rowsThere, rowsAtLimit, Act, actRow, actUnknown, act}
 use Rattle.rules.specs.Blocks.{topTable, fileTables, drawingTable, mostLayers, definesTable, symbolTable, elementTable}
-use Rattle.rules.specs.Figures.{leastPoints, pointTable, textTable, placedTable, placedTables}
-use Rattle.rules.specs.Sets.{Point, Figure, Drawing, Symbol, Set, isFirst, withRecords, arcOf, rangeOf, defineRange, knownOf, usedIn, symbolOwn}
+use Rattle.rules.specs.Figures.{leastPoints, pointTable, textTable, placedTable, placedTables, wireTable}
+use Rattle.rules.specs.Sets.{Point, Wire, Figure, Drawing, Symbol, Set, isFirst, withRecords, arcOf, rangeOf, defineRange, joinDigit, wiresOf, knownOf, usedIn, symbolOwn}
 use Rattle.rules.specs.VolumesAndTotals.{chained, dated, countedHere, countedAll, layersUsed}
-use Rattle.rules.specs.Machine.{Line, inLastVolume, Env, Home, inElement, inLayer, isLayer, State, top, file, drawing, layerNames, defines, symbol, hide, elements, figures, successive, texts, placing, skipping, ended, symbolBlock, pastElement}
-use Rattle.rules.specs.Machine.{roomFor, kindIn, fileKinds, openTop, onTop, onFile, onDrawing, layerValue, onLayerNames, onDefines, newName, openSymbol, onSymbol, onHide, onElements, homeTable, closeFigures, openPlaced, openFigure, onFigures, onSuccessive, onTexts}
+use Rattle.rules.specs.Machine.{Line, inLastVolume, Env, Home, inElement, inLayer, isLayer, State, top, file, drawing, layerNames, defines, symbol, hide, elements, figures, successive, texts, placing, skipping, ended, Owned, symbolBlock, wireBlock, wireUnread, pastElement}
+use Rattle.rules.specs.Machine.{roomFor, kindIn, fileKinds, openTop, onTop, onFile, onDrawing, layerValue, onLayerNames, onDefines, newName, openSymbol, onSymbol, onHide, onElements, homeTable, closeFigures, openPlaced, beginWire, openWire, openFigure, onFigures, onSuccessive, onTexts}
 use Rattle.rules.specs.RecordTable.{kindLine, kindSuccessive, kindText, kindPoint}
 use Rattle.rules.specs.PlacedSymbol.{onUnknown, newSerial, onPlaced, onPlacedKey, onPlacing, skipShut, onSkipping}
 use Rattle.rules.specs.LineByLine.{stepIn}
+use Rattle.rules.specs.Wires.{joinsEnds, lastEdge, joined, onWire}
 use Rattle.rules.proofs.OnActs.{on-byAct, on-shut, on-skip}
 use Rattle.rules.proofs.Chains.{On, on-unless, on-cond, on-then, on-got}
 use Rattle.standing.specs.Kept.{shutSoFar, HomeOwnAt, OwnAt, ownBehind}
@@ -121,11 +122,21 @@ module _ (c : Class) (e : Env) (l : Line) (records : ℕ) where
     own-placed s (inElement y) fs = tt
     own-placed s (inLayer k) fs = on-unless P (roomFor (e .limit) (s .taken + 1)) 19 _ λ _. tt
 
+    -- read or skipped whole
+    own-begun : (b : Bool) (s : Set) (k : ℕ) (fs : List Figure) (n : ℕ) → P (beginWire b s k fs n)
+    own-begun true s k fs n = tt
+    own-begun false s k fs n = tt
+
+    own-wire : (s : Set) (h : Home) (fs : List Figure) → On P (openWire e l s h fs)
+    own-wire s (inElement y) fs = tt
+    own-wire s (inLayer k) fs = on-unless P (roomFor (e .limit) (s .taken + 2)) 19 _ λ _. own-begun (knowsWires (e .class)) (withRecords (18 ∷ 19 ∷ []) s) k fs (l .line)
+
     own-block : (s : Set) (h : Home) (fs : List Figure) (m : ℕ) → HomeOwnAt own s h → On P (openFigure e l s h fs m)
     own-block s h fs zero i = tt
     own-block s h fs (suc zero) i = on-unless P (roomFor (e .limit) (s .taken + 1)) 19 _ λ _. own-home (kindIn h kindSuccessive ∷ []) s h i
     own-block s h fs (suc (suc zero)) i = on-unless P (roomFor (e .limit) (s .taken + 1)) 19 _ λ _. own-home (kindIn h kindText ∷ []) s h i
-    own-block s h fs (suc (suc (suc m))) i = own-placed s h fs
+    own-block s h fs (suc (suc (suc zero))) i = own-placed s h fs
+    own-block s h fs (suc (suc (suc (suc m)))) i = own-wire s h fs
 
     own-figures : (s : Set) (h : Home) (fs : List Figure) (f : Form) → HomeOwnAt own s h → On P (onFigures e l s h fs f)
     own-figures s h fs f i =
@@ -162,12 +173,23 @@ module _ (c : Class) (e : Env) (l : Line) (records : ℕ) where
     own-placing s k fs n o zero (keyed key r) = placed-key s k fs n o key r (find key placedTable)
     own-placing s k fs n o (suc p) f = placed-act s k fs n o (suc p) (act (knownOf s) (getD placedTables (suc p) []) (digits 0 0) (rowsThere (partOf o (suc p))) f)
 
-    skipped-close : (s : Set) (k : ℕ) (fs : List Figure) (n : ℕ) (o : Held) (d : ℕ) → On P (skipShut s k fs n (symbolBlock o) d)
-    skipped-close s k fs n o zero = tt
-    skipped-close s k fs n o (suc zero) = tt
+    -- .. and a wire
+    own-in-wire : (s : Set) (k : ℕ) (fs : List Figure) (n : ℕ) (x : Wire) (f : Form) → On P (onWire e l s k fs n x f)
+    own-in-wire s k fs n x f =
+        on-byAct P _ _ _ _ (act (knownOf s) wireTable (wiresOf s) (rowsAtLimit 0 wireTable) f) tt
+        (λ j v. on-unless P (joined (joinsEnds (joinDigit s)) (lastEdge (x .elements)) j (numsOf v)) 11 _ λ _. on-unless P (roomFor (e .limit) (s .taken + 1)) 19 _ λ _. tt)
+        (λ m j v _. tt) tt
+
+    skipped-close : (s : Set) (k : ℕ) (fs : List Figure) (n : ℕ) (o : Owned) (d : ℕ) → On P (skipShut s k fs n o d)
+    skipped-close s k fs n (symbolBlock o) zero = tt
+    skipped-close s k fs n (wireBlock x) zero = tt
+    skipped-close s k fs n wireUnread zero = tt
+    skipped-close s k fs n (symbolBlock o) (suc zero) = tt
+    skipped-close s k fs n (wireBlock x) (suc zero) = tt
+    skipped-close s k fs n wireUnread (suc zero) = tt
     skipped-close s k fs n o (suc (suc d)) = tt
 
-    own-skipping : (s : Set) (k : ℕ) (fs : List Figure) (n : ℕ) (o : Held) (d : ℕ) (f : Form) → On P (onSkipping s k fs n (symbolBlock o) d f)
+    own-skipping : (s : Set) (k : ℕ) (fs : List Figure) (n : ℕ) (o : Owned) (d : ℕ) (f : Form) → On P (onSkipping s k fs n o d f)
     own-skipping s k fs n o d ignored = tt
     own-skipping s k fs n o d (wrong m) = tt
     own-skipping s k fs n o d close = skipped-close s k fs n o d
@@ -187,7 +209,9 @@ module _ (c : Class) (e : Env) (l : Line) (records : ℕ) where
     own-line (successive s h fs n ps) i size = own-chain s h fs n ps (l .form) i
     own-line (texts s h fs n o) i size = own-texts s h fs n o (l .form) i
     own-line (placing s k fs n (symbolBlock o) p) i size = own-placing s k fs n o p (l .form)
-    own-line (skipping s k fs n (symbolBlock o) d) i size = own-skipping s k fs n o d (l .form)
+    own-line (placing s k fs n (wireBlock x) p) i size = own-in-wire s k fs n x (l .form)
+    own-line (placing s k fs n wireUnread p) i size = tt
+    own-line (skipping s k fs n o d) i size = own-skipping s k fs n o d (l .form)
     own-line (ended s) i size = tt
 
     -- the number is right behind any line that is taken

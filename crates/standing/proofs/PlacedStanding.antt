@@ -31,7 +31,7 @@ use Rattle.account.specs.declared.Step.{Step}
 use Rattle.account.specs.declared.Step.the-variants as S
 use Rattle.account.specs.Records.{partAt, withPart}
 use Rattle.account.specs.Account.{figureDone}
-use Rattle.account.specs.SkippedLines.{skippedAs, inOwned}
+use Rattle.account.specs.SkippedLines.{skippedAs, inPlaced}
 use Rattle.standing.specs.SoFar.{emptyRecord}
 use Rattle.account.specs.PlacedLines.{Lent, skipStep, unknownStep, FoundLine, KeyLine, isWhole, OwnLine, PlacedLine}
 use Rattle.standing.specs.Standing.{Desk, formSize, usedOf, rowBytes, InPlaced, Stands, Counted, deskNow, deskScratch, LineHere, StandsAt, StepOut}
@@ -103,7 +103,7 @@ module _ (c : Class) (spool : List ℕ) (k : ℕ) (FileHere : Desk → Set → �
           go deeper f = record {
             inside = skipping s m fs n (symbolBlock o) 1;
             behind = st;
-            skips = inOwned s m fs n (symbolBlock o);
+            skips = inPlaced s m fs n o;
             step = f;
             records = refl;
             taken = refl;

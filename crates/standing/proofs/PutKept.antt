@@ -13,7 +13,7 @@ use Rattle.rules.specs.declared.Class.{Class}
 use Rattle.rules.specs.Base.{flat}
 use Rattle.rules.specs.Rows.{Held}
 use Rattle.rules.specs.Sets.{Set, isFirst}
-use Rattle.rules.specs.Machine.{State, top, file, drawing, layerNames, defines, symbol, hide, elements, figures, successive, texts, placing, skipping, ended, setOf, symbolBlock}
+use Rattle.rules.specs.Machine.{State, top, file, drawing, layerNames, defines, symbol, hide, elements, figures, successive, texts, placing, skipping, ended, setOf, symbolBlock, wireBlock, wireUnread}
 use Rattle.rules.proofs.Chains.{flat-append}
 use Rattle.account.specs.declared.Now.{Now}
 use Rattle.account.specs.declared.Complete.{Complete}
@@ -48,8 +48,12 @@ own-behind c spool k d F own st h = by st h
     by (successive s o fs n ps) h = at 9 (h .0)
     by (texts s o fs n w) h = at 10 (h .0)
     by (placing s m fs n (symbolBlock o) p) h = at 11 (h .0)
-    by (skipping s m fs n o p) h = absurd h
-    by (ended s) h = at 12 h
+    by (placing s m fs n (wireBlock w) p) h = at 12 (h .0)
+    by (placing s m fs n wireUnread p) h = absurd h
+    by (skipping s m fs n (symbolBlock o) p) h = absurd h
+    by (skipping s m fs n (wireBlock w) p) h = absurd h
+    by (skipping s m fs n wireUnread p) h = at 12 (h .0)
+    by (ended s) h = at 15 h
 
 -- ── a record put ──
 put-there : (number : ℕ) (u t : List ℤ) → number < length t / 32 → putRecord number u t ≡ withPart (32 * number) u t
@@ -112,6 +116,15 @@ module _ (c : Class) (limit : ℕ) (table : List ℤ) (records more : ℕ) (st s
         f .long,
       )
 
+  -- two at once, which stand at the front of a list
+  kept-two : (h : List ℤ) → 64 ≤ length h → FillsAll c st st′ more number (take 64 h) → (table₁ : List ℤ) → table₁ ≡ putHeader true number h table → Kept c limit table₁ (records + more) st′
+  kept-two h g f table₁ is =
+      let one-long : length (partAt 0 h) ≡ 32 = omega (arith, length-take 32 h, g) in
+      let two-long : length (partAt 32 h) ≡ 32 = omega (arith, length-take 32 (drop 32 h), length-drop 32 h, g) in
+      kept-fills-all c limit table records more st st′ k taken fits number (take 64 h) table₁ f
+      (ap length is ∙ put-long (number + 1) (partAt 32 h) (putRecord number (partAt 0 h) table) two-long ∙ put-long number (partAt 0 h) table one-long)
+      (λ full. is ∙ put-two number h table (omega (arith, full, fits, before-end (take 64 h) f, length-take 64 h, g)) g)
+
   pub kept-put : (done : Complete) → Made c st st′ more number scratch header done → 64 ≤ length header → (done ≡ C.Header → first ≡ isFirst (setOf st)) → (table₁ : List ℤ)
       → table₁ ≡ putBy done first number header scratch table → Kept c limit table₁ (records + more) st′
   kept-put C.Nothing m g w table₁ e = subst (λ (y : List ℤ). Kept c limit y (records + more) st′) (sym e) (kept-opens c limit table records more st st′ k taken fits m)
@@ -127,17 +140,14 @@ module _ (c : Class) (limit : ℕ) (table : List ℤ) (records more : ℕ) (st s
       one-long : length one ≡ 32
       one-long = omega (arith, length-take 32 header, g)
 
-      two-long : length (partAt 32 header) ≡ 32
-      two-long = omega (arith, length-take 32 (drop 32 header), length-drop 32 header, g)
-
       by : (b : Bool) → first ≡ b → FillsAll c st st′ more number (take (fileWidth b) header) → Kept c limit table₁ (records + more) st′
-      by true q f =
-          let is : table₁ ≡ putHeader true number header table = e ∙ ap (λ (x : Bool). putHeader x number header table) q in
-          kept-fills-all c limit table records more st st′ k taken fits number (take 64 header) table₁ f
-          (ap length is ∙ put-long (number + 1) (partAt 32 header) (putRecord number one table) two-long ∙ put-long number one table one-long)
-          (λ full. is ∙ put-two number header table (omega (arith, full, fits, before-end (take 64 header) f, length-take 64 header, g)) g)
+      by true q f = kept-two header g f table₁ (e ∙ ap (λ (x : Bool). putHeader x number header table) q)
       by false q f =
           let is : table₁ ≡ putRecord number one table = e ∙ ap (λ (x : Bool). putHeader x number header table) q in
           kept-fills-all c limit table records more st st′ k taken fits number one table₁ f (ap length is ∙ put-long number one table one-long)
           (λ full. is ∙ put-there number one table (omega (arith, full, fits, before-end one f, one-long))
           ∙ ap (λ (i : ℕ). take (32 * number) table ++ (one ++ drop (32 * number + i) table)) (sym one-long))
+  -- a wire's two stand behind the first record of the scratch
+  kept-put C.Wire m g w table₁ e =
+      kept-two (drop 32 scratch) (omega (arith, length-drop 32 scratch, m .0)) (m .1) table₁
+      (e ∙ ap (λ (u : List ℤ). putRecord (number + 1) (take 32 u) (putRecord number (partAt 32 scratch) table)) (sym (drop-drop 32 32 scratch)))

@@ -1,33 +1,68 @@
 -- The scratch with another record in one of its three parts.
+use Prim.Native.Nat.{ℕ}
 use mathlib.Core.List.{List, _++_, append-nil}
+use mathlib.Core.Option.{Option, none, some}
 use mathlib.Core.Path.{_≡_, refl, sym, _∙_, ap, subst}
 use native.Mathlib.Omega.{arith}
 use lib.IntN.{ℤ, pos}
 use lib.ListN.{length, take, drop, replicate, length-append, length-take, length-drop, drop-of-length-le}
 use lib.Seq.{take-at, drop-at, drop-drop}
-use Rattle.rules.specs.Machine.{State}
+use Rattle.rules.specs.Sets.{Edge, Set}
+use Rattle.rules.specs.Machine.{State, top, file, drawing, layerNames, defines, symbol, hide, elements, figures, successive, texts, placing, skipping, ended}
+use Rattle.rules.specs.Machine.{Owned, symbolBlock, wireBlock, wireUnread}
+use Rattle.rules.specs.RecordTable.{wireStart}
+use Rattle.rules.specs.Wires.{lastEdge}
 use Rattle.account.specs.Records.{partAt, withPart}
-use Rattle.standing.specs.SoFar.{emptyRecord}
-use Rattle.standing.specs.Kept.{ownOpen, figureOpen, Scratch}
+use Rattle.standing.specs.SoFar.{volumeOf, formerNumbers, emptyRecord}
+use Rattle.standing.specs.Kept.{ownOpen, figureOpen, secondIn, secondOpen, Scratch}
 use Rattle.standing.proofs.LaidTables.{part-of, behind-of, with-of}
 use Rattle.standing.proofs.ForeParts.{part-fore, fore-part}
 
--- it is three records long
+-- ── it is three records long ──
+-- an open wire's two are, whatever is known of its last element
+pub former-long : (o : Option Edge) (k volume n : ℕ) → length (formerNumbers o (wireStart k volume n)) ≡ 64
+former-long none k volume n = refl
+former-long (some e) k volume n = refl
+
+second-of : (s : Set) (k n : ℕ) (o : Owned) → length (secondIn s k n o) ≡ 32
+second-of s k n (symbolBlock o) = refl
+second-of s k n (wireBlock w) =
+    omega (arith, length-drop 32 (formerNumbers (lastEdge (w .elements)) (wireStart k (volumeOf s) n)), former-long (lastEdge (w .elements)) k (volumeOf s) n)
+second-of s k n wireUnread = refl
+
+second-long : (st : State) → length (secondOpen st) ≡ 32
+second-long (top s k) = refl
+second-long (file s n h p) = refl
+second-long (drawing s d) = refl
+second-long (layerNames s d) = refl
+second-long (defines s b) = refl
+second-long (symbol s y) = refl
+second-long (hide s y ps) = refl
+second-long (elements s) = refl
+second-long (figures s h fs) = refl
+second-long (successive s h fs n ps) = refl
+second-long (texts s h fs n o) = refl
+second-long (placing s k fs n o p) = second-of s k n o
+second-long (skipping s k fs n o d) = second-of s k n o
+second-long (ended s) = refl
+
 pub scratch-long : (t : List ℤ) (st : State) → Scratch t st → length t ≡ 96
-scratch-long t st x = omega (arith, ap length (x .rest), length-drop 64 t)
+scratch-long t st x =
+    let behind : length (drop 64 t) ≡ 32 = ap length (x .rest) ∙ second-long st in
+    omega (arith, behind, length-drop 64 t)
 
 -- where nothing is open it is zeros
-pub scratch-zeros : (st : State) → emptyRecord ≡ ownOpen st → emptyRecord ≡ figureOpen st → Scratch (replicate 96 (pos 0)) st
-scratch-zeros st own figure = record { own = own; figure = figure; rest = refl }
+pub scratch-zeros : (st : State) → emptyRecord ≡ ownOpen st → emptyRecord ≡ figureOpen st → emptyRecord ≡ secondOpen st → Scratch (replicate 96 (pos 0)) st
+scratch-zeros st own figure second = record { own = own; figure = figure; rest = second }
 
 -- what is said of one state is said of another in which the same is open
-pub scratch-same : (t : List ℤ) (st st′ : State) → Scratch t st → ownOpen st ≡ ownOpen st′ → figureOpen st ≡ figureOpen st′ → Scratch t st′
-scratch-same t st st′ x own figure = record { own = x .own ∙ own; figure = x .figure ∙ figure; rest = x .rest }
+pub scratch-same : (t : List ℤ) (st st′ : State) → Scratch t st → ownOpen st ≡ ownOpen st′ → figureOpen st ≡ figureOpen st′ → secondOpen st ≡ secondOpen st′ → Scratch t st′
+scratch-same t st st′ x own figure second = record { own = x .own ∙ own; figure = x .figure ∙ figure; rest = x .rest ∙ second }
 
 -- ── a part put, where the others are as they should be ──
 module _ (t : List ℤ) (long : length t ≡ 96) (st : State) where
   -- the drawing's or the symbol's
-  pub put-own : (u : List ℤ) → u ≡ ownOpen st → length u ≡ 32 → partAt 32 t ≡ figureOpen st → drop 64 t ≡ emptyRecord → Scratch (withPart 0 u t) st
+  pub put-own : (u : List ℤ) → u ≡ ownOpen st → length u ≡ 32 → partAt 32 t ≡ figureOpen st → drop 64 t ≡ secondOpen st → Scratch (withPart 0 u t) st
   put-own u is k figure rest = record {
     own = take-at u (drop 32 t) 32 k ∙ is;
     figure = ap (take 32) (drop-at u (drop 32 t) 32 k) ∙ figure;
@@ -35,7 +70,7 @@ module _ (t : List ℤ) (long : length t ≡ 96) (st : State) where
   }
 
   -- the figure's
-  pub put-figure : (u : List ℤ) → u ≡ figureOpen st → length u ≡ 32 → partAt 0 t ≡ ownOpen st → drop 64 t ≡ emptyRecord → Scratch (withPart 32 u t) st
+  pub put-figure : (u : List ℤ) → u ≡ figureOpen st → length u ≡ 32 → partAt 0 t ≡ ownOpen st → drop 64 t ≡ secondOpen st → Scratch (withPart 32 u t) st
   put-figure u is k own rest =
       let first : length (take 32 t) ≡ 32 = omega (arith, length-take 32 t, long) in
       record {
@@ -45,13 +80,13 @@ module _ (t : List ℤ) (long : length t ≡ 96) (st : State) where
       }
 
   -- the point's is zeros again when it is in the table
-  pub put-point : partAt 0 t ≡ ownOpen st → partAt 32 t ≡ figureOpen st → Scratch (withPart 64 emptyRecord t) st
-  put-point own figure = record {
+  pub put-point : partAt 0 t ≡ ownOpen st → partAt 32 t ≡ figureOpen st → emptyRecord ≡ secondOpen st → Scratch (withPart 64 emptyRecord t) st
+  put-point own figure second = record {
     own = part-fore 0 (withPart 64 emptyRecord t) t (fore-part 32 64 emptyRecord t (omega arith) (omega (arith, long))) ∙ own;
     figure = part-fore 32 (withPart 64 emptyRecord t) t (fore-part 64 64 emptyRecord t (omega arith) (omega (arith, long))) ∙ figure;
     rest =
         drop-at (take 64 t) (emptyRecord ++ drop 96 t) 64 (omega (arith, length-take 64 t, long))
-        ∙ ap (λ (u : List ℤ). emptyRecord ++ u) (drop-of-length-le t {i = 96} (omega (arith, long))) ∙ append-nil emptyRecord;
+        ∙ ap (λ (u : List ℤ). emptyRecord ++ u) (drop-of-length-le t {i = 96} (omega (arith, long))) ∙ append-nil emptyRecord ∙ second;
   }
 
 -- A chain is lent two parts at once, its own and the point's: r, on return.
@@ -79,14 +114,14 @@ module _ (t : List ℤ) (long : length t ≡ 96) (r : List ℤ) (k : length r �
 
 -- ── .. behind a line that leaves the others alone ──
 module _ (t : List ℤ) (st st′ : State) (x : Scratch t st) (u : List ℤ) (k : length u ≡ 32) where
-  pub scratch-own : u ≡ ownOpen st′ → figureOpen st ≡ figureOpen st′ → Scratch (withPart 0 u t) st′
-  scratch-own is figure = put-own t (scratch-long t st x) st′ u is k (x .figure ∙ figure) (x .rest)
+  pub scratch-own : u ≡ ownOpen st′ → figureOpen st ≡ figureOpen st′ → secondOpen st ≡ secondOpen st′ → Scratch (withPart 0 u t) st′
+  scratch-own is figure second = put-own t (scratch-long t st x) st′ u is k (x .figure ∙ figure) (x .rest ∙ second)
 
-  pub scratch-figure : u ≡ figureOpen st′ → ownOpen st ≡ ownOpen st′ → Scratch (withPart 32 u t) st′
-  scratch-figure is own = put-figure t (scratch-long t st x) st′ u is k (x .own ∙ own) (x .rest)
+  pub scratch-figure : u ≡ figureOpen st′ → ownOpen st ≡ ownOpen st′ → secondOpen st ≡ secondOpen st′ → Scratch (withPart 32 u t) st′
+  scratch-figure is own second = put-figure t (scratch-long t st x) st′ u is k (x .own ∙ own) (x .rest ∙ second)
 
   -- zeros again, whatever the line put there: its record is in the table
-  pub scratch-cleared : ownOpen st ≡ ownOpen st′ → emptyRecord ≡ figureOpen st′ → Scratch (withPart 32 emptyRecord (withPart 32 u t)) st′
-  scratch-cleared own none =
+  pub scratch-cleared : ownOpen st ≡ ownOpen st′ → emptyRecord ≡ figureOpen st′ → secondOpen st ≡ secondOpen st′ → Scratch (withPart 32 emptyRecord (withPart 32 u t)) st′
+  scratch-cleared own gone second =
       let first : length (take 32 t) ≡ 32 = omega (arith, length-take 32 t, scratch-long t st x) in
-      subst (λ (y : List ℤ). Scratch y st′) (sym (with-of (take 32 t) u (drop 64 t) 32 first k emptyRecord)) (put-figure t (scratch-long t st x) st′ emptyRecord none refl (x .own ∙ own) (x .rest))
+      subst (λ (y : List ℤ). Scratch y st′) (sym (with-of (take 32 t) u (drop 64 t) 32 first k emptyRecord)) (put-figure t (scratch-long t st x) st′ emptyRecord gone refl (x .own ∙ own) (x .rest ∙ second))

@@ -72,7 +72,7 @@ deskKept d n tally marks inner header t = record {
   scratch = t;
 }
 
-pub lengths-kept : (d : Desk) (n : Now) (tally : List ℕ) (marks inner : List Bool) (header t : List ℤ) → Lengths d → length marks ≡ 28 → length inner ≡ 2 → length header ≡ 70 → length t ≡ 96
+pub lengths-kept : (d : Desk) (n : Now) (tally : List ℕ) (marks inner : List Bool) (header t : List ℤ) → Lengths d → length marks ≡ 28 → length inner ≡ 2 → length header ≡ 71 → length t ≡ 96
     → Lengths (deskKept d n tally marks inner header t)
 lengths-kept d n tally marks inner header t l lm li lh lt = record {
   symbols = l .symbols;
@@ -91,7 +91,7 @@ abbrev pub deskWith : Desk → Now → List Bool → List Bool → List ℤ → 
 deskWith d n marks inner t = deskKept d n (d .tally) marks inner (d .header) t
 
 module _ (c : Class) (spool : List ℕ) (k : ℕ) (FileHere : Desk → Set → ℕ → Held → ℕ → Type 0) (d : Desk) (at to : ℕ) (st st′ : State) (z : Stands c spool k d (FileHere d) at st) where
-  pub stands-with : (n : Now) (marks inner : List Bool) (header t : List ℤ) → sight st ≡ sight st′ → length marks ≡ 28 → length inner ≡ 2 → length header ≡ 70
+  pub stands-with : (n : Now) (marks inner : List Bool) (header t : List ℤ) → sight st ≡ sight st′ → length marks ≡ 28 → length inner ≡ 2 → length header ≡ 71
       → Scratch t st′
       → total elementsOf (setOf st .volumes) + elementsHere st + openFigures st′ ≤ to
       → 48 * length (setOf st .symbols) + nameBytes st′ ≤ to

@@ -15,10 +15,11 @@ use Rattle.account.specs.Records.{withPart}
 use Rattle.standing.specs.Standing.{Desk, desk}
 use Rattle.account.specs.SymbolLines.{nameOf, nameNumber}
 use Rattle.account.specs.PlacedLines.{lent}
+use Rattle.account.specs.WireLines.{begunStep, begunPut}
 use Rattle.account.specs.TopLines.{topLent}
 use Rattle.standing.specs.Reading.{LinePromise, tallyAfter, tallyNamed, symbolsNamed}
-use Rattle.standing.specs.LineDone.{OnTop, OnDrawing, OnNames, OnDefines, OnSymbol, OnHide, OnFigures, OnChain, OnText, OnPlaced}
-use Rattle.standing.specs.LineDone.{Done, top, file, drawing, layer-names, defines, symbol, hide, elements, figures, chain, text, placed, other}
+use Rattle.standing.specs.LineDone.{OnTop, OnDrawing, OnNames, OnDefines, OnSymbol, OnHide, OnFigures, OnChain, OnText, OnPlaced, OnWire}
+use Rattle.standing.specs.LineDone.{Done, top, file, drawing, layer-names, defines, symbol, hide, elements, figures, chain, text, placed, wire, other}
 use Rattle.standing.proofs.Standings.{deskWith}
 use Rattle.standing.proofs.SymbolStanding.{nameKept, symbolDesk}
 use Rattle.standing.proofs.StepPromises as promise
@@ -107,11 +108,16 @@ module _ (c : Class) (spool following : List ℕ) (form : LineForm) (w : Where) 
   on-hide b h e = subst Promise (sym (e ∙ ap unmarked (h .back))) (promise.hide-promise c spool k form w following d (h .rec) r b (h .did))
 
   on-figures : d .now .block ≡ 8
-      → OnFigures spool form (d .now) (d .tally) (d .symbols) (d .layers) w (d₁ .tally) (d .marks) (d₁ .marks) (d .inner) (d₁ .inner) (d .scratch) (d₁ .scratch) r
+      → OnFigures spool form (d .now) (d .tally) (d .symbols) (d .layers) c w (d₁ .tally) (d .marks) (d₁ .marks) (d .inner) (d₁ .inner) (d .scratch) (d₁ .scratch) r
       → d₁ ≡ counted (d₁ .tally) (d₁ .scratch) → Promise d₁
   on-figures b h e =
-      subst Promise (sym (e ∙ ap (λ (x : List ℕ). counted x (d₁ .scratch)) (h .1) ∙ ap (counted (tallyAfter (d .tally) r)) (h .0 .back)))
-      (promise.figures-promise c spool k form w following d (d₁ .marks) (d₁ .inner) (h .0 .rec) r b (h .0 .did))
+      let f : Step = h .figures in
+      let after : List ℕ = tallyAfter (d .tally) (begunStep c f) in
+      let is : d₁ ≡ counted after (begunPut w f (withPart 32 (h .lends .rec) (d .scratch))) =
+      e ∙ ap (λ (x : List ℕ). counted x (d₁ .scratch)) (h .tallied ∙ ap (tallyAfter (d .tally)) (h .answer)) ∙ ap (counted after) (h .begun ∙ ap (begunPut w f) (h .lends .back)) in
+      subst (λ (x : Step). LinePromise c spool k form w d d₁ following x) (sym (h .answer))
+      (subst (λ (x : Desk). LinePromise c spool k form w d x following (begunStep c f)) (sym is)
+      (promise.figures-promise c spool k form w following d (d₁ .marks) (d₁ .inner) (h .lends .rec) f b (h .lends .did)))
 
   on-chain : d .now .block ≡ 9 → OnChain spool form (d .now) (d .tally) (d .symbols) (d .layers) w (d .scratch) (d₁ .scratch) r → d₁ ≡ unmarked (d₁ .scratch) → Promise d₁
   on-chain b h e = subst Promise (sym (e ∙ ap unmarked (h .back))) (promise.chain-promise c spool k form w following d (h .recs) r b (h .did))
@@ -127,6 +133,9 @@ module _ (c : Class) (spool following : List ℕ) (form : LineForm) (w : Where) 
       subst Promise (sym (e ∙ ap set-down (h .back)))
       (promise.placed-promise c spool k form w following d (lent (d₁ .tally) (d₁ .serials) (d₁ .marks) (d₁ .inner)) (h .rec) r b (h .did))
 
+  on-wire : d .now .block ≡ 12 → OnWire spool form (d .now) (d .tally) (d .symbols) (d .layers) w (d .scratch) (d₁ .scratch) r → d₁ ≡ unmarked (d₁ .scratch) → Promise d₁
+  on-wire b h e = subst Promise (sym e) (promise.wire-promise c spool k form w following d (d₁ .scratch) r b h)
+
   pub done-promise : length spool ≤ 61440 → w .volume < 4294967296 → w .line < 4294967296 → Done c spool following form w d d₁ r → Promise d₁
   done-promise short fv fl (top b h e) = on-top fv fl b h e
   done-promise short fv fl (file b h e) = subst Promise (sym e) (promise.file-promise c spool k form w following d (d₁ .tally) (d₁ .marks) (d₁ .header) refl r b h)
@@ -140,4 +149,5 @@ module _ (c : Class) (spool following : List ℕ) (form : LineForm) (w : Where) 
   done-promise short fv fl (chain b h e) = on-chain b h e
   done-promise short fv fl (text b h e) = on-text b h e
   done-promise short fv fl (placed b h e) = on-placed b h e
+  done-promise short fv fl (wire b h e) = on-wire b h e
   done-promise short fv fl (other b q e) = subst (λ (x : Step). LinePromise c spool k form w d d₁ following x) (sym q) (promise.other-promise c spool k form w following d d₁ b)

@@ -8,6 +8,8 @@ use lib.Dec.{eqb}
 use lib.IntN.{ℤ}
 use lib.ListN.{length, getD, take, drop, length-take, length-drop, drop-of-length-le}
 use lib.Seq.{take-all, take-append-seam, drop-append-seam}
+use Rattle.rules.specs.declared.Class.{Class}
+use Rattle.rules.specs.RangeClass.{knowsWires}
 use Rattle.rules.specs.Rows.{Act, stay, entry, begin, shut, refuse}
 use Rattle.rules.specs.RecordTable.{ruleAt}
 use Rattle.rules.specs.declared.LineForm.{LineForm}
@@ -20,9 +22,10 @@ use Rattle.account.specs.declared.Step.the-variants as S
 use Rattle.account.specs.Records.{partAt, withPart}
 use Rattle.account.specs.Account.{atBlock}
 use Rattle.standing.specs.Reading.{tallyAfter, tallyNamed, symbolsNamed}
-use Rattle.account.specs.FigureLines.{moreFigures, figureOpened, figureStep, FigureLine}
+use Rattle.account.specs.FigureLines.{figureStep, FigureLine}
 use Rattle.account.specs.SymbolLines.{isNamed, nameOf, isNew, symbolPart, symbolPut, symbolStep, SymbolLine}
-use Rattle.standing.specs.LineDone.{namesOf, idsOf, Named, Lends, LendsChain, symbolAct, SymbolReady, OnSymbol}
+use Rattle.account.specs.WireLines.{begunStep, begunPut}
+use Rattle.standing.specs.LineDone.{namesOf, idsOf, Named, Lends, LendsChain, figureAct, OnFigures, symbolAct, SymbolReady, OnSymbol}
 use Rattle.account.proofs.Lent.{lent-part}
 use mir.Syntax.{w64}
 use mir.Val.{Fits}
@@ -52,15 +55,16 @@ at-most n h g = go (7 - n) (omega (arith, g))
     go (suc i) q = omega (arith, q)
 
 -- behind those of ELEMENT
-pub twelve-left : (n : ℕ) → 8 ≤ n → (n ≡ 8 → ⊥) → (n ≡ 9 → ⊥) → (n ≡ 10 → ⊥) → (n ≡ 11 → ⊥) → 12 ≤ n
-twelve-left n h a8 a9 a10 a11 = from-eight (n - 8) (omega (arith, h))
+pub thirteen-left : (n : ℕ) → 8 ≤ n → (n ≡ 8 → ⊥) → (n ≡ 9 → ⊥) → (n ≡ 10 → ⊥) → (n ≡ 11 → ⊥) → (n ≡ 12 → ⊥) → 12 < n
+thirteen-left n h a8 a9 a10 a11 a12 = from-eight (n - 8) (omega (arith, h))
   where
-    from-eight : (m : ℕ) → n ≡ 8 + m → 12 ≤ n
+    from-eight : (m : ℕ) → n ≡ 8 + m → 12 < n
     from-eight zero e = absurd (a8 e)
     from-eight (suc zero) e = absurd (a9 e)
     from-eight (suc (suc zero)) e = absurd (a10 e)
     from-eight (suc (suc (suc zero))) e = absurd (a11 e)
-    from-eight (suc (suc (suc (suc m)))) e = omega (arith, e)
+    from-eight (suc (suc (suc (suc zero)))) e = absurd (a12 e)
+    from-eight (suc (suc (suc (suc (suc m))))) e = omega (arith, e)
 
 -- ── the names ──
 module _ {tally symbols layers : List ℕ} (y : Named tally symbols layers) where
@@ -78,6 +82,9 @@ module _ {tally symbols layers : List ℕ} (y : Named tally symbols layers) wher
 
   pub tally-10 : 10 < length tally
   tally-10 = omega (arith, y .twelve)
+
+  pub tally-12 : 12 < length tally
+  tally-12 = omega (arith, y .twelve)
 
   pub names-count : getD tally 9 0 ≡ length (namesOf tally symbols)
   names-count = omega (arith, length-take (getD tally 9 0) symbols, y .names)
@@ -130,29 +137,60 @@ part-back n u t h e =
     ∙ take-append-seam u rest
 
 -- ── figures ──
+-- how many there are behind a step
+abbrev figuresAfter : Step → ℕ
+figuresAfter (S.Go n) = n .figures
+figuresAfter (S.Skip n) = 0
+figuresAfter (S.Stop n) = 0
+
 -- a layer that closes has one figure more at most than before the line
-step-figures : (n : Now) (a : Act) (m : Now) → figureStep n a ≡ S.Go m → m .figures ≤ n .figures + 1
-step-figures n stay m e = let q : n ≡ m = cc in omega (arith, ap (λ (x : Now). x .figures) q)
-step-figures n (entry j v) m e = let q : moreFigures n ≡ m = cc in omega (arith, ap (λ (x : Now). x .figures) q)
-step-figures n (begin i j v) m e = let q : figureOpened n i ≡ m = cc in omega (arith, ap (λ (x : Now). x .figures) q)
-step-figures n shut m e = go (n .layered) (eqb (n .figures) 0) e
+step-figures : (n : Now) (a : Act) → figuresAfter (figureStep n a) ≤ n .figures + 1
+step-figures n stay = omega arith
+step-figures n (entry j v) = omega arith
+step-figures n (begin i j v) = omega arith
+step-figures n shut = go (n .layered) (eqb (n .figures) 0)
   where
-    go : (l b : Bool) → cond l (S.Go (atBlock n 7 0)) (cond b (S.Stop 8) (S.Go (atBlock n 5 0))) ≡ S.Go m → m .figures ≤ n .figures + 1
-    go true b e = let q : atBlock n 7 0 ≡ m = cc in omega (arith, ap (λ (x : Now). x .figures) q)
-    go false true e = absurd (let q : _≡_ {A = ℕ} 0 1 = cc in omega arith)
-    go false false e = let q : atBlock n 5 0 ≡ m = cc in omega (arith, ap (λ (x : Now). x .figures) q)
-step-figures n (refuse i) m e = absurd (let q : _≡_ {A = ℕ} 0 1 = cc in omega arith)
+    go : (l b : Bool) → figuresAfter (cond l (S.Go (atBlock n 7 0)) (cond b (S.Stop 8) (S.Go (atBlock n 5 0)))) ≤ n .figures + 1
+    go true b = omega arith
+    go false true = omega arith
+    go false false = omega arith
+step-figures n (refuse i) = omega arith
 
-pub count-asks : {a : Act} {n : Now} {range : ℕ} {w : Where} {t₀ t₁ : List ℤ} {m₀ m₁ i₀ i₁ : List Bool} {r : Step} → FigureLine a n range w t₀ t₁ m₀ m₁ i₀ i₁ r
-    → (tally : List ℕ) → length tally ≡ 12 → getD tally 7 0 + n .figures < 4294967295
-    → (length tally ≡ 12) × ((m : Now) → r ≡ S.Go m → m .block ≡ 7 → getD tally 7 0 + m .figures ≤ 4294967295)
-count-asks {a} {n} {range} {w} {t₀} {t₁} {m₀} {m₁} {i₀} {i₁} {r} h tally e g = (e, λ m q b. omega (arith, step-figures n a m (sym (h .answer) ∙ q), g))
+-- a wire that begins has none of them
+begun-figures : (c : Class) (f : Step) → figuresAfter (begunStep c f) ≡ figuresAfter f
+begun-figures c (S.Go n) = go (eqb (n .block) 12) (knowsWires c)
+  where
+    go : (b k : Bool) → figuresAfter (cond b (S.Go (cond k n (atBlock n 12 2))) (S.Go n)) ≡ n .figures
+    go true true = refl
+    go true false = refl
+    go false k = refl
+begun-figures c (S.Skip n) = refl
+begun-figures c (S.Stop n) = refl
 
-pub figures-back : {a : Act} {n : Now} {range : ℕ} {w : Where} {t₀ t₁ : List ℤ} {m₀ m₁ i₀ i₁ : List Bool} {r r₁ : Step} → FigureLine a n range w t₀ t₁ m₀ m₁ i₀ i₁ r → (tally tally₁ : List ℕ)
-    → (r₁ ≡ r) × (tally₁ ≡ tallyAfter tally r)
-    → FigureLine a n range w t₀ t₁ m₀ m₁ i₀ i₁ r₁ × (tally₁ ≡ tallyAfter tally r₁)
-figures-back {a} {n} {range} {w} {t₀} {t₁} {m₀} {m₁} {i₀} {i₁} {r} {r₁} h tally tally₁ q =
-    (subst (λ (x : Step). FigureLine a n range w t₀ t₁ m₀ m₁ i₀ i₁ x) (sym (q .0)) h, q .1 ∙ ap (tallyAfter tally) (sym (q .0)))
+-- f: the step of the figures' own part of a line, r: with a wire begun
+pub count-asks : {a : Act} {n : Now} {range wires : ℕ} {w : Where} {t₀ t₁ : List ℤ} {m₀ m₁ i₀ i₁ : List Bool} {f : Step} → FigureLine a n range wires w t₀ t₁ m₀ m₁ i₀ i₁ f
+    → (c : Class) (r : Step) → r ≡ begunStep c f → (tally : List ℕ) → length tally ≡ 13 → getD tally 7 0 + n .figures < 4294967295
+    → (length tally ≡ 13) × ((m : Now) → r ≡ S.Go m → m .block ≡ 7 → getD tally 7 0 + m .figures ≤ 4294967295)
+count-asks {a} {n} {range} {wires} {w} {t₀} {t₁} {m₀} {m₁} {i₀} {i₁} {f} h c r b tally e g = (
+  e,
+  λ m q k.
+      let same : m .figures ≡ figuresAfter (figureStep n a) = ap figuresAfter (sym q ∙ b) ∙ begun-figures c f ∙ ap figuresAfter (h .answer) in
+      omega (arith, same, step-figures n a, g),
+)
+
+-- what comes back of them, of the wire and of the tally
+pub figures-back : (spool : List ℕ) (form : LineForm) (n : Now) (tally symbols layers : List ℕ) (c : Class) (w : Where) (tally₁ : List ℕ) (m₀ m₁ i₀ i₁ : List Bool) (t₀ t₁ scratch : List ℤ) (f r r₁ : Step)
+    → Lends 32 t₀ scratch
+    (λ rec₀ rec₁. FigureLine (figureAct spool form n tally symbols layers) n (getD tally 1 0) (getD tally 12 0) w rec₀ rec₁ m₀ m₁ i₀ i₁ f)
+    → (r ≡ begunStep c f) × (t₁ ≡ begunPut w f scratch) → (r₁ ≡ r) × (tally₁ ≡ tallyAfter tally r) → OnFigures spool form n tally symbols layers c w tally₁ m₀ m₁ i₀ i₁ t₀ t₁ r₁
+figures-back spool form n tally symbols layers c w tally₁ m₀ m₁ i₀ i₁ t₀ t₁ scratch f r r₁ h b q = record {
+  figures = f;
+  scratch = scratch;
+  lends = h;
+  answer = q .0 ∙ b .0;
+  begun = b .1;
+  tallied = q .1 ∙ ap (tallyAfter tally) (sym (q .0));
+}
 
 -- ── a symbol that closes ──
 -- the block that is open after a line
@@ -195,7 +233,7 @@ module _ (spool : List ℕ) (form : LineForm) (n : Now) (tally symbols layers : 
         let (a, g) = symbol-shut (symbolAct spool form n tally symbols layers m₀) spool (namesOf tally symbols) n (partAt 0 t) rec₁ m b (sym e ∙ h .answer) (h .put) q in
         ap isNamed g ∙ z .name a
 
-    pub kept-asks : (length tally ≡ 12) × (length symbols ≤ 65536) × (length (partAt 0 back) ≡ 32)
+    pub kept-asks : (length tally ≡ 13) × (length symbols ≤ 65536) × (length (partAt 0 back) ≡ 32)
         × ((m : Now) → r ≡ S.Go m → m .block ≡ 4 → (getD tally 9 0 < length symbols) × (isNamed (partAt 0 back) ≡ true))
     kept-asks = (y .twelve, y .few-symbols, ap length again ∙ long, λ m e q. (z .room, ap isNamed again ∙ named m e q))
 

@@ -2,7 +2,7 @@
 use Prim.Native.Nat.{ℕ, _≤_, _<_}
 use mathlib.Core.Bool.{Bool, false}
 use mathlib.Core.List.{List, [], _∷_, _++_}
-use mathlib.Core.Path.{_≡_, refl, subst}
+use mathlib.Core.Path.{_≡_, refl, sym, subst}
 use native.Mathlib.Omega.{arith}
 use lib.Dec.{eqb}
 use lib.IntN.{ℤ}
@@ -14,7 +14,7 @@ use Rattle.rules.specs.RangeClass.{digits, digitsOf}
 use Rattle.rules.specs.Rows.{Held, act}
 use Rattle.rules.specs.Sets.{Set}
 use Rattle.rules.specs.Machine.{State, top, file, drawing, layerNames, defines, symbol, hide, elements, figures, successive, texts, placing, skipping, ended}
-use Rattle.rules.specs.Machine.{symbolBlock}
+use Rattle.rules.specs.Machine.{symbolBlock, wireBlock, wireUnread}
 use Rattle.tables.specs.Tables.{tableOf}
 use Rattle.entries.specs.Names.{knownIn}
 use Rattle.account.specs.declared.Where.{Where}
@@ -30,6 +30,7 @@ use Rattle.account.specs.FigureLines.{FigureLine}
 use Rattle.account.specs.ElementLines.{ElementLine}
 use Rattle.account.specs.SymbolLines.{nonIn, DefinesLine, SymbolLine}
 use Rattle.account.specs.PlacedLines.{Lent, PlacedLine}
+use Rattle.account.specs.WireLines.{begunStep, begunPut, WireLine}
 use Rattle.account.specs.TopLines.{Answered, TopLent, topLent, topNow, topLentBy}
 use Rattle.account.specs.DrawingLines.{drawingAct, drawingNow, drawingMarks, drawingPut, NamesLine}
 use Rattle.account.specs.FileLines.{fileTableOf, partMarks, FileLine}
@@ -50,6 +51,8 @@ use Rattle.standing.proofs.LayerNamesStanding.{deskNames, names-line}
 use Rattle.standing.proofs.TopStanding.{deskTop, top-line}
 use Rattle.standing.proofs.PlacedTables.{lentOf, lentDesk}
 use Rattle.standing.proofs.PlacedStanding.{placed-line}
+use Rattle.standing.proofs.WireStanding.{wire-line}
+use Rattle.standing.proofs.UnreadStanding.{unread-line}
 
 -- ── promises ──
 module _ (c : Class) (spool : List ℕ) (k : ℕ) (form : LineForm) (w : Where) (following : List ℕ) (d : Desk) where
@@ -89,13 +92,17 @@ module _ (c : Class) (spool : List ℕ) (k : ℕ) (form : LineForm) (w : Where) 
       go : (st : State) → OpenBlocks.InAText st → Standing c spool k d at st → Counted c own d st → StepOut c spool k F own l to st (deskWith d (d .now) (d .marks) m₁ (withPart 32 rec₁ (d .scratch))) r
       go _ (OpenBlocks.here s h fs n o) z y = text-line c spool k F d at to own l w form x s h fs n o z y m₁ rec₁ r f
 
-  pub figures-promise : (m₁ i₁ : List Bool) (rec₁ : List ℤ) (r : Step) → d .now .block ≡ 8
-      → FigureLine (figureAct spool d form) (d .now) (getD (d .tally) 1 0) w (partAt 32 (d .scratch)) rec₁ (d .marks) m₁ (d .inner) i₁ r
-      → Promise (deskLent d (tallyAfter (d .tally) r) m₁ i₁ (withPart 32 rec₁ (d .scratch))) r
-  figures-promise m₁ i₁ rec₁ r b f own l at to st x q p z y = go st (OpenBlocks.among-figures c spool k d (F d) st (z .block) b) z y
+  -- f: the step of the figures' own part; behind it a wire that it opened is begun
+  abbrev begunDesk : List Bool → List Bool → List ℤ → Step → Desk
+  begunDesk m₁ i₁ rec₁ f = deskLent d (tallyAfter (d .tally) (begunStep c f)) m₁ i₁ (begunPut w f (withPart 32 rec₁ (d .scratch)))
+
+  pub figures-promise : (m₁ i₁ : List Bool) (rec₁ : List ℤ) (f : Step) → d .now .block ≡ 8
+      → FigureLine (figureAct spool d form) (d .now) (getD (d .tally) 1 0) (getD (d .tally) 12 0) w (partAt 32 (d .scratch)) rec₁ (d .marks) m₁ (d .inner) i₁ f
+      → Promise (begunDesk m₁ i₁ rec₁ f) (begunStep c f)
+  figures-promise m₁ i₁ rec₁ f b h own l at to st x q p z y = go st (OpenBlocks.among-figures c spool k d (F d) st (z .block) b) z y
     where
-      go : (st : State) → OpenBlocks.AmongFigures st → Standing c spool k d at st → Counted c own d st → StepOut c spool k F own l to st (deskLent d (tallyAfter (d .tally) r) m₁ i₁ (withPart 32 rec₁ (d .scratch))) r
-      go _ (OpenBlocks.here s h fs) z y = figures-line c spool k F d at to own l w form x s fs h z y m₁ i₁ rec₁ r f
+      go : (st : State) → OpenBlocks.AmongFigures st → Standing c spool k d at st → Counted c own d st → StepOut c spool k F own l to st (begunDesk m₁ i₁ rec₁ f) (begunStep c f)
+      go _ (OpenBlocks.here s u fs) z y = figures-line c spool k F d at to own l w form x s fs u z y m₁ i₁ rec₁ f h
 
   pub element-promise : (t₁ : List ℕ) (u₁ a₁ : List Bool) (r : Step) → d .now .block ≡ 7
       → ElementLine (elementAct spool d form) (d .now) (d .tally) t₁ (d .used) u₁ (d .usedAll) a₁ r
@@ -128,6 +135,23 @@ module _ (c : Class) (spool : List ℕ) (k : ℕ) (form : LineForm) (w : Where) 
     where
       go : (st : State) → OpenBlocks.InAPlaced st → Standing c spool k d at st → Counted c own d st → StepOut c spool k F own l to st (lentDesk d x₁ rec₁) r
       go _ (OpenBlocks.here s m fs n o i) z y = placed-line c spool k F d at to own l w form x s m fs n o i z y x₁ rec₁ r f
+
+  abbrev wireLine : List ℤ → Step → Bool → Type 0
+  wireLine t₁ r skipped = WireLine (knownIn spool names ids) (getD (d .tally) 12 0) (d .now) w (d .scratch) t₁ r skipped (formIn spool form)
+
+  pub wire-promise : (t₁ : List ℤ) (r : Step) → d .now .block ≡ 12 → wireLine t₁ r (eqb (d .now .part) 2) → Promise (deskWith d (d .now) (d .marks) (d .inner) t₁) r
+  wire-promise t₁ r b f own l at to st x q p z y = go st (OpenBlocks.in-wire c spool k d (F d) st (z .block) b) z y
+    where
+      -- by the part that is open
+      part-is : (i : ℕ) → d .now .part ≡ i → wireLine t₁ r (eqb i 2)
+      part-is i e = subst (λ (j : ℕ). wireLine t₁ r (eqb j 2)) e f
+
+      go : (st : State) → OpenBlocks.InAWire st → Standing c spool k d at st → Counted c own d st → StepOut c spool k F own l to st (deskWith d (d .now) (d .marks) (d .inner) t₁) r
+      go _ (OpenBlocks.here s m fs n wire i) z y =
+          subst (λ (j : ℕ). Standing c spool k d at (placing s m fs n (wireBlock wire) j) → Counted c own d (placing s m fs n (wireBlock wire) j)
+          → StepOut c spool k F own l to (placing s m fs n (wireBlock wire) j) (deskWith d (d .now) (d .marks) (d .inner) t₁) r) (sym (z .block .1))
+          (λ z y. wire-line c spool k F d at to own l w form x s m fs n wire z y t₁ r (part-is 0 (z .block .2 .part))) z y
+      go _ (OpenBlocks.unread s m fs n i) z y = unread-line c spool k F d at to own l w form x s m fs n i z y t₁ r (part-is 2 (z .block .2 .part))
 
   pub drawing-promise : (m₁ : List Bool) (rec₁ : List ℤ) (r : Step) → d .now .block ≡ 2
       → Answered (drawingNow (d .now) (drawingAct (knownIn spool names []) (getD (d .tally) 0 0) (d .marks) (formIn spool form)))
@@ -172,7 +196,7 @@ module _ (c : Class) (spool : List ℕ) (k : ℕ) (form : LineForm) (w : Where) 
           (d .tally) tally₁ (d .marks) m₁ (d .header) h₁ r) vk f)
 
   -- no other block is ever open
-  pub other-promise : (d₁ : Desk) → 12 ≤ d .now .block → Promise d₁ (S.Stop 9)
+  pub other-promise : (d₁ : Desk) → 12 < d .now .block → Promise d₁ (S.Stop 9)
   other-promise d₁ b own l at to st x q p z y = go st z
     where
       go : (st : State) → Standing c spool k d at st → StepOut c spool k F own l to st d₁ (S.Stop 9)
@@ -188,5 +212,9 @@ module _ (c : Class) (spool : List ℕ) (k : ℕ) (form : LineForm) (w : Where) 
       go (successive s h fs i ps) z = absurd (omega (arith, z .block .0, b))
       go (texts s h fs i o) z = absurd (omega (arith, z .block .0, b))
       go (placing s m fs i (symbolBlock o) g) z = absurd (omega (arith, z .block .0, b))
-      go (skipping s m fs i o g) z = absurd (z .block)
+      go (placing s m fs i (wireBlock v) g) z = absurd (omega (arith, z .block .0, b))
+      go (placing s m fs i wireUnread g) z = absurd (z .block)
+      go (skipping s m fs i (symbolBlock o) g) z = absurd (z .block)
+      go (skipping s m fs i (wireBlock v) g) z = absurd (z .block)
+      go (skipping s m fs i wireUnread g) z = absurd (omega (arith, z .block .0, b))
       go (ended s) z = refl

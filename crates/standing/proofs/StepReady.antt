@@ -82,6 +82,15 @@ module _ (c : Class) (spool : List ℕ) (k : ℕ) (form : LineForm) (w : Where) 
       go : (st : State) → OpenBlocks.InElement st → Standing c spool k d at st → getD (d .tally) 8 0 + getD (d .tally) 7 0 ≤ 4294967295
       go _ (OpenBlocks.here s) z = omega (arith, z .counted, early, ap (λ (t : List ℕ). getD t 7 0) (z .tally), ap (λ (t : List ℕ). getD t 8 0) (z .tally))
 
+  -- ── a wire ──
+  -- its elements were read, or a few blocks are open in it
+  wire-counts : d .now .block ≡ 12 → (d .now .figures < 4294967295) × (d .now .points < 4294967295)
+  wire-counts b = go st (OpenBlocks.in-wire c spool k d (InFile spool k d) st (z .block) b) z
+    where
+      go : (st : State) → OpenBlocks.InAWire st → Standing c spool k d at st → (d .now .figures < 4294967295) × (d .now .points < 4294967295)
+      go _ (OpenBlocks.here s m fs n x p) z = (omega (arith, z .block .2 .figures, z .counted, early), omega (arith, z .block .2 .points, z .counted, early))
+      go _ (OpenBlocks.unread s m fs n p) z = (omega (arith, z .block .2 .figures, z .counted, early), omega (arith, z .block .2 .points, z .block .1))
+
   placed-lent : d .now .block ≡ 11 → LentReady (lentOf d) (partAt 32 (d .scratch)) × (d .now .figures < 4294967295)
   placed-lent b = go st (OpenBlocks.in-placed c spool k d (InFile spool k d) st (z .block) b) z
     where
@@ -143,4 +152,5 @@ module _ (c : Class) (spool : List ℕ) (k : ℕ) (form : LineForm) (w : Where) 
     chain = λ b. (chain-figures b, places.chain-points c spool k d at st z b);
     text = text-figures;
     placed = placed-lent;
+    wire = wire-counts;
   }

@@ -135,11 +135,11 @@ module _ (c : Class) (spool : List ℕ) (k : ℕ) (d : Desk) (at to own : ℕ) (
   unmarked-28 y = ap (λ (n : ℕ). replicate n false) (y .marks)
 
   -- EOF
-  set-ends : Stood 4 → stepFrom 4 ≡ got (ended s) → From 4 (topDesk d (d .marks) (d .used) (d .header) (d .scratch)) (S.Go (atBlock (d .now) 12 0))
+  set-ends : Stood 4 → stepFrom 4 ≡ got (ended s) → From 4 (topDesk d (d .marks) (d .used) (d .header) (d .scratch)) (S.Go (atBlock (d .now) 15 0))
   set-ends z step =
-      let n : Now = atBlock (d .now) 12 0 in
+      let n : Now = atBlock (d .now) 15 0 in
       let entered : Enters c (top s 4) (ended s) (d .scratch) = eof-enters c s (d .scratch) (z .scratch) in
-      goes-entering c spool k (InFile spool k) own l to (top s 4) (topDesk d (d .marks) (d .used) (d .header) (d .scratch)) n (ended s) step (completed-by (d .now) n 0 12 (z .block .0) refl) refl refl
+      goes-entering c spool k (InFile spool k) own l to (top s 4) (topDesk d (d .marks) (d .used) (d .header) (d .scratch)) n (ended s) step (completed-by (d .now) n 0 15 (z .block .0) refl) refl refl
       (entered .same)
       (stands-on c spool k (InFile spool k) d at to (top s 4) (ended s) z n (d .marks) (d .inner) (d .scratch) refl (z .lengths .marks) (z .lengths .inner) (entered .scratch)
       (omega (arith, z .counted, later)) (omega (arith, z .named, later)) (omega (arith, z .numbered, later)) refl)
@@ -234,7 +234,7 @@ module _ (c : Class) (spool : List ℕ) (k : ℕ) (d : Desk) (at to own : ℕ) (
       let n : Now = recordsTaken (d .now) 1 (fileTakes f) in
       let ms : List Bool = unmarked (d .marks) in
       let h₁ : List ℤ = headerBegun f w (d .header) in
-      let begun : h₁ ≡ headerBegun f w (replicate 70 (pos 0)) = header-same f w (d .header) (z .lengths .header) in
+      let begun : h₁ ≡ headerBegun f w (replicate 71 (pos 0)) = header-same f w (d .header) (z .lengths .header) in
       let bare : isFirst s′ ≡ true → Bare s′ = λ q. let y : Bare s = z .block .2 .1 q in record { layers = y .layers; symbols = y .symbols } in
       let opened : Begins c (top s 0) begunFile (length (fileKinds f)) (d .scratch) = file-opens c s (l .line) (d .scratch) (z .scratch) in
       goes-opening c spool k (InFile spool k) own l to (top s 0) (topDesk d ms (d .used) h₁ (d .scratch)) n begunFile step (completed-by (d .now) n 0 1 (z .block .0) refl) (length (fileKinds f))
@@ -291,22 +291,22 @@ module _ (c : Class) (spool : List ℕ) (k : ℕ) (d : Desk) (at to own : ℕ) (
     code-ends = ap (λ (i : ℕ). eqb i 4 && w .ends) (z .block .1) ∙ ap (λ (t : Bool). eqb m 4 && t) (x .ends)
 
     by-eof : (p q r : Bool) → ends ≡ p → stepIn (unlimited c) l st ≡ unless p 9 (unless q 14 (unless r 17 (got (ended s)))) → (y : Step)
-        → Answered (unless p 9 (unless q 14 (unless r 17 (got (atBlock (d .now) 12 0))))) (b ≡ lentOf d) y → Out y
+        → Answered (unless p 9 (unless q 14 (unless r 17 (got (atBlock (d .now) 15 0))))) (b ≡ lentOf d) y → Out y
     by-eof false q r h a y v = subst Out (sym (v .answer)) a
     by-eof true false r h a y v = subst Out (sym (v .answer)) a
     by-eof true true false h a y v = subst Out (sym (v .answer)) a
     by-eof true true true h a y v =
         let four : m ≡ 4 = eqb-true m 4 (and-left (eqb m 4) (isNil (l .next) && l .last) h) in
-        lent-is m (lentOf d) (atBlock (d .now) 12 0) y v
-        (record-same m (d .marks) (d .used) (d .header) (S.Go (atBlock (d .now) 12 0))
-        (subst (λ (i : ℕ). Stood i → stepFrom i ≡ got (ended s) → From i (topDesk d (d .marks) (d .used) (d .header) (d .scratch)) (S.Go (atBlock (d .now) 12 0))) (sym four) set-ends z a))
+        lent-is m (lentOf d) (atBlock (d .now) 15 0) y v
+        (record-same m (d .marks) (d .used) (d .header) (S.Go (atBlock (d .now) 15 0))
+        (subst (λ (i : ℕ). Stood i → stepFrom i ≡ got (ended s) → From i (topDesk d (d .marks) (d .used) (d .header) (d .scratch)) (S.Go (atBlock (d .now) 15 0))) (sym four) set-ends z a))
 
     on-eof : l .form ≡ eof → (y : Step) → Answered (eofNow (d .now) w (d .tally) (d .usedAll)) (b ≡ lentOf d) y → Out y
     on-eof a y v =
         by-eof ends (layersUsed s) (countedAll s) refl (ap (onTop (unlimited c) l s m) a) y
-        (subst (λ (t : Bool). Answered (unless t 9 (unless (layersUsed s) 14 (unless (countedAll s) 17 (got (atBlock (d .now) 12 0))))) (b ≡ lentOf d) y) code-ends
-        (subst (λ (t : Bool). Answered (unless (eqb (d .now .part) 4 && w .ends) 9 (unless t 14 (unless (countedAll s) 17 (got (atBlock (d .now) 12 0))))) (b ≡ lentOf d) y) (sym used-layers)
-        (subst (λ (t : Bool). Answered (unless (eqb (d .now .part) 4 && w .ends) 9 (unless (all (λ t. t) (take (layersOf (d .tally)) (d .usedAll))) 14 (unless t 17 (got (atBlock (d .now) 12 0))))) (b ≡ lentOf d) y)
+        (subst (λ (t : Bool). Answered (unless t 9 (unless (layersUsed s) 14 (unless (countedAll s) 17 (got (atBlock (d .now) 15 0))))) (b ≡ lentOf d) y) code-ends
+        (subst (λ (t : Bool). Answered (unless (eqb (d .now .part) 4 && w .ends) 9 (unless t 14 (unless (countedAll s) 17 (got (atBlock (d .now) 15 0))))) (b ≡ lentOf d) y) (sym used-layers)
+        (subst (λ (t : Bool). Answered (unless (eqb (d .now .part) 4 && w .ends) 9 (unless (all (λ t. t) (take (layersOf (d .tally)) (d .usedAll))) 14 (unless t 17 (got (atBlock (d .now) 15 0))))) (b ≡ lentOf d) y)
         (sym all-counted) v)))
 
     -- ── a block opens ──

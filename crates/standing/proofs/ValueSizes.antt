@@ -10,7 +10,7 @@ use Rattle.rules.specs.declared.Digits.{Digits}
 use Rattle.rules.specs.Base.{total, isNil, headOnto, split}
 use Rattle.rules.specs.RefusalNumbers.{got, keep}
 use Rattle.rules.specs.Lines.{Form}
-use Rattle.rules.specs.Values.{Num, Value, nums, Known, Part, count, digit, typeDigits, range, rangeOfSymbols, day, clock, decimal, symbolName, layerId, Across, Kind, values, readPart, readAll, agree, readKind}
+use Rattle.rules.specs.Values.{Num, Value, nums, Known, Part, count, digit, typeDigits, range, rangeOfSymbols, rangeOfWires, day, clock, decimal, symbolName, layerId, Across, Kind, values, readPart, readAll, agree, readKind}
 use Rattle.rules.specs.Rows.{Rule, entry}
 use Rattle.rules.proofs.Chains.{clash, never, map-got, keep-got, cons-got}
 use Rattle.standing.specs.Standing.{restSize}
@@ -45,6 +45,7 @@ leastBytes (digit lo hi) = 0
 leastBytes typeDigits = 0
 leastBytes (range lo hi) = 0
 leastBytes rangeOfSymbols = 0
+leastBytes rangeOfWires = 0
 leastBytes day = 0
 leastBytes clock = 0
 leastBytes (decimal b) = 1
@@ -57,6 +58,7 @@ part-size k (digit lo hi) s n e = omega arith
 part-size k typeDigits s n e = omega arith
 part-size k (range lo hi) s n e = omega arith
 part-size k rangeOfSymbols s n e = omega arith
+part-size k rangeOfWires s n e = omega arith
 part-size k day s n e = omega arith
 part-size k clock s n e = omega arith
 part-size k (decimal b) [] n e = never e

@@ -9,12 +9,13 @@ use lib.ListN.{length, getD, take}
 use Rattle.rules.specs.Lines.{span, bytesAt}
 use Rattle.rules.specs.Values.{Value, empty, nums, chars, linked, charsOf, capital}
 use Rattle.rules.specs.Rows.{Held, partOf, rowsThere, slotValue, held, numberOf}
-use Rattle.rules.specs.Blocks.{laterTable, fileTables}
+use Rattle.rules.specs.Blocks.{elecTable, laterTable, fileTables}
 use Rattle.rules.specs.Sets.{Set, isFirst}
 use Rattle.rules.specs.VolumesAndTotals.{ownTable}
 use Rattle.rules.specs.RecordTable.{columns, putHeld, start, ruleAt}
 use Rattle.account.specs.Placing.{Shaped}
 use Rattle.standing.specs.SoFar.{volumeOf}
+use Rattle.account.specs.Numbering.{headerWireRange}
 use Rattle.account.specs.FileLines.{PartOpen, partMarks, Header, countAt, fileWidth}
 use Rattle.standing.specs.Standing.{Desk, Bare}
 use Rattle.rules.specs.RecordTable.{kindHeader, kindVolume}
@@ -47,5 +48,6 @@ pub record InFile (spool : List ℕ) (k : ℕ) (d : Desk) (s : Set) (n : ℕ) (h
       ≡ map capital (bytesAt spool (span (countAt (d .header) 66) (countAt (d .header) 67)))
   pub date : isFirst s ≡ false → countAt (d .header) 68 ≡ numberOf "date" laterTable (partOf h 0)
   pub time : isFirst s ≡ false → countAt (d .header) 69 ≡ numberOf "time" laterTable (partOf h 0)
+  pub wires : isFirst s ≡ true → countAt (d .header) headerWireRange ≡ numberOf "E_wire" elecTable (partOf h 3)
   pub counted : (q j : ℕ) → columns (ruleAt (getD (fileTables (isFirst s)) q []) j .holds) ≡ 1 → isNumbers (getD (partOf h q) j none) ≡ true
   pub unnamed : held "next_file" (ownTable (isFirst s)) (partOf h 0) ≡ none → countAt (d .header) 65 ≡ 0  -- an empty next_file takes its length from there

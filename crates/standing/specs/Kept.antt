@@ -5,18 +5,18 @@ use mathlib.Core.Bool.{true}
 use mathlib.Core.Path.{_≡_}
 use mathlib.Core.List.{List, [], _∷_, _++_, map}
 use lib.IntN.{ℤ}
-use lib.ListN.{length, replicate, drop}
+use lib.ListN.{length, replicate, take, drop}
 use Rattle.rules.specs.declared.Class.{Class}
 use Rattle.rules.specs.Base.{flat}
 use Rattle.rules.specs.Figures.{placedTables}
 use Rattle.rules.specs.Sets.{Figure, Symbol, Set, isFirst}
 use Rattle.rules.specs.Machine.{Home, inElement, inLayer, State, top, file, drawing, layerNames, defines, symbol, hide, elements, figures, successive, texts}
-use Rattle.rules.specs.Machine.{placing, skipping, ended, symbolBlock}
-use Rattle.rules.specs.RecordTable.{putHeld, start, fileRecords, drawingRecord, layerRecords, pointRecords, textRecord, innerRecords}
+use Rattle.rules.specs.Machine.{placing, skipping, ended, Owned, symbolBlock, wireBlock, wireUnread}
+use Rattle.rules.specs.RecordTable.{putHeld, start, fileRecords, drawingRecord, layerRecords, pointRecords, textRecord, edgeRecords, innerRecords}
 use Rattle.rules.specs.RecordTable.{width, kindPlaced, kindPoint, kindHidden}
 use Rattle.account.specs.Records.{partAt}
 use Rattle.standing.specs.SoFar.{volumeOf, closedRecords, frontRecords, layersRecords, ownRecord, homeOwner, homeVolume, homeMore, homeFigure}
-use Rattle.standing.specs.SoFar.{chainSoFar, emptyRecord, emptyRecords, topSoFar}
+use Rattle.standing.specs.SoFar.{chainSoFar, wireSoFar, emptyRecord, emptyRecords, topSoFar}
 
 -- ── the records that are open ──
 abbrev pub homeOwn : Set → Home → List ℤ
@@ -54,14 +54,40 @@ figureOpen (figures s h fs) = emptyRecord
 figureOpen (successive s h fs n ps) = chainSoFar s h n ps
 figureOpen (texts s h fs n o) = textRecord (homeMore h) (homeOwner s h) (homeVolume s h) n o
 figureOpen (placing s k fs n (symbolBlock o) p) = putHeld placedTables o (start kindPlaced k (volumeOf s) n)
+figureOpen (placing s k fs n (wireBlock w) p) = take width (wireSoFar s k n (w .elements))
+figureOpen (placing s k fs n wireUnread p) = take width (wireSoFar s k n [])
 figureOpen (skipping s k fs n (symbolBlock o) d) = putHeld placedTables o (start kindPlaced k (volumeOf s) n)
+figureOpen (skipping s k fs n (wireBlock w) d) = take width (wireSoFar s k n (w .elements))
+figureOpen (skipping s k fs n wireUnread d) = take width (wireSoFar s k n [])
 figureOpen (ended s) = emptyRecord
 
--- the third record of the scratch is a point's, for the length of its line
+-- a wire's second
+abbrev pub secondIn : Set → ℕ → ℕ → Owned → List ℤ
+secondIn s k n (symbolBlock o) = emptyRecord
+secondIn s k n (wireBlock w) = drop width (wireSoFar s k n (w .elements))
+secondIn s k n wireUnread = drop width (wireSoFar s k n [])
+
+abbrev pub secondOpen : State → List ℤ
+secondOpen (top s k) = emptyRecord
+secondOpen (file s n h p) = emptyRecord
+secondOpen (drawing s d) = emptyRecord
+secondOpen (layerNames s d) = emptyRecord
+secondOpen (defines s b) = emptyRecord
+secondOpen (symbol s y) = emptyRecord
+secondOpen (hide s y ps) = emptyRecord
+secondOpen (elements s) = emptyRecord
+secondOpen (figures s h fs) = emptyRecord
+secondOpen (successive s h fs n ps) = emptyRecord
+secondOpen (texts s h fs n o) = emptyRecord
+secondOpen (placing s k fs n o p) = secondIn s k n o
+secondOpen (skipping s k fs n o d) = secondIn s k n o
+secondOpen (ended s) = emptyRecord
+
+-- the first record of the scratch is an element's of a wire, the third a point's, for the length of their lines
 pub record Scratch (t : List ℤ) (st : State) : Type 0 where
   pub own : partAt 0 t ≡ ownOpen st
   pub figure : partAt width t ≡ figureOpen st
-  pub rest : drop (width + width) t ≡ emptyRecord
+  pub rest : drop (width + width) t ≡ secondOpen st
 
 -- ── the table ──
 abbrev pub symbolShut : Set → Symbol → List (List ℤ)
@@ -73,6 +99,12 @@ homeShut c s (inLayer k) = layersRecords c s
 
 abbrev pub figuresShut : Class → Set → Home → List Figure → List (List ℤ)
 figuresShut c s h fs = homeShut c s h ++ flat (map (homeFigure c s h) fs)
+
+-- of a layer's block with attributes that is open: a wire's elements are complete, its own two are not
+abbrev pub ownedShut : Set → ℕ → Owned → List (List ℤ)
+ownedShut s k (symbolBlock o) = emptyRecord ∷ []
+ownedShut s k (wireBlock w) = emptyRecord ∷ emptyRecord ∷ edgeRecords k (volumeOf s) (w .elements)
+ownedShut s k wireUnread = emptyRecord ∷ emptyRecord ∷ []
 
 -- the records taken so far: those that are complete, and zeros for those that are open
 abbrev pub shutSoFar : Class → State → List (List ℤ)
@@ -88,8 +120,8 @@ shutSoFar c (figures s h fs) = figuresShut c s h fs
 shutSoFar c (successive s h fs n ps) =
     figuresShut c s h fs ++ emptyRecord ∷ pointRecords (kindPoint + homeMore h) (homeOwner s h) (homeVolume s h) ps
 shutSoFar c (texts s h fs n o) = figuresShut c s h fs ++ emptyRecord ∷ []
-shutSoFar c (placing s k fs n o p) = figuresShut c s (inLayer k) fs ++ emptyRecord ∷ []
-shutSoFar c (skipping s k fs n o d) = figuresShut c s (inLayer k) fs ++ emptyRecord ∷ []
+shutSoFar c (placing s k fs n o p) = figuresShut c s (inLayer k) fs ++ ownedShut s k o
+shutSoFar c (skipping s k fs n o d) = figuresShut c s (inLayer k) fs ++ ownedShut s k o
 shutSoFar c (ended s) = closedRecords c s
 
 -- ── a line ──

@@ -27,13 +27,14 @@ use Rattle.account.specs.FigureLines.{homeTable, homeRows, FigureLine}
 use Rattle.account.specs.ElementLines.{ElementLine}
 use Rattle.account.specs.SymbolLines.{nonIn, isNamed, ContentPlaced, DefinesLine, SymbolLine}
 use Rattle.account.specs.PlacedLines.{Lent, lent, PlacedLine, LentReady}
+use Rattle.account.specs.WireLines.{begunStep, begunPut, WireLine}
 use Rattle.account.specs.TopLines.{Answered, TopLent, topLent, topNow, topLentBy}
 use Rattle.account.specs.DrawingLines.{drawingAct, drawingNow, drawingMarks, drawingPut, NamesLine}
 use Rattle.account.specs.FileLines.{fileTableOf, partMarks, FileLine, FileReady}
 use Rattle.rules.specs.Blocks.{mostLayers}
 use Rattle.tables.specs.Numbering.{tableDefines, tableSymbol, tableElement, tableSymbolPoints}
 use Rattle.account.specs.Numbering.{blockTop, blockFile, blockDrawing, blockLayerNames, blockDefines, blockSymbol, blockHide, blockElements, blockFigures}
-use Rattle.account.specs.Numbering.{blockChain, blockText, blockPlaced, blockEnded, tallyArc, tallySymbolRange, tallyDefineRange, tallyElementsHere}
+use Rattle.account.specs.Numbering.{blockChain, blockText, blockPlaced, blockWire, wireSkipped, tallyWireRange, tallyArc, tallySymbolRange, tallyDefineRange, tallyElementsHere}
 use Rattle.account.specs.Numbering.{tallyTotal, tallySymbols, tallyLayers, tallyLength, mostRows, innerPlacedText}
 use Rattle.rules.specs.RecordTable.{width}
 
@@ -91,13 +92,22 @@ module _ (spool : List ℕ) (form : LineForm) (n : Now) (tally symbols layers : 
 
   abbrev pub figureAct : Act
   figureAct =
-      act known (tableOf (homeTable (n .layered) (getD tally tallySymbolRange 0))) (digitsOf (getD tally tallySymbolRange 0))
-      (replicate (homeRows (n .layered)) false) line
+      act known (tableOf (homeTable (n .layered) (getD tally tallySymbolRange 0) (getD tally tallyWireRange 0))) (digitsOf (getD tally tallySymbolRange 0))
+      (replicate (homeRows (n .layered) (getD tally tallyWireRange 0)) false) line
 
-  -- a layer that closes is counted
-  abbrev pub OnFigures : Where → List ℕ → List Bool → List Bool → List Bool → List Bool → List ℤ → List ℤ → Step → Type 0
-  OnFigures w tally₁ m₀ m₁ i₀ i₁ t₀ t₁ r =
-      Lends width t₀ t₁ (λ rec₀ rec₁. FigureLine figureAct n (getD tally tallySymbolRange 0) w rec₀ rec₁ m₀ m₁ i₀ i₁ r) × (tally₁ ≡ tallyAfter tally r)
+  -- what a line among figures leaves by itself; then a wire that it opened is begun, and a layer that it closed is counted
+  pub record OnFigures (c : Class) (w : Where) (tally₁ : List ℕ) (m₀ m₁ i₀ i₁ : List Bool) (t₀ t₁ : List ℤ) (r : Step) : Type 0 where
+    pub figures : Step
+    pub scratch : List ℤ
+    pub lends : Lends width t₀ scratch λ rec₀ rec₁.
+        FigureLine figureAct n (getD tally tallySymbolRange 0) (getD tally tallyWireRange 0) w rec₀ rec₁ m₀ m₁ i₀ i₁ figures
+    pub answer : r ≡ begunStep c figures
+    pub begun : t₁ ≡ begunPut w figures scratch
+    pub tallied : tally₁ ≡ tallyAfter tally r
+
+  -- a line in a wire is lent the whole scratch
+  abbrev pub OnWire : Where → List ℤ → List ℤ → Step → Type 0
+  OnWire w t₀ t₁ r = WireLine known (getD tally tallyWireRange 0) n w t₀ t₁ r (eqb (n .part) wireSkipped) line
 
   abbrev pub OnElements : List ℕ → List Bool → List Bool → List Bool → List Bool → Step → Type 0
   OnElements tally₁ u₀ u₁ a₀ a₁ r = ElementLine (act known (tableOf tableElement) (digits 0 0) (false ∷ []) line) n tally tally₁ u₀ u₁ a₀ a₁ r
@@ -187,7 +197,7 @@ pub data Done (c : Class) (spool following : List ℕ) (form : LineForm) (w : Wh
       → d₁ ≡ desk (d .now) (d₁ .tally) (d .symbols) (d .layers) (d .serials) (d₁ .used) (d₁ .usedAll) (d .marks) (d .inner) (d .header) (d .scratch)
       → Done c spool following form w d d₁ r
   figures : d .now .block ≡ blockFigures
-      → OnFigures spool form (d .now) (d .tally) (d .symbols) (d .layers) w (d₁ .tally) (d .marks) (d₁ .marks) (d .inner) (d₁ .inner) (d .scratch) (d₁ .scratch) r
+      → OnFigures spool form (d .now) (d .tally) (d .symbols) (d .layers) c w (d₁ .tally) (d .marks) (d₁ .marks) (d .inner) (d₁ .inner) (d .scratch) (d₁ .scratch) r
       → d₁ ≡ desk (d .now) (d₁ .tally) (d .symbols) (d .layers) (d .serials) (d .used) (d .usedAll) (d₁ .marks) (d₁ .inner) (d .header) (d₁ .scratch)
       → Done c spool following form w d d₁ r
   chain : d .now .block ≡ blockChain
@@ -203,7 +213,11 @@ pub data Done (c : Class) (spool following : List ℕ) (form : LineForm) (w : Wh
       (lent (d₁ .tally) (d₁ .serials) (d₁ .marks) (d₁ .inner)) (d .scratch) (d₁ .scratch) r
       → d₁ ≡ desk (d .now) (d₁ .tally) (d .symbols) (d .layers) (d₁ .serials) (d .used) (d .usedAll) (d₁ .marks) (d₁ .inner) (d .header) (d₁ .scratch)
       → Done c spool following form w d d₁ r
-  other : blockEnded ≤ d .now .block → r ≡ S.Stop 9 → d₁ ≡ d → Done c spool following form w d d₁ r
+  wire : d .now .block ≡ blockWire
+      → OnWire spool form (d .now) (d .tally) (d .symbols) (d .layers) w (d .scratch) (d₁ .scratch) r
+      → d₁ ≡ desk (d .now) (d .tally) (d .symbols) (d .layers) (d .serials) (d .used) (d .usedAll) (d .marks) (d .inner) (d .header) (d₁ .scratch)
+      → Done c spool following form w d d₁ r
+  other : blockWire < d .now .block → r ≡ S.Stop 9 → d₁ ≡ d → Done c spool following form w d d₁ r
 
 -- what a line needs
 pub record LineFits (spool : List ℕ) (form : LineForm) (w : Where) (d : Desk) : Type 0 where
@@ -220,6 +234,7 @@ pub record LineFits (spool : List ℕ) (form : LineForm) (w : Where) (d : Desk) 
   pub text : d .now .block ≡ blockText → d .now .figures < 4294967295
   pub placed : d .now .block ≡ blockPlaced
       → LentReady (lent (d .tally) (d .serials) (d .marks) (d .inner)) (partAt width (d .scratch)) × (d .now .figures < 4294967295)
+  pub wire : d .now .block ≡ blockWire → (d .now .figures < 4294967295) × (d .now .points < 4294967295)
 
 -- ── a line of some blocks ──
 -- A function for some of the blocks is lent what they use. What it needs it needs with some other parts of the desk, what it promises it promises

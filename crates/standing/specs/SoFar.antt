@@ -2,16 +2,19 @@
 use Prim.Native.Nat.{ℕ, zero, suc, _+_}
 use mathlib.Core.Bool.{Bool, true, false}
 use mathlib.Core.List.{List, [], _∷_, _++_}
+use mathlib.Core.Option.{Option, none, some}
 use lib.IntN.{ℤ, pos}
-use lib.ListN.{length, replicate}
+use lib.ListN.{length, replicate, set}
 use lib.Seq.{sets}
 use Rattle.rules.specs.declared.Class.{Class}
 use Rattle.rules.specs.Blocks.{symbolTable}
-use Rattle.rules.specs.Sets.{Point, Figure, Drawing, Symbol, Set, isFirst}
+use Rattle.rules.specs.Values.{valueAt}
+use Rattle.rules.specs.Sets.{Point, Edge, Figure, Drawing, Symbol, Set, isFirst}
 use Rattle.rules.specs.Machine.{Home, inElement, inLayer}
 use Rattle.rules.specs.RecordTable.{putSlots, start, fileRecords, drawingRecord, layerRecords, firstType, figureRecords}
 use Rattle.rules.specs.RecordTable.{symbolRecords, bodyRecords, recordsFrom, width, kindSymbol, kindSuccessive, inSymbol}
-use Rattle.rules.specs.RecordTable.{viewOf, plainView}
+use Rattle.rules.specs.RecordTable.{viewOf, plainView, wireStart}
+use Rattle.rules.specs.Wires.{lastEdge}
 
 -- the number of the volume at hand
 abbrev pub volumeOf : Set → ℕ
@@ -62,6 +65,15 @@ homeFigure c s (inLayer k) f = figureRecords (viewOf c s) 0 k (volumeOf s) f
 -- a `successive`'s own record has its first point's type from that point on, its count when it closes
 abbrev pub chainSoFar : Set → Home → ℕ → List Point → List ℤ
 chainSoFar s h n ps = sets (start (kindSuccessive + homeMore h) (homeOwner s h) (homeVolume s h) n) 4 (firstType ps ∷ [])
+
+-- The numbers of an open wire's two records: in places that are 0 when they are complete, what the next element must know of the last one
+-- (`WireLines: formerKept`).
+abbrev pub formerNumbers : Option Edge → List ℤ → List ℤ
+formerNumbers none t = t
+formerNumbers (some e) t = set (set (set t 4 (valueAt (e .values) 3)) (width + 4) (valueAt (e .values) 4)) (width + 30) (pos (suc (e .row)))
+
+abbrev pub wireSoFar : Set → ℕ → ℕ → List Edge → List ℤ
+wireSoFar s k n es = formerNumbers (lastEdge es) (wireStart k (volumeOf s) n)
 
 -- a record whose numbers come later
 abbrev pub emptyRecord : List ℤ

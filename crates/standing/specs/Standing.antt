@@ -6,9 +6,10 @@ use mathlib.Core.Path.{_≡_}
 use mathlib.Core.List.{List, [], _∷_, _++_, map}
 use mathlib.Core.Option.{Option, none, some}
 use lib.IntN.{ℤ}
-use lib.ListN.{length, getD, take}
+use lib.ListN.{length, getD, take, drop}
 use Rattle.rules.specs.declared.Digits.{Digits}
 use Rattle.rules.specs.declared.Class.{Class}
+use Rattle.rules.specs.RangeClass.{mostDepth}
 use Rattle.rules.specs.Base.{flat, total, hasNumber, isNone, isSome}
 use Rattle.rules.specs.RefusalNumbers.{got, bad}
 use Rattle.rules.specs.Lines.{Rest, brace, equals, Form, ignored, wrong, close, eof, keyed, span, bytesAt, formIn}
@@ -16,11 +17,11 @@ use Rattle.rules.specs.Values.{Value, empty, nums, chars, linked}
 use Rattle.rules.specs.Rows.{blank, Held, partOf, rowsThere, numberOf}
 use Rattle.rules.specs.Blocks.{fileTable, mostLayers}
 use Rattle.rules.specs.Figures.{textTable, placedTables}
-use Rattle.rules.specs.Sets.{Point, Figure, placed, Layer, Drawing, Symbol, Set, isFirst, firstContents, arcOf, symbolRange, defineRange, symbolNameOf}
+use Rattle.rules.specs.Sets.{Point, Figure, placed, Layer, Drawing, Symbol, Set, isFirst, firstContents, arcOf, symbolRange, defineRange, wireRange, symbolNameOf}
 use Rattle.rules.specs.Sets.{figureSerial, serialsOfVolume, serialsIn, elementsOf, usedIn}
 use Rattle.rules.specs.VolumesAndTotals.{ownTable}
 use Rattle.rules.specs.Machine.{Line, inLastVolume, Env, Home, inElement, inLayer, State, top, file, drawing, layerNames, defines, symbol, hide, elements, unlimited}
-use Rattle.rules.specs.Machine.{figures, successive, texts, placing, skipping, ended, setOf, newName, symbolBlock}
+use Rattle.rules.specs.Machine.{figures, successive, texts, placing, skipping, ended, setOf, newName, Owned, symbolBlock, wireBlock, wireUnread}
 use Rattle.rules.specs.LineByLine.{stepIn}
 use Rattle.entries.specs.Names.{namesIn}
 use Rattle.rules.specs.declared.LineForm.{LineForm}
@@ -37,7 +38,7 @@ use Rattle.account.specs.Putting.{completed, numberFor, clearedBy}
 use Rattle.standing.specs.SoFar.{volumeOf}
 use Rattle.standing.specs.Kept.{Scratch, shutSoFar, OwnAt, Opens, Fills, FillsAll}
 use Rattle.account.specs.Numbering.{blockTop, blockFile, blockDrawing, blockLayerNames, blockDefines, blockSymbol, blockHide, blockElements, blockFigures}
-use Rattle.account.specs.Numbering.{blockChain, blockText, blockPlaced, blockEnded, rowsText, mostRows, headerLength, scratchLength, mostSymbols, mostSerials}
+use Rattle.account.specs.Numbering.{blockChain, blockText, blockPlaced, blockWire, blockEnded, wireRead, wireSkipped, rowsText, mostRows, headerLength, scratchLength, mostSymbols, mostSerials}
 use Rattle.rules.specs.RecordTable.{width}
 
 -- ── what is lent from line to line ──
@@ -111,6 +112,11 @@ abbrev pub homeSerials : Set → Home → List Figure → List ℕ
 homeSerials s (inElement y) fs = closedSerials s
 homeSerials s (inLayer k) fs = serialsWith s fs
 
+abbrev pub ownedSerial : ℕ → Owned → List ℕ
+ownedSerial n (symbolBlock o) = figureSerial (placed n o)
+ownedSerial n (wireBlock w) = []
+ownedSerial n wireUnread = []
+
 abbrev pub serialsOf : State → List ℕ
 serialsOf (top s k) = closedSerials s
 serialsOf (file s n h p) = closedSerials s
@@ -123,8 +129,8 @@ serialsOf (elements s) = serialsIn s
 serialsOf (figures s h fs) = homeSerials s h fs
 serialsOf (successive s h fs n ps) = homeSerials s h fs
 serialsOf (texts s h fs n o) = homeSerials s h fs
-serialsOf (placing s k fs n (symbolBlock o) p) = serialsWith s fs ++ figureSerial (placed n o)
-serialsOf (skipping s k fs n (symbolBlock o) d) = serialsWith s fs ++ figureSerial (placed n o)
+serialsOf (placing s k fs n o p) = serialsWith s fs ++ ownedSerial n o
+serialsOf (skipping s k fs n o d) = serialsWith s fs ++ ownedSerial n o
 serialsOf (ended s) = closedSerials s
 
 -- the layers used so far in the volume at hand
@@ -148,7 +154,13 @@ usedOf (placing s k fs n o p) = homeUsed s (inLayer k)
 usedOf (skipping s k fs n o d) = homeUsed s (inLayer k)
 usedOf (ended s) = []
 
--- the figures of the layer or symbol that is open
+-- the elements of a wire that is open
+abbrev pub ownedElements : Owned → ℕ
+ownedElements (symbolBlock o) = 0
+ownedElements (wireBlock w) = length (w .elements)
+ownedElements wireUnread = 0
+
+-- the figures of the layer or symbol that is open, and the elements of its open wire
 abbrev pub openFigures : State → ℕ
 openFigures (top s k) = 0
 openFigures (file s n h p) = 0
@@ -161,8 +173,8 @@ openFigures (elements s) = 0
 openFigures (figures s h fs) = length fs
 openFigures (successive s h fs n ps) = length fs
 openFigures (texts s h fs n o) = length fs
-openFigures (placing s k fs n o p) = length fs
-openFigures (skipping s k fs n o d) = length fs
+openFigures (placing s k fs n o p) = length fs + ownedElements o
+openFigures (skipping s k fs n o d) = length fs + ownedElements o
 openFigures (ended s) = 0
 
 -- ELEMENT is open
@@ -222,11 +234,11 @@ abbrev pub fileNumber : Prim.Native.String.String → Set → ℕ
 fileNumber k s = numberOf k fileTable (partOf (firstContents s .file) 0)
 
 -- the tally: arc, E_sym, S_elec, date, time, all_ele; this_ele; figures in closed layers of this volume, in closed volumes; symbols,
--- layers, serial numbers
+-- layers, serial numbers; E_wire
 abbrev pub tallyOf : Set → ℕ → ℕ → ℕ → List ℕ
 tallyOf s here layers serials =
     arcOf s ∷ symbolRange s ∷ defineRange s ∷ fileNumber "date" s ∷ fileNumber "time" s ∷ fileNumber "all_ele" s ∷ here ∷ elementsOf (s .now)
-    ∷ total elementsOf (s .volumes) ∷ length (s .symbols) ∷ layers ∷ serials ∷ []
+    ∷ total elementsOf (s .volumes) ∷ length (s .symbols) ∷ layers ∷ serials ∷ wireRange s ∷ []
 
 -- ── bytes that must have been read: each line has its bytes, and two for its end ──
 abbrev pub restSize : Rest → ℕ
@@ -285,6 +297,11 @@ serialDue o = cond (isSome o) 0 32
 abbrev pub placedBytes : Held → ℕ
 placedBytes o = serialDue (getD (partOf o 0) 5 none) + rowBytes 17 (getD (partOf o 0) 0 none)
 
+abbrev pub ownedBytes : Owned → ℕ
+ownedBytes (symbolBlock o) = placedBytes o
+ownedBytes (wireBlock w) = 20
+ownedBytes wireUnread = 20
+
 abbrev pub serialBytes : State → ℕ
 serialBytes (top s k) = 20
 serialBytes (file s n h p) = 20
@@ -297,8 +314,8 @@ serialBytes (elements s) = 20
 serialBytes (figures s h fs) = 20
 serialBytes (successive s h fs n ps) = 20
 serialBytes (texts s h fs n o) = 20
-serialBytes (placing s k fs n (symbolBlock o) p) = placedBytes o
-serialBytes (skipping s k fs n (symbolBlock o) d) = placedBytes o
+serialBytes (placing s k fs n o p) = ownedBytes o
+serialBytes (skipping s k fs n o d) = ownedBytes o
 serialBytes (ended s) = 20
 
 -- ── the block that is open ──
@@ -388,6 +405,13 @@ module _ (spool : List ℕ) (k : ℕ) (n : Now) (ms is : List Bool) where
     pub unopened : isNone (getD (partOf o 0) 1 none) ≡ true → partOf o 1 ≡ blank (textTable true 16 24)
     pub opened : p ≡ 1 → isNone (getD (partOf o 0) 1 none) ≡ false
 
+  -- a wire: whether it is read, and how many elements it has or how many skipped blocks are open in it
+  pub record InWire (s : Set) (m : ℕ) (fs : List Figure) (read many : ℕ) : Type 0 where
+    pub home : InHome s (inLayer m)
+    pub figures : n .figures ≡ length fs
+    pub part : n .part ≡ read
+    pub points : n .points ≡ many
+
 module _ (c : Class) (spool : List ℕ) (k : ℕ) (d : Desk) where
   -- FILE_FORMAT's part is said in FileStanding
   abbrev pub Inside : (FileHere : Set → ℕ → Held → ℕ → Type 0) → State → Type 0
@@ -405,7 +429,13 @@ module _ (c : Class) (spool : List ℕ) (k : ℕ) (d : Desk) where
       (d .now .block ≡ blockText) × InHome spool k (d .now) (d .marks) (d .inner) s h × (d .now .figures ≡ length fs) × (length o ≡ 2)
       × (d .inner ≡ rowsThere o)
   Inside FileHere (placing s m fs n (symbolBlock o) p) = (d .now .block ≡ blockPlaced) × InPlaced spool k (d .now) (d .marks) (d .inner) s m fs o p
-  Inside FileHere (skipping s m fs n o q) = ⊥
+  Inside FileHere (placing s m fs n (wireBlock w) p) =
+      (d .now .block ≡ blockWire) × (p ≡ 0) × InWire spool k (d .now) (d .marks) (d .inner) s m fs wireRead (length (w .elements))
+  Inside FileHere (placing s m fs n wireUnread p) = ⊥
+  Inside FileHere (skipping s m fs n (symbolBlock o) q) = ⊥
+  Inside FileHere (skipping s m fs n (wireBlock w) q) = ⊥
+  Inside FileHere (skipping s m fs n wireUnread q) =
+      (d .now .block ≡ blockWire) × (q ≤ mostDepth) × InWire spool k (d .now) (d .marks) (d .inner) s m fs wireSkipped q
   Inside FileHere (ended s) = d .now .block ≡ blockEnded
 
   -- the reading stands behind the line that ends at `at`
@@ -468,10 +498,12 @@ pub record LineHere (spool : List ℕ) (k at to : ℕ) (form : LineForm) (w : Wh
   pub most : to ≤ 61442
 
 -- what a line that took so many records made complete of those that have their place in the table: `number` is that of the first of them
+-- (A wire's two stand behind the scratch's first record, to its end.)
 abbrev pub Made : Class → State → State → ℕ → ℕ → List ℤ → List ℤ → Complete → Type 0
 Made c st st′ more number t h C.Nothing = Opens c st st′ more
 Made c st st′ more number t h (C.Record from) = Fills c st st′ more from number t
 Made c st st′ more number t h C.Header = FillsAll c st st′ more number (take (fileWidth (isFirst (setOf st))) h)
+Made c st st′ more number t h C.Wire = (length t ≡ scratchLength) × FillsAll c st st′ more number (take (width + width) (drop width t))
 
 -- how many records have their place in the table, and the number of the open block's own
 pub record Counted (c : Class) (number : ℕ) (d : Desk) (st : State) : Type 0 where

@@ -27,7 +27,7 @@ use Rattle.account.specs.declared.Complete.{Complete}
 use Rattle.account.specs.declared.Complete.the-variants as C
 use Rattle.account.specs.Account.{atBlock}
 use Rattle.account.specs.Putting.{completed, numberFor, clearedBy}
-use Rattle.account.specs.SkippedLines.{Skips, inOwned}
+use Rattle.account.specs.SkippedLines.{Skips, inPlaced}
 use Rattle.standing.specs.SoFar.{volumeOf}
 use Rattle.steps.specs.VolumeLines.{nextNow, lastStep}
 use Rattle.standing.specs.Reading.{nextNumber, nextState, Kept}
@@ -44,8 +44,8 @@ Ends false taken st = (s : Set) × (st ≡ top s 4) × (s .taken ≡ taken)
 
 -- a line that opens a skipped block completes none
 never-ends : (b : Bool) (taken : ℕ) {inside behind : State} → Skips inside behind → Ends b taken inside → ⊥
-never-ends true taken (inOwned s m fs i b) (s′, v, e) = absurd (let x : _≡_ {A = ℕ} 0 1 = cc in omega arith)
-never-ends false taken (inOwned s m fs i b) (s′, v, e) = absurd (let x : _≡_ {A = ℕ} 0 1 = cc in omega arith)
+never-ends true taken (inPlaced s m fs i o) (s′, v, e) = absurd (let x : _≡_ {A = ℕ} 0 1 = cc in omega arith)
+never-ends false taken (inPlaced s m fs i o) (s′, v, e) = absurd (let x : _≡_ {A = ℕ} 0 1 = cc in omega arith)
 
 form-ignored : (f : Form) → isIgnored f ≡ true → f ≡ ignored
 form-ignored ignored h = refl
@@ -136,7 +136,7 @@ data Before (b : ℕ) : Type 0 where
 -- and behind it: the top level, or none
 data Behind (b : ℕ) : Type 0 where
   top-again : b ≡ 0 → Behind b
-  none-more : b ≡ 12 → Behind b
+  none-more : b ≡ 15 → Behind b
 
 module _ (c : Class) (spool : List ℕ) (k : ℕ) (l : Line) (d : Desk) (F : Set → ℕ → Held → ℕ → Type 0) where
   ending-block : (st : State) → completes l st ≡ true → Inside c spool k d F st → Before (d .now .block)
@@ -266,9 +266,9 @@ module _ (c : Class) (spool : List ℕ) (k : ℕ) (FileHere : Desk → Set → �
 
           by : Before (d .now .block) → Behind (n .block) → completed (was .now) n ≡ C.Nothing
           by (on-top e) (top-again b) = completed-none (was .now) n (from 0 e ∙ sym b) (sym (none-taken (isNil (l .next)) ends))
-          by (on-top e) (none-more b) = completed-by (was .now) n 0 12 (from 0 e) b
+          by (on-top e) (none-more b) = completed-by (was .now) n 0 15 (from 0 e) b
           by (in-element e) (top-again b) = completed-by (was .now) n 7 0 (from 7 e) b
-          by (in-element e) (none-more b) = completed-by (was .now) n 7 12 (from 7 e) b
+          by (in-element e) (none-more b) = completed-by (was .now) n 7 15 (from 7 e) b
 
       stands-now : Here (deskNow was n) k to (x .state)
       stands-now = subst (λ (y : Complete). Here (deskNow (deskScratch was (clearedBy y (was .scratch))) n) k to (x .state)) nothing (x .stands)

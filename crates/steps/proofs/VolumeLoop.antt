@@ -237,5 +237,5 @@ pub record OwnLengths (d : Desk) : Type 0 where
   pub used : length (d .used) ≡ 64
   pub marks : length (d .marks) ≡ 28
   pub inner : length (d .inner) ≡ 2
-  pub header : length (d .header) ≡ 70
+  pub header : length (d .header) ≡ 71
   pub scratch : length (d .scratch) ≡ 96

@@ -30,7 +30,7 @@ use Rattle.account.specs.declared.Pos.{Pos}
 use Rattle.account.specs.declared.Left.the-variants as L
 use Rattle.account.specs.Putting.{withinLimit, completed, numberFor, putBy, clearedBy, ownAfter}
 use Rattle.account.specs.Walk.{seenFrom, At, todo, Next}
-use Rattle.account.specs.SkippedLines.{Skips, inOwned, SkipMet}
+use Rattle.account.specs.SkippedLines.{Skips, inPlaced, SkipMet}
 use Rattle.steps.specs.VolumeLines.{completesOf, lastStep}
 use Rattle.standing.specs.Kept.{Scratch, OwnAt}
 use Rattle.standing.specs.Standing.{Desk, inside, formSize, Inside, Stands, deskNow, deskScratch, LineHere, Counted, Goes, StepOut}
@@ -104,8 +104,8 @@ stands-between c spool k d F G at b s z = record {
 }
   where
     zeros : (b : Bool) → Scratch (replicate 96 (pos 0)) (nextState b s)
-    zeros true = scratch-zeros (ended s) refl refl
-    zeros false = scratch-zeros (top s 0) refl refl
+    zeros true = scratch-zeros (ended s) refl refl refl
+    zeros false = scratch-zeros (top s 0) refl refl refl
 
     outside : (b : Bool) → inside (nextState b s) ≡ false
     outside true = refl
@@ -117,10 +117,10 @@ stands-between c spool k d F G at b s z = record {
 
 -- behind a skipped block no own record is open
 own-skipped : (c : Class) (own : ℕ) {inside behind : State} → Skips inside behind → OwnAt c own behind
-own-skipped c own (inOwned s m fs i b) = tt
+own-skipped c own (inPlaced s m fs i o) = tt
 
 same-skipped : {inside behind : State} → Skips inside behind → setOf inside ≡ setOf behind
-same-skipped (inOwned s m fs i b) = refl
+same-skipped (inPlaced s m fs i o) = refl
 
 module _ (c : Class) (spool body : List ℕ) (v : Volume) (following : List ℕ) (limit : ℕ) where
   abbrev k : ℕ

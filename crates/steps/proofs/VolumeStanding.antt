@@ -13,7 +13,7 @@ use Rattle.rules.specs.Rows.{Held}
 use Rattle.rules.specs.Sets.{Set}
 use Rattle.rules.specs.Machine.{Line, State, top, file, drawing, layerNames, defines, symbol, hide, elements, figures, successive, texts, placing, skipping, ended}
 use Rattle.rules.specs.LineByLine.{isIgnored, isClose, isEof, completes}
-use Rattle.rules.specs.Machine.{symbolBlock}
+use Rattle.rules.specs.Machine.{symbolBlock, wireBlock, wireUnread}
 use Rattle.steps.specs.VolumeLines.{eofForm, closeForm, ignoredForm, completesOf}
 use Rattle.standing.specs.Standing.{Desk, Inside}
 
@@ -87,5 +87,9 @@ module _ (spool : List ℕ) (l : Line) (f : LineForm) (e : l .form ≡ formIn sp
     completes-of (successive s o fs i ps) h = by-block 9 (h .0) ∙ elsewhere 9 n b refl refl
     completes-of (texts s o fs i w) h = by-block 10 (h .0) ∙ elsewhere 10 n b refl refl
     completes-of (placing s m fs i (symbolBlock o) p) h = by-block 11 (h .0) ∙ elsewhere 11 n b refl refl
-    completes-of (skipping s m fs i o p) h = absurd h
-    completes-of (ended s) h = by-block 12 h ∙ elsewhere 12 n b refl refl
+    completes-of (placing s m fs i (wireBlock w) p) h = by-block 12 (h .0) ∙ elsewhere 12 n b refl refl
+    completes-of (placing s m fs i wireUnread p) h = absurd h
+    completes-of (skipping s m fs i (symbolBlock o) p) h = absurd h
+    completes-of (skipping s m fs i (wireBlock w) p) h = absurd h
+    completes-of (skipping s m fs i wireUnread p) h = by-block 12 (h .0) ∙ elsewhere 12 n b refl refl
+    completes-of (ended s) h = by-block 15 h ∙ elsewhere 15 n b refl refl

@@ -9,6 +9,7 @@ use account::BLOCK_PLACED;
 use account::BLOCK_SYMBOL;
 use account::BLOCK_TEXT;
 use account::BLOCK_TOP;
+use account::BLOCK_WIRE;
 use account::LineAt;
 use account::SCRATCH_LENGTH;
 use account::Step;
@@ -17,6 +18,7 @@ use account::TALLY_DEFINE_RANGE;
 use account::TALLY_LAYERS;
 use account::TALLY_SYMBOL_RANGE;
 use account::TALLY_SYMBOLS;
+use account::TALLY_WIRE_RANGE;
 use drawing::drawing_format::on_drawing;
 use drawing::drawing_format::on_layer_names;
 use drawing::file_format::on_file;
@@ -31,6 +33,8 @@ use elements::placed::on_placed;
 use elements::points::on_chain;
 use elements::points::on_hide;
 use elements::texts::on_text;
+use elements::wires::begin_wire;
+use elements::wires::on_wire;
 use rules::WIDTH;
 ghost use mathlib.Core.Path.{_≡_};
 ghost use mathlib.Core.Bool.{true};
@@ -46,7 +50,7 @@ ghost use Rattle.account.specs.TopLines.{topLent};
 ghost use Rattle.account.specs.FileLines.{FileReady};
 ghost use Rattle.standing.specs.Standing.{desk};
 ghost use Rattle.standing.specs.Reading.{tallyAfter, tallyNamed, symbolsNamed, LineReady, LinePromise};
-ghost use Rattle.standing.specs.LineDone.{Named, SymbolReady, OnTop, OnFile, OnDrawing, OnNames, OnDefines, OnSymbol, OnHide, OnElements, OnFigures, OnChain, OnText, OnPlaced, HeadFits, HeadDone, SheetFits, SheetDone, FiguresFit, FiguresDone};
+ghost use Rattle.standing.specs.LineDone.{Named, SymbolReady, OnTop, OnFile, OnDrawing, OnNames, OnDefines, OnSymbol, OnHide, OnElements, OnFigures, OnChain, OnText, OnPlaced, OnWire, HeadFits, HeadDone, SheetFits, SheetDone, FiguresFit, FiguresDone};
 ghost use Rattle.account.specs.Numbering.{blockDrawing, blockDefines, blockSymbol, blockElements, blockFigures, tallyElementsHere, tallyTotal, tallySymbols, tallyLayers, tallyLength, mostRows, headerLength, scratchLength};
 ghost use Rattle.rules.specs.RecordTable.{width};
 
@@ -325,18 +329,20 @@ fn in_figures(
     inner: &mut [bool],
     t: &mut [i64],
 ) -> Step
-    requires { ⌜ (length (now s) ≤ 61440) × Named (now tally) (now symbols) (now layers) × (getD (now tally) tallyElementsHere 0 + x .here .figures < 4294967295) × (length (now t) ≡ scratchLength) × (x .here .records < 18446744073709551615) ⌝ }
-    ensures { λ r. ⌜ OnFigures (now (s .entry)) (x .form) (x .here) (now (tally .entry)) (now (symbols .entry)) (now (layers .entry)) (x .at) (now (tally .exit)) (now (marks .entry)) (now (marks .exit)) (now (inner .entry)) (now (inner .exit)) (now (t .entry)) (now (t .exit)) r ⌝ }
+    requires { ⌜ (length (now s) ≤ 61440) × Named (now tally) (now symbols) (now layers) × (getD (now tally) tallyElementsHere 0 + x .here .figures < 4294967295) × (length (now t) ≡ scratchLength) × (x .here .records + 2 ≤ 18446744073709551615) ⌝ }
+    ensures { λ r. ⌜ OnFigures (now (s .entry)) (x .form) (x .here) (now (tally .entry)) (now (symbols .entry)) (now (layers .entry)) (x .class) (x .at) (now (tally .exit)) (now (marks .entry)) (now (marks .exit)) (now (inner .entry)) (now (inner .exit)) (now (t .entry)) (now (t .exit)) r ⌝ }
 {
     let form = x.form;
     let ns = tally[TALLY_SYMBOLS] as usize;
     let nl = tally[TALLY_LAYERS] as usize;
     let range = tally[TALLY_SYMBOL_RANGE];
-    let r = on_figures(
+    let wires = tally[TALLY_WIRE_RANGE];
+    let did = on_figures(
         s,
         &symbols[..ns],
         &layers[..nl],
         range,
+        wires,
         x.here,
         form,
         x.at,
@@ -344,6 +350,7 @@ fn in_figures(
         inner,
         &mut t[WIDTH..SECOND_END],
     );
+    let r = begin_wire(did, x.class, x.at, t);
     layer_counted(r, tally)
 }
 
@@ -429,6 +436,33 @@ fn in_placed(
         marks,
         inner,
         &mut t[WIDTH..SECOND_END],
+    )
+}
+
+fn in_wire(
+    s: &[u8],
+    x: LineAt,
+    tally: &[u32],
+    symbols: &[u32],
+    layers: &[u32],
+    t: &mut [i64],
+) -> Step
+    requires { ⌜ (length (now s) ≤ 61440) × Named (now tally) (now symbols) (now layers) × (x .here .figures < 4294967295) × (x .here .points < 4294967295) × (length (now t) ≡ scratchLength) × (x .here .records < 18446744073709551615) ⌝ }
+    ensures { λ r. ⌜ OnWire (now (s .entry)) (x .form) (x .here) (now (tally .entry)) (now (symbols .entry)) (now (layers .entry)) (x .at) (now (t .entry)) (now (t .exit)) r ⌝ }
+{
+    let form = x.form;
+    let ns = tally[TALLY_SYMBOLS] as usize;
+    let nl = tally[TALLY_LAYERS] as usize;
+    let range = tally[TALLY_WIRE_RANGE];
+    on_wire(
+        s,
+        &symbols[..ns],
+        &layers[..nl],
+        range,
+        x.here,
+        form,
+        x.at,
+        t,
     )
 }
 
@@ -520,6 +554,9 @@ fn figure_line(
     }
     if x.here.block == BLOCK_PLACED {
         return in_placed(s, x, tally, symbols, layers, serials, marks, inner, t);
+    }
+    if x.here.block == BLOCK_WIRE {
+        return in_wire(s, x, tally, symbols, layers, t);
     }
     Step::Stop(9)
 }

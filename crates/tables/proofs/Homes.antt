@@ -4,11 +4,11 @@ use mathlib.Core.Bool.{Bool, true, false, cond}
 use mathlib.Core.List.{List, [], _∷_}
 use mathlib.Core.Path.{_≡_, refl}
 use Rattle.rules.specs.Base.{bytes, same}
-use Rattle.rules.specs.Rows.{absent, found, row, repeated, anyNumber, upTo, find}
+use Rattle.rules.specs.Rows.{found, row, repeated, anyNumber, upTo, find}
 use Rattle.rules.specs.Values.{values, typeDigits, endsDiffer, nothingMore, decimal, aboveZero, notNegative, angle}
-use Rattle.rules.specs.Figures.{coordinate, flag, pointKind, anyOf, mostPoints}
+use Rattle.rules.specs.Figures.{coordinate, flag, pointKind, wireRows, anyOf, mostPoints}
 use Rattle.tables.specs.Rows.{partsOf, ruleOf, forLine, foundForLine, timesRow, severalRow, fromRow}
-use Rattle.tables.specs.Tables.{placedRows, behindSix}
+use Rattle.tables.specs.Tables.{placedRows, behindSix, behindSeven}
 
 pub line-home : (b : Bool) →
     forLine (repeated anyNumber (row "line" (values typeDigits (coordinate b ∷ coordinate b ∷ coordinate b ∷ coordinate b ∷ []) endsDiffer) 4))
@@ -35,14 +35,15 @@ lettering-home true p = refl
 lettering-home false p = refl
 
 -- ── placed symbols ──
-pub no-placing : (k : List ℕ) (n : ℕ) → same k (bytes "E_symbol") ≡ false → foundForLine (behindSix (find k (anyOf (placedRows n)))) ≡ absent
-no-placing k zero e = refl
-no-placing k (suc zero) e = rw e
-no-placing k (suc (suc n)) e = rw e
+pub no-placing : (k : List ℕ) (n : ℕ) (b : Bool) → (n ≡ 0 → ⊥) → same k (bytes "E_symbol") ≡ false
+    → foundForLine (behindSix (find k (anyOf (placedRows n b)))) ≡ foundForLine (behindSeven (find k (anyOf (wireRows b))))
+no-placing k zero b a e = absurd (a refl)
+no-placing k (suc zero) b a e = rw e
+no-placing k (suc (suc n)) b a e = rw e
 
-pub one-line : (k : List ℕ) (n : ℕ) → (n ≡ 0 → ⊥) → (n ≡ 1 → ⊥) → same k (bytes "E_symbol") ≡ true
-    → foundForLine (behindSix (find k (anyOf (placedRows n)))) ≡ found 6 (ruleOf (fromRow 0 1 (timesRow 255 (severalRow 6 2223212115 4 0 5))))
+pub one-line : (k : List ℕ) (n : ℕ) (w : Bool) → (n ≡ 0 → ⊥) → (n ≡ 1 → ⊥) → same k (bytes "E_symbol") ≡ true
+    → foundForLine (behindSix (find k (anyOf (placedRows n w)))) ≡ found 6 (ruleOf (fromRow 0 1 (timesRow 255 (severalRow 6 2223212115 4 0 5))))
 unfolding partsOf
-one-line k zero a b e = absurd (a refl)
-one-line k (suc zero) a b e = absurd (b refl)
-one-line k (suc (suc n)) a b e = rw e
+one-line k zero w a b e = absurd (a refl)
+one-line k (suc zero) w a b e = absurd (b refl)
+one-line k (suc (suc n)) w a b e = rw e

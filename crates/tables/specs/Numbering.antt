@@ -3,7 +3,8 @@ use Prim.Native.Nat.{ℕ}
 
 -- ── the tables ──
 -- FILE_FORMAT with its inner parts in front, DRAWING_FORMAT, SYMBOL_DEFINE, ELEMENT; a layer where a placed symbol is a block and where it
--- is one line (E_sym 001); an element's figures; points and texts in layers and in symbols; a placed symbol and its text
+-- is one line (E_sym 001); an element's figures; points and texts in layers and in symbols; a placed symbol and its text; a wire; the two of a
+-- layer again, where wires may stand in it (E_wire isn't 000)
 abbrev pub tableTop : ℕ
 tableTop = 0
 
@@ -63,6 +64,15 @@ tablePlaced = 18
 
 abbrev pub tablePlacedText : ℕ
 tablePlacedText = 19
+
+abbrev pub tableWire : ℕ
+tableWire = 20
+
+abbrev pub tableWiredLayer : ℕ
+tableWiredLayer = 21
+
+abbrev pub tableSingleWiredLayer : ℕ
+tableSingleWiredLayer = 22
 
 -- ── what a row holds ──
 abbrev pub holdsValues : ℕ
@@ -135,6 +145,9 @@ partSymbolName = 15
 
 abbrev pub partLayerId : ℕ
 partLayerId = 16
+
+abbrev pub partWireRange : ℕ
+partWireRange = 18
 
 -- decimals, by their sign or limit; any other number from here on is that of an angle
 abbrev pub partAnySign : ℕ

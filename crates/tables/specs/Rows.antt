@@ -4,7 +4,7 @@ use mathlib.Core.Bool.{true, false, cond}
 use mathlib.Core.List.{List, [], _∷_}
 use lib.Dec.{eqb, ltb}
 use Rattle.rules.specs.RangeClass.{digits}
-use Rattle.rules.specs.Values.{Part, count, digit, typeDigits, range, rangeOfSymbols, day, clock, decimal, Bound, anySign, notNegative, aboveZero, angle}
+use Rattle.rules.specs.Values.{Part, count, digit, typeDigits, range, rangeOfSymbols, rangeOfWires, day, clock, decimal, Bound, anySign, notNegative, aboveZero, angle}
 use Rattle.rules.specs.Values.{symbolName, layerId, Across, nothingMore, endsDiffer, arcOfCircle, axesOfEllipse, Kind, values, text, word, volumeName, sheet}
 use Rattle.rules.specs.Values.{ratio, serials, nothing, opens, headed, either}
 use Rattle.rules.specs.Rows.{Times, once, upTo, anyNumber, Rule, Found, absent, found}
@@ -15,8 +15,8 @@ use Rattle.tables.specs.declared.Row.{Row}
 use Rattle.tables.specs.declared.Found.{Found as Finding}
 use Rattle.tables.specs.declared.Found.the-variants as F
 use Rattle.tables.specs.Numbering.{partFlag, partPosition, partCount, partDay, partClock, partRange0, partRange01, partRange02, partRange1}
-use Rattle.tables.specs.Numbering.{partSymbolRange, partSymbolName, partLayerId, partAnySign, partNotNegative, partAboveZero, acrossEnds, acrossArc}
-use Rattle.tables.specs.Numbering.{acrossAxes, timesOnce, timesAny, holdsValues, holdsText, holdsWord, holdsVolumeName, holdsSheet, holdsRatio}
+use Rattle.tables.specs.Numbering.{partSymbolRange, partSymbolName, partLayerId, partWireRange, partAnySign, partNotNegative, partAboveZero, acrossEnds}
+use Rattle.tables.specs.Numbering.{acrossArc, acrossAxes, timesOnce, timesAny, holdsValues, holdsText, holdsWord, holdsVolumeName, holdsSheet, holdsRatio}
 use Rattle.tables.specs.Numbering.{holdsSerials, holdsNothing, holdsBlock, holdsHeaded, holdsEither}
 
 -- the sign and limit of a decimal, by its number
@@ -37,7 +37,8 @@ wholeOf n =
     (cond (eqb n partRange1) (range 1 1)
     (cond (eqb n partSymbolRange) rangeOfSymbols
     (cond (eqb n partSymbolName) symbolName
-    (cond (eqb n partLayerId) layerId typeDigits)))))))))))
+    (cond (eqb n partLayerId) layerId
+    (cond (eqb n partWireRange) rangeOfWires typeDigits))))))))))))
 
 -- one value between commas, by its number
 abbrev pub partOf : ℕ → Part

@@ -1,5 +1,7 @@
 // The tables of document 01: for each block the row of a key.
 // Made by tools/make-keys from the definitions' rows: change those, or the script.
+use crate::ACROSS_ARC;
+use crate::ACROSS_ENDS;
 use crate::Found;
 use crate::HOLDS_BLOCK;
 use crate::HOLDS_EITHER;
@@ -22,6 +24,7 @@ use crate::PART_RANGE_0_1;
 use crate::PART_RANGE_0_2;
 use crate::PART_RANGE_1;
 use crate::PART_SYMBOL_RANGE;
+use crate::PART_WIRE_RANGE;
 use crate::TIMES_ANY;
 use crate::keys::is_air;
 use crate::keys::is_all_ele;
@@ -30,6 +33,7 @@ use crate::keys::is_arc;
 use crate::keys::is_b_sym;
 use crate::keys::is_base;
 use crate::keys::is_cad;
+use crate::keys::is_circle;
 use crate::keys::is_circuit;
 use crate::keys::is_corp;
 use crate::keys::is_date;
@@ -50,6 +54,7 @@ use crate::keys::is_hide;
 use crate::keys::is_hight;
 use crate::keys::is_layer;
 use crate::keys::is_layer_name;
+use crate::keys::is_line;
 use crate::keys::is_make;
 use crate::keys::is_name;
 use crate::keys::is_next_file;
@@ -86,7 +91,7 @@ use crate::rows::with_state;
 ghost use mathlib.Core.Path.{_≡_};
 ghost use Rattle.rules.specs.Rows.{find};
 ghost use Rattle.rules.specs.Blocks.{topTable, fileTable, rangeTable, baseTable, elecTable, symTable, laterTable, drawingTable, definesTable, symbolTable, elementTable};
-ghost use Rattle.rules.specs.Figures.{placedTable};
+ghost use Rattle.rules.specs.Figures.{placedTable, wireTable};
 ghost use Rattle.tables.specs.Rows.{foundOf, foundForLine};
 ghost use Rattle.tables.specs.Tables.{headerTexts, behindEight};
 
@@ -94,6 +99,10 @@ ghost use Rattle.tables.specs.Tables.{headerTexts, behindEight};
 const WALL_FORMS: u64 = 20_20;
 
 const SYMBOL_FORMS: u64 = 22_23_21_21_15;
+
+const LINE_FORMS: u64 = 21_21_21_21_17;
+
+const CIRCLE_FORMS: u64 = 5_23_23_22_20_20_17;
 
 // the free texts, by their numbers in TEXT_LIMITS
 const CAD: u8 = 0;
@@ -247,7 +256,7 @@ pub(crate) fn elec_row(k: &[u8]) -> Found
         return Found::Row(several(0, PART_SYMBOL_RANGE, 0, 0, 8));
     }
     if is_e_wire(k) {
-        return Found::Row(several(1, PART_RANGE_0, 0, 0, 0));
+        return Found::Row(several(1, PART_WIRE_RANGE, 0, 0, 0));
     }
     if is_e_cirno(k) {
         return Found::Row(several(2, PART_RANGE_0, 0, 0, 0));
@@ -400,6 +409,19 @@ pub(crate) fn placed_row(k: &[u8]) -> Found
     }
     if is_serial(k) {
         return Found::Row(with_state(from(plain(5, HOLDS_SERIALS, 14), 1, 0), 30));
+    }
+    Found::Absent
+}
+
+// A wire's block.
+pub(crate) fn wire_row(k: &[u8]) -> Found
+    ensures { λ r. ⌜ foundForLine (find (now (k .entry)) wireTable) ≡ foundOf r ⌝ }
+{
+    if is_line(k) {
+        return Found::Row(times(several(0, LINE_FORMS, 4, ACROSS_ENDS, 4), TIMES_ANY));
+    }
+    if is_circle(k) {
+        return Found::Row(times(several(1, CIRCLE_FORMS, 6, ACROSS_ARC, 4), TIMES_ANY));
     }
     Found::Absent
 }

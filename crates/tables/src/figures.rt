@@ -1,4 +1,4 @@
-// The tables of figures, points, texts and placed symbols: the row of a key.
+// The tables of figures, points and texts: the row of a key.
 use crate::ACROSS_ARC;
 use crate::ACROSS_AXES;
 use crate::ACROSS_ENDS;
@@ -8,6 +8,7 @@ use crate::TIMES_ANY;
 use crate::keys::is_character;
 use crate::keys::is_circle;
 use crate::keys::is_e_symbol;
+use crate::keys::is_e_wire;
 use crate::keys::is_ellipse;
 use crate::keys::is_line;
 use crate::keys::is_point;
@@ -22,9 +23,9 @@ use crate::rows::times;
 ghost use mathlib.Core.Path.{_≡_};
 ghost use mathlib.Core.Bool.{cond};
 ghost use Rattle.rules.specs.Rows.{find};
-ghost use Rattle.rules.specs.Figures.{pointTable, textTable, anyOf};
+ghost use Rattle.rules.specs.Figures.{pointTable, textTable, wireRows, anyOf};
 ghost use Rattle.tables.specs.Rows.{foundOf, foundForLine};
-ghost use Rattle.tables.specs.Tables.{placedRows, figuresTable, behindSix};
+ghost use Rattle.tables.specs.Tables.{placedRows, figuresTable, behindSix, behindSeven};
 
 const MOST_POINTS: u8 = 100;
 
@@ -60,15 +61,28 @@ fn by_home(in_layer: bool, layers: u64, symbols: u64) -> u64
     symbols
 }
 
-// A placed symbol among the figures of a layer: none (0), its block (1), or on one line (2).
-fn placing_row(k: &[u8], placed: u8) -> Found
-    ensures { λ r. ⌜ foundForLine (behindSix (find (now (k .entry)) (anyOf (placedRows placed)))) ≡ foundOf r ⌝ }
+// A wire among the figures of a layer, where it may stand there.
+fn wiring_row(k: &[u8], wired: bool) -> Found
+    ensures { λ r. ⌜ foundForLine (behindSeven (find (now (k .entry)) (anyOf (wireRows wired)))) ≡ foundOf r ⌝ }
+{
+    if !wired {
+        return Found::Absent;
+    }
+    if is_e_wire(k) {
+        return Found::Row(times(inner(7, HOLDS_BLOCK, 0, 4, 0), TIMES_ANY));
+    }
+    Found::Absent
+}
+
+// A placed symbol among the figures of a layer: none (0), its block (1), or on one line (2); and behind it a wire.
+fn placing_row(k: &[u8], placed: u8, wired: bool) -> Found
+    ensures { λ r. ⌜ foundForLine (behindSix (find (now (k .entry)) (anyOf (placedRows placed wired)))) ≡ foundOf r ⌝ }
 {
     if placed == 0 {
         return Found::Absent;
     }
     if !is_e_symbol(k) {
-        return Found::Absent;
+        return wiring_row(k, wired);
     }
     if placed == 1 {
         return Found::Row(from(times(inner(6, HOLDS_BLOCK, 0, 3, 5), TIMES_ANY), 0, 1));
@@ -77,8 +91,8 @@ fn placing_row(k: &[u8], placed: u8) -> Found
 }
 
 // The figures of a layer or of a symbol's `element`, and what else may stand among them.
-pub(crate) fn figure_row(k: &[u8], in_layer: bool, placed: u8) -> Found
-    ensures { λ r. ⌜ foundForLine (find (now (k .entry)) (figuresTable in_layer placed)) ≡ foundOf r ⌝ }
+pub(crate) fn figure_row(k: &[u8], in_layer: bool, placed: u8, wired: bool) -> Found
+    ensures { λ r. ⌜ foundForLine (find (now (k .entry)) (figuresTable in_layer placed wired)) ≡ foundOf r ⌝ }
 {
     if is_line(k) {
         return Found::Row(times(
@@ -116,7 +130,7 @@ pub(crate) fn figure_row(k: &[u8], in_layer: bool, placed: u8) -> Found
     if is_text(k) {
         return Found::Row(times(inner(5, HOLDS_BLOCK, 0, 2, 0), TIMES_ANY));
     }
-    placing_row(k, placed)
+    placing_row(k, placed, wired)
 }
 
 // `successive` or `hide`.

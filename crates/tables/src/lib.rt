@@ -48,6 +48,12 @@ pub const TABLE_PLACED: u8 = 18;
 
 pub const TABLE_PLACED_TEXT: u8 = 19;
 
+pub const TABLE_WIRE: u8 = 20;
+
+pub const TABLE_WIRED_LAYER: u8 = 21;
+
+pub const TABLE_SINGLE_WIRED_LAYER: u8 = 22;
+
 // What a row holds.
 pub const HOLDS_VALUES: u8 = 0;
 
@@ -95,6 +101,8 @@ pub const PART_SYMBOL_RANGE: u64 = 14;
 pub const PART_SYMBOL_NAME: u64 = 15;
 
 pub const PART_LAYER_ID: u64 = 16;
+
+pub const PART_WIRE_RANGE: u64 = 18;
 
 // the first of the decimals
 pub const PART_ANY_SIGN: u64 = 20;

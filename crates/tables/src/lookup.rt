@@ -16,11 +16,14 @@ use crate::TABLE_PLACED;
 use crate::TABLE_PLACED_TEXT;
 use crate::TABLE_RANGE;
 use crate::TABLE_SINGLE_LAYER;
+use crate::TABLE_SINGLE_WIRED_LAYER;
 use crate::TABLE_SYM;
 use crate::TABLE_SYMBOL;
 use crate::TABLE_SYMBOL_POINTS;
 use crate::TABLE_SYMBOL_TEXT;
 use crate::TABLE_TOP;
+use crate::TABLE_WIRE;
+use crate::TABLE_WIRED_LAYER;
 use crate::blocks::base_row;
 use crate::blocks::defines_row;
 use crate::blocks::drawing_row;
@@ -33,6 +36,7 @@ use crate::blocks::range_row;
 use crate::blocks::sym_row;
 use crate::blocks::symbol_row;
 use crate::blocks::top_row;
+use crate::blocks::wire_row;
 use crate::figures::figure_row;
 use crate::figures::lettering_row;
 use crate::figures::point_row;
@@ -79,13 +83,13 @@ pub fn row_of(table: u8, k: &[u8]) -> Found
         return element_row(k);
     }
     if table == TABLE_LAYER {
-        return figure_row(k, true, 1);
+        return figure_row(k, true, 1, false);
     }
     if table == TABLE_SINGLE_LAYER {
-        return figure_row(k, true, 2);
+        return figure_row(k, true, 2, false);
     }
     if table == TABLE_FIGURES {
-        return figure_row(k, false, 0);
+        return figure_row(k, false, 0, false);
     }
     if table == TABLE_LAYER_POINTS {
         return point_row(k, true);
@@ -104,6 +108,15 @@ pub fn row_of(table: u8, k: &[u8]) -> Found
     }
     if table == TABLE_PLACED_TEXT {
         return lettering_row(k, true, 16, 24);
+    }
+    if table == TABLE_WIRE {
+        return wire_row(k);
+    }
+    if table == TABLE_WIRED_LAYER {
+        return figure_row(k, true, 1, true);
+    }
+    if table == TABLE_SINGLE_WIRED_LAYER {
+        return figure_row(k, true, 2, true);
     }
     Found::Absent
 }

@@ -4,7 +4,6 @@ use mathlib.Core.Bool.{Bool, true, false, not}
 use mathlib.Core.List.{List, [], _∷_, _++_, append-assoc, append-nil}
 use mathlib.Core.Path.{_≡_, refl, sym, _∙_, ap, subst}
 use native.Mathlib.Omega.{arith}
-use lib.Dec.{eqb}
 use lib.ListN.{length, getD}
 use Rattle.rules.specs.declared.Span.{Span}
 use Rattle.rules.specs.Base.{bytes, hasNumber}
@@ -14,8 +13,7 @@ use Rattle.rules.specs.RangeClass.{digits}
 use Rattle.rules.specs.Values.{Num, Value, empty, nums, chars, linked, Known, Kind, layerId, headed, readPart, readKind, servedSymbols, amountAt, showContent}
 use Rattle.rules.specs.Rows.{Rule, found, find, rowsAtLimit, fits, shapeFor, Act, begin, readShape, innerOf, complete}
 use Rattle.rules.specs.Blocks.{elementTable}
-use Rattle.rules.specs.Figures.{layerTable}
-use Rattle.rules.specs.Sets.{Set, withVolume, isSingle, knownOf, usedIn}
+use Rattle.rules.specs.Sets.{Set, withVolume, layerTableOf, knownOf, usedIn}
 use Rattle.rules.specs.VolumesAndTotals.{countedHere}
 use Rattle.rules.specs.Machine.{Line, Env, inLayer, State, top, elements, figures, onElements}
 use Rattle.rules.specs.LineByLine.{stepIn}
@@ -40,7 +38,7 @@ use Rattle.pens.specs.Keys.{isBrace, KeyLine, PlacedRest}
 use Rattle.pens.specs.Closing.{CloseDone}
 use Rattle.pens.specs.Drawing.{FormFits, LineOut}
 use Rattle.volumes.proofs.Acted.{acted}
-use Rattle.volumes.proofs.HomeLaws.{shut-did, key-line, shut-line, volume-range, front-volume}
+use Rattle.volumes.proofs.HomeLaws.{shut-did, key-line, shut-line, volume-range, volume-table, front-volume}
 use Rattle.pens.proofs.ShownLaws.{blocks-more}
 
 -- ── the line of a layer ──
@@ -110,13 +108,13 @@ module _ (K : Known) (spool : List ℕ) (first : Bool) (p : Pen) (ns out : List 
     where
       volume : shown K first (top (withVolume s) 4) ≡ shown K first (elements s) ++ bytes "}" ∷ []
       volume =
-          let t : Bool → List Rule = layerTable in
+          let t = layerTableOf s in
           let k = knownOf s in
           let us = s .now .blocks in
-          ap (λ (f : Text). f ++ (openLine (bytes "ELEMENT") ∷ showBlocks k (t (isSingle (withVolume s))) us (bytes "}" ∷ []))) (front-volume K first s)
-          ∙ ap (λ (n : ℕ). frontText K first s ++ (openLine (bytes "ELEMENT") ∷ showBlocks k (t (eqb n 1)) us (bytes "}" ∷ []))) (volume-range s)
-          ∙ ap (λ (f : Text). frontText K first s ++ (openLine (bytes "ELEMENT") ∷ f)) (blocks-more k (t (isSingle s)) us (bytes "}" ∷ []))
-          ∙ sym (append-assoc (frontText K first s) (openLine (bytes "ELEMENT") ∷ showBlocks k (t (isSingle s)) us []) (bytes "}" ∷ []))
+          ap (λ (f : Text). f ++ (openLine (bytes "ELEMENT") ∷ showBlocks k (layerTableOf (withVolume s)) us (bytes "}" ∷ []))) (front-volume K first s)
+          ∙ ap (λ (u : List Rule). frontText K first s ++ (openLine (bytes "ELEMENT") ∷ showBlocks k u us (bytes "}" ∷ []))) (volume-table s)
+          ∙ ap (λ (f : Text). frontText K first s ++ (openLine (bytes "ELEMENT") ∷ f)) (blocks-more k t us (bytes "}" ∷ []))
+          ∙ sym (append-assoc (frontText K first s) (openLine (bytes "ELEMENT") ∷ showBlocks k t us []) (bytes "}" ∷ []))
 
       shuts : unless (countedHere s) 17 (got (top (withVolume s) 4)) ≡ got st′ → LineOut K spool first st′ ns′ out′ d
       shuts n =

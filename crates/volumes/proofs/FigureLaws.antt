@@ -6,9 +6,10 @@ use mathlib.Core.Option.{Option, none, some}
 use mathlib.Core.Path.{_≡_, refl, sym, _∙_, ap, subst}
 use native.Mathlib.Omega.{arith}
 use borrow.Author.Tests.{leb-true}
-use lib.Dec.{eqb, leb}
+use lib.Dec.{leb}
 use lib.ListN.{length, getD, set}
 use lib.Seq.{getD-set-other}
+use Rattle.rules.specs.declared.Class.{Class}
 use Rattle.rules.specs.declared.Span.{Span}
 use Rattle.rules.specs.Base.{bytes, all, same, isNil, isSome}
 use Rattle.rules.specs.RefusalNumbers.{got}
@@ -16,14 +17,15 @@ use Rattle.rules.specs.Lines.{Rest, brace, equals, close, keyed, stem, byStem, 
 use Rattle.rules.specs.Values.{Value, empty, nums, chars, linked, Known, Kind, values, text, word, volumeName, sheet, ratio, serials, nothing, opens, headed, either, numsOf, servedSymbols}
 use Rattle.rules.specs.Rows.{Rule, row, repeated, anyNumber, found, find, blank, rowsAtLimit, fits, shapeFor, isOpener as opensShape, innerOf, complete}
 use Rattle.rules.specs.Blocks.{blankHeld}
-use Rattle.rules.specs.Figures.{plainRows, blockRows, placedRow, anyOf, layerTable, figureTable, textTable, placedTables}
-use Rattle.rules.specs.RecordTable.{ruleAt, kindLine, kindSuccessive, kindText, kindPlaced}
-use Rattle.rules.specs.Sets.{Figure, plain, Symbol, LayerBlock, Set, withRecords, withBlock, symbolFigures, rangeOf, isSingle, knownOf, layerTableOf}
+use Rattle.rules.specs.Figures.{plainRows, blockRows, placedRow, wireRows, anyOf, layerTable, figureTable, textTable, placedTables}
+use Rattle.rules.specs.RecordTable.{ruleAt, kindLine, kindSuccessive, kindText, kindPlaced, kindWire, kindWireMore}
+use Rattle.rules.specs.Sets.{Figure, plain, Symbol, LayerBlock, Set, withRecords, withBlock, symbolFigures, rangeOf, isSingle, isWired, knownOf, layerTableOf}
 use Rattle.rules.specs.Machine.{Line, Env, Home, inElement, inLayer, State, symbol, elements, figures, successive, texts, placing, isLayer, homeTable, taking, openFigure, onFigures, closeFigures}
 use Rattle.rules.specs.LineByLine.{stepIn}
 use Rattle.rules.specs.Answers.{fullClass}
 use Rattle.rules.specs.FixedForm.{Text, openLine, opensBlock, behind, lineOf, block, showFigures, showBlocks}
-use Rattle.rules.specs.Machine.{symbolBlock, kindIn}
+use Rattle.rules.specs.Machine.{symbolBlock, wireBlock, noWire, beginWire, kindIn}
+use Rattle.rules.specs.RangeClass.{knowsWires}
 use Rattle.rules.proofs.Chains.{never, clash, same-eq, and-left, and-right, unless-got}
 use Rattle.rules.proofs.Rows.{Row, here, there, found-row, row-all, row-at, row-below, row-find}
 use Rattle.promises.proofs.Forms.{keyOk, keysOk}
@@ -47,7 +49,7 @@ use Rattle.pens.specs.Keys.{isBrace, KeyDone, KeyLine, PlacedRest}
 use Rattle.pens.specs.Closing.{shutBytes, CloseDone}
 use Rattle.pens.specs.Drawing.{FormFits, LineOut}
 use Rattle.volumes.proofs.Acted.{acted, reads-any}
-use Rattle.volumes.proofs.HomeLaws.{shut-did, key-line, shut-line, block-range, front-block, text-records, text-more, rows-table, symbol-at, home-at, home-records}
+use Rattle.volumes.proofs.HomeLaws.{shut-did, key-line, shut-line, block-range, block-table, front-block, text-records, text-more, rows-table, symbol-at, home-at, home-records}
 use Rattle.volumes.proofs.FrontSteps.{took}
 use Rattle.volumes.proofs.NotedLaws.{blank-text, blank-parts}
 use Rattle.pens.proofs.ShownLaws.{block-parts, figures-more, blocks-one, blocks-last}
@@ -63,33 +65,48 @@ no-opener at (b ∷ c) = go (stem (b ∷ c))
     go (some []) = refl
     go (some (x ∷ t)) = refl
 
--- a row of a table stands in another that differs in its last row alone, or is that row
-row-last : {P : Type 0} (t : List Rule) (a b : Rule) {j : ℕ} {r : Rule} → Row (t ++ a ∷ []) j r → (Row (t ++ b ∷ []) j r → P) → (r ≡ a → P) → P
-row-last [] a b here f g = g refl
-row-last [] a b (there w) f g = absurd (omega (arith, row-below w))
-row-last (q ∷ t) a b here f g = f here
-row-last (q ∷ t) a b (there w) f g = row-last t a b w (λ x. f (there x)) g
+-- a row of a table stands in another that differs in one row alone, or is that row
+row-other : {P : Type 0} (t : List Rule) (a b : Rule) (u : List Rule) {j : ℕ} {r : Rule} → Row (t ++ a ∷ u) j r → (Row (t ++ b ∷ u) j r → P) → (r ≡ a → P) → P
+row-other [] a b u here f g = g refl
+row-other [] a b u (there w) f g = f (there w)
+row-other (q ∷ t) a b u here f g = f here
+row-other (q ∷ t) a b u (there w) f g = row-other t a b u w (λ x. f (there x)) g
 
--- in a layer the two tables differ in the placed symbol alone
-layer-found : (b c : Bool) (key : List ℕ) (j : ℕ) (r : Rule) → find key (layerTable b) ≡ found j r → (r ≡ repeated anyNumber (placedRow b) → find key (layerTable c) ≡ found j r)
-    → find key (layerTable c) ≡ found j r
+-- and in one that has more rows behind its own
+row-before : (t u : List Rule) {j : ℕ} {r : Rule} → Row t j r → Row (t ++ u) j r
+row-before [] u w = absurd (omega (arith, row-below w))
+row-before (q ∷ t) u here = here
+row-before (q ∷ t) u (there w) = there (row-before t u w)
+
+-- where wires may stand the table has their row behind the others
+wires-found : (b w : Bool) (key : List ℕ) (j : ℕ) (r : Rule) → find key (layerTable b w) ≡ found j r → find key (layerTable b true) ≡ found j r
+unfolding layerTable
+wires-found b true key j r f = f
+wires-found b false key j r f =
+    let (w, q) = found-row key (layerTable b false) j r f in
+    ap (λ (u : List ℕ). find u (layerTable b true)) (same-eq key (r .key) q) ∙ row-find (row-before (layerTable b false) (anyOf (wireRows true)) w) refl
+
+-- by what a placed symbol is the tables of a layer differ in it alone
+layer-found : (b c : Bool) (key : List ℕ) (j : ℕ) (r : Rule) → find key (layerTable b true) ≡ found j r
+    → (r ≡ repeated anyNumber (placedRow b) → find key (layerTable c true) ≡ found j r) → find key (layerTable c true) ≡ found j r
 unfolding layerTable
 layer-found b c key j r f g =
-    let (w, q) = found-row key (layerTable b) j r f in
+    let (w, q) = found-row key (layerTable b true) j r f in
     let same-key : key ≡ r .key = same-eq key (r .key) q in
-    row-last (anyOf (plainRows true ++ blockRows)) (repeated anyNumber (placedRow b)) (repeated anyNumber (placedRow c)) w
-    (λ w′. ap (λ (u : List ℕ). find u (layerTable c)) same-key ∙ row-find w′ refl) g
+    row-other (anyOf (plainRows true ++ blockRows)) (repeated anyNumber (placedRow b)) (repeated anyNumber (placedRow c)) (anyOf (wireRows true)) w
+    (λ w′. ap (λ (u : List ℕ). find u (layerTable c true)) same-key ∙ row-find w′ refl) g
 
 -- whose kind fits the form of its line alone
-figure-found : (b : Bool) (key : List ℕ) (spool : List ℕ) (rest : CodeRest) (k : Known) (j : ℕ) (r : Rule) (v : Value) → find key (layerTable b) ≡ found j r → Reads k r (restIn spool rest) v
-    → find key (tableOf (cond (isBrace rest) 11 12)) ≡ found j r
+figure-found : (b w : Bool) (key : List ℕ) (spool : List ℕ) (rest : CodeRest) (k : Known) (j : ℕ) (r : Rule) (v : Value) → find key (layerTable b w) ≡ found j r → Reads k r (restIn spool rest) v
+    → find key (tableOf (cond (isBrace rest) 21 22)) ≡ found j r
 unfolding tableOf
-figure-found true key spool R.Brace k j r v f z =
-    layer-found true false key j r f λ q. clash (ap (λ (r : Rule). fits (r .holds) (r .may) (shapeFor r brace)) (sym q) ∙ z .fit) refl
-figure-found true key spool (R.Equals p) k j r v f z = f
-figure-found false key spool R.Brace k j r v f z = f
-figure-found false key spool (R.Equals p) k j r v f z =
-    layer-found false true key j r f λ q. clash (ap (λ (r : Rule). fits (r .holds) (r .may) (shapeFor r (equals (p .at) (bytesAt spool p)))) (sym q) ∙ z .fit) (no-opener (p .at) (bytesAt spool p))
+figure-found true w key spool R.Brace k j r v f z =
+    layer-found true false key j r (wires-found true w key j r f) λ q. clash (ap (λ (r : Rule). fits (r .holds) (r .may) (shapeFor r brace)) (sym q) ∙ z .fit) refl
+figure-found true w key spool (R.Equals p) k j r v f z = wires-found true w key j r f
+figure-found false w key spool R.Brace k j r v f z = wires-found false w key j r f
+figure-found false w key spool (R.Equals p) k j r v f z =
+    layer-found false true key j r (wires-found false w key j r f)
+    λ q. clash (ap (λ (r : Rule). fits (r .holds) (r .may) (shapeFor r (equals (p .at) (bytesAt spool p)))) (sym q) ∙ z .fit) (no-opener (p .at) (bytesAt spool p))
 
 -- ── rows of figures ──
 -- the key of a figure that is a block
@@ -97,7 +114,8 @@ abbrev figureKey : ℕ → List ℕ
 figureKey zero = []
 figureKey (suc zero) = bytes "successive"
 figureKey (suc (suc zero)) = bytes "text"
-figureKey (suc (suc (suc i))) = bytes "E_symbol"
+figureKey (suc (suc (suc zero))) = bytes "E_symbol"
+figureKey (suc (suc (suc (suc i)))) = bytes "E_wire"
 
 abbrev opensAs : List ℕ → Kind → Bool
 opensAs key (values p ps a) = true
@@ -108,21 +126,23 @@ opensAs key sheet = false
 opensAs key ratio = false
 opensAs key serials = false
 opensAs key nothing = false
-opensAs key (opens i) = same key (figureKey i) && leb i 3
+opensAs key (opens i) = same key (figureKey i) && leb i 4
 opensAs key (headed i p) = false
 opensAs key (either i) = false
 
 home-rows : (s : Set) (h : Home) → (keysOk (homeTable s h) ≡ true) × (figureRows (homeTable s h) ≡ true) × (all (λ r. opensAs (r .key) (r .holds)) (homeTable s h) ≡ true)
 unfolding figureTable layerTable
 home-rows s (inElement y) = (refl, refl, refl)
-home-rows s (inLayer k) = in-layer (isSingle s)
+home-rows s (inLayer k) = in-layer (isSingle s) (isWired s)
   where
-    in-layer : (b : Bool) → (keysOk (layerTable b) ≡ true) × (figureRows (layerTable b) ≡ true) × (all (λ r. opensAs (r .key) (r .holds)) (layerTable b) ≡ true)
-    in-layer true = (refl, refl, refl)
-    in-layer false = (refl, refl, refl)
+    in-layer : (b w : Bool) → (keysOk (layerTable b w) ≡ true) × (figureRows (layerTable b w) ≡ true) × (all (λ r. opensAs (r .key) (r .holds)) (layerTable b w) ≡ true)
+    in-layer true true = (refl, refl, refl)
+    in-layer true false = (refl, refl, refl)
+    in-layer false true = (refl, refl, refl)
+    in-layer false false = (refl, refl, refl)
 
 -- a row that opens is one of these
-opens-figure : {P : Type 0} (key : List ℕ) (d : Kind) (v : Value) → opensAs key d ≡ true → opensBlock d v ≡ true → ((i : ℕ) → d ≡ opens i → key ≡ figureKey i → i ≤ 3 → P) → P
+opens-figure : {P : Type 0} (key : List ℕ) (d : Kind) (v : Value) → opensAs key d ≡ true → opensBlock d v ≡ true → ((i : ℕ) → d ≡ opens i → key ≡ figureKey i → i ≤ 4 → P) → P
 opens-figure key (values p ps a) v e o f = clash o refl
 opens-figure key (text n b) v e o f = clash o refl
 opens-figure key (word n b) v e o f = clash o refl
@@ -132,7 +152,7 @@ opens-figure key ratio v e o f = clash o refl
 opens-figure key serials v e o f = clash o refl
 opens-figure key nothing v e o f = clash o refl
 opens-figure key (opens i) v e o f =
-    f i refl (same-eq key (figureKey i) (and-left (same key (figureKey i)) _ e)) (leb-true i 3 (and-right (same key (figureKey i)) _ e))
+    f i refl (same-eq key (figureKey i) (and-left (same key (figureKey i)) _ e)) (leb-true i 4 (and-right (same key (figureKey i)) _ e))
 opens-figure key (headed i p) v e o f = clash e refl
 opens-figure key (either i) v e o f = clash e refl
 
@@ -183,7 +203,7 @@ module _ (K : Known) (spool : List ℕ) (first : Bool) where
       → find key (homeTable s h) ≡ found j r → Reads (knownOf s) r (restIn spool rest) v → find key (tableOf (tableFor first p (isBrace rest))) ≡ found j r
   unfolding tableOf
   home-found p ns s (inElement y) key rest j r v b z f u = rw (b, z .layered) f
-  home-found p ns s (inLayer m) key rest j r v b z f u = rw (b, z .1) (figure-found (isSingle s) key spool rest (knownOf s) j r v f u)
+  home-found p ns s (inLayer m) key rest j r v b z f u = rw (b, z .1) (figure-found (isSingle s) (isWired s) key spool rest (knownOf s) j r v f u)
 
   -- what is read there is read at home
   pub home-reads : (s : Set) (h : Home) (j : ℕ) (r : Rule) (x : Rest) (v : Value) → Row (homeTable s h) j r → Reads (knownOf s) r x v → Reads (homeKnown K s h) r x v
@@ -198,7 +218,7 @@ module _ (K : Known) (spool : List ℕ) (first : Bool) where
   module _ (p : Pen) (ns out : List ℕ) (e : Env) (l : Line) (c : e .class ≡ fullClass)
       (st′ : State) (ns′ out′ : List ℕ) (d : Drawn) (size : length out′ ≡ length out) (many : length ns′ ≡ 28) where
     -- a figure that is a block
-    opened : (s : Set) (h : Home) (fs : List Figure) (z : Pens K spool first p ns out (figures s h fs)) (i : ℕ) (w : List ℕ) → i ≤ 3 → openFigure e l s h fs i ≡ got st′
+    opened : (s : Set) (h : Home) (fs : List Figure) (z : Pens K spool first p ns out (figures s h fs)) (i : ℕ) (w : List ℕ) → i ≤ 4 → openFigure e l s h fs i ≡ got st′
         → ns′ ≡ figureNotes (figureBlock (opens i) i) ns → w ≡ openLine (figureKey i)
         → ((st : State) → shown K first st ≡ shown K first (figures s h fs) ++ w ∷ [] → Here K spool first (moved p (length (ended w)) (figureBlock (opens i) i) 0) ns′ st → LineOut K spool first st ns′ out′ d)
         → LineOut K spool first st′ ns′ out′ d
@@ -238,7 +258,22 @@ module _ (K : Known) (spool : List ℕ) (first : Bool) where
             noted = subst (λ (u : List ℕ). NotedParts spool (knownOf s) 18 u o) (sym notes) (blank-parts spool (knownOf s) 18 ns);
           },
         ))
-    opened s h fs z (suc (suc (suc (suc i)))) w le q notes key draws = absurd (omega (arith, le))
+    opened s (inElement y) fs z (suc (suc (suc (suc zero)))) w le q notes key draws = never q
+    opened s (inLayer m) fs z (suc (suc (suc (suc zero)))) w le q notes key draws =
+        let p′ = moved p (length (ended w)) 12 0 in
+        let ks : List ℕ = kindWire ∷ kindWireMore ∷ [] in
+        let st : State = placing (withRecords ks s) m fs (l .line) (wireBlock noWire) 0 in
+        let begun : st ≡ st′ = ap (λ (x : Class). beginWire (knowsWires x) (withRecords ks s) m fs (l .line)) (sym c) ∙ took e ks s (λ s′. beginWire (knowsWires (e .class)) s′ m fs (l .line)) st′ q in
+        let same : (i : ℕ) → getD ns′ i 0 ≡ getD ns i 0 = λ i. ap (λ (u : List ℕ). getD u i 0) notes in
+        subst (λ (st : State). LineOut K spool first st ns′ out′ d) begun
+        (draws st (ap (λ (t : Text). t ++ openLine (bytes "E_wire") ∷ []) (text-records K first ks s (inLayer m) fs) ∙ ap (λ (u : List ℕ). figuresText K first s (inLayer m) fs ++ u ∷ []) (sym key)) (
+          refl,
+          record {
+            home = home-records K first spool p′ ns′ ks s (inLayer m) (home-at K first spool p p′ ns ns′ s (inLayer m) refl refl (same 0) (same 3) (z .here .1));
+            whole = refl;
+          },
+        ))
+    opened s h fs z (suc (suc (suc (suc (suc i))))) w le q notes key draws = absurd (omega (arith, le))
 
     module _ (s : Set) (h : Home) (fs : List Figure) (z : Pens K spool first p ns out (figures s h fs)) (q : stepIn e l (figures s h fs) ≡ got st′) where
       pub figures-key : (key : Span) (rest : CodeRest) → l .form ≡ keyed (bytesAt spool key) (restIn spool rest) → PlacedRest rest → FormFits (l .form)
@@ -344,7 +379,7 @@ module _ (K : Known) (spool : List ℕ) (first : Bool) where
         (shut-line K spool first p ns out (figures s (inLayer m) fs) z (elements s′) (moved p 3 7 0) ns′ out′ d size many
         (subst (λ (b : Bool). Draws shutBytes (p .at) (moved p 3 (cond b 7 5) 0) out out′ d) (z .here .1 .1) (done .figures (z .here .0))) refl
         (ap (λ (f : Text). f ++ E ∷ showBlocks k (layerTableOf s′) (us ++ u ∷ []) []) (front-block K first u s)
-        ∙ ap (λ (n : ℕ). N ++ E ∷ showBlocks k (layerTable (eqb n 1)) (us ++ u ∷ []) []) (block-range u s)
+        ∙ ap (λ (x : List Rule). N ++ E ∷ showBlocks k x (us ++ u ∷ []) []) (block-table u s)
         ∙ ap (λ (b : Text). N ++ E ∷ b) (blocks-last k t us u ∙ ap (λ (b : Text). B ++ b) (blocks-one k t u))
         ∙ sym (append-assoc N (E ∷ B) ((L ∷ F) ++ S))
         ∙ sym (append-assoc A (L ∷ F) S)

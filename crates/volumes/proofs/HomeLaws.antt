@@ -103,6 +103,23 @@ volume-range s = go (s .volumes)
     go [] = refl
     go (v ∷ vs) = refl
 
+-- the table of a layer stays
+pub block-table : (u : LayerBlock) (s : Set) → layerTableOf (withBlock u s) ≡ layerTableOf s
+block-table u s = go (s .volumes)
+  where
+    go : (vs : List Contents) → layerTableOf (withBlock u (record { drawing = s .drawing; symbols = s .symbols; volumes = vs; now = s .now; taken = s .taken }))
+        ≡ layerTableOf (record { drawing = s .drawing; symbols = s .symbols; volumes = vs; now = s .now; taken = s .taken })
+    go [] = refl
+    go (v ∷ vs) = refl
+
+pub volume-table : (s : Set) → layerTableOf (withVolume s) ≡ layerTableOf s
+volume-table s = go (s .volumes)
+  where
+    go : (vs : List Contents) → layerTableOf (withVolume (record { drawing = s .drawing; symbols = s .symbols; volumes = vs; now = s .now; taken = s .taken }))
+        ≡ layerTableOf (record { drawing = s .drawing; symbols = s .symbols; volumes = vs; now = s .now; taken = s .taken })
+    go [] = refl
+    go (v ∷ vs) = refl
+
 module _ (K : Known) (first : Bool) where
   pub front-block : (u : LayerBlock) (s : Set) → frontText K first (withBlock u s) ≡ frontText K first s
   front-block u s = go first

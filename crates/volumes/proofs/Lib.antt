@@ -11,6 +11,7 @@ pub mod HomeLaws
 pub mod ElementLaws
 pub mod FigureLaws
 pub mod ChainLaws
+pub mod WireLaws
 pub mod TextLaws
 pub mod PlacedLaws
 pub mod LineLaws

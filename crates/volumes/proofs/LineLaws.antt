@@ -13,9 +13,10 @@ use Rattle.rules.specs.Lines.{ignored, wrong, close, eof, keyed, bytesAt}
 use Rattle.rules.specs.Values.{Known}
 use Rattle.rules.specs.Machine.{Line, Env, State, top, file, drawing, layerNames, defines, symbol, hide, elements, figures, successive, texts, placing, skipping, ended, onTop, onFile, onDrawing, onLayerNames, onDefines, onSymbol, onHide, onElements, onFigures, onSuccessive, onTexts}
 use Rattle.rules.specs.PlacedSymbol.{onPlacing, onSkipping}
+use Rattle.rules.specs.Wires.{onWire}
 use Rattle.rules.specs.LineByLine.{stepIn}
 use Rattle.rules.specs.Answers.{fullClass}
-use Rattle.rules.specs.Machine.{symbolBlock}
+use Rattle.rules.specs.Machine.{symbolBlock, wireBlock, wireUnread}
 use Rattle.rules.proofs.Chains.{never}
 use Rattle.entries.specs.declared.Rest.{Rest}
 use Rattle.entries.specs.declared.Rest.the-variants as R
@@ -37,6 +38,7 @@ use Rattle.volumes.proofs.HideLaws.{hide-key, hide-close}
 use Rattle.volumes.proofs.ElementLaws.{elements-key, elements-close}
 use Rattle.volumes.proofs.FigureLaws.{figures-key, figures-close}
 use Rattle.volumes.proofs.ChainLaws.{successive-key, successive-close}
+use Rattle.volumes.proofs.WireLaws.{wire-key, wire-close}
 use Rattle.volumes.proofs.TextLaws.{texts-key, texts-close}
 use Rattle.volumes.proofs.PlacedLaws.{placing-key, placing-close}
 
@@ -62,6 +64,8 @@ module _ (K : Known) (spool : List ℕ) (first : Bool) (p : Pen) (ns out : List 
     on-key (successive s h fs n qs) z q = successive-key K spool first p ns out e l c st′ ns′ out′ d size many s h fs n qs z q key rest f placed fits (row 9 (z .here .0) (λ h. omega (arith, h)))
     on-key (texts s h fs n o) z q = texts-key K spool first p ns out e l c st′ ns′ out′ d size many s h fs n o z q key rest f placed fits (row 10 (z .here .0) (λ h. omega (arith, h)))
     on-key (placing s m fs n (symbolBlock o) i) z q = placing-key K spool first p ns out e l c st′ ns′ out′ d size many s m fs n o i z q key rest f placed fits (row 11 (z .here .0) (λ h. omega (arith, h)))
+    on-key (placing s m fs n (wireBlock x) i) z q = wire-key K spool first p ns out e l c st′ ns′ out′ d size many s m fs n x i z q key rest f placed fits (row 12 (z .here .0) (λ h. omega (arith, h)))
+    on-key (placing s m fs n wireUnread i) z q = never q
     on-key (skipping s m fs n o i) z q = absurd (z .here)
     on-key (ended s) z q = never q
 
@@ -80,6 +84,8 @@ module _ (K : Known) (spool : List ℕ) (first : Bool) (p : Pen) (ns out : List 
     on-close (successive s h fs n qs) z q = successive-close K spool first p ns out e l c st′ ns′ out′ d size many s h fs n qs z q f w same
     on-close (texts s h fs n o) z q = texts-close K spool first p ns out e l c st′ ns′ out′ d size many s h fs n o z q f w same
     on-close (placing s m fs n (symbolBlock o) i) z q = placing-close K spool first p ns out e l c st′ ns′ out′ d size many s m fs n o i z q f w same
+    on-close (placing s m fs n (wireBlock x) i) z q = wire-close K spool first p ns out e l c st′ ns′ out′ d size many s m fs n x i z q f w same
+    on-close (placing s m fs n wireUnread i) z q = never q
     on-close (skipping s m fs n o i) z q = absurd (z .here)
     on-close (ended s) z q = never q
 
@@ -99,6 +105,8 @@ module _ (K : Known) (spool : List ℕ) (first : Bool) (p : Pen) (ns out : List 
     on-eof (texts s h fs n o) z q = never (ap (onTexts s h fs n o) (sym f) ∙ q)
     on-eof (placing s m fs n (symbolBlock o) zero) z q = never (ap (onPlacing e s m fs n o 0) (sym f) ∙ q)
     on-eof (placing s m fs n (symbolBlock o) (suc i)) z q = never (ap (onPlacing e s m fs n o (suc i)) (sym f) ∙ q)
+    on-eof (placing s m fs n (wireBlock x) i) z q = never (ap (onWire e l s m fs n x) (sym f) ∙ q)
+    on-eof (placing s m fs n wireUnread i) z q = never q
     on-eof (skipping s m fs n o i) z q = absurd (z .here)
     on-eof (ended s) z q = never q
 
@@ -117,6 +125,8 @@ module _ (K : Known) (spool : List ℕ) (first : Bool) (p : Pen) (ns out : List 
   on-wrong m f (texts s h fs n o) q = never (ap (onTexts s h fs n o) (sym f) ∙ q)
   on-wrong m f (placing s h fs n (symbolBlock o) zero) q = never (ap (onPlacing e s h fs n o 0) (sym f) ∙ q)
   on-wrong m f (placing s h fs n (symbolBlock o) (suc i)) q = never (ap (onPlacing e s h fs n o (suc i)) (sym f) ∙ q)
+  on-wrong m f (placing s h fs n (wireBlock x) i) q = never (ap (onWire e l s h fs n x) (sym f) ∙ q)
+  on-wrong m f (placing s h fs n wireUnread i) q = never q
   on-wrong m f (skipping s h fs n b i) q = never (ap (onSkipping s h fs n b i) (sym f) ∙ q)
   on-wrong m f (ended s) q = never q
 
@@ -124,22 +134,25 @@ module _ (K : Known) (spool : List ℕ) (first : Bool) (p : Pen) (ns out : List 
   stays : (st : State) → got st ≡ got st′ → st ≡ st′
   stays st q = cc
 
-  pub on-ignored : l .form ≡ ignored → (st : State) → stepIn e l st ≡ got st′ → st ≡ st′
-  on-ignored f (top s k) q = stays (top s k) (ap (onTop e l s k) (sym f) ∙ q)
-  on-ignored f (file s n h i) q = stays (file s n h i) (ap (onFile l s n h i) (sym f) ∙ q)
-  on-ignored f (drawing s g) q = stays (drawing s g) (ap (onDrawing s g) (sym f) ∙ q)
-  on-ignored f (layerNames s g) q = stays (layerNames s g) (ap (onLayerNames e l s g) (sym f) ∙ q)
-  on-ignored f (defines s b) q = stays (defines s b) (ap (onDefines e l s b) (sym f) ∙ q)
-  on-ignored f (symbol s y) q = stays (symbol s y) (ap (onSymbol s y) (sym f) ∙ q)
-  on-ignored f (hide s y ps) q = stays (hide s y ps) (ap (onHide e l s y ps) (sym f) ∙ q)
-  on-ignored f (elements s) q = stays (elements s) (ap (onElements s) (sym f) ∙ q)
-  on-ignored f (figures s h fs) q = stays (figures s h fs) (ap (onFigures e l s h fs) (sym f) ∙ q)
-  on-ignored f (successive s h fs n ps) q = stays (successive s h fs n ps) (ap (onSuccessive e l s h fs n ps) (sym f) ∙ q)
-  on-ignored f (texts s h fs n o) q = stays (texts s h fs n o) (ap (onTexts s h fs n o) (sym f) ∙ q)
-  on-ignored f (placing s m fs n (symbolBlock o) zero) q = stays (placing s m fs n (symbolBlock o) 0) (ap (onPlacing e s m fs n o 0) (sym f) ∙ q)
-  on-ignored f (placing s m fs n (symbolBlock o) (suc i)) q = stays (placing s m fs n (symbolBlock o) (suc i)) (ap (onPlacing e s m fs n o (suc i)) (sym f) ∙ q)
-  on-ignored f (skipping s m fs n b i) q = stays (skipping s m fs n b i) (ap (onSkipping s m fs n b i) (sym f) ∙ q)
-  on-ignored f (ended s) q = never q
+  pub on-ignored : l .form ≡ ignored → (st : State) → Pens K spool first p ns out st → stepIn e l st ≡ got st′ → st ≡ st′
+  on-ignored f (top s k) z q = stays (top s k) (ap (onTop e l s k) (sym f) ∙ q)
+  on-ignored f (file s n h i) z q = stays (file s n h i) (ap (onFile l s n h i) (sym f) ∙ q)
+  on-ignored f (drawing s g) z q = stays (drawing s g) (ap (onDrawing s g) (sym f) ∙ q)
+  on-ignored f (layerNames s g) z q = stays (layerNames s g) (ap (onLayerNames e l s g) (sym f) ∙ q)
+  on-ignored f (defines s b) z q = stays (defines s b) (ap (onDefines e l s b) (sym f) ∙ q)
+  on-ignored f (symbol s y) z q = stays (symbol s y) (ap (onSymbol s y) (sym f) ∙ q)
+  on-ignored f (hide s y ps) z q = stays (hide s y ps) (ap (onHide e l s y ps) (sym f) ∙ q)
+  on-ignored f (elements s) z q = stays (elements s) (ap (onElements s) (sym f) ∙ q)
+  on-ignored f (figures s h fs) z q = stays (figures s h fs) (ap (onFigures e l s h fs) (sym f) ∙ q)
+  on-ignored f (successive s h fs n ps) z q = stays (successive s h fs n ps) (ap (onSuccessive e l s h fs n ps) (sym f) ∙ q)
+  on-ignored f (texts s h fs n o) z q = stays (texts s h fs n o) (ap (onTexts s h fs n o) (sym f) ∙ q)
+  on-ignored f (placing s m fs n (symbolBlock o) zero) z q = stays (placing s m fs n (symbolBlock o) 0) (ap (onPlacing e s m fs n o 0) (sym f) ∙ q)
+  on-ignored f (placing s m fs n (symbolBlock o) (suc i)) z q = stays (placing s m fs n (symbolBlock o) (suc i)) (ap (onPlacing e s m fs n o (suc i)) (sym f) ∙ q)
+  on-ignored f (placing s m fs n (wireBlock x) zero) z q = stays (placing s m fs n (wireBlock x) 0) (ap (onWire e l s m fs n x) (sym f) ∙ q)
+  on-ignored f (placing s m fs n (wireBlock x) (suc i)) z q = absurd (omega (arith, z .here .1 .whole))
+  on-ignored f (placing s m fs n wireUnread i) z q = never q
+  on-ignored f (skipping s m fs n b i) z q = stays (skipping s m fs n b i) (ap (onSkipping s m fs n b i) (sym f) ∙ q)
+  on-ignored f (ended s) z q = never q
 
 -- ── by the code's form ──
 -- what the code does with a line of this form
@@ -156,7 +169,7 @@ pub line-law : (spool : List ℕ) (first : Bool) (form : LineForm) (p : Pen) (ns
     → length after ≡ length before → length ns₁ ≡ 28 → FormDone spool first form p ns₀ ns₁ before after d → DrawPromise spool first form p ns₀ ns₁ before after d
 line-law spool first L.Ignored p ns₀ ns₁ before after d size many w K e l st st′ c f placed fits z q =
     let (go, same, kept) = w in
-    let here : st ≡ st′ = on-ignored K spool first p ns₀ before e l c st′ ns₁ after d size many f st q in
+    let here : st ≡ st′ = on-ignored K spool first p ns₀ before e l c st′ ns₁ after d size many f st z q in
     let z₁ : Pens K spool first p ns₁ before st = subst (λ (u : List ℕ). Pens K spool first p u before st) (sym same) z in
     let z₂ : Pens K spool first p ns₁ after st = subst (λ (u : List ℕ). Pens K spool first p ns₁ u st) (sym kept) z₁ in
     subst (LineOut K spool first st′ ns₁ after) (sym go) (subst (Pens K spool first p ns₁ after) here z₂)

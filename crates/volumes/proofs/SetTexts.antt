@@ -1,6 +1,6 @@
 -- What is shown behind each volume is what the fixed form writes of it.
 use Prim.Native.Nat.{ℕ}
-use mathlib.Core.Bool.{Bool, true, false}
+use mathlib.Core.Bool.{Bool, true, false, not}
 use mathlib.Core.List.{List, [], _∷_, _++_, map, append-assoc, append-nil}
 use mathlib.Core.Path.{_≡_, refl, sym, _∙_, ap}
 use native.Mathlib.Omega.{arith}
@@ -12,7 +12,7 @@ use Rattle.rules.specs.Values.{Known}
 use Rattle.rules.specs.Rows.{Rule, numberOf, partOf}
 use Rattle.rules.specs.Blocks.{fileTables, elecTable}
 use Rattle.rules.specs.Figures.{layerTable}
-use Rattle.rules.specs.Sets.{Drawing, Symbol, Contents, Set, headOr, symbolRange, symbolNameOf, knownOf, layerTableOf}
+use Rattle.rules.specs.Sets.{Drawing, Symbol, Contents, Set, headOr, symbolNameOf, knownOf, layerTableOf}
 use Rattle.rules.specs.FixedForm.{Text, block, showHeld, showDrawing, showDefines, showBlocks, showFirst, showLater, ending, laterLines, volumeLines, volumesBytes}
 use Rattle.rules.specs.Machine.{Env, top, ended}
 use Rattle.pens.specs.Shown.{fileText, drawingText, definesText, frontText, elementText, shown}
@@ -45,7 +45,7 @@ module _ (e : Env) (set : Set) where
   onto : (key : List ℕ) (f : Text → Text) → Before f → (x y : Text) → x ≡ y → block key f x ≡ block key f [] ++ y
   onto key f h x y q = block-more key f h x ∙ ap (λ (u : Text). block key f [] ++ u) q
 
-  module _ (s : Set) (d : set .drawing ≡ s .drawing) (y : set .symbols ≡ s .symbols) (r : symbolRange set ≡ symbolRange s) where
+  module _ (s : Set) (d : set .drawing ≡ s .drawing) (y : set .symbols ≡ s .symbols) (r : layerTableOf set ≡ layerTableOf s) where
     known-is : knownOf s ≡ k
     known-is = ap (λ (x : List Symbol). record { symbols = map symbolNameOf x; layers = map (λ l. l .id) (s .drawing .layers) }) (sym y)
         ∙ ap (λ (x : Drawing). record { symbols = map symbolNameOf (set .symbols); layers = map (λ l. l .id) (x .layers) }) (sym d)
@@ -54,7 +54,7 @@ module _ (e : Env) (set : Set) where
     element-is ls =
         block-more (bytes "ELEMENT") (showBlocks k t (s .now .blocks)) (blocks-more k t (s .now .blocks)) ls
         ∙ ap (λ (x : Known). block (bytes "ELEMENT") (showBlocks x t (s .now .blocks)) [] ++ ls) (sym known-is)
-        ∙ ap (λ (n : ℕ). block (bytes "ELEMENT") (showBlocks (knownOf s) (layerTable (eqb n 1)) (s .now .blocks)) [] ++ ls) r
+        ∙ ap (λ (x : List Rule). block (bytes "ELEMENT") (showBlocks (knownOf s) x (s .now .blocks)) [] ++ ls) r
 
     body-is : (first : Bool) (ls : Text) → bodyText first (s .now) ls ≡ frontText k first s ++ (elementText k s ++ ls)
     body-is true ls =
@@ -76,9 +76,9 @@ module _ (e : Env) (set : Set) where
   head-same v w u [] cs = refl
   head-same v w u (b ∷ a) cs = refl
 
-  range-same : (first : Bool) (s s₁ : Set) (cs : List Contents) → Closed first s s₁ → set .volumes ≡ s₁ .volumes ++ cs → symbolRange set ≡ symbolRange s₁
-  range-same first s s₁ cs c q =
-      ap (λ (x : Contents). numberOf "E_sym" elecTable (partOf (x .file) 3))
+  table-same : (first : Bool) (s s₁ : Set) (cs : List Contents) → Closed first s s₁ → set .volumes ≡ s₁ .volumes ++ cs → layerTableOf set ≡ layerTableOf s₁
+  table-same first s s₁ cs c q =
+      ap (λ (x : Contents). layerTable (eqb (numberOf "E_sym" elecTable (partOf (x .file) 3)) 1) (not (eqb (numberOf "E_wire" elecTable (partOf (x .file) 3)) 0)))
       (ap (headOr (set .now)) (q ∙ ap (λ (vs : List Contents). vs ++ cs) (c .volumes)) ∙ head-same (set .now) (s₁ .now) (s₁ .now) (s .volumes) cs ∙ ap (headOr (s₁ .now)) (sym (c .volumes)))
 
   -- another volume follows
@@ -87,7 +87,7 @@ module _ (e : Env) (set : Set) where
   text-between first s s₁ c cs x f =
       rest-cons first (s₁ .now) (c ∷ cs)
       ∙ ap (λ (u : Text). u ∷ restLines false (c ∷ cs))
-      (body-is s₁ (f .drawing) (f .symbols) (range-same first s s₁ (c ∷ cs) x (f .volumes)) first [] ∙ ap (λ (u : Text). frontText k first s₁ ++ u) (append-nil (elementText k s₁)))
+      (body-is s₁ (f .drawing) (f .symbols) (table-same first s s₁ (c ∷ cs) x (f .volumes)) first [] ∙ ap (λ (u : Text). frontText k first s₁ ++ u) (append-nil (elementText k s₁)))
 
   -- the last one
   pub text-last : (first : Bool) (s : Set) → Closed first s set → restLines first (set .now ∷ []) ≡ shown k first (ended set) ∷ []

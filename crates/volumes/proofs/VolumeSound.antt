@@ -7,23 +7,23 @@ use mathlib.Core.Path.{_≡_, refl, sym, _∙_, ap, subst}
 use native.Mathlib.Omega.{arith}
 use native.Mathlib.Nat.{le-refl}
 use lib.ListN.{length, getD, set, length-append}
-use lib.Dec.{eqb}
 use Rattle.rules.specs.Base.{bytes, isNil, isSome}
 use Rattle.rules.specs.Values.{Value, Known, charsOf}
 use Rattle.rules.specs.Rows.{Rule, Slots}
-use Rattle.rules.specs.Figures.{layerTable, figureTable}
-use Rattle.rules.specs.Sets.{Point, Figure, chain, Layer, Drawing, Symbol, LayerBlock, Contents, Set, withNow, withDrawing, withSymbol, withVolume, withRecords, withBlock, withLayer, withOwn, symbolOwn, symbolFigures, symbolHidden, symbolOrder, isSingle, knownOf}
-use Rattle.rules.specs.FixedForm.{Text, openLine, block, showDrawing, showLayers, showPoints, showFigure, showFigures, showSymbol, showSymbols, showDefines, showBlocks}
-use Rattle.rules.specs.Machine.{Home, inElement, inLayer, State, top, file, drawing, layerNames, defines, symbol, hide, elements, figures, successive, texts, placing, skipping, ended, isLayer}
+use Rattle.rules.specs.Figures.{figureTable}
+use Rattle.rules.specs.Sets.{Point, Edge, Wire, Figure, chain, wired, Layer, Drawing, Symbol, LayerBlock, Contents, Set, withNow, withDrawing, withSymbol, withVolume, withRecords, withBlock, withLayer, withOwn, symbolOwn, symbolFigures, symbolHidden, symbolOrder, knownOf}
+use Rattle.rules.specs.FixedForm.{Text, openLine, block, showDrawing, showLayers, showPoints, showEdges, showFigure, showFigures, showSymbol, showSymbols, showDefines, showBlocks}
+use Rattle.rules.specs.Machine.{Home, inElement, inLayer, State, top, file, drawing, layerNames, defines, symbol, hide, elements, figures, successive, texts, placing, skipping, ended, isLayer, wireBlock}
+use Rattle.rules.specs.Wires.{withElement}
 use Rattle.rules.specs.Sets.{layerTableOf}
 use Rattle.rules.proofs.Chains.{clash}
 use Rattle.pens.specs.Texts.{lineBytes}
 use Rattle.pens.specs.Shown.{fileText, drawingText, definesText, frontText, elementText, topText, drawingBegun, namesText, definesBegun, symbolBegun, shownPart, hiddenPart, partsText, elementsBegun, homeKnown, homeRows, figuresText, shown}
 use Rattle.pens.proofs.Laying.{bytes-append}
-use Rattle.pens.proofs.ShownLaws.{block-parts, layers-more, layers-last, points-more, points-last, figures-more, symbols-last, defines-more, blocks-more, blocks-last, blocks-one}
+use Rattle.pens.proofs.ShownLaws.{block-parts, layers-more, layers-last, points-more, points-last, edges-more, edges-last, figures-more, symbols-last, defines-more, blocks-more, blocks-last, blocks-one}
 use Rattle.volumes.proofs.DrawingLaws.{rowsText, drawing-text}
 use Rattle.volumes.proofs.SymbolLaws.{nameText, endText, symbol-text}
-use Rattle.volumes.proofs.HomeLaws.{block-range, volume-range, front-block, front-volume, known-records, text-records, text-more}
+use Rattle.volumes.proofs.HomeLaws.{block-table, volume-table, front-block, front-volume, known-records, text-records, text-more}
 
 -- ── how much is shown ──
 abbrev pub size : Text → ℕ
@@ -355,6 +355,34 @@ module _ (K : Known) (first : Bool) where
           size-append (openLine (bytes "successive") ∷ P ps) (bytes "}" ∷ []),
         ))
 
+  -- ── a wire ──
+  module _ (s : Set) (m : ℕ) (fs : List Figure) (n : ℕ) (w : Wire) where
+    abbrev W : Text
+    W = openLine (bytes "E_wire") ∷ showEdges (knownOf s) (w .elements) []
+
+    pub wire-more : (i : ℕ) (ks : List ℕ) (e : Edge) → weight (placing s m fs n (wireBlock w) i) ≤ weight (placing (withRecords ks s) m fs n (wireBlock (withElement w e)) 0)
+    wire-more i ks e =
+        let F = figuresText K first s (inLayer m) fs in
+        let F′ = figuresText K first (withRecords ks s) (inLayer m) fs in
+        let S : Text = openLine (bytes "E_wire") ∷ [] in
+        let L = showEdges (knownOf s) (w .elements) [] in
+        let L′ = showEdges (knownOf s) (w .elements ++ e ∷ []) [] in
+        omega (
+          arith,
+          size-append F W,
+          size-append S L,
+          size-append F′ (openLine (bytes "E_wire") ∷ L′),
+          size-append S L′,
+          ap size (text-records K first ks s (inLayer m) fs),
+          ap size (edges-last (knownOf s) (w .elements) e),
+          size-append L (showEdges (knownOf s) (e ∷ []) []),
+        )
+
+    pub wire-shut : (i : ℕ) → weight (placing s m fs n (wireBlock w) i) ≤ weight (figures s (inLayer m) (fs ++ wired n w ∷ []))
+    wire-shut i =
+        figure-shut s (inLayer m) fs (wired n w) W
+        (omega (arith, ap size (block-parts (bytes "E_wire") (showEdges (knownOf s) (w .elements)) (edges-more (knownOf s) (w .elements))), size-append W (bytes "}" ∷ [])))
+
   pub element-shut : (s : Set) (y : Symbol) (fs : List Figure) → isSome (getD (y .own) 1 none) ≡ true → weight (figures s (inElement y) fs) ≤ weight (symbol s (symbolFigures fs y))
   element-shut s y fs e =
       let E : Text = openLine (bytes "element") ∷ [] in
@@ -394,7 +422,7 @@ module _ (K : Known) (first : Bool) where
       let F = showFigures k true t fs [] in
       let is : shown K first (elements (withBlock u s)) ≡ N ++ openLine (bytes "ELEMENT") ∷ (B ++ ((L ++ F) ++ bytes "}" ∷ [])) =
       ap (λ (f : Text). f ++ openLine (bytes "ELEMENT") ∷ showBlocks k (layerTableOf (withBlock u s)) (us ++ u ∷ []) []) (front-block K first u s)
-      ∙ ap (λ (n : ℕ). N ++ openLine (bytes "ELEMENT") ∷ showBlocks k (layerTable (eqb n 1)) (us ++ u ∷ []) []) (block-range u s)
+      ∙ ap (λ (x : List Rule). N ++ openLine (bytes "ELEMENT") ∷ showBlocks k x (us ++ u ∷ []) []) (block-table u s)
       ∙ ap (λ (b : Text). N ++ openLine (bytes "ELEMENT") ∷ b) (blocks-last k t us u ∙ ap (λ (b : Text). B ++ b) (blocks-one k t u)) in
       omega (
         arith,
@@ -412,16 +440,16 @@ module _ (K : Known) (first : Bool) where
 
   pub elements-shut : (s : Set) → weight (elements s) ≤ weight (top (withVolume s) 4)
   elements-shut s =
-      let t : Bool → List Rule = layerTable in
+      let t = layerTableOf s in
       let k = knownOf s in
       let us = s .now .blocks in
       let N = frontText K first s in
       let E : Text = openLine (bytes "ELEMENT") ∷ [] in
-      let B = showBlocks k (t (isSingle s)) us [] in
+      let B = showBlocks k t us [] in
       let is : shown K first (top (withVolume s) 4) ≡ N ++ (openLine (bytes "ELEMENT") ∷ (B ++ bytes "}" ∷ [])) =
-      ap (λ (f : Text). f ++ (openLine (bytes "ELEMENT") ∷ showBlocks k (t (isSingle (withVolume s))) us (bytes "}" ∷ []))) (front-volume K first s)
-      ∙ ap (λ (n : ℕ). N ++ (openLine (bytes "ELEMENT") ∷ showBlocks k (t (eqb n 1)) us (bytes "}" ∷ []))) (volume-range s)
-      ∙ ap (λ (f : Text). N ++ (openLine (bytes "ELEMENT") ∷ f)) (blocks-more k (t (isSingle s)) us (bytes "}" ∷ [])) in
+      ap (λ (f : Text). f ++ (openLine (bytes "ELEMENT") ∷ showBlocks k (layerTableOf (withVolume s)) us (bytes "}" ∷ []))) (front-volume K first s)
+      ∙ ap (λ (x : List Rule). N ++ (openLine (bytes "ELEMENT") ∷ showBlocks k x us (bytes "}" ∷ []))) (volume-table s)
+      ∙ ap (λ (f : Text). N ++ (openLine (bytes "ELEMENT") ∷ f)) (blocks-more k t us (bytes "}" ∷ [])) in
       omega (
         arith,
         ap size is,

@@ -13,18 +13,19 @@ use lib.Seq.{getD-set-same}
 use Rattle.rules.specs.Base.{isNil, isSome, isNone, among, hasNumber}
 use Rattle.rules.specs.RefusalNumbers.{got, bad, unless}
 use Rattle.rules.specs.Lines.{Rest, Form, ignored, wrong, close, eof, keyed, freeShapeOf}
-use Rattle.rules.specs.RangeClass.{digits, digitsOf, exceeds, both, skipOf, mostDepth, reaches}
+use Rattle.rules.specs.RangeClass.{digits, digitsOf, exceeds, both, skipOf, mostDepth, reaches, knowsWires}
 use Rattle.rules.specs.Values.{Value, Known, numsOf, amountAt, isLayerId}
 use Rattle.rules.specs.Rows.{Rule, Found, absent, found, find, Slots, blank, Held, rowsThere, rowsAtLimit, Act, begin, act, actRow, actUnknown, partOf, enter, innerOf}
 use Rattle.rules.specs.Blocks.{topTable, fileTables, drawingTable, mostLayers, symbolTable, definesTable, elementTable}
-use Rattle.rules.specs.Figures.{pointTable, textTable, leastPoints, placedTable, placedTables}
-use Rattle.rules.specs.Sets.{Point, Figure, plain, lettering, placed, Drawing, Symbol, Set, withNow, withRecords, symbolOwn, isFirst, knownOf, arcOf, defineRange, rangeOf, usedIn}
+use Rattle.rules.specs.Figures.{pointTable, textTable, leastPoints, placedTable, placedTables, wireTable}
+use Rattle.rules.specs.Sets.{Point, Wire, Figure, plain, lettering, placed, passed, Drawing, Symbol, Set, withNow, withRecords, symbolOwn, isFirst, knownOf, arcOf, defineRange, rangeOf, joinDigit, wiresOf, usedIn}
 use Rattle.rules.specs.VolumesAndTotals.{chained, dated, countedHere, countedAll, layersUsed}
 use Rattle.rules.specs.Machine.{Line, Env, Home, inElement, inLayer, State, top, file, drawing, layerNames, defines, symbol, hide, elements, figures, successive, texts, placing, skipping, ended, openTop, onTop, closeFile, onFile, onDrawing, layerValue, onLayerNames, onDefines, newName, openSymbol, onSymbol, pointAt, onHide, onElements, isLayer, homeTable, closeFigures, openFigure, onFigures, onSuccessive, onTexts}
-use Rattle.rules.specs.PlacedSymbol.{onUnknown, newSerial, onPlaced, onPlacedKey, onPlacedOwn, onPlacing, skipShut, onSkipping}
+use Rattle.rules.specs.PlacedSymbol.{onUnknown, newSerial, onPlaced, onPlacedKey, onPlacedOwn, onPlacing, skipEnded, unreadShut, skipShut, onSkipping}
+use Rattle.rules.specs.Wires.{joinsEnds, lastEdge, joinOf, joined, onWire}
 use Rattle.rules.specs.LineByLine.{stepIn}
-use Rattle.rules.specs.Machine.{symbolBlock, fileKinds, Owned, kindIn}
-use Rattle.rules.specs.RecordTable.{kindDrawing, kindSymbol, kindLayer, kindLine, kindSuccessive, kindText, kindPlaced, kindPoint, kindHidden}
+use Rattle.rules.specs.Machine.{symbolBlock, wireBlock, wireUnread, beginWire, fileKinds, Owned, kindIn}
+use Rattle.rules.specs.RecordTable.{kindDrawing, kindSymbol, kindLayer, kindLine, kindSuccessive, kindText, kindPlaced, kindPoint, kindHidden, kindWire, kindWireMore, kindEdge}
 use Rattle.rules.proofs.Chains.{On, on-unless, on-cond, on-then, on-got, and-left, clash, then-got}
 use Rattle.rules.proofs.Rows.{Row, row-below}
 use Rattle.rules.proofs.OnActs.{on-byAct, on-taking, on-shut, on-skip}
@@ -32,7 +33,7 @@ use Rattle.promises.proofs.CountActs.{act-begin}
 use Rattle.volumes.specs.Volumes.{through}
 use Rattle.volumes.proofs.FrontSteps.{unread}
 use Rattle.volumes.proofs.Openings.{opensKind, act-opens, row-test}
-use Rattle.volumes.proofs.VolumeSound.{Sound, Same, same-records, same-now, same-drawing, same-symbol, same-closed, weight, front-grows, drawing-opens, drawing-row, names-open, names-more, names-shut, drawing-shut, defines-open, defines-non, symbol-opens, defines-shut, symbol-row, element-opens, hide-opens, hide-more, hide-shut, symbol-shut, figure-more, figure-opens, figure-shut, chain-more, chain-shut, element-shut, elements-open, layer-opens, layer-shut, elements-shut, eof-grows}
+use Rattle.volumes.proofs.VolumeSound.{Sound, Same, same-records, same-now, same-drawing, same-symbol, same-closed, weight, front-grows, drawing-opens, drawing-row, names-open, names-more, names-shut, drawing-shut, defines-open, defines-non, symbol-opens, defines-shut, symbol-row, element-opens, hide-opens, hide-more, hide-shut, symbol-shut, figure-more, figure-opens, figure-shut, chain-more, chain-shut, wire-more, wire-shut, element-shut, elements-open, layer-opens, layer-shut, elements-shut, eof-grows}
 
 -- ── rows by their numbers ──
 names-row : (j : ℕ) → getD (map (λ (r : Rule). opensKind (r .holds)) drawingTable) j false ≡ true → j ≡ 7
@@ -262,9 +263,19 @@ module _ (K : Known) (first : Bool) (s₀ : Set) (start : isFirst s₀ ≡ first
   figure-begins s h fs (suc (suc zero)) z =
       on-taking (Goes (figures s h fs)) e 1 s _ λ _.
       record { sound = (same-records first s₀ (kindIn h kindText ∷ []) s (z .0), z .1); grows = figure-opens K first s h fs (kindIn h kindText ∷ []) _ }
-  figure-begins s (inElement y) fs (suc (suc (suc i))) z = tt
-  figure-begins s (inLayer m) fs (suc (suc (suc i))) z =
+  figure-begins s (inElement y) fs (suc (suc (suc zero))) z = tt
+  figure-begins s (inLayer m) fs (suc (suc (suc zero))) z =
       on-taking (Goes (figures s (inLayer m) fs)) e 1 s _ λ _. record { sound = same-records first s₀ (kindPlaced ∷ []) s (z .0); grows = figure-opens K first s (inLayer m) fs (kindPlaced ∷ []) _ }
+  figure-begins s (inElement y) fs (suc (suc (suc (suc i)))) z = tt
+  figure-begins s (inLayer m) fs (suc (suc (suc (suc i)))) z =
+      on-taking (Goes (figures s (inLayer m) fs)) e 2 s _ λ _. begins (knowsWires (e .class))
+    where
+      kinds : List ℕ
+      kinds = kindWire ∷ kindWireMore ∷ []
+
+      begins : (b : Bool) → Goes (figures s (inLayer m) fs) (beginWire b (withRecords kinds s) m fs (l .line))
+      begins true = record { sound = same-records first s₀ kinds s (z .0); grows = figure-opens K first s (inLayer m) fs kinds _ }
+      begins false = record { sound = same-records first s₀ kinds s (z .0); grows = figure-opens K first s (inLayer m) fs kinds _ }
 
   figures-go : (s : Set) (h : Home) (fs : List Figure) (f : Form) → Sound first s₀ (figures s h fs) → On (Goes (figures s h fs)) (onFigures e l s h fs f)
   figures-go s h fs f z =
@@ -332,14 +343,40 @@ module _ (K : Known) (first : Bool) (s₀ : Set) (start : isFirst s₀ ≡ first
     placing-goes zero f = own-goes f
     placing-goes (suc p) f = placed-goes (suc p) (act (knownOf s) (getD placedTables (suc p) []) (digits 0 0) (rowsThere (partOf o (suc p))) f)
 
+  -- ── a wire ──
+  wire-goes : (s : Set) (m : ℕ) (fs : List Figure) (n : ℕ) (w : Wire) (i : ℕ) (f : Form) → Same first s₀ s → On (Goes (placing s m fs n (wireBlock w) i)) (onWire e l s m fs n w f)
+  wire-goes s m fs n w i f z =
+      let P : State → Type 0 = Goes (placing s m fs n (wireBlock w) i) in
+      on-byAct P (placing s m fs n (wireBlock w) 0) _ _ _ (act (knownOf s) wireTable (wiresOf s) (rowsAtLimit 0 wireTable) f)
+      (record { sound = z; grows = le-refl (weight K first (placing s m fs n (wireBlock w) i)) })
+      (λ j v. on-unless P (joined (joinsEnds (joinDigit s)) (lastEdge (w .elements)) j (numsOf v)) 11 _ λ _.
+      on-taking P e 1 s _ λ _.
+      record {
+        sound = same-records first s₀ ((kindEdge + j) ∷ []) s z;
+        grows = wire-more K first s m fs n w i ((kindEdge + j) ∷ []) (record { line = l .line; row = j; values = numsOf v; join = joinOf (joinsEnds (joinDigit s)) (lastEdge (w .elements)) j });
+      })
+      (λ i j v a. tt)
+      (record { sound = (z, tt); grows = wire-shut K first s m fs n w i })
+
   -- ── what is skipped ──
   module _ (s : Set) (m : ℕ) (fs : List Figure) (n : ℕ) (b : Owned) (z : Same first s₀ s) where
     skip-same : (d : ℕ) (st : State) → Sound first s₀ st → weight K first (skipping s m fs n b d) ≡ weight K first st → Goes (skipping s m fs n b d) st
     skip-same d st x q = record { sound = x; grows = omega (arith, q) }
 
+    -- by what is skipped: in a placed symbol or a wire that is read, or a whole wire
+    unread-shut : (b : Owned) → On (Goes (skipping s m fs n b 0)) (unreadShut s m fs n b)
+    unread-shut (symbolBlock o) = tt
+    unread-shut (wireBlock w) = tt
+    unread-shut wireUnread = record { sound = (z, tt); grows = figure-shut K first s (inLayer m) fs (passed n) _ (omega arith) }
+
+    skip-ended : (b : Owned) → Goes (skipping s m fs n b 1) (skipEnded s m fs n b)
+    skip-ended (symbolBlock o) = record { sound = z; grows = le-refl (weight K first (skipping s m fs n (symbolBlock o) 1)) }
+    skip-ended (wireBlock w) = record { sound = z; grows = le-refl (weight K first (skipping s m fs n (wireBlock w) 1)) }
+    skip-ended wireUnread = record { sound = z; grows = le-refl (weight K first (skipping s m fs n wireUnread 1)) }
+
     skip-shut : (d : ℕ) → On (Goes (skipping s m fs n b d)) (skipShut s m fs n b d)
-    skip-shut zero = tt
-    skip-shut (suc zero) = skip-same 1 (placing s m fs n b 0) z refl
+    skip-shut zero = unread-shut b
+    skip-shut (suc zero) = skip-ended b
     skip-shut (suc (suc d)) = skip-same (suc (suc d)) (skipping s m fs n b (suc d)) z refl
 
     skipping-goes : (d : ℕ) (f : Form) → On (Goes (skipping s m fs n b d)) (onSkipping s m fs n b d f)
@@ -365,6 +402,8 @@ module _ (K : Known) (first : Bool) (s₀ : Set) (start : isFirst s₀ ≡ first
   steps (successive s h fs n ps) z = successive-goes s h fs n ps (l .form) z
   steps (texts s h fs n o) z = texts-go s h fs n o (l .form) z
   steps (placing s m fs n (symbolBlock o) p) z = placing-goes s m fs n o z p (l .form)
+  steps (placing s m fs n (wireBlock w) p) z = wire-goes s m fs n w p (l .form) z
+  steps (placing s m fs n wireUnread p) z = tt
   steps (skipping s m fs n b d) z = skipping-goes s m fs n b z d (l .form)
   steps (ended s) z = tt
 

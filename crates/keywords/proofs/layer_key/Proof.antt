@@ -101,7 +101,7 @@ returns-7 c = rw (c .before .before .before .before .before .if7 .taken) (c .bef
 
 returns-8 : tie.Need-returns-8
 unfolding layerTable
-returns-8 c = key-none (layerTable false) (c .before .before .before .before .before .before .before .before .args .row) (c .before .before .before .before .before .before .before .before .args .out .now) (past _ 6 (past _ 5 (past _ 4 (past _ 3 (past _ 2 (past _ 1 (past _ 0 zero-le (c .before .before .before .before .before .before .if1 .left)) (c .before .before .before .before .before .if2 .left)) (c .before .before .before .before .if3 .left)) (c .before .before .before .if4 .left)) (c .before .before .if5 .left)) (c .before .if6 .left)) (c .if7 .left))
+returns-8 c = key-none (layerTable false false) (c .before .before .before .before .before .before .before .before .args .row) (c .before .before .before .before .before .before .before .before .args .out .now) (past _ 6 (past _ 5 (past _ 4 (past _ 3 (past _ 2 (past _ 1 (past _ 0 zero-le (c .before .before .before .before .before .before .if1 .left)) (c .before .before .before .before .before .if2 .left)) (c .before .before .before .before .if3 .left)) (c .before .before .before .if4 .left)) (c .before .before .if5 .left)) (c .before .if6 .left)) (c .if7 .left))
 
 pub layer-key-spec : {M : Type 1} → statement M
 layer-key-spec =

@@ -209,9 +209,39 @@ returns-20 : tie.Need-returns-20
 unfolding tableOf textTable
 returns-20 c = rw (c .before .before .before .before .if20 .taken) (c .before .before .lettering-key3 .ensures)
 
+wire-key-requires : tie.Need-wire-key-requires
+wire-key-requires c κs = tt
+
+same-length-21 : tie.Need-same-length-21
+same-length-21 c = search needs
+
 returns-21 : tie.Need-returns-21
 unfolding tableOf
-returns-21 c = rw (ne-eqb _ _ (c .before .before .before .before .before .before .before .before .before .before .before .before .before .before .before .before .before .before .before .if1 .left), ne-eqb _ _ (c .before .before .before .before .before .before .before .before .before .before .before .before .before .before .before .before .before .before .if2 .left), ne-eqb _ _ (c .before .before .before .before .before .before .before .before .before .before .before .before .before .before .before .before .before .if3 .left), ne-eqb _ _ (c .before .before .before .before .before .before .before .before .before .before .before .before .before .before .before .before .if4 .left), ne-eqb _ _ (c .before .before .before .before .before .before .before .before .before .before .before .before .before .before .before .if5 .left), ne-eqb _ _ (c .before .before .before .before .before .before .before .before .before .before .before .before .before .before .if6 .left), ne-eqb _ _ (c .before .before .before .before .before .before .before .before .before .before .before .before .before .if7 .left), ne-eqb _ _ (c .before .before .before .before .before .before .before .before .before .before .before .before .if8 .left), ne-eqb _ _ (c .before .before .before .before .before .before .before .before .before .before .before .if9 .left), ne-eqb _ _ (c .before .before .before .before .before .before .before .before .before .before .if10 .left), ne-eqb _ _ (c .before .before .before .before .before .before .before .before .before .if11 .left), ne-eqb _ _ (c .before .before .before .before .before .before .before .before .if12 .left), ne-eqb _ _ (c .before .before .before .before .before .before .before .if13 .left), ne-eqb _ _ (c .before .before .before .before .before .before .if14 .left), ne-eqb _ _ (c .before .before .before .before .before .if15 .left), ne-eqb _ _ (c .before .before .before .before .if16 .left), ne-eqb _ _ (c .before .before .before .if17 .left), ne-eqb _ _ (c .before .before .if18 .left), ne-eqb _ _ (c .before .if19 .left), ne-eqb _ _ (c .if20 .left)) (key-none [] (c .before .before .before .before .before .before .before .before .before .before .before .before .before .before .before .before .before .before .before .before .before .args .row) (c .before .before .before .before .before .before .before .before .before .before .before .before .before .before .before .before .before .before .before .before .before .args .out .now) zero-le)
+returns-21 c = rw (c .before .before .before .before .if21 .taken) (c .before .before .wire-key .ensures)
+
+wired-layer-key-requires : tie.Need-wired-layer-key-requires
+wired-layer-key-requires c κs = tt
+
+same-length-22 : tie.Need-same-length-22
+same-length-22 c = search needs
+
+returns-22 : tie.Need-returns-22
+unfolding tableOf layerTable
+returns-22 c = rw (c .before .before .before .before .if22 .taken) (c .before .before .wired-layer-key .ensures)
+
+wired-layer-key-requires-2 : tie.Need-wired-layer-key-requires-2
+wired-layer-key-requires-2 c κs = tt
+
+same-length-23 : tie.Need-same-length-23
+same-length-23 c = search needs
+
+returns-23 : tie.Need-returns-23
+unfolding tableOf layerTable
+returns-23 c = rw (c .before .before .before .before .if23 .taken) (c .before .before .wired-layer-key2 .ensures)
+
+returns-24 : tie.Need-returns-24
+unfolding tableOf
+returns-24 c = rw (ne-eqb _ _ (c .before .before .before .before .before .before .before .before .before .before .before .before .before .before .before .before .before .before .before .before .before .before .if1 .left), ne-eqb _ _ (c .before .before .before .before .before .before .before .before .before .before .before .before .before .before .before .before .before .before .before .before .before .if2 .left), ne-eqb _ _ (c .before .before .before .before .before .before .before .before .before .before .before .before .before .before .before .before .before .before .before .before .if3 .left), ne-eqb _ _ (c .before .before .before .before .before .before .before .before .before .before .before .before .before .before .before .before .before .before .before .if4 .left), ne-eqb _ _ (c .before .before .before .before .before .before .before .before .before .before .before .before .before .before .before .before .before .before .if5 .left), ne-eqb _ _ (c .before .before .before .before .before .before .before .before .before .before .before .before .before .before .before .before .before .if6 .left), ne-eqb _ _ (c .before .before .before .before .before .before .before .before .before .before .before .before .before .before .before .before .if7 .left), ne-eqb _ _ (c .before .before .before .before .before .before .before .before .before .before .before .before .before .before .before .if8 .left), ne-eqb _ _ (c .before .before .before .before .before .before .before .before .before .before .before .before .before .before .if9 .left), ne-eqb _ _ (c .before .before .before .before .before .before .before .before .before .before .before .before .before .if10 .left), ne-eqb _ _ (c .before .before .before .before .before .before .before .before .before .before .before .before .if11 .left), ne-eqb _ _ (c .before .before .before .before .before .before .before .before .before .before .before .if12 .left), ne-eqb _ _ (c .before .before .before .before .before .before .before .before .before .before .if13 .left), ne-eqb _ _ (c .before .before .before .before .before .before .before .before .before .if14 .left), ne-eqb _ _ (c .before .before .before .before .before .before .before .before .if15 .left), ne-eqb _ _ (c .before .before .before .before .before .before .before .if16 .left), ne-eqb _ _ (c .before .before .before .before .before .before .if17 .left), ne-eqb _ _ (c .before .before .before .before .before .if18 .left), ne-eqb _ _ (c .before .before .before .before .if19 .left), ne-eqb _ _ (c .before .before .before .if20 .left), ne-eqb _ _ (c .before .before .if21 .left), ne-eqb _ _ (c .before .if22 .left), ne-eqb _ _ (c .if23 .left)) (key-none [] (c .before .before .before .before .before .before .before .before .before .before .before .before .before .before .before .before .before .before .before .before .before .before .before .before .args .row) (c .before .before .before .before .before .before .before .before .before .before .before .before .before .before .before .before .before .before .before .before .before .before .before .before .args .out .now) zero-le)
 
 pub put-key-spec : {M : Type 1} → statement M
 put-key-spec =
@@ -277,4 +307,13 @@ put-key-spec =
     lettering-key-requires-3
     same-length-20
     returns-20
-    returns-21)
+    wire-key-requires
+    same-length-21
+    returns-21
+    wired-layer-key-requires
+    same-length-22
+    returns-22
+    wired-layer-key-requires-2
+    same-length-23
+    returns-23
+    returns-24)

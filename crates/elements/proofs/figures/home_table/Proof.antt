@@ -1,16 +1,17 @@
-use borrow.Author.Tests.{eq-eqb, ne-eqb, not-true, not-false}
-use mathlib.Core.Path.{sym}
+use borrow.Author.Tests.{not-true, not-false}
+use mathlib.Core.Path.{sym, _∙_}
+use borrow.Author.Needs.{needs}
 use Rattle.elements.proofs.figures.home_table.Statement.{statement}
 use Rattle.elements.proofs.figures.home_table.Tie as tie
 
 returns : tie.Need-returns
 returns c = sym (rw (not-true (c .before .args .layered) (c .if1 .taken)))
 
-returns-2 : tie.Need-returns-2
-returns-2 c = sym (rw (not-false (c .before .before .args .layered) (c .before .if1 .left), eq-eqb _ 1 (c .if2 .taken)))
+layer-table-requires : tie.Need-layer-table-requires
+layer-table-requires c κs = search needs
 
-returns-3 : tie.Need-returns-3
-returns-3 c = sym (rw (not-false (c .before .before .args .layered) (c .before .if1 .left), ne-eqb _ 1 (c .if2 .left)))
+returns-2 : tie.Need-returns-2
+returns-2 c = c .layer-table .ensures ∙ sym (rw (not-false (c .before .before .args .layered) (c .before .if1 .left)))
 
 pub home-table-spec : {M : Type 1} → statement M
-home-table-spec = tie.close (tie.spec returns returns-2 returns-3)
+home-table-spec = tie.close (tie.spec returns layer-table-requires returns-2)

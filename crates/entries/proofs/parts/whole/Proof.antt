@@ -3,7 +3,7 @@ use borrow.Author.Tests.{ne-eqb}
 use native.Mathlib.Omega.{arith}
 use Rattle.rules.specs.Base.{within as inRange}
 use Rattle.rules.specs.Numbers.{readFixed}
-use Rattle.rules.specs.Values.{servedSymbols}
+use Rattle.rules.specs.Values.{servedSymbols, servedWires}
 use Rattle.entries.specs.Parts.{countVal, indexVal}
 use Rattle.entries.specs.Names.{namesIn}
 use Rattle.entries.proofs.OneValue.{kept-val, count-val, kind-val, day-val, clock-val, index-val}
@@ -119,13 +119,22 @@ returns-12 c = rw (c .before .if12 .taken) (c .layer .ensures)
 fixed-requires-8 : tie.Need-fixed-requires-8
 fixed-requires-8 c κs = search needs
 
+served-wires-requires : tie.Need-served-wires-requires
+served-wires-requires c κs = search needs
+
+returns-13 : tie.Need-returns-13
+returns-13 c = rw (c .before .before .if13 .taken) (c .served-wires .ensures ∙ ap (countVal servedWires 12) (c .before .fixed8 .ensures) ∙ kept-val servedWires 12 (readFixed 3 (c .before .before .before .before .before .before .before .before .before .before .before .before .before .before .before .before .before .before .before .args .c .now)))
+
+fixed-requires-9 : tie.Need-fixed-requires-9
+fixed-requires-9 c κs = search needs
+
 limited-requires-10 : tie.Need-limited-requires-10
 limited-requires-10 c κs = omega arith
 
-returns-13 : tie.Need-returns-13
-returns-13 c =
-    let d = c .before .before .before .before .before .before .before .before .before .before .before .before .before .before .before .before .before .before .args .code in
-    rw (ne-eqb d 5 (c .before .before .before .before .before .before .before .before .before .before .before .before .before .if1 .left), ne-eqb d 6 (c .before .before .before .before .before .before .before .before .before .before .before .before .if2 .left), ne-eqb d 7 (c .before .before .before .before .before .before .before .before .before .before .before .if3 .left), ne-eqb d 8 (c .before .before .before .before .before .before .before .before .before .before .if4 .left), ne-eqb d 9 (c .before .before .before .before .before .before .before .before .before .if5 .left), ne-eqb d 10 (c .before .before .before .before .before .before .before .before .if6 .left), ne-eqb d 11 (c .before .before .before .before .before .before .before .if7 .left), ne-eqb d 12 (c .before .before .before .before .before .before .if8 .left), ne-eqb d 13 (c .before .before .before .before .before .if9 .left), ne-eqb d 14 (c .before .before .before .before .if10 .left), ne-eqb d 15 (c .before .before .before .if11 .left), ne-eqb d 16 (c .before .before .if12 .left)) (c .limited10 .ensures ∙ ap (countVal (inRange 0 9999) 10) (c .before .fixed8 .ensures) ∙ kind-val (c .before .before .before .before .before .before .before .before .before .before .before .before .before .before .before .before .before .before .args .c .now))
+returns-14 : tie.Need-returns-14
+returns-14 c =
+    let d = c .before .before .before .before .before .before .before .before .before .before .before .before .before .before .before .before .before .before .before .args .code in
+    rw (ne-eqb d 5 (c .before .before .before .before .before .before .before .before .before .before .before .before .before .before .if1 .left), ne-eqb d 6 (c .before .before .before .before .before .before .before .before .before .before .before .before .before .if2 .left), ne-eqb d 7 (c .before .before .before .before .before .before .before .before .before .before .before .before .if3 .left), ne-eqb d 8 (c .before .before .before .before .before .before .before .before .before .before .before .if4 .left), ne-eqb d 9 (c .before .before .before .before .before .before .before .before .before .before .if5 .left), ne-eqb d 10 (c .before .before .before .before .before .before .before .before .before .if6 .left), ne-eqb d 11 (c .before .before .before .before .before .before .before .before .if7 .left), ne-eqb d 12 (c .before .before .before .before .before .before .before .if8 .left), ne-eqb d 13 (c .before .before .before .before .before .before .if9 .left), ne-eqb d 14 (c .before .before .before .before .before .if10 .left), ne-eqb d 15 (c .before .before .before .before .if11 .left), ne-eqb d 16 (c .before .before .before .if12 .left), ne-eqb d 18 (c .before .before .if13 .left)) (c .limited10 .ensures ∙ ap (countVal (inRange 0 9999) 10) (c .before .fixed9 .ensures) ∙ kind-val (c .before .before .before .before .before .before .before .before .before .before .before .before .before .before .before .before .before .before .before .args .c .now))
 
 pub whole-spec : {M : Type 1} → statement M
 whole-spec =
@@ -167,5 +176,8 @@ whole-spec =
     layer-requires
     returns-12
     fixed-requires-8
+    served-wires-requires
+    returns-13
+    fixed-requires-9
     limited-requires-10
-    returns-13)
+    returns-14)

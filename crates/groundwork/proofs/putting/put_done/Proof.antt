@@ -1,5 +1,5 @@
 use native.Mathlib.Omega.{arith}
-use Rattle.groundwork.proofs.PutRecords.{told-inside, done-nothing, done-record, done-header}
+use Rattle.groundwork.proofs.PutRecords.{told-inside, wire-fits, done-nothing, done-record, done-header, done-wire}
 use borrow.Author.Needs.{needs}
 use Rattle.groundwork.proofs.putting.put_done.Statement.{statement}
 use Rattle.groundwork.proofs.putting.put_done.Tie as tie
@@ -55,6 +55,48 @@ enum-told-2 c = search needs
 put-header-requires : tie.Need-put-header-requires
 put-header-requires c κs = search needs
 
+enum-told-3 : tie.Need-enum-told-3
+enum-told-3 c = search needs
+
+number-for-requires-2 : tie.Need-number-for-requires-2
+number-for-requires-2 c κs = search needs
+
+put-wire-requires : tie.Need-put-wire-requires
+put-wire-requires c κs = (c .before .before .before .before .before .before .pre .1, wire-fits (c .before .before .before .before .before .before .args .was) (c .before .before .before .before .before .before .args .is) (c .before .before .before .before .before .before .args .own) _ (c .before .before .before .before .before .completed .ensures) (c .before .before .before .enum-told3 .given .1) _ (c .before .number-for2 .ensures) (search needs))
+
+add-clear-record : tie.Need-add-clear-record
+add-clear-record c = search needs
+
+sub-clear-record-2 : tie.Need-sub-clear-record-2
+sub-clear-record-2 c = search needs
+
+part-clear-record-start-2 : tie.Need-part-clear-record-start-2
+part-clear-record-start-2 c = search needs
+
+part-clear-record-end-2 : tie.Need-part-clear-record-end-2
+part-clear-record-end-2 c = search needs
+
+clear-record-requires-2 : tie.Need-clear-record-requires-2
+clear-record-requires-2 c κs = search needs
+
+add-clear-record-2 : tie.Need-add-clear-record-2
+add-clear-record-2 c = search needs
+
+mul-clear-record-2 : tie.Need-mul-clear-record-2
+mul-clear-record-2 c = search needs
+
+sub-clear-record-3 : tie.Need-sub-clear-record-3
+sub-clear-record-3 c = search needs
+
+part-clear-record-start-3 : tie.Need-part-clear-record-start-3
+part-clear-record-start-3 c = search needs
+
+part-clear-record-end-3 : tie.Need-part-clear-record-end-3
+part-clear-record-end-3 c = search needs
+
+clear-record-requires-3 : tie.Need-clear-record-requires-3
+clear-record-requires-3 c κs = search needs
+
 returns : tie.Need-returns
 returns c = done-nothing (c .before .before .before .args .first) (c .before .before .before .args .was) (c .before .before .before .args .is) (c .before .before .before .args .own) (c .before .before .before .args .header .now) (c .before .before .before .args .scratch .now) (c .before .before .before .args .t .now) _ (c .before .before .completed .ensures) (c .enum-told .given .1)
 
@@ -72,6 +114,15 @@ same-length-3 c = search needs
 
 returns-3 : tie.Need-returns-3
 returns-3 c = done-header (c .before .before .before .before .before .before .args .first) (c .before .before .before .before .before .before .args .was) (c .before .before .before .before .before .before .args .is) (c .before .before .before .before .before .before .args .own) (c .before .before .before .before .before .before .args .header .now) (c .before .before .before .before .before .before .args .scratch .now) (c .before .before .before .before .before .before .args .t .now) _ (c .before .before .before .before .before .completed .ensures) (c .before .before .before .enum-told2 .given .1) _ (c .before .put-header .ensures)
+
+same-length-4 : tie.Need-same-length-4
+same-length-4 c = search needs
+
+same-length-5 : tie.Need-same-length-5
+same-length-5 c = search needs
+
+returns-4 : tie.Need-returns-4
+returns-4 c = done-wire (c .before .before .before .before .before .before .before .before .before .before .before .before .before .before .args .first) (c .before .before .before .before .before .before .before .before .before .before .before .before .before .before .args .was) (c .before .before .before .before .before .before .before .before .before .before .before .before .before .before .args .is) (c .before .before .before .before .before .before .before .before .before .before .before .before .before .before .args .own) (c .before .before .before .before .before .before .before .before .before .before .before .before .before .before .args .header .now) (c .before .before .before .before .before .before .before .before .before .before .before .before .before .before .args .scratch .now) (c .before .before .before .before .before .before .before .before .before .before .before .before .before .before .args .t .now) _ (c .before .before .before .before .before .before .before .before .before .before .before .before .before .completed .ensures) (c .before .before .before .before .before .before .before .before .before .before .before .enum-told3 .given .1) _ (c .before .before .before .before .before .before .before .before .before .number-for2 .ensures) _ (c .before .before .before .before .before .before .before .put-wire .ensures) _ _ (c .before .before .before .before .clear-record2 .ensures) (c .before .clear-record3 .ensures)
 
 pub put-done-spec : {M : Type 1} → statement M
 put-done-spec =
@@ -94,9 +145,26 @@ put-done-spec =
     clear-record-requires
     enum-told-2
     put-header-requires
+    enum-told-3
+    number-for-requires-2
+    put-wire-requires
+    add-clear-record
+    sub-clear-record-2
+    part-clear-record-start-2
+    part-clear-record-end-2
+    clear-record-requires-2
+    add-clear-record-2
+    mul-clear-record-2
+    sub-clear-record-3
+    part-clear-record-start-3
+    part-clear-record-end-3
+    clear-record-requires-3
     returns
     same-length
     same-length-2
     returns-2
     same-length-3
-    returns-3)
+    returns-3
+    same-length-4
+    same-length-5
+    returns-4)

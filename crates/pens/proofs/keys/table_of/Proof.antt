@@ -15,29 +15,29 @@ by-home-requires c κs = search needs
 returns-2 : tie.Need-returns-2
 returns-2 c = rw (c .before .if2 .taken) (c .by-home .ensures)
 
+returns-3 : tie.Need-returns-3
+returns-3 c = rw (c .if3 .taken)
+
 by-home-requires-2 : tie.Need-by-home-requires-2
 by-home-requires-2 c κs = search needs
 
-returns-3 : tie.Need-returns-3
-returns-3 c = rw (c .before .if3 .taken) (c .by-home2 .ensures)
+returns-4 : tie.Need-returns-4
+returns-4 c = rw (c .before .if4 .taken) (c .by-home2 .ensures)
 
 placed-table-requires : tie.Need-placed-table-requires
 placed-table-requires c κs = search needs
 
-returns-4 : tie.Need-returns-4
-returns-4 c = rw (c .before .if4 .taken) (c .placed-table .ensures)
-
 returns-5 : tie.Need-returns-5
-returns-5 c = rw (c .if5 .taken)
+returns-5 c = rw (c .before .if5 .taken) (c .placed-table .ensures)
+
+returns-6 : tie.Need-returns-6
+returns-6 c = rw (c .if6 .taken)
 
 file-table-requires : tie.Need-file-table-requires
 file-table-requires c κs = search needs
 
-returns-6 : tie.Need-returns-6
-returns-6 c = rw (c .before .if6 .taken) (c .file-table .ensures)
-
 returns-7 : tie.Need-returns-7
-returns-7 c = rw (c .if7 .taken)
+returns-7 c = rw (c .before .if7 .taken) (c .file-table .ensures)
 
 returns-8 : tie.Need-returns-8
 returns-8 c = rw (c .if8 .taken)
@@ -49,14 +49,18 @@ returns-10 : tie.Need-returns-10
 returns-10 c = rw (c .if10 .taken)
 
 returns-11 : tie.Need-returns-11
-returns-11 c =
-    let the-if1 = c .before .before .before .before .before .before .before .before .before .before .before .before .before .before .before .before .before .before .if1 in
-    let the-if2 = c .before .before .before .before .before .before .before .before .before .before .before .before .before .before .before .before .if2 in
-    let the-if3 = c .before .before .before .before .before .before .before .before .before .before .before .before .before .before .if3 in
-    let the-if4 = c .before .before .before .before .before .before .before .before .before .before .before .before .if4 in
-    let the-if5 = c .before .before .before .before .before .before .before .before .before .before .if5 in
-    let the-if6 = c .before .before .before .before .before .before .before .before .if6 in
-    rw (ne-eqb _ _ (the-if1 .left), ne-eqb _ _ (the-if2 .left), ne-eqb _ _ (the-if3 .left), ne-eqb _ _ (the-if4 .left), ne-eqb _ _ (the-if5 .left), ne-eqb _ _ (the-if6 .left), ne-eqb _ _ (c .before .before .before .before .before .before .if7 .left), ne-eqb _ _ (c .before .before .before .before .if8 .left), ne-eqb _ _ (c .before .before .if9 .left), ne-eqb _ _ (c .if10 .left))
+returns-11 c = rw (c .if11 .taken)
+
+returns-12 : tie.Need-returns-12
+returns-12 c =
+    let the-if1 = c .before .before .before .before .before .before .before .before .before .before .before .before .before .before .before .before .before .before .before .before .if1 in
+    let the-if2 = c .before .before .before .before .before .before .before .before .before .before .before .before .before .before .before .before .before .before .if2 in
+    let the-if3 = c .before .before .before .before .before .before .before .before .before .before .before .before .before .before .before .before .if3 in
+    let the-if4 = c .before .before .before .before .before .before .before .before .before .before .before .before .before .before .if4 in
+    let the-if5 = c .before .before .before .before .before .before .before .before .before .before .before .before .if5 in
+    let the-if6 = c .before .before .before .before .before .before .before .before .before .before .if6 in
+    let the-if7 = c .before .before .before .before .before .before .before .before .if7 in
+    rw (ne-eqb _ _ (the-if1 .left), ne-eqb _ _ (the-if2 .left), ne-eqb _ _ (the-if3 .left), ne-eqb _ _ (the-if4 .left), ne-eqb _ _ (the-if5 .left), ne-eqb _ _ (the-if6 .left), ne-eqb _ _ (the-if7 .left), ne-eqb _ _ (c .before .before .before .before .before .before .if8 .left), ne-eqb _ _ (c .before .before .before .before .if9 .left), ne-eqb _ _ (c .before .before .if10 .left), ne-eqb _ _ (c .if11 .left))
 
 pub table-of-spec : {M : Type 1} → statement M
 table-of-spec =
@@ -66,15 +70,16 @@ table-of-spec =
     returns
     by-home-requires
     returns-2
-    by-home-requires-2
     returns-3
-    placed-table-requires
+    by-home-requires-2
     returns-4
+    placed-table-requires
     returns-5
-    file-table-requires
     returns-6
+    file-table-requires
     returns-7
     returns-8
     returns-9
     returns-10
-    returns-11)
+    returns-11
+    returns-12)

@@ -1,13 +1,13 @@
 use mathlib.Core.Path.{refl}
 use native.Mathlib.Omega.{arith}
-use Rattle.standing.specs.LineDone.{figures, chain, text, placed, other}
-use Rattle.standing.proofs.StepParts.{twelve-left}
+use Rattle.standing.specs.LineDone.{figures, chain, text, placed, wire, other}
+use Rattle.standing.proofs.StepParts.{thirteen-left}
 use borrow.Author.Needs.{needs}
 use Rattle.steps.proofs.line.figure_line.Statement.{statement}
 use Rattle.steps.proofs.line.figure_line.Tie as tie
 
 in-figures-requires : tie.Need-in-figures-requires
-in-figures-requires c κs = (c .before .before .before .before .before .before .before .before .before .before .before .before .before .pre .0 .3 .short, c .before .before .before .before .before .before .before .before .before .before .before .before .before .pre .0 .3 .named, c .before .before .before .before .before .before .before .before .before .before .before .before .before .pre .0 .3 .figures (c .before .before .before .before .if1 .taken), c .before .before .before .before .before .before .before .before .before .before .before .before .before .pre .0 .3 .lengths .scratch, omega (arith, c .before .before .before .before .before .before .before .before .before .before .before .before .before .pre .0 .3 .countable))
+in-figures-requires c κs = (c .before .before .before .before .before .before .before .before .before .before .before .before .before .pre .0 .3 .short, c .before .before .before .before .before .before .before .before .before .before .before .before .before .pre .0 .3 .named, c .before .before .before .before .before .before .before .before .before .before .before .before .before .pre .0 .3 .figures (c .before .before .before .before .if1 .taken), c .before .before .before .before .before .before .before .before .before .before .before .before .before .pre .0 .3 .lengths .scratch, c .before .before .before .before .before .before .before .before .before .before .before .before .before .pre .0 .3 .countable)
 
 same-length : tie.Need-same-length
 same-length c = search needs
@@ -72,8 +72,20 @@ same-length-14 c = search needs
 returns-4 : tie.Need-returns-4
 returns-4 c = λ following used usedAll header. placed (c .before .before .before .before .before .before .before .before .before .before .before .before .before .before .before .if4 .taken) (c .before .before .before .before .before .before .before .before .before .in-placed .ensures) refl
 
+in-wire-requires : tie.Need-in-wire-requires
+in-wire-requires c κs = (c .before .before .before .before .before .before .before .before .before .before .before .before .before .before .before .before .before .before .before .pre .0 .3 .short, c .before .before .before .before .before .before .before .before .before .before .before .before .before .before .before .before .before .before .before .pre .0 .3 .named, c .before .before .before .before .before .before .before .before .before .before .before .before .before .before .before .before .before .before .before .pre .0 .3 .wire (c .before .before .if5 .taken) .0, c .before .before .before .before .before .before .before .before .before .before .before .before .before .before .before .before .before .before .before .pre .0 .3 .wire (c .before .before .if5 .taken) .1, c .before .before .before .before .before .before .before .before .before .before .before .before .before .before .before .before .before .before .before .pre .0 .3 .lengths .scratch, omega (arith, c .before .before .before .before .before .before .before .before .before .before .before .before .before .before .before .before .before .before .before .pre .0 .3 .countable))
+
+same-length-15 : tie.Need-same-length-15
+same-length-15 c = search needs
+
+same-length-16 : tie.Need-same-length-16
+same-length-16 c = search needs
+
 returns-5 : tie.Need-returns-5
-returns-5 c = λ following used usedAll header. other (twelve-left _ (c .before .before .before .before .before .before .before .before .before .before .before .before .before .before .before .pre .1) (c .before .before .before .before .before .before .if1 .left) (c .before .before .before .before .if2 .left) (c .before .before .if3 .left) (c .if4 .left)) refl refl
+returns-5 c = λ following used usedAll header. wire (c .before .before .before .before .if5 .taken) (c .before .in-wire .ensures) refl
+
+returns-6 : tie.Need-returns-6
+returns-6 c = λ following used usedAll header. other (thirteen-left _ (c .before .before .before .before .before .before .before .before .before .before .before .before .before .before .before .before .before .pre .1) (c .before .before .before .before .before .before .before .before .if1 .left) (c .before .before .before .before .before .before .if2 .left) (c .before .before .before .before .if3 .left) (c .before .before .if4 .left) (c .if5 .left)) refl refl
 
 pub figure-line-spec : {M : Type 1} → statement M
 figure-line-spec =
@@ -101,4 +113,8 @@ figure-line-spec =
     same-length-13
     same-length-14
     returns-4
-    returns-5)
+    in-wire-requires
+    same-length-15
+    same-length-16
+    returns-5
+    returns-6)

@@ -12,8 +12,13 @@ returns c = rw (c .if1 .taken)
 is-e-symbol-requires : tie.Need-is-e-symbol-requires
 is-e-symbol-requires c κs = search needs
 
+wiring-row-requires : tie.Need-wiring-row-requires
+wiring-row-requires c κs = search needs
+
 returns-2 : tie.Need-returns-2
-returns-2 c = no-placing (c .before .before .before .before .args .k .now) (c .before .before .before .before .args .placed) (sym (c .before .is-e-symbol .ensures) ∙ not-true _ (c .if2 .taken))
+returns-2 c =
+    let a = c .before .before .before .before .before .args in
+    no-placing (a .k .now) (a .placed) (a .wired) (c .before .before .before .if1 .left) (sym (c .before .before .is-e-symbol .ensures) ∙ not-true _ (c .before .if2 .taken)) ∙ c .wiring-row .ensures
 
 inner-requires : tie.Need-inner-requires
 inner-requires c κs = search needs
@@ -38,7 +43,7 @@ from-requires-2 : tie.Need-from-requires-2
 from-requires-2 c κs = search needs
 
 returns-4 : tie.Need-returns-4
-returns-4 c = rw (c .from2 .ensures, c .before .times2 .ensures, c .before .before .several .ensures) (one-line (c .before .before .before .before .before .before .before .before .args .k .now) (c .before .before .before .before .before .before .before .before .args .placed) (c .before .before .before .before .before .before .if1 .left) (c .before .before .before .if3 .left) (sym (c .before .before .before .before .before .is-e-symbol .ensures) ∙ not-false _ (c .before .before .before .before .if2 .left)))
+returns-4 c = rw (c .from2 .ensures, c .before .times2 .ensures, c .before .before .several .ensures) (one-line (c .before .before .before .before .before .before .before .before .args .k .now) (c .before .before .before .before .before .before .before .before .args .placed) (c .before .before .before .before .before .before .before .before .args .wired) (c .before .before .before .before .before .before .if1 .left) (c .before .before .before .if3 .left) (sym (c .before .before .before .before .before .is-e-symbol .ensures) ∙ not-false _ (c .before .before .before .before .if2 .left)))
 
 pub placing-row-spec : {M : Type 1} → statement M
 placing-row-spec =
@@ -46,6 +51,7 @@ placing-row-spec =
     (tie.spec
     returns
     is-e-symbol-requires
+    wiring-row-requires
     returns-2
     inner-requires
     times-requires

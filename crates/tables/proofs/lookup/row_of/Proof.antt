@@ -146,9 +146,30 @@ returns-20 : tie.Need-returns-20
 unfolding tableOf
 returns-20 c = rw (c .before .if20 .taken) (c .lettering-row3 .ensures)
 
+wire-row-requires : tie.Need-wire-row-requires
+wire-row-requires c κs = search needs
+
 returns-21 : tie.Need-returns-21
 unfolding tableOf
-returns-21 c = rw (ne-eqb _ _ (c .before .before .before .before .before .before .before .before .before .before .before .before .before .before .before .before .before .before .before .if1 .left), ne-eqb _ _ (c .before .before .before .before .before .before .before .before .before .before .before .before .before .before .before .before .before .before .if2 .left), ne-eqb _ _ (c .before .before .before .before .before .before .before .before .before .before .before .before .before .before .before .before .before .if3 .left), ne-eqb _ _ (c .before .before .before .before .before .before .before .before .before .before .before .before .before .before .before .before .if4 .left), ne-eqb _ _ (c .before .before .before .before .before .before .before .before .before .before .before .before .before .before .before .if5 .left), ne-eqb _ _ (c .before .before .before .before .before .before .before .before .before .before .before .before .before .before .if6 .left), ne-eqb _ _ (c .before .before .before .before .before .before .before .before .before .before .before .before .before .if7 .left), ne-eqb _ _ (c .before .before .before .before .before .before .before .before .before .before .before .before .if8 .left), ne-eqb _ _ (c .before .before .before .before .before .before .before .before .before .before .before .if9 .left), ne-eqb _ _ (c .before .before .before .before .before .before .before .before .before .before .if10 .left), ne-eqb _ _ (c .before .before .before .before .before .before .before .before .before .if11 .left), ne-eqb _ _ (c .before .before .before .before .before .before .before .before .if12 .left), ne-eqb _ _ (c .before .before .before .before .before .before .before .if13 .left), ne-eqb _ _ (c .before .before .before .before .before .before .if14 .left), ne-eqb _ _ (c .before .before .before .before .before .if15 .left), ne-eqb _ _ (c .before .before .before .before .if16 .left), ne-eqb _ _ (c .before .before .before .if17 .left), ne-eqb _ _ (c .before .before .if18 .left), ne-eqb _ _ (c .before .if19 .left), ne-eqb _ _ (c .if20 .left))
+returns-21 c = rw (c .before .if21 .taken) (c .wire-row .ensures)
+
+figure-row-requires-4 : tie.Need-figure-row-requires-4
+figure-row-requires-4 c κs = search needs
+
+returns-22 : tie.Need-returns-22
+unfolding tableOf layerTable
+returns-22 c = rw (c .before .if22 .taken) (c .figure-row4 .ensures)
+
+figure-row-requires-5 : tie.Need-figure-row-requires-5
+figure-row-requires-5 c κs = search needs
+
+returns-23 : tie.Need-returns-23
+unfolding tableOf layerTable
+returns-23 c = rw (c .before .if23 .taken) (c .figure-row5 .ensures)
+
+returns-24 : tie.Need-returns-24
+unfolding tableOf
+returns-24 c = rw (ne-eqb _ _ (c .before .before .before .before .before .before .before .before .before .before .before .before .before .before .before .before .before .before .before .before .before .before .if1 .left), ne-eqb _ _ (c .before .before .before .before .before .before .before .before .before .before .before .before .before .before .before .before .before .before .before .before .before .if2 .left), ne-eqb _ _ (c .before .before .before .before .before .before .before .before .before .before .before .before .before .before .before .before .before .before .before .before .if3 .left), ne-eqb _ _ (c .before .before .before .before .before .before .before .before .before .before .before .before .before .before .before .before .before .before .before .if4 .left), ne-eqb _ _ (c .before .before .before .before .before .before .before .before .before .before .before .before .before .before .before .before .before .before .if5 .left), ne-eqb _ _ (c .before .before .before .before .before .before .before .before .before .before .before .before .before .before .before .before .before .if6 .left), ne-eqb _ _ (c .before .before .before .before .before .before .before .before .before .before .before .before .before .before .before .before .if7 .left), ne-eqb _ _ (c .before .before .before .before .before .before .before .before .before .before .before .before .before .before .before .if8 .left), ne-eqb _ _ (c .before .before .before .before .before .before .before .before .before .before .before .before .before .before .if9 .left), ne-eqb _ _ (c .before .before .before .before .before .before .before .before .before .before .before .before .before .if10 .left), ne-eqb _ _ (c .before .before .before .before .before .before .before .before .before .before .before .before .if11 .left), ne-eqb _ _ (c .before .before .before .before .before .before .before .before .before .before .before .if12 .left), ne-eqb _ _ (c .before .before .before .before .before .before .before .before .before .before .if13 .left), ne-eqb _ _ (c .before .before .before .before .before .before .before .before .before .if14 .left), ne-eqb _ _ (c .before .before .before .before .before .before .before .before .if15 .left), ne-eqb _ _ (c .before .before .before .before .before .before .before .if16 .left), ne-eqb _ _ (c .before .before .before .before .before .before .if17 .left), ne-eqb _ _ (c .before .before .before .before .before .if18 .left), ne-eqb _ _ (c .before .before .before .before .if19 .left), ne-eqb _ _ (c .before .before .before .if20 .left), ne-eqb _ _ (c .before .before .if21 .left), ne-eqb _ _ (c .before .if22 .left), ne-eqb _ _ (c .if23 .left))
 
 pub row-of-spec : {M : Type 1} → statement M
 row-of-spec =
@@ -194,4 +215,10 @@ row-of-spec =
     returns-19
     lettering-row-requires-3
     returns-20
-    returns-21)
+    wire-row-requires
+    returns-21
+    figure-row-requires-4
+    returns-22
+    figure-row-requires-5
+    returns-23
+    returns-24)
