@@ -1,4 +1,5 @@
-/* The reader as one would write it in C: careful with its bounds, checking what document 01 asks of a drawing at class 15, and plain.
+/* The reader as one would write it in C: careful with its bounds, checking what document 01 asks of a drawing at class 15, and document 02 of
+ * its wires of lines and arcs, and plain.
  * One pass over the lines, a function for each block, no reason given where it refuses. It is here to be timed, not to be used. */
 #include "plain.h"
 #include <string.h>
@@ -26,7 +27,7 @@ typedef struct {
     uint32_t number;
     int64_t *table;
     size_t room, count;
-    int arc, e_sym, s_elec, in_symbol;
+    int arc, e_sym, e_wire, s_elec, in_symbol;
     bytes names[MOST_NAMES];
     uint64_t serials[MOST_SERIALS];
     size_t symbols, serial_count, layers;
@@ -385,6 +386,32 @@ static int placed(reader *r, line l, int64_t owner) {
     return symbol && (last < 3 || rec[27]) && (last < 4 || rec[28]) && (last < 5 || rec[29]) && (middle < 1 || rec[30]);
 }
 
+/* Whether the line starts where the one before it ends; untested where one of the two is an arc. */
+static int joined(const int64_t *former, int64_t *rec) {
+    if (former[0] != 20 || rec[0] != 20) {
+        rec[11] = 2;
+        return 1;
+    }
+    rec[11] = 1;
+    return former[7] == rec[5] && former[8] == rec[6];
+}
+
+static int wire(reader *r, line l, int64_t owner) {
+    int64_t *own, *former = NULL, *rec;
+    REFUSE_UNLESS(r->e_wire && opens(l) && (own = take(r, 18, owner)) && take(r, 19, owner));
+    own[30] = r->e_wire / 100;
+    for (;;) {
+        REFUSE_UNLESS(next(r, &l));
+        if (l.kind == CLOSE) return 1;
+        REFUSE_UNLESS(l.kind == KEY && (IS(l, "line") || IS(l, "circle")) && figure(r, l, owner) == 1);
+        rec = r->table + RECORD * (r->count - 1);
+        rec[0] += 10;
+        REFUSE_UNLESS(!former || r->e_wire / 100 != 4 || joined(former, rec));
+        own[5]++;
+        former = rec;
+    }
+}
+
 /* ── blocks ── */
 
 /* `key=001` or `key=000`, once. */
@@ -410,7 +437,8 @@ static int range_part(reader *r, line l, int64_t *rec, int which) {
             REFUSE_UNLESS(zero_or_one(l, &a, 15, rec + 8) && (rec[8] <= 5 || rec[8] >= 11));
             r->e_sym = (int)rec[8];
         } else if (which == 1 && IS(l, "E_wire")) {
-            REFUSE_UNLESS(zero_or_one(l, &b, 0, &v));
+            REFUSE_UNLESS(zero_or_one(l, &b, 401, &v) && (v == 0 || v % 100 == 1));
+            r->e_wire = (int)v;
         } else if (which == 1 && IS(l, "E_cirno")) {
             REFUSE_UNLESS(zero_or_one(l, &c, 0, &v));
         } else if (which == 2 && IS(l, "S_base")) {
@@ -660,6 +688,7 @@ static int layer(reader *r, int64_t owner) {
         REFUSE_UNLESS(l.kind == KEY);
         r->here++;
         if (IS(l, "E_symbol")) REFUSE_UNLESS(placed(r, l, owner));
+        else if (IS(l, "E_wire")) REFUSE_UNLESS(wire(r, l, owner));
         else REFUSE_UNLESS(figure(r, l, owner) == 1);
     }
 }

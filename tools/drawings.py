@@ -1,13 +1,15 @@
-"""A drawing written line by line, beside the records that document 01 says it is read as.
+"""A drawing written line by line, beside the records that documents 01 and 02 say it is read as.
 
 The records are made here from what is written, not by the reader, so that the two can be compared. A drawing is volumes of layers of
 figures; a figure is a function that writes itself into a Drawing and takes its records there.
 """
+import re
 from decimal import Decimal
 
 RECORD = 32
 HEADER, VOLUME, DRAWING, SYMBOL, LAYER = 1, 2, 3, 4, 5
 LINE, CIRCLE, ELLIPSE, POINT, SUCCESSIVE, TEXT, PLACED, SUCCESSIVE_POINT = 10, 11, 12, 13, 14, 15, 16, 17
+WIRE, WIRE_MORE, WIRE_LINE, WIRE_ARC = 18, 19, 20, 21
 SYMBOL_TEXT, HIDE_POINT = 35, 43
 ABSENT, EMPTY, GIVEN, UNREAD = 0, 1, 2, 3
 
@@ -30,23 +32,57 @@ def allowed(e_sym):
     return [name for name, digit, least, _, _ in ATTRIBUTES if reaches(e_sym, digit, least)]
 
 
-def at_class(records, cls):
-    """What a class reads where class 15 reads these records: an attribute that E_sym allows and the class doesn't know is marked unread."""
-    e_sym = records[0][8]
-    out = [list(r) for r in records]
-    for rec in out:
-        if rec[0] != PLACED:
+# The same of a wire's, which stand in its two records.
+WIRE_ATTRIBUTES = {
+    WIRE: [
+        ("direc", "last", 2, range(6, 15), 26),
+        ("piend", "last", 3, range(15, 19), 27),
+        ("num", "last", 4, range(19, 25), 28),
+        ("length", "last", 6, range(25, 26), 29),
+    ],
+    WIRE_MORE: [
+        ("text", "last", 5, range(5, 16), 26),
+        ("circuit", "last", 7, range(16, 18), 27),
+        ("power", "last", 8, range(18, 21), 28),
+        ("serial", "middle", 1, range(21, 26), 29),
+    ],
+}
+# A wire's line and arc: the place of its join. Its two records: the places of the elements' number, of E_wire's first digit, of the mark.
+JOIN, ELEMENTS, FIRST_DIGIT, MARK = 11, 5, 30, 31
+NOT_JOINED, TESTED, UNTESTED = 0, 1, 2
+ENDS_JOINED = 4  # the first digit of E_wire at which every end is joined to the next start
+
+
+def mark_unread(record, attributes, file, part):
+    """Marks what the file's range allows of the attributes and the part of a class doesn't know."""
+    for _, digit, least, places, state in attributes:
+        if reaches(file, digit, least) and not reaches(part, digit, least):
+            for i in places:
+                record[i] = 0
+            record[state] = UNREAD
+
+
+def at_class(records, cls, wire, e_wire):
+    """What a class with a wire part reads where a higher one reads these records of a file with this E_wire, which no record has: an attribute
+    that E_sym or E_wire allows and the class doesn't know is marked unread; with wire part 0 each wire is, and its elements are left out."""
+    e_sym, out = records[0][8], []
+    for record in map(list, records):
+        kind = record[0]
+        if wire == 0 and kind in (WIRE_LINE, WIRE_ARC):
             continue
-        for _, digit, least, places, state in ATTRIBUTES:
-            if reaches(e_sym, digit, least) and not reaches(cls, digit, least):
-                for i in places:
-                    rec[i] = 0
-                rec[state] = UNREAD
+        if kind == PLACED:
+            mark_unread(record, ATTRIBUTES, e_sym, cls)
+        if kind in WIRE_ATTRIBUTES:
+            mark_unread(record, WIRE_ATTRIBUTES[kind], e_wire, wire)
+            if wire == 0:
+                record[ELEMENTS], record[FIRST_DIGIT], record[MARK] = 0, 0, UNREAD
+        out.append(record)
     return out
 
 
 # Where a record of a kind has the byte places of its texts.
 TEXT_PLACES = {HEADER: range(16, 32, 2), DRAWING: (12, 14, 16), SYMBOL: (5,), LAYER: (7,), TEXT: (12,), SYMBOL_TEXT: (12,), PLACED: (12, 24)}
+TEXT_PLACES[WIRE_MORE] = 14, 16
 LINE_PLACE = 3
 
 
@@ -70,10 +106,10 @@ def encoded(text):
 
 
 class Drawing:
-    """A spool as it grows: its bytes, its records, and where it stands."""
+    """A spool as it grows: its bytes, its records, its E_wire, and where it stands."""
 
-    def __init__(self):
-        self.bytes, self.records = bytearray(), []
+    def __init__(self, e_wire="000"):
+        self.bytes, self.records, self.e_wire = bytearray(), [], int(e_wire)
         self.volume, self.line = 0, 0
         self.symbols, self.in_symbol = [], False
 
@@ -112,6 +148,9 @@ class Drawing:
 
     def whole_records(self):
         return [r + [0] * (RECORD - len(r)) for r in self.records]
+
+    def records_at(self, cls, wire):
+        return at_class(self.whole_records(), cls, wire, self.e_wire)
 
 
 # ── figures ──
@@ -218,6 +257,38 @@ def placed_plain(name, place):
     return write
 
 
+def joined(d, former, record):
+    """How an element of a wire is joined to the one before it; two lines of a sound drawing that are, meet."""
+    if former is None or d.e_wire // 100 != ENDS_JOINED:
+        return NOT_JOINED
+    if former[0] != WIRE_LINE or record[0] != WIRE_LINE:
+        return UNTESTED
+    assert former[7:9] == record[5:7], (former, record)
+    return TESTED
+
+
+def wire(*elements, more=()):
+    """A wire of these lines and circles (arcs); more are lines that only a wire part of 0 skips."""
+
+    def write(d, owner):
+        d.put("E_wire:{")
+        own = d.take(WIRE, owner)
+        own += [len(elements)] + [0] * (FIRST_DIGIT - ELEMENTS - 1) + [d.e_wire // 100]
+        d.take(WIRE_MORE, owner)
+        former = None
+        for element in elements:
+            element(d, owner)
+            record = d.records[-1]
+            record[0] = {LINE: WIRE_LINE, CIRCLE: WIRE_ARC}[record[0]]
+            record += [0] * (JOIN - len(record))
+            record.append(joined(d, former, record))
+            former = record
+        d.put_all(*more)
+        d.put("}")
+
+    return write
+
+
 # ── blocks ──
 
 
@@ -225,7 +296,7 @@ class Sheet:
     """What a drawing says of itself, as it stands before any figure. Anything can be set by name."""
 
     def __init__(self, **given):
-        self.arc, self.e_sym, self.s_elec = "000", "015", "001"
+        self.arc, self.e_sym, self.e_wire, self.s_elec = "000", "015", "000", "001"
         self.all_line, self.this_line, self.all_ele = "1", "1", None
         self.date, self.time, self.drawn = "19970401", "120000", "19970401"
         self.about = ["ACC-W", "Windows 95", "PC-9821", "2.1", "", "", "", ""]
@@ -247,7 +318,7 @@ def file_format(d, sheet, this_ele, all_ele, next_file):
     d.take(VOLUME, 0).extend([int(sheet.this_line), this_ele])
     if first:
         d.put_all("range:{", "base=001:{", "B_sym=000", "}", f"arc={sheet.arc}")
-        d.put_all("elec=001:{", f"E_sym={sheet.e_sym}", "E_wire=000", "E_cirno=000", "}")
+        d.put_all("elec=001:{", f"E_sym={sheet.e_sym}", f"E_wire={sheet.e_wire}", "E_cirno=000", "}")
         d.put_all("sym=001:{", "S_base=000", f"S_elec={sheet.s_elec}", "}", "}", f"all_line={sheet.all_line}")
     d.put(f"this_line={sheet.this_line}")
     if first:
@@ -319,7 +390,7 @@ def element(d, sheet, layers):
 
 def drawing(sheet, volumes):
     """The set of these volumes, each a name and its layers, each an id and its figures."""
-    d = Drawing()
+    d = Drawing(sheet.e_wire)
     counts = [sum(len(figures) for _, figures in layers) for _, layers in volumes]
     for at, (name, layers) in enumerate(volumes):
         last = at + 1 == len(volumes)
@@ -348,6 +419,22 @@ def volumes_of(spool):
         out.append((bytes(spool[at + 2 : at + 10]), body[:-1].split(b"\r\n")[:-1]))
         at += 12 + length
     return out
+
+
+BLANKS = re.compile(rb"(?: |\t|\x81\x40)*")
+E_WIRE = b"E_wire="
+
+
+def e_wire_line(spool):
+    """The first volume's first line that gives a range of wires: its number, and its three digits as one, None where it has no three. None where
+    there is no such line; E_wire is then 000."""
+    length = int.from_bytes(spool[10:12], "big")
+    for number, raw in enumerate(bytes(spool[12 : 12 + length]).split(b"\r\n"), 1):
+        text = raw[BLANKS.match(raw).end() :]
+        if text.startswith(E_WIRE):
+            digits = text.removeprefix(E_WIRE)
+            return number, int(digits) if re.fullmatch(rb"[0-9]{3}", digits) else None
+    return None
 
 
 def spool_of(volumes):

@@ -45,7 +45,7 @@ pub struct ServedWires {
 }
 
 /// What the product serves at the moment: the one place to change when it reads more wires. Questions and answers go by it.
-pub const SERVED: ServedWires = ServedWires::NONE;
+pub const SERVED: ServedWires = ServedWires { first: 4, middle: 0, last: 1 };
 
 impl ServedWires {
     /// 000 alone: no last digit is from 1 to 0.

@@ -10,6 +10,17 @@ fn folder() -> PathBuf {
     PathBuf::from(env!("CARGO_MANIFEST_DIR")).join("../../examples")
 }
 
+/// The records listed for a sample at a class with a wire part. A list that names no wire part is for 18, and for every other where the sample
+/// has no wires.
+fn records_listed(file: &str, class: &str, wire: &str) -> Option<String> {
+    let spool = fs::read(folder().join(file)).expect(file);
+    let wireless = !spool.windows(WIRE.len()).any(|bytes| bytes == WIRE);
+    let front = if wire == "18" || wireless { format!(".class{class}") } else { format!(".class{class}-{wire}") };
+    fs::read_to_string(folder().join(file.replace(".spool", &front))).ok()
+}
+
+const WIRE: &[u8] = b"E_wire:{";
+
 #[test]
 fn every_listed_answer_agrees() {
     let listed = fs::read_to_string(folder().join("ANSWERS")).expect("examples/ANSWERS");
@@ -26,8 +37,7 @@ fn every_listed_answer_agrees() {
             assert!(got.lent.iter().all(|&number| number == 0), "{row}");
             continue;
         }
-        let records = file.replace(".spool", &format!(".class{class}"));
-        if let Ok(records) = fs::read_to_string(folder().join(records)) {
+        if let Some(records) = records_listed(file, class, wire) {
             let listed: Vec<i64> = records.split_whitespace().map(|number| number.parse().unwrap()).collect();
             assert_eq!(got.lent[..got.count * NUMBERS], listed, "{row}: other records");
             assert!(got.lent[got.count * NUMBERS..].iter().all(|&number| number == 0), "{row}");
