@@ -8,3 +8,4 @@ pub mod FileParts
 pub mod PlacedLaws
 pub mod SkipRun
 pub mod Headers
+pub mod NumberLaws

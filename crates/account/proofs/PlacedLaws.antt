@@ -1,12 +1,13 @@
 -- A line in a placed symbol: the laws that the proofs of its functions use.
 use Prim.Native.Nat.{ℕ, zero, suc, _+_, _<_}
 use mathlib.Core.Bool.{Bool, true, false, cond, _&&_}
-use mathlib.Core.List.{List, [], _∷_}
+use mathlib.Core.List.{List, [], _∷_, map}
+use mathlib.Core.Option.{some}
 use mathlib.Core.Path.{_≡_, refl, sym, _∙_, ap, subst}
 use native.Mathlib.Omega.{arith}
-use lib.Dec.{T}
+use lib.Dec.{T, leb}
 use lib.IntN.{ℤ, pos, negsuc, natAbs}
-use lib.ListN.{length, getD, set, take}
+use lib.ListN.{length, getD, set, take, drop}
 use lib.Seq.{sets, getD-set-same, getD-set-other}
 use lib.Signed.{nonNeg}
 use mir.Syntax.{w64}
@@ -14,22 +15,26 @@ use mir.Val.{SFits, Fits, toZ, ofZ}
 use mir.Facts.{toZ-ofZ}
 use borrow.Author.Tests.{ne-eqb}
 use Rattle.rules.specs.declared.Digits.{Digits}
-use Rattle.rules.specs.Base.{all, hasNumber}
-use Rattle.rules.specs.RefusalNumbers.{Got, got, bad, unless, mapG}
+use Rattle.rules.specs.declared.Span.{Span}
+use Rattle.rules.specs.Base.{all, flat, split}
+use Rattle.rules.specs.RefusalNumbers.{got, bad, unless, mapG, keep, orBad, consG}
 use Rattle.rules.specs.Lines.{Rest, Form, keyed, Shape, opener, noContent, content, opening, formless, shapeOf, hasForm}
 use Rattle.rules.specs.RangeClass.{digits, reaches, exceeds, both, hides}
-use Rattle.rules.specs.Values.{Known, Value, linked, Kind, serials, readKind}
+use Rattle.rules.specs.Numbers.{readCount}
+use Rattle.rules.specs.Values.{Num, num, natural, Known, Value, nums, linked, serials, wireSerial, mostPartners, readSerials, linkedOf, readPartner, readWireSerial, readKind}
 use Rattle.rules.specs.Rows.{Rule, Found, absent, found, find, Act, stay, entry, begin, shut, refuse, orRefuse, innerOf, fits, readShape, shapeFor, actFound, act, complete}
 use Rattle.rules.specs.RecordTable.{numbers, given, ruleAt, markUnread}
 use Rattle.rules.specs.Figures.{placedTable, textTable}
 use Rattle.rules.proofs.Rows.{found-row, row-at, row-below, row-did}
-use Rattle.rules.proofs.Chains.{clash, never, map-got}
+use Rattle.rules.proofs.Chains.{clash, never, map-got, keep-got, or-got, cons-got}
 use Rattle.tables.specs.Tables.{tableOf}
 use Rattle.tables.specs.Rows.{ruleOf, forLine, foundForLine}
 use Rattle.tables.specs.declared.Row.{Row}
 use Rattle.entries.specs.Acts.{roomy, putLine, nextOf, Entered, Acts}
-use Rattle.entries.specs.Entering.{On}
-use Rattle.entries.proofs.ByKind.{on-linked-in}
+use Rattle.leaves.specs.Bytes.{upTo}
+use Rattle.leaves.specs.Readings.{countOf}
+use Rattle.leaves.proofs.Bounds.{count-below}
+use Rattle.entries.proofs.ByKind.{split-head}
 use Rattle.entries.proofs.Took.{took}
 use Rattle.entries.specs.declared.Inner.{Inner}
 use Rattle.entries.specs.declared.Next.{Next}
@@ -39,7 +44,8 @@ use Rattle.account.specs.declared.Step.{Step}
 use Rattle.account.specs.declared.Step.the-variants as S
 use Rattle.account.specs.declared.Skipped.{Skipped}
 use Rattle.account.specs.Account.{atBlock, figureDone}
-use Rattle.account.specs.PlacedLines.{Lent, lent, serialCount, ownNumber, OwnGiven, inUse, serialRow, SerialLine, withInner, hiddenAt, PlacedDone, RowReady, unknownStep, skipStep, UnknownLine, KeyLine, isWhole, CloseLine, PlacedTextLine}
+use Rattle.account.specs.SerialNumbers.{ownNumbers, contentAt, inUse, SerialLine}
+use Rattle.account.specs.PlacedLines.{Lent, lent, ownNumber, OwnGiven, lentWith, serialRow, withInner, hiddenAt, PlacedDone, RowReady, unknownStep, skipStep, UnknownLine, KeyLine, isWhole, CloseLine, PlacedTextLine}
 use Rattle.account.proofs.RowsTaken.{TableTaken, act-taken}
 
 -- ── the tables ──
@@ -102,68 +108,85 @@ module _ (z : ℤ) (f : SFits w64 z) where
       go (pos n) f h = (tt, record { fits = omega (arith, f .sfits) })
       go (negsuc n) f h = clash h refl
 
-module _ (now : Now) (n m : ℕ) (tally₀ serials₀ : List ℕ) (b : Bool) (e : m ≡ n) (h : b ≡ hasNumber m (take (serialCount tally₀) serials₀)) where
-  used : inUse tally₀ serials₀ n ≡ b
-  used = ap (λ (k : ℕ). hasNumber k (take (serialCount tally₀) serials₀)) (sym e) ∙ sym h
-
-  pub serial-used : (tally₁ serials₁ : List ℕ) → b ≡ true → SerialLine now n tally₀ tally₁ serials₀ serials₁ (S.Stop 15)
-  serial-used tally₁ serials₁ t =
-      let u = used ∙ t in
-      record {
-        answer = ap (λ (c : Bool). cond c (S.Stop 15) (S.Go now)) (sym u);
-        tally = λ q. clash u q;
-        serials = λ q. clash u q;
-      }
-
-  pub serial-free : b ≡ false → SerialLine now n tally₀ (set tally₀ 11 (serialCount tally₀ + 1)) serials₀ (set serials₀ (serialCount tally₀) m) (S.Go now)
-  serial-free t =
-      record {
-        answer = ap (λ (c : Bool). cond c (S.Stop 15) (S.Go now)) (sym (used ∙ t));
-        tally = λ q. refl;
-        serials = λ q. ap (set serials₀ (serialCount tally₀)) e;
-      }
-
-module _ (now : Now) (row n : ℕ) where
-  pub entry-serial : (t₀ t₁ s₀ s₁ : List ℕ) (marks inner : List Bool) (r : Step) → row ≡ serialRow → SerialLine now n t₀ t₁ s₀ s₁ r
-      → PlacedDone now (lent t₀ s₀ marks inner) (lent t₁ s₁ (set marks row true) inner) n (N.Entry row) r
+module _ (now : Now) (row n : ℕ) (at : Span) where
+  pub entry-serial : (t₀ t₁ s₀ s₁ : List ℕ) (marks inner : List Bool) (r : Step) → row ≡ serialRow → SerialLine now n at t₀ t₁ s₀ s₁ r
+      → PlacedDone now (lent t₀ s₀ marks inner) (lent t₁ s₁ (set marks row true) inner) n at (N.Entry row) r
   entry-serial t₀ t₁ s₀ s₁ marks inner r e h = rw e (record { answer = h .answer; lent = λ q. rw (h .tally q, h .serials q) })
 
-  pub entry-other : (t s : List ℕ) (marks inner : List Bool) → (row ≡ serialRow → ⊥) → PlacedDone now (lent t s marks inner) (lent t s (set marks row true) inner) n (N.Entry row) (S.Go now)
+  pub entry-other : (t s : List ℕ) (marks inner : List Bool) → (row ≡ serialRow → ⊥) → PlacedDone now (lent t s marks inner) (lent t s (set marks row true) inner) n at (N.Entry row) (S.Go now)
   entry-other t s marks inner h =
       let e = sym (ne-eqb row 5 h) in
       record {
         answer = ap (λ (b : Bool). cond (b && inUse t s n) (S.Stop 15) (S.Go now)) e;
-        lent = λ q. ap (λ (b : Bool). lent (cond b (set t 11 (serialCount t + 1)) t) (cond b (set s (serialCount t) n) s) (set marks row true) inner) e;
+        lent = λ q. ap (λ (b : Bool). lentWith b (lent t s marks inner) row n at) e;
       }
 
   -- whatever its text's marks are
   pub entry-done : (t₀ t₁ s₀ s₁ : List ℕ) (m₀ m₁ inner : List Bool) (next : Next) (r : Step) → next ≡ N.Entry row
-      → PlacedDone now (lent t₀ s₀ m₀ []) (lent t₁ s₁ m₁ []) n (N.Entry row) r → PlacedDone now (lent t₀ s₀ m₀ inner) (lent t₁ s₁ m₁ inner) n next r
+      → PlacedDone now (lent t₀ s₀ m₀ []) (lent t₁ s₁ m₁ []) n at (N.Entry row) r → PlacedDone now (lent t₀ s₀ m₀ inner) (lent t₁ s₁ m₁ inner) n at next r
   entry-done t₀ t₁ s₀ s₁ m₀ m₁ inner next r e h = rw e (record { answer = h .answer; lent = λ q. ap (withInner inner) (h .lent q) })
 
+-- ── an own number as it is read ──
+-- it has up to ten digits
+own-below : (s : List ℕ) (n : ℕ) → readCount 10 s ≡ some n → n < ownNumbers
+own-below s n e = count-below 10 s n (ap countOf e)
+
+own-in : (s : List ℕ) (n : ℕ) → orBad 10 (readCount 10 s) ≡ got n → n < ownNumbers
+own-in s n e = own-below s n (or-got 10 (readCount 10 s) n e)
+
+-- a value's numbers begin with an own number
+pub record OwnFirst (v : Value) : Type 0 where
+  pub own : ℕ
+  pub others : List ℤ
+  pub first : numbers v ≡ pos own ∷ others
+  pub most : own < ownNumbers
+
+own-first : (c : List ℕ) (ss : List (List ℕ)) (ns : List ℕ) → readSerials (c ∷ ss) ≡ got ns → OwnFirst (linkedOf ns)
+own-first c ss ns e =
+    let (n, ps, g, h, q) = cons-got (orBad 10 (readCount 10 c)) (readSerials ss) ns e in
+    subst (λ (ns : List ℕ). OwnFirst (linkedOf ns)) q (record { own = n; others = pos (length ps) ∷ []; first = refl; most = own-in c n g })
+
+-- of a placed symbol
+pub serial-first : (k : Known) (at : ℕ) (c : List ℕ) (v : Value) → readKind k serials at c ≡ got v → OwnFirst v
+serial-first k at c v e =
+    let few : List ℕ → Bool = λ ns. leb (length ns) (mostPartners + 1) in
+    let (ns, p, q) = map-got linkedOf (keep 11 few (readSerials (split 44 c))) v e in
+    let r = keep-got 11 few (readSerials (split 44 c)) ns p .0 in
+    subst OwnFirst q (own-first (upTo 44 c) (drop 1 (split 44 c)) ns (ap readSerials (sym (split-head c)) ∙ r))
+
+-- of a wire
+wire-first : (ss : List (List ℕ)) (v : List Num) → readWireSerial ss ≡ got v → OwnFirst (nums v)
+wire-first [] v e = never e
+wire-first (o ∷ []) v e = never e
+wire-first (o ∷ a ∷ []) v e = never e
+wire-first (o ∷ a ∷ b ∷ c ∷ ss) v e = never e
+wire-first (o ∷ a ∷ b ∷ []) v e =
+    let (z, w, g, h, q) = cons-got (natural (orBad 10 (readCount 10 o))) (mapG flat (consG (readPartner a) (consG (readPartner b) (got [])))) v e in
+    let (n, i, y) = map-got (λ n. num (pos n)) (orBad 10 (readCount 10 o)) z g in
+    subst (λ (v : List Num). OwnFirst (nums v)) q (record { own = n; others = map (λ n. n .value) w; first = ap (λ (z : Num). z .value ∷ map (λ n. n .value) w) (sym y); most = own-in o n i })
+
+pub wire-serial-first : (k : Known) (at : ℕ) (c : List ℕ) (v : Value) → readKind k wireSerial at c ≡ got v → OwnFirst v
+wire-serial-first k at c v e = let (w, p, q) = map-got nums (readWireSerial (split 44 c)) v e in subst OwnFirst q (wire-first (split 44 c) w p)
+
+-- a line that enters such a value
+module _ (k : Known) (i j : ℕ) (r : Rule) (v : Value) (m : r .may ≡ false) (first : (at : ℕ) (c : List ℕ) → readKind k (r .holds) at c ≡ got v → OwnFirst v) where
+  entry-value : (at : ℕ) (c : List ℕ) → mapG (entry i) (readKind k (r .holds) at c) ≡ got (entry j v) → OwnFirst v
+  entry-value at c h =
+      let (w, p, q) = map-got (entry i) (readKind k (r .holds) at c) (entry j v) h in
+      let x : w ≡ v = cc in
+      first at c (p ∙ ap got x)
+
+  pub entry-first : (s : Shape) → fits (r .holds) (r .may) s ≡ true → (fits (r .holds) false opener ≡ false) → (fits (r .holds) false noContent ≡ false)
+      → readShape k i r s ≡ got (entry j v) → OwnFirst v
+  entry-first opener f a b h = clash (rw m at f) a
+  entry-first noContent f a b h = clash (rw m at f) b
+  entry-first (content at c) f a b h = entry-value at c h
+  entry-first (opening at c) f a b h = let q = map-got (begin (innerOf (r .holds)) i) (readKind k (r .holds) at c) (entry j v) h .2 in absurd (let z : _≡_ {A = ℕ} 0 1 = cc in omega arith)
+  entry-first formless f a b h = never h
+
 -- ── the row of a line is one of its table's, and a line of the row `serial` puts its own number first ──
-abbrev Linked : Value → Type 0
-Linked v = (n : ℕ) × (m : ℕ) × (numbers v ≡ pos n ∷ pos m ∷ [])
-
-on-is : (P : Value → Type 0) (g : Got Value) (v : Value) → On P g → g ≡ got v → P v
-on-is P (got w) v h e = let q : w ≡ v = cc in subst P q h
-on-is P (bad n) v h e = never e
-
-content-linked : (k : Known) (i j : ℕ) (d : Kind) (at : ℕ) (c : List ℕ) (v : Value) → d ≡ serials → mapG (entry i) (readKind k d at c) ≡ got (entry j v) → Linked v
-content-linked k i j d at c v e h =
-    let (w, p, q) = map-got (entry i) (readKind k d at c) (entry j v) h in
-    let x : w ≡ v = cc in
-    subst Linked x (on-is Linked (readKind k serials at c) w (on-linked-in Linked (λ n ps. (n, length ps, refl)) c) (ap (λ (d : Kind). readKind k d at c) (sym e) ∙ p))
-
-serial-linked : (k : Known) (i j : ℕ) (r : Rule) (s : Shape) (v : Value) → r .holds ≡ serials → r .may ≡ false → fits (r .holds) (r .may) s ≡ true → readShape k i r s ≡ got (entry j v) → Linked v
-serial-linked k i j r opener v e m f h = clash (rw (e, m) at f) refl
-serial-linked k i j r noContent v e m f h = clash (rw (e, m) at f) refl
-serial-linked k i j r (content at c) v e m f h = content-linked k i j (r .holds) at c v e h
-serial-linked k i j r (opening at c) v e m f h = clash (rw (e, m) at f) refl
-serial-linked k i j r formless v e m f h = never h
-
 -- the row of an entry is the one whose line it is
-read-row : (k : Known) (i j : ℕ) (r : Rule) (s : Shape) (v : Value) → readShape k i r s ≡ got (entry j v) → i ≡ j
+pub read-row : (k : Known) (i j : ℕ) (r : Rule) (s : Shape) (v : Value) → readShape k i r s ≡ got (entry j v) → i ≡ j
 read-row k i j r opener v e = cc
 read-row k i j r noContent v e = cc
 read-row k i j r (content at c) v e = let m = map-got (entry i) (readKind k (r .holds) at c) (entry j v) e in let q = m .2 in cc
@@ -174,34 +197,43 @@ serial-row : (r : Rule) → ruleAt (tableOf 18) 5 ≡ r → (r .holds ≡ serial
 unfolding tableOf placedTable
 serial-row r e = rw (sym e) (refl, refl)
 
-put-own : (t : List ℤ) (n m : ℕ) (g : ℤ) → length t ≡ 32 → getD (set (set (set t 14 (pos n)) 15 (pos m)) 30 g) 14 (pos 0) ≡ pos n
-put-own t n m g h =
-    getD-set-other (set (set t 14 (pos n)) 15 (pos m)) 30 14 g (pos 0) (λ e. omega (arith, e))
-    ∙ getD-set-other (set t 14 (pos n)) 15 14 (pos m) (pos 0) (λ e. omega (arith, e))
-    ∙ getD-set-same t 14 (pos n) (pos 0) (omega (arith, h))
+-- what stands before those that are put stays
+sets-before : (t : List ℤ) (p q : ℕ) (zs : List ℤ) → q < p → getD (sets t p zs) q (pos 0) ≡ getD t q (pos 0)
+sets-before t p q [] h = refl
+sets-before t p q (z ∷ zs) h = sets-before (set t p z) (suc p) q zs (omega (arith, h)) ∙ getD-set-other t p q z (pos 0) (λ e. omega (arith, e, h))
 
-own-line : (t : List ℤ) (v : Value) (n m : ℕ) → length t ≡ 32 → numbers v ≡ pos n ∷ pos m ∷ [] → getD (putLine (ruleAt (tableOf 18) 5) 0 v t) 14 (pos 0) ≡ pos n
+pub sets-first : (t : List ℤ) (p : ℕ) (z : ℤ) (zs : List ℤ) → p < length t → getD (sets t p (z ∷ zs)) p (pos 0) ≡ z
+sets-first t p z zs h = sets-before (set t p z) (suc p) p zs (omega arith) ∙ getD-set-same t p z (pos 0) h
+
+put-own : (t : List ℤ) (n : ℕ) (zs : List ℤ) (g : ℤ) → length t ≡ 32 → getD (set (sets t 14 (pos n ∷ zs)) 30 g) 14 (pos 0) ≡ pos n
+put-own t n zs g h =
+    getD-set-other (sets t 14 (pos n ∷ zs)) 30 14 g (pos 0) (λ e. omega (arith, e)) ∙ sets-first t 14 (pos n) zs (omega (arith, h))
+
+own-line : (t : List ℤ) (v : Value) (n : ℕ) (zs : List ℤ) → length t ≡ 32 → numbers v ≡ pos n ∷ zs → getD (putLine (ruleAt (tableOf 18) 5) 0 v t) 14 (pos 0) ≡ pos n
 unfolding tableOf placedTable
-own-line t v n m h e = ap (λ (zs : List ℤ). getD (set (sets t 14 zs) 30 (given v)) 14 (pos 0)) e ∙ put-own t n m (given v) h
+own-line t v n zs h e = ap (λ (zs : List ℤ). getD (set (sets t 14 zs) 30 (given v)) 14 (pos 0)) e ∙ put-own t n zs (given v) h
+
+pub own-given : (z : ℤ) (n : ℕ) → z ≡ pos n → n < ownNumbers → OwnGiven z
+own-given z n e h = record { positive = ap nonNeg e; most = subst (λ (m : ℕ). m < ownNumbers) (ap natAbs (sym e)) h }
 
 -- the own number that a line `serial` leaves in the record
 pub own-is : (t : List ℤ) (n : ℕ) (ps : List ℕ) → length t ≡ 32 → ownNumber (putLine (ruleAt (tableOf 18) serialRow) 0 (linked n ps) t) ≡ n
-own-is t n ps h = ap natAbs (own-line t (linked n ps) n (length ps) h refl)
+own-is t n ps h = ap natAbs (own-line t (linked n ps) n (pos (length ps) ∷ []) h refl)
 
 module _ (k : Known) (d : Digits) (full : List Bool) (key : List ℕ) (c : Rest) (t₀ t₁ : List ℤ) (long : length t₀ ≡ 32) where
   unknown-not : (b : Bool) (j : ℕ) (v : Value) → orRefuse (unless b 5 (bad 6)) ≡ entry j v → ⊥
   unknown-not true j v e = absurd (let z : _≡_ {A = ℕ} 0 1 = cc in omega arith)
   unknown-not false j v e = absurd (let z : _≡_ {A = ℕ} 0 1 = cc in omega arith)
 
-  own-entered : (v : Value) (f : Found) → find key (tableOf 18) ≡ f → actFound k d full c f ≡ entry 5 v → t₁ ≡ putLine (ruleAt (tableOf 18) 5) 0 v t₀ → OwnGiven t₁
+  own-entered : (v : Value) (f : Found) → find key (tableOf 18) ≡ f → actFound k d full c f ≡ entry 5 v → t₁ ≡ putLine (ruleAt (tableOf 18) 5) 0 v t₀ → OwnGiven (getD t₁ 14 (pos 0))
   own-entered v absent q e h = absurd (unknown-not (hasForm (shapeOf c)) 5 v e)
   own-entered v (found i r) q e h =
       let w = row-did k d (getD full i false) i r c (entry 5 v) refl e in
       let x : i ≡ 5 = read-row k i 5 r (shapeFor r c) v (w .read) in
       let y = row-at (found-row key (tableOf 18) i r q .0) _ in
       let (o, m) = serial-row r (ap (ruleAt (tableOf 18)) (sym x) ∙ y) in
-      let (n, l, z) = serial-linked k i 5 r (shapeFor r c) v o m (w .fit) (w .read) in
-      ap (λ (u : List ℤ). nonNeg (getD u 14 (pos 0))) h ∙ ap nonNeg (own-line t₀ v n l long z)
+      let f = entry-first k i 5 r v m (λ at c q. serial-first k at c v (rw o at q)) (shapeFor r c) (w .fit) (rw o) (rw o) (w .read) in
+      own-given (getD t₁ 14 (pos 0)) (f .own) (ap (λ (u : List ℤ). getD u 14 (pos 0)) h ∙ own-line t₀ v (f .own) (f .others) long (f .first)) (f .most)
 
   pub found-ready : (a : Next) → Acts (ruleAt (tableOf 18)) 0 t₀ (actFound k d full c (find key (tableOf 18))) t₁ a → RowReady t₁ a
   found-ready a h = subst (RowReady t₁) (sym (h .eq)) (go (actFound k d full c (find key (tableOf 18))) refl (act-taken k (tableOf 18) d full (keyed key c)) (h .entered))
@@ -225,7 +257,7 @@ module _ (key : List ℕ) (row : Row) (same-row : foundForLine (find key (tableO
 
   module _ (known : Known) (class range : Digits) (now : Now) (x₀ x₁ : Lent) (rec₀ rec₁ : List ℤ) (r : Step) (k : Skipped) (c : Rest) where
     pub key-known : (a : Next) → reaches class (row .least) ≡ true → Acts (ruleAt (tableOf 18)) 0 rec₀ (actFound known range (x₀ .marks) c (find key (tableOf 18))) rec₁ a
-        → PlacedDone now x₀ x₁ (ownNumber rec₁) a r → KeyLine known class range now x₀ x₁ rec₀ rec₁ r k c (find key (tableOf 18))
+        → PlacedDone now x₀ x₁ (ownNumber rec₁) (contentAt c) a r → KeyLine known class range now x₀ x₁ rec₀ rec₁ r k c (find key (tableOf 18))
     key-known a h w p = go (find key (tableOf 18)) same-row w
       where
         go : (f : Found) → foundForLine f ≡ found (row .number) (ruleOf row) → Acts (ruleAt (tableOf 18)) 0 rec₀ (actFound known range (x₀ .marks) c f) rec₁ a → KeyLine known class range now x₀ x₁ rec₀ rec₁ r k c f
@@ -235,7 +267,7 @@ module _ (key : List ℕ) (row : Row) (same-row : foundForLine (find key (tableO
             let l : reaches class (q .least) ≡ true = ap (λ (x : Rule). reaches class (x .least)) (sym y) ∙ h in
             rw l (record {
               entered = w .entered;
-              did = subst (λ (b : Next). PlacedDone now x₀ x₁ (ownNumber rec₁) b r) (w .eq) p;
+              did = subst (λ (b : Next). PlacedDone now x₀ x₁ (ownNumber rec₁) (contentAt c) b r) (w .eq) p;
             })
 
     pub key-hidden : reaches class (row .least) ≡ false → UnknownLine class range now x₀ x₁ rec₀ rec₁ r k c → KeyLine known class range now x₀ x₁ rec₀ rec₁ r k c (find key (tableOf 18))

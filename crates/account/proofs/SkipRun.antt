@@ -12,7 +12,7 @@ use Rattle.rules.specs.RefusalNumbers.{Got, got, bad, unless}
 use Rattle.rules.specs.Lines.{Form, ignored, wrong, close, eof, keyed, formIn}
 use Rattle.rules.specs.RangeClass.{Skip, passes, deeper, noForm, skipOf, mostDepth}
 use Rattle.rules.specs.Sets.{Set, Figure}
-use Rattle.rules.specs.Machine.{Line, Env, Owned, symbolBlock, State, skipping}
+use Rattle.rules.specs.Machine.{Line, Env, Owned, symbolBlock, wireBlock, State, skipping}
 use Rattle.rules.specs.PlacedSymbol.{bySkip, skipDeeper, skipShut, onSkipping}
 use Rattle.rules.specs.LineByLine.{stepIn, refused, run}
 use Rattle.lines.specs.declared.Seen.{Seen}
@@ -23,7 +23,7 @@ use Rattle.account.specs.declared.Left.the-variants as L
 use Rattle.account.specs.declared.Skipped.{Skipped}
 use Rattle.account.specs.declared.Skipped.the-variants as S
 use Rattle.account.specs.Walk.{stopAt, seenFrom, At, todo}
-use Rattle.account.specs.SkippedLines.{skippedAs, skippedBy, earlySkip, InOwned, skipped, unskipped, Skips, inPlaced, Came, Refused, CameOr, Low, SkipReady, SkipMet}
+use Rattle.account.specs.SkippedLines.{skippedAs, skippedBy, earlySkip, InOwned, skipped, unskipped, Skips, inPlaced, inWire, Came, Refused, CameOr, Low, SkipReady, SkipMet}
 use Rattle.account.proofs.RunSteps.{early, step-on, step-refused, step-early}
 use Rattle.account.proofs.SeenLines.{past, seenLine, Passed, passed-line, seen-forward, low-past}
 
@@ -235,7 +235,9 @@ module _ (s body : List ℕ) (v : Volume) (p : Pos) (ls : List (List ℕ)) (a : 
   pub skipped-run : (q : Pos) (m : SkipMet s body v p 4 (L.Go q)) {inside behind : State} → Skips inside behind → (e : Env) (next : List ℕ) (more : List Line)
       → run e inside (todo v next p ls more) ≡ run e behind (todo v next q (m .met ls a n .rest) more)
   skipped-run q m (inPlaced t h fs k o) e next more = m .met ls a n .eq e t h fs k (symbolBlock o) next more
+  skipped-run q m (inWire t h fs k w) e next more = m .met ls a n .eq e t h fs k (wireBlock w) next more
 
   pub skipped-refused : (x : Refusal) → SkipMet s body v p 4 (L.Stop x) → {inside behind : State} → Skips inside behind → (e : Env) (next : List ℕ) (more : List Line)
       → run e inside (todo v next p ls more) ≡ refused (x .number) (x .volume) (x .line)
   skipped-refused x m (inPlaced t h fs k o) e next more = m .met ls a n .eq e t h fs k (symbolBlock o) next more
+  skipped-refused x m (inWire t h fs k w) e next more = m .met ls a n .eq e t h fs k (wireBlock w) next more

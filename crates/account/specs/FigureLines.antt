@@ -3,7 +3,7 @@ use Prim.Native.Nat.{ℕ, _+_}
 use mathlib.Core.Bool.{Bool, false, cond, not}
 use mathlib.Core.Path.{_≡_}
 use mathlib.Core.List.{List}
-use lib.Dec.{eqb}
+use lib.Dec.{eqb, leb}
 use lib.IntN.{ℤ}
 use lib.ListN.{length, replicate}
 use Rattle.rules.specs.Rows.{Rule, Act, stay, entry, begin, shut, refuse}
@@ -96,17 +96,17 @@ FigureRecord n range wires at rec₀ rec₁ (refuse k) = Unit {0}
 abbrev pub unmarkedIf : Bool → List Bool → List Bool
 unmarkedIf opens m = cond opens (replicate (length m) false) m
 
--- the marks of the blocks with this number, which no other line touches
-abbrev pub MarksFor : ℕ → List Bool → List Bool → Act → Type 0
-MarksFor block m₀ m₁ stay = m₁ ≡ m₀
-MarksFor block m₀ m₁ (entry j v) = m₁ ≡ m₀
-MarksFor block m₀ m₁ (begin i j v) = m₁ ≡ unmarkedIf (eqb i block) m₀
-MarksFor block m₀ m₁ shut = m₁ ≡ m₀
-MarksFor block m₀ m₁ (refuse k) = m₁ ≡ m₀
+-- the marks of such blocks, which no other line touches
+abbrev pub MarksFor : (ℕ → Bool) → List Bool → List Bool → Act → Type 0
+MarksFor its m₀ m₁ stay = m₁ ≡ m₀
+MarksFor its m₀ m₁ (entry j v) = m₁ ≡ m₀
+MarksFor its m₀ m₁ (begin i j v) = m₁ ≡ unmarkedIf (its i) m₀
+MarksFor its m₀ m₁ shut = m₁ ≡ m₀
+MarksFor its m₀ m₁ (refuse k) = m₁ ≡ m₀
 
--- what `on_figures` promises: a placed symbol has the first marks, a text the inner ones
+-- what `on_figures` promises: a placed symbol and a wire have the first marks, a text the inner ones
 pub record FigureLine (a : Act) (n : Now) (range wires : ℕ) (at : Where) (rec₀ rec₁ : List ℤ) (m₀ m₁ inner₀ inner₁ : List Bool) (r : Step) : Type 0 where
   pub answer : r ≡ figureStep n a
   pub rec : FigureRecord n range wires at rec₀ rec₁ a
-  pub marks : MarksFor innerPlaced m₀ m₁ a
-  pub inner : MarksFor innerText inner₀ inner₁ a
+  pub marks : MarksFor (λ i. leb innerPlaced i) m₀ m₁ a
+  pub inner : MarksFor (λ i. eqb i innerText) inner₀ inner₁ a

@@ -13,6 +13,7 @@ pub mod DrawingLines
 pub mod ElementLines
 pub mod FigureLines
 pub mod SymbolLines
+pub mod SerialNumbers
 pub mod PlacedLines
 pub mod WireLines
 pub mod Putting

@@ -91,12 +91,18 @@ abbrev pub innerPlacedText : ℕ
 innerPlacedText = 1
 
 -- ── a wire ──
--- its lines are read, or it is skipped whole
+-- its elements are read, its text is open, it is skipped whole, or anything but an element has stood in it
 abbrev pub wireRead : ℕ
 wireRead = 0
 
+abbrev pub wireText : ℕ
+wireText = 1
+
 abbrev pub wireSkipped : ℕ
 wireSkipped = 2
+
+abbrev pub wirePast : ℕ
+wirePast = 3
 
 -- ── rows ──
 -- how many a table has, under the table's name
@@ -131,7 +137,7 @@ abbrev pub rowsText : ℕ
 rowsText = 2
 
 abbrev pub rowsWire : ℕ
-rowsWire = 2
+rowsWire = 10
 
 -- where the marks of FILE_FORMAT's inner blocks begin, behind those of its own rows
 abbrev pub marksRange : ℕ
@@ -256,6 +262,28 @@ wireMark = 63
 abbrev pub wireMoreMark : ℕ
 wireMoreMark = 95
 
+-- how many direcs, piends, nums and texts it has, of the first num earth and power, and its own number (`RecordTable: shelves`, `placeTexts`)
+abbrev pub wireDirecs : ℕ
+wireDirecs = 38
+
+abbrev pub wirePiends : ℕ
+wirePiends = 47
+
+abbrev pub wireNums : ℕ
+wireNums = 51
+
+abbrev pub wireEarth : ℕ
+wireEarth = 52
+
+abbrev pub wirePower : ℕ
+wirePower = 53
+
+abbrev pub wireTexts : ℕ
+wireTexts = 69
+
+abbrev pub wireOwn : ℕ
+wireOwn = 85
+
 -- and, in places that are 0 when they are complete, what an open wire must know of its last element: the end's x and y, and 1 for a line,
 -- 2 for an arc, 0 for none
 abbrev pub formerX : ℕ
@@ -345,4 +373,4 @@ mostSymbols = 1280
 
 -- the serial numbers, no spool has more
 abbrev pub mostSerials : ℕ
-mostSerials = 1464
+mostSerials = 2280

@@ -8,7 +8,7 @@ use lib.IntN.{ℤ, pos, natAbs}
 use lib.Signed.{nonNeg}
 use lib.ListN.{length, getD, set, take, replicate}
 use Rattle.rules.specs.declared.Digits.{Digits}
-use Rattle.rules.specs.Base.{hasNumber}
+use Rattle.rules.specs.declared.Span.{Span}
 use Rattle.rules.specs.Lines.{Rest, Form, ignored, wrong, close, eof, keyed, shapeOf, hasForm}
 use Rattle.rules.specs.RangeClass.{digits, reaches, exceeds, both, skipOf}
 use Rattle.rules.specs.Values.{Known}
@@ -26,9 +26,9 @@ use Rattle.account.specs.declared.Skipped.{Skipped}
 use Rattle.account.specs.declared.Skipped.the-variants as K
 use Rattle.account.specs.Account.{atBlock, figureDone}
 use Rattle.account.specs.SkippedLines.{skippedAs}
+use Rattle.account.specs.SerialNumbers.{ownNumbers, keptNumber, contentAt, ascending, keptAmong, serialCount, keptIn, inUse}
 use Rattle.tables.specs.Numbering.{tablePlaced, tablePlacedText}
 use Rattle.account.specs.Numbering.{blockPlaced, innerNone, innerPlacedText, rowsPlaced, rowsText, placeOwn, tallySerials, tallyLength, mostRows}
-use Rattle.rules.specs.RecordTable.{width}
 
 -- what the reading lends to a line of a placed symbol, besides its record: the tally and the own numbers in use, which rows of the
 -- placed symbol have been, and which of its text
@@ -42,26 +42,24 @@ abbrev pub lent : List ℕ → List ℕ → List Bool → List Bool → Lent
 lent tally serials marks inner = record { tally = tally; serials = serials; marks = marks; inner = inner }
 
 -- ── own numbers ──
--- the tally's last number tells how many there are
-abbrev pub serialCount : List ℕ → ℕ
-serialCount tally = getD tally tallySerials 0
-
 -- the own number in a record: the first of the row `serial`'s two numbers. The record's numbers are signed
 abbrev pub ownNumber : List ℤ → ℕ
 ownNumber rec = natAbs (getD rec placeOwn (pos 0))
 
--- it is not below zero: the row's line was entered
-abbrev pub OwnGiven : List ℤ → Type 0
-OwnGiven rec = nonNeg (getD rec placeOwn (pos 0)) ≡ true
+-- a number of the record is an own number: a line of the row `serial` was entered
+pub record OwnGiven (z : ℤ) : Type 0 where
+  pub positive : nonNeg z ≡ true
+  pub most : natAbs z < ownNumbers
 
-abbrev pub inUse : List ℕ → List ℕ → ℕ → Bool
-inUse tally serials n = hasNumber n (take (serialCount tally) serials)
-
--- "Own numbers differ as numbers over the set" (15): what `keep_serial` promises
-pub record SerialLine (now : Now) (n : ℕ) (tally₀ tally₁ serials₀ serials₁ : List ℕ) (r : Step) : Type 0 where
-  pub answer : r ≡ cond (inUse tally₀ serials₀ n) (S.Stop 15) (S.Go now)
-  pub tally : inUse tally₀ serials₀ n ≡ false → tally₁ ≡ set tally₀ tallySerials (serialCount tally₀ + 1)
-  pub serials : inUse tally₀ serials₀ n ≡ false → serials₁ ≡ set serials₀ (serialCount tally₀) n
+-- what is lent after a line of the row j, where its number n (with its content at `at`) is free: the row is marked, and the number of a
+-- row `serial` is in use
+abbrev pub lentWith : Bool → Lent → ℕ → ℕ → Span → Lent
+lentWith own x j n at = record {
+  tally = cond own (set (x .tally) tallySerials (serialCount (x .tally) + 1)) (x .tally);
+  serials = cond own (keptAmong (serialCount (x .tally)) (keptNumber n at) (x .serials)) (x .serials);
+  marks = set (x .marks) j true;
+  inner = x .inner;
+}
 
 -- ── a line of a key that the class knows ──
 -- the row `serial` of a placed symbol
@@ -71,15 +69,6 @@ serialRow = 5
 -- a line of the row j, whose record has the own number n: is the number in use?
 abbrev pub clashes : Lent → ℕ → ℕ → Bool
 clashes x j n = eqb j serialRow && inUse (x .tally) (x .serials) n
-
--- what is lent after it, where the number is free: the row is marked, and the number of a row `serial` is in use
-abbrev pub lentAfter : Lent → ℕ → ℕ → Lent
-lentAfter x j n = record {
-  tally = cond (eqb j serialRow) (set (x .tally) tallySerials (serialCount (x .tally) + 1)) (x .tally);
-  serials = cond (eqb j serialRow) (set (x .serials) (serialCount (x .tally)) n) (x .serials);
-  marks = set (x .marks) j true;
-  inner = x .inner;
-}
 
 -- after the opener of its text: no row of it has been
 abbrev pub lentInside : Lent → ℕ → Lent
@@ -99,31 +88,31 @@ placedStep now x n N.Shut = S.Stop 8
 placedStep now x n (N.Refuse k) = S.Stop k
 
 -- what is lent after it; after a refusal nothing is said of it
-abbrev pub PlacedLent : Lent → Lent → ℕ → Next → Type 0
-PlacedLent x₀ x₁ n N.Stay = x₁ ≡ x₀
-PlacedLent x₀ x₁ n (N.Entry j) = clashes x₀ j n ≡ false → x₁ ≡ lentAfter x₀ j n
-PlacedLent x₀ x₁ n (N.Begin b) = x₁ ≡ lentInside x₀ (b .row)
-PlacedLent x₀ x₁ n N.Shut = Unit {0}
-PlacedLent x₀ x₁ n (N.Refuse k) = Unit {0}
+abbrev pub PlacedLent : Lent → Lent → ℕ → Span → Next → Type 0
+PlacedLent x₀ x₁ n at N.Stay = x₁ ≡ x₀
+PlacedLent x₀ x₁ n at (N.Entry j) = clashes x₀ j n ≡ false → x₁ ≡ lentWith (eqb j serialRow) x₀ j n at
+PlacedLent x₀ x₁ n at (N.Begin b) = x₁ ≡ lentInside x₀ (b .row)
+PlacedLent x₀ x₁ n at N.Shut = Unit {0}
+PlacedLent x₀ x₁ n at (N.Refuse k) = Unit {0}
 
--- what `placed_done` promises, n being the own number of the record; `placed_entry` promises it of an entry, where the marks of the
--- text don't matter
-pub record PlacedDone (now : Now) (x₀ x₁ : Lent) (n : ℕ) (next : Next) (r : Step) : Type 0 where
+-- what `placed_done` promises, n being the own number of the record and `at` the place of the line's content; `placed_entry` promises it of
+-- an entry, where the marks of the text don't matter
+pub record PlacedDone (now : Now) (x₀ x₁ : Lent) (n : ℕ) (at : Span) (next : Next) (r : Step) : Type 0 where
   pub answer : r ≡ placedStep now x₀ n next
-  pub lent : PlacedLent x₀ x₁ n next
+  pub lent : PlacedLent x₀ x₁ n at next
 
 -- what it needs: the row of the line is one of the table's, and a line of the row `serial` has put its own number into the record
 abbrev pub RowReady : List ℤ → Next → Type 0
 RowReady rec N.Stay = Unit {0}
-RowReady rec (N.Entry j) = (j < rowsPlaced) × (j ≡ serialRow → OwnGiven rec)
+RowReady rec (N.Entry j) = (j < rowsPlaced) × (j ≡ serialRow → OwnGiven (getD rec placeOwn (pos 0)))
 RowReady rec (N.Begin b) = b .row < rowsPlaced
 RowReady rec N.Shut = Unit {0}
 RowReady rec (N.Refuse k) = Unit {0}
 
 -- the line of a row, from the act on: the record is as the act leaves it
-pub record RowLine (now : Now) (x₀ x₁ : Lent) (rec₀ rec₁ : List ℤ) (r : Step) (a : Act) : Type 0 where
+pub record RowLine (now : Now) (x₀ x₁ : Lent) (rec₀ rec₁ : List ℤ) (r : Step) (at : Span) (a : Act) : Type 0 where
   pub entered : Entered (ruleAt (tableOf tablePlaced)) 0 rec₀ a rec₁
-  pub did : PlacedDone now x₀ x₁ (ownNumber rec₁) (nextOf a) r
+  pub did : PlacedDone now x₀ x₁ (ownNumber rec₁) at (nextOf a) r
 
 -- ── a line of a key that the class doesn't know ──
 abbrev pub skipStep : Now → Skipped → Step
@@ -132,9 +121,13 @@ skipStep now K.Deeper = S.Skip now
 skipStep now K.Shut = S.Stop 9
 skipStep now (K.Refuse n) = S.Stop n
 
--- "skipped when a digit of E_sym exceeds the class's, and refused otherwise": 6, and 5 where the line has no form
+-- a key that is not allowed here: 6, and 5 where the line has no form
+abbrev pub notHere : Rest → Step
+notHere c = cond (hasForm (shapeOf c)) (S.Stop 6) (S.Stop 5)
+
+-- "skipped when a digit of E_sym exceeds the class's, and refused otherwise"
 abbrev pub unknownStep : Digits → Digits → Now → Skipped → Rest → Step
-unknownStep class range now k c = cond (exceeds range class) (skipStep now k) (cond (hasForm (shapeOf c)) (S.Stop 6) (S.Stop 5))
+unknownStep class range now k c = cond (exceeds range class) (skipStep now k) (notHere c)
 
 -- it leaves everything as it is
 pub record UnknownLine (class range : Digits) (now : Now) (x₀ x₁ : Lent) (rec₀ rec₁ : List ℤ) (r : Step) (k : Skipped) (c : Rest) : Type 0 where
@@ -146,7 +139,7 @@ pub record UnknownLine (class range : Digits) (now : Now) (x₀ x₁ : Lent) (re
 module _ (known : Known) (class range : Digits) (now : Now) (x₀ x₁ : Lent) (rec₀ rec₁ : List ℤ) (r : Step) where
   -- of a row that the class knows, or not
   abbrev pub FoundLine : Skipped → Rest → ℕ → Rule → Bool → Type 0
-  FoundLine k c j w true = RowLine now x₀ x₁ rec₀ rec₁ r (actRow known range (getD (x₀ .marks) j false) j w c)
+  FoundLine k c j w true = RowLine now x₀ x₁ rec₀ rec₁ r (contentAt c) (actRow known range (getD (x₀ .marks) j false) j w c)
   FoundLine k c j w false = UnknownLine class range now x₀ x₁ rec₀ rec₁ r k c
 
   abbrev pub KeyLine : Skipped → Rest → Found → Type 0
@@ -207,11 +200,11 @@ module _ (known : Known) (class range : Digits) (now : Now) (x₀ x₁ : Lent) (
   PlacedLine false f = OwnLine known class range now x₀ x₁ rec₀ rec₁ r f
 
 -- ── what the code needs ──
--- lengths of what is lent, and room for another own number
-pub record LentReady (x : Lent) (t : List ℤ) : Type 0 where
+-- lengths of what is lent, room for another own number, and those that are kept in their order
+pub record LentReady (x : Lent) : Type 0 where
   pub tally : length (x .tally) ≡ tallyLength
   pub serials : serialCount (x .tally) < length (x .serials)
+  pub ordered : ascending (keptIn (x .tally) (x .serials)) ≡ true
   pub count : serialCount (x .tally) < 4294967295
   pub marks : length (x .marks) ≡ mostRows
   pub inner : length (x .inner) ≡ rowsText
-  pub rec : length t ≡ width

@@ -7,9 +7,9 @@ use Rattle.rules.specs.declared.Refusal.{Refusal}
 use Rattle.rules.specs.Base.{isNil}
 use Rattle.rules.specs.Lines.{equals, Form, ignored, wrong, close, eof, keyed, shapeOf}
 use Rattle.rules.specs.RangeClass.{Skip, passes, deeper, noForm, skipShape, skipOf}
-use Rattle.rules.specs.Sets.{Set, Figure}
+use Rattle.rules.specs.Sets.{Set, Figure, Wire}
 use Rattle.rules.specs.Rows.{Held}
-use Rattle.rules.specs.Machine.{Line, Env, Owned, symbolBlock, State, placing, skipping}
+use Rattle.rules.specs.Machine.{Line, Env, Owned, symbolBlock, wireBlock, State, placing, skipping}
 use Rattle.rules.specs.PlacedSymbol.{skipEnded}
 use Rattle.rules.specs.LineByLine.{refused, run}
 use Rattle.account.specs.declared.Volume.{Volume}
@@ -59,9 +59,10 @@ unskipped zero s h fs n b = skipEnded s h fs n b
 unskipped (suc zero) s h fs n b = skipEnded s h fs n b
 unskipped (suc (suc d)) s h fs n b = skipping s h fs n b (suc d)
 
--- a line that opens a skipped block in a placed symbol: behind it the one state, past the block's `}` the other
+-- a line that opens a skipped block in a placed symbol or a wire: behind it the one state, past the block's `}` the other
 pub data Skips : State → State → Type 0 where
   inPlaced : (s : Set) (h : ℕ) (fs : List Figure) (n : ℕ) (o : Held) → Skips (skipping s h fs n (symbolBlock o) 1) (placing s h fs n (symbolBlock o) 0)
+  inWire : (s : Set) (h : ℕ) (fs : List Figure) (n : ℕ) (w : Wire) → Skips (skipping s h fs n (wireBlock w) 1) (placing s h fs n (wireBlock w) 0)
 
 -- from p on these lines are left; the reading came from there, in one state of any such block, to q, in another, and lines are left
 pub record Came (s body : List ℕ) (v : Volume) (p : Pos) (ls : List (List ℕ)) (from to : InOwned) (q : Pos) : Type 0 where

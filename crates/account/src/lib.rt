@@ -83,10 +83,14 @@ pub const INNER_WIRE: u8 = 4;
 // in a placed symbol.
 pub const INNER_PLACED_TEXT: u8 = 1;
 
-// A wire: its lines are read, or it is skipped whole.
+// A wire: its elements are read, its text is open, it is skipped whole, or anything but an element has stood in it.
 pub const WIRE_READ: u8 = 0;
 
+pub const WIRE_TEXT: u8 = 1;
+
 pub const WIRE_UNREAD: u8 = 2;
+
+pub const WIRE_PAST: u8 = 3;
 
 // How many rows a table has, under the table's name;
 pub const ROWS_TOP: usize = 4;
@@ -109,7 +113,7 @@ pub const ROWS_PLACED: usize = 6;
 
 pub const ROWS_TEXT: usize = 2;
 
-pub const ROWS_WIRE: usize = 2;
+pub const ROWS_WIRE: usize = 10;
 
 // where the marks of FILE_FORMAT's inner blocks begin, behind those of its own rows;
 pub const MARKS_RANGE: usize = 16;
@@ -196,6 +200,21 @@ pub const WIRE_JOIN_DIGIT: usize = 62;
 pub const WIRE_MARK: usize = 63;
 
 pub const WIRE_MORE_MARK: usize = 95;
+
+// how many direcs, piends, nums and texts it has, of the first num earth and power, and its own number;
+pub const WIRE_DIRECS: usize = 38;
+
+pub const WIRE_PIENDS: usize = 47;
+
+pub const WIRE_NUMS: usize = 51;
+
+pub const WIRE_EARTH: usize = 52;
+
+pub const WIRE_POWER: usize = 53;
+
+pub const WIRE_TEXTS: usize = 69;
+
+pub const WIRE_OWN: usize = 85;
 
 // and, in places that are 0 when they are complete, what an open wire must know of its last element: the end's x and y, and 1 for a line, 2
 // for an arc, 0 for none.
@@ -285,8 +304,8 @@ pub const MOST_LAYERS: usize = 64;
 // the symbols' names, no spool has more;
 pub const MOST_SYMBOLS: usize = 1280;
 
-// the serial numbers, no spool has more.
-pub const MOST_SERIALS: usize = 1464;
+// the own serial numbers, no spool has more.
+pub const MOST_SERIALS: usize = 2280;
 
 // What a line made of it, or its refusal; a line that opens a block to be skipped has that read first.
 pub enum Step {

@@ -38,6 +38,7 @@ fn is_text_place(kind: i64, i: usize) -> bool {
         15 => i == 12,
         35 => i == 12,
         16 => i == 12 || i == 24,
+        19 => i == 14 || i == 16,
         _ => false,
     }
 }

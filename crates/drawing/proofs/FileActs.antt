@@ -32,7 +32,7 @@ use Rattle.account.proofs.FileParts.{marks-long, mark-inside}
 
 -- any table's rows have room in the header
 pub header-room : (h : List ℤ) (tb : ℕ) → length h ≡ headerLength → all (roomy 64 (length h)) (tableOf tb) ≡ true
-header-room h tb l = room-more 64 66 (length h) (tableOf tb) (omega (arith, l)) (room-file tb)
+header-room h tb l = room-more 64 69 (length h) (tableOf tb) (omega (arith, l)) (room-file tb)
 
 -- what is kept, by the part
 pub kept-own : (first : Bool) (p j : ℕ) (h : List ℤ) → p ≡ 0 → kept first j h ≡ keptIn first p j h

@@ -205,7 +205,7 @@ module _ (n : Now) (range wires : ℕ) (at : Where) (rec₀ rec₁ : List ℤ) (
       (λ h. record { answer = ap S.Go q; rec = p ∙ ap (headAt 0 (lineKind (n .layered) j) (n .owner) at) h; marks = refl; inner = refl }) x
 
   pub figures-begin : (a : Act) (b : Inner) (rec₂ : List ℤ) (m₁ i₁ : List Bool) (r : Now) → N.Begin b ≡ nextOf a → Put a
-      → rec₂ ≡ headAt 0 (blockKind (n .layered) (b .block)) (n .owner) at rec₁ → m₁ ≡ unmarkedIf (eqb (b .block) 3) m₀ → i₁ ≡ unmarkedIf (eqb (b .block) 2) i₀
+      → rec₂ ≡ headAt 0 (blockKind (n .layered) (b .block)) (n .owner) at rec₁ → m₁ ≡ unmarkedIf (leb 3 (b .block)) m₀ → i₁ ≡ unmarkedIf (eqb (b .block) 2) i₀
       → r ≡ figureOpened n (b .block) → Line a rec₂ m₁ i₁ (S.Go r)
   figures-begin a b rec₂ m₁ i₁ r e x p y z q =
       let (v, w) = told (N.Begin b) a e in

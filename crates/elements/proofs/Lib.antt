@@ -6,4 +6,6 @@ pub mod FigureActs
 pub mod ElementActs
 pub mod KeyedLines
 pub mod WireActs
+pub mod ShelfActs
+pub mod WireKeys
 pub mod Unique

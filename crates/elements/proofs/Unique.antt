@@ -9,6 +9,7 @@ use lib.IntN.{ℤ}
 use denote.Ref.{now}
 use Rattle.rules.specs.declared.Class.{Class}
 use Rattle.rules.specs.declared.Digits.{Digits}
+use Rattle.rules.specs.declared.Span.{Span}
 use Rattle.rules.specs.Lines.{Rest, Form, ignored, wrong, close, eof, keyed, formIn}
 use Rattle.rules.specs.RangeClass.{digitsOf, reaches, skipOf}
 use Rattle.rules.specs.Rows.{Rule, Found, absent, found, find, Act, stay, entry, begin, shut, refuse}
@@ -24,7 +25,8 @@ use Rattle.account.specs.declared.Where.{Where}
 use Rattle.account.specs.ElementLines.{tallied}
 use Rattle.account.specs.PlacedLines.{Lent, lent, ownNumber, placedStep, RowLine, FoundLine, KeyLine, OwnLine, PlacedLine}
 use Rattle.account.specs.SkippedLines.{skippedAs}
-use Rattle.account.specs.WireLines.{begunStep, begunPut, WireLine}
+use Rattle.account.specs.SerialNumbers.{contentAt}
+use Rattle.account.specs.WireLines.{begunStep, begunPut, isFrontRow, rangeIn, misplaced, RowInWire, FoundInWire, KeyInWire, ReadLine, WireLine}
 use Rattle.elements.proofs.element.count_layer as count-layer′
 use Rattle.elements.proofs.element.on_elements as on-elements′
 use Rattle.elements.proofs.figures.on_figures as on-figures′
@@ -71,17 +73,17 @@ on-text-answer κs x r₁ r₂ e₁ e₂ c₁ c₂ = c₁ .answer ∙ sym (c₂ 
 
 -- a placed symbol: a serial number that stands twice is told by the record, which its own line has put it into
 module _ (known : Known) (class range : Digits) (n : Now) (x₀ x₁ x₂ : Lent) (rec₀ rec₁ rec₂ : List ℤ) (r₁ r₂ : Step) where
-  row-answer : (a : Act) → RowLine n x₀ x₁ rec₀ rec₁ r₁ a → RowLine n x₀ x₂ rec₀ rec₂ r₂ a → r₁ ≡ r₂
-  row-answer stay c₁ c₂ = c₁ .did .answer ∙ sym (c₂ .did .answer)
-  row-answer (entry j v) c₁ c₂ =
+  row-answer : (at : Span) (a : Act) → RowLine n x₀ x₁ rec₀ rec₁ r₁ at a → RowLine n x₀ x₂ rec₀ rec₂ r₂ at a → r₁ ≡ r₂
+  row-answer at stay c₁ c₂ = c₁ .did .answer ∙ sym (c₂ .did .answer)
+  row-answer at (entry j v) c₁ c₂ =
       c₁ .did .answer ∙ (ap (λ t. placedStep n x₀ (ownNumber t) (N.Entry j)) (c₁ .entered ∙ sym (c₂ .entered)) ∙ sym (c₂ .did .answer))
-  row-answer (begin i j v) c₁ c₂ = c₁ .did .answer ∙ sym (c₂ .did .answer)
-  row-answer shut c₁ c₂ = c₁ .did .answer ∙ sym (c₂ .did .answer)
-  row-answer (refuse k) c₁ c₂ = c₁ .did .answer ∙ sym (c₂ .did .answer)
+  row-answer at (begin i j v) c₁ c₂ = c₁ .did .answer ∙ sym (c₂ .did .answer)
+  row-answer at shut c₁ c₂ = c₁ .did .answer ∙ sym (c₂ .did .answer)
+  row-answer at (refuse k) c₁ c₂ = c₁ .did .answer ∙ sym (c₂ .did .answer)
 
   found-answer : (k : Skipped) (c : Rest) (j : ℕ) (w : Rule) (b : Bool)
       → FoundLine known class range n x₀ x₁ rec₀ rec₁ r₁ k c j w b → FoundLine known class range n x₀ x₂ rec₀ rec₂ r₂ k c j w b → r₁ ≡ r₂
-  found-answer k c j w true c₁ c₂ = row-answer _ c₁ c₂
+  found-answer k c j w true c₁ c₂ = row-answer (contentAt c) _ c₁ c₂
   found-answer k c j w false c₁ c₂ = c₁ .answer ∙ sym (c₂ .answer)
 
   key-answer : (k : Skipped) (c : Rest) (f : Found)
@@ -107,14 +109,39 @@ on-placed-answer κs x r₁ r₂ e₁ e₂ =
     (lent (now (rest .0)) (now (rest .1 .0)) (now (rest .1 .1 .0)) (now (rest .1 .1 .1 .0)))
     _ _ (now (rest .1 .1 .1 .1 .0)) _ _ r₁ r₂ (eqb (x .1 .1 .1 .1 .1 .0 .part) 1) (formIn (now (x .0)) (x .1 .1 .1 .1 .1 .1 .0))
 
--- a wire
-wire-answer : (known : Known) (range : ℕ) (n : Now) (at : Where) (t₀ t₁ t₂ : List ℤ) (r₁ r₂ : Step) (b : Bool) (f : Form)
-    → WireLine known range n at t₀ t₁ r₁ b f → WireLine known range n at t₀ t₂ r₂ b f → r₁ ≡ r₂
-wire-answer known range n at t₀ t₁ t₂ r₁ r₂ true f c₁ c₂ = c₁ .answer ∙ sym (c₂ .answer)
-wire-answer known range n at t₀ t₁ t₂ r₁ r₂ false f c₁ c₂ = c₁ .answer ∙ sym (c₂ .answer)
+-- a wire: so is its own number
+module _ (known : Known) (c : Class) (range : ℕ) (n : Now) (at : Where) (x₀ x₁ x₂ : Lent) (t₀ t₁ t₂ : List ℤ) (r₁ r₂ : Step) where
+  wire-row-answer : (rest : Rest) (b : Bool) (a : Act) → RowInWire known c range n at x₀ x₁ t₀ t₁ r₁ rest b a → RowInWire known c range n at x₀ x₂ t₀ t₂ r₂ rest b a → r₁ ≡ r₂
+  wire-row-answer rest true a c₁ c₂ = c₁ .0 .answer ∙ sym (c₂ .0 .answer)
+  wire-row-answer rest false a c₁ c₂ = c₁ .answer ∙ sym (c₂ .answer)
+
+  wire-found-answer : (k : Skipped) (rest : Rest) (j : ℕ) (w : Rule) (a b : Bool)
+      → FoundInWire known c range n at x₀ x₁ t₀ t₁ r₁ k rest j w a b → FoundInWire known c range n at x₀ x₂ t₀ t₂ r₂ k rest j w a b → r₁ ≡ r₂
+  wire-found-answer k rest j w true b c₁ c₂ = c₁ ∙ sym c₂
+  wire-found-answer k rest j w false true c₁ c₂ = wire-row-answer rest (isFrontRow j) _ c₁ c₂
+  wire-found-answer k rest j w false false c₁ c₂ = c₁ .answer ∙ sym (c₂ .answer)
+
+  wire-key-answer : (k : Skipped) (rest : Rest) (f : Found)
+      → KeyInWire known c range n at x₀ x₁ t₀ t₁ r₁ k rest f → KeyInWire known c range n at x₀ x₂ t₀ t₂ r₂ k rest f → r₁ ≡ r₂
+  wire-key-answer k rest absent c₁ c₂ = c₁ .answer ∙ sym (c₂ .answer)
+  wire-key-answer k rest (found j w) c₁ c₂ = wire-found-answer k rest j w (misplaced n j) (reaches (c .wires) (w .least)) c₁ c₂
+
+  wire-read-answer : (f : Form) → ReadLine known c range n at x₀ x₁ t₀ t₁ r₁ f → ReadLine known c range n at x₀ x₂ t₀ t₂ r₂ f → r₁ ≡ r₂
+  wire-read-answer ignored c₁ c₂ = c₁ .0 ∙ sym (c₂ .0)
+  wire-read-answer (wrong m) c₁ c₂ = c₁ ∙ sym c₂
+  wire-read-answer close c₁ c₂ = c₁ .0 .answer ∙ sym (c₂ .0 .answer)
+  wire-read-answer eof c₁ c₂ = c₁ ∙ sym c₂
+  wire-read-answer (keyed k rest) c₁ c₂ = wire-key-answer (skippedAs (skipOf k rest)) rest (find k (tableOf 20)) c₁ c₂
+
+  wire-answer : (a b : Bool) (f : Form) → WireLine known c range n at x₀ x₁ t₀ t₁ r₁ a b f → WireLine known c range n at x₀ x₂ t₀ t₂ r₂ a b f → r₁ ≡ r₂
+  wire-answer true b f c₁ c₂ = c₁ .0 .answer ∙ sym (c₂ .0 .answer)
+  wire-answer false true f c₁ c₂ = c₁ .0 .answer ∙ sym (c₂ .0 .answer)
+  wire-answer false false f c₁ c₂ = wire-read-answer f c₁ c₂
 
 on-wire-answer : One on-wire′.Kinds.ps on-wire′.Kinds.r on-wire′.Reads.Learnt (λ κs r e. r)
 on-wire-answer κs x r₁ r₂ e₁ e₂ =
-    let rest = x .1 .1 .1 in
-    wire-answer (knownIn (now (x .0)) (now (x .1 .0)) (now (x .1 .1 .0))) (rest .0) (rest .1 .0) (rest .1 .1 .1 .0) (now (rest .1 .1 .1 .1 .0)) _ _ r₁ r₂
-    (eqb (rest .1 .0 .part) 2) (formIn (now (x .0)) (rest .1 .1 .0))
+    let line = x .1 .1 .1 .0 in
+    let rest = x .1 .1 .1 .1 in
+    wire-answer (knownIn (now (x .0)) (now (x .1 .0)) (now (x .1 .1 .0))) (line .class) (rangeIn (now (rest .0))) (line .here) (line .at)
+    (lent (now (rest .0)) (now (rest .1 .0)) (now (rest .1 .1 .0)) (now (rest .1 .1 .1 .0))) _ _ (now (rest .1 .1 .1 .1 .0)) _ _ r₁ r₂
+    (eqb (line .here .part) 2) (eqb (line .here .part) 1) (formIn (now (x .0)) (line .form))

@@ -1,33 +1,27 @@
 -- A wire: how it begins, its elements and its end, and a line of one that is skipped whole, from what the code tests to the contracts.
 use Prim.Native.Nat.{ℕ, suc, _+_, _-_, _/_, _≤_, _<_}
 use mathlib.Core.Bool.{Bool, true, false, cond, _&&_}
-use mathlib.Core.List.{List, [], _∷_}
+use mathlib.Core.List.{List, [], _∷_, _++_, append-nil}
 use mathlib.Core.Path.{_≡_, refl, sym, _∙_, ap, subst}
 use native.Mathlib.Omega.{arith}
 use lib.Dec.{eqb, leb}
 use lib.IntN.{ℤ, pos, negsuc}
-use lib.ListN.{length, getD, set, length-set}
-use lib.Seq.{length-sets, getD-set-other}
+use lib.ListN.{length, getD, set, take, drop, length-set, length-drop}
+use lib.Seq.{length-sets, getD-set-other, set-getD, take-all, drop-length}
 use mir.Syntax.{w64}
 use mir.Val.{toZ, ofZ, SFits}
 use mir.Facts.{toZ-ofZ}
 use borrow.Author.Tests.{le-leb, leb-true, lt-ltb, le-ltb, eq-eqb, ne-eqb, eqb-true}
 use Rattle.rules.specs.declared.Class.{Class}
 use Rattle.rules.specs.declared.Digits.{Digits}
-use Rattle.rules.specs.Base.{all}
 use Rattle.rules.specs.Lines.{Form}
-use Rattle.rules.specs.RangeClass.{digitsOf, knowsWires, mostDepth}
-use Rattle.rules.specs.Values.{Known, Value, equalZ}
-use Rattle.rules.specs.Rows.{Act, entry, act}
-use Rattle.rules.specs.RecordTable.{ruleAt}
+use Rattle.rules.specs.RangeClass.{digits, digitsOf, both, hides, knowsWires, mostDepth}
+use Rattle.rules.specs.Values.{Known, equalZ}
+use Rattle.rules.specs.Rows.{Rule, complete}
+use Rattle.rules.specs.RecordTable.{ruleAt, unreadState, markUnread}
 use Rattle.rules.specs.Figures.{wireTable}
-use Rattle.rules.specs.Wires.{joinsEnds}
 use Rattle.rules.proofs.Chains.{clash}
 use Rattle.tables.specs.Tables.{tableOf}
-use Rattle.entries.specs.Acts.{roomy, nextOf, Entered, Acts}
-use Rattle.entries.specs.declared.Inner.{Inner}
-use Rattle.entries.specs.declared.Next.{Next}
-use Rattle.entries.specs.declared.Next.the-variants as N
 use Rattle.leaves.proofs.Ints.{fits-pos, pos-back}
 use Rattle.account.specs.declared.Now.{Now}
 use Rattle.account.specs.declared.Where.{Where}
@@ -35,13 +29,11 @@ use Rattle.account.specs.declared.Step.{Step}
 use Rattle.account.specs.declared.Step.the-variants as S
 use Rattle.account.specs.declared.Skipped.{Skipped}
 use Rattle.account.specs.declared.Skipped.the-variants as K
-use Rattle.account.specs.Records.{partAt, withPart}
 use Rattle.account.specs.Account.{atBlock, figureDone, headAt}
-use Rattle.account.specs.Points.{morePoints}
 use Rattle.account.specs.SkippedLines.{skippedBy}
-use Rattle.account.specs.WireLines.{wireBegun, begunStep, begunPut, wireAct, elementRead, bothLines, meetsFormer, joinHolds, joinNumber, formerKept, elementPut, wireClosed, ReadLine, openSkipped, markedUnread, SkippedLine, WireLine}
-use Rattle.account.proofs.Lent.{with-same}
-use Rattle.elements.proofs.BlocksActs.{told, row-of}
+use Rattle.account.specs.PlacedLines.{Lent, hiddenAt, withInner}
+use Rattle.account.specs.WireLines.{wireBegun, begunStep, begunPut, bothLines, meetsFormer, joinHolds, joinNumber, formerKept, elementPut, wireWhole, wireCounted, statesMarked, WireShut, ReadLine, textAct, TextInWire}
+use Rattle.account.specs.WireLines.{openSkipped, markedUnread, SkippedLine, WireLine}
 
 -- ── how it begins ──
 pub begun-read : (c : Class) (n : Now) (b : Bool) → b ≡ knowsWires c → b ≡ true → n ≡ wireBegun c n
@@ -94,14 +86,14 @@ equal-apart (negsuc m) (pos n) h = refl
 equal-apart (negsuc m) (negsuc n) h = both-ways n m (λ e. h (ap negsuc (sym e)))
 
 module _ (a b : ℤ) where
-  other-bits : (ofZ w64 a ≡ ofZ w64 b → ⊥) → equalZ a b ≡ false
+  pub other-bits : (ofZ w64 a ≡ ofZ w64 b → ⊥) → equalZ a b ≡ false
   other-bits h = equal-apart a b (λ e. h (ap (ofZ w64) e))
 
   module _ (f : SFits w64 a) (g : SFits w64 b) where
-    same-bits : ofZ w64 a ≡ ofZ w64 b → equalZ a b ≡ true
+    pub same-bits : ofZ w64 a ≡ ofZ w64 b → equalZ a b ≡ true
     same-bits e = ap (equalZ a) (sym (sym (toZ-ofZ f) ∙ ap (toZ w64) e ∙ toZ-ofZ g)) ∙ equal-same a
 
-    bits-equal : eqb (ofZ w64 a) (ofZ w64 b) ≡ equalZ a b
+    pub bits-equal : eqb (ofZ w64 a) (ofZ w64 b) ≡ equalZ a b
     bits-equal = go (eqb (ofZ w64 a) (ofZ w64 b)) refl
       where
         go : (x : Bool) → eqb (ofZ w64 a) (ofZ w64 b) ≡ x → x ≡ equalZ a b
@@ -203,118 +195,160 @@ pub closed-room : (t : List ℤ) (x y z e : ℤ) → length t ≡ 96 → 62 < le
 closed-room t x y z e h =
     omega (arith, length-set (set (set (set t 36 x) 68 y) 94 z) 37 e ∙ length-set (set (set t 36 x) 68 y) 94 z ∙ length-set (set t 36 x) 68 y ∙ length-set t 36 x ∙ h)
 
-pub wire-closed : (range : ℕ) (n : Now) (t : List ℤ) → range < 4294967296 → n .points < 4294967295
-    → set (set (set (set (set t 36 (pos 0)) 68 (pos 0)) 94 (pos 0)) 37 (toZ w64 (n .points))) 62 (toZ w64 (range / 100)) ≡ wireClosed range n t
-wire-closed range n t h k =
+pub wire-counted : (range : ℕ) (n : Now) (t : List ℤ) → range < 4294967296 → n .points < 4294967295
+    → set (set (set (set (set t 36 (pos 0)) 68 (pos 0)) 94 (pos 0)) 37 (toZ w64 (n .points))) 62 (toZ w64 (range / 100)) ≡ wireCounted range n t
+wire-counted range n t h k =
     ap (λ (z : ℤ). set (set (set (set (set t 36 (pos 0)) 68 (pos 0)) 94 (pos 0)) 37 z) 62 (toZ w64 (range / 100))) (pos-back (n .points) (omega (arith, k)))
     ∙ ap (set (set (set (set (set t 36 (pos 0)) 68 (pos 0)) 94 (pos 0)) 37 (pos (n .points))) 62) (pos-back (range / 100) (omega (arith, h)))
 
--- ── a line of a wire that is read ──
-pub wire-two : 2 ≡ length (tableOf 20)
+pub counted-long : (range : ℕ) (n : Now) (t u : List ℤ) → u ≡ wireCounted range n t → length t ≡ 96 → length u ≡ 96
+counted-long range n t u e h =
+    let a : List ℤ = set t 36 (pos 0) in
+    let b : List ℤ = set a 68 (pos 0) in
+    let c : List ℤ = set b 94 (pos 0) in
+    let d : List ℤ = set c 37 (pos (n .points)) in
+    ap length e ∙ length-set d 62 (pos (range / 100)) ∙ length-set c 37 (pos (n .points)) ∙ length-set b 94 (pos 0) ∙ length-set a 68 (pos 0) ∙ length-set t 36 (pos 0) ∙ h
+
+-- the states, from the last row on: those of the first rows have none
+module _ (c d : Digits) where
+  hidden-state : (q : ℕ) (h : Bool) (t : List ℤ) → hiddenAt q h t ≡ set t q (cond h (pos 3) (getD t q (pos 0)))
+  hidden-state q true t = refl
+  hidden-state q false t = sym (set-getD t q (pos 0))
+
+  one-marked : (r : Rule) (rs : List Rule) (q : ℕ) (t₀ t u : List ℤ) → r .state ≡ suc q → u ≡ markUnread c d rs t₀ → t ≡ hiddenAt (suc q) (hides c d (r .least)) u
+      → t ≡ markUnread c d (r ∷ rs) t₀
+  one-marked r rs q t₀ t u e f g =
+      g ∙ hidden-state (suc q) (hides c d (r .least)) u
+      ∙ ap (unreadState (suc q) (hides c d (r .least))) f
+      ∙ ap (λ (s : ℕ). unreadState s (hides c d (r .least)) (markUnread c d rs t₀)) (sym e)
+
+  abbrev at : ℕ → ℕ → ℕ → List ℤ → List ℤ
+  at m l q t = hiddenAt q (hides c d (digits m l)) t
+
+  abbrev from : ℕ → List ℤ → List ℤ
+  from i t = markUnread c d (drop i wireTable) t
+
+  pub states-marked : (t₀ t₁ t₂ t₃ t₄ t₅ t₆ t₇ t₈ : List ℤ) → t₁ ≡ at 1 0 61 t₀ → t₂ ≡ at 0 8 60 t₁ → t₃ ≡ at 0 7 59 t₂ → t₄ ≡ at 0 6 29 t₃ → t₅ ≡ at 0 5 58 t₄ → t₆ ≡ at 0 4 28 t₅
+      → t₇ ≡ at 0 3 27 t₆ → t₈ ≡ at 0 2 26 t₇ → t₈ ≡ markUnread c d wireTable t₀
+  unfolding wireTable
+  states-marked t₀ t₁ t₂ t₃ t₄ t₅ t₆ t₇ t₈ e₁ e₂ e₃ e₄ e₅ e₆ e₇ e₈ =
+      let f₁ : t₁ ≡ from 9 t₀ = one-marked (ruleAt wireTable 9) [] 60 t₀ t₁ t₀ refl refl e₁ in
+      let f₂ : t₂ ≡ from 8 t₀ = one-marked (ruleAt wireTable 8) (drop 9 wireTable) 59 t₀ t₂ t₁ refl f₁ e₂ in
+      let f₃ : t₃ ≡ from 7 t₀ = one-marked (ruleAt wireTable 7) (drop 8 wireTable) 58 t₀ t₃ t₂ refl f₂ e₃ in
+      let f₄ : t₄ ≡ from 6 t₀ = one-marked (ruleAt wireTable 6) (drop 7 wireTable) 28 t₀ t₄ t₃ refl f₃ e₄ in
+      let f₅ : t₅ ≡ from 5 t₀ = one-marked (ruleAt wireTable 5) (drop 6 wireTable) 57 t₀ t₅ t₄ refl f₄ e₅ in
+      let f₆ : t₆ ≡ from 4 t₀ = one-marked (ruleAt wireTable 4) (drop 5 wireTable) 27 t₀ t₆ t₅ refl f₅ e₆ in
+      let f₇ : t₇ ≡ from 3 t₀ = one-marked (ruleAt wireTable 3) (drop 4 wireTable) 26 t₀ t₇ t₆ refl f₆ e₇ in
+      one-marked (ruleAt wireTable 2) (drop 3 wireTable) 25 t₀ t₈ t₇ refl f₇ e₈
+
+-- the wire's two records as they are lent: all behind the front
+module _ (t : List ℤ) (k : ℕ) (e : k ≡ 64) (h : length t ≡ 96) where
+  behind-long : k ≡ length (drop 32 t)
+  behind-long = e ∙ omega (arith, length-drop 32 t, h)
+
+  pub behind-whole : take k (drop 32 t) ≡ drop 32 t
+  behind-whole = take-all k (drop 32 t) (omega (arith, behind-long))
+
+  pub behind-lent : (u : List ℤ) → take 32 t ++ (u ++ drop k (drop 32 t)) ≡ take 32 t ++ u
+  behind-lent u =
+      ap (λ (y : List ℤ). take 32 t ++ (u ++ y)) (ap (λ (m : ℕ). drop m (drop 32 t)) behind-long ∙ drop-length (drop 32 t))
+      ∙ ap (λ (y : List ℤ). take 32 t ++ y) (append-nil u)
+
+  pub states-lent : (wires d : Digits) (range : ℕ) (u : List ℤ) → d ≡ digitsOf range → u ≡ markUnread wires d wireTable (take k (drop 32 t))
+      → take 32 t ++ (u ++ drop k (drop 32 t)) ≡ statesMarked wires range t
+  states-lent wires d range u q m =
+      behind-lent u
+      ∙ ap (λ (y : List ℤ). take 32 t ++ y) (m ∙ ap (markUnread wires d wireTable) behind-whole ∙ ap (λ (x : Digits). markUnread wires x wireTable (drop 32 t)) q)
+
+pub wire-ten : length (tableOf 20) ≡ 10
 unfolding tableOf wireTable
-wire-two = refl
+wire-ten = refl
 
-pub wire-room : (n : ℕ) → n ≡ 32 → all (roomy 0 n) (tableOf 20) ≡ true
-unfolding tableOf wireTable
-wire-room n h = rw h refl
+-- "8: something required missing, at the closing line"
+module _ (wires : Digits) (range : ℕ) (n : Now) (marks : List Bool) (d : Digits) (b : Bool) (e : d ≡ both wires (digitsOf range)) (h : b ≡ complete d (tableOf 20) (take 10 marks)) where
+  whole : wireWhole wires range marks ≡ b
+  whole = ap (λ (x : Digits). complete x (tableOf 20) (take 10 marks)) (sym e) ∙ sym h
 
-pub wire-acts : (k : Known) (range : ℕ) (d : Digits) (f : Form) (rec₀ rec₁ : List ℤ) (x : Next) → d ≡ digitsOf range
-    → Acts (ruleAt (tableOf 20)) 0 rec₀ (act k (tableOf 20) d (false ∷ false ∷ []) f) rec₁ x → Acts (ruleAt (tableOf 20)) 0 rec₀ (wireAct k range f) rec₁ x
-wire-acts k range d f rec₀ rec₁ x q m = subst (λ (d : Digits). Acts (ruleAt (tableOf 20)) 0 rec₀ (act k (tableOf 20) d (false ∷ false ∷ []) f) rec₁ x) q m
+  pub shut-short : (t₀ t₁ : List ℤ) → b ≡ false → WireShut wires range n marks t₀ t₁ (S.Stop 8)
+  shut-short t₀ t₁ q =
+      record { answer = ap (λ (x : Bool). cond x (S.Go (figureDone n)) (S.Stop 8)) (sym (whole ∙ q)); records = λ y. clash y (whole ∙ q) }
 
-pub element-row : (k : Known) (range : ℕ) (f : Form) (x : Next) (j : ℕ) → x ≡ nextOf (wireAct k range f) → x ≡ N.Entry j → j ≤ 1
-element-row k range f x j e q =
-    let w : j < length (tableOf 20) = row-of k (tableOf 20) (digitsOf range) (false ∷ false ∷ []) f (N.Entry j) (sym q ∙ e) in omega (arith, w, wire-two)
+  pub shut-whole : (t₀ t₁ t₂ : List ℤ) (m : Now) → b ≡ true → t₁ ≡ wireCounted range n t₀ → t₂ ≡ statesMarked wires range t₁ → m ≡ figureDone n → WireShut wires range n marks t₀ t₂ (S.Go m)
+  shut-whole t₀ t₁ t₂ m q x y z =
+      record {
+        answer = ap S.Go z ∙ ap (λ (x : Bool). cond x (S.Go (figureDone n)) (S.Stop 8)) (sym (whole ∙ q));
+        records = λ w. y ∙ ap (statesMarked wires range) x;
+      }
 
-module _ (range : ℕ) (n : Now) (at : Where) (t₀ rec₁ t₁ : List ℤ) (a : Act) (x : Next) (m : Acts (ruleAt (tableOf 20)) 0 (partAt 0 t₀) a rec₁ x) (l : t₁ ≡ withPart 0 rec₁ t₀) where
-  abbrev Reads : List ℤ → Step → Act → Type 0
-  Reads t₂ r c = Entered (ruleAt (tableOf 20)) 0 (partAt 0 t₀) c rec₁ → ReadLine c range n at t₀ t₂ r
+-- ── a line that is tested before it is put ──
+abbrev pub Tested : Bool → Now → List ℤ → List ℤ → Step → Type 0
+Tested b n put t r = (r ≡ cond b (S.Go n) (S.Stop 11)) × (b ≡ true → t ≡ put)
 
-  abbrev joins : Bool
-  joins = joinsEnds (range / 100)
+module _ (b a : Bool) (n : Now) (put t : List ℤ) (e : a ≡ b) where
+  pub test-fails : a ≡ false → Tested b n put t (S.Stop 11)
+  test-fails h = (sym (ap (λ (x : Bool). cond x (S.Go n) (S.Stop 11)) (sym e ∙ h)), λ q. clash q (sym e ∙ h))
 
-  -- where the front is as it was
-  same-front : rec₁ ≡ partAt 0 t₀ → t₁ ≡ t₀
-  same-front h = l ∙ ap (λ (u : List ℤ). withPart 0 u t₀) h ∙ with-same 0 t₀
-
-  pub wire-stay : x ≡ N.Stay → ReadLine a range n at t₀ t₁ (S.Go n)
-  wire-stay e = subst (Reads t₁ (S.Go n)) (sym (told N.Stay a (sym e ∙ m .eq))) (λ h. record { answer = refl; records = same-front h }) (m .entered)
-
-  module _ (ends : Bool) (q : ends ≡ joins) (j : ℕ) (holds : Bool) (w : holds ≡ joinHolds ends j t₁) (e : x ≡ N.Entry j) where
-    -- the join is that of the element that was read
-    held : (v : Value) (b : Bool) → Entered (ruleAt (tableOf 20)) 0 (partAt 0 t₀) (entry j v) rec₁ → holds ≡ b → joinHolds joins j (elementRead j v t₀) ≡ b
-    held v b h y = sym (w ∙ ap (λ (u : Bool). joinHolds u j t₁) q ∙ ap (joinHolds joins j) (l ∙ ap (λ (u : List ℤ). withPart 0 u t₀) h)) ∙ y
-
-    pub wire-fails : holds ≡ false → ReadLine a range n at t₀ t₁ (S.Stop 11)
-    wire-fails y =
-        let (v, z) = told (N.Entry j) a (sym e ∙ m .eq) in
-        subst (Reads t₁ (S.Stop 11)) (sym z)
-        (λ h. record { answer = sym (ap (λ (b : Bool). cond b (S.Go (morePoints n)) (S.Stop 11)) (held v false h y)); records = λ k. clash k (held v false h y) }) (m .entered)
-
-    pub wire-entry : (t₂ : List ℤ) (r : Now) → holds ≡ true → t₂ ≡ elementPut ends n at j t₁ → r ≡ morePoints n → ReadLine a range n at t₀ t₂ (S.Go r)
-    wire-entry t₂ r y p g =
-        let (v, z) = told (N.Entry j) a (sym e ∙ m .eq) in
-        subst (Reads t₂ (S.Go r)) (sym z)
-        (λ h. record {
-          answer = ap S.Go g ∙ sym (ap (λ (b : Bool). cond b (S.Go (morePoints n)) (S.Stop 11)) (held v true h y));
-          records = λ k. p ∙ ap (λ (u : Bool). elementPut u n at j t₁) q ∙ ap (elementPut joins n at j) (l ∙ ap (λ (u : List ℤ). withPart 0 u t₀) h);
-        }) (m .entered)
-
-  pub wire-begin : (t₂ : List ℤ) (i : Inner) → x ≡ N.Begin i → ReadLine a range n at t₀ t₂ (S.Stop 5)
-  wire-begin t₂ i e =
-      let (v, z) = told (N.Begin i) a (sym e ∙ m .eq) in subst (Reads t₂ (S.Stop 5)) (sym z) (λ h. record { answer = refl; records = tt }) (m .entered)
-
-  pub wire-shut : (t₂ : List ℤ) (r : Now) → t₂ ≡ wireClosed range n t₁ → r ≡ figureDone n → x ≡ N.Shut → ReadLine a range n at t₀ t₂ (S.Go r)
-  wire-shut t₂ r p g e =
-      subst (Reads t₂ (S.Go r)) (sym (told N.Shut a (sym e ∙ m .eq))) (λ h. record { answer = ap S.Go g; records = p ∙ ap (wireClosed range n) (same-front h) }) (m .entered)
-
-  pub wire-refuse : (t₂ : List ℤ) (k : ℕ) → x ≡ N.Refuse k → ReadLine a range n at t₀ t₂ (S.Stop k)
-  wire-refuse t₂ k e = subst (Reads t₂ (S.Stop k)) (sym (told (N.Refuse k) a (sym e ∙ m .eq))) (λ h. record { answer = refl; records = tt }) (m .entered)
+  pub test-holds : (m : Now) → a ≡ true → m ≡ n → t ≡ put → Tested b n put t (S.Go m)
+  test-holds m h g p = (ap S.Go g ∙ sym (ap (λ (x : Bool). cond x (S.Go n) (S.Stop 11)) (sym e ∙ h)), λ q. p)
 
 -- ── a line of a wire that is skipped whole ──
-module _ (n : Now) (t : List ℤ) (k s : Skipped) (e : s ≡ k) where
+module _ (range : ℕ) (n : Now) (t : List ℤ) (k s : Skipped) (e : s ≡ k) where
   -- the line, by what it does
-  by-skip : (y : Skipped) (t₁ : List ℤ) (r : Step) → s ≡ y → SkippedLine n y t t₁ r → SkippedLine n k t t₁ r
-  by-skip y t₁ r q h = subst (λ (k : Skipped). SkippedLine n k t t₁ r) (sym q ∙ e) h
+  by-skip : (y : Skipped) (t₁ : List ℤ) (r : Step) → s ≡ y → SkippedLine range n y t t₁ r → SkippedLine range n k t t₁ r
+  by-skip y t₁ r q h = subst (λ (k : Skipped). SkippedLine range n k t t₁ r) (sym q ∙ e) h
 
-  pub skip-passes : s ≡ K.Passes → SkippedLine n k t t (S.Go n)
+  pub skip-passes : s ≡ K.Passes → SkippedLine range n k t t (S.Go n)
   skip-passes q = by-skip K.Passes t (S.Go n) q (record { answer = refl; records = refl })
 
   abbrev deeperStep : Bool → Step
   deeperStep b = cond b (S.Go (openSkipped n (n .points + 1))) (S.Stop 18)
 
-  pub skip-deepest : s ≡ K.Deeper → mostDepth ≤ n .points → SkippedLine n k t t (S.Stop 18)
+  pub skip-deepest : s ≡ K.Deeper → mostDepth ≤ n .points → SkippedLine range n k t t (S.Stop 18)
   skip-deepest q h = by-skip K.Deeper t (S.Stop 18) q (record { answer = sym (ap deeperStep (le-ltb (n .points) mostDepth h)); records = refl })
 
-  pub skip-deeper : (m : Now) → s ≡ K.Deeper → n .points < mostDepth → m ≡ openSkipped n (n .points + 1) → SkippedLine n k t t (S.Go m)
+  pub skip-deeper : (m : Now) → s ≡ K.Deeper → n .points < mostDepth → m ≡ openSkipped n (n .points + 1) → SkippedLine range n k t t (S.Go m)
   skip-deeper m q h p = by-skip K.Deeper t (S.Go m) q (record { answer = ap S.Go p ∙ sym (ap deeperStep (lt-ltb (n .points) mostDepth h)); records = refl })
 
   abbrev shutStep : Bool → Step
   shutStep b = cond b (S.Go (figureDone n)) (S.Go (openSkipped n (n .points - 1)))
 
   abbrev shutPut : Bool → List ℤ
-  shutPut b = cond b (markedUnread t) t
+  shutPut b = cond b (markedUnread range t) t
 
-  pub skip-inner : (m : Now) → s ≡ K.Shut → 0 < n .points → m ≡ openSkipped n (n .points - 1) → SkippedLine n k t t (S.Go m)
+  pub skip-inner : (m : Now) → s ≡ K.Shut → 0 < n .points → m ≡ openSkipped n (n .points - 1) → SkippedLine range n k t t (S.Go m)
   skip-inner m q h p =
       let z : eqb (n .points) 0 ≡ false = ne-eqb (n .points) 0 (λ y. absurd (omega (arith, y, h))) in
       by-skip K.Shut t (S.Go m) q (record { answer = ap S.Go p ∙ sym (ap shutStep z); records = sym (ap shutPut z) })
 
-  pub skip-ends : (m : Now) (t₁ : List ℤ) → s ≡ K.Shut → n .points ≤ 0 → t₁ ≡ markedUnread t → m ≡ figureDone n → SkippedLine n k t t₁ (S.Go m)
+  pub skip-ends : (m : Now) (t₁ : List ℤ) → s ≡ K.Shut → n .points ≤ 0 → t₁ ≡ markedUnread range t → m ≡ figureDone n → SkippedLine range n k t t₁ (S.Go m)
   skip-ends m t₁ q h u p =
       let z : eqb (n .points) 0 ≡ true = eq-eqb (n .points) 0 (omega (arith, h)) in
       by-skip K.Shut t₁ (S.Go m) q (record { answer = ap S.Go p ∙ sym (ap shutStep z); records = u ∙ sym (ap shutPut z) })
 
-  pub skip-refuses : (i : ℕ) → s ≡ K.Refuse i → SkippedLine n k t t (S.Stop i)
+  pub skip-refuses : (i : ℕ) → s ≡ K.Refuse i → SkippedLine range n k t t (S.Stop i)
   skip-refuses i q = by-skip (K.Refuse i) t (S.Stop i) q (record { answer = refl; records = refl })
 
+-- as its end marks it
+pub wire-marked : (range : ℕ) (d e : Digits) (t t₁ u : List ℤ) (k : ℕ) → k ≡ 64 → length t ≡ 96 → d ≡ digits 0 0 → e ≡ digitsOf range → u ≡ markUnread d e wireTable (take k (drop 32 t))
+    → t₁ ≡ take 32 t ++ (u ++ drop k (drop 32 t)) → set (set t₁ 63 (pos 3)) 95 (pos 3) ≡ markedUnread range t
+wire-marked range d e t t₁ u k l h p q m w =
+    ap (λ (y : List ℤ). set (set y 63 (pos 3)) 95 (pos 3))
+    (w ∙ states-lent t k l h (digits 0 0) e range u q (m ∙ ap (λ (x : Digits). markUnread x e wireTable (take k (drop 32 t))) p))
+
 -- ── a line of a wire ──
-module _ (known : Known) (range : ℕ) (n : Now) (at : Where) (t₀ t₁ : List ℤ) (r : Step) (f : Form) where
-  abbrev Wired : Bool → Type 0
-  Wired b = WireLine known range n at t₀ t₁ r b f
+module _ (known : Known) (c : Class) (range : ℕ) (n : Now) (at : Where) (x₀ x₁ : Lent) (t₀ t₁ : List ℤ) (r : Step) (f : Form) where
+  abbrev Wired : Bool → Bool → Type 0
+  Wired skips text = WireLine known c range n at x₀ x₁ t₀ t₁ r skips text f
 
-  pub wired-skipped : n .part ≡ 2 → SkippedLine n (skippedBy f) t₀ t₁ r → Wired (eqb (n .part) 2)
-  wired-skipped e h = subst Wired (sym (eq-eqb (n .part) 2 e)) h
+  abbrev wired : Type 0
+  wired = Wired (eqb (n .part) 2) (eqb (n .part) 1)
 
-  pub wired-read : (n .part ≡ 2 → ⊥) → ReadLine (wireAct known range f) range n at t₀ t₁ r → Wired (eqb (n .part) 2)
-  wired-read e h = subst Wired (sym (ne-eqb (n .part) 2 e)) h
+  pub wired-skipped : n .part ≡ 2 → SkippedLine range n (skippedBy f) t₀ t₁ r → x₁ ≡ x₀ → wired
+  wired-skipped e h q = subst (λ (b : Bool). Wired b (eqb (n .part) 1)) (sym (eq-eqb (n .part) 2 e)) (h, q)
+
+  module _ (e : n .part ≡ 2 → ⊥) where
+    pub wired-text : n .part ≡ 1 → TextInWire (textAct known (x₀ .inner) f) n (x₀ .inner) (x₁ .inner) t₀ t₁ r → x₁ ≡ withInner (x₁ .inner) x₀ → wired
+    wired-text q h w = subst (λ (b : Bool). Wired b (eqb (n .part) 1)) (sym (ne-eqb (n .part) 2 e)) (subst (Wired false) (sym (eq-eqb (n .part) 1 q)) (h, w))
+
+    pub wired-read : (n .part ≡ 1 → ⊥) → ReadLine known c range n at x₀ x₁ t₀ t₁ r f → wired
+    wired-read q h = subst (λ (b : Bool). Wired b (eqb (n .part) 1)) (sym (ne-eqb (n .part) 2 e)) (subst (Wired false) (sym (ne-eqb (n .part) 1 q)) h)

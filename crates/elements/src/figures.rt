@@ -222,7 +222,7 @@ pub fn on_figures(
                 at.volume,
                 at.line,
             );
-            unmark_if(inner.block == INNER_PLACED, marks);
+            unmark_if(INNER_PLACED <= inner.block, marks);
             unmark_if(inner.block == INNER_TEXT, inner_marks);
             Step::Go(figure_opened(was, inner.block))
         }

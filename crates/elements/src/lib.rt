@@ -3,6 +3,7 @@ pub mod element;
 pub mod figures;
 pub mod placed;
 pub mod points;
+mod shelves;
 pub mod skip;
 pub mod texts;
 pub mod wires;

@@ -8,7 +8,6 @@ use account::PLACE_OWN;
 use account::ROWS_PLACED;
 use account::Skipped;
 use account::Step;
-use account::TALLY_SERIALS;
 use entries::Next;
 use entries::Rest;
 use entries::SORT_FORMLESS;
@@ -29,7 +28,8 @@ use groundwork::blocks::unmark;
 use groundwork::classes::both;
 use groundwork::classes::exceeds;
 use groundwork::classes::hides;
-use groundwork::serials::has;
+use groundwork::serials::content_at;
+use groundwork::serials::keep_own;
 use rules::Digits;
 use rules::LineForm;
 use rules::Span;
@@ -41,7 +41,9 @@ ghost use mathlib.Core.Path.{_≡_};
 ghost use mathlib.Core.List.{[]};
 ghost use Prim.Native.Nat.{_<_, _≤_};
 ghost use lib.Dec.{eqb};
-ghost use lib.ListN.{length};
+ghost use mathlib.Core.Bool.{true};
+ghost use lib.IntN.{pos};
+ghost use lib.ListN.{length, getD};
 ghost use Rattle.rules.specs.Lines.{bytesAt, formIn};
 ghost use Rattle.rules.specs.RangeClass.{digits, digitsOf, hides};
 ghost use Rattle.rules.specs.Rows.{find, act};
@@ -52,9 +54,10 @@ ghost use Rattle.entries.specs.Names.{knownIn};
 ghost use Rattle.entries.specs.Shapes.{restIn};
 ghost use Rattle.entries.specs.declared.Next.the-variants as N;
 ghost use Rattle.account.specs.SkippedLines.{skippedBy};
-ghost use Rattle.account.specs.PlacedLines.{lent, serialCount, ownNumber, SerialLine, PlacedDone, RowReady, OwnGiven, serialRow, unknownStep, KeyLine, hiddenAt, CloseLine, OwnLine, PlacedTextLine, PlacedLine, LentReady};
+ghost use Rattle.account.specs.PlacedLines.{lent, ownNumber, PlacedDone, RowReady, OwnGiven, serialRow, notHere, unknownStep, KeyLine, hiddenAt, CloseLine, OwnLine, PlacedTextLine, PlacedLine, LentReady};
+ghost use Rattle.account.specs.SerialNumbers.{ascending, serialCount, keptIn};
 ghost use Rattle.tables.specs.Numbering.{tablePlaced, tablePlacedText};
-ghost use Rattle.account.specs.Numbering.{innerPlacedText, rowsText, tallyLength, mostRows};
+ghost use Rattle.account.specs.Numbering.{innerPlacedText, rowsText, tallyLength, mostRows, placeOwn};
 ghost use Rattle.rules.specs.RecordTable.{width};
 
 // The row `serial` of a placed symbol (`serialRow` in the definitions).
@@ -71,8 +74,25 @@ const STATE_CIRCUIT: usize = 29;
 
 const STATE_SERIAL: usize = 30;
 
-// "skipped when a digit of E_sym exceeds the class's, and refused otherwise": 6, and 5 where the line has no form.
-fn on_unknown(s: &[u8], class: Digits, range: Digits, here: Now, form: LineForm, rest: Rest) -> Step
+// A key that is not allowed here: 6, and 5 where the line has no form.
+pub(crate) fn not_here(s: &[u8], rest: Rest) -> Step
+    ensures { λ r. ⌜ r ≡ notHere (restIn (now (s .entry)) rest) ⌝ }
+{
+    if sort_of(shape_for(s, false, rest)) == SORT_FORMLESS {
+        return Step::Stop(5);
+    }
+    Step::Stop(6)
+}
+
+// "skipped when a digit of E_sym exceeds the class's, and refused otherwise", and so of E_wire and the wire part.
+pub(crate) fn on_unknown(
+    s: &[u8],
+    class: Digits,
+    range: Digits,
+    here: Now,
+    form: LineForm,
+    rest: Rest,
+) -> Step
     ensures { λ r. ⌜ r ≡ unknownStep class range here (skippedBy (formIn (now (s .entry)) form)) (restIn (now (s .entry)) rest) ⌝ }
 {
     if exceeds(range, class) {
@@ -83,47 +103,30 @@ fn on_unknown(s: &[u8], class: Digits, range: Digits, here: Now, form: LineForm,
             Skipped::Refuse(n) => Step::Stop(n),
         };
     }
-    if sort_of(shape_for(s, false, rest)) == SORT_FORMLESS {
-        return Step::Stop(5);
-    }
-    Step::Stop(6)
-}
-
-// "Own numbers differ as numbers over the set" (15)
-fn keep_serial(here: Now, tally: &mut [u32], serials: &mut [u64], rec: &[i64]) -> Step
-    requires { ⌜ (length (now tally) ≡ tallyLength) × (serialCount (now tally) < length (now serials)) × (serialCount (now tally) < 4294967295) × (length (now rec) ≡ width) × OwnGiven (now rec) ⌝ }
-    ensures { λ r. ⌜ SerialLine here (ownNumber (now (rec .entry))) (now (tally .entry)) (now (tally .exit)) (now (serials .entry)) (now (serials .exit)) r ⌝ }
-{
-    let own = rec[PLACE_OWN] as u64;
-    let count = tally[TALLY_SERIALS] as usize;
-    if has(&serials[..count], own) {
-        return Step::Stop(15);
-    }
-    serials[count] = own;
-    tally[TALLY_SERIALS] = tally[TALLY_SERIALS] + 1;
-    Step::Go(here)
+    not_here(s, rest)
 }
 
 fn placed_entry(
     here: Now,
     row: u8,
+    content: Span,
     tally: &mut [u32],
     serials: &mut [u64],
     marks: &mut [bool],
     rec: &[i64],
 ) -> Step
-    requires { ⌜ (length (now tally) ≡ tallyLength) × (serialCount (now tally) < length (now serials)) × (serialCount (now tally) < 4294967295) × (length (now rec) ≡ width) × (row < length (now marks)) × (row ≡ serialRow → OwnGiven (now rec)) ⌝ }
-    ensures { λ r. ⌜ PlacedDone here (lent (now (tally .entry)) (now (serials .entry)) (now (marks .entry)) []) (lent (now (tally .exit)) (now (serials .exit)) (now (marks .exit)) []) (ownNumber (now (rec .entry))) (N.Entry row) r ⌝ }
+    requires { ⌜ (length (now tally) ≡ tallyLength) × (serialCount (now tally) < length (now serials)) × (ascending (keptIn (now tally) (now serials)) ≡ true) × (serialCount (now tally) < 4294967295) × (length (now rec) ≡ width) × (row < length (now marks)) × (row ≡ serialRow → OwnGiven (getD (now rec) placeOwn (pos 0))) ⌝ }
+    ensures { λ r. ⌜ PlacedDone here (lent (now (tally .entry)) (now (serials .entry)) (now (marks .entry)) []) (lent (now (tally .exit)) (now (serials .exit)) (now (marks .exit)) []) (ownNumber (now (rec .entry))) content (N.Entry row) r ⌝ }
 {
     marks[row as usize] = true;
     if row == SERIAL_ROW {
-        return keep_serial(here, tally, serials, rec);
+        return keep_own(here, rec[PLACE_OWN] as u64, content, tally, serials);
     }
     Step::Go(here)
 }
 
 // "An attribute E_sym allows and the class doesn't know has state 3 and zeros."
-fn mark_hidden(class: Digits, d: Digits, least: Digits, state: usize, rec: &mut [i64])
+pub(crate) fn mark_hidden(class: Digits, d: Digits, least: Digits, state: usize, rec: &mut [i64])
     requires { ⌜ state < length (now rec) ⌝ }
     ensures { λ _. ⌜ now (rec .exit) ≡ hiddenAt state (hides class d least) (now (rec .entry)) ⌝ }
 {
@@ -147,18 +150,19 @@ fn mark_unread(class: Digits, d: Digits, rec: &mut [i64])
 fn placed_done(
     here: Now,
     next: Next,
+    content: Span,
     tally: &mut [u32],
     serials: &mut [u64],
     marks: &mut [bool],
     inner: &mut [bool],
     rec: &[i64],
 ) -> Step
-    requires { ⌜ LentReady (lent (now tally) (now serials) (now marks) (now inner)) (now rec) × RowReady (now rec) next ⌝ }
-    ensures { λ r. ⌜ PlacedDone here (lent (now (tally .entry)) (now (serials .entry)) (now (marks .entry)) (now (inner .entry))) (lent (now (tally .exit)) (now (serials .exit)) (now (marks .exit)) (now (inner .exit))) (ownNumber (now (rec .entry))) next r ⌝ }
+    requires { ⌜ LentReady (lent (now tally) (now serials) (now marks) (now inner)) × (length (now rec) ≡ width) × RowReady (now rec) next ⌝ }
+    ensures { λ r. ⌜ PlacedDone here (lent (now (tally .entry)) (now (serials .entry)) (now (marks .entry)) (now (inner .entry))) (lent (now (tally .exit)) (now (serials .exit)) (now (marks .exit)) (now (inner .exit))) (ownNumber (now (rec .entry))) content next r ⌝ }
 {
     match next {
         Next::Stay => Step::Go(here),
-        Next::Entry(row) => placed_entry(here, row, tally, serials, marks, rec),
+        Next::Entry(row) => placed_entry(here, row, content, tally, serials, marks, rec),
         Next::Begin(opened) => {
             marks[opened.row as usize] = true;
             unmark(inner);
@@ -186,7 +190,7 @@ fn on_key(
     inner: &mut [bool],
     rec: &mut [i64],
 ) -> Step
-    requires { ⌜ (length (now s) ≤ 61440) × (length (now symbols) ≤ 65536) × (length (now layers) ≤ 65536) × LentReady (lent (now tally) (now serials) (now marks) (now inner)) (now rec) ⌝ }
+    requires { ⌜ (length (now s) ≤ 61440) × (length (now symbols) ≤ 65536) × (length (now layers) ≤ 65536) × LentReady (lent (now tally) (now serials) (now marks) (now inner)) × (length (now rec) ≡ width) ⌝ }
     ensures { λ r. ⌜ KeyLine (knownIn (now (s .entry)) (now (symbols .entry)) (now (layers .entry))) class range here (lent (now (tally .entry)) (now (serials .entry)) (now (marks .entry)) (now (inner .entry))) (lent (now (tally .exit)) (now (serials .exit)) (now (marks .exit)) (now (inner .exit))) (now (rec .entry)) (now (rec .exit)) r (skippedBy (formIn (now (s .entry)) form)) (restIn (now (s .entry)) rest) (find (bytesAt (now (s .entry)) key) (tableOf tablePlaced)) ⌝ }
 {
     match row_of(TABLE_PLACED, part(s, key)) {
@@ -198,7 +202,16 @@ fn on_key(
             }
             let had = marks[row.number as usize];
             let next = act_row(row, s, symbols, layers, range, had, rest, 0, rec);
-            placed_done(here, next, tally, serials, marks, inner, rec)
+            placed_done(
+                here,
+                next,
+                content_at(s, rest),
+                tally,
+                serials,
+                marks,
+                inner,
+                rec,
+            )
         }
     }
 }
@@ -267,7 +280,7 @@ fn on_placed_own(
     inner: &mut [bool],
     rec: &mut [i64],
 ) -> Step
-    requires { ⌜ (length (now s) ≤ 61440) × (length (now symbols) ≤ 65536) × (length (now layers) ≤ 65536) × LentReady (lent (now tally) (now serials) (now marks) (now inner)) (now rec) × (here .figures < 4294967295) ⌝ }
+    requires { ⌜ (length (now s) ≤ 61440) × (length (now symbols) ≤ 65536) × (length (now layers) ≤ 65536) × LentReady (lent (now tally) (now serials) (now marks) (now inner)) × (length (now rec) ≡ width) × (here .figures < 4294967295) ⌝ }
     ensures { λ r. ⌜ OwnLine (knownIn (now (s .entry)) (now (symbols .entry)) (now (layers .entry))) class range here (lent (now (tally .entry)) (now (serials .entry)) (now (marks .entry)) (now (inner .entry))) (lent (now (tally .exit)) (now (serials .exit)) (now (marks .exit)) (now (inner .exit))) (now (rec .entry)) (now (rec .exit)) r (formIn (now (s .entry)) form) ⌝ }
 {
     match form {
@@ -319,7 +332,7 @@ pub fn on_placed(
     inner: &mut [bool],
     rec: &mut [i64],
 ) -> Step
-    requires { ⌜ (length (now s) ≤ 61440) × (length (now symbols) ≤ 65536) × (length (now layers) ≤ 65536) × LentReady (lent (now tally) (now serials) (now marks) (now inner)) (now rec) × (here .figures < 4294967295) ⌝ }
+    requires { ⌜ (length (now s) ≤ 61440) × (length (now symbols) ≤ 65536) × (length (now layers) ≤ 65536) × LentReady (lent (now tally) (now serials) (now marks) (now inner)) × (length (now rec) ≡ width) × (here .figures < 4294967295) ⌝ }
     ensures { λ r. ⌜ PlacedLine (knownIn (now (s .entry)) (now (symbols .entry)) (now (layers .entry))) class (digitsOf range) here (lent (now (tally .entry)) (now (serials .entry)) (now (marks .entry)) (now (inner .entry))) (lent (now (tally .exit)) (now (serials .exit)) (now (marks .exit)) (now (inner .exit))) (now (rec .entry)) (now (rec .exit)) r (eqb (here .part) innerPlacedText) (formIn (now (s .entry)) form) ⌝ }
 {
     if here.part == INNER_PLACED_TEXT {

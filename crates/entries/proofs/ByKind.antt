@@ -34,7 +34,7 @@ use Rattle.tables.specs.Rows.{partOf, partsOf, acrossOf, kindOf}
 use Rattle.tables.specs.declared.Row.{Row}
 use Rattle.entries.proofs.EachValue.{parts-long}
 use Rattle.entries.specs.Parts.{valOf}
-use Rattle.entries.specs.Entering.{On, Puts, doneOf, putVal, lastOf, settled, longOf, serialsIn}
+use Rattle.entries.specs.Entering.{On, Puts, doneOf, putVal, covered, settled, longOf, serialsIn}
 use Rattle.entries.specs.declared.Val.{Val}
 use Rattle.entries.specs.declared.Put.{Put}
 use Rattle.entries.specs.declared.Put.the-variants.{Done, Refused}
@@ -150,7 +150,7 @@ add-twice : (n : ℕ) (k : Count) → addTo n (addTo 1 k) ≡ addTo (n + 1) k
 add-twice n (C.Is m) = let e : n + (1 + m) ≡ n + 1 + m = omega arith in ap C.Is e
 add-twice n C.Not = refl
 
-split-head : (d : List ℕ) → split 44 d ≡ upTo 44 d ∷ drop 1 (split 44 d)
+pub split-head : (d : List ℕ) → split 44 d ≡ upTo 44 d ∷ drop 1 (split 44 d)
 split-head d = go (leb (length d) (length (upTo 44 d))) refl
   where
     go : (t : Bool) → leb (length d) (length (upTo 44 d)) ≡ t → split 44 d ≡ upTo 44 d ∷ drop 1 (split 44 d)
@@ -287,20 +287,18 @@ module _ (Q : Value → Type 0) (every : (n : ℕ) (ns : List ℕ) → Q (linked
 
 -- ── a row that holds values ──
 module _ (r : Row) (h1 : r .kind ≡ 1 → ⊥) (h2 : r .kind ≡ 2 → ⊥) (h3 : r .kind ≡ 3 → ⊥) (h4 : r .kind ≡ 4 → ⊥) (h5 : r .kind ≡ 5 → ⊥) (h6 : r .kind ≡ 6 → ⊥) (h7 : r .kind ≡ 7 → ⊥)
-    (h8 : r .kind ≡ 8 → ⊥) (h9 : r .kind ≡ 9 → ⊥) (h10 : r .kind ≡ 10 → ⊥) where
+    (h8 : r .kind ≡ 8 → ⊥) (h9 : r .kind ≡ 9 → ⊥) (h10 : r .kind ≡ 10 → ⊥) (h11 : r .kind ≡ 11 → ⊥) where
   pub kind-values : kindOf r ≡ values (partOf (r .parts % 100)) (partsOf (r .count) (r .parts / 100)) (acrossOf (r .across))
   kind-values =
       let k = r .kind in
-      rw (ne-eqb k 1 h1, ne-eqb k 2 h2, ne-eqb k 3 h3, ne-eqb k 4 h4, ne-eqb k 5 h5, ne-eqb k 6 h6, ne-eqb k 7 h7, ne-eqb k 8 h8, ne-eqb k 9 h9, ne-eqb k 10 h10)
+      rw (ne-eqb k 1 h1, ne-eqb k 2 h2, ne-eqb k 3 h3, ne-eqb k 4 h4, ne-eqb k 5 h5, ne-eqb k 6 h6, ne-eqb k 7 h7, ne-eqb k 8 h8, ne-eqb k 9 h9, ne-eqb k 10 h10, ne-eqb k 11 h11)
 
   pub room-values : (p n : ℕ) → p + columns (kindOf r) ≤ n → p + r .count < n
   room-values p n h = omega (arith, h, ap columns kind-values, parts-long (r .count) (r .parts / 100))
 
-  pub settled-values : settled (kindOf r) ≡ true → lastOf (acrossOf (r .across)) ≤ r .count
+  pub settled-values : settled (kindOf r) ≡ true → covered (acrossOf (r .across)) (r .count) ≡ true
   settled-values e =
-      let q = sym (ap settled kind-values) ∙ e in
-      let l = leb-true (lastOf (acrossOf (r .across))) (length (partsOf (r .count) (r .parts / 100))) q in
-      omega (arith, l, parts-long (r .count) (r .parts / 100))
+      ap (covered (acrossOf (r .across))) (sym (parts-long (r .count) (r .parts / 100))) ∙ sym (ap settled kind-values) ∙ e
 
   pub puts-values : (k : Known) (at : ℕ) (c : List ℕ) (t t₁ : List ℤ) (p : ℕ) (a : Put)
       → Puts (readKind k (values (partOf (r .parts % 100)) (partsOf (r .count) (r .parts / 100)) (acrossOf (r .across))) 0 c) (λ v. sets t p (numbers v)) t₁ a

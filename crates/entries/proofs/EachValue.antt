@@ -2,7 +2,7 @@
 use Prim.Native.Nat.{ℕ, zero, suc, _+_, _-_, _/_, _%_, _<_, _≤_, min}
 use mathlib.Core.Path.{_≡_, refl, ap, sym, _∙_}
 use mathlib.Core.Bool.{Bool, true, false, cond}
-use mathlib.Core.List.{List, [], _∷_}
+use mathlib.Core.List.{List, [], _∷_, map}
 use mathlib.Core.Option.{Option, none, some}
 use native.Mathlib.Omega.{arith}
 use native.Mathlib.Numerals.{add-one, sub-one}
@@ -10,17 +10,18 @@ use lib.IntN.{ℤ, pos}
 use lib.Dec.{eqb}
 use lib.ListN.{length, getD, take, drop, set, length-set, length-drop}
 use lib.Seq.{sets, getD-set-same, getD-set-other, drop-drop}
+use borrow.Author.Tests.{eqb-true, leb-true}
 use Rattle.rules.specs.Base.{split, headOnto, isNil, within, indexOf}
 use Rattle.rules.specs.Numbers.{readCount, readFixed, isDay, isClock, readDecimal}
 use Rattle.rules.specs.RefusalNumbers.{Got, got, bad, unless, mapG, orBad, keep, consG, andThen}
-use Rattle.rules.specs.Values.{Num, num, natural, Known, Part, count, digit, typeDigits, range, rangeOfSymbols, rangeOfWires, day, clock, decimal, symbolName, layerId, readPart, readAll, nums, Value, Across, nothingMore, endsDiffer, arcOfCircle, axesOfEllipse, valueAt, agree, isLayerId, servedSymbols, servedWires, inBound}
+use Rattle.rules.specs.Values.{Num, num, amount, natural, Known, Part, count, digit, typeDigits, range, rangeOfSymbols, rangeOfWires, day, clock, decimal, symbolName, layerId, readPart, readAll, nums, Value, Across, nothingMore, endsDiffer, arcOfCircle, axesOfEllipse, servedPower, valueAt, agree, isLayerId, servedSymbols, servedWires, inBound}
 use Rattle.rules.specs.RecordTable.{numbers}
 use Rattle.leaves.specs.Bytes.{upTo, past}
 use Rattle.leaves.proofs.Scan.{rest-all}
 use Rattle.leaves.proofs.Cuts.{upTo-le, upTo-none, past-drop, split-last, split-more}
 use Rattle.tables.specs.Rows.{partOf, partsOf}
 use Rattle.entries.specs.Parts.{valOf, PieceIs}
-use Rattle.entries.specs.Entering.{On, Puts, doneOf, putVal, leastOf, plainly, lastOf, numberFrom, agreeFrom}
+use Rattle.entries.specs.Entering.{On, Puts, doneOf, putVal, leastOf, plainly, lastOf, covered, numberFrom, amountFrom, agreeFrom}
 use Rattle.entries.specs.declared.Val.{Val}
 use Rattle.entries.specs.declared.Val.the-variants as Vs
 use Rattle.entries.specs.declared.Piece.{Piece}
@@ -51,15 +52,42 @@ pub map-long : (v : List Num) → length (plainly v) ≡ length v
 map-long [] = refl
 map-long (n ∷ v) = ap suc (map-long v)
 
+pub covered-last : (a : Across) (n : ℕ) → covered a n ≡ true → lastOf a ≤ n
+covered-last nothingMore n e = omega arith
+covered-last endsDiffer n e = leb-true 4 n e
+covered-last arcOfCircle n e = leb-true 5 n e
+covered-last axesOfEllipse n e = leb-true 6 n e
+covered-last servedPower n e = let h = eqb-true n 2 e in omega (arith, h)
+
 module _ (v : List Num) (t : List ℤ) (p : ℕ) (l : p + length v ≤ length t) where
   number-at : (i : ℕ) → i < length v → numberFrom p (sets t p (plainly v)) i ≡ valueAt v i
   number-at i h = sets-at (pos 0) (plainly v) t p i (omega (arith, h, map-long v)) (omega (arith, l, map-long v)) ∙ value-map v i
 
-  agree-is : (a : Across) → lastOf a < length v → agreeFrom a p (sets t p (plainly v)) ≡ agree a v
-  agree-is nothingMore h = refl
-  agree-is endsDiffer h = rw (number-at 1 (omega arith), number-at 2 (omega arith), number-at 3 (omega arith), number-at 4 (omega arith))
-  agree-is arcOfCircle h = rw (number-at 4 (omega arith), number-at 5 (omega arith))
-  agree-is axesOfEllipse h = rw (number-at 3 (omega arith), number-at 4 (omega arith), number-at 5 (omega arith), number-at 6 (omega arith))
+  amount-at : (i : ℕ) → i < length v → amountFrom p (sets t p (plainly v)) i ≡ amount (num (valueAt v i))
+  amount-at i h = ap (λ (z : ℤ). amount (num z)) (number-at i h)
+
+  three-amounts : length v ≡ 3 → map amount v ≡ amount (num (valueAt v 0)) ∷ amount (num (valueAt v 1)) ∷ amount (num (valueAt v 2)) ∷ []
+  three-amounts e = go v e
+    where
+      go : (v : List Num) → length v ≡ 3 → map amount v ≡ amount (num (valueAt v 0)) ∷ amount (num (valueAt v 1)) ∷ amount (num (valueAt v 2)) ∷ []
+      go [] e = absurd (omega arith)
+      go (a ∷ []) e = absurd (omega arith)
+      go (a ∷ b ∷ []) e = absurd (omega arith)
+      go (a ∷ b ∷ c ∷ []) e = refl
+      go (a ∷ b ∷ c ∷ d ∷ v) e = absurd (omega arith)
+
+  agree-most : (a : Across) (n : ℕ) → length v ≡ suc n → covered a n ≡ true → lastOf a < length v
+  agree-most a n e h = omega (arith, e, covered-last a n h)
+
+  agree-is : (a : Across) (n : ℕ) → length v ≡ suc n → covered a n ≡ true → agreeFrom a p (sets t p (plainly v)) ≡ agree a v
+  agree-is nothingMore n e k = refl
+  agree-is endsDiffer n e k = let h = agree-most endsDiffer n e k in rw (number-at 1 (omega arith), number-at 2 (omega arith), number-at 3 (omega arith), number-at 4 (omega arith))
+  agree-is arcOfCircle n e k = let h = agree-most arcOfCircle n e k in rw (number-at 4 (omega arith), number-at 5 (omega arith))
+  agree-is axesOfEllipse n e k = let h = agree-most axesOfEllipse n e k in rw (number-at 3 (omega arith), number-at 4 (omega arith), number-at 5 (omega arith), number-at 6 (omega arith))
+  agree-is servedPower n e k =
+      let h = eqb-true n 2 k in
+      let q : length v ≡ 3 = omega (arith, e, h) in
+      rw (amount-at 0 (omega arith), amount-at 1 (omega arith), amount-at 2 (omega arith), three-amounts q)
 
 -- ── no value has a smaller number than 10 ──
 abbrev TenUp : {A : Type 0} → Got A → Type 0
@@ -259,10 +287,10 @@ keep-then m q f (got a) = refl
 keep-then m q f (bad n) = refl
 
 module _ (ac : Across) (t t₁ : List ℤ) (p n : ℕ) (a : Put) where
-  across-by : (g : Got (List Num)) (b : Bool) → On (λ v. length v ≡ n) g → Puts g (λ v. sets t p (plainly v)) t₁ a → a ≡ Done → lastOf ac < n → p + n ≤ length t → agreeFrom ac p t₁ ≡ b
+  across-by : (g : Got (List Num)) (b : Bool) → On (λ v. length v ≡ n) g → Puts g (λ v. sets t p (plainly v)) t₁ a → a ≡ Done → (m : ℕ) → n ≡ suc m → covered ac m ≡ true → p + n ≤ length t → agreeFrom ac p t₁ ≡ b
       → Puts (mapG nums (keep 11 (agree ac) g)) (λ v. sets t p (numbers v)) t₁ (cond b Done (Refused 11))
-  across-by (bad m) b s h d l r e = done-not m (sym d ∙ h .eq)
-  across-by (got v) b s h d l r e = go b (sym (agree-is v t p (omega (arith, s, r)) ac (omega (arith, s, l))) ∙ ap (agreeFrom ac p) (sym (h .filled)) ∙ e)
+  across-by (bad k) b s h d m z l r e = done-not k (sym d ∙ h .eq)
+  across-by (got v) b s h d m z l r e = go b (sym (agree-is v t p (omega (arith, s, r)) ac m (s ∙ z) l) ∙ ap (agreeFrom ac p) (sym (h .filled)) ∙ e)
     where
       go : (b : Bool) → agree ac v ≡ b → Puts (mapG nums (keep 11 (agree ac) (got v))) (λ v. sets t p (numbers v)) t₁ (cond b Done (Refused 11))
       go true q = rw q (record { eq = refl; filled = h .filled })
@@ -278,7 +306,7 @@ module _ (k : Known) (q : Part) (more rest : ℕ) (ss : List (List ℕ)) (ac : A
       rw (keep-then 11 (agree ac) nums (readAll k (q ∷ partsOf more rest) ss))
       (put-bad (readAll k (q ∷ partsOf more rest) ss) (λ (v : List Num). mapG nums (unless (agree ac v) 11 (got v))) (λ v. sets t p (plainly v)) (λ v. sets t p (numbers v)) t₁ t₁ a n e h)
 
-  pub across-told : (b : Bool) → a ≡ Done → lastOf ac ≤ more → p + more < length t → agreeFrom ac p t₁ ≡ b → Puts across (λ v. sets t p (numbers v)) t₁ (cond b Done (Refused 11))
+  pub across-told : (b : Bool) → a ≡ Done → covered ac more ≡ true → p + more < length t → agreeFrom ac p t₁ ≡ b → Puts across (λ v. sets t p (numbers v)) t₁ (cond b Done (Refused 11))
   across-told b d l r e =
       let s : On (λ v. length v ≡ suc (length (partsOf more rest))) (readAll k (q ∷ partsOf more rest) ss) = long-all k (q ∷ partsOf more rest) ss in
-      across-by ac t t₁ p (suc more) a (readAll k (q ∷ partsOf more rest) ss) b (rw (parts-long more rest) at s) h d (omega arith) (omega arith) e
+      across-by ac t t₁ p (suc more) a (readAll k (q ∷ partsOf more rest) ss) b (rw (parts-long more rest) at s) h d more refl l (omega arith) e

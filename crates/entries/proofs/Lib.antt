@@ -1,7 +1,9 @@
 pub mod NameScan
 pub mod OneValue
 pub mod EachValue
+pub mod PowerRows
 pub mod ByKind
+pub mod WireSerials
 pub mod ByShape
 pub mod LineActs
 pub mod TableActs

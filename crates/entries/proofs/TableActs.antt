@@ -15,7 +15,7 @@ use Rattle.rules.specs.declared.Opener.{Opener}
 use Rattle.rules.specs.declared.Equation.{Equation}
 use Rattle.rules.specs.declared.LineForm.{LineForm}
 use Rattle.rules.specs.declared.LineForm.the-variants as L
-use Rattle.rules.specs.Base.{all, within, hasNumber}
+use Rattle.rules.specs.Base.{all, hasNumber}
 use Rattle.rules.specs.RefusalNumbers.{Got, got, bad, unless, mapG, andThen}
 use Rattle.rules.specs.RangeClass.{reaches}
 use Rattle.rules.specs.Lines.{Rest, Shape, opener, noContent, content, opening, formless, shapeOf, hasForm, keyed, bytesAt, formIn}
@@ -102,7 +102,7 @@ module _ (d : Digits) (r : Rule) where
 
 -- tables that are told apart from the others
 abbrev isOwn : ℕ → Bool
-isOwn n = needsNone n || (eqb n 2 || (eqb n 18 || (eqb n 7 || eqb n 9)))
+isOwn n = needsNone n || (eqb n 2 || (eqb n 18 || (eqb n 7 || (eqb n 9 || eqb n 20))))
 
 none-all : (n : ℕ) → (not (needsNone n) || all isOptional (tableOf n)) ≡ true
 unfolding topTable fileTable rangeTable baseTable elecTable symTable laterTable drawingTable definesTable symbolTable elementTable layerTable figureTable pointTable textTable placedTable wireTable
@@ -116,8 +116,8 @@ module _ (d : Digits) (i : ℕ) where
   pub none-wanted : (n : ℕ) → needsNone n ≡ true → i < length (tableOf n) → false ≡ wanted d (ruleAt (tableOf n) i)
   none-wanted n e h = sym (unwanted d (ruleAt (tableOf n) i) (all-at isOptional (tableOf n) i (rw e at (none-all n)) h))
 
-  pub plain-wanted : (n : ℕ) → needsNone n ≡ false → (n ≡ 2 → ⊥) → (n ≡ 18 → ⊥) → (n ≡ 7 → ⊥) → (n ≡ 9 → ⊥) → i < length (tableOf n) → true ≡ wanted d (ruleAt (tableOf n) i)
-  plain-wanted n e a b c f h = sym (always d (ruleAt (tableOf n) i) (all-at isPlain (tableOf n) i (rw (e, ne-eqb n 2 a, ne-eqb n 18 b, ne-eqb n 7 c, ne-eqb n 9 f) at (plain-all n)) h))
+  pub plain-wanted : (n : ℕ) → needsNone n ≡ false → (n ≡ 2 → ⊥) → (n ≡ 18 → ⊥) → (n ≡ 7 → ⊥) → (n ≡ 9 → ⊥) → (n ≡ 20 → ⊥) → i < length (tableOf n) → true ≡ wanted d (ruleAt (tableOf n) i)
+  plain-wanted n e a b c f g h = sym (always d (ruleAt (tableOf n) i) (all-at isPlain (tableOf n) i (rw (e, ne-eqb n 2 a, ne-eqb n 18 b, ne-eqb n 7 c, ne-eqb n 9 f, ne-eqb n 20 g) at (plain-all n)) h))
 
 -- in a table with rows of both sorts: those that are not told apart by their numbers
 module _ (d : Digits) (i : ℕ) (t : List Rule) (js : List ℕ) where
@@ -291,17 +291,7 @@ room-more dump m n t h = all-weaken (roomy dump m) (roomy dump n) wider t
         let q = room-state dump m r e in
         rw (le-leb (placeOf (r .place) dump + columns (r .holds)) n (omega (arith, p)), lt-ltb (r .state) n (omega (arith, q)), room-settled dump m r e)
 
--- the first FILE_FORMAT and its inner parts: two records, and two numbers behind them
-pub room-file : (n : ℕ) → all (roomy 64 66) (tableOf n) ≡ true
+-- two records, and behind them the numbers of a row without a place: at most five
+pub room-file : (n : ℕ) → all (roomy 64 69) (tableOf n) ≡ true
 unfolding topTable fileTable rangeTable baseTable elecTable symTable laterTable drawingTable definesTable symbolTable elementTable layerTable figureTable pointTable textTable placedTable wireTable
-room-file n = by-table (λ n t. all (roomy 64 66) t ≡ true) n refl refl refl refl refl refl refl refl refl refl refl refl refl refl refl refl refl refl refl refl refl refl refl refl
-
--- one record, and two numbers behind it
-pub room-volume : (n : ℕ) → (eqb n 1 || all (roomy 32 34) (tableOf n)) ≡ true
-unfolding topTable fileTable rangeTable baseTable elecTable symTable laterTable drawingTable definesTable symbolTable elementTable layerTable figureTable pointTable textTable placedTable wireTable
-room-volume n = by-table (λ n t. (eqb n 1 || all (roomy 32 34) t) ≡ true) n refl refl refl refl refl refl refl refl refl refl refl refl refl refl refl refl refl refl refl refl refl refl refl (or-true (eqb n 1))
-
--- one record alone, where every row with numbers has its place
-pub room-record : (n : ℕ) → (within 1 6 n || (eqb n 10 || all (roomy 32 32) (tableOf n))) ≡ true
-unfolding topTable fileTable rangeTable baseTable elecTable symTable laterTable drawingTable definesTable symbolTable elementTable layerTable figureTable pointTable textTable placedTable wireTable
-room-record n = by-table (λ n t. (within 1 6 n || (eqb n 10 || all (roomy 32 32) t)) ≡ true) n refl refl refl refl refl refl refl refl refl refl refl refl refl refl refl refl refl refl refl refl refl refl refl (rw (or-true (eqb n 10)) (or-true (within 1 6 n)))
+room-file n = by-table (λ n t. all (roomy 64 69) t ≡ true) n refl refl refl refl refl refl refl refl refl refl refl refl refl refl refl refl refl refl refl refl refl refl refl refl

@@ -11,13 +11,14 @@ use lib.ListN.{length}
 use lib.Seq.{sets}
 use Rattle.rules.specs.Base.{all, split}
 use Rattle.rules.specs.RefusalNumbers.{Got, got, bad, unless, mapG, orBad, keep}
-use Rattle.rules.specs.Values.{Num, Known, Value, nums, chars, Kind, values, text, word, volumeName, sheet, ratio, serials, nothing, opens, headed, either, readKind, readPart, range, readAll, readRatio, findSheet, sheets, agree, byteIn, lettersAndDigits, capital}
+use Rattle.rules.specs.Values.{Num, Known, Value, nums, chars, Kind, values, text, word, volumeName, sheet, ratio, serials, wireSerial, nothing, opens, headed, either, readKind, readPart, range, readAll, readWireSerial, readRatio, findSheet, sheets, agree, byteIn, lettersAndDigits, capital}
 use Rattle.rules.specs.RecordTable.{numbers, given, columns, padded, putNumbers, putState, putSlot}
 use Rattle.rules.specs.Rows.{Rule}
 use Rattle.entries.specs.Entering.{On, plainly}
 use Rattle.entries.specs.Acts.{placeOf, putLine}
 use Rattle.entries.proofs.EachValue.{long-all, map-long}
 use Rattle.entries.proofs.ByKind.{on-linked-in, Two, OnSome, sheets-two, ratio-two}
+use Rattle.entries.proofs.WireSerials.{wire-long}
 
 pub padded-exact : (n : ℕ) (zs : List ℤ) → length zs ≡ n → padded n zs ≡ zs
 padded-exact zero [] e = refl
@@ -55,6 +56,10 @@ ratio-fill : (g : Got (List Num)) → On Two g → On (Fills 2) (mapG nums g)
 ratio-fill (got v) h = two-fill v h
 ratio-fill (bad n) h = tt
 
+wire-fill : (g : Got (List Num)) → On (λ v. length v ≡ 5) g → On (Fills 5) (mapG nums g)
+wire-fill (got v) h = nums-fill 5 v h
+wire-fill (bad n) h = tt
+
 one-fill : (g : Got Num) → On (Fills 1) (mapG (λ n. nums (n ∷ [])) g)
 one-fill (got n) = refl
 one-fill (bad m) = tt
@@ -67,6 +72,7 @@ kind-fills k volumeName at c = unless-fill (all (byteIn lettersAndDigits) c) 2 1
 kind-fills k sheet at c = sheet-fill (findSheet c sheets) (sheets-two c sheets)
 kind-fills k ratio at c = ratio-fill (readRatio c) (ratio-two c)
 kind-fills k serials at c = on-linked-in (Fills 2) (λ _ _. refl) c
+kind-fills k wireSerial at c = wire-fill (readWireSerial (split 44 c)) (wire-long (split 44 c))
 kind-fills k nothing at c = tt
 kind-fills k (opens i) at c = tt
 kind-fills k (headed i p) at c = one-fill (readPart k p c)

@@ -16,7 +16,7 @@ use Rattle.rules.specs.RecordTable.{numbers, given, columns, putState}
 use Rattle.entries.specs.Entering.{settled}
 use Rattle.entries.specs.declared.Next.{Next}
 use Rattle.entries.specs.declared.Next.the-variants as N
-use Rattle.tables.specs.Numbering.{tableTop, tableDefines, tableElement, tableSymbolPoints, tableWire, tableSingleWiredLayer}
+use Rattle.tables.specs.Numbering.{tableTop, tableDefines, tableElement, tableSymbolPoints, tableWiredLayer, tableSingleWiredLayer}
 use Rattle.entries.specs.Shapes.{sortOpener, sortOpening}
 
 -- ── the places ──
@@ -80,4 +80,4 @@ wanted d r = r .must && reaches d (r .least)
 
 -- the tables of which no row is required, by number
 abbrev pub needsNone : ℕ → Bool
-needsNone n = eqb n tableTop || (eqb n tableDefines || cond (leb tableWire n) (leb n tableSingleWiredLayer) (leb tableElement n && leb n tableSymbolPoints))
+needsNone n = eqb n tableTop || (eqb n tableDefines || cond (leb tableWiredLayer n) (leb n tableSingleWiredLayer) (leb tableElement n && leb n tableSymbolPoints))

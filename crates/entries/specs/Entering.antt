@@ -2,15 +2,15 @@
 use Prim.Native.Nat.{ℕ, _+_, min}
 use mathlib.Core.Path.{_≡_}
 use mathlib.Core.Bool.{Bool, true, _&&_, not}
-use mathlib.Core.List.{List, map}
-use lib.Dec.{leb}
+use mathlib.Core.List.{List, [], _∷_, map}
+use lib.Dec.{eqb, leb}
 use lib.IntN.{ℤ, pos}
 use lib.Signed.{ltZ}
 use lib.ListN.{length, getD, set}
-use Rattle.rules.specs.RefusalNumbers.{Got, got, bad}
-use Rattle.rules.specs.Base.{split}
-use Rattle.rules.specs.Values.{Num, Across, nothingMore, endsDiffer, arcOfCircle, axesOfEllipse, equalZ, Kind, values, text, word, volumeName, sheet, ratio}
-use Rattle.rules.specs.Values.{serials, nothing, opens, headed, either, readSerials}
+use Rattle.rules.specs.RefusalNumbers.{Got, got, bad, mapG, consG}
+use Rattle.rules.specs.Base.{flat, among, split}
+use Rattle.rules.specs.Values.{Num, num, amount, Across, nothingMore, endsDiffer, arcOfCircle, axesOfEllipse, servedPower, equalZ, powers, Kind, values, text, word}
+use Rattle.rules.specs.Values.{volumeName, sheet, ratio, serials, wireSerial, nothing, opens, headed, either, readSerials, readPartner}
 use Rattle.leaves.specs.declared.Count.{Count}
 use Rattle.leaves.specs.declared.Count.the-variants as C
 use Rattle.entries.specs.declared.Val.{Val}
@@ -56,9 +56,22 @@ lastOf nothingMore = 0
 lastOf endsDiffer = 4
 lastOf arcOfCircle = 5
 lastOf axesOfEllipse = 6
+lastOf servedPower = 2
+
+-- a row of one value and n more has those that its rule speaks of; power's speaks of all of them
+abbrev pub covered : Across → ℕ → Bool
+covered nothingMore n = true
+covered endsDiffer n = leb 4 n
+covered arcOfCircle n = leb 5 n
+covered axesOfEllipse n = leb 6 n
+covered servedPower n = eqb n 2
 
 abbrev pub numberFrom : ℕ → List ℤ → ℕ → ℤ
 numberFrom p t i = getD t (p + i) (pos 0)
+
+-- a number as a natural one
+abbrev pub amountFrom : ℕ → List ℤ → ℕ → ℕ
+amountFrom p t i = amount (num (numberFrom p t i))
 
 -- the rules across values, of the numbers from place p on
 abbrev pub agreeFrom : Across → ℕ → List ℤ → Bool
@@ -66,17 +79,19 @@ agreeFrom nothingMore p t = true
 agreeFrom endsDiffer p t = not (equalZ (numberFrom p t 1) (numberFrom p t 3) && equalZ (numberFrom p t 2) (numberFrom p t 4))
 agreeFrom arcOfCircle p t = not (equalZ (numberFrom p t 4) (numberFrom p t 5))
 agreeFrom axesOfEllipse p t = ltZ (numberFrom p t 4) (numberFrom p t 3) && not (equalZ (numberFrom p t 5) (numberFrom p t 6))
+agreeFrom servedPower p t = among (amountFrom p t 0 ∷ amountFrom p t 1 ∷ amountFrom p t 2 ∷ []) powers
 
 -- ── kinds ──
 -- the rule across a row's values speaks of values that the row has
 abbrev pub settled : Kind → Bool
-settled (values p ps a) = leb (lastOf a) (length ps)
+settled (values p ps a) = covered a (length ps)
 settled (text n b) = true
 settled (word n b) = true
 settled volumeName = true
 settled sheet = true
 settled ratio = true
 settled serials = true
+settled wireSerial = true
 settled nothing = true
 settled (opens i) = true
 settled (headed i p) = true
@@ -89,3 +104,10 @@ longOf (bad n) = C.Not
 
 unfoldable pub serialsIn : List ℕ → Count
 serialsIn c = longOf (readSerials (split 44 c))
+
+-- the two partners of a wire, behind its own number
+abbrev pub readEnds : List (List ℕ) → Got (List Num)
+readEnds [] = bad 10
+readEnds (a ∷ []) = bad 10
+readEnds (a ∷ b ∷ []) = mapG flat (consG (readPartner a) (consG (readPartner b) (got [])))
+readEnds (a ∷ b ∷ c ∷ s) = bad 10

@@ -6,6 +6,7 @@ use crate::required::drawing_wants;
 use crate::required::placed_wants;
 use crate::required::range_wants;
 use crate::required::symbol_wants;
+use crate::required::wire_wants;
 use crate::row_lines::act_row;
 use crate::shapes::key_of;
 use crate::shapes::rest_of;
@@ -25,6 +26,7 @@ use tables::TABLE_SYMBOL;
 use tables::TABLE_SYMBOL_POINTS;
 use tables::TABLE_TOP;
 use tables::TABLE_WIRE;
+use tables::TABLE_WIRED_LAYER;
 use tables::lookup::row_of;
 ghost use mathlib.Core.Path.{_≡_};
 ghost use mathlib.Core.Bool.{true, false, cond};
@@ -39,7 +41,7 @@ ghost use Rattle.entries.specs.Names.{knownIn};
 ghost use Rattle.entries.specs.Shapes.{restIn};
 ghost use Rattle.entries.specs.Acts.{roomy, nextOf, Acts, wanted, needsNone};
 
-// Blocks that need not have any of their rows: those outside all blocks, of definitions, layers, figures, points and wires.
+// Blocks that need not have any of their rows: those outside all blocks, of definitions, layers, figures and points.
 fn needs_none(table: u8) -> bool
     ensures { λ r. ⌜ r ≡ needsNone table ⌝ }
 {
@@ -49,7 +51,7 @@ fn needs_none(table: u8) -> bool
     if table == TABLE_DEFINES {
         return true;
     }
-    if TABLE_WIRE <= table {
+    if TABLE_WIRED_LAYER <= table {
         return table <= TABLE_SINGLE_WIRED_LAYER;
     }
     if TABLE_ELEMENT <= table {
@@ -77,6 +79,9 @@ fn wants(table: u8, row: usize, d: Digits) -> bool
     }
     if table == TABLE_SYMBOL {
         return symbol_wants(row, d);
+    }
+    if table == TABLE_WIRE {
+        return wire_wants(row, d);
     }
     true
 }

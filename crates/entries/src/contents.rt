@@ -3,6 +3,7 @@ use crate::Put;
 use crate::parts::single;
 use crate::values::put_value;
 use crate::values::values;
+use crate::wire_serials::put_wire_serial;
 use leaves::Count;
 use leaves::Ratio;
 use leaves::Sheet;
@@ -21,6 +22,7 @@ use tables::HOLDS_SERIALS;
 use tables::HOLDS_SHEET;
 use tables::HOLDS_TEXT;
 use tables::HOLDS_VOLUME_NAME;
+use tables::HOLDS_WIRE_SERIAL;
 use tables::HOLDS_WORD;
 use tables::PART_RANGE_0_1;
 use tables::Row;
@@ -39,7 +41,7 @@ ghost use Rattle.entries.specs.Names.{knownIn};
 ghost use Rattle.entries.specs.Entering.{Puts, settled, serialsIn};
 
 // Two numbers, one behind the other.
-fn put_two(a: u64, b: u64, p: usize, rec: &mut [i64])
+pub(crate) fn put_two(a: u64, b: u64, p: usize, rec: &mut [i64])
     requires { ⌜ (a < 100000000000) × (b < 100000000000) × (p + 2 ≤ length (now rec)) ⌝ }
     ensures { λ _. ⌜ now (rec .exit) ≡ sets (now (rec .entry)) p (pos a ∷ pos b ∷ []) ⌝ }
 {
@@ -179,6 +181,9 @@ pub(crate) fn read_kind(
     }
     if row.kind == HOLDS_EITHER {
         return put_value(single(PART_RANGE_0_1, s, symbols, layers, c), p, rec);
+    }
+    if row.kind == HOLDS_WIRE_SERIAL {
+        return put_wire_serial(c, p, rec);
     }
     values(row, s, symbols, layers, c, p, rec)
 }

@@ -3,10 +3,12 @@ pub mod acts;
 mod contents;
 pub mod names;
 mod parts;
+mod powers;
 mod required;
 pub mod row_lines;
 pub mod shapes;
 mod values;
+mod wire_serials;
 
 use rules::Span;
 

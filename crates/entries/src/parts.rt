@@ -19,7 +19,9 @@ use tables::PART_ANY_SIGN;
 use tables::PART_CLOCK;
 use tables::PART_COUNT;
 use tables::PART_DAY;
+use tables::PART_DIGIT;
 use tables::PART_FLAG;
+use tables::PART_HALF_TURN;
 use tables::PART_LAYER_ID;
 use tables::PART_NOT_NEGATIVE;
 use tables::PART_POSITION;
@@ -27,12 +29,16 @@ use tables::PART_RANGE_0;
 use tables::PART_RANGE_0_1;
 use tables::PART_RANGE_0_2;
 use tables::PART_RANGE_1;
+use tables::PART_SIGN;
 use tables::PART_SYMBOL_NAME;
 use tables::PART_SYMBOL_RANGE;
 use tables::PART_WIRE_RANGE;
 ghost use mathlib.Core.Path.{_≡_};
 ghost use mathlib.Core.List.{[]};
+ghost use mathlib.Core.Bool.{_&&_};
 ghost use Prim.Native.Nat.{_<_, _≤_};
+ghost use lib.IntN.{pos};
+ghost use lib.Signed.{leZ};
 ghost use lib.ListN.{length};
 ghost use Rattle.rules.specs.Base.{within as inRange};
 ghost use Rattle.rules.specs.Values.{servedSymbols, servedWires, inBound, layerId, readPart};
@@ -43,9 +49,14 @@ ghost use Rattle.entries.specs.Parts.{valOf, countVal, readingVal, index
 // The most that the first, the middle and the last digit of E_wire may be. (They have the same names in the definitions' Values.)
 const MOST_JOIN_DIGIT: u64 = 4;
 
-const MOST_WIRE_MIDDLE: u64 = 0;
+const MOST_WIRE_MIDDLE: u64 = 1;
 
-const MOST_WIRE_LAST: u64 = 1;
+const MOST_WIRE_LAST: u64 = 8;
+
+// angles in ten-thousandths of a degree
+const HALF_TURN: i64 = 1800000;
+
+const FULL_TURN: i64 = 3600000;
 
 // A number within limits; beyond them it has a refusal of its own.
 fn limited(n: Count, lo: u64, hi: u64, otherwise: u8) -> Val
@@ -105,6 +116,16 @@ fn served_wires(n: Count) -> Val
     Val::Bad(12)
 }
 
+// An angle from 0 on.
+fn turned(z: i64, most: i64) -> bool
+    ensures { λ r. ⌜ r ≡ (leZ (pos 0) z && leZ z most) ⌝ }
+{
+    if 0 <= z {
+        return z <= most;
+    }
+    false
+}
+
 // The sign and limit of a decimal.
 fn in_bound(bound: u64, z: i64) -> bool
     ensures { λ r. ⌜ r ≡ inBound (boundOf bound) z ⌝ }
@@ -118,10 +139,10 @@ fn in_bound(bound: u64, z: i64) -> bool
     if bound == PART_ABOVE_ZERO {
         return 0 < z;
     }
-    if 0 <= z {
-        return z <= 3600000;
+    if bound == PART_HALF_TURN {
+        return turned(z, HALF_TURN);
     }
-    false
+    turned(z, FULL_TURN)
 }
 
 fn bounded(bound: u64, r: Reading) -> Val
@@ -199,6 +220,12 @@ fn whole(code: u64, s: &[u8], symbols: &[u32], layers: &[u32], c: &[u8]) -> Val
     }
     if code == PART_WIRE_RANGE {
         return served_wires(fixed(c, 3));
+    }
+    if code == PART_SIGN {
+        return limited(fixed(c, 1), 0, 4, 11);
+    }
+    if code == PART_DIGIT {
+        return limited(fixed(c, 1), 0, 9, 11);
     }
     limited(fixed(c, 4), 0, 9999, 10)
 }

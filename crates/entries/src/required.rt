@@ -6,7 +6,7 @@ ghost use mathlib.Core.Path.{_≡_};
 ghost use Prim.Native.Nat.{_<_};
 ghost use Rattle.rules.specs.RecordTable.{ruleAt};
 ghost use Rattle.tables.specs.Tables.{tableOf};
-ghost use Rattle.tables.specs.Numbering.{tableRange, tableDrawing, tableSymbol, tablePlaced};
+ghost use Rattle.tables.specs.Numbering.{tableRange, tableDrawing, tableSymbol, tablePlaced, tableWire};
 ghost use Rattle.entries.specs.Acts.{wanted};
 
 // `range`.
@@ -60,6 +60,26 @@ pub(crate) fn placed_wants(row: usize, d: Digits) -> bool
         return reaches(d, Digits { middle: 0, last: 5 });
     }
     if row == 5 {
+        return reaches(d, Digits { middle: 1, last: 0 });
+    }
+    false
+}
+
+// A wire's block; its range is the last two digits of E_wire.
+pub(crate) fn wire_wants(row: usize, d: Digits) -> bool
+    requires { ⌜ row < 10 ⌝ }
+    ensures { λ r. ⌜ r ≡ wanted d (ruleAt (tableOf tableWire) row) ⌝ }
+{
+    if row == 6 {
+        return reaches(d, Digits { middle: 0, last: 6 });
+    }
+    if row == 7 {
+        return reaches(d, Digits { middle: 0, last: 7 });
+    }
+    if row == 8 {
+        return reaches(d, Digits { middle: 0, last: 8 });
+    }
+    if row == 9 {
         return reaches(d, Digits { middle: 1, last: 0 });
     }
     false

@@ -2,11 +2,15 @@
 use crate::Put;
 use crate::Val;
 use crate::parts::piece;
+use crate::powers::amount_at;
+use crate::powers::served_power;
 use tables::ACROSS_ARC;
 use tables::ACROSS_AXES;
 use tables::ACROSS_ENDS;
+use tables::ACROSS_POWER;
 use tables::Row;
 ghost use mathlib.Core.Path.{_≡_};
+ghost use mathlib.Core.Bool.{true};
 ghost use mathlib.Core.List.{_∷_};
 ghost use Prim.Native.Nat.{_+_, _/_, _%_, _<_, _≤_};
 ghost use lib.IntN.{pos};
@@ -18,7 +22,7 @@ ghost use Rattle.rules.specs.Values.{readAll, readKind, values, equalZ};
 ghost use Rattle.rules.specs.RecordTable.{numbers};
 ghost use Rattle.tables.specs.Rows.{partOf, partsOf, acrossOf};
 ghost use Rattle.entries.specs.Names.{knownIn};
-ghost use Rattle.entries.specs.Entering.{Puts, doneOf, putVal, leastOf, plainly, lastOf, agreeFrom};
+ghost use Rattle.entries.specs.Entering.{Puts, doneOf, putVal, leastOf, plainly, lastOf, covered, agreeFrom};
 
 // A value to its place, where it is one.
 pub(crate) fn put_value(v: Val, p: usize, rec: &mut [i64]) -> Put
@@ -131,6 +135,13 @@ fn agree(across: u8, rec: &[i64], p: usize) -> bool
         }
         return false;
     }
+    if across == ACROSS_POWER {
+        return served_power(
+            amount_at(rec, p),
+            amount_at(rec, p + 1),
+            amount_at(rec, p + 2),
+        );
+    }
     true
 }
 
@@ -144,7 +155,7 @@ pub(crate) fn values(
     p: usize,
     rec: &mut [i64],
 ) -> Put
-    requires { ⌜ (length (now symbols) ≤ 65536) × (length (now layers) ≤ 65536) × (p + row .count < length (now rec)) × (lastOf (acrossOf (row .across)) ≤ row .count) ⌝ }
+    requires { ⌜ (length (now symbols) ≤ 65536) × (length (now layers) ≤ 65536) × (p + row .count < length (now rec)) × (covered (acrossOf (row .across)) (row .count) ≡ true) ⌝ }
     ensures { λ r. ⌜ Puts (readKind (knownIn (now (s .entry)) (now (symbols .entry)) (now (layers .entry))) (values (partOf (row .parts % 100)) (partsOf (row .count) (row .parts / 100)) (acrossOf (row .across))) 0 (now (c .entry))) (λ v. sets (now (rec .entry)) p (numbers v)) (now (rec .exit)) r ⌝ }
 {
     let a = each(row.parts, row.count, s, symbols, layers, c, p, rec);

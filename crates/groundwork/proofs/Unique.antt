@@ -7,8 +7,12 @@ use mathlib.Core.Path.{_≡_, sym, _∙_}
 use lib.IntN.{ℤ, pos}
 use lib.ListN.{length, replicate}
 use denote.Ref.{now}
+use Rattle.rules.specs.declared.Class.{Class}
+use Rattle.rules.specs.declared.Span.{Span}
 use Rattle.rules.specs.RangeClass.{classOf}
 use Rattle.leaves.proofs.Unique.{One}
+use Rattle.entries.specs.declared.Rest.{Rest as Behind}
+use Rattle.entries.specs.Shapes.{restIn}
 use Rattle.lines.specs.declared.Seen.{Seen}
 use Rattle.account.specs.declared.MaybeClass.{MaybeClass}
 use Rattle.account.specs.declared.Now.{Now}
@@ -18,6 +22,7 @@ use Rattle.account.specs.declared.Volume.{Volume}
 use Rattle.account.specs.Account.{atBlock}
 use Rattle.account.specs.Classes.{classIn}
 use Rattle.account.specs.Putting.{withinLimit, completed, numberFor, putBy, clearedBy, ownAfter}
+use Rattle.account.specs.SerialNumbers.{contentAt, SerialLine, partnersMet}
 use Rattle.account.specs.Walk.{seenFrom}
 use Rattle.groundwork.proofs.blocks.at_block as at-block′
 use Rattle.groundwork.proofs.classes.class_of as class-of′
@@ -25,6 +30,9 @@ use Rattle.groundwork.proofs.putting.own_after as own-after′
 use Rattle.groundwork.proofs.putting.put_done as put-done′
 use Rattle.groundwork.proofs.putting.within as within′
 use Rattle.groundwork.proofs.table.clear as clear′
+use Rattle.groundwork.proofs.serials.content_at as content-at′
+use Rattle.groundwork.proofs.serials.keep_own as keep-own′
+use Rattle.groundwork.proofs.serials.partners_met as partners-met′
 use Rattle.groundwork.proofs.walk.next_line as next-line′
 
 -- ── blocks and classes ──
@@ -39,6 +47,27 @@ class-of-unique n w r₁ r₂ c₁ c₂ = c₁ ∙ sym c₂
 
 class-of-code : One class-of′.Kinds.ps class-of′.Kinds.r class-of′.Reads.Learnt (λ κs r e. r)
 class-of-code κs x r₁ r₂ e₁ e₂ = class-of-unique (x .0) (x .1 .0) r₁ r₂
+
+-- ── own numbers and partners ──
+pub content-at-unique : (s : List ℕ) (rest : Behind) (r₁ r₂ : Span) → r₁ ≡ contentAt (restIn s rest) → r₂ ≡ contentAt (restIn s rest) → r₁ ≡ r₂
+content-at-unique s rest r₁ r₂ c₁ c₂ = c₁ ∙ sym c₂
+
+content-at-code : One content-at′.Kinds.ps content-at′.Kinds.r content-at′.Reads.Learnt (λ κs r e. r)
+content-at-code κs x r₁ r₂ e₁ e₂ = content-at-unique (now (x .0)) (x .1 .0) r₁ r₂
+
+-- (after a refusal nothing is said of what is lent)
+pub keep-own-answer : (here : Now) (own : ℕ) (at : Span) (t s t₁ s₁ t₂ s₂ : List ℕ) (r₁ r₂ : Step) → SerialLine here own at t t₁ s s₁ r₁ → SerialLine here own at t t₂ s s₂ r₂ → r₁ ≡ r₂
+keep-own-answer here own at t s t₁ s₁ t₂ s₂ r₁ r₂ c₁ c₂ = c₁ .answer ∙ sym (c₂ .answer)
+
+keep-own-code : One keep-own′.Kinds.ps keep-own′.Kinds.r keep-own′.Reads.Learnt (λ κs r e. r)
+keep-own-code κs x r₁ r₂ e₁ e₂ =
+    keep-own-answer (x .0) (x .1 .0) (x .1 .1 .0) (now (x .1 .1 .1 .0)) (now (x .1 .1 .1 .1 .0)) (now (e₁ .1 .1 .1 .0)) (now (e₁ .1 .1 .1 .1 .0)) (now (e₂ .1 .1 .1 .0)) (now (e₂ .1 .1 .1 .1 .0)) r₁ r₂
+
+pub partners-met-unique : (did : Step) (class : Class) (s tally serials : List ℕ) (r₁ r₂ : Step) → r₁ ≡ partnersMet class s tally serials did → r₂ ≡ partnersMet class s tally serials did → r₁ ≡ r₂
+partners-met-unique did class s tally serials r₁ r₂ c₁ c₂ = c₁ ∙ sym c₂
+
+partners-met-code : One partners-met′.Kinds.ps partners-met′.Kinds.r partners-met′.Reads.Learnt (λ κs r e. r)
+partners-met-code κs x r₁ r₂ e₁ e₂ = partners-met-unique (x .0) (x .1 .0) (now (x .1 .1 .0)) (now (x .1 .1 .1 .0)) (now (x .1 .1 .1 .1 .0)) r₁ r₂
 
 -- ── a line ──
 pub next-line-unique : (body : List ℕ) (v : Volume) (p : Pos) (r₁ r₂ : Seen) → r₁ ≡ seenFrom body v p → r₂ ≡ seenFrom body v p → r₁ ≡ r₂

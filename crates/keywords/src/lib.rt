@@ -37,6 +37,7 @@ use tables::keys::CIRCLE;
 use tables::keys::CIRCUIT;
 use tables::keys::CORP;
 use tables::keys::DATE;
+use tables::keys::DIREC;
 use tables::keys::DRAWER;
 use tables::keys::DRAWING_FORMAT;
 use tables::keys::DRAWNAME;
@@ -55,15 +56,19 @@ use tables::keys::HIDE;
 use tables::keys::HIGHT;
 use tables::keys::LAYER;
 use tables::keys::LAYER_NAME;
+use tables::keys::LENGTH;
 use tables::keys::LINE;
 use tables::keys::MAKE;
 use tables::keys::NAME;
 use tables::keys::NEXT_FILE;
 use tables::keys::NON;
+use tables::keys::NUM;
 use tables::keys::OS;
+use tables::keys::PIEND;
 use tables::keys::PIPE;
 use tables::keys::POINT;
 use tables::keys::POS;
+use tables::keys::POWER;
 use tables::keys::PROJECT;
 use tables::keys::RANGE;
 use tables::keys::S_BASE;
@@ -424,7 +429,7 @@ fn placed_key(row: u8, out: &mut [u8]) -> Wrote
     Wrote::Bytes(0)
 }
 
-// A wire's block.
+// A wire's block; its range is the last two digits of E_wire.
 fn wire_key(row: u8, out: &mut [u8]) -> Wrote
     ensures { λ r. ⌜ Puts (keyAt wireTable row) (now (out .entry)) (now (out .exit)) r ⌝ }
 {
@@ -433,6 +438,30 @@ fn wire_key(row: u8, out: &mut [u8]) -> Wrote
     }
     if row == 1 {
         return put(&CIRCLE, out);
+    }
+    if row == 2 {
+        return put(&DIREC, out);
+    }
+    if row == 3 {
+        return put(&PIEND, out);
+    }
+    if row == 4 {
+        return put(&NUM, out);
+    }
+    if row == 5 {
+        return put(&TEXT, out);
+    }
+    if row == 6 {
+        return put(&LENGTH, out);
+    }
+    if row == 7 {
+        return put(&CIRCUIT, out);
+    }
+    if row == 8 {
+        return put(&POWER, out);
+    }
+    if row == 9 {
+        return put(&SERIAL, out);
     }
     Wrote::Bytes(0)
 }

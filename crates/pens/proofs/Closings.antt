@@ -19,7 +19,7 @@ use Rattle.pens.specs.declared.Drawn.the-variants as D
 use Rattle.pens.specs.Texts.{Draws, Safe}
 use Rattle.pens.specs.Moves.{moved}
 use Rattle.pens.specs.Noting.{NotedRows, tablesOf, notesFrom, partTable, NotedParts}
-use Rattle.pens.specs.Closing.{shutBytes, Shuts, ShutsRows, ShutsPart, ShutsDrawing, ShutsSymbol, aroundBlock, inPart, partClosed, CloseDone}
+use Rattle.pens.specs.Closing.{shutBytes, Shuts, ShutsRows, ShutsPart, ShutsDrawing, ShutsSymbol, aroundBlock, inPart, partClosed, CloseDone, WireDone}
 use Rattle.pens.specs.Writing.{Named, notedBase}
 use Rattle.pens.specs.KeyWriting.{Kept}
 use Rattle.pens.proofs.Writers.{drawn-none, kept-moved}
@@ -93,7 +93,7 @@ module _ (spool : List ℕ) (first : Bool) (p : Pen) (ns before after : List ℕ
   done-text b e h w = record {
     figures = other 10 8 refl h;
     chain = other 10 9 refl h;
-    wire = other 10 12 refl h;
+    wire-text = other 10 12 refl h;
     text = λ _. subst (λ (x : ℕ). ShutsRows spool x p 8 ns before after d) e w;
     placed = other 10 11 refl h;
     placed-text = other 10 11 refl h;
@@ -111,7 +111,7 @@ module _ (spool : List ℕ) (first : Bool) (p : Pen) (ns before after : List ℕ
   done-drawing h w = record {
     figures = other 2 8 refl h;
     chain = other 2 9 refl h;
-    wire = other 2 12 refl h;
+    wire-text = other 2 12 refl h;
     text = other 2 10 refl h;
     placed = other 2 11 refl h;
     placed-text = other 2 11 refl h;
@@ -129,7 +129,7 @@ module _ (spool : List ℕ) (first : Bool) (p : Pen) (ns before after : List ℕ
   done-symbol h w = record {
     figures = other 5 8 refl h;
     chain = other 5 9 refl h;
-    wire = other 5 12 refl h;
+    wire-text = other 5 12 refl h;
     text = other 5 10 refl h;
     placed = other 5 11 refl h;
     placed-text = other 5 11 refl h;
@@ -144,14 +144,14 @@ module _ (spool : List ℕ) (first : Bool) (p : Pen) (ns before after : List ℕ
   }
 
   -- the block around an inner part is open
-  no-part : {P : Type 0} (i : ℕ) → (eqb (p .block) 1 || eqb (p .block) 11) ≡ true → inPart p ≡ false → p .part ≡ suc i → P
+  no-part : {P : Type 0} (i : ℕ) → (eqb (p .block) 1 || (eqb (p .block) 12 || eqb (p .block) 11)) ≡ true → inPart p ≡ false → p .part ≡ suc i → P
   no-part i b e h = clash (rw (ne-eqb (p .part) 0 (λ z. absurd (omega (arith, z, h)))) b) e
 
   pub done-placed : p .block ≡ 11 → inPart p ≡ false → ShutsRows spool 18 p 8 ns before after d → CloseDone spool first p ns before after d
   done-placed h o w = record {
     figures = other 11 8 refl h;
     chain = other 11 9 refl h;
-    wire = other 11 12 refl h;
+    wire-text = other 11 12 refl h;
     text = other 11 10 refl h;
     placed = λ _ _. w;
     placed-text = λ _ i e. no-part i (rw h) o e;
@@ -169,7 +169,7 @@ module _ (spool : List ℕ) (first : Bool) (p : Pen) (ns before after : List ℕ
   done-file b e h o w = record {
     figures = other 1 8 refl h;
     chain = other 1 9 refl h;
-    wire = other 1 12 refl h;
+    wire-text = other 1 12 refl h;
     text = other 1 10 refl h;
     placed = other 1 11 refl h;
     placed-text = other 1 11 refl h;
@@ -183,6 +183,24 @@ module _ (spool : List ℕ) (first : Bool) (p : Pen) (ns before after : List ℕ
     elements = other 1 7 refl h;
   }
 
+  pub done-wire : p .block ≡ 12 → inPart p ≡ false → CloseDone spool first p ns before after d
+  done-wire h o = record {
+    figures = other 12 8 refl h;
+    chain = other 12 9 refl h;
+    wire-text = λ _ i e. no-part i (rw h) o e;
+    text = other 12 10 refl h;
+    placed = other 12 11 refl h;
+    placed-text = other 12 11 refl h;
+    file = other 12 1 refl h;
+    file-part = other 12 1 refl h;
+    drawing = other 12 2 refl h;
+    names = other 12 3 refl h;
+    defines = other 12 4 refl h;
+    symbol = other 12 5 refl h;
+    hide = other 12 6 refl h;
+    elements = other 12 7 refl h;
+  }
+
   -- an inner part closes
   none-open : {P : Type 0} → 1 ≤ p .part → p .part ≡ 0 → P
   none-open o e = absurd (omega (arith, o, e))
@@ -191,7 +209,7 @@ module _ (spool : List ℕ) (first : Bool) (p : Pen) (ns before after : List ℕ
   done-placed-text h o w = record {
     figures = other 11 8 refl h;
     chain = other 11 9 refl h;
-    wire = other 11 12 refl h;
+    wire-text = other 11 12 refl h;
     text = other 11 10 refl h;
     placed = λ _ e. none-open o e;
     placed-text = λ _. w;
@@ -205,11 +223,29 @@ module _ (spool : List ℕ) (first : Bool) (p : Pen) (ns before after : List ℕ
     elements = other 11 7 refl h;
   }
 
+  pub done-wire-text : p .block ≡ 12 → 1 ≤ p .part → ((i : ℕ) → p .part ≡ suc i → ShutsPart p 12 0 before after d) → CloseDone spool first p ns before after d
+  done-wire-text h o w = record {
+    figures = other 12 8 refl h;
+    chain = other 12 9 refl h;
+    wire-text = λ _. w;
+    text = other 12 10 refl h;
+    placed = other 12 11 refl h;
+    placed-text = other 12 11 refl h;
+    file = other 12 1 refl h;
+    file-part = other 12 1 refl h;
+    drawing = other 12 2 refl h;
+    names = other 12 3 refl h;
+    defines = other 12 4 refl h;
+    symbol = other 12 5 refl h;
+    hide = other 12 6 refl h;
+    elements = other 12 7 refl h;
+  }
+
   pub done-file-part : p .block ≡ 1 → 1 ≤ p .part → ((i : ℕ) → p .part ≡ suc i → ShutsPart p 1 (around (suc i)) before after d) → CloseDone spool first p ns before after d
   done-file-part h o w = record {
     figures = other 1 8 refl h;
     chain = other 1 9 refl h;
-    wire = other 1 12 refl h;
+    wire-text = other 1 12 refl h;
     text = other 1 10 refl h;
     placed = other 1 11 refl h;
     placed-text = other 1 11 refl h;
@@ -224,12 +260,12 @@ module _ (spool : List ℕ) (first : Bool) (p : Pen) (ns before after : List ℕ
   }
 
   -- all that is written is the `}`
-  pub done-shut : (b : ℕ) → b ≡ aroundBlock p → Shuts p b before after d → (p .block ≡ 10 → ⊥) → (p .block ≡ 11 → ⊥) → (p .block ≡ 1 → ⊥) → (p .block ≡ 2 → ⊥) → (p .block ≡ 5 → ⊥)
+  pub done-shut : (b : ℕ) → b ≡ aroundBlock p → Shuts p b before after d → (p .block ≡ 10 → ⊥) → (p .block ≡ 11 → ⊥) → (p .block ≡ 12 → ⊥) → (p .block ≡ 1 → ⊥) → (p .block ≡ 2 → ⊥) → (p .block ≡ 5 → ⊥)
       → CloseDone spool first p ns before after d
-  done-shut b e w x10 x11 x1 x2 x5 = record {
+  done-shut b e w x10 x11 x12 x1 x2 x5 = record {
     figures = λ h. there _ (rw h);
     chain = λ h. there 8 (rw h);
-    wire = λ h. there 8 (rw h);
+    wire-text = λ h. absurd (x12 h);
     text = λ h. absurd (x10 h);
     placed = λ h. absurd (x11 h);
     placed-text = λ h. absurd (x11 h);
@@ -246,25 +282,37 @@ module _ (spool : List ℕ) (first : Bool) (p : Pen) (ns before after : List ℕ
       there : (x : ℕ) → aroundBlock p ≡ x → Shuts p x before after d
       there x f = subst (λ (y : ℕ). Shuts p y before after d) (e ∙ f) w
 
--- an inner part of FILE_FORMAT or of a placed symbol closes
-pub done-part : (spool : List ℕ) (first : Bool) (p q : Pen) (ns out : List ℕ) → inPart p ≡ true → q ≡ partClosed p → CloseDone spool first p ns out out (D.Go q)
-done-part spool first p q ns out o e = go (eqb (p .block) 1) refl (eqb (p .block) 11) refl
+-- an inner part of FILE_FORMAT, of a placed symbol or of a wire closes
+pub done-part : (spool : List ℕ) (first : Bool) (p q : Pen) (ns out : List ℕ) → inPart p ≡ true → q ≡ partClosed p
+    → CloseDone spool first p ns out out (D.Go q)
+done-part spool first p q ns out o e = go (eqb (p .block) 1) refl (eqb (p .block) 12) refl (eqb (p .block) 11) refl
   where
     some : 1 ≤ p .part
     some = part-open p o
 
-    go : (a : Bool) → eqb (p .block) 1 ≡ a → (b : Bool) → eqb (p .block) 11 ≡ b → CloseDone spool first p ns out out (D.Go q)
-    go true f b g =
+    go : (a : Bool) → eqb (p .block) 1 ≡ a → (w : Bool) → eqb (p .block) 12 ≡ w → (b : Bool) → eqb (p .block) 11 ≡ b → CloseDone spool first p ns out out (D.Go q)
+    go true f w i b g =
         let h : p .block ≡ 1 = eqb-true (p .block) 1 f in
         done-file-part spool first p ns out out (D.Go q) h some (λ i s. (ap D.Go (e ∙ rw h (ap (λ (x : ℕ). moved p 0 1 (around x)) s)), refl))
-    go false f true g =
+    go false f true i b g =
+        let h : p .block ≡ 12 = eqb-true (p .block) 12 i in
+        done-wire-text spool first p ns out out (D.Go q) h some (λ i s. (ap D.Go (e ∙ rw h), refl))
+    go false f false i true g =
         let h : p .block ≡ 11 = eqb-true (p .block) 11 g in
         done-placed-text spool first p ns out out (D.Go q) h some (λ i s. (ap D.Go (e ∙ rw h), refl))
-    go false f false g = clash o (rw (f, g) (and-false (not (eqb (p .part) 0))))
+    go false f false i false g = clash o (rw (f, i, g) (and-false (not (eqb (p .part) 0))))
 
 pub part-kept : (out : List ℕ) (p q : Pen) → Safe p out → q ≡ partClosed p → Kept out out (D.Go q)
-part-kept out p q s e = go (eqb (p .block) 1) e
+part-kept out p q s e = go (eqb (p .block) 1) (eqb (p .block) 12) e
   where
-    go : (b : Bool) → q ≡ cond b (moved p 0 1 (around (p .part))) (moved p 0 11 0) → Kept out out (D.Go q)
-    go true e = kept-moved out p q 1 (around (p .part)) s e
-    go false e = kept-moved out p q 11 0 s e
+    go : (b c : Bool) → q ≡ cond b (moved p 0 1 (around (p .part))) (cond c (moved p 0 12 0) (moved p 0 11 0)) → Kept out out (D.Go q)
+    go true c e = kept-moved out p q 1 (around (p .part)) s e
+    go false true e = kept-moved out p q 12 0 s e
+    go false false e = kept-moved out p q 11 0 s e
+
+-- ── no wire closes ──
+pub no-wire : (spool body : List ℕ) (start from : ℕ) (p : Pen) (ns before after : List ℕ) (d : Drawn) (b : ℕ) → eqb b 12 ≡ false → p .block ≡ b → WireDone spool body start from p ns before after d
+no-wire spool body start from p ns before after d b t e h = clash (eq-eqb b 12 (sym e ∙ h)) t
+
+pub not-itself : (spool body : List ℕ) (start from : ℕ) (p : Pen) (ns before after : List ℕ) (d : Drawn) → inPart p ≡ true → WireDone spool body start from p ns before after d
+not-itself spool body start from p ns before after d o h z = absurd (omega (arith, part-open p o, z))

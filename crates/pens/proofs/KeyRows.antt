@@ -1,5 +1,5 @@
 -- What a line with a key does, by the block that is open and the row that it was found under.
-use Prim.Native.Nat.{ℕ, zero, suc, _≤_}
+use Prim.Native.Nat.{ℕ, zero, suc, _+_, _≤_}
 use mathlib.Core.Bool.{Bool, true, false, cond, not, _||_}
 use mathlib.Core.List.{List, [], _∷_}
 use mathlib.Core.Path.{_≡_, refl, sym, _∙_, ap, subst}
@@ -24,7 +24,7 @@ use Rattle.pens.specs.declared.Pen.{Pen}
 use Rattle.pens.specs.declared.Drawn.{Drawn}
 use Rattle.pens.specs.declared.Drawn.the-variants as D
 use Rattle.pens.specs.Texts.{ended, Draws}
-use Rattle.pens.specs.Moves.{moved, isOpener, atOnce, figureBlock, keyPen, filePen, placedPen, tableFor}
+use Rattle.pens.specs.Moves.{moved, isOpener, atOnce, figureBlock, keyPen, filePen, placedPen, isElement, wirePen, tableFor}
 use Rattle.pens.specs.Noting.{noteOf, notesFrom, forgotten, textForgotten, figureNotes, keyNotes}
 use Rattle.pens.specs.Keys.{KeyDone}
 use Rattle.pens.specs.KeyWriting.{plainTableOf}
@@ -50,7 +50,8 @@ notes-few t =
     (cond-few (eqb t 5) 26 _ 26 (omega arith)
     (cond-few (eqb t 16) 4 _ 26 (omega arith)
     (cond-few (eqb t 17) 4 _ 26 (omega arith)
-    (cond-few (eqb t 19) 6 0 26 (omega arith) (omega arith)))))))
+    (cond-few (eqb t 19) 6 _ 26 (omega arith)
+    (cond-few (eqb t 20) 6 0 26 (omega arith) (omega arith))))))))
 
 pub forgotten-long : (ns : List ℕ) → length (forgotten ns) ≡ length ns
 forgotten-long ns = length-replicate (length ns) 0
@@ -59,7 +60,7 @@ pub noted-long : (ns₀ ns₁ : List ℕ) (i n : ℕ) → ns₁ ≡ set ns₀ i 
 noted-long ns₀ ns₁ i n e = ap (λ (l : List ℕ). length l) e ∙ length-set ns₀ i n
 
 pub figure-notes-long : (b : ℕ) (ns : List ℕ) → length (figureNotes b ns) ≡ length ns
-figure-notes-long b ns = go (eqb b 10) (eqb b 11)
+figure-notes-long b ns = go (eqb b 10) (eqb b 11 || eqb b 12)
   where
     go : (s t : Bool) → length (cond s (textForgotten ns) (cond t (forgotten ns) ns)) ≡ length ns
     go true t = length-set (set ns 4 0) 5 0 ∙ length-set ns 4 0
@@ -74,7 +75,7 @@ around-other (suc (suc n)) h k = refl
 
 pub part-open : (p : Pen) → inPart p ≡ true → 1 ≤ p .part
 part-open p e =
-    let z = eqb-false (p .part) 0 (not-true (eqb (p .part) 0) (and-left (not (eqb (p .part) 0)) (eqb (p .block) 1 || eqb (p .block) 11) e)) in
+    let z = eqb-false (p .part) 0 (not-true (eqb (p .part) 0) (and-left (not (eqb (p .part) 0)) (eqb (p .block) 1 || (eqb (p .block) 12 || eqb (p .block) 11)) e)) in
     some (p .part) z
   where
     some : (n : ℕ) → (n ≡ 0 → ⊥) → 1 ≤ n
@@ -98,7 +99,8 @@ line-kind row h =
     (either-way P (eqb (row .kind) 7) _ _ refl
     (rw (ne-eqb (row .kind) 8 h)
     (either-way P (eqb (row .kind) 9) _ _ refl
-    (either-way P (eqb (row .kind) 10) _ _ refl refl)))))))))
+    (either-way P (eqb (row .kind) 10) _ _ refl
+    (either-way P (eqb (row .kind) 11) _ _ refl refl))))))))))
   where
     P : Kind → Type 0
     P d = isOpener d ≡ false
@@ -124,7 +126,7 @@ module _ (t : ℕ) (p : Pen) (rest : Rest) (k : Known) (j : ℕ) (q : Rule) (v :
   abbrev notesBy : List ℕ
   notesBy = keyNotes p t j (q .holds) (innerOf (q .holds)) (noteOf rest) ns₀
 
-  pub written : (next : ℕ → Pen) (before after : List ℕ) (d : Drawn) → atOnce (p .block) j ≡ true → penBy (length line) ≡ next (length line) → ns₁ ≡ notesBy
+  pub written : (next : ℕ → Pen) (before after : List ℕ) (d : Drawn) → atOnce p j ≡ true → penBy (length line) ≡ next (length line) → ns₁ ≡ notesBy
       → Draws line (p .at) (next (length line)) before after d → KeyDone t p rest k j q v ns₀ ns₁ before after d
   written next before after d a e n w = record {
     draws =
@@ -133,7 +135,7 @@ module _ (t : ℕ) (p : Pen) (rest : Rest) (k : Known) (j : ℕ) (q : Rule) (v :
     notes = n;
   }
 
-  pub held-back : (next : Pen) (out : List ℕ) → p .at ≤ length out → atOnce (p .block) j ≡ false → penBy 0 ≡ next → ns₁ ≡ notesBy → KeyDone t p rest k j q v ns₀ ns₁ out out (D.Go next)
+  pub held-back : (next : Pen) (out : List ℕ) → p .at ≤ length out → atOnce p j ≡ false → penBy 0 ≡ next → ns₁ ≡ notesBy → KeyDone t p rest k j q v ns₀ ns₁ out out (D.Go next)
   held-back next out h a e n = record {
     draws =
         subst (λ (b : Bool). Draws (cond b line []) (p .at) (penBy (length (cond b line []))) out out (D.Go next)) (sym a)
@@ -148,6 +150,22 @@ file-pen p j d o i n e = rw e
 -- in a placed symbol
 pub placed-pen : (p : Pen) (j : ℕ) (d : Kind) (o : Bool) (i n : ℕ) → p .block ≡ 11 → keyPen p j d o i n ≡ placedPen p d
 placed-pen p j d o i n e = rw e
+
+-- in a wire
+pub wire-pen : (p : Pen) (j : ℕ) (d : Kind) (o : Bool) (i n : ℕ) → p .block ≡ 12 → keyPen p j d o i n ≡ wirePen p j d n
+wire-pen p j d o i n e = rw e
+
+pub wire-element-pen : (p : Pen) (j : ℕ) (d : Kind) (o : Bool) (i n : ℕ) → p .block ≡ 12 → isElement (p .part) j ≡ true → keyPen p j d o i n ≡ moved p n 12 0
+wire-element-pen p j d o i n e f = rw (e, f)
+
+pub wire-once : (p : Pen) (j : ℕ) (b : Bool) → p .block ≡ 12 → isElement (p .part) j ≡ b → atOnce p j ≡ b
+wire-once p j b e f = rw e f
+
+pub wire-noted : (p : Pen) (t j : ℕ) (d : Kind) (i n : ℕ) (ns : List ℕ) → p .block ≡ 12 → isElement (p .part) j ≡ false → keyNotes p t j d i n ns ≡ set ns (notesFrom t + j) n
+wire-noted p t j d i n ns e f = rw (e, f)
+
+pub wire-written : (p : Pen) (t j : ℕ) (d : Kind) (i n : ℕ) (ns : List ℕ) → p .block ≡ 12 → isElement (p .part) j ≡ true → keyNotes p t j d i n ns ≡ ns
+wire-written p t j d i n ns e f = rw (e, f)
 
 -- a row that opens a block says which
 pub opened-inner : (row : Row) (q : Rule) (v : Value) → ruleOf row ≡ forLine q → opensBlock (q .holds) v ≡ true → innerOf (q .holds) ≡ row .inner
@@ -167,7 +185,8 @@ opened-inner row q v e = subst P (ap (λ (r : Rule). r .holds) e) all
         (either-way P (eqb (row .kind) 7) _ _ (λ h. clash h refl)
         (either-way P (eqb (row .kind) 8) _ _ (λ h. refl)
         (either-way P (eqb (row .kind) 9) _ _ (λ h. refl)
-        (either-way P (eqb (row .kind) 10) _ _ (λ h. refl) (λ h. clash h refl))))))))))
+        (either-way P (eqb (row .kind) 10) _ _ (λ h. refl)
+        (either-way P (eqb (row .kind) 11) _ _ (λ h. clash h refl) (λ h. clash h refl)))))))))))
 
 -- ── the row that was found ──
 abbrev blank : Rule

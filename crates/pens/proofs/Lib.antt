@@ -7,3 +7,8 @@ pub mod ShownLaws
 pub mod Writers
 pub mod KeyRows
 pub mod Closings
+pub mod NotedLaws
+pub mod LinesLeft
+pub mod TextRows
+pub mod PassLaws
+pub mod KeysLaws

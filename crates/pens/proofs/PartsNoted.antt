@@ -125,7 +125,7 @@ module _ (k : Known) (b : ℕ) (h : Held) where
   innerBytes d r none = []
   innerBytes d r (some v) = cond (opensBlock (r .holds) v) (lineBytes (rowsFrom k b h d (innerOf (r .holds)) 0) ++ shutBytes) []
 
-  depth-rows : (d i : ℕ) → showDepth k (tablesOf b) h d i [] ≡ rowsFrom k b h d i 0
+  pub depth-rows : (d i : ℕ) → showDepth k (tablesOf b) h d i [] ≡ rowsFrom k b h d i 0
   depth-rows zero i = refl
   depth-rows (suc d) i = refl
 
@@ -300,7 +300,7 @@ rows-few t =
 pub notes-few : (t : ℕ) → notesFrom t ≤ 26
 notes-few t =
     most (eqb t 2) _ _ (omega arith) (most (eqb t 3) _ _ (omega arith) (most (eqb t 4) _ _ (omega arith) (most (eqb t 5) _ _ (omega arith)
-    (most (eqb t 16) _ _ (omega arith) (most (eqb t 17) _ _ (omega arith) (most (eqb t 19) _ _ (omega arith) (omega arith)))))))
+    (most (eqb t 16) _ _ (omega arith) (most (eqb t 17) _ _ (omega arith) (most (eqb t 19) _ _ (omega arith) (most (eqb t 20) _ _ (omega arith) (omega arith))))))))
   where
     most : (u : Bool) (a c : ℕ) → a ≤ 26 → c ≤ 26 → cond u a c ≤ 26
     most = cond-most 26

@@ -58,7 +58,7 @@ pub kind-closed : (r : CodeRow) → (r .kind ≡ 8 → ⊥) → isOpener (kindOf
 kind-closed r h =
     step (eqb (r .kind) 1) _ _ refl (step (eqb (r .kind) 2) _ _ refl (step (eqb (r .kind) 3) _ _ refl (step (eqb (r .kind) 4) _ _ refl
     (step (eqb (r .kind) 5) _ _ refl (step (eqb (r .kind) 6) _ _ refl (step (eqb (r .kind) 7) _ _ refl
-    (rw (ne-eqb (r .kind) 8 h) (step (eqb (r .kind) 9) _ _ refl (step (eqb (r .kind) 10) _ _ refl refl)))))))))
+    (rw (ne-eqb (r .kind) 8 h) (step (eqb (r .kind) 9) _ _ refl (step (eqb (r .kind) 10) _ _ refl (step (eqb (r .kind) 11) _ _ refl refl))))))))))
   where
     step : (t : Bool) (a b : Kind) → isOpener a ≡ false → isOpener b ≡ false → isOpener (cond t a b) ≡ false
     step true a b p q = p
@@ -174,7 +174,7 @@ inner-is : (r : CodeRow) (v : Value) → opensBlock (kindOf r) v ≡ true → in
 inner-is r v =
     step (eqb (r .kind) 1) _ _ shut (step (eqb (r .kind) 2) _ _ shut (step (eqb (r .kind) 3) _ _ shut (step (eqb (r .kind) 4) _ _ shut
     (step (eqb (r .kind) 5) _ _ shut (step (eqb (r .kind) 6) _ _ shut (step (eqb (r .kind) 7) _ _ shut
-    (step (eqb (r .kind) 8) _ _ (λ _. refl) (step (eqb (r .kind) 9) _ _ (λ _. refl) (step (eqb (r .kind) 10) _ _ (λ _. refl) shut)))))))))
+    (step (eqb (r .kind) 8) _ _ (λ _. refl) (step (eqb (r .kind) 9) _ _ (λ _. refl) (step (eqb (r .kind) 10) _ _ (λ _. refl) (step (eqb (r .kind) 11) _ _ shut shut))))))))))
   where
     shut : {P : Type 0} → false ≡ true → P
     shut e = clash e refl

@@ -9,13 +9,13 @@ use borrow.Author.Tests.{eqb-true}
 use lib.Dec.{eqb}
 use lib.ListN.{length, getD}
 use Rattle.rules.specs.Base.{bytes, all}
-use Rattle.rules.specs.Values.{Value, nums, Known, charsOf}
+use Rattle.rules.specs.Values.{Num, Value, nums, Known, charsOf}
 use Rattle.rules.specs.Rows.{Rule, Slots, Held, partOf}
 use Rattle.rules.specs.Blocks.{drawingTable, symbolTable}
-use Rattle.rules.specs.Figures.{figureTable, pointTable, textTable, placedTables, wireTable}
-use Rattle.rules.specs.Sets.{Point, Edge, Figure, plain, chain, lettering, placed, wired, passed, Layer, Drawing, Symbol, LayerBlock}
+use Rattle.rules.specs.Figures.{figureTable, pointTable, textTable, placedTables, wireTable, wireTextTable, firstGroupRow}
+use Rattle.rules.specs.Sets.{Point, Edge, Wire, Figure, plain, chain, lettering, placed, wired, passed, Layer, Drawing, Symbol, LayerBlock}
 use Rattle.rules.specs.RecordTable.{ruleAt}
-use Rattle.rules.specs.FixedForm.{Text, openLine, opensBlock, innerOf, lineOf, showValue, showSlot, showSlots, noInner, showInner, showHeld, block, showPoints, showEdges, showFigure, showFigures, showLayers, showDrawing, symbolInner, exchanged, showSymbol, showSymbols, showDefines, showBlocks}
+use Rattle.rules.specs.FixedForm.{Text, openLine, opensBlock, innerOf, lineOf, showValue, showSlot, showSlots, noInner, showInner, showHeld, block, showPoints, showEdges, showGroup, showGroups, showWireTexts, showWire, showFigure, showFigures, showLayers, showDrawing, symbolInner, exchanged, showSymbol, showSymbols, showDefines, showBlocks}
 use Rattle.rules.proofs.Chains.{and-left, and-right}
 use Rattle.promises.proofs.Weights.{innerCost, inner-open}
 use Rattle.pens.specs.Noting.{showDepth}
@@ -121,13 +121,47 @@ module _ (k : Known) where
   pub edges-last : (es : List Edge) (e : Edge) → showEdges k (es ++ e ∷ []) [] ≡ showEdges k es [] ++ lineOf k (ruleAt wireTable (e .row)) (nums (e .values)) ∷ []
   edges-last es e = edges-snoc es e [] ∙ edges-more es (showEdges k (e ∷ []) [])
 
+  -- ── a wire's keys that repeat ──
+  pub group-more : (r : Rule) (vs : List (List Num)) → Before (showGroup k r vs)
+  group-more r [] ls = refl
+  group-more r (v ∷ vs) ls = ap (λ (u : Text). lineOf k r (nums v) ∷ u) (group-more r vs ls)
+
+  pub group-snoc : (r : Rule) (vs : List (List Num)) (v : List Num) (ls : Text) → showGroup k r (vs ++ v ∷ []) ls ≡ showGroup k r vs (lineOf k r (nums v) ∷ ls)
+  group-snoc r [] v ls = refl
+  group-snoc r (u ∷ vs) v ls = ap (λ (w : Text). lineOf k r (nums u) ∷ w) (group-snoc r vs v ls)
+
+  groups-more : (j : ℕ) (gs : List (List (List Num))) → Before (showGroups k j gs)
+  groups-more j [] ls = refl
+  groups-more j (g ∷ gs) ls = then-more (showGroup k (ruleAt wireTable j) g) (showGroups k (suc j) gs) (group-more (ruleAt wireTable j) g) (groups-more (suc j) gs) ls
+
+  pub texts-more : (ss : List Slots) → Before (showWireTexts k ss)
+  texts-more [] ls = refl
+  texts-more (s ∷ ss) ls =
+      then-more (block (bytes "text") (showSlots k wireTextTable s noInner)) (showWireTexts k ss)
+      (block-more (bytes "text") (showSlots k wireTextTable s noInner) (slots-more noInner none-more wireTextTable s)) (texts-more ss) ls
+
+  pub texts-snoc : (ss : List Slots) (s : Slots) (ls : Text) → showWireTexts k (ss ++ s ∷ []) ls ≡ showWireTexts k ss (block (bytes "text") (showSlots k wireTextTable s noInner) ls)
+  texts-snoc [] s ls = refl
+  texts-snoc (r ∷ ss) s ls = ap (block (bytes "text") (showSlots k wireTextTable r noInner)) (texts-snoc ss s ls)
+
+  -- behind its elements
+  pub keys-more : (w : Wire) → Before (λ ls. showGroups k firstGroupRow (w .groups) (showWireTexts k (w .texts) (showSlots k wireTable (w .own) noInner ls)))
+  keys-more w =
+      then-more (showGroups k firstGroupRow (w .groups)) (λ ls. showWireTexts k (w .texts) (showSlots k wireTable (w .own) noInner ls)) (groups-more firstGroupRow (w .groups))
+      (then-more (showWireTexts k (w .texts)) (showSlots k wireTable (w .own) noInner) (texts-more (w .texts)) (slots-more noInner none-more wireTable (w .own)))
+
+  pub wire-more : (w : Wire) → Before (showWire k w)
+  wire-more w =
+      then-more (showEdges k (w .elements)) (λ ls. showGroups k firstGroupRow (w .groups) (showWireTexts k (w .texts) (showSlots k wireTable (w .own) noInner ls)))
+      (edges-more (w .elements)) (keys-more w)
+
   -- ── figures ──
   pub figure-more : (b : Bool) (t : List Rule) (f : Figure) → Before (showFigure k b t f)
   figure-more b t (plain n j v) ls = refl
   figure-more b t (chain n ps) ls = block-more (bytes "successive") (showPoints k b ps) (points-more b ps) ls
   figure-more b t (lettering n s) ls = block-more (bytes "text") (showSlots k (textTable b 4 12) s noInner) (slots-more noInner none-more (textTable b 4 12) s) ls
   figure-more b t (placed n h) ls = block-more (bytes "E_symbol") (showHeld k placedTables h) (held-more placedTables h) ls
-  figure-more b t (wired n w) ls = block-more (bytes "E_wire") (showEdges k (w .elements)) (edges-more (w .elements)) ls
+  figure-more b t (wired n w) ls = block-more (bytes "E_wire") (showWire k w) (wire-more w) ls
   figure-more b t (passed n) ls = refl
 
   pub figures-more : (b : Bool) (t : List Rule) (fs : List Figure) → Before (showFigures k b t fs)

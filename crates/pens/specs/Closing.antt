@@ -11,13 +11,14 @@ use Rattle.rules.specs.Values.{Value, Known}
 use Rattle.rules.specs.Rows.{Rule, Slots, Held}
 use Rattle.rules.specs.Blocks.{drawingTable, symbolTable, around}
 use Rattle.rules.specs.RecordTable.{ruleAt}
-use Rattle.rules.specs.FixedForm.{noInner, lineOf, showSlots}
+use Rattle.rules.specs.FixedForm.{Text, noInner, lineOf, showSlots}
 use Rattle.pens.specs.declared.Pen.{Pen}
 use Rattle.pens.specs.declared.Drawn.{Drawn}
 use Rattle.pens.specs.declared.Drawn.the-variants as D
 use Rattle.pens.specs.Texts.{ended, lineBytes, Draws, Inserts}
 use Rattle.pens.specs.Moves.{moved}
 use Rattle.pens.specs.Noting.{Noted, NotedRows, tablesOf, NotedParts, showDepth}
+use Rattle.pens.specs.Groups.{WireKeys, keysText, keyRows}
 use Rattle.tables.specs.Numbering.{tableFile, tableLater, tableLayerText, tableSymbolText, tablePlaced}
 use Rattle.account.specs.Numbering.{blockTop, blockFile, blockDrawing, blockLayerNames, blockDefines, blockSymbol, blockHide, blockElements, blockFigures}
 use Rattle.account.specs.Numbering.{blockChain, blockText, blockPlaced, blockWire}
@@ -61,26 +62,36 @@ ShutsSymbol spool p ns before after d =
     → Inserts (rowBytes k (ruleAt symbolTable 0) a) (rowBytes k (ruleAt symbolTable 3) b ++ shutBytes) (p .start) (p .at)
     (moved p (length (rowBytes k (ruleAt symbolTable 0) a) + (length (rowBytes k (ruleAt symbolTable 3) b) + 3)) blockDefines 0) before after d
 
+-- a wire: its rows behind its elements; t: the text of each
+abbrev pub wireBytes : (ℕ → Text) → List ℕ
+wireBytes t = lineBytes (keysText t keyRows) ++ shutBytes
+
+abbrev pub ShutsWire : List ℕ → List ℕ → ℕ → ℕ → Pen → List ℕ → List ℕ → List ℕ → Drawn → Type 0
+ShutsWire spool body start from p ns before after d =
+    (k : Known) (t : ℕ → Text) → WireKeys spool body start from k ns t
+    → Draws (wireBytes t) (p .at) (moved p (length (wireBytes t)) blockFigures 0) before after d
+
 -- the block around one whose `}` is all that is written
 abbrev pub aroundBlock : Pen → ℕ
 aroundBlock p =
     cond (eqb (p .block) blockFigures) (cond (p .layered) blockElements blockSymbol)
     (cond (eqb (p .block) blockChain) blockFigures
-    (cond (eqb (p .block) blockWire) blockFigures
-    (cond (eqb (p .block) blockLayerNames) blockDrawing (cond (eqb (p .block) blockHide) blockSymbol blockTop))))
+    (cond (eqb (p .block) blockLayerNames) blockDrawing (cond (eqb (p .block) blockHide) blockSymbol blockTop)))
 
--- an inner part of FILE_FORMAT or of a placed symbol is open
+-- an inner part of FILE_FORMAT, of a placed symbol or of a wire is open
 abbrev pub inPart : Pen → Bool
-inPart p = not (eqb (p .part) 0) && (eqb (p .block) blockFile || eqb (p .block) blockPlaced)
+inPart p = not (eqb (p .part) 0) && (eqb (p .block) blockFile || (eqb (p .block) blockWire || eqb (p .block) blockPlaced))
 
 abbrev pub partClosed : Pen → Pen
-partClosed p = cond (eqb (p .block) blockFile) (moved p 0 blockFile (around (p .part))) (moved p 0 blockPlaced 0)
+partClosed p =
+    cond (eqb (p .block) blockFile) (moved p 0 blockFile (around (p .part)))
+    (cond (eqb (p .block) blockWire) (moved p 0 blockWire 0) (moved p 0 blockPlaced 0))
 
--- by the block that is open
+-- by the block that is open; of a wire, that its text closes
 pub record CloseDone (spool : List ℕ) (first : Bool) (p : Pen) (ns before after : List ℕ) (d : Drawn) : Type 0 where
   pub figures : p .block ≡ blockFigures → Shuts p (cond (p .layered) blockElements blockSymbol) before after d
   pub chain : p .block ≡ blockChain → Shuts p blockFigures before after d
-  pub wire : p .block ≡ blockWire → Shuts p blockFigures before after d
+  pub wire-text : p .block ≡ blockWire → (i : ℕ) → p .part ≡ suc i → ShutsPart p blockWire 0 before after d
   pub text : p .block ≡ blockText → ShutsRows spool (cond (p .layered) tableLayerText tableSymbolText) p blockFigures ns before after d
   pub placed : p .block ≡ blockPlaced → p .part ≡ 0 → ShutsRows spool tablePlaced p blockFigures ns before after d
   pub placed-text : p .block ≡ blockPlaced → (i : ℕ) → p .part ≡ suc i → ShutsPart p blockPlaced 0 before after d
@@ -92,3 +103,7 @@ pub record CloseDone (spool : List ℕ) (first : Bool) (p : Pen) (ns before afte
   pub symbol : p .block ≡ blockSymbol → ShutsSymbol spool p ns before after d
   pub hide : p .block ≡ blockHide → Shuts p blockSymbol before after d
   pub elements : p .block ≡ blockElements → Shuts p blockTop before after d
+
+-- and that it closes itself
+abbrev pub WireDone : List ℕ → List ℕ → ℕ → ℕ → Pen → List ℕ → List ℕ → List ℕ → Drawn → Type 0
+WireDone spool body start from p ns before after d = p .block ≡ blockWire → p .part ≡ 0 → ShutsWire spool body start from p ns before after d

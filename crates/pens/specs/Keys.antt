@@ -32,7 +32,7 @@ isBrace (R.Equals p) = false
 
 -- what is written of it at once
 abbrev pub keyText : Pen → ℕ → List ℕ → List ℕ
-keyText p j l = cond (atOnce (p .block) j) (ended l) []
+keyText p j l = cond (atOnce p j) (ended l) []
 
 -- t: the number of the block's table
 pub record KeyDone (t : ℕ) (p : Pen) (rest : Rest) (k : Known) (j : ℕ) (r : Rule) (v : Value) (ns₀ ns₁ before after : List ℕ) (d : Drawn) : Type 0 where

@@ -8,3 +8,5 @@ pub mod Closing
 pub mod Drawing
 pub mod Writing
 pub mod KeyWriting
+pub mod Passing
+pub mod Groups

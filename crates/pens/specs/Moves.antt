@@ -1,8 +1,9 @@
 -- How the pen goes on: which block is open behind a line, and which lines are written at once.
 use Prim.Native.Nat.{ℕ, _+_}
-use mathlib.Core.Bool.{Bool, true, false, cond, _||_, not}
-use lib.Dec.{eqb}
-use Rattle.rules.specs.Values.{Kind, values, text, word, volumeName, sheet, ratio, serials, nothing, opens, headed, either}
+use mathlib.Core.Bool.{Bool, true, false, cond, _&&_, _||_, not}
+use lib.Dec.{eqb, ltb}
+use Rattle.rules.specs.Values.{Kind, values, text, word, volumeName, sheet, ratio, serials, wireSerial, nothing, opens, headed, either}
+use Rattle.rules.specs.Figures.{firstGroupRow}
 use Rattle.pens.specs.declared.Pen.{Pen}
 use Rattle.tables.specs.Numbering.{tableTop, tableFile, tableRange, tableBase, tableElec, tableSym, tableLater, tableDrawing, tableDefines, tableSymbol}
 use Rattle.tables.specs.Numbering.{tableElement, tableFigures, tableLayerPoints, tableSymbolPoints, tableLayerText, tableSymbolText, tablePlaced}
@@ -30,6 +31,7 @@ isOpener volumeName = false
 isOpener sheet = false
 isOpener ratio = false
 isOpener serials = false
+isOpener wireSerial = false
 isOpener nothing = false
 isOpener (opens i) = true
 isOpener (headed i p) = false
@@ -44,12 +46,17 @@ isNames j = eqb j 7
 abbrev pub isPart : ℕ → Bool
 isPart j = eqb j 1 || eqb j 2
 
+-- a wire: its elements
+abbrev pub isElement : ℕ → ℕ → Bool
+isElement part j = eqb part 0 && ltb j firstGroupRow
+
 -- by the block that is open and the row's number
-abbrev pub atOnce : ℕ → ℕ → Bool
-atOnce b j =
-    cond (eqb b blockDrawing) (isNames j)
-    (cond (eqb b blockSymbol) (isPart j)
-    (not (eqb b blockFile || (eqb b blockText || eqb b blockPlaced))))
+abbrev pub atOnce : Pen → ℕ → Bool
+atOnce p j =
+    cond (eqb (p .block) blockDrawing) (isNames j)
+    (cond (eqb (p .block) blockSymbol) (isPart j)
+    (cond (eqb (p .block) blockWire) (isElement (p .part) j)
+    (not (eqb (p .block) blockFile || (eqb (p .block) blockText || eqb (p .block) blockPlaced)))))
 
 -- ── the block that is open behind a line with a key ──
 abbrev pub topPen : Pen → ℕ → ℕ → Pen
@@ -76,12 +83,15 @@ figureBlock d inner =
 abbrev pub placedPen : Pen → Kind → Pen
 placedPen p d = cond (isOpener d) (moved p 0 blockPlaced 1) p
 
+abbrev pub wirePen : Pen → ℕ → Kind → ℕ → Pen
+wirePen p j d n = cond (isElement (p .part) j) (moved p n blockWire 0) (cond (isOpener d) (moved p 0 blockWire 1) p)
+
 -- d: what the row holds; opened: whether the line opens the inner block of that number; n: how many bytes were written
 abbrev pub keyPen : Pen → ℕ → Kind → Bool → ℕ → ℕ → Pen
 keyPen p j d opened inner n =
     cond (eqb (p .block) blockFigures) (moved p n (figureBlock d inner) 0)
     (cond (eqb (p .block) blockChain) (moved p n blockChain 0)
-    (cond (eqb (p .block) blockWire) (moved p n blockWire 0)
+    (cond (eqb (p .block) blockWire) (wirePen p j d n)
     (cond (eqb (p .block) blockText) p
     (cond (eqb (p .block) blockPlaced) (placedPen p d)
     (cond (eqb (p .block) blockTop) (topPen p j n)
@@ -109,7 +119,7 @@ abbrev pub tableFor : Bool → Pen → Bool → ℕ
 tableFor first p brace =
     cond (eqb (p .block) blockFigures) (figureTableOf (p .layered) brace)
     (cond (eqb (p .block) blockChain) (cond (p .layered) tableLayerPoints tableSymbolPoints)
-    (cond (eqb (p .block) blockWire) tableWire
+    (cond (eqb (p .block) blockWire) (cond (eqb (p .part) 0) tableWire tableLayerText)
     (cond (eqb (p .block) blockText) (cond (p .layered) tableLayerText tableSymbolText)
     (cond (eqb (p .block) blockPlaced) (cond (eqb (p .part) 0) tablePlaced tablePlacedText)
     (cond (eqb (p .block) blockTop) tableTop

@@ -1,6 +1,6 @@
 -- Rows whose lines are noted where they stand, and written when their block closes.
 use Prim.Native.Nat.{ℕ, zero, suc, _+_, _*_, _/_, _%_, _<_}
-use mathlib.Core.Bool.{true, false, cond, _&&_}
+use mathlib.Core.Bool.{true, false, cond, _&&_, _||_}
 use mathlib.Core.Path.{_≡_}
 use mathlib.Core.List.{List, [], _∷_}
 use mathlib.Core.Option.{Option, none, some}
@@ -19,8 +19,8 @@ use Rattle.prints.specs.Reading.{Reads}
 use Rattle.pens.specs.declared.Pen.{Pen}
 use Rattle.pens.specs.Moves.{isOpener, atOnce, figureBlock}
 use Rattle.tables.specs.Numbering.{tableFile, tableRange, tableBase, tableElec, tableSym, tableLater, tableDrawing, tableLayerText, tableSymbolText}
-use Rattle.tables.specs.Numbering.{tablePlaced, tablePlacedText}
-use Rattle.account.specs.Numbering.{blockTop, blockDefines, blockFigures, blockText, blockPlaced}
+use Rattle.tables.specs.Numbering.{tablePlaced, tablePlacedText, tableWire}
+use Rattle.account.specs.Numbering.{blockTop, blockDefines, blockFigures, blockText, blockPlaced, blockWire}
 
 -- ── a note: what follows a line's key, in one number that is never 0 ──
 abbrev pub noteOf : CodeRest → ℕ
@@ -39,7 +39,8 @@ notesFrom t =
     (cond (eqb t tableSym) 26
     (cond (eqb t tableLayerText) 4
     (cond (eqb t tableSymbolText) 4
-    (cond (eqb t tablePlacedText) 6 0))))))
+    (cond (eqb t tablePlacedText) 6
+    (cond (eqb t tableWire) 6 0)))))))
 
 -- how many rows are noted
 abbrev pub rowsIn : ℕ → ℕ
@@ -61,7 +62,7 @@ abbrev pub textForgotten : List ℕ → List ℕ
 textForgotten ns = set (set ns 4 0) 5 0
 
 abbrev pub figureNotes : ℕ → List ℕ → List ℕ
-figureNotes block ns = cond (eqb block blockText) (textForgotten ns) (cond (eqb block blockPlaced) (forgotten ns) ns)
+figureNotes block ns = cond (eqb block blockText) (textForgotten ns) (cond (eqb block blockPlaced || eqb block blockWire) (forgotten ns) ns)
 
 -- t: the number of the block's table; j: the row's number in it, d: what it holds
 abbrev pub keyNotes : Pen → ℕ → ℕ → Kind → ℕ → ℕ → List ℕ → List ℕ
@@ -69,7 +70,7 @@ keyNotes p t j d inner n ns =
     cond (eqb (p .block) blockFigures) (figureNotes (figureBlock d inner) ns)
     (cond (eqb (p .block) blockTop) (forgotten ns)
     (cond (eqb (p .block) blockDefines) (cond (eqb j 0) ns (forgotten ns))
-    (cond (atOnce (p .block) j) ns (set ns (notesFrom t + j) n))))
+    (cond (atOnce p j) ns (set ns (notesFrom t + j) n))))
 
 -- ── what notes stand for ──
 -- k: what is known

@@ -1,30 +1,34 @@
 -- How the pen, the notes and the output between two lines stand to the state that the definitions are in.
-use Prim.Native.Nat.{ℕ, zero, suc, _≤_, _<_}
+use Prim.Native.Nat.{ℕ, zero, suc, _+_, _≤_, _<_}
 use mathlib.Core.Bool.{Bool, true, false, cond}
 use mathlib.Core.Path.{_≡_}
-use mathlib.Core.List.{List, []}
+use mathlib.Core.List.{List, [], _∷_}
 use mathlib.Core.Option.{none}
 use lib.ListN.{length, getD, take}
-use Rattle.rules.specs.Base.{isNone, isSome}
-use Rattle.rules.specs.Values.{Known, servedSymbols}
+use Rattle.rules.specs.Base.{bytes, isNone, isSome}
+use Rattle.rules.specs.Lines.{Form}
+use Rattle.rules.specs.Values.{Known, servedSymbols, servedWires}
 use Rattle.rules.specs.Rows.{Held}
 use Rattle.rules.specs.Blocks.{fileTables, drawingTable, symbolTable}
-use Rattle.rules.specs.Figures.{textTable}
-use Rattle.rules.specs.Sets.{Drawing, Symbol, Set, isFirst, symbolRange, knownOf}
+use Rattle.rules.specs.Figures.{textTable, wireTable, firstGroupRow, numRow, wireTextRow}
+use Rattle.rules.specs.Sets.{Wire, Drawing, Symbol, Set, isFirst, symbolRange, wireRange, knownOf}
 use Rattle.rules.specs.RecordTable.{ruleAt}
 use Rattle.rules.specs.Machine.{Home, inElement, inLayer, State, top, file, drawing, layerNames, defines, symbol, hide, elements, figures, successive, texts}
 use Rattle.rules.specs.Machine.{placing, skipping, ended, isLayer, symbolBlock, wireBlock, wireUnread}
+use Rattle.rules.specs.Wires.{groupAt}
+use Rattle.rules.specs.FixedForm.{Text, openLine, showGroup, showWireTexts}
 use Rattle.pens.specs.declared.Pen.{Pen}
 use Rattle.pens.specs.Texts.{lineBytes}
-use Rattle.pens.specs.Noting.{Noted, NotedRows, NotedParts}
+use Rattle.pens.specs.Noting.{Noted, notesFrom, NotedRows, NotedParts}
+use Rattle.pens.specs.Passing.{LinesAt, formsOf, Amid, outside, inside, Pass}
 use Rattle.pens.specs.Shown.{drawingBegun, symbolBegun, homeKnown, shown}
-use Rattle.tables.specs.Numbering.{tableFile, tableLater, tablePlaced}
+use Rattle.tables.specs.Numbering.{tableFile, tableLater, tablePlaced, tableWire}
 use Rattle.account.specs.Numbering.{blockTop, blockFile, blockDrawing, blockLayerNames, blockDefines, blockSymbol, blockHide, blockElements, blockFigures}
-use Rattle.account.specs.Numbering.{blockChain, blockText, blockPlaced, blockWire, mostRows}
+use Rattle.account.specs.Numbering.{blockChain, blockText, blockPlaced, blockWire, rowsWire, mostRows}
 
--- E_sym is one that is served, so at class 15 nothing is skipped; nor is a wire, for the full class reads all
+-- E_sym and E_wire are such as are served, so that at class 15 with wire part 18 nothing is skipped
 abbrev pub Served : Set → Type 0
-Served s = servedSymbols (symbolRange s) ≡ true
+Served s = (servedSymbols (symbolRange s) ≡ true) × (servedWires (wireRange s) ≡ true)
 
 -- in the first volume, before ELEMENT, its FILE_FORMAT closed
 pub record Front (first : Bool) (s : Set) : Type 0 where
@@ -93,10 +97,17 @@ module _ (K : Known) (spool : List ℕ) (first : Bool) (p : Pen) (ns : List ℕ)
     pub open-part : i < 2
     pub noted : NotedParts spool (knownOf s) tablePlaced ns o
 
-  -- a wire: no inner part of it is open
-  pub record InWire (s : Set) (m : ℕ) (i : ℕ) : Type 0 where
+  -- A wire: its rows that stand once are noted; of a row that repeats it is noted that it stands there. That a text is open is among it.
+  pub record InWire (s : Set) (m : ℕ) (w : Wire) (i : ℕ) : Type 0 where
     pub home : InHome s (inLayer m)
-    pub whole : i ≡ 0
+    pub part : p .part ≡ i
+    pub open-part : i < 2
+    pub slots : length (w .own) ≡ rowsWire
+    pub others : (j : ℕ) → j ≤ wireTextRow → getD (w .own) j none ≡ none
+    pub noted : (j : ℕ) → wireTextRow < j → j < rowsWire → Noted spool (knownOf s) (ruleAt wireTable j) (getD ns (notesFrom tableWire + j) 0) (getD (w .own) j none)
+    pub groups : length (w .groups) ≡ 3
+    pub no-group : (j : ℕ) → firstGroupRow ≤ j → j ≤ numRow → getD ns (notesFrom tableWire + j) 0 ≡ 0 → groupAt w j ≡ []
+    pub no-text : getD ns (notesFrom tableWire + wireTextRow) 0 ≡ 0 → (i ≡ 0) × (w .texts ≡ [])
 
   abbrev pub Here : State → Type 0
   Here (top s k) = (p .block ≡ blockTop) × TopHere s k
@@ -111,7 +122,7 @@ module _ (K : Known) (spool : List ℕ) (first : Bool) (p : Pen) (ns : List ℕ)
   Here (successive s h fs n ps) = (p .block ≡ blockChain) × InHome s h
   Here (texts s h fs n o) = (p .block ≡ blockText) × InHome s h × NotedRows spool (homeKnown K s h) (textTable (isLayer h) 4 12) 4 ns o
   Here (placing s m fs n (symbolBlock o) i) = (p .block ≡ blockPlaced) × InPlaced s m o i
-  Here (placing s m fs n (wireBlock w) i) = (p .block ≡ blockWire) × InWire s m i
+  Here (placing s m fs n (wireBlock w) i) = (p .block ≡ blockWire) × InWire s m w i
   Here (placing s m fs n wireUnread i) = ⊥
   Here (skipping s m fs n o d) = ⊥
   Here (ended s) = Served s
@@ -123,3 +134,43 @@ pub record Pens (K : Known) (spool : List ℕ) (first : Bool) (p : Pen) (ns out 
   pub text : take (p .at) out ≡ lineBytes (shown K first st)
   pub many : length ns ≡ mostRows
   pub here : Here K spool first p ns st
+
+-- ── the lines of the wire that is open ──
+-- what is open in it, by its part
+abbrev pub amidOf : Wire → ℕ → Amid
+amidOf w zero = outside
+amidOf w (suc i) = inside (w .writing)
+
+-- the first line of an open text
+abbrev pub textBegun : ℕ → Text → Text
+textBegun zero t = t
+textBegun (suc i) t = openLine (bytes "text") ∷ t
+
+-- From: the place of the line behind its opener; fs: the forms of the lines left. Gone over from there on, its lines write for each key
+-- what it holds of that, and then what the lines left write.
+pub record Since (spool body : List ℕ) (start from : ℕ) (fs : List Form) (k : Known) (w : Wire) (i : ℕ) : Type 0 where
+  pub lines : List (List ℕ)
+  pub there : LinesAt spool body start from lines
+  pub groups : (j : ℕ) → firstGroupRow ≤ j → j ≤ numRow → (t : Text) → Pass k j fs (amidOf w i) t
+      → Pass k j (formsOf from lines) outside (showGroup k (ruleAt wireTable j) (groupAt w j) t)
+  pub texts : (t : Text) → Pass k wireTextRow fs (amidOf w i) t
+      → Pass k wireTextRow (formsOf from lines) outside (showWireTexts k (w .texts) (textBegun i t))
+
+module _ (spool body : List ℕ) (start from : ℕ) (fs : List Form) where
+  abbrev pub Along : State → Type 0
+  Along (top s k) = Unit {0}
+  Along (file s n h i) = Unit {0}
+  Along (drawing s d) = Unit {0}
+  Along (layerNames s d) = Unit {0}
+  Along (defines s b) = Unit {0}
+  Along (symbol s y) = Unit {0}
+  Along (hide s y ps) = Unit {0}
+  Along (elements s) = Unit {0}
+  Along (figures s h gs) = Unit {0}
+  Along (successive s h gs n ps) = Unit {0}
+  Along (texts s h gs n o) = Unit {0}
+  Along (placing s m gs n (symbolBlock o) i) = Unit {0}
+  Along (placing s m gs n (wireBlock w) i) = Since spool body start from fs (knownOf s) w i
+  Along (placing s m gs n wireUnread i) = Unit {0}
+  Along (skipping s m gs n o d) = Unit {0}
+  Along (ended s) = Unit {0}

@@ -1,6 +1,7 @@
 // A line `}`: what was noted is written, and the block closed.
 use crate::Drawn;
 use crate::Pen;
+use crate::groups::put_keys;
 use crate::keys::file_table;
 use crate::noted::put_noted;
 use crate::noted::put_rows;
@@ -33,7 +34,7 @@ ghost use Prim.Native.Nat.{_≤_};
 ghost use lib.ListN.{length};
 ghost use Rattle.rules.specs.Blocks.{around};
 ghost use Rattle.pens.specs.Texts.{Safe};
-ghost use Rattle.pens.specs.Closing.{Shuts, ShutsRows, ShutsDrawing, ShutsSymbol, aroundBlock, inPart, partClosed, CloseDone};
+ghost use Rattle.pens.specs.Closing.{Shuts, ShutsRows, ShutsDrawing, ShutsSymbol, ShutsWire, aroundBlock, inPart, partClosed, CloseDone, WireDone};
 ghost use Rattle.pens.specs.Writing.{notedBase};
 ghost use Rattle.pens.specs.KeyWriting.{Kept};
 ghost use Rattle.account.specs.Numbering.{mostRows};
@@ -118,6 +119,26 @@ fn close_symbol(s: &[u8], pen: Pen, notes: &[u32], out: &mut [u8]) -> Drawn
     shut(at_block(pen, n + m, BLOCK_SYMBOL, 0), BLOCK_DEFINES, out)
 }
 
+// A wire's elements are written already, and its other rows come behind them.
+fn close_wire(
+    s: &[u8],
+    body: &[u8],
+    start: u32,
+    from: u32,
+    pen: Pen,
+    notes: &[u32],
+    out: &mut [u8],
+) -> Drawn
+    requires { ⌜ Safe pen (now out) ⌝ }
+    ensures { λ r. ⌜ Kept (now (out .entry)) (now (out .exit)) r × ShutsWire (now (s .entry)) (now (body .entry)) start from pen (now (notes .entry)) (now (out .entry)) (now (out .exit)) r ⌝ }
+{
+    let place = pen.at;
+    match put_keys(s, body, start, from, notes, &mut out[place..]) {
+        Wrote::Bytes(n) => shut(at_block(pen, n, BLOCK_WIRE, 0), BLOCK_FIGURES, out),
+        Wrote::Full => Drawn::Full,
+    }
+}
+
 // The block around one whose `}` is all that is written.
 fn around_block(pen: Pen) -> u8
     ensures { λ r. ⌜ r ≡ aroundBlock pen ⌝ }
@@ -126,9 +147,6 @@ fn around_block(pen: Pen) -> u8
         return by_home(pen.layered, BLOCK_ELEMENTS, BLOCK_SYMBOL);
     }
     if pen.block == BLOCK_CHAIN {
-        return BLOCK_FIGURES;
-    }
-    if pen.block == BLOCK_WIRE {
         return BLOCK_FIGURES;
     }
     if pen.block == BLOCK_LAYER_NAMES {
@@ -140,7 +158,7 @@ fn around_block(pen: Pen) -> u8
     BLOCK_TOP
 }
 
-// An inner part of FILE_FORMAT or of a placed symbol closes: nothing is written.
+// An inner part of FILE_FORMAT, of a placed symbol or of a wire closes: nothing is written.
 fn in_part(pen: Pen) -> bool
     ensures { λ r. ⌜ r ≡ inPart pen ⌝ }
 {
@@ -148,6 +166,9 @@ fn in_part(pen: Pen) -> bool
         return false;
     }
     if pen.block == BLOCK_FILE {
+        return true;
+    }
+    if pen.block == BLOCK_WIRE {
         return true;
     }
     pen.block == BLOCK_PLACED
@@ -160,12 +181,26 @@ fn part_closed(pen: Pen) -> Pen
     if pen.block == BLOCK_FILE {
         return at_block(pen, 0, BLOCK_FILE, around(pen.part));
     }
+    if pen.block == BLOCK_WIRE {
+        return at_block(pen, 0, BLOCK_WIRE, 0);
+    }
     at_block(pen, 0, BLOCK_PLACED, 0)
 }
 
-pub fn on_close(s: &[u8], first: bool, pen: Pen, notes: &[u32], out: &mut [u8]) -> Drawn
+// A line `}` in the volume that is the part `body` of the spool from `start` on; from: the place of the line behind the opener of the wire
+// that is open.
+pub fn on_close(
+    s: &[u8],
+    body: &[u8],
+    start: u32,
+    from: u32,
+    first: bool,
+    pen: Pen,
+    notes: &[u32],
+    out: &mut [u8],
+) -> Drawn
     requires { ⌜ Safe pen (now out) × (length (now notes) ≡ mostRows) ⌝ }
-    ensures { λ r. ⌜ Kept (now (out .entry)) (now (out .exit)) r × CloseDone (now (s .entry)) first pen (now (notes .entry)) (now (out .entry)) (now (out .exit)) r ⌝ }
+    ensures { λ r. ⌜ Kept (now (out .entry)) (now (out .exit)) r × CloseDone (now (s .entry)) first pen (now (notes .entry)) (now (out .entry)) (now (out .exit)) r × WireDone (now (s .entry)) (now (body .entry)) start from pen (now (notes .entry)) (now (out .entry)) (now (out .exit)) r ⌝ }
 {
     if in_part(pen) {
         return Drawn::Go(part_closed(pen));
@@ -182,6 +217,9 @@ pub fn on_close(s: &[u8], first: bool, pen: Pen, notes: &[u32], out: &mut [u8]) 
     }
     if pen.block == BLOCK_PLACED {
         return close_rows(TABLE_PLACED, s, pen, BLOCK_FIGURES, notes, out);
+    }
+    if pen.block == BLOCK_WIRE {
+        return close_wire(s, body, start, from, pen, notes, out);
     }
     if pen.block == BLOCK_FILE {
         return close_rows(file_table(first, 0), s, pen, BLOCK_TOP, notes, out);

@@ -1,6 +1,7 @@
 // A line with a key: written at once, or noted till its block closes.
 use crate::Drawn;
 use crate::Pen;
+use crate::groups::ROW_DIREC;
 use crate::noted::note_of;
 use crate::noted::notes_from;
 use crate::noted::opens;
@@ -62,12 +63,12 @@ ghost use lib.ListN.{length, set};
 ghost use Rattle.rules.specs.Rows.{innerOf};
 ghost use Rattle.tables.specs.Rows.{kindOf};
 ghost use Rattle.pens.specs.Texts.{Safe};
-ghost use Rattle.pens.specs.Moves.{moved, begun, amongFigures, figureBlock, fileTableOf, figureTableOf, tableFor};
+ghost use Rattle.pens.specs.Moves.{moved, begun, amongFigures, isElement, figureBlock, fileTableOf, figureTableOf, tableFor};
 ghost use Rattle.pens.specs.Noting.{noteOf, notesFrom, figureNotes};
 ghost use Rattle.pens.specs.Keys.{isBrace, NamedLine};
 ghost use Rattle.pens.specs.KeyWriting.{Kept, DrawsRow, RowDone, KeyOrName, plainTableOf};
-ghost use Rattle.tables.specs.Numbering.{tablePlaced, tablePlacedText};
-ghost use Rattle.account.specs.Numbering.{blockTop, blockFile, blockDrawing, blockDefines, blockSymbol, blockFigures, blockPlaced, mostRows};
+ghost use Rattle.tables.specs.Numbering.{tableLayerText, tablePlaced, tablePlacedText, tableWire};
+ghost use Rattle.account.specs.Numbering.{blockTop, blockFile, blockDrawing, blockDefines, blockSymbol, blockFigures, blockPlaced, blockWire, mostRows};
 
 fn is_brace(rest: Rest) -> bool
     ensures { λ r. ⌜ r ≡ isBrace rest ⌝ }
@@ -114,6 +115,15 @@ pub(crate) fn file_table(first: bool, part: u8) -> u8
     TABLE_SYM
 }
 
+fn wire_table(part: u8) -> u8
+    ensures { λ r. ⌜ r ≡ cond (eqb part 0) tableWire tableLayerText ⌝ }
+{
+    if part == 0 {
+        return TABLE_WIRE;
+    }
+    TABLE_LAYER_TEXT
+}
+
 fn placed_table(part: u8) -> u8
     ensures { λ r. ⌜ r ≡ cond (eqb part 0) tablePlaced tablePlacedText ⌝ }
 {
@@ -134,7 +144,7 @@ fn table_of(first: bool, pen: Pen, rest: Rest) -> u8
         return by_home(pen.layered, TABLE_LAYER_POINTS, TABLE_SYMBOL_POINTS);
     }
     if pen.block == BLOCK_WIRE {
-        return TABLE_WIRE;
+        return wire_table(pen.part);
     }
     if pen.block == BLOCK_TEXT {
         return by_home(pen.layered, TABLE_LAYER_TEXT, TABLE_SYMBOL_TEXT);
@@ -335,12 +345,16 @@ fn figure_block(row: Row) -> u8
     BLOCK_PLACED
 }
 
-// A text or a placed symbol has no notes yet.
+// A text, a placed symbol or a wire has no notes yet.
 fn forget_for(block: u8, notes: &mut [u32])
     requires { ⌜ length (now notes) ≡ mostRows ⌝ }
     ensures { λ _. ⌜ now (notes .exit) ≡ figureNotes block (now (notes .entry)) ⌝ }
 {
     if block == BLOCK_PLACED {
+        forget(notes);
+        return;
+    }
+    if block == BLOCK_WIRE {
         forget(notes);
         return;
     }
@@ -387,6 +401,39 @@ fn key_placed(
     Drawn::Go(pen)
 }
 
+// An element is written at once.
+fn at_once_in_wire(pen: Pen, row: Row) -> bool
+    ensures { λ r. ⌜ r ≡ isElement (pen .part) (row .number) ⌝ }
+{
+    if pen.part != 0 {
+        return false;
+    }
+    row.number < ROW_DIREC
+}
+
+// Of other rows it is noted that they stand there: the lines of those that repeat, and of the wire's texts, are found again when it closes.
+fn key_wire(
+    table: u8,
+    row: Row,
+    s: &[u8],
+    rest: Rest,
+    pen: Pen,
+    notes: &mut [u32],
+    out: &mut [u8],
+) -> Drawn
+    requires { ⌜ Safe pen (now out) × (pen .block ≡ blockWire) ⌝ }
+    ensures { λ r. ⌜ Kept (now (out .entry)) (now (out .exit)) r × (length (now (notes .exit)) ≡ length (now (notes .entry))) × RowDone table row (now (s .entry)) rest pen (now (notes .entry)) (now (notes .exit)) (now (out .entry)) (now (out .exit)) r ⌝ }
+{
+    if at_once_in_wire(pen, row) {
+        return put_at_once(table, row, s, rest, pen, BLOCK_WIRE, out);
+    }
+    note(table, row, rest, notes);
+    if row.kind == HOLDS_BLOCK {
+        return Drawn::Go(at_block(pen, 0, BLOCK_WIRE, 1));
+    }
+    Drawn::Go(pen)
+}
+
 // A line with a key whose row was found, in any block but `layer_name`.
 fn row_line(
     table: u8,
@@ -407,7 +454,7 @@ fn row_line(
         return put_at_once(table, row, s, rest, pen, BLOCK_CHAIN, out);
     }
     if pen.block == BLOCK_WIRE {
-        return put_at_once(table, row, s, rest, pen, BLOCK_WIRE, out);
+        return key_wire(table, row, s, rest, pen, notes, out);
     }
     if pen.block == BLOCK_TEXT {
         note(table, row, rest, notes);

@@ -1,5 +1,6 @@
 // What a line of an accepted set writes in the fixed form, "keys in the order above": at once, or when its block closes.
 pub mod closing;
+mod groups;
 pub mod keys;
 mod noted;
 pub mod places;
@@ -9,7 +10,7 @@ mod swap;
 pub struct Pen {
     // the block
     pub block: u8,
-    // in FILE_FORMAT and a placed symbol: the inner part that is open
+    // in FILE_FORMAT, a placed symbol and a wire: the inner part that is open
     pub part: u8,
     // the figures are a layer's, not a symbol's
     pub layered: bool,

@@ -24,6 +24,7 @@ use tables::TABLE_PLACED_TEXT;
 use tables::TABLE_RANGE;
 use tables::TABLE_SYM;
 use tables::TABLE_SYMBOL_TEXT;
+use tables::TABLE_WIRE;
 use tables::lookup::row_of;
 ghost use mathlib.Core.Path.{_≡_};
 ghost use Prim.Native.Nat.{_≤_};
@@ -100,6 +101,9 @@ pub(crate) fn notes_from(table: u8) -> usize
     if table == TABLE_PLACED_TEXT {
         return 6;
     }
+    if table == TABLE_WIRE {
+        return 6;
+    }
     0
 }
 
@@ -157,7 +161,7 @@ fn part_table(base: u8, part: u8) -> u8
 }
 
 // The note at a place, 0 where there is none.
-fn note_at(notes: &[u32], i: usize) -> u32
+pub(crate) fn note_at(notes: &[u32], i: usize) -> u32
     ensures { λ r. ⌜ r ≡ getD (now (notes .entry)) i 0 ⌝ }
 {
     if notes.len() <= i {
@@ -212,7 +216,14 @@ fn inner_table(base: u8, table: u8, number: u8, s: &[u8], note: u32, out: &mut [
 }
 
 // The inner part of a table and its `}`; nothing where there is no table.
-fn put_part(depth: u8, base: u8, inner: u8, s: &[u8], notes: &[u32], out: &mut [u8]) -> Wrote
+pub(crate) fn put_part(
+    depth: u8,
+    base: u8,
+    inner: u8,
+    s: &[u8],
+    notes: &[u32],
+    out: &mut [u8],
+) -> Wrote
     requires { ⌜ depth ≤ 3 ⌝ }
     ensures { λ r. ⌜ Within (now (out .entry)) (now (out .exit)) r × PrintsPart (now (s .entry)) depth base inner (now (notes .entry)) (now (out .entry)) (now (out .exit)) r ⌝ }
 {

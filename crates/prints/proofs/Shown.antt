@@ -9,11 +9,11 @@ use lib.Dec.{eqb, leb, ltb}
 use lib.IntN.{pos}
 use lib.ListN.{length, getD}
 use borrow.Author.Tests.{eqb-true, eqb-false, eq-eqb, ne-eqb, le-leb, lt-leb, ltb-true, ltb-false, not-true}
-use Rattle.rules.specs.Base.{bytes, all, same, within, indexOf, split, join}
-use Rattle.rules.specs.RefusalNumbers.{Got, got, bad, unless, mapG, andThen, orBad, keep}
+use Rattle.rules.specs.Base.{bytes, all, flat, same, within, indexOf, split, join}
+use Rattle.rules.specs.RefusalNumbers.{Got, got, bad, unless, mapG, andThen, orBad, keep, consG}
 use Rattle.rules.specs.Numbers.{isDigit, digitRun, value, readCount, readFixed, isDay, isClock, readDecimal, fixedOnto, fixed, trim, showCount, showDecimal}
 use Rattle.rules.specs.Lines.{Rest, Shape, opener, noContent, content, opening, formless}
-use Rattle.rules.specs.Values.{Num, num, Value, empty, nums, chars, Known, byteIn, lettersAndDigits, capital, isLayerId, inBound, Part, count, digit, typeDigits, range, rangeOfSymbols, rangeOfWires, day, clock, decimal, symbolName, layerId, servedSymbols, servedWires, natural, readPart, amount, showPart, readAll, showAll, agree, Kind, values, text, word, volumeName, sheet, ratio, serials, nothing, opens, headed, either, sheets, findSheet, readRatio, mostPartners, readSerials, linkedOf, showSerials, readKind, amountAt, showContent}
+use Rattle.rules.specs.Values.{Num, num, Value, empty, nums, chars, Known, byteIn, lettersAndDigits, capital, isLayerId, inBound, Part, count, digit, typeDigits, range, rangeOfSymbols, rangeOfWires, day, clock, decimal, symbolName, layerId, servedSymbols, servedWires, natural, readPart, amount, showPart, readAll, showAll, agree, Kind, values, text, word, volumeName, sheet, ratio, serials, wireSerial, nothing, opens, headed, either, sheets, findSheet, readRatio, mostPartners, readSerials, linkedOf, showSerials, twoNums, readPartner, readWireSerial, showPartner, readKind, amountAt, showContent}
 use Rattle.rules.specs.Rows.{Rule, Act, entry, begin, refuse, orRefuse, readShape, fits, innerOf, notTwice, shapeFor, actRow}
 use Rattle.rules.specs.RangeClass.{reaches}
 use Rattle.rules.specs.Lines.{hasForm}
@@ -124,7 +124,9 @@ whole-stands n e =
     by-cond S (eqb n 14) (λ _. refl) λ _.
     by-cond S (eqb n 15) (λ _. refl) λ _.
     by-cond S (eqb n 16) (λ _. refl) λ _.
-    by-cond S (eqb n 18) (λ _. refl) (λ _. refl)
+    by-cond S (eqb n 18) (λ _. refl) λ _.
+    by-cond S (eqb n 2) (λ _. refl) λ _.
+    by-cond S (eqb n 3) (λ _. refl) (λ _. refl)
   where
     S : Part → Type 0
     S p = stands p ≡ true
@@ -174,6 +176,34 @@ serials-shown (p ∷ ps) ns e =
     let (n, s, g, h, q) = cons-got (orBad 10 (readCount 10 p)) (readSerials ps) ns e in
     rw (← q, count-text 10 p n (omega arith) (or-got 10 (readCount 10 p) n g), serials-shown ps s h)
 
+-- a partner of a wire; an empty one stays empty
+partner-shown : (p : List ℕ) (v : List Num) → readPartner p ≡ got v
+    → (state : ℕ) × (n : ℕ) × (v ≡ twoNums state n) × (anew p (showCount 20) (readCount 10 p) ≡ showPartner state n)
+partner-shown [] v e = let q : twoNums 1 0 ≡ v = cc in (1, 0, sym q, refl)
+partner-shown (b ∷ s) v e =
+    let (n, g, q) = map-got (λ n. twoNums 2 n) (orBad 10 (readCount 10 (b ∷ s))) v e in
+    (2, n, sym q, count-text 10 (b ∷ s) n (omega arith) (or-got 10 (readCount 10 (b ∷ s)) n g))
+
+abbrev wireTexts : Value → List (List ℕ)
+wireTexts v = showCount 10 (amountAt v 0) ∷ showPartner (amountAt v 1) (amountAt v 2) ∷ showPartner (amountAt v 3) (amountAt v 4) ∷ []
+
+wire-shown : (ps : List (List ℕ)) (v : List Num) → readWireSerial ps ≡ got v → pieceTexts 7 true ps ≡ wireTexts (nums v)
+wire-shown [] v e = never e
+wire-shown (o ∷ []) v e = never e
+wire-shown (o ∷ a ∷ []) v e = never e
+wire-shown (o ∷ a ∷ b ∷ []) v e =
+    let ends = consG (readPartner a) (consG (readPartner b) (got [])) in
+    let (own, w, g, h, q) = cons-got (natural (orBad 10 (readCount 10 o))) (mapG flat ends) v e in
+    let (n, g₁, q₁) = map-got (λ n. num (pos n)) (orBad 10 (readCount 10 o)) own g in
+    let (us, g₂, q₂) = map-got flat ends w h in
+    let (x, r, gx, g₃, q₃) = cons-got (readPartner a) (consG (readPartner b) (got [])) us g₂ in
+    let (y, z, gy, g₄, q₄) = cons-got (readPartner b) (got []) r g₃ in
+    let q₅ : [] ≡ z = cc in
+    let (i, m, ex, tx) = partner-shown a x gx in
+    let (j, l, ey, ty) = partner-shown b y gy in
+    rw (← q, ← q₁, ← q₂, ← q₃, ← q₄, ← q₅, ex, ey, count-text 10 o n (omega arith) (or-got 10 (readCount 10 o) n g₁), tx, ty)
+wire-shown (o ∷ a ∷ b ∷ c ∷ ps) v e = never e
+
 -- ── a content ──
 -- the promise of a content that was read
 abbrev Kept : Row → Kind → List ℕ → Type 0
@@ -208,6 +238,12 @@ module _ (c : List ℕ) where
       written [] = refl
       written (n ∷ ns) = refl
 
+  wire-kept : (k : Known) (at : ℕ) (v : Value) → readKind k wireSerial at c ≡ got v → piecesText 7 true c ≡ showContent k wireSerial v
+  unfolding piecesText
+  wire-kept k at v e =
+      let (u, g, q) = map-got nums (readWireSerial (split 44 c)) v e in
+      rw (← q) (ap (join 44) (wire-shown (split 44 c) u g))
+
   single-kept : (k : Known) (p : Part) (d : Kind) (t : List ℕ) (v : Value) → ((a : Num) → showContent k d (nums (a ∷ [])) ≡ showPart k p a) → Shown k p c t
       → mapG (λ n. nums (n ∷ [])) (readPart k p c) ≡ got v → t ≡ showContent k d v
   single-kept k p d t v s h e = let (a, g, q) = map-got (λ n. nums (n ∷ [])) (readPart k p c) v e in rw (← q) (h a g ∙ sym (s a))
@@ -220,7 +256,7 @@ module _ (c : List ℕ) where
       let (o, t) = keep-got 11 (agree (acrossOf a)) (readAll k (partsOf (suc m) forms) (split 44 c)) u g in
       rw (← q) (ap (join 44) (all-shown k (suc m) forms (split 44 c) u o))
 
--- a number that is none of the ten
+-- a number that is none of those of the first ten kinds
 other-kind : (n : ℕ) → eqb n 1 ≡ false → eqb n 2 ≡ false → eqb n 3 ≡ false → eqb n 4 ≡ false → eqb n 5 ≡ false → eqb n 6 ≡ false → eqb n 7 ≡ false → eqb n 8 ≡ false → eqb n 9 ≡ false → eqb n 10 ≡ false
     → (ltb 0 n && leb n 10) ≡ false
 other-kind zero a b c d e f g h i j = refl
@@ -240,14 +276,19 @@ module _ (row : Row) (c : List ℕ) where
   abbrev code : ℕ
   code = row .kind
 
-  of-values : eqb code 1 ≡ false → eqb code 2 ≡ false → eqb code 3 ≡ false → eqb code 4 ≡ false → eqb code 5 ≡ false → eqb code 6 ≡ false → eqb code 7 ≡ false → eqb code 8 ≡ false → eqb code 9 ≡ false → eqb code 10 ≡ false → Kept row (kindOf row) c
+  of-values : eqb code 1 ≡ false → eqb code 2 ≡ false → eqb code 3 ≡ false → eqb code 4 ≡ false → eqb code 5 ≡ false → eqb code 6 ≡ false → eqb code 7 ≡ false → eqb code 8 ≡ false → eqb code 9 ≡ false → eqb code 10 ≡ false → eqb code 11 ≡ false → Kept row (kindOf row) c
   unfolding contentText
-  of-values q1 q2 q3 q4 q5 q6 q7 q8 q9 q10 = rw (q1, q2, q3, q4, q5, q6, q7, q8, q9, q10, other-kind code q1 q2 q3 q4 q5 q6 q7 q8 q9 q10) (λ k at v. values-kept c k (row .count) (row .parts) (row .across) at v)
+  of-values q1 q2 q3 q4 q5 q6 q7 q8 q9 q10 q11 = rw (q1, q2, q3, q4, q5, q6, q7, q8, q9, q10, q11, other-kind code q1 q2 q3 q4 q5 q6 q7 q8 q9 q10) (λ k at v. values-kept c k (row .count) (row .parts) (row .across) at v)
+
+  kind11 : (t : Bool) → eqb code 11 ≡ t → eqb code 1 ≡ false → eqb code 2 ≡ false → eqb code 3 ≡ false → eqb code 4 ≡ false → eqb code 5 ≡ false → eqb code 6 ≡ false → eqb code 7 ≡ false → eqb code 8 ≡ false → eqb code 9 ≡ false → eqb code 10 ≡ false → Kept row (kindOf row) c
+  unfolding contentText
+  kind11 true q q1 q2 q3 q4 q5 q6 q7 q8 q9 q10 = rw (eqb-true code 11 q) (wire-kept c)
+  kind11 false q q1 q2 q3 q4 q5 q6 q7 q8 q9 q10 = of-values q1 q2 q3 q4 q5 q6 q7 q8 q9 q10 q
 
   kind10 : (t : Bool) → eqb code 10 ≡ t → eqb code 1 ≡ false → eqb code 2 ≡ false → eqb code 3 ≡ false → eqb code 4 ≡ false → eqb code 5 ≡ false → eqb code 6 ≡ false → eqb code 7 ≡ false → eqb code 8 ≡ false → eqb code 9 ≡ false → Kept row (kindOf row) c
   unfolding contentText
   kind10 true q q1 q2 q3 q4 q5 q6 q7 q8 q9 = rw (eqb-true code 10 q) (λ k at v. single-kept c k (range 0 1) (either (row .inner)) c v (λ a. refl) (λ a. part-stands k (range 0 1) c a refl))
-  kind10 false q q1 q2 q3 q4 q5 q6 q7 q8 q9 = of-values q1 q2 q3 q4 q5 q6 q7 q8 q9 q
+  kind10 false q q1 q2 q3 q4 q5 q6 q7 q8 q9 = kind11 (eqb code 11) refl q1 q2 q3 q4 q5 q6 q7 q8 q9 q
 
   kind9 : (t : Bool) → eqb code 9 ≡ t → eqb code 1 ≡ false → eqb code 2 ≡ false → eqb code 3 ≡ false → eqb code 4 ≡ false → eqb code 5 ≡ false → eqb code 6 ≡ false → eqb code 7 ≡ false → eqb code 8 ≡ false → Kept row (kindOf row) c
   unfolding contentText
@@ -340,6 +381,7 @@ module _ (row : Row) (k : Known) (j : ℕ) (r : Rule) (act : Act) where
   opener-shown sheet x y e h = none-fits (r .may) h
   opener-shown ratio x y e h = none-fits (r .may) h
   opener-shown serials x y e h = none-fits (r .may) h
+  opener-shown wireSerial x y e h = none-fits (r .may) h
   opener-shown nothing x y e h = clash h refl
   opener-shown (opens i) x y e h = refl
   opener-shown (headed i p) x y e h = clash h refl
@@ -354,6 +396,7 @@ module _ (row : Row) (k : Known) (j : ℕ) (r : Rule) (act : Act) where
   noContent-shown sheet x y e h = let q : entry j empty ≡ act = cc in rw (← q)
   noContent-shown ratio x y e h = let q : entry j empty ≡ act = cc in rw (← q)
   noContent-shown serials x y e h = let q : entry j empty ≡ act = cc in rw (← q)
+  noContent-shown wireSerial x y e h = let q : entry j empty ≡ act = cc in rw (← q)
   noContent-shown nothing x y e h = refl
   noContent-shown (opens i) x y e h = clash h refl
   noContent-shown (headed i p) x y e h = clash h refl
@@ -372,6 +415,7 @@ module _ (row : Row) (k : Known) (j : ℕ) (r : Rule) (act : Act) where
   content-shown sheet at c x y e h = let (v, g, q) = map-got (entry j) (readKind k (r .holds) at c) act e in rw (← q) (ap (λ (s : List ℕ). 61 ∷ s) (read-shown sheet at c v x y g))
   content-shown ratio at c x y e h = let (v, g, q) = map-got (entry j) (readKind k (r .holds) at c) act e in rw (← q) (ap (λ (s : List ℕ). 61 ∷ s) (read-shown ratio at c v x y g))
   content-shown serials at c x y e h = let (v, g, q) = map-got (entry j) (readKind k (r .holds) at c) act e in rw (← q) (ap (λ (s : List ℕ). 61 ∷ s) (read-shown serials at c v x y g))
+  content-shown wireSerial at c x y e h = let (v, g, q) = map-got (entry j) (readKind k (r .holds) at c) act e in rw (← q) (ap (λ (s : List ℕ). 61 ∷ s) (read-shown wireSerial at c v x y g))
   content-shown nothing at c x y e h = clash h refl
   content-shown (opens i) at c x y e h = clash h refl
   content-shown (headed i p) at c x y e h = clash h refl
@@ -388,6 +432,7 @@ module _ (row : Row) (k : Known) (j : ℕ) (r : Rule) (act : Act) where
   opening-shown sheet at c x y e h = none-fits (r .may) h
   opening-shown ratio at c x y e h = none-fits (r .may) h
   opening-shown serials at c x y e h = none-fits (r .may) h
+  opening-shown wireSerial at c x y e h = none-fits (r .may) h
   opening-shown nothing at c x y e h = clash h refl
   opening-shown (opens i) at c x y e h = clash h refl
   opening-shown (headed i p) at c x y e h =

@@ -1,6 +1,6 @@
 -- What is written of a line's parts, whatever they are: that it is the fixed form, where they were read, is a law.
 use Prim.Native.Nat.{ℕ, _/_, _%_}
-use mathlib.Core.Bool.{Bool, true, false, cond, _&&_}
+use mathlib.Core.Bool.{Bool, true, false, cond, _&&_, _||_}
 use mathlib.Core.List.{List, [], _∷_, _++_, map}
 use mathlib.Core.Option.{Option, none, some}
 use lib.Dec.{eqb, leb, ltb}
@@ -11,7 +11,8 @@ use Rattle.rules.specs.Lines.{Rest, brace, equals, Shape, opener, noContent, co
 use Rattle.rules.specs.Values.{Num, capital, sheets, findSheet, showSheet, readRatio, showRatio}
 use Rattle.leaves.specs.Drawing.{numberAt}
 use Rattle.tables.specs.declared.Row.{Row}
-use Rattle.tables.specs.Numbering.{holdsValues, holdsVolumeName, holdsSheet, holdsRatio, holdsSerials, holdsHeaded, holdsEither, partCount, partAnySign}
+use Rattle.tables.specs.Numbering.{holdsValues, holdsVolumeName, holdsSheet, holdsRatio, holdsSerials, holdsHeaded, holdsEither}
+use Rattle.tables.specs.Numbering.{holdsWireSerial, partCount, partAnySign}
 
 -- what was read is written anew, what was not stands as it is
 abbrev pub anew : {A : Type 0} → List ℕ → (A → List ℕ) → Option A → List ℕ
@@ -41,13 +42,13 @@ abbrev pub ratioText : List ℕ → Got (List Num) → List ℕ
 ratioText c (bad n) = c
 ratioText c (got v) = showRatio (numberAt v 0) (numberAt v 1)
 
--- a content that is not empty, by its row; texts and words stand as they are
+-- a content that is not empty, by its row; texts and words stand as they are, and so does an empty partner of a wire
 unfoldable pub contentText : Row → List ℕ → List ℕ
 contentText row c =
     cond (eqb (row .kind) holdsVolumeName) (map capital c)
     (cond (eqb (row .kind) holdsSheet) (sheetText c (findSheet c sheets))
     (cond (eqb (row .kind) holdsRatio) (ratioText c (readRatio c))
-    (cond (eqb (row .kind) holdsSerials) (piecesText partCount true c)
+    (cond (eqb (row .kind) holdsSerials || eqb (row .kind) holdsWireSerial) (piecesText partCount true c)
     (cond (eqb (row .kind) holdsHeaded) (pieceText (row .parts) c)
     (cond (ltb holdsValues (row .kind) && leb (row .kind) holdsEither) c
     (piecesText (row .parts) false c))))))

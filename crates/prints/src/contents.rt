@@ -17,16 +17,17 @@ use tables::HOLDS_SERIALS;
 use tables::HOLDS_SHEET;
 use tables::HOLDS_VALUES;
 use tables::HOLDS_VOLUME_NAME;
+use tables::HOLDS_WIRE_SERIAL;
 use tables::PART_COUNT;
 use tables::Row;
 ghost use mathlib.Core.Path.{_≡_};
-ghost use mathlib.Core.Bool.{_&&_};
+ghost use mathlib.Core.Bool.{_&&_, _||_};
 ghost use mathlib.Core.List.{map};
-ghost use lib.Dec.{leb, ltb};
+ghost use lib.Dec.{eqb, leb, ltb};
 ghost use Rattle.rules.specs.Values.{capital, findSheet, sheets, readRatio};
 ghost use Rattle.prints.specs.Printing.{Writes};
 ghost use Rattle.prints.specs.Texts.{sheetText, ratioText, contentText};
-ghost use Rattle.tables.specs.Numbering.{holdsValues, holdsEither};
+ghost use Rattle.tables.specs.Numbering.{holdsValues, holdsSerials, holdsEither, holdsWireSerial};
 
 // The name of the next volume, in capitals, byte by byte.
 fn capitals(c: &[u8], at: Wrote, out: &mut [u8]) -> Wrote
@@ -61,6 +62,16 @@ fn scale(c: &[u8], at: Wrote, out: &mut [u8]) -> Wrote
     put_scale(z.p as u64, z.q as u64, at, out)
 }
 
+// Serial numbers between commas: a placed symbol's or a wire's.
+fn are_serials(kind: u8) -> bool
+    ensures { λ r. ⌜ r ≡ (eqb kind holdsSerials || eqb kind holdsWireSerial) ⌝ }
+{
+    if kind == HOLDS_SERIALS {
+        return true;
+    }
+    kind == HOLDS_WIRE_SERIAL
+}
+
 // A kind of content that stands as it was written: texts, words, and a range that may open a block.
 fn stands(kind: u8) -> bool
     ensures { λ r. ⌜ r ≡ (ltb holdsValues kind && leb kind holdsEither) ⌝ }
@@ -84,7 +95,7 @@ pub(crate) fn content(row: Row, c: &[u8], at: Wrote, out: &mut [u8]) -> Wrote
     if row.kind == HOLDS_RATIO {
         return scale(c, at, out);
     }
-    if row.kind == HOLDS_SERIALS {
+    if are_serials(row.kind) {
         return pieces(PART_COUNT, true, c, at, out);
     }
     if row.kind == HOLDS_HEADED {

@@ -22,9 +22,9 @@ use Rattle.rules.specs.Machine.{limitedTo, Line, Env, top}
 use Rattle.rules.specs.LineByLine.{Outcome, refused, accepted, run}
 use Rattle.rules.specs.RecordTable.{recordsOf, tableOf, width}
 use Rattle.rules.specs.Answers.{Listed, listed, noLines, listVolumes, outcomeOfLines, outcomeOfVolumes, outcomeOf, outcomeAt, classOr, answerNumber, answerCount, refusal, readOutcome, recordsIn, answerWith, readRecords, readAnswer, readTable, namesIn, writtenIn, rewriteOutcome, written, fitOutput, rewriteAnswer, rewriteBytes, rewriteOutput}
-use Rattle.rules.proofs.Chains.{by-cond, cond-same}
+use Rattle.rules.proofs.Chains.{clash, by-cond, cond-same}
 use Rattle.rules.proofs.Runs.{not-accepted}
-use Rattle.promises.specs.DemandOne.{Answered, acceptedWith, refusedWith, Filled, Reads, Written, Rewrites, DemandOne}
+use Rattle.promises.specs.DemandOne.{byReader, byRewriter, Answered, acceptedWith, refusedWith, Filled, Reads, Written, Rewrites, DemandOne}
 use Rattle.promises.proofs.Widths.{flat-length, wide-records, take-replicate, filled-length, filled}
 use Rattle.promises.proofs.Count.{count-records}
 use Rattle.promises.proofs.Refusals.{OutcomeTold, toldSet, toldNumber, told-spool, told-at}
@@ -37,7 +37,7 @@ isAnswer (Refused r) = false
 not-refused : {P : Type 0} {n : ℕ} {r : Refusal} → Accepted n ≡ Refused r → P
 not-refused e = absurd (true≢false (ap isAnswer e))
 
-told-answer : (count : ℕ) (o : Outcome) → OutcomeTold o → Answered 19 (answerWith count o)
+told-answer : (count : ℕ) (o : Outcome) → OutcomeTold o → Answered byReader (answerWith count o)
 told-answer count (refused n v l) (toldNumber _ _ _ w) = refusedWith _ w
 told-answer count (accepted s) toldSet = acceptedWith count
 
@@ -121,12 +121,12 @@ output-accepted : (len : ℕ) (names : List (List ℕ)) (o : Outcome) (n : ℕ) 
 output-accepted len names (refused m v l) n q = not-refused (sym q)
 output-accepted len names (accepted s) n q = let w = writtenIn names (accepted s) in fit-accepted (leb (length w) len) len n w (leb-true (length w) len) q
 
-output-told : (len count : ℕ) (o : Outcome) → OutcomeTold o → Answered 20 (fitOutput len count (answerWith count o))
+output-told : (len count : ℕ) (o : Outcome) → OutcomeTold o → Answered byRewriter (fitOutput len count (answerWith count o))
 output-told len count (refused n v l) (toldNumber _ _ _ w) =
-    refusedWith _ (record { least = w .least; most = omega (arith, w .most); whole = w .whole; inVolume = w .inVolume })
+    refusedWith _ (record { least = w .least; most = w .most; known = refl; whole = w .whole; inVolume = w .inVolume })
 output-told len count (accepted s) toldSet =
-    by-cond (Answered 20) (leb count len) (λ _. acceptedWith count)
-    (λ _. refusedWith _ (record { least = omega arith; most = omega arith; whole = λ _. (refl, refl); inVolume = λ e. absurd (true≢false e) }))
+    by-cond (Answered byRewriter) (leb count len) (λ _. acceptedWith count)
+    (λ _. refusedWith _ (record { least = omega arith; most = omega arith; known = refl; whole = λ _. (refl, refl); inVolume = λ e. absurd (true≢false e) }))
 
 output-short : (len count : ℕ) (o : Outcome) (s : Set) → o ≡ accepted s → len < count → fitOutput len count (answerWith count o) ≡ refusal 20 0 0
 output-short len count (refused m v l) s q h = not-accepted q
@@ -138,7 +138,7 @@ fit-short false len count n r h q = h refl
 
 -- the reading itself gives no 20
 output-only : (len count : ℕ) (o : Outcome) (r : Refusal) → OutcomeTold o → fitOutput len count (answerWith count o) ≡ Refused r → r .number ≡ 20 → len < count
-output-only len count (refused n v l) r (toldNumber _ _ _ w) e t = let same : n ≡ r .number = ap answerNumber e in absurd (omega (arith, w .most, same, t))
+output-only len count (refused n v l) r (toldNumber _ _ _ w) e t = let same : n ≡ r .number = ap answerNumber e in clash (w .known) (ap (λ (k : ℕ). byReader k) (same ∙ t))
 output-only len count (accepted s) r w e t = fit-short (leb count len) len count count r (leb-false count len) e
 
 rewriter-told : (spool : List ℕ) → OutcomeTold (rewriteOutcome spool)

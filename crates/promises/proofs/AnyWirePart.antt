@@ -1,33 +1,37 @@
--- Any two wire parts give the same answer, records and table where E_wire is 000: only the line that opens a wire is judged by the wire part,
--- and no record made with it.
-use Prim.Native.Nat.{ℕ, zero, suc, _<_, _/_}
-use mathlib.Core.Bool.{Bool, true, false, cond, _&&_}
-use mathlib.Core.List.{List, [], _∷_}
+-- Any two wire parts give the same answer, records and table where E_wire is 000: such a file allows no key of a wire but its elements', which
+-- every wire part knows, and no record shows an attribute of it.
+use Prim.Native.Nat.{ℕ, zero, suc, _<_, _/_, min}
+use mathlib.Core.Bool.{Bool, true, false, cond, _&&_, _||_, not}
+use mathlib.Core.List.{List, [], _∷_, _++_}
 use mathlib.Core.Option.{Option, none, some}
-use mathlib.Core.Path.{_≡_, refl, _∙_, ap}
+use mathlib.Core.Path.{_≡_, refl, sym, _∙_, ap, ap₂}
 use native.Mathlib.Omega.{arith}
-use lib.Dec.{ltb}
-use borrow.Author.Tests.{ltb-true}
+use lib.Dec.{eqb, leb, ltb}
+use lib.IntN.{ℤ}
+use lib.ListN.{length, getD}
+use borrow.Author.Tests.{ltb-true, leb-true, le-leb, le-ltb, eqb-true, ne-eqb, not-true, not-false}
 use Rattle.rules.specs.declared.Digits.{Digits}
 use Rattle.rules.specs.declared.Class.{Class}
-use Rattle.rules.specs.Base.{flat, all}
-use Rattle.rules.specs.RefusalNumbers.{Got, got, bad}
+use Rattle.rules.specs.Base.{flat, all, isNil}
+use Rattle.rules.specs.RefusalNumbers.{Got, got, bad, unless}
 use Rattle.rules.specs.Lines.{Rest, Form, ignored, wrong, close, eof, keyed}
 use Rattle.rules.specs.Spool.{Volume, volumesOf}
-use Rattle.rules.specs.RangeClass.{digitsOf, isSymbolPart, isWirePart, classOf}
-use Rattle.rules.specs.Values.{Value}
-use Rattle.rules.specs.Rows.{Rule, Found, absent, found, find, Held, rowsAtLimit, Act, stay, entry, begin, shut, refuse, innerOf, act}
+use Rattle.rules.specs.RangeClass.{digits, digitsOf, reaches, exceeds, both, hides, knowsSerials, isSymbolPart, isWirePart, classOf}
+use Rattle.rules.specs.Values.{Value, isFree}
+use Rattle.rules.specs.Rows.{Rule, Found, absent, found, find, Held, rowsThere, rowsAtLimit, Act, stay, entry, begin, shut, refuse, innerOf, actRow, actUnknown, act}
 use Rattle.rules.specs.Blocks.{elecTable}
-use Rattle.rules.specs.Figures.{placedTable, layerTable}
-use Rattle.rules.specs.Sets.{Figure, plain, chain, lettering, placed, wired, passed, LayerBlock, Contents, Drawing, Set, nothingYet, rangeOf, wireRange, isSingle, isWired, knownOf, layerTableOf}
-use Rattle.rules.specs.Machine.{Line, Env, Home, inElement, inLayer, State, top, file, drawing, layerNames, defines, symbol, hide, elements, figures, successive, texts, placing, skipping, ended, openTop, onTop, onLayerNames, openFigure}
+use Rattle.rules.specs.Figures.{placedTable, layerTable, wireTable}
+use Rattle.rules.specs.Sets.{Wire, Figure, plain, chain, lettering, placed, wired, passed, LayerBlock, Contents, Drawing, Set, nothingYet, rangeOf, wireRange, wiresOf, isSingle, isWired, knownOf, layerTableOf}
+use Rattle.rules.specs.Machine.{Line, Env, Home, inElement, inLayer, State, top, file, drawing, layerNames, defines, symbol, hide, elements, figures, successive, texts, placing, skipping, ended, openTop, testsPartners, onTop, onLayerNames, openFigure}
 use Rattle.rules.specs.Machine.{symbolBlock, wireBlock, wireUnread, setOf, byAct, homeTable, onFigures}
 use Rattle.rules.specs.PlacedSymbol.{onPlacedKey, onPlacing}
+use Rattle.rules.specs.VolumesAndTotals.{countedAll, layersUsed, partnersExist}
+use Rattle.rules.specs.Wires.{wireFull, isElementRow, onWireAct, onWireUnknown, onWireKey, onWireOwn, onWire}
 use Rattle.rules.specs.LineByLine.{stepIn, step, Outcome, refused, accepted, thenRun, run}
-use Rattle.rules.specs.RecordTable.{View, width, figureRecords, blockRecords, bodyRecords, laterRecords, recordsFrom, recordsOf}
+use Rattle.rules.specs.RecordTable.{View, width, unreadState, markUnread, putSlots, shelves, putGroups, putTexts, wireStart, wireNumbers, wireValues, twoOf, edgeRecords, figureRecords, blockRecords, bodyRecords, laterRecords, recordsFrom, recordsOf}
 use Rattle.rules.specs.Answers.{Listed, listed, noLines, listVolumes, outcomeOfLines, outcomeOfVolumes, outcomeOf, outcomeAt, classOr, recordsIn, readOutcome, readRecords, readAnswer, readTable}
-use Rattle.rules.proofs.Chains.{clash, map-agree}
-use Rattle.rules.proofs.Rows.{row-all}
+use Rattle.rules.proofs.Chains.{and-left, and-right, and-true, and-false, clash, map-agree}
+use Rattle.rules.proofs.Rows.{Row, found-row, row-all}
 use Rattle.rules.proofs.Runs.{not-accepted}
 use Rattle.promises.specs.WireParts.{goOn, readUpTo, setOfLines, setOfVolumes, setAt, setRead, SameRead, WireParts}
 use Rattle.promises.proofs.CountActs.{Begun, act-begin}
@@ -40,6 +44,78 @@ withWires symbols wires = record { symbols = symbols; wires = wires }
 nothing-wired : isWired nothingYet ≡ false
 unfolding elecTable
 nothing-wired = refl
+
+pick-true : {A : Type 0} (t : Bool) (x y : A) → t ≡ true → cond t x y ≡ x
+pick-true t x y e = rw e
+
+pick-false : {A : Type 0} (t : Bool) (x y : A) → t ≡ false → cond t x y ≡ y
+pick-false t x y e = rw e
+
+no-range : (s : Set) → isWired s ≡ false → wireRange s ≡ 0
+no-range s w = eqb-true (wireRange s) 0 (not-false (eqb (wireRange s) 0) w)
+
+no-wires : (s : Set) → isWired s ≡ false → wiresOf s ≡ digits 0 0
+no-wires s w = ap digitsOf (no-range s w)
+
+-- no partner is tested there
+untested : (c : Class) (s : Set) → isWired s ≡ false → testsPartners c s ≡ false
+untested c s w =
+    ap (λ (d : Digits). (knowsSerials (rangeOf s) && knowsSerials d) && (knowsSerials (c .symbols) && knowsSerials (c .wires))) (no-wires s w)
+    ∙ ap (λ (b : Bool). b && (knowsSerials (c .symbols) && knowsSerials (c .wires))) (and-false (knowsSerials (rangeOf s)))
+
+-- ── a wire's block where E_wire is 000, at a class ──
+none-exceeds : (c : Digits) → exceeds (digits 0 0) c ≡ false
+none-exceeds c = rw (le-ltb (c .middle) 0 (omega arith), le-ltb (c .last) 0 (omega arith))
+
+both-none : (c : Digits) → both c (digits 0 0) ≡ digits 0 0
+both-none c = let p : min (c .middle) 0 ≡ 0 = omega arith in let q : min (c .last) 0 ≡ 0 = omega arith in ap₂ digits p q
+
+-- what the least range has, every class knows
+reaches-least : (c l : Digits) → reaches (digits 0 0) l ≡ true → reaches c l ≡ true
+reaches-least c l e =
+    let p = leb-true (l .middle) 0 (and-left (leb (l .middle) 0) _ e) in
+    let q = leb-true (l .last) 0 (and-right (leb (l .middle) 0) _ e) in
+    and-true _ _ (le-leb (l .middle) (c .middle) (omega (arith, p))) (le-leb (l .last) (c .last) (omega (arith, q)))
+
+no-free : all (λ r. not (isFree (r .holds))) wireTable ≡ true
+unfolding wireTable
+no-free = refl
+
+module _ (e : Env) (l : Line) (s : Set) (z : wiresOf s ≡ digits 0 0) (k : ℕ) (fs : List Figure) (n : ℕ) (w : Wire) where
+  abbrev Acts : Act → Got State
+  Acts a = onWireAct e l s k fs n w a
+
+  abbrev rowActs : ℕ → Rule → Rest → Digits → Act
+  rowActs j r x d = actRow (knownOf s) d (getD (wireFull w) j false) j r x
+
+  unknown-is : (key : List ℕ) (x : Rest) → onWireUnknown e l s k fs n w key x ≡ Acts (actUnknown x)
+  unknown-is key x = pick-false (exceeds (wiresOf s) (e .class .wires)) _ _ (ap (λ (d : Digits). exceeds d (e .class .wires)) z ∙ none-exceeds (e .class .wires))
+
+  row-unknown : (j : ℕ) (r : Rule) (x : Rest) → isFree (r .holds) ≡ false → reaches (wiresOf s) (r .least) ≡ false → rowActs j r x (wiresOf s) ≡ actUnknown x
+  row-unknown j r x f q = rw (f, q)
+
+  abbrev keyActs : ℕ → Rule → Rest → Got State
+  keyActs j r x = cond (isElementRow j && w .past) (Acts (actUnknown x)) (cond (reaches (digits 0 0) (r .least)) (Acts (rowActs j r x (digits 0 0))) (Acts (actUnknown x)))
+
+  key-is : (key : List ℕ) (x : Rest) {j : ℕ} {r : Rule} → Row wireTable j r → onWireKey e l s k fs n w key x (found j r) ≡ keyActs j r x
+  key-is key x {j} {r} row = ap (λ g. cond (isElementRow j && w .past) (Acts (actUnknown x)) g) (go (reaches (digits 0 0) (r .least)) refl)
+    where
+      free : isFree (r .holds) ≡ false
+      free = not-true (isFree (r .holds)) (row-all (λ r. not (isFree (r .holds))) row no-free)
+
+      beyond : reaches (digits 0 0) (r .least) ≡ false → (b : Bool) → cond b (Acts (rowActs j r x (wiresOf s))) (onWireUnknown e l s k fs n w key x) ≡ Acts (actUnknown x)
+      beyond q true = ap Acts (row-unknown j r x free (ap (λ (d : Digits). reaches d (r .least)) z ∙ q))
+      beyond q false = unknown-is key x
+
+      go : (b : Bool) → reaches (digits 0 0) (r .least) ≡ b
+          → cond (reaches (e .class .wires) (r .least)) (Acts (rowActs j r x (wiresOf s))) (onWireUnknown e l s k fs n w key x)
+          ≡ cond b (Acts (rowActs j r x (digits 0 0))) (Acts (actUnknown x))
+      go true q =
+          pick-true (reaches (e .class .wires) (r .least)) _ _ (reaches-least (e .class .wires) (r .least) q) ∙ ap (λ (d : Digits). Acts (rowActs j r x d)) z
+      go false q = beyond q (reaches (e .class .wires) (r .least))
+
+  shut-is : onWireOwn e l s k fs n w close ≡ Acts (act (knownOf s) wireTable (digits 0 0) (rowsThere (w .own)) close)
+  shut-is = ap (λ (d : Digits). Acts (act (knownOf s) wireTable d (rowsThere (w .own)) close)) (ap (both (e .class .wires)) z ∙ both-none (e .class .wires))
 
 -- ── the reading ──
 module _ (symbols one other : Digits) (m : Option ℕ) where
@@ -55,12 +131,14 @@ module _ (symbols one other : Digits) (m : Option ℕ) where
   open-same l s (suc (suc zero)) = refl
   open-same l s (suc (suc (suc k))) = refl
 
-  top-same : (l : Line) (s : Set) (k : ℕ) (f : Form) → onTop here l s k f ≡ onTop there l s k f
-  top-same l s k ignored = refl
-  top-same l s k (wrong n) = refl
-  top-same l s k close = refl
-  top-same l s k eof = refl
-  top-same l s k (keyed key x) = simp open-same
+  top-same : (l : Line) (s : Set) (k : ℕ) (f : Form) → isWired s ≡ false → onTop here l s k f ≡ onTop there l s k f
+  top-same l s k ignored w = refl
+  top-same l s k (wrong n) w = refl
+  top-same l s k close w = refl
+  top-same l s k eof w =
+      ap (λ (t : Bool). unless (eqb k 4 && (isNil (l .next) && l .last)) 9 (unless (layersUsed s) 14 (unless (countedAll s) 17 (unless (not t || partnersExist s) 21 (got (ended s))))))
+      (untested (withWires symbols one) s w ∙ sym (untested (withWires symbols other) s w))
+  top-same l s k (keyed key x) w = simp open-same
 
   layers-same : (l : Line) (s : Set) (d : Drawing) (f : Form) → onLayerNames here l s d f ≡ onLayerNames there l s d f
   layers-same l s d ignored = refl
@@ -121,9 +199,25 @@ module _ (symbols one other : Digits) (m : Option ℕ) where
   placing-same s k fs n o zero (keyed key x) = key-same s k fs n o key x (find key placedTable)
   placing-same s k fs n o (suc p) f = refl
 
+  wire-key-same : (l : Line) (s : Set) (k : ℕ) (fs : List Figure) (n : ℕ) (w : Wire) (key : List ℕ) (x : Rest) (f : Found) → find key wireTable ≡ f → wiresOf s ≡ digits 0 0
+      → onWireKey here l s k fs n w key x f ≡ onWireKey there l s k fs n w key x f
+  wire-key-same l s k fs n w key x absent q z = unknown-is here l s z k fs n w key x ∙ sym (unknown-is there l s z k fs n w key x)
+  wire-key-same l s k fs n w key x (found j r) q z =
+      let row = found-row key wireTable j r q .0 in
+      key-is here l s z k fs n w key x row ∙ sym (key-is there l s z k fs n w key x row)
+
+  wire-same : (l : Line) (s : Set) (k : ℕ) (fs : List Figure) (n : ℕ) (w : Wire) (p : ℕ) (f : Form) → wiresOf s ≡ digits 0 0
+      → onWire here l s k fs n w p f ≡ onWire there l s k fs n w p f
+  wire-same l s k fs n w zero ignored z = refl
+  wire-same l s k fs n w zero (wrong i) z = refl
+  wire-same l s k fs n w zero close z = shut-is here l s z k fs n w ∙ sym (shut-is there l s z k fs n w)
+  wire-same l s k fs n w zero eof z = refl
+  wire-same l s k fs n w zero (keyed key x) z = wire-key-same l s k fs n w key x (find key wireTable) refl z
+  wire-same l s k fs n w (suc p) f z = refl
+
   -- one line, in whichever block is open
   in-same : (l : Line) (st : State) → isWired (setOf st) ≡ false → stepIn here l st ≡ stepIn there l st
-  in-same l (top s k) w = top-same l s k (l .form)
+  in-same l (top s k) w = top-same l s k (l .form) w
   in-same l (file s n h p) w = refl
   in-same l (drawing s d) w = refl
   in-same l (layerNames s d) w = layers-same l s d (l .form)
@@ -135,7 +229,7 @@ module _ (symbols one other : Digits) (m : Option ℕ) where
   in-same l (successive s h fs n ps) w = refl
   in-same l (texts s h fs n o) w = refl
   in-same l (placing s k fs n (symbolBlock o) p) w = placing-same s k fs n o p (l .form)
-  in-same l (placing s k fs n (wireBlock x) p) w = refl
+  in-same l (placing s k fs n (wireBlock x) p) w = wire-same l s k fs n x p (l .form) (no-wires s w)
   in-same l (placing s k fs n wireUnread p) w = refl
   in-same l (skipping s k fs n b d) w = refl
   in-same l (ended s) w = refl
@@ -170,17 +264,42 @@ module _ (symbols one other : Digits) (m : Option ℕ) where
       go (noLines v) q = not-accepted q
 
 -- ── the records ──
+-- none of a wire's attributes that have a state is there where E_wire is 000
+abbrev shownLater : Rule → Bool
+shownLater r = eqb (r .state) 0 || not (reaches (digits 0 0) (r .least))
+
+later-rows : all shownLater wireTable ≡ true
+unfolding wireTable
+later-rows = refl
+
+unread-same : (one other : Digits) (rs : List Rule) (t : List ℤ) → all shownLater rs ≡ true → markUnread one (digits 0 0) rs t ≡ markUnread other (digits 0 0) rs t
+unread-same one other [] t e = refl
+unread-same one other (r ∷ rs) t e =
+    let rest = unread-same one other rs t (and-right (shownLater r) _ e) in
+    go (r .state) (and-left (shownLater r) _ e) ∙ ap (unreadState (r .state) (hides other (digits 0 0) (r .least))) rest
+  where
+    go : (q : ℕ) → (eqb q 0 || not (reaches (digits 0 0) (r .least))) ≡ true
+        → unreadState q (hides one (digits 0 0) (r .least)) (markUnread one (digits 0 0) rs t) ≡ unreadState q (hides other (digits 0 0) (r .least)) (markUnread one (digits 0 0) rs t)
+    go zero h = refl
+    go (suc q) h = rw (not-true (reaches (digits 0 0) (r .least)) (rw (ne-eqb (suc q) 0 (λ p. omega (arith, p))) at h))
+
 module _ (symbols one other : Digits) where
-  module _ (d : Digits) (range : ℕ) (t : List Rule) where
+  module _ (d : Digits) (range : ℕ) (z : range ≡ 0) (t : List Rule) where
     abbrev view : Digits → View
     view wires = record { class = withWires symbols wires; symbols = d; wires = range; table = t }
+
+    wire-shown : (x : Wire) (u : List ℤ) → wireValues (view one) x u ≡ wireValues (view other) x u
+    wire-shown x u =
+        let v = wireNumbers range (length (x .elements)) (putGroups shelves (x .groups) (putTexts (x .texts) (putSlots wireTable (x .own) u))) in
+        let none : digitsOf range ≡ digits 0 0 = ap digitsOf z in
+        ap (λ (i : Digits). markUnread one i wireTable v) none ∙ unread-same one other wireTable v later-rows ∙ ap (λ (i : Digits). markUnread other i wireTable v) (sym none)
 
     shown-same : (owner volume : ℕ) (f : Figure) → figureRecords (view one) 0 owner volume f ≡ figureRecords (view other) 0 owner volume f
     shown-same owner volume (plain n j v) = refl
     shown-same owner volume (chain n ps) = refl
     shown-same owner volume (lettering n s) = refl
     shown-same owner volume (placed n h) = refl
-    shown-same owner volume (wired n w) = refl
+    shown-same owner volume (wired n x) = ap (λ u. twoOf u ++ edgeRecords owner volume (x .elements)) (wire-shown x (wireStart owner volume n))
     shown-same owner volume (passed n) = refl
 
     block-same : (k : ℕ) (u : LayerBlock) → blockRecords (view one) k u ≡ blockRecords (view other) k u
@@ -193,13 +312,17 @@ module _ (symbols one other : Digits) where
     later-same k [] = refl
     later-same k (v ∷ vs) = rw (body-same k v, later-same (suc k) vs)
 
-  records-same : (s : Set) → recordsOf (withWires symbols one) s ≡ recordsOf (withWires symbols other) s
+  records-same : (s : Set) → isWired s ≡ false → recordsOf (withWires symbols one) s ≡ recordsOf (withWires symbols other) s
   unfolding recordsOf
-  records-same s = go (s .volumes)
+  records-same s w = go (s .volumes)
     where
       go : (vs : List Contents) → recordsFrom (withWires symbols one) s vs ≡ recordsFrom (withWires symbols other) s vs
       go [] = refl
-      go (v ∷ vs) = rw (body-same (rangeOf s) (wireRange s) (layerTableOf s) 1 v, later-same (rangeOf s) (wireRange s) (layerTableOf s) 2 vs)
+      go (v ∷ vs) =
+          rw (
+            body-same (rangeOf s) (wireRange s) (no-range s w) (layerTableOf s) 1 v,
+            later-same (rangeOf s) (wireRange s) (no-range s w) (layerTableOf s) 2 vs,
+          )
 
 -- ── two classes of one number ──
 data Alike : Option Class → Option Class → Type 0 where
@@ -224,10 +347,10 @@ unfolding outcomeOf
 read-at neither m spool s q = not-accepted q
 read-at (each symbols one other) m spool s q = volumes-read symbols one other (some m) (volumesOf spool) s q
 
-taken-same : {c c′ : Option Class} → Alike c c′ → (o : Outcome) → recordsIn (classOr c) o ≡ recordsIn (classOr c′) o
-taken-same neither o = refl
-taken-same (each symbols one other) (refused n v l) = refl
-taken-same (each symbols one other) (accepted s) = records-same symbols one other s
+taken-same : {c c′ : Option Class} → Alike c c′ → (o : Outcome) → ((s : Set) → o ≡ accepted s → isWired s ≡ false) → recordsIn (classOr c) o ≡ recordsIn (classOr c′) o
+taken-same neither o h = refl
+taken-same (each symbols one other) (refused n v l) h = refl
+taken-same (each symbols one other) (accepted s) h = records-same symbols one other s (h s refl)
 
 -- ── the answers ──
 module _ (class one other : ℕ) (p : isWirePart one ≡ true) (q : isWirePart other ≡ true) (len : ℕ) (spool : List ℕ) where
@@ -242,7 +365,8 @@ module _ (class one other : ℕ) (p : isWirePart one ≡ true) (q : isWirePart o
 
     read-same : readRecords class one len spool ≡ readRecords class other len spool
     unfolding readRecords
-    read-same = taken-same (alike class one other p q) (readOutcome class one len spool) ∙ ap (recordsIn (classOr (classOf class other))) outcome-same
+    read-same =
+        taken-same (alike class one other p q) (readOutcome class one len spool) (λ s e. ap isWired (sym (set-read s e)) ∙ h) ∙ ap (recordsIn (classOr (classOf class other))) outcome-same
 
     answer-same : readAnswer class one len spool ≡ readAnswer class other len spool
     unfolding readAnswer

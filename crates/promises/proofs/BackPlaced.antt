@@ -12,11 +12,11 @@ use Rattle.rules.specs.Base.{bytes, all, isSome, flat, hasNumber, split}
 use Rattle.rules.specs.RefusalNumbers.{Got, got, bad, unless, mapG, andThen, orBad, keep}
 use Rattle.rules.specs.Lines.{Rest, formOf, Shape, opener, noContent, content, opening, formless, hasForm}
 use Rattle.rules.specs.RangeClass.{digits, reaches, both}
-use Rattle.rules.specs.Values.{Num, Value, nums, chars, Known, Kind, values, text, word, volumeName, sheet, ratio, serials, nothing, opens, headed, either, lettersAndDigits, byteIn, capital, agree, range, readPart, readAll, readRatio, findSheet, sheets, readKind, serialsOf}
+use Rattle.rules.specs.Values.{Num, Value, nums, chars, Known, Kind, values, text, word, volumeName, sheet, ratio, serials, wireSerial, nothing, opens, headed, either, lettersAndDigits, byteIn, capital, agree, range, readPart, readAll, readRatio, findSheet, sheets, readKind, serialsOf, readWireSerial}
 use Rattle.rules.specs.Rows.{Rule, Slots, blank, Held, partOf, rowsThere, slotValue, held, fits, shapeFor, Act, stay, entry, begin, shut, refuse, orRefuse, innerOf, readShape, notTwice, actRow}
 use Rattle.rules.specs.Blocks.{blankHeld}
-use Rattle.rules.specs.Figures.{layerTable, textTable, placedTable, placedTables}
-use Rattle.rules.specs.Sets.{Figure, plain, chain, lettering, placed, Set, rangeOf, isSingle, knownOf, ownSerial, figureSerial, serialsIn, layerTableOf, wired, passed}
+use Rattle.rules.specs.Figures.{layerTable, textTable, placedTable, placedTables, wireSerialRow}
+use Rattle.rules.specs.Sets.{Figure, plain, chain, lettering, placed, Set, rangeOf, isSingle, knownOf, ownSerial, figureSerial, serialsIn, layerTableOf, wired, passed, ownNumber}
 use Rattle.rules.specs.Machine.{inLayer, State, figures, placing, symbolBlock}
 use Rattle.rules.specs.PlacedSymbol.{noneOf, newSerial}
 use Rattle.rules.specs.LineByLine.{stepIn}
@@ -42,6 +42,7 @@ isSerials volumeName = false
 isSerials sheet = false
 isSerials ratio = false
 isSerials serials = true
+isSerials wireSerial = false
 isSerials nothing = false
 isSerials (opens i) = false
 isSerials (headed i p) = false
@@ -77,6 +78,7 @@ read-serialless k volumeName at c e = chars-serialless (all (byteIn lettersAndDi
 read-serialless k sheet at c e = nums-serialless (orBad 11 (findSheet c sheets))
 read-serialless k ratio at c e = nums-serialless (readRatio c)
 read-serialless k serials at c e = clash refl e
+read-serialless k wireSerial at c e = nums-serialless (readWireSerial (split 44 c))
 read-serialless k nothing at c e = tt
 read-serialless k (opens i) at c e = tt
 read-serialless k (headed i p) at c e = one-serialless (readPart k p c)
@@ -227,11 +229,15 @@ fresh-none : (s seen : List ℕ) → freshNumbers seen (ownSerial s) ≡ true �
 fresh-none [] seen e = refl
 fresh-none (a ∷ s) seen e = e
 
+own-fresh : (o : Option Value) (seen : List ℕ) → freshNumbers seen (ownNumber o) ≡ true → noneOf (ownNumber o) seen ≡ true
+own-fresh none seen e = refl
+own-fresh (some v) seen e = e
+
 figure-fresh : (f : Figure) (seen : List ℕ) → freshNumbers seen (figureSerial f) ≡ true → noneOf (figureSerial f) seen ≡ true
 figure-fresh (plain l j v) seen e = refl
 figure-fresh (chain l ps) seen e = refl
 figure-fresh (lettering l o) seen e = refl
-figure-fresh (wired l w) seen e = refl
+figure-fresh (wired l w) seen e = own-fresh (getD (w .own) wireSerialRow none) seen e
 figure-fresh (passed l) seen e = refl
 figure-fresh (placed l h) seen e = fresh-none (serialsOf (slotValue (held "serial" placedTable (partOf h 0)))) seen e
 
@@ -256,7 +262,7 @@ module _ (next : List ℕ) (S : Set) (m : ℕ) where
       and subst (λ (h : Held). noneOf (figureSerial (placed l h)) (serialsIn S ++ flat (map figureSerial fs)) ≡ true
       → Reads next (placing (retaken (n + 1) S) m fs 0 (symbolBlock (blankHeld placedTables)) 0) (λ ls. showHeld (knownOf S) placedTables h (bytes "}" ∷ ls)) (figures (retaken (n + 1) S) (inLayer m) (fs ++ placed 0 (bareHeld h) ∷ [])))
       (sym (g .0 .is)) (λ z. read-placed next S (n + 1) m fs (g .0 .own) (g .0 .text) (g .0 .own-good) (g .0 .text-good) z) z
-  read-figure n fs (wired l w) g z = read-wire next S n m fs l w (g .0) (g .1)
+  read-figure n fs (wired l w) g z = read-wire next S n m fs w (g .1) z (g .0)
   read-figure n fs (passed l) g z = absurd g
 
   -- all figures of a layer

@@ -1,7 +1,7 @@
 -- Reading the lines of the fixed form of a good set gives that set again, places apart.
 use Prim.Native.Nat.{ℕ, _+_}
 use Prim.Native.String as S
-use mathlib.Core.Bool.{Bool, true, false, cond, _&&_, not}
+use mathlib.Core.Bool.{Bool, true, false, _&&_, _||_, not}
 use mathlib.Core.List.{List, [], _∷_, _++_, map, append-nil, append-assoc}
 use mathlib.Core.Path.{_≡_, refl, sym, _∙_, ap, ap₂, subst, subst₂}
 use lib.Dec.{eqb}
@@ -15,8 +15,9 @@ use Rattle.rules.specs.Values.{Known}
 use Rattle.rules.specs.Rows.{Rule, blank, Held, partOf, numberOf}
 use Rattle.rules.specs.Blocks.{topTable, fileTable, rangeTable, elecTable, symTable, laterTable, fileTables, blankHeld, drawingTable, elementTable}
 use Rattle.rules.specs.Sets.{Contents, Set, noContents, nothingYet, withNow, withDrawing, withVolume, isFirst, headOr, firstContents, arcOf, rangeOf, defineRange, knownOf, serialsOfVolume, elementsOf}
-use Rattle.rules.specs.VolumesAndTotals.{ownTable, countedHere, countedAll, layersUsed}
-use Rattle.rules.specs.Machine.{Line, top, file, drawing, defines, elements, fileKinds}
+use Rattle.rules.specs.VolumesAndTotals.{ownTable, countedHere, countedAll, layersUsed, partnersExist}
+use Rattle.rules.specs.Answers.{fullClass}
+use Rattle.rules.specs.Machine.{testsPartners, Line, top, file, drawing, defines, elements, fileKinds}
 use Rattle.rules.specs.LineByLine.{accepted, stepIn, run}
 use Rattle.rules.specs.FixedForm.{Text, openLine, block, showHeld, showDrawing, showDefines, showBlocks, ending, laterLines, volumeLines}
 use Rattle.rules.specs.Sets.{layerTableOf}
@@ -30,7 +31,7 @@ use Rattle.promises.proofs.BackDrawing.{takenLayers, read-drawing}
 use Rattle.promises.proofs.BackPlaced.{fresh-parts}
 use Rattle.promises.proofs.BackSymbols.{takenSymbols, withSymbols, read-defines}
 use Rattle.promises.proofs.BackBlocks.{takenBlocks, read-blocks}
-use Rattle.promises.proofs.Bare.{part-number, known-bare, volume-serials, elements-bare, all-bare, layers-bare}
+use Rattle.promises.proofs.Bare.{part-number, known-bare, volume-serials, elements-bare, all-bare, layers-bare, tests-bare, exist-bare}
 
 -- ── the lines between the blocks ──
 opens-file : (next : List ℕ) (S : Set) (n : ℕ) → stepIn plainEnv (lineFor next false (openLine (bytes "FILE_FORMAT"))) (top (retaken n S) 0)
@@ -60,11 +61,15 @@ eof-form : bareForm (formOf 0 (bytes "EOF")) ≡ eof
 unfolding formOf
 eof-form = refl
 
+-- at EOF: every partner is an own number, where that is tested
+abbrev partnersMet : Set → Bool
+partnersMet s = not (testsPartners fullClass s) || partnersExist s
+
 -- .. and in the last volume EOF follows it
-end-last : (next : List ℕ) (S : Set) → isNil next ≡ true → countedHere S ≡ true → layersUsed (withVolume S) ≡ true → countedAll (withVolume S) ≡ true
+end-last : (next : List ℕ) (S : Set) → isNil next ≡ true → countedHere S ≡ true → layersUsed (withVolume S) ≡ true → countedAll (withVolume S) ≡ true → partnersMet (withVolume S) ≡ true
     → run plainEnv (elements S) (lay next (bytes "}" ∷ bytes "EOF" ∷ []) []) ≡ accepted (withVolume S)
 unfolding elementTable
-end-last next S e c u a = rw (close-form, c, eof-form, e, u, a)
+end-last next S e c u a t = rw (close-form, c, eof-form, e, u, a, t)
 
 -- ── a later volume ──
 abbrev nextSet : Set → Contents → Set
@@ -131,11 +136,12 @@ module _ (k : Known) (f : Held) (s : Set) (first-is : firstContents s .file ≡ 
   read-rest : (next : List ℕ) (ns : List (List ℕ)) (S : Set) (vs : List Contents) → GoodLaters k (rangesIn f) s ns vs
       → endsOnce (next ∷ ns) ≡ true → knownOf S ≡ k → firstContents S .file ≡ bareHeld f → countedHere S ≡ true
       → freshNumbers (flat (map serialsOfVolume (S .volumes ++ S .now ∷ []))) (flat (map serialsOfVolume vs)) ≡ true → layersUsed (closeAll S vs) ≡ true → countedAll (closeAll S vs) ≡ true
+      → partnersMet (closeAll S vs) ≡ true
       → run plainEnv (elements S) (lay next (bytes "}" ∷ ending vs) (layAll ns (laterLines k (layerRows (rangesIn f)) vs))) ≡ accepted (closeAll S vs)
-  read-rest next [] S [] g e p q c z u a = end-last next S e c u a
-  read-rest next [] S (v ∷ vs) g e p q c z u a = absurd g
-  read-rest next (n ∷ ns) S [] g e p q c z u a = absurd g
-  read-rest next (n ∷ ns) S (v ∷ vs) g e p q c z u a =
+  read-rest next [] S [] g e p q c z u a t = end-last next S e c u a t
+  read-rest next [] S (v ∷ vs) g e p q c z u a t = absurd g
+  read-rest next (n ∷ ns) S [] g e p q c z u a t = absurd g
+  read-rest next (n ∷ ns) S (v ∷ vs) g e p q c z u a t =
       let (z₁, z₂) = fresh-parts (flat (map serialsOfVolume (S .volumes ++ S .now ∷ []))) (serialsOfVolume v) (flat (map serialsOfVolume vs)) z in
       let here-read = read-volume k f n S v p q (g .0) (g .1) (subst (λ (h : Held). datedBy h (v .file) ≡ true) first-is (g .2)) z₁ in
       end-more next S (layAll (n ∷ ns) (laterLines k (layerRows (rangesIn f)) (v ∷ vs))) (not-true (isNil next) (and-left (not (isNil next)) _ e)) c
@@ -145,7 +151,7 @@ module _ (k : Known) (f : Held) (s : Set) (first-is : firstContents s .file ≡ 
       (counted-bare (nextSet S v) false v refl (nil-snoc (S .volumes) (S .now)) (g .0 .count))
       (subst (λ (x : List ℕ). freshNumbers x (flat (map serialsOfVolume vs)) ≡ true)
       (ap (λ (x : List ℕ). flat (map serialsOfVolume (S .volumes ++ S .now ∷ [])) ++ x) (sym (volume-serials v)) ∙ sym (serials-snoc (S .volumes ++ S .now ∷ []) (bareContents v))) z₂)
-      u a
+      u a t
 
 -- ── the set at the end ──
 abbrev latestOf : Contents → List Contents → Contents
@@ -213,6 +219,10 @@ module _ (next : List ℕ) (s : Set) (v : Contents) (v-is : v .file ≡ firstCon
       and one-line next (openLine (bytes "ELEMENT")) (top named 3) (elements named) (opens-elements next named)
       and read-blocks next k (rangesOf s) named (takenSymbols (takenLayers 3 (s .drawing .layers)) (s .symbols)) (v .blocks) (known-bare s) (ranges-bare (v .file) ∙ ap rangesIn v-is) (g .blocks) (g .once) z
 
+-- partners are met or not, whatever the places
+met-bare : (s : Set) → partnersMet (bareSet s) ≡ partnersMet s
+met-bare s = rw (tests-bare fullClass s, exist-bare s)
+
 -- ── the whole set ──
 module _ (nexts : List (List ℕ)) (s : Set) (g : GoodSet nexts s) (e : endsOnce nexts ≡ true) where
   abbrev last : Set
@@ -241,6 +251,7 @@ module _ (nexts : List (List ℕ)) (s : Set) (g : GoodSet nexts s) (e : endsOnce
       (counted-bare (firstSet s (g .first)) true (g .first) refl refl (g .volume .count))
       (subst (λ (x : List ℕ). freshNumbers x (flat (map serialsOfVolume (g .rest))) ≡ true) (sym (append-nil (serialsOfVolume (bareContents (g .first))) ∙ volume-serials (g .first))) z₂)
       (ap layersUsed last-is ∙ layers-bare s ∙ g .used) (ap countedAll last-is ∙ all-bare s ∙ g .counted)
+      (ap partnersMet last-is ∙ met-bare s ∙ g .partners)
       ∙ ap accepted last-is
 
   -- reading the lines of the fixed form gives the set again, places apart

@@ -11,7 +11,7 @@ use Rattle.rules.specs.Base.{bytes, all, isNil, isSome}
 use Rattle.rules.specs.RefusalNumbers.{got}
 use Rattle.rules.specs.Lines.{close, formOf}
 use Rattle.rules.specs.RangeClass.{reaches}
-use Rattle.rules.specs.Values.{Value, empty, nums, chars, linked, Known, Kind, values, text, word, volumeName, sheet, ratio, serials, nothing, opens, headed, either}
+use Rattle.rules.specs.Values.{Value, empty, nums, chars, linked, Known, Kind, values, text, word, volumeName, sheet, ratio, serials, wireSerial, nothing, opens, headed, either}
 use Rattle.rules.specs.Rows.{Rule, Slots, blank, rowsThere, entry, begin, innerOf, act, present, complete}
 use Rattle.rules.specs.Sets.{Set}
 use Rattle.rules.specs.Machine.{unlimited, Line, Env, State}
@@ -136,6 +136,7 @@ opens-bare volumeName v = refl
 opens-bare sheet v = refl
 opens-bare ratio v = refl
 opens-bare serials v = refl
+opens-bare wireSerial v = refl
 opens-bare nothing v = refl
 opens-bare (opens i) v = refl
 opens-bare (headed i p) v = refl
@@ -195,12 +196,13 @@ mayOpen volumeName = false
 mayOpen sheet = false
 mayOpen ratio = false
 mayOpen serials = false
+mayOpen wireSerial = false
 mayOpen nothing = false
 mayOpen (opens i) = true
 mayOpen (headed i p) = true
 mayOpen (either i) = true
 
-calm-kind : (d : Kind) (v : Value) → mayOpen d ≡ false → opensBlock d v ≡ false
+pub calm-kind : (d : Kind) (v : Value) → mayOpen d ≡ false → opensBlock d v ≡ false
 calm-kind (values p ps a) v e = refl
 calm-kind (text n b) v e = refl
 calm-kind (word n b) v e = refl
@@ -208,6 +210,7 @@ calm-kind volumeName v e = refl
 calm-kind sheet v e = refl
 calm-kind ratio v e = refl
 calm-kind serials v e = refl
+calm-kind wireSerial v e = refl
 calm-kind nothing v e = refl
 calm-kind (opens i) v e = clash refl e
 calm-kind (headed i p) v e = clash refl e

@@ -6,15 +6,17 @@ use mathlib.Core.List.{List, [], _∷_, _++_, map}
 use mathlib.Core.Option.{Option, none, some}
 use mathlib.Core.Path.{_≡_, refl, _∙_, ap, ap₂}
 use lib.Dec.{eqb}
-use lib.ListN.{length, getD, set, length-map, List·getD-map}
-use Rattle.rules.specs.Base.{bytes, isNone, isSome, mapO, flat}
+use lib.ListN.{length, getD, set, drop, length-map, List·getD-map}
+use Rattle.rules.specs.declared.Class.{Class}
+use Rattle.rules.specs.Base.{bytes, isNone, isSome, mapO, all, flat, hasNumber}
 use Rattle.rules.specs.RangeClass.{digitsOf}
 use Rattle.rules.specs.Values.{Value, empty, nums, chars, linked, Known, numsOf, charsOf, serialsOf, amountAt}
 use Rattle.rules.specs.Rows.{Rule, Found, absent, found, find, Slots, blank, Held, partOf, enter, rowsThere, slotValue, heldAt, held, numberOf}
 use Rattle.rules.specs.Blocks.{fileTable, rangeTable, elecTable, symTable, laterTable, symbolTable}
-use Rattle.rules.specs.Figures.{placedTable}
-use Rattle.rules.specs.Sets.{Figure, plain, chain, lettering, placed, Layer, Symbol, Contents, Set, headOr, firstContents, isFirst, arcOf, symbolRange, defineRange, rangeOf, isSingle, symbolNameOf, knownOf, ownSerial, figureSerial, serialsOfBlock, serialsOfVolume, serialsIn, elementsOf, usedIn, wired, passed, wireRange, isWired}
-use Rattle.rules.specs.VolumesAndTotals.{chained, dated, countedHere, countedAll, layersUsed, ownTable}
+use Rattle.rules.specs.Figures.{placedTable, wireSerialRow}
+use Rattle.rules.specs.Sets.{Figure, plain, chain, lettering, placed, Layer, Symbol, Contents, Set, headOr, firstContents, isFirst, arcOf, symbolRange, defineRange, rangeOf, isSingle, symbolNameOf, knownOf, ownSerial, figureSerial, serialsOfBlock, serialsOfVolume, serialsIn, elementsOf, usedIn, wired, passed, wireRange, isWired, ownNumber, wirePartners, figurePartners, partnersOfVolume}
+use Rattle.rules.specs.VolumesAndTotals.{chained, dated, countedHere, countedAll, layersUsed, ownTable, partnersExist}
+use Rattle.rules.specs.Machine.{testsPartners}
 use Rattle.rules.proofs.Chains.{nil-map, map-compose, map-agree, map-same, map-set, total-same}
 use Rattle.promises.specs.PlacesApart.{bareValue, bareSlots, bareHeld, bareFigure, bareLayer, bareSymbol, bareBlock, bareContents, bareSet}
 
@@ -135,11 +137,15 @@ known-bare s = ap₂ (λ a b. known a b) (names-bare (s .symbols)) (ids-bare (s 
     known : List (List ℕ) → List (List ℕ) → Known
     known a b = record { symbols = a; layers = b }
 
+own-number-bare : (o : Option Value) → ownNumber (mapO bareValue o) ≡ ownNumber o
+own-number-bare none = refl
+own-number-bare (some v) = ap (λ n. n ∷ []) (amount-bare v 0)
+
 pub serial-bare : (f : Figure) → figureSerial (bareFigure f) ≡ figureSerial f
 serial-bare (plain n j v) = refl
 serial-bare (chain n ps) = refl
 serial-bare (lettering n s) = refl
-serial-bare (wired n w) = refl
+serial-bare (wired n w) = ap ownNumber (at-bare (w .own) wireSerialRow) ∙ own-number-bare (getD (w .own) wireSerialRow none)
 serial-bare (passed n) = refl
 serial-bare (placed n h) =
     rw (part-bare h 0, held-bare "serial" placedTable (partOf h 0)) (ap ownSerial (serials-bare (slotValue (held "serial" placedTable (partOf h 0)))))
@@ -153,6 +159,34 @@ volume-serials v = ap flat (map-same serialsOfBlock bareBlock (λ u. figures-ser
 
 pub set-serials : (s : Set) → serialsIn (bareSet s) ≡ serialsIn s
 set-serials s = ap₂ _++_ (ap flat (map-same serialsOfVolume bareContents volume-serials (s .volumes))) (volume-serials (s .now))
+
+-- ── partners ──
+wire-partners : (v : Value) → wirePartners (bareValue v) ≡ wirePartners v
+wire-partners v = rw (nums-bare v)
+
+partners-bare : (f : Figure) → figurePartners (bareFigure f) ≡ figurePartners f
+partners-bare (plain n j v) = refl
+partners-bare (chain n ps) = refl
+partners-bare (lettering n s) = refl
+partners-bare (wired n w) =
+    ap (λ o. wirePartners (slotValue o)) (at-bare (w .own) wireSerialRow)
+    ∙ ap wirePartners (slot-bare (getD (w .own) wireSerialRow none)) ∙ wire-partners (slotValue (getD (w .own) wireSerialRow none))
+partners-bare (passed n) = refl
+partners-bare (placed n h) =
+    rw (part-bare h 0, held-bare "serial" placedTable (partOf h 0)) (ap (drop 1) (serials-bare (slotValue (held "serial" placedTable (partOf h 0)))))
+
+pub volume-partners : (v : Contents) → partnersOfVolume (bareContents v) ≡ partnersOfVolume v
+volume-partners v =
+    ap flat (map-same (λ u. flat (map figurePartners (u .figures))) bareBlock
+    (λ u. ap flat (map-same figurePartners bareFigure partners-bare (u .figures))) (v .blocks))
+
+pub exist-bare : (s : Set) → partnersExist (bareSet s) ≡ partnersExist s
+exist-bare s =
+    ap₂ (λ own wanted. all (λ n. hasNumber n own) wanted) (ap flat (map-same serialsOfVolume bareContents volume-serials (s .volumes)))
+    (ap flat (map-same partnersOfVolume bareContents volume-partners (s .volumes)))
+
+pub tests-bare : (c : Class) (s : Set) → testsPartners c (bareSet s) ≡ testsPartners c s
+tests-bare c s = rw (sym-bare s, wire-bare s)
 
 pub elements-bare : (v : Contents) → elementsOf (bareContents v) ≡ elementsOf v
 elements-bare v = total-same (λ u. length (u .figures)) bareBlock (λ u. length-map (u .figures) bareFigure) (v .blocks)

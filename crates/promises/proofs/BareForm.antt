@@ -6,15 +6,15 @@ use mathlib.Core.Option.{none, some}
 use mathlib.Core.Path.{_≡_, refl, _∙_, ap, ap₂}
 use lib.ListN.{getD}
 use Rattle.rules.specs.Base.{bytes, mapO}
-use Rattle.rules.specs.Values.{Value, empty, nums, chars, linked, Known, Kind, values, text, word, volumeName, sheet, ratio, serials, nothing, opens, headed, either}
+use Rattle.rules.specs.Values.{Value, empty, nums, chars, linked, Known, Kind, values, text, word, volumeName, sheet, ratio, serials, wireSerial, nothing, opens, headed, either}
 use Rattle.rules.specs.Rows.{Rule, Slots, Held, partOf, innerOf}
 use Rattle.rules.specs.Blocks.{fileTables, drawingTable, symbolTable}
-use Rattle.rules.specs.Figures.{figureTable, textTable, placedTables}
-use Rattle.rules.specs.Sets.{Point, Figure, plain, chain, lettering, placed, Layer, Drawing, Symbol, LayerBlock, Contents, Set, knownOf, Edge, wired, passed}
-use Rattle.rules.specs.FixedForm.{Text, openLine, opensBlock, behind, lineOf, showValue, showSlots, noInner, showInner, showHeld, block, showPoints, showFigure, showFigures, showLayers, showDrawing, symbolInner, exchanged, showSymbol, showSymbols, showDefines, showBlocks, showFirst, showLater, ending, laterLines, volumeLines, volumesBytes, fixedForm, showEdges}
+use Rattle.rules.specs.Figures.{figureTable, textTable, placedTables, wireTable, wireTextTable, firstGroupRow}
+use Rattle.rules.specs.Sets.{Point, Figure, plain, chain, lettering, placed, Layer, Drawing, Symbol, LayerBlock, Contents, Set, knownOf, Edge, Wire, wired, passed}
+use Rattle.rules.specs.FixedForm.{Text, openLine, opensBlock, behind, lineOf, showValue, showSlots, noInner, showInner, showHeld, block, showPoints, showFigure, showFigures, showLayers, showDrawing, symbolInner, exchanged, showSymbol, showSymbols, showDefines, showBlocks, showFirst, showLater, ending, laterLines, volumeLines, volumesBytes, fixedForm, showEdges, showGroups, showWireTexts, showWire}
 use Rattle.rules.specs.Sets.{layerTableOf}
 use Rattle.rules.proofs.Chains.{nil-map}
-use Rattle.promises.specs.PlacesApart.{bareValue, bareSlots, bareHeld, barePoint, bareFigure, bareLayer, bareDrawing, bareSymbol, bareBlock, bareContents, bareSet, bareEdge}
+use Rattle.promises.specs.PlacesApart.{bareValue, bareSlots, bareHeld, barePoint, bareFigure, bareLayer, bareDrawing, bareSymbol, bareBlock, bareContents, bareSet, bareEdge, bareWire}
 use Rattle.promises.proofs.Bare.{chars-bare, part-bare, single-bare, known-bare, wired-bare}
 
 -- ── the fixed form ──
@@ -42,6 +42,7 @@ module _ (k : Known) where
   text-line sheet at c = (refl, refl)
   text-line ratio at c = (refl, refl)
   text-line serials at c = (refl, refl)
+  text-line wireSerial at c = (refl, refl)
   text-line nothing at c = (refl, refl)
   text-line (opens i) at c = (refl, refl)
   text-line (headed i p) at c = (refl, refl)
@@ -78,12 +79,23 @@ module _ (k : Known) where
   showEdges-bare [] ls = refl
   showEdges-bare (e ∷ es) ls = rw (showEdges-bare es ls)
 
+  showWireTexts-bare : (ss : List Slots) (ls : Text) → showWireTexts k (map bareSlots ss) ls ≡ showWireTexts k ss ls
+  showWireTexts-bare [] ls = refl
+  showWireTexts-bare (s ∷ ss) ls =
+      rw (showWireTexts-bare ss ls) (ap (λ x. openLine (bytes "text") ∷ x) (showSlots-bare wireTextTable s noInner noInner (λ i ls. refl) (bytes "}" ∷ showWireTexts k ss ls)))
+
+  showWire-bare : (w : Wire) (ls : Text) → showWire k (bareWire w) ls ≡ showWire k w ls
+  showWire-bare w ls =
+      showEdges-bare (w .elements) _
+      ∙ ap (λ x. showEdges k (w .elements) (showGroups k firstGroupRow (w .groups) x))
+      (showWireTexts-bare (w .texts) _ ∙ ap (showWireTexts k (w .texts)) (showSlots-bare wireTable (w .own) noInner noInner (λ i ls. refl) ls))
+
   showFigure-bare : (b : Bool) (t : List Rule) (f : Figure) (ls : Text) → showFigure k b t (bareFigure f) ls ≡ showFigure k b t f ls
   showFigure-bare b t (plain n j v) ls = refl
   showFigure-bare b t (chain n ps) ls = rw (showPoints-bare b ps (bytes "}" ∷ ls))
   showFigure-bare b t (lettering n s) ls = rw (showSlots-bare (textTable b 4 12) s noInner noInner (λ i ls. refl) (bytes "}" ∷ ls))
   showFigure-bare b t (placed n h) ls = rw (showHeld-bare placedTables h (bytes "}" ∷ ls))
-  showFigure-bare b t (wired n w) ls = rw (showEdges-bare (w .elements) (bytes "}" ∷ ls))
+  showFigure-bare b t (wired n w) ls = ap (λ x. openLine (bytes "E_wire") ∷ x) (showWire-bare w (bytes "}" ∷ ls))
   showFigure-bare b t (passed n) ls = refl
 
   showFigures-bare : (b : Bool) (t : List Rule) (fs : List Figure) (ls : Text) → showFigures k b t (map bareFigure fs) ls ≡ showFigures k b t fs ls

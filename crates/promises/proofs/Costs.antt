@@ -10,12 +10,12 @@ use Rattle.rules.specs.Values.{Known}
 use Rattle.rules.specs.Rows.{Rule, Held}
 use Rattle.rules.specs.Blocks.{symbolTable}
 use Rattle.rules.specs.Figures.{textTable, placedTables}
-use Rattle.rules.specs.Sets.{Figure, Drawing, Symbol, Contents, Set, withNow, withSymbol, withVolume, withBlock, isFirst, knownOf}
+use Rattle.rules.specs.Sets.{Wire, Figure, Drawing, Symbol, Contents, Set, withNow, withSymbol, withVolume, withBlock, isFirst, knownOf}
 use Rattle.rules.specs.Machine.{Home, inElement, inLayer, State, top, file, drawing, layerNames, defines, symbol, hide, elements, figures, successive, texts, placing, skipping, ended, isLayer, homeTable, wireBlock, wireUnread}
 use Rattle.rules.specs.Machine.{symbolBlock, Owned}
 use Rattle.rules.specs.Sets.{layerTableOf}
 use Rattle.rules.proofs.Chains.{total-more}
-use Rattle.promises.proofs.Weights.{slotsCost, heldCost, blockCost, pointsCost, figuresCost, drawingCost, symbolCost, ownCost, symbolsCost, own-cost, nonCost, layerHead, blocksCost, fileCost, elementCost, headCost, latersCost, volumesCost, edgesCost}
+use Rattle.promises.proofs.Weights.{slotsCost, heldCost, blockCost, pointsCost, figuresCost, drawingCost, symbolCost, ownCost, symbolsCost, own-cost, nonCost, layerHead, blocksCost, fileCost, elementCost, headCost, latersCost, volumesCost, textCost, wireCost}
 
 -- the closing lines of the inner parts that are open
 abbrev pub depth : ℕ → ℕ
@@ -71,10 +71,15 @@ module _ (K : Known) where
   abbrev pub inFigures : Set → Home → List Figure → ℕ
   inFigures s h fs = homeCost s h + figuresCost (homeKnown s h) (isLayer h) (homeTable s h) fs
 
-  abbrev pub inOwned : Set → ℕ → List Figure → Owned → ℕ
-  inOwned s n fs (symbolBlock o) = inFigures s (inLayer n) fs + blockCost (bytes "E_symbol") (heldCost (knownOf s) placedTables o)
-  inOwned s n fs (wireBlock w) = inFigures s (inLayer n) fs + blockCost (bytes "E_wire") (edgesCost (knownOf s) (w .elements))
-  inOwned s n fs wireUnread = inFigures s (inLayer n) fs + blockCost (bytes "E_wire") 0
+  -- a wire's text that is open
+  abbrev pub openCost : Known → Wire → ℕ → ℕ
+  openCost k w zero = 0
+  openCost k w (suc p) = textCost k (w .writing)
+
+  abbrev pub inOwned : Set → ℕ → List Figure → Owned → ℕ → ℕ
+  inOwned s n fs (symbolBlock o) p = inFigures s (inLayer n) fs + blockCost (bytes "E_symbol") (heldCost (knownOf s) placedTables o)
+  inOwned s n fs (wireBlock w) p = inFigures s (inLayer n) fs + (blockCost (bytes "E_wire") (wireCost (knownOf s) w) + openCost (knownOf s) w p)
+  inOwned s n fs wireUnread p = inFigures s (inLayer n) fs + blockCost (bytes "E_wire") 0
 
   abbrev pub cost : State → ℕ
   cost (top s k) = topCost s k
@@ -88,8 +93,8 @@ module _ (K : Known) where
   cost (figures s h fs) = inFigures s h fs
   cost (successive s h fs n ps) = inFigures s h fs + blockCost (bytes "successive") (pointsCost (homeKnown s h) (isLayer h) ps)
   cost (texts s h fs n o) = inFigures s h fs + blockCost (bytes "text") (slotsCost (homeKnown s h) (textTable (isLayer h) 4 12) o)
-  cost (placing s n fs m b p) = inOwned s n fs b
-  cost (skipping s n fs m b d) = inOwned s n fs b
+  cost (placing s n fs m b p) = inOwned s n fs b p
+  cost (skipping s n fs m b d) = inOwned s n fs b 0
   cost (ended s) = closedCost s + 5
 
   -- the next volume begins with what is closed
@@ -156,10 +161,14 @@ abbrev pub homeOwes : Home → ℕ
 homeOwes (inElement y) = 9
 homeOwes (inLayer n) = 6
 
--- a wire has no inner parts
+-- a wire has no inner parts but its text
+abbrev pub textDepth : ℕ → ℕ
+textDepth zero = 0
+textDepth (suc p) = 3
+
 abbrev pub ownedDepth : Owned → ℕ → ℕ
 ownedDepth (symbolBlock o) p = depth p
-ownedDepth (wireBlock w) p = 0
+ownedDepth (wireBlock w) p = textDepth p
 ownedDepth wireUnread p = 0
 
 abbrev pub owed : State → ℕ

@@ -1,41 +1,48 @@
--- Every refusal of a value, of a row and of an act has a number from 4 to 19.
+-- Every refusal of a value, of a row and of an act has a number from 4 to 19, or 21.
 use Prim.Native.Nat.{ℕ, _≤_, min}
 use mathlib.Core.Bool.{Bool, true, false, cond, _&&_, not}
 use mathlib.Core.List.{List, [], _∷_}
 use mathlib.Core.Option.{Option, none, some}
 use native.Mathlib.Omega.{arith}
-use lib.Dec.{T, leb, leb→le, le→leb}
+use mathlib.Core.Path.{_≡_, refl, subst}
+use lib.Dec.{T, eqb, leb, leb→le}
+use borrow.Author.Tests.{leb-true, leb-false}
 use lib.ListN.{getD}
 use Rattle.rules.specs.declared.Digits.{Digits}
 use Rattle.rules.specs.Base.{within, split}
 use Rattle.rules.specs.RefusalNumbers.{Got, got, bad, unless, mapG, andThen, orBad, keep, consG, also}
 use Rattle.rules.specs.Lines.{Rest, Form, ignored, wrong, close, eof, keyed, Shape, opener, noContent, content, opening, formless, hasForm, shapeOf}
 use Rattle.rules.specs.RangeClass.{reaches}
-use Rattle.rules.specs.Values.{Value, Known, Part, count, digit, typeDigits, range, rangeOfSymbols, rangeOfWires, day, clock, decimal, symbolName, layerId, readPart, readAll, Kind, values, text, word, volumeName, sheet, ratio, serials, nothing, opens, headed, either, readCounts, readSerials, readKind}
+use Rattle.rules.specs.Values.{Value, Known, Part, count, digit, typeDigits, range, rangeOfSymbols, rangeOfWires, day, clock, decimal, symbolName, layerId, readPart, readAll, Kind, values, text, word, volumeName, sheet, ratio, serials, wireSerial, nothing, opens, headed, either, readCounts, readSerials, readPartner, readWireSerial, readKind}
 use Rattle.rules.specs.Rows.{Rule, Found, absent, found, find, Act, stay, entry, begin, shut, refuse, orRefuse, innerOf, fits, shapeFor, readShape, notTwice, actRow, actUnknown, actFound, complete, act}
 use Rattle.rules.specs.Machine.{State, byAct}
 use Rattle.rules.proofs.Chains.{by-cond, On, on-unless, on-map, on-then, on-got, on-all}
 
 -- ── a refusal at a line ──
 abbrev AtLine : ℕ → Type 0
-AtLine n = T (within 4 19 n)
-
-both-true : (a b : Bool) → T a → T b → T (a && b)
-both-true true b p q = q
-both-true false b p q = p
+AtLine n = T (within 4 21 n && not (eqb n 20))
 
 each-true : (a b : Bool) → T (a && b) → T a × T b
 each-true true b p = (tt, p)
 each-true false b p = absurd p
 
-pub within-le : (lo hi n : ℕ) → T (within lo hi n) → (lo ≤ n) × (n ≤ hi)
-within-le lo hi n h = let w = each-true (leb lo n) (leb n hi) h in (leb→le lo n (w .0), leb→le n hi (w .1))
-
-le-within : (lo hi n : ℕ) → lo ≤ n → n ≤ hi → T (within lo hi n)
-le-within lo hi n p q = both-true (leb lo n) (leb n hi) (le→leb lo n p) (le→leb n hi q)
+-- 20 is no number of a line
+pub at-line : (n : ℕ) → AtLine n → (4 ≤ n) × (n ≤ 21) × (not (eqb n 20) ≡ true)
+at-line n h =
+    let w = each-true (within 4 21 n) (not (eqb n 20)) h in
+    let v = each-true (leb 4 n) (leb n 21) (w .0) in
+    (leb→le 4 n (v .0), leb→le n 21 (v .1), T-true (not (eqb n 20)) (w .1))
+  where
+    T-true : (b : Bool) → T b → b ≡ true
+    T-true true p = refl
+    T-true false p = absurd p
 
 at-min : (m n : ℕ) → AtLine m → AtLine n → AtLine (min m n)
-at-min m n p q = le-within 4 19 (min m n) (omega (arith, within-le 4 19 m p, within-le 4 19 n q)) (omega (arith, within-le 4 19 m p, within-le 4 19 n q))
+at-min m n p q = go (leb m n) refl
+  where
+    go : (b : Bool) → leb m n ≡ b → AtLine (min m n)
+    go true e = let h = leb-true m n e in let z : m ≡ min m n = omega (arith, h) in subst AtLine z p
+    go false e = let h = leb-false m n e in let z : n ≡ min m n = omega (arith, h) in subst AtLine z q
 
 pub data Fine {A : Type 0} : Got A → Type 0 where
   answers : {a : A} → Fine (got a)
@@ -108,6 +115,17 @@ fine-serials : (ss : List (List ℕ)) → Fine (readSerials ss)
 fine-serials [] = answers
 fine-serials (s ∷ ss) = let rest = fine-serials ss in search fines
 
+fine-partner : (s : List ℕ) → Fine (readPartner s)
+fine-partner [] = answers
+fine-partner (b ∷ s) = search fines
+
+fine-wire-serial : (ss : List (List ℕ)) → Fine (readWireSerial ss)
+fine-wire-serial [] = refuses 10 tt
+fine-wire-serial (o ∷ []) = refuses 10 tt
+fine-wire-serial (o ∷ a ∷ []) = refuses 10 tt
+fine-wire-serial (o ∷ a ∷ b ∷ []) = search (fines, fine-partner) depth 8
+fine-wire-serial (o ∷ a ∷ b ∷ c ∷ s) = refuses 10 tt
+
 pub fine-kind : (k : Known) (d : Kind) (at : ℕ) (c : List ℕ) → Fine (readKind k d at c)
 fine-kind k (values p ps a) at c = let w = fine-parts k (p ∷ ps) (split 44 c) in search fines
 fine-kind k (text n b) at c = search fines
@@ -116,6 +134,7 @@ fine-kind k volumeName at c = search fines
 fine-kind k sheet at c = search fines
 fine-kind k ratio at c = search (fines, fine-counts)
 fine-kind k serials at c = search (fines, fine-serials)
+fine-kind k wireSerial at c = search (fines, fine-wire-serial)
 fine-kind k nothing at c = search fines
 fine-kind k (opens i) at c = search fines
 fine-kind k (headed i p) at c = search (fines, fine-part)

@@ -6,11 +6,11 @@ use mathlib.Core.List.{List, [], _∷_}
 use mathlib.Core.Option.{Option, none, some}
 use mathlib.Core.Path.{_≡_}
 use lib.ListN.{getD}
-use Rattle.rules.specs.Values.{Value, empty, nums, chars, linked, Kind, values, text, word, volumeName, sheet, ratio, serials, nothing, opens, headed, either}
+use Rattle.rules.specs.Values.{Value, empty, nums, chars, linked, Kind, values, text, word, volumeName, sheet, ratio, serials, wireSerial, nothing, opens, headed, either}
 use Rattle.rules.specs.Rows.{Rule, Slots, Held, partOf}
 use Rattle.rules.specs.Blocks.{fileTables, drawingTable, symbolTable, layerNameKind}
-use Rattle.rules.specs.Figures.{textTable, placedTables}
-use Rattle.rules.specs.Sets.{Figure, plain, chain, lettering, placed, Layer, Drawing, Symbol, LayerBlock, Contents, Set, Edge, wired, passed}
+use Rattle.rules.specs.Figures.{textTable, placedTables, wireTable, wireTextTable}
+use Rattle.rules.specs.Sets.{Figure, plain, chain, lettering, placed, Layer, Drawing, Symbol, LayerBlock, Contents, Set, Edge, Wire, wired, passed}
 use Rattle.rules.specs.RecordTable.{firstSlot, otherSlots}
 
 -- ── only rows of text hold text ──
@@ -22,6 +22,7 @@ isText volumeName = true
 isText sheet = false
 isText ratio = false
 isText serials = false
+isText wireSerial = false
 isText nothing = false
 isText (opens i) = false
 isText (headed i p) = false
@@ -36,6 +37,7 @@ isShown volumeName = false
 isShown sheet = false
 isShown ratio = false
 isShown serials = false
+isShown wireSerial = false
 isShown nothing = false
 isShown (opens i) = false
 isShown (headed i p) = false
@@ -80,6 +82,10 @@ module _ (S : ℕ → List ℕ → Type 0) where
   abbrev pub FitHeld : List (List Rule) → Held → Type 0
   FitHeld ts h = (p : ℕ) → FitSlots (getD ts p []) (partOf h p)
 
+  -- a wire: its elements, its texts, its rows that stand once
+  abbrev pub FitWire : Wire → Type 0
+  FitWire w = Each FitEdge (w .elements) × Each (FitSlots wireTextTable) (w .texts) × FitSlots wireTable (w .own)
+
   -- a figure of a layer, or of a symbol, in which no symbol is placed and no wire stands
   abbrev pub FitFigure : Bool → Figure → Type 0
   FitFigure inLayer (plain n j v) = FitPlain inLayer j
@@ -87,7 +93,7 @@ module _ (S : ℕ → List ℕ → Type 0) where
   FitFigure inLayer (lettering n s) = FitSlots (textTable inLayer 4 12) s
   FitFigure true (placed n h) = FitHeld placedTables h
   FitFigure false (placed n h) = ⊥
-  FitFigure true (wired n w) = Each FitEdge (w .elements)
+  FitFigure true (wired n w) = FitWire w
   FitFigure false (wired n w) = ⊥
   FitFigure true (passed n) = Unit {0}
   FitFigure false (passed n) = ⊥

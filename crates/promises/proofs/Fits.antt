@@ -1,14 +1,14 @@
 -- In a set that was read only rows of text hold text: what `records-bare` asks of a set. And where S holds of what every line has behind
 -- its `=`, it holds of every text that a record shows.
 use Prim.Native.Nat.{ℕ, zero, suc, _+_, _≤_, _<_}
-use mathlib.Core.Bool.{Bool, true, false, cond, _&&_, _||_, not}
+use mathlib.Core.Bool.{Bool, true, false, _&&_, _||_, not}
 use mathlib.Core.List.{List, [], _∷_, _++_, map}
 use mathlib.Core.Option.{some}
 use mathlib.Core.Path.{_≡_, refl, subst}
 use native.Mathlib.Omega.{arith}
 use lib.Dec.{eqb, leb, ltb}
 use lib.ListN.{length, getD, set}
-use borrow.Author.Tests.{eqb-true}
+use borrow.Author.Tests.{eqb-true, ltb-true}
 use Rattle.rules.specs.declared.Digits.{Digits}
 use Rattle.rules.specs.declared.Class.{Class}
 use Rattle.rules.specs.Base.{isNil, among, hasNumber}
@@ -18,21 +18,21 @@ use Rattle.rules.specs.RangeClass.{digits, digitsOf, reaches, exceeds, both, Sk
 use Rattle.rules.specs.Values.{Value, Known, numsOf, amountAt, isLayerId}
 use Rattle.rules.specs.Rows.{Rule, Found, absent, found, find, Slots, Held, partOf, rowsThere, rowsAtLimit, Act, stay, entry, begin, shut, refuse, actRow, actUnknown, act}
 use Rattle.rules.specs.Blocks.{topTable, fileTables, drawingTable, definesTable, symbolTable, elementTable, mostLayers, layerNameKind, around}
-use Rattle.rules.specs.Figures.{layerTable, figureTable, pointTable, textTable, placedTable, placedTables, leastPoints, wireTable}
+use Rattle.rules.specs.Figures.{layerTable, figureTable, pointTable, textTable, placedTable, placedTables, leastPoints, wireTable, wireTextTable, firstGroupRow}
 use Rattle.rules.specs.Sets.{Point, Figure, plain, chain, lettering, placed, Drawing, Symbol, Set, nothingYet, isFirst, arcOf, defineRange, rangeOf, knownOf, usedIn, symbolOwn, Wire, wired, passed, isSingle, isWired, joinDigit, wiresOf}
-use Rattle.rules.specs.VolumesAndTotals.{chained, dated, countedHere, countedAll, layersUsed}
-use Rattle.rules.specs.Machine.{Line, Env, Home, inElement, inLayer, State, top, file, drawing, layerNames, defines, symbol, hide, elements, figures, successive, texts, placing, skipping, ended, byAct, roomFor, openTop, onTop, closeFile, shutPart, onFile, onDrawing, layerValue, onLayerNames, onDefines, newName, openSymbol, onSymbol, onHide, onElements, isLayer, homeTable, closeFigures, openFigure, onFigures, onSuccessive, onTexts, wireBlock, wireUnread, beginWire}
+use Rattle.rules.specs.VolumesAndTotals.{chained, dated, countedHere, countedAll, layersUsed, partnersExist}
+use Rattle.rules.specs.Machine.{testsPartners, Line, Env, Home, inElement, inLayer, State, top, file, drawing, layerNames, defines, symbol, hide, elements, figures, successive, texts, placing, skipping, ended, byAct, roomFor, openTop, onTop, closeFile, shutPart, onFile, onDrawing, layerValue, onLayerNames, onDefines, newName, openSymbol, onSymbol, onHide, onElements, isLayer, homeTable, closeFigures, openFigure, onFigures, onSuccessive, onTexts, wireBlock, wireUnread, beginWire}
 use Rattle.rules.specs.PlacedSymbol.{bySkip, skipDeeper, onUnknown, newSerial, onPlaced, onPlacedKey, onPlacedOwn, onPlacing, onSkipping, skipEnded, unreadShut}
 use Rattle.rules.specs.LineByLine.{stepIn, completes, nextVolume, step, Outcome, refused, accepted, thenRun, finish, run}
 use Rattle.rules.specs.RecordTable.{recordsOf}
 use Rattle.rules.specs.Machine.{symbolBlock, Owned, fileKinds}
-use Rattle.rules.proofs.Chains.{On, on-unless, on-cond, on-then, on-also, on-got}
+use Rattle.rules.proofs.Chains.{by-cond, On, on-unless, on-cond, on-then, on-also, on-got}
 use Rattle.rules.proofs.Rows.{Row, found-row, row-below}
 use Rattle.promises.specs.PlacesApart.{bareSet, placesApart}
 use Rattle.promises.proofs.RecordPlaces.{records-bare}
-use Rattle.promises.proofs.FitSets.{anyText, FitValue, FitSlots, FitHeld, Each, FitPlain, FitFigure, FitLayer, FitDrawing, FitSymbol, FitBlock, FitContents, FitSet, FitEdge}
+use Rattle.promises.proofs.FitSets.{anyText, FitValue, FitSlots, FitHeld, Each, FitPlain, FitFigure, FitLayer, FitDrawing, FitSymbol, FitBlock, FitContents, FitSet, FitEdge, FitWire}
 use Rattle.promises.proofs.FitRows.{each-more, volume-more, fit-nil, fit-blank, fit-set, fit-blanks, fit-enter, FitForm, layer-fit, FitRow, FitAct, row-fit, unknown-fit, act-fit}
-use Rattle.rules.specs.Wires.{joinsEnds, lastEdge, joined, onWire}
+use Rattle.rules.specs.Wires.{joinsEnds, lastEdge, joined, pastElements, wireFull, isElementRow, isGroupRow, numsAlike, newNumber, onElement, onAttribute, onWireAct, onWireUnknown, onWireKey, onWireOwn, onWireText, onWire}
 
 module _ (S : ℕ → List ℕ → Type 0) where
   -- ── states ──
@@ -52,7 +52,7 @@ module _ (S : ℕ → List ℕ → Type 0) where
 
   abbrev FitOwned : Set → List Figure → Owned → Type 0
   FitOwned s fs (symbolBlock o) = FitPlacing s fs o
-  FitOwned s fs (wireBlock w) = FitSet S s × FitNow s × Each (FitFigure S true) fs × Each FitEdge (w .elements)
+  FitOwned s fs (wireBlock w) = FitSet S s × FitNow s × Each (FitFigure S true) fs × FitWire S w × FitSlots S wireTextTable (w .writing)
   FitOwned s fs wireUnread = FitSet S s × FitNow s × Each (FitFigure S true) fs
 
   -- at the top level the volume at hand is open from FILE_FORMAT's end to ELEMENT's
@@ -106,7 +106,8 @@ module _ (S : ℕ → List ℕ → Type 0) where
   onTop-fit e l s k close x h = tt
   onTop-fit e l s k eof x h =
       on-unless FitState (eqb k 4 && (isNil (l .next) && l .last)) 9 _ λ _.
-      on-unless FitState (layersUsed s) 14 _ λ _. on-unless FitState (countedAll s) 17 (got (ended s)) λ _. h .0
+      on-unless FitState (layersUsed s) 14 _ λ _. on-unless FitState (countedAll s) 17 _ λ _.
+      on-unless FitState (not (testsPartners (e .class) s) || partnersExist s) 21 (got (ended s)) λ _. h .0
   onTop-fit e l s k (keyed key c) x h =
       by-line (knownOf s) topTable (digits 0 0) (rowsAtLimit 0 topTable) (keyed key c) x (top s k) _ _ _ h (λ j v w. tt)
       (λ i j v w. on-unless FitState (eqb j k) 9 _ λ e′. let q = eqb-true j k e′ in rw q (openTop-fit e l s k h (rw q at (top-rows j v w)))) tt
@@ -188,7 +189,7 @@ module _ (S : ℕ → List ℕ → Type 0) where
   closeFigures-fit s (inLayer k) fs g = (g .0, (g .1 .0, each-more (FitBlock S) (s .now .blocks) (record { layer = k; figures = fs }) (g .1 .1) (g .3)))
 
   begin-fit : (b : Bool) (s : Set) (k : ℕ) (fs : List Figure) (n : ℕ) → FitFigures s (inLayer k) fs → FitState (beginWire b s k fs n)
-  begin-fit true s k fs n g = (g .0, g .1, g .3, tt)
+  begin-fit true s k fs n g = (g .0, g .1, g .3, (tt, tt, fit-blank S wireTable), fit-nil S wireTextTable)
   begin-fit false s k fs n g = (g .0, g .1, g .3)
 
   openFigure-fit : (e : Env) (l : Line) (s : Set) (h : Home) (fs : List Figure) (i : ℕ) → FitFigures s h fs → On FitState (openFigure e l s h fs i)
@@ -272,16 +273,61 @@ module _ (S : ℕ → List ℕ → Type 0) where
       (act-fit S (knownOf s) (getD placedTables (suc p) []) (digits 0 0) (rowsThere (partOf o (suc p))) f x) g
 
   -- ── a wire ──
-  wire-row : {j : ℕ} {r : Rule} → Row wireTable j r → j < 2
-  unfolding wireTable
-  wire-row w = row-below w
+  module _ (e : Env) (l : Line) (s : Set) (i : ℕ) (fs : List Figure) (n : ℕ) (w : Wire) (g : FitOwned s fs (wireBlock w)) where
+    onElement-fit : (j : ℕ) (v : Value) → isElementRow j ≡ true → On FitState (onElement e l s i fs n w j (numsOf v))
+    onElement-fit j v low =
+        on-unless FitState (joined (joinsEnds (joinDigit s)) (lastEdge (w .elements)) j (numsOf v)) 11 _ λ _.
+        on-unless FitState (room e 1 s) 19 _ λ _.
+        (g .0, g .1, g .2, (each-more FitEdge (w .elements) _ (g .3 .0) (ltb-true j firstGroupRow low), g .3 .1, g .3 .2), g .4)
 
-  onWire-fit : (e : Env) (l : Line) (s : Set) (i : ℕ) (fs : List Figure) (n : ℕ) (w : Wire) (f : Form) → FitForm S f → FitOwned s fs (wireBlock w) → On FitState (onWire e l s i fs n w f)
-  onWire-fit e l s i fs n w f x g =
-      by-line (knownOf s) wireTable (wiresOf s) (rowsAtLimit 0 wireTable) f x (placing s i fs n (wireBlock w) 0) _ _ _ g
-      (λ j v r. on-unless FitState (joined (joinsEnds (joinDigit s)) (lastEdge (w .elements)) j (numsOf v)) 11 _ λ _.
-      on-unless FitState (room e 1 s) 19 _ λ _. (g .0, g .1, g .2, each-more FitEdge (w .elements) _ (g .3) (wire-row (r .1))))
-      (λ i j v r. tt) (g .0, g .1, tt, each-more (FitFigure S true) fs (wired n w) (g .2) (g .3))
+    onAttribute-fit : (j : ℕ) (v : Value) → FitRow S wireTable j v → On FitState (onAttribute s i fs n w j v)
+    onAttribute-fit j v r =
+        on-unless FitState (numsAlike w j (numsOf v)) 11 _ λ _.
+        on-unless FitState (newNumber s fs j v) 15 _ λ _.
+        by-cond (λ (x : Wire). FitOwned s fs (wireBlock x)) (isGroupRow j) (λ _. g)
+        (λ _. (g .0, g .1, g .2, (g .3 .0, g .3 .1, fit-set S (r .1) (w .own) v (g .3 .2) (r .2)), g .4))
+
+    onWireAct-fit : (a : Act) → FitAct S wireTable a → On FitState (onWireAct e l s i fs n w a)
+    onWireAct-fit a f =
+        by-act {t = wireTable} a (placing s i fs n (wireBlock w) 0) _ _ _ f g
+        (λ j v r. on-cond FitState (isElementRow j) _ _ (λ low. onElement-fit j v low) (λ _. onAttribute-fit j v r))
+        (λ i j v r. (g .0, g .1, g .2, g .3, fit-blank S wireTextTable))
+        (g .0, g .1, tt, each-more (FitFigure S true) fs (wired n w) (g .2) (g .3))
+
+    onWireUnknown-fit : (k : List ℕ) (c : Rest) → On FitState (onWireUnknown e l s i fs n w k c)
+    onWireUnknown-fit k c =
+        on-cond FitState (exceeds (wiresOf s) (e .class .wires)) _ _
+        (λ _. bySkip-fit (skipOf k c) (got (placing s i fs n (wireBlock (pastElements w)) 0)) (got (skipping s i fs n (wireBlock (pastElements w)) 1)) g g)
+        (λ _. onWireAct-fit (actUnknown c) (unknown-fit S wireTable c))
+
+    onWireOwn-fit : (f : Form) → FitForm S f → On FitState (onWireOwn e l s i fs n w f)
+    onWireOwn-fit ignored x = g
+    onWireOwn-fit (wrong m) x = tt
+    onWireOwn-fit close x =
+        onWireAct-fit (act (knownOf s) wireTable (both (e .class .wires) (wiresOf s)) (rowsThere (w .own)) close)
+        (act-fit S (knownOf s) wireTable (both (e .class .wires) (wiresOf s)) (rowsThere (w .own)) close tt)
+    onWireOwn-fit eof x = tt
+    onWireOwn-fit (keyed k c) x = go (find k wireTable) refl
+      where
+        go : (f : Found) → find k wireTable ≡ f → On FitState (onWireKey e l s i fs n w k c f)
+        go absent p = onWireUnknown-fit k c
+        go (found j r) p =
+            on-cond FitState (isElementRow j && w .past) _ _ (λ _. onWireAct-fit (actUnknown c) (unknown-fit S wireTable c))
+            (λ _. on-cond FitState (reaches (e .class .wires) (r .least)) _ _
+            (λ _. onWireAct-fit (actRow (knownOf s) (wiresOf s) (getD (wireFull w) j false) j r c)
+            (row-fit S (knownOf s) (wiresOf s) (getD (wireFull w) j false) (found-row k wireTable j r p .0) c x))
+            (λ _. onWireUnknown-fit k c))
+
+    onWireText-fit : (p : ℕ) (f : Form) → FitForm S f → On FitState (onWireText s i fs n w p f)
+    onWireText-fit p f x =
+        by-line (knownOf s) wireTextTable (digits 0 0) (rowsThere (w .writing)) f x (placing s i fs n (wireBlock w) p) _ _ _ g
+        (λ j v r. (g .0, g .1, g .2, g .3, fit-set S (r .1) (w .writing) v (g .4) (r .2)))
+        (λ i j v r. tt)
+        (g .0, g .1, g .2, (g .3 .0, each-more (FitSlots S wireTextTable) (w .texts) (w .writing) (g .3 .1) (g .4), g .3 .2), fit-nil S wireTextTable)
+
+    onWire-fit : (p : ℕ) (f : Form) → FitForm S f → On FitState (onWire e l s i fs n w p f)
+    onWire-fit zero f x = onWireOwn-fit f x
+    onWire-fit (suc p) f x = onWireText-fit (suc p) f x
 
   -- ── skipped lines ──
   skipEnded-fit : (s : Set) (i : ℕ) (fs : List Figure) (n : ℕ) (b : Owned) → FitOwned s fs b → FitState (skipEnded s i fs n b)
@@ -318,7 +364,7 @@ module _ (S : ℕ → List ℕ → Type 0) where
   stepIn-fit e l (successive s h fs n ps) x g = onSuccessive-fit e l s h fs n ps (l .form) x g
   stepIn-fit e l (texts s h fs n o) x g = onTexts-fit s h fs n o (l .form) x g
   stepIn-fit e l (placing s k fs n (symbolBlock o) p) x g = onPlacing-fit e s k fs n o p (l .form) x g
-  stepIn-fit e l (placing s k fs n (wireBlock w) p) x g = onWire-fit e l s k fs n w (l .form) x g
+  stepIn-fit e l (placing s k fs n (wireBlock w) p) x g = onWire-fit e l s k fs n w g p (l .form) x
   stepIn-fit e l (placing s k fs n wireUnread p) x g = tt
   stepIn-fit e l (skipping s k fs n b d) x g = onSkipping-fit s k fs n b d (l .form) g
   stepIn-fit e l (ended s) x g = tt

@@ -1,5 +1,5 @@
 -- What is true of everything that was read at class 15: each line that the fixed form writes of it reads as the same again.
-use Prim.Native.Nat.{ℕ}
+use Prim.Native.Nat.{ℕ, zero, suc, _+_}
 use mathlib.Core.Bool.{Bool, true, false, cond, _&&_, _||_, not}
 use mathlib.Core.List.{List, [], _∷_, _++_, map}
 use mathlib.Core.Option.{Option, none, some}
@@ -7,17 +7,18 @@ use mathlib.Core.Path.{_≡_}
 use lib.Dec.{eqb, leb}
 use lib.ListN.{length, getD}
 use Rattle.rules.specs.declared.Digits.{Digits}
-use Rattle.rules.specs.Base.{isNil, isSome, among, hasNumber, flat, indexOf}
+use Rattle.rules.specs.Base.{isNil, isNone, isSome, among, hasNumber, flat, indexOf}
 use Rattle.rules.specs.RefusalNumbers.{got}
 use Rattle.rules.specs.Lines.{allowed, Rest, brace, equals, keyed, formOf, freeShapeOf}
 use Rattle.rules.specs.RangeClass.{digits, digitsOf, reaches, both}
 use Rattle.rules.specs.Values.{Num, Value, nums, Known, isLayerId, charsOf, amountAt}
 use Rattle.rules.specs.Rows.{Rule, Slots, blank, Held, partOf, numberOf, rowsThere, complete, Act, entry, begin, innerOf, actRow}
 use Rattle.rules.specs.Blocks.{fileTable, rangeTable, baseTable, elecTable, symTable, laterTable, drawingTable, mostLayers, symbolTable}
-use Rattle.rules.specs.Figures.{layerTable, figureTable, mostPoints, leastPoints, pointTable, textTable, placedTable, wireTable}
-use Rattle.rules.specs.Sets.{Point, Figure, plain, chain, lettering, placed, Layer, Drawing, Symbol, LayerBlock, Contents, Set, arcOf, rangeOf, defineRange, symbolNameOf, knownOf, serialsOfVolume, elementsOf, usedIn, Edge, wired, passed, firstContents}
-use Rattle.rules.specs.VolumesAndTotals.{ownTable, chained, dated, countedAll, layersUsed}
-use Rattle.rules.specs.Machine.{layerValue}
+use Rattle.rules.specs.Figures.{layerTable, figureTable, mostPoints, leastPoints, pointTable, textTable, placedTable, wireTable, mostDirecs, firstGroupRow, numRow, wireTextRow}
+use Rattle.rules.specs.Sets.{Point, Figure, plain, chain, lettering, placed, Layer, Drawing, Symbol, LayerBlock, Contents, Set, arcOf, rangeOf, defineRange, symbolNameOf, knownOf, serialsOfVolume, elementsOf, usedIn, Edge, Wire, wired, passed, firstContents}
+use Rattle.rules.specs.VolumesAndTotals.{ownTable, chained, dated, countedAll, layersUsed, partnersExist}
+use Rattle.rules.specs.Machine.{layerValue, testsPartners}
+use Rattle.rules.specs.Wires.{likeFirst, isElementRow}
 use Rattle.rules.specs.FixedForm.{opensBlock, behind, lineOf}
 use Rattle.rules.specs.Answers.{fullClass}
 use Rattle.rules.specs.RecordTable.{ruleAt}
@@ -133,10 +134,80 @@ GoodText b s = Closed (Always none0) none0 (textTable b 4 12) s
 -- a wire's line or arc, behind the one before it, in a file of this E_wire
 pub record GoodEdge (wires : ℕ) (former : Option Edge) (e : Edge) : Type 0 where
   pub line : GoodLine (Always (digitsOf wires)) wireTable (e .row) (e .values)
+  pub row : isElementRow (e .row) ≡ true
   pub joins : Joins wires former e
 
 abbrev pub GoodEdges : ℕ → Option Edge → List Edge → Type 0
 GoodEdges wires = Behind (GoodEdge wires)
+
+-- ── a wire ── (wires: the file's E_wire)
+-- one more line of a row that repeats, behind those before it: `direc` stands twice at most, and each `num` has the first one's earth and power
+abbrev pub groupFull : ℕ → ℕ → Bool
+groupFull j n = eqb j firstGroupRow && leb mostDirecs n
+
+pub record GoodNext (d : Digits) (j : ℕ) (before : List (List Num)) (v : List Num) : Type 0 where
+  pub line : GoodLine (Always d) wireTable j v
+  pub alike : (not (eqb j numRow) || likeFirst before v) ≡ true
+  pub room : groupFull j (length before) ≡ false
+
+abbrev pub GoodGroup : Digits → ℕ → List (List Num) → List (List Num) → Type 0
+GoodGroup d j before [] = Unit {0}
+GoodGroup d j before (v ∷ vs) = GoodNext d j before v × GoodGroup d j (before ++ v ∷ []) vs
+
+-- its texts, which stand where the file has them
+abbrev pub GoodTexts : Digits → List Slots → Type 0
+GoodTexts d [] = Unit {0}
+GoodTexts d (s ∷ ss) = (reaches d (ruleAt wireTable wireTextRow .least) ≡ true) × GoodText true s × GoodTexts d ss
+
+-- the first n slots hold nothing
+abbrev pub noneBelow : ℕ → Slots → Bool
+noneBelow zero s = true
+noneBelow (suc n) [] = true
+noneBelow (suc n) (o ∷ s) = isNone o && noneBelow n s
+
+-- the rows behind the text's stand once
+abbrev pub onceRows : ℕ
+onceRows = wireTextRow + 1
+
+-- the rows that repeat, by their keys
+pub record GoodGroups (d : Digits) (gs : List (List (List Num))) : Type 0 where
+  pub direcs : List (List Num)
+  pub piends : List (List Num)
+  pub counts : List (List Num)
+  pub are : gs ≡ direcs ∷ piends ∷ counts ∷ []
+  pub direcs-good : GoodGroup d 2 [] direcs
+  pub piends-good : GoodGroup d 3 [] piends
+  pub counts-good : GoodGroup d 4 [] counts
+
+-- open or closed: its elements, its rows that repeat, its texts, its rows that stand once
+pub record WireParts (wires : ℕ) (es : List Edge) (gs : List (List (List Num))) (ss : List Slots) (o : Slots) : Type 0 where
+  pub elements : GoodEdges wires none es
+  pub groups : GoodGroups (digitsOf wires) gs
+  pub texts : GoodTexts (digitsOf wires) ss
+  pub own : GoodSlots (Always (digitsOf wires)) wireTable o
+  pub once : noneBelow onceRows o ≡ true
+
+abbrev pub WireHolds : ℕ → Wire → Type 0
+WireHolds wires w = WireParts wires (w .elements) (w .groups) (w .texts) (w .own)
+
+-- something but an element stands there
+abbrev pub anyLine : List (List (List Num)) → Bool
+anyLine [] = false
+anyLine (g ∷ gs) = not (isNil g) || anyLine gs
+
+abbrev pub anySlot : Slots → Bool
+anySlot [] = false
+anySlot (o ∷ s) = isSome o || anySlot s
+
+abbrev pub hasMore : Wire → Bool
+hasMore w = (anyLine (w .groups) || not (isNil (w .texts))) || anySlot (w .own)
+
+-- closed: nothing required is missing; nothing was skipped, so that what stands is all there was
+pub record GoodWire (wires : ℕ) (w : Wire) : Type 0 where
+  pub holds : WireHolds wires w
+  pub all : complete (both (fullClass .wires) (digitsOf wires)) wireTable (rowsThere (w .own)) ≡ true
+  pub shut : w .writing ≡ []
+  pub past : w .past ≡ hasMore w
 
 -- the ranges of its file that a layer is read with: E_sym and E_wire
 pub record Ranges : Type 0 where
@@ -165,7 +236,7 @@ GoodFigure k x (plain n j v) = GoodLine (GoodRow k (symbolDigits x)) (layerRows 
 GoodFigure k x (chain n ps) = GoodChain true ps
 GoodFigure k x (lettering n s) = GoodText true s
 GoodFigure k x (placed n h) = GoodPlaced k (symbolDigits x) h × (eqb (x .symbols) 1 ≡ false) × (reaches (symbolDigits x) (digits 0 1) ≡ true)
-GoodFigure k x (wired n w) = (hasWires x ≡ true) × GoodEdges (x .wires) none (w .elements)
+GoodFigure k x (wired n w) = (hasWires x ≡ true) × GoodWire (x .wires) w
 GoodFigure k x (passed n) = ⊥
 
 abbrev pub GoodFigures : Known → Ranges → List Figure → Type 0
@@ -271,5 +342,6 @@ pub record GoodSet (nexts : List (List ℕ)) (s : Set) : Type 0 where
   pub serials : freshNumbers [] (flat (map serialsOfVolume (s .volumes))) ≡ true
   pub used : layersUsed s ≡ true
   pub counted : countedAll s ≡ true
+  pub partners : (not (testsPartners fullClass s) || partnersExist s) ≡ true
   pub before : List Contents
   pub latest : s .volumes ≡ before ++ s .now ∷ []

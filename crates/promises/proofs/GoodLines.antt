@@ -13,17 +13,18 @@ use Rattle.rules.specs.Base.{bytes, isNil, isSome, all, same, hasNumber}
 use Rattle.rules.specs.Numbers.{isDigit, digitRun}
 use Rattle.rules.specs.Lines.{allowed}
 use Rattle.rules.specs.Spool.{mostInLine}
-use Rattle.rules.specs.Values.{Value, nums, Known, isLayerId, charsOf}
+use Rattle.rules.specs.RecordTable.{ruleAt}
+use Rattle.rules.specs.Values.{Num, Value, nums, Known, isLayerId, charsOf}
 use Rattle.rules.specs.Rows.{Rule, Slots, Held, partOf}
 use Rattle.rules.specs.Blocks.{fileTable, rangeTable, baseTable, elecTable, symTable, laterTable, fileTables, drawingTable, symbolTable}
-use Rattle.rules.specs.Figures.{figureTable, textTable, placedTable, placedTables}
-use Rattle.rules.specs.Sets.{Point, Figure, plain, chain, lettering, placed, Layer, Drawing, Symbol, LayerBlock, Contents, Set, rangeOf, knownOf, Edge, wired, passed}
-use Rattle.rules.specs.FixedForm.{Text, openLine, opensBlock, innerOf, lineOf, showSlots, noInner, showInner, showHeld, block, showPoints, showFigure, showFigures, showLayers, showDrawing, symbolInner, exchanged, showSymbol, showSymbols, showDefines, showBlocks, ending, laterLines, volumeLines, showEdges}
+use Rattle.rules.specs.Figures.{figureTable, textTable, placedTable, placedTables, wireTable}
+use Rattle.rules.specs.Sets.{Point, Figure, plain, chain, lettering, placed, Layer, Drawing, Symbol, LayerBlock, Contents, Set, rangeOf, knownOf, Edge, Wire, wired, passed}
+use Rattle.rules.specs.FixedForm.{Text, openLine, opensBlock, innerOf, lineOf, showSlots, noInner, showInner, showHeld, block, showPoints, showFigure, showFigures, showLayers, showDrawing, symbolInner, exchanged, showSymbol, showSymbols, showDefines, showBlocks, ending, laterLines, volumeLines, showEdges, showGroup, showWireTexts, showWire}
 use Rattle.rules.specs.Sets.{layerTableOf}
 use Rattle.rules.proofs.Chains.{and-left, and-right, and-true, by-cond}
 use Rattle.rules.proofs.Rows.{row-at}
 use Rattle.promises.proofs.Forms.{layer-key, allowed-append, allowed-key, allowed-equal, plainLine, allowed-plain}
-use Rattle.promises.proofs.Good.{GoodRow, Always, GoodSlots, GoodPart, none0, isOne, GoodFile, GoodLater, GoodPoints, GoodPlaced, GoodText, GoodFigure, GoodFigures, GoodShape, GoodShapes, GoodLayers, GoodDrawing, GoodSymbol, GoodSymbols, GoodBlocks, GoodLaters, GoodSet, good-blank, InSlot, Ranges, rangesOf, symbolDigits, layerRows, GoodEdges}
+use Rattle.promises.proofs.Good.{GoodRow, Always, GoodSlots, GoodPart, none0, isOne, GoodFile, GoodLater, GoodPoints, GoodPlaced, GoodText, GoodFigure, GoodFigures, GoodShape, GoodShapes, GoodLayers, GoodDrawing, GoodSymbol, GoodSymbols, GoodBlocks, GoodLaters, GoodSet, good-blank, InSlot, Ranges, rangesOf, symbolDigits, layerRows, GoodEdges, GoodGroup, GoodTexts, GoodWire}
 use Rattle.rules.specs.RangeClass.{digitsOf}
 
 -- a line as a volume may have it
@@ -142,12 +143,37 @@ edges-keep k wires former (u ∷ es) g ls e =
     let line = g .0 .line in
     rw (row-at (line .row) _) (and-true _ _ (row-fine k (digitsOf wires) (line .rule) (nums (u .values)) (line .good k)) (edges-keep k wires (some u) es (g .1) ls e))
 
+group-keeps : (k : Known) (d : Digits) (j : ℕ) (before vs : List (List Num)) → GoodGroup d j before vs → Keeps (showGroup k (ruleAt wireTable j) vs)
+group-keeps k d j before [] g ls e = e
+group-keeps k d j before (v ∷ vs) g ls e =
+    let line = g .0 .line in
+    and-true _ _
+    (subst (λ (r : Rule). fine (lineOf k r (nums v)) ≡ true) (sym (row-at (line .row) (ruleAt [] 0))) (row-fine k d (line .rule) (nums v) (line .good k)))
+    (group-keeps k d j (before ++ v ∷ []) vs (g .1) ls e)
+
+texts-keep : (k : Known) (d : Digits) (ss : List Slots) → GoodTexts d ss → Keeps (showWireTexts k ss)
+texts-keep k d [] g ls e = e
+texts-keep k d (s ∷ ss) g ls e =
+    block-keeps (bytes "text") (showSlots k (textTable true 4 12) s noInner) refl (text-keeps k true s (g .1)) (showWireTexts k ss ls) (texts-keep k d ss (g .2) ls e)
+
+wire-keeps : (k : Known) (wires : ℕ) (w : Wire) → GoodWire wires w → Keeps (showWire k w)
+wire-keeps k wires w g ls e =
+    let h = g .holds in
+    let d = digitsOf wires in
+    edges-keep k wires none (w .elements) (h .elements) _
+    (rw (h .groups .are)
+    (group-keeps k d 2 [] (h .groups .direcs) (h .groups .direcs-good) _
+    (group-keeps k d 3 [] (h .groups .piends) (h .groups .piends-good) _
+    (group-keeps k d 4 [] (h .groups .counts) (h .groups .counts-good) _
+    (texts-keep k d (w .texts) (h .texts) _
+    (slots-keep k wireTable (w .own) noInner none-keep (always-slots k d wireTable (w .own) (h .own)) ls e))))))
+
 figure-keeps : (k : Known) (x : Ranges) (f : Figure) → GoodFigure k x f → Keeps (showFigure k true (layerRows x) f)
 figure-keeps k x (plain n j v) g ls e = rw (row-at (g .row) _) (and-true _ _ (row-fine k (symbolDigits x) (g .rule) (nums v) (g .good)) e)
 figure-keeps k x (chain n ps) g ls e = block-keeps (bytes "successive") (showPoints k true ps) refl (points-keep k true ps (g .points)) ls e
 figure-keeps k x (lettering n s) g ls e = block-keeps (bytes "text") (showSlots k (textTable true 4 12) s noInner) refl (text-keeps k true s g) ls e
 figure-keeps k x (placed n h) g ls e = block-keeps (bytes "E_symbol") (showHeld k placedTables h) refl (placed-keeps k (symbolDigits x) h (g .0)) ls e
-figure-keeps k x (wired n w) g ls e = block-keeps (bytes "E_wire") (showEdges k (w .elements)) refl (edges-keep k (x .wires) none (w .elements) (g .1)) ls e
+figure-keeps k x (wired n w) g ls e = block-keeps (bytes "E_wire") (showWire k w) refl (wire-keeps k (x .wires) w (g .1)) ls e
 figure-keeps k x (passed n) g ls e = absurd g
 
 figures-keep : (k : Known) (x : Ranges) (fs : List Figure) → GoodFigures k x fs → Keeps (showFigures k true (layerRows x) fs)

@@ -1,6 +1,6 @@
 -- What a host written in C learns from a call, from the contracts of the three functions and the theorems of the demands.
 use Prim.Native.Nat.{ℕ, _*_, _<_}
-use mathlib.Core.Bool.{true}
+use mathlib.Core.Bool.{Bool, true}
 use mathlib.Core.List.{List}
 use mathlib.Core.Path.{_≡_, sym, _∙_, ap, subst}
 use native.Mathlib.Omega.{arith}
@@ -10,7 +10,7 @@ use Rattle.rules.specs.declared.Answer.{Answer}
 use Rattle.rules.specs.declared.Answer.the-variants.{Accepted, Refused}
 use Rattle.rules.specs.RecordTable.{width}
 use Rattle.rules.specs.Answers.{answerCount, readAnswer, rewriteAnswer, written, ownRecords, packed, checkAnswer}
-use Rattle.promises.specs.DemandOne.{Located, Answered, refusedWith}
+use Rattle.promises.specs.DemandOne.{byReader, byRewriter, Located, Answered, refusedWith}
 use Rattle.promises.specs.DemandThree.{atOrBefore}
 use Rattle.promises.specs.TakenApart.{refusalIn, Tells}
 use Rattle.promises.specs.HostCalls.{HostCheck, Checked, HostRead, readBy, HostReads, HostRewrite, rewrittenBy, HostRewrites, HostCalls, LowerHostAccepts, HigherHostRefuses}
@@ -27,18 +27,18 @@ none-packed : (a : Answer) (n : ℕ) → a ≡ Accepted n → packed a ≡ 0
 unfolding packed
 none-packed a n e = ap packed e
 
-refusal-located : {last : ℕ} (r : Refusal) → Answered last (Refused r) → Located last r
+refusal-located : {whose : ℕ → Bool} (r : Refusal) → Answered whose (Refused r) → Located whose r
 refusal-located r (refusedWith _ w) = w
 
-some-packed : (last : ℕ) (a : Answer) → Answered last a → (r : Refusal) → a ≡ Refused r → 0 < packed a
+some-packed : (whose : ℕ → Bool) (a : Answer) → Answered whose a → (r : Refusal) → a ≡ Refused r → 0 < packed a
 unfolding packed
-some-packed last a w r e =
-    let located = refusal-located r (subst (Answered last) e w) in
+some-packed whose a w r e =
+    let located = refusal-located r (subst (Answered whose) e w) in
     subst (λ (b : Answer). 0 < packed b) (sym e) (omega (arith, located .least))
 
 -- a refusal that a number tells is one that an answer may be
-tells-located : (last p : ℕ) (a : Answer) → Tells p a → Answered last a → 0 < p → Located last (refusalIn p)
-tells-located last p a t w h = refusal-located (refusalIn p) (subst (Answered last) (t .refused h) w)
+tells-located : (whose : ℕ → Bool) (p : ℕ) (a : Answer) → Tells p a → Answered whose a → 0 < p → Located whose (refusalIn p)
+tells-located whose p a t w h = refusal-located (refusalIn p) (subst (Answered whose) (t .refused h) w)
 
 -- ── the check ──
 check-zero : (class wire : ℕ) (spool : List ℕ) (n : ℕ) → readAnswer class wire (ownRecords * width) spool ≡ Accepted n → checkAnswer class wire spool ≡ 0
@@ -54,7 +54,7 @@ checked c =
       whenAccepted = λ e.
           let (k, fit) = exactly-when .reader (c .class) (c .wire) (c .spool) .onlyKept len (answerCount a) (t .accepted e) in
           (answerCount a, k, omega (arith, fit));
-      whenRefused = tells-located 19 (c .number) a t (demand-one .reader (c .class) (c .wire) len (c .spool) .answer);
+      whenRefused = tells-located byReader (c .number) a t (demand-one .reader (c .class) (c .wire) len (c .spool) .answer);
       whenKept = λ n k h. c .answers ∙ check-zero (c .class) (c .wire) (c .spool) n (kept-accepts (c .class) (c .wire) len (c .spool) n k (omega (arith, h)));
     }
 
@@ -76,7 +76,7 @@ reads c =
     let t = read-tells c in
     record {
       size = call .size;
-      whenRefused = tells-located 19 (c .number) (readAs c) t (call .answer);
+      whenRefused = tells-located byReader (c .number) (readAs c) t (call .answer);
       noCount = λ h. c .counts ∙ ap answerCount (t .refused h);
       zeros = λ h. call .whenRefused (refusalIn (c .number)) (t .refused h);
       whenAccepted = λ e. call .whenAccepted (c .count) (read-accepted c e);
@@ -91,7 +91,7 @@ rewrites c =
     let t = subst (λ (p : ℕ). Tells p a) (sym (c .answers)) (taken-apart .rewriter (length (c .before)) (c .spool)) in
     record {
       size = call .size;
-      whenRefused = tells-located 20 (c .number) a t (call .answer);
+      whenRefused = tells-located byRewriter (c .number) a t (call .answer);
       noCount = λ h. c .counts ∙ ap answerCount (t .refused h);
       zeros = λ h. call .whenRefused (refusalIn (c .number)) (t .refused h);
       whenAccepted = λ e. call .whenAccepted (c .count) (t .accepted e ∙ ap Accepted (sym (c .counts)));
@@ -112,7 +112,7 @@ lower-host-accepts lower higher two e =
 pub higher-host-refuses : HigherHostRefuses
 higher-host-refuses lower higher two h =
     let w = higher-call-refuses (readBy lower) (readBy higher) two (refusalIn (lower .number)) (read-tells lower .refused h) in
-    let above : 0 < higher .number = subst (λ (p : ℕ). 0 < p) (sym (higher .answers)) (some-packed 19 (readAs higher) (read-calls (readBy higher) .answer) (w .refusal) (w .answer)) in
+    let above : 0 < higher .number = subst (λ (p : ℕ). 0 < p) (sym (higher .answers)) (some-packed byReader (readAs higher) (read-calls (readBy higher) .answer) (w .refusal) (w .answer)) in
     let same : w .refusal ≡ refusalIn (higher .number) = refused-same (sym (w .answer) ∙ read-tells higher .refused above) in
     (above, subst (λ (q : Refusal). atOrBefore q (refusalIn (lower .number)) ≡ true) same (w .place), w .table)
   where

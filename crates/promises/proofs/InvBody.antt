@@ -2,7 +2,7 @@
 use Prim.Native.Nat.{ℕ, zero, suc, _≤_, _+_}
 use mathlib.Core.Bool.{Bool, true, false, cond, _||_, not}
 use mathlib.Core.List.{List, [], _∷_, _++_, map, append-nil, append-assoc}
-use mathlib.Core.Option.{some}
+use mathlib.Core.Option.{Option, none, some}
 use mathlib.Core.Path.{_≡_, refl, sym, _∙_, ap, subst}
 use native.Mathlib.Omega.{arith}
 use lib.Dec.{eqb, leb, ltb}
@@ -17,16 +17,16 @@ use Rattle.rules.specs.RangeClass.{digits, reaches, exceeds, both, skipOf, most
 use Rattle.rules.specs.Values.{Num, num, Value, nums, Known, numsOf, amountAt, isLayerId, natural, readPart, layerId, headed, readKind, serialsOf}
 use Rattle.rules.specs.Rows.{Rule, Found, absent, found, find, Slots, Held, partOf, slotValue, held, rowsThere, rowsAtLimit, shapeFor, Act, stay, entry, begin, shut, refuse, actRow, actUnknown, act, complete, innerOf}
 use Rattle.rules.specs.Blocks.{elementTable}
-use Rattle.rules.specs.Figures.{layerTable, figureTable, leastPoints, pointTable, textTable, placedTable, placedTables}
-use Rattle.rules.specs.Sets.{Point, Figure, plain, chain, lettering, placed, LayerBlock, Contents, Set, withRecords, withVolume, withBlock, rangeOf, isSingle, knownOf, figureSerial, serialsOfBlock, serialsOfVolume, serialsIn, usedIn, wired, passed, isWired}
+use Rattle.rules.specs.Figures.{layerTable, figureTable, leastPoints, pointTable, textTable, placedTable, placedTables, wireTable, wireSerialRow}
+use Rattle.rules.specs.Sets.{Point, Figure, plain, chain, lettering, placed, LayerBlock, Contents, Set, withRecords, withVolume, withBlock, rangeOf, isSingle, knownOf, figureSerial, serialsOfBlock, serialsOfVolume, serialsIn, usedIn, wired, passed, isWired, wireRange, ownNumber}
 use Rattle.rules.specs.VolumesAndTotals.{countedHere}
-use Rattle.rules.specs.Machine.{Line, Home, inElement, inLayer, State, elements, figures, successive, texts, placing, skipping, byAct, onElements, isLayer, homeTable, closeFigures, openFigure, onFigures, onSuccessive, onTexts, wireBlock, wireUnread}
+use Rattle.rules.specs.Machine.{Line, Home, inElement, inLayer, State, elements, figures, successive, texts, placing, skipping, byAct, onElements, isLayer, homeTable, closeFigures, openFigure, onFigures, onSuccessive, onTexts, wireBlock, wireUnread, noWire}
 use Rattle.rules.specs.PlacedSymbol.{onUnknown, noneOf, newSerial, onPlaced, onPlacedKey, onPlacedOwn, onPlacing, skipShut, onSkipping, skipEnded, unreadShut}
 use Rattle.rules.specs.Answers.{fullClass}
 use Rattle.rules.specs.RecordTable.{ruleAt, kindLine, kindSuccessive, kindText, kindPoint}
 use Rattle.rules.specs.Machine.{symbolBlock, Owned, kindIn}
 use Rattle.rules.specs.Sets.{layerTableOf}
-use Rattle.rules.proofs.Chains.{unless-got, map-got, or-got, map-append, On, on-unless, on-cond, or-left, clash}
+use Rattle.rules.proofs.Chains.{and-left, unless-got, map-got, or-got, map-append, On, on-unless, on-cond, or-left, clash}
 use Rattle.rules.proofs.OnActs.{on-skip}
 use Rattle.rules.proofs.Rows.{found-row, row-all, row-at, row-did}
 use Rattle.rules.proofs.Runs.{head-file, head-snoc}
@@ -36,7 +36,7 @@ use Rattle.promises.proofs.Good.{Always, none0, GoodChain, GoodText, Go
 use Rattle.promises.proofs.InvRows.{Took, ActTold, read-begin, on-byAct, row-told, on-act, row-all-at, onlyNumbers, entry-numbers, level-by}
 use Rattle.promises.proofs.InvParts.{allNameless, took-set}
 use Rattle.promises.proofs.InvPlaced.{placed-start, placed-enter, placed-begin, text-enter, text-keys, text-opens, text-shut, placed-good}
-use Rattle.promises.proofs.InvState.{fileOf, untaken, Working, Over, LayerOpen, figureSerials, FiguresInv, Inv, figures-more, shapes-more, blocks-more, volumes-more, number-more, serial-more, flat-more}
+use Rattle.promises.proofs.InvState.{WireInv, fileOf, untaken, Working, Over, LayerOpen, figureSerials, FiguresInv, Inv, figures-more, shapes-more, blocks-more, volumes-more, number-more, serial-more, flat-more}
 use Rattle.promises.proofs.InvHead.{fullEnv, points-enter}
 use Rattle.promises.proofs.Nameless.{nameless}
 
@@ -102,11 +102,15 @@ abbrev pub HomeGood : Set → Home → Figure → Type 0
 HomeGood s (inElement y) f = GoodShape (rangeOf s) f
 HomeGood s (inLayer n) f = GoodFigure (knownOf s) (rangesOf s) f
 
+own-add : (o : Option Value) (s : List ℕ) → freshNumbers [] s ≡ true → noneOf (ownNumber o) s ≡ true → freshNumbers [] (s ++ ownNumber o) ≡ true
+own-add none s g e = rw (append-nil s) g
+own-add (some v) s g e = number-more s (amountAt v 0) g (not-true (hasNumber (amountAt v 0) s) (and-left (not (hasNumber (amountAt v 0) s)) _ e))
+
 serial-add : (f : Figure) (s : List ℕ) → freshNumbers [] s ≡ true → noneOf (figureSerial f) s ≡ true → freshNumbers [] (s ++ figureSerial f) ≡ true
 serial-add (plain n j v) s g e = rw (append-nil s) g
 serial-add (chain n ps) s g e = rw (append-nil s) g
 serial-add (lettering n o) s g e = rw (append-nil s) g
-serial-add (wired n w) s g e = rw (append-nil s) g
+serial-add (wired n w) s g e = own-add (getD (w .own) wireSerialRow none) s g e
 serial-add (passed n) s g e = rw (append-nil s) g
 serial-add (placed n h) s g e = serial-more s (serialsOf (slotValue (held "serial" placedTable (partOf h 0)))) g e
 
@@ -173,11 +177,28 @@ chain-home : (s : Set) (h : Home) (n : ℕ) (ps : List Point) → GoodChain (isL
 chain-home s (inElement y) n ps g = g
 chain-home s (inLayer k) n ps g = g
 
+-- a wire that has nothing yet
+wire-start : (wires : ℕ) (used : List ℕ) → WireInv wires used 0 noWire
+unfolding wireTable
+wire-start wires used =
+    record {
+      holds =
+          record {
+            elements = tt;
+            groups = record { direcs = []; piends = []; counts = []; are = refl; direcs-good = tt; piends-good = tt; counts-good = tt };
+            texts = tt;
+            own = tt;
+            once = refl;
+          };
+      writing = (refl, refl);
+      serial = refl;
+    }
+
 text-home : (s : Set) (h : Home) (n : ℕ) (o : Slots) → GoodText (isLayer h) o → HomeGood s h (lettering n o)
 text-home s (inElement y) n o g = g
 text-home s (inLayer k) n o g = g
 
-texts-nameless : (b : Bool) → allNameless (textTable b 4 12) ≡ true
+pub texts-nameless : (b : Bool) → allNameless (textTable b 4 12) ≡ true
 unfolding textTable
 texts-nameless true = refl
 texts-nameless false = refl
@@ -213,7 +234,7 @@ module _ (done fin : List (List ℕ)) (l : Line) (n : ℕ) (fit : n ≤ 512) whe
   open-figure s h fs (suc (suc zero)) j v i w = (records-taken done (l .next) s h fs (kindIn h kindText ∷ []) i, good-blank (Always none0) (textTable (isLayer h) 4 12))
   open-figure s (inElement y) fs (suc (suc (suc zero))) j v i w = tt
   open-figure s (inElement y) fs (suc (suc (suc (suc m)))) j v i w = tt
-  open-figure s (inLayer k) fs (suc (suc (suc (suc m)))) j v i w = (i, wire-opens (isSingle s) (isWired s) w, tt)
+  open-figure s (inLayer k) fs (suc (suc (suc (suc m)))) j v i w = (i, wire-opens (isSingle s) (isWired s) w, wire-start (wireRange s) (serialsIn s ++ figureSerials fs))
   open-figure s (inLayer k) fs (suc (suc (suc zero))) j v i w =
       let (single, level) = placed-opens (isSingle s) (isWired s) w in (i, placed-start (knownOf s) (rangeOf s) (serialsIn s ++ figureSerials fs), single, level)
 

@@ -19,8 +19,8 @@ use Rattle.rules.specs.Rows.{Slots, Held, partOf, rowsThere, rowsAtLimit, fits,
 use Rattle.rules.specs.Blocks.{topTable, drawingTable, mostLayers, definesTable, symbolTable}
 use Rattle.rules.specs.Figures.{pointTable}
 use Rattle.rules.specs.Sets.{Point, Layer, Drawing, Symbol, Contents, Set, headOr, withOwn, symbolOwn, isFirst, arcOf, rangeOf, defineRange, symbolNameOf, knownOf, serialsOfVolume}
-use Rattle.rules.specs.VolumesAndTotals.{chained, dated, countedAll, layersUsed}
-use Rattle.rules.specs.Machine.{unlimited, Line, Env, State, top, file, drawing, layerNames, defines, symbol, hide, byAct, openTop, atEof, onTop, closeFile, shutPart, onFile, onDrawing, layerValue, layerLine, onLayerNames, onDefines, newName, openSymbol, onSymbol, pointAt, onHide}
+use Rattle.rules.specs.VolumesAndTotals.{chained, dated, countedAll, layersUsed, partnersExist}
+use Rattle.rules.specs.Machine.{testsPartners, unlimited, Line, Env, State, top, file, drawing, layerNames, defines, symbol, hide, byAct, openTop, atEof, onTop, closeFile, shutPart, onFile, onDrawing, layerValue, layerLine, onLayerNames, onDefines, newName, openSymbol, onSymbol, pointAt, onHide}
 use Rattle.rules.specs.Answers.{fullClass}
 use Rattle.rules.specs.RecordTable.{ruleAt}
 use Rattle.rules.proofs.Chains.{and-left, and-right, or-true, clash, map-append, On, on-unless, on-then}
@@ -46,8 +46,9 @@ laters-good k s [] (v ∷ vs) g = absurd g
 laters-good k s (n ∷ ns) [] g = absurd g
 laters-good k s (n ∷ ns) (v ∷ vs) g = (g .0, g .1, g .2, laters-good k s ns vs (g .3))
 
-set-good : (nexts : List (List ℕ)) (s : Set) → Over nexts (fileOf s) (untaken s) → layersUsed s ≡ true → countedAll s ≡ true → GoodSet nexts s
-set-good nexts s o used counted = go nexts (s .volumes) refl (o .closed)
+set-good : (nexts : List (List ℕ)) (s : Set) → Over nexts (fileOf s) (untaken s) → layersUsed s ≡ true → countedAll s ≡ true
+    → (not (testsPartners fullClass s) || partnersExist s) ≡ true → GoodSet nexts s
+set-good nexts s o used counted partners = go nexts (s .volumes) refl (o .closed)
   where
     none-left : (u : List Contents) → s .volumes ≡ [] → s .volumes ≡ u ++ s .now ∷ [] → ⊥
     none-left [] p q = true≢false (ap isNil (sym p ∙ q))
@@ -73,6 +74,7 @@ set-good nexts s o used counted = go nexts (s .volumes) refl (o .closed)
           serials = o .serials;
           used = used;
           counted = counted;
+          partners = partners;
           before = o .before;
           latest = o .latest;
         }
@@ -176,13 +178,14 @@ module _ (done fin : List (List ℕ)) (l : Line) (n : ℕ) (fit : n ≤ 512) (fi
   open-top s (suc (suc (suc (suc zero)))) h i = clash h refl
   open-top s (suc (suc (suc (suc (suc j))))) h i = absurd i
 
-  at-eof : (s : Set) (k : ℕ) → TopInv done (l .next) k (untaken s) → On J (atEof l s k)
+  at-eof : (s : Set) (k : ℕ) → TopInv done (l .next) k (untaken s) → On J (atEof fullEnv l s k)
   at-eof s k i =
       on-unless J (eqb k 4 && (isNil (l .next) && l .last)) 9 _ λ e.
       on-unless J (layersUsed s) 14 _ λ used.
       on-unless J (countedAll s) 17 _ λ counted.
+      on-unless J (not (testsPartners fullClass s) || partnersExist s) 21 _ λ partners.
       let o : Over (done ++ l .next ∷ []) (fileOf s) (untaken s) = subst (λ (k : ℕ). TopInv done (l .next) k (untaken s)) (eqb-true k 4 (and-left (eqb k 4) _ e)) i in
-      rw (fin-is (and-right (isNil (l .next)) _ (and-right (eqb k 4) _ e))) (set-good (done ++ l .next ∷ []) s o used counted)
+      rw (fin-is (and-right (isNil (l .next)) _ (and-right (eqb k 4) _ e))) (set-good (done ++ l .next ∷ []) s o used counted partners)
 
   top-key : (s : Set) (k : ℕ) (key : List ℕ) (c : Rest) → Tells n (keyed key c) → TopInv done (l .next) k (untaken s)
       → On J (byAct (top s k) (λ j v. bad 5) (λ i j v. unless (eqb j k) 9 (openTop fullEnv l s j)) (λ _. bad 9) (act (knownOf s) topTable none0 (rowsAtLimit 0 topTable) (keyed key c)))

@@ -12,7 +12,7 @@ use Rattle.rules.specs.Base.{isSome, same, split}
 use Rattle.rules.specs.RefusalNumbers.{Got, got, bad, unless, keep}
 use Rattle.rules.specs.Lines.{Rest, Form, ignored, wrong, close, eof, keyed, Shape, opener, noContent, content, opening, formless, shapeOf, hasForm}
 use Rattle.rules.specs.RangeClass.{reaches}
-use Rattle.rules.specs.Values.{Value, nums, Known, Kind, values, text, word, volumeName, sheet, ratio, serials, nothing, opens, headed, either, readKind, readAll, agree, numsOf}
+use Rattle.rules.specs.Values.{Value, nums, Known, Kind, values, text, word, volumeName, sheet, ratio, serials, wireSerial, nothing, opens, headed, either, readKind, readAll, agree, numsOf}
 use Rattle.rules.specs.Rows.{Rule, Found, absent, found, find, Slots, rowsThere, fits, shapeFor, Act, stay, entry, begin, shut, refuse, orRefuse, innerOf, readShape, actRow, actUnknown, actFound, present, complete, act}
 use Rattle.rules.specs.Machine.{State, byAct}
 use Rattle.rules.specs.FixedForm.{opensBlock}
@@ -61,7 +61,7 @@ isBegin (begin i j v) = true
 isBegin shut = false
 isBegin (refuse n) = false
 
-abbrev isShut : Act → Bool
+abbrev pub isShut : Act → Bool
 isShut stay = false
 isShut (entry j v) = false
 isShut (begin i j v) = false
@@ -99,6 +99,11 @@ read-begin k j r (content at c) i m v e n f = let (u, g, q) = map-got (entry j) 
 read-begin k j r (opening at c) i m v e n f =
     let (u, g, q) = map-got (begin (innerOf (r .holds)) j) (readKind k (r .holds) at c) (begin i m v) e in let z : u ≡ v = cc in (at, c, g ∙ ap got z)
 read-begin k j r formless i m v e n f = never e
+
+-- a line with a key closes nothing
+pub row-shuts : {A : Type 0} (k : Known) (d : Digits) (full : Bool) (j : ℕ) (r : Rule) (x : Rest) → actRow k d full j r x ≡ shut → A
+row-shuts k d full j r x e =
+    clash refl (on-got (λ a. isShut a ≡ false) (readShape k j r (shapeFor r x)) shut (shape-open k j r (shapeFor r x)) (row-did k d full j r x shut refl e .read))
 
 unknown-told : (k : Known) (d c : Digits) (t : List Rule) (full : List Bool) (x : Rest) → ActTold k d c t full (actUnknown x)
 unknown-told k d c t full x = go (hasForm (shapeOf x))
@@ -157,7 +162,7 @@ row-told k d c t full n key x j r w q ok tells fit = go (actRow k d (getD full j
           rest = x;
           from = e ∙ ap (λ (m : ℕ). begin i m v) (sym p);
         })
-    go shut e = clash refl (on-got (λ a. isShut a ≡ false) (readShape k j r (shapeFor r x)) shut (shape-open k j r (shapeFor r x)) (row-did k d (getD full j false) j r x shut refl e .read))
+    go shut e = row-shuts k d (getD full j false) j r x e
     go (refuse m) e = tt
 
 pub act-told : (k : Known) (d : Digits) (t : List Rule) (full : List Bool) (n : ℕ) (f : Form) → keysOk t ≡ true → Tells n f → n ≤ 512 → ActTold k d d t full (act k t d full f)
@@ -232,6 +237,7 @@ not-empty volumeName may e q = clash e refl
 not-empty sheet may e q = clash e refl
 not-empty ratio may e q = clash e refl
 not-empty serials may e q = clash e refl
+not-empty wireSerial may e q = clash e refl
 not-empty nothing may e q = clash e refl
 not-empty (opens i) may e q = refl
 not-empty (headed i p) may e q = clash e refl
@@ -245,6 +251,7 @@ read-numbers k volumeName at c v o e = clash o refl
 read-numbers k sheet at c v o e = clash o refl
 read-numbers k ratio at c v o e = clash o refl
 read-numbers k serials at c v o e = clash o refl
+read-numbers k wireSerial at c v o e = clash o refl
 read-numbers k nothing at c v o e = clash o refl
 read-numbers k (opens i) at c v o e = never e
 read-numbers k (headed i p) at c v o e = clash o refl

@@ -13,15 +13,15 @@ use Rattle.rules.specs.RangeClass.{digits, digitsOf, reaches}
 use Rattle.rules.specs.Values.{Known, nums, isLayerId}
 use Rattle.rules.specs.Rows.{Slots, Held, partOf, numberOf}
 use Rattle.rules.specs.Blocks.{fileTable, rangeTable, symTable, laterTable, drawingTable, mostLayers, symbolTable}
-use Rattle.rules.specs.Figures.{mostPoints, pointTable, textTable}
-use Rattle.rules.specs.Sets.{Point, Figure, chain, Layer, Drawing, Symbol, LayerBlock, Contents, Set, headOr, firstContents, isFirst, arcOf, rangeOf, defineRange, isSingle, symbolNameOf, knownOf, ownSerial, figureSerial, serialsOfVolume, serialsIn, usedIn, isWired, wireRange}
+use Rattle.rules.specs.Figures.{mostPoints, pointTable, textTable, wireTable, wireTextTable, wireTextRow, wireSerialRow}
+use Rattle.rules.specs.Sets.{Point, Figure, chain, Layer, Drawing, Symbol, LayerBlock, Contents, Set, headOr, firstContents, isFirst, arcOf, rangeOf, defineRange, isSingle, symbolNameOf, knownOf, ownSerial, figureSerial, serialsOfVolume, serialsIn, usedIn, isWired, wireRange, Wire, ownNumber}
 use Rattle.rules.specs.VolumesAndTotals.{chained}
 use Rattle.rules.specs.Machine.{Home, inElement, inLayer, State, top, file, drawing, layerNames, defines, symbol, hide, elements, figures, successive, texts, placing, skipping, ended, isLayer, wireBlock, wireUnread}
 use Rattle.rules.specs.PlacedSymbol.{noneOf}
 use Rattle.rules.specs.RecordTable.{ruleAt}
 use Rattle.rules.specs.Machine.{symbolBlock, Owned}
 use Rattle.rules.proofs.Chains.{and-left, and-right, and-true}
-use Rattle.promises.proofs.Good.{Always, GoodSlots, none0, GoodFile, GoodLater, GoodPoints, GoodFigure, GoodFigures, GoodShape, GoodShapes, fresh, freshNumbers, GoodLayer, GoodLayers, idsOf, GoodDrawing, GoodSymbol, GoodSymbols, GoodDefines, GoodBlock, GoodBlocks, GoodVolume, GoodSet, Ranges, rangesOf, GoodEdges, rangesIn, symbolDigits}
+use Rattle.promises.proofs.Good.{Always, GoodSlots, none0, GoodFile, GoodLater, GoodPoints, GoodFigure, GoodFigures, GoodShape, GoodShapes, fresh, freshNumbers, GoodLayer, GoodLayers, idsOf, GoodDrawing, GoodSymbol, GoodSymbols, GoodDefines, GoodBlock, GoodBlocks, GoodVolume, GoodSet, Ranges, rangesOf, WireHolds, hasMore, rangesIn, symbolDigits}
 use Rattle.promises.proofs.InvFile.{FileInv}
 use Rattle.promises.proofs.InvPlaced.{PlacedInv}
 
@@ -164,10 +164,21 @@ abbrev pub PlacingInv : List (List ℕ) → List ℕ → Set → ℕ → List Fi
 PlacingInv done cur s n fs o p =
     FiguresInv done cur s (inLayer n) fs × PlacedInv (knownOf s) (rangeOf s) (serialsIn s ++ figureSerials fs) p o × (isSingle s ≡ false) × (reaches (rangeOf s) (digits 0 1) ≡ true)
 
+-- a wire's: a text that is open is good so far, and `past` says that something stands beside its elements (used: the numbers read before)
+abbrev pub Writing : ℕ → ℕ → Wire → Type 0
+Writing wires zero w = (w .writing ≡ []) × (w .past ≡ hasMore w)
+Writing wires (suc p) w =
+    GoodSlots (Always none0) wireTextTable (w .writing) × (reaches (digitsOf wires) (ruleAt wireTable wireTextRow .least) ≡ true)
+
+pub record WireInv (wires : ℕ) (used : List ℕ) (p : ℕ) (w : Wire) : Type 0 where
+  pub holds : WireHolds wires w
+  pub writing : Writing wires p w
+  pub serial : noneOf (ownNumber (getD (w .own) wireSerialRow none)) used ≡ true
+
 -- at class 15 no wire is skipped
 abbrev pub OwnedInv : List (List ℕ) → List ℕ → Set → ℕ → List Figure → Owned → ℕ → Type 0
 OwnedInv done cur s n fs (symbolBlock o) p = PlacingInv done cur s n fs o p
-OwnedInv done cur s n fs (wireBlock w) p = FiguresInv done cur s (inLayer n) fs × (isWired s ≡ true) × GoodEdges (wireRange s) none (w .elements)
+OwnedInv done cur s n fs (wireBlock w) p = FiguresInv done cur s (inLayer n) fs × (isWired s ≡ true) × WireInv (wireRange s) (serialsIn s ++ figureSerials fs) p w
 OwnedInv done cur s n fs wireUnread p = ⊥
 
 -- ── the invariant (fin: the names that follow all volumes, where the set has ended) ──

@@ -14,7 +14,7 @@ use Rattle.rules.specs.RangeClass.{digits, reaches, exceeds, both, Skip, passes
 use Rattle.rules.specs.Values.{Value, empty, nums, chars, linked, Known, layerId, headed, numsOf, amountAt, showContent}
 use Rattle.rules.specs.Rows.{Rule, Found, absent, found, find, Slots, blank, Held, partOf, enter, rowsThere, rowsAtLimit, begin, innerOf, actRow, act}
 use Rattle.rules.specs.Blocks.{elementTable, blankHeld}
-use Rattle.rules.specs.Figures.{layerTable, figureTable, leastPoints, pointTable, textTable, placedTable, placedTables}
+use Rattle.rules.specs.Figures.{layerTable, figureTable, leastPoints, pointTable, textTable, placedTable, placedTables, wireTable}
 use Rattle.rules.specs.Sets.{Point, Figure, plain, chain, lettering, placed, Symbol, Set, withVolume, withRecords, symbolFigures, rangeOf, isSingle, knownOf, usedIn, passed, isWired}
 use Rattle.rules.specs.VolumesAndTotals.{countedHere}
 use Rattle.rules.specs.Machine.{Line, Env, Home, inElement, inLayer, State, top, symbol, elements, figures, successive, texts, placing, skipping, taking, onElements, isLayer, homeTable, pointAt, closeFigures, openFigure, onFigures, onSuccessive, onTexts, shutPart, wireBlock, wireUnread, beginWire}
@@ -99,7 +99,7 @@ module _ (K : Known) (n : ℕ) where
   -- ── figures ──
   wire-begins : (b : Bool) (s : Set) (k : ℕ) (fs : List Figure) (m : ℕ) → 8 ≤ n
       → Next K (figures s (inLayer k) fs) n (beginWire b (withRecords (kindWire ∷ kindWireMore ∷ []) s) k fs m)
-  wire-begins true s k fs m le = (tt, omega arith)
+  wire-begins true s k fs m le = (tt, omega (arith, blank-cost (knownOf s) wireTable))
   wire-begins false s k fs m le = (tt, omega arith)
 
   figure-opens : (e : Env) (l : Line) (s : Set) (h : Home) (fs : List Figure) (i : ℕ) → HomeOk s h → figureHead i ≤ n → On (Next K (figures s h fs) n) (openFigure e l s h fs i)

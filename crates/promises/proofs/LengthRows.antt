@@ -12,7 +12,7 @@ use Rattle.rules.specs.declared.Digits.{Digits}
 use Rattle.rules.specs.Base.{bytes, all, same}
 use Rattle.rules.specs.RefusalNumbers.{Got, bad, unless}
 use Rattle.rules.specs.Lines.{Rest, brace, equals, Form, ignored, wrong, close, eof, keyed, Shape, opener, noContent, content, opening, formless, shapeOf, hasForm}
-use Rattle.rules.specs.Values.{Value, empty, nums, chars, linked, Known, Part, Kind, values, text, word, volumeName, sheet, ratio, serials, nothing, opens, headed, either, readPart, readKind, numsOf, showContent}
+use Rattle.rules.specs.Values.{Value, empty, nums, chars, linked, Known, Part, Kind, values, text, word, volumeName, sheet, ratio, serials, wireSerial, nothing, opens, headed, either, readPart, readKind, numsOf, showContent}
 use Rattle.rules.specs.Rows.{Rule, row, Found, absent, found, find, Slots, Held, partOf, enter, rowsThere, shapeFor, Act, stay, entry, begin, shut, refuse, orRefuse, innerOf, readShape, actRow, actUnknown, actFound, act, complete}
 use Rattle.rules.specs.Machine.{State, byAct}
 use Rattle.rules.specs.RecordTable.{ruleAt}
@@ -70,6 +70,7 @@ behind-nums k volumeName v e = clash e refl
 behind-nums k sheet v e = clash e refl
 behind-nums k ratio v e = clash e refl
 behind-nums k serials v e = clash e refl
+behind-nums k wireSerial v e = clash e refl
 behind-nums k nothing v e = clash e refl
 behind-nums k (opens i) v e = refl
 behind-nums k (headed i p) v e = clash e refl
@@ -78,10 +79,13 @@ behind-nums k (either i) v e = clash e refl
 abbrev pub figureRows : List Rule → Bool
 figureRows t = all (λ r. numbersOnly (r .holds)) t
 
+pub row-took : {t : List Rule} {j : ℕ} {r : Rule} → Row t j r → numbersOnly (r .holds) ≡ true → (k : Known) (full : Bool) (v : Value) (n : ℕ) (b : Bool) → Took k r full v n b
+    → length (lineOf k (ruleAt t j) (nums (numsOf v))) ≤ n
+row-took {r = r} w e k full v n b (f, o, l, m) = rw (row-at w (row "" (opens 0) 0), behind-nums k (r .holds) v e) l
+
 pub nums-took : {t : List Rule} {j : ℕ} {r : Rule} → Row t j r → figureRows t ≡ true → (k : Known) (full : Bool) (v : Value) (n : ℕ) (b : Bool) → Took k r full v n b
     → length (lineOf k (ruleAt t j) (nums (numsOf v))) ≤ n
-nums-took {r = r} w e k full v n b (f, o, l, m) =
-    rw (row-at w (row "" (opens 0) 0), behind-nums k (r .holds) v (row-all (λ r. numbersOnly (r .holds)) w e)) l
+nums-took w e k full v n b u = row-took w (row-all (λ r. numbersOnly (r .holds)) w e) k full v n b u
 
 -- ── a line in a block of rows ──
 key-least : (n : ℕ) (k : List ℕ) (x : Rest) → Told n (keyed k x) → length k + 1 ≤ n

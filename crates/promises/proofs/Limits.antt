@@ -21,7 +21,7 @@ use Rattle.rules.specs.Machine.{Line, unlimited, limitedTo, Home, inElement, in
 use Rattle.rules.specs.PlacedSymbol.{bySkip, onUnknown, onPlacedKey, onPlacedOwn, onPlacing, skipEnded, unreadShut, skipShut, onSkipping}
 use Rattle.rules.specs.LineByLine.{stepIn, completes, nextVolume, step, accepted, thenRun, run}
 use Rattle.rules.specs.Machine.{symbolBlock, wireBlock, wireUnread, Owned, beginWire, openWire}
-use Rattle.rules.specs.Wires.{onWire}
+use Rattle.rules.specs.Wires.{onWireAct, onWireUnknown, onWireKey, onWire}
 use Rattle.rules.proofs.Chains.{never, On}
 use Rattle.rules.proofs.Runs.{not-accepted, finish-ended}
 use Rattle.promises.proofs.Count.{count-taken}
@@ -118,7 +118,7 @@ module _ (c : Class) (m : ℕ) (l : Line) where
   alike-top s k ignored = search alikes
   alike-top s k (wrong n) = refuses
   alike-top s k close = refuses
-  alike-top s k eof = search alikes
+  alike-top s k eof = search alikes depth 8
   alike-top s k (keyed key x) = search (alikes, alike-open)
 
   alike-layers : (s : Set) (d : Drawing) (f : Form) → Alike m (s .taken) (onLayerNames (unlimited c) l s d f) (onLayerNames (limitedTo c m) l s d f)
@@ -174,8 +174,26 @@ module _ (c : Class) (m : ℕ) (l : Line) where
   alike-placing s h fs n o zero f = alike-own s h fs n o f
   alike-placing s h fs n o (suc p) f = search alikes
 
-  alike-in-wire : (s : Set) (h : ℕ) (fs : List Figure) (n : ℕ) (w : Wire) (f : Form) → Alike m (s .taken) (onWire (unlimited c) l s h fs n w f) (onWire (limitedTo c m) l s h fs n w f)
-  alike-in-wire s h fs n w f = search alikes
+  alike-wire-act : (s : Set) (h : ℕ) (fs : List Figure) (n : ℕ) (w : Wire) (a : Act)
+      → Alike m (s .taken) (onWireAct (unlimited c) l s h fs n w a) (onWireAct (limitedTo c m) l s h fs n w a)
+  alike-wire-act s h fs n w a = search alikes depth 8
+
+  alike-wire-unknown : (s : Set) (h : ℕ) (fs : List Figure) (n : ℕ) (w : Wire) (k : List ℕ) (x : Rest)
+      → Alike m (s .taken) (onWireUnknown (unlimited c) l s h fs n w k x) (onWireUnknown (limitedTo c m) l s h fs n w k x)
+  alike-wire-unknown s h fs n w k x = search (alikes, alike-wire-act)
+
+  alike-wire-key : (s : Set) (h : ℕ) (fs : List Figure) (n : ℕ) (w : Wire) (k : List ℕ) (x : Rest) (f : Found)
+      → Alike m (s .taken) (onWireKey (unlimited c) l s h fs n w k x f) (onWireKey (limitedTo c m) l s h fs n w k x f)
+  alike-wire-key s h fs n w k x absent = alike-wire-unknown s h fs n w k x
+  alike-wire-key s h fs n w k x (found j r) = search (alike-cond, alike-wire-act, alike-wire-unknown)
+
+  alike-in-wire : (s : Set) (h : ℕ) (fs : List Figure) (n : ℕ) (w : Wire) (p : ℕ) (f : Form) → Alike m (s .taken) (onWire (unlimited c) l s h fs n w p f) (onWire (limitedTo c m) l s h fs n w p f)
+  alike-in-wire s h fs n w zero ignored = search alikes
+  alike-in-wire s h fs n w zero (wrong k) = refuses
+  alike-in-wire s h fs n w zero close = search alike-wire-act
+  alike-in-wire s h fs n w zero eof = refuses
+  alike-in-wire s h fs n w zero (keyed k x) = search alike-wire-key
+  alike-in-wire s h fs n w (suc p) f = search alikes
 
   alike-skip-ended : (s : Set) (h : ℕ) (fs : List Figure) (n : ℕ) (b : Owned) → Alike m (s .taken) (got (skipEnded s h fs n b)) (got (skipEnded s h fs n b))
   alike-skip-ended s h fs n (symbolBlock o) = search alikes
@@ -212,7 +230,7 @@ module _ (c : Class) (m : ℕ) (l : Line) where
   alike-in (successive s h fs n ps) = search alikes
   alike-in (texts s h fs n o) = search alikes
   alike-in (placing s h fs n (symbolBlock o) p) = alike-placing s h fs n o p (l .form)
-  alike-in (placing s h fs n (wireBlock w) p) = alike-in-wire s h fs n w (l .form)
+  alike-in (placing s h fs n (wireBlock w) p) = alike-in-wire s h fs n w p (l .form)
   alike-in (placing s h fs n wireUnread p) = refuses
   alike-in (skipping s h fs n b d) = alike-skipping s h fs n b d (l .form)
   alike-in (ended s) = refuses

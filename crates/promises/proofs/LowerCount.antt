@@ -6,17 +6,16 @@ use mathlib.Core.Path.{_≡_}
 use native.Mathlib.Nat.{le-refl}
 use native.Mathlib.Omega.{arith}
 use lib.ListN.{length, length-append, length-map}
-use Rattle.rules.specs.declared.Digits.{Digits}
 use Rattle.rules.specs.declared.Class.{Class}
 use Rattle.rules.specs.Base.{flat}
 use Rattle.rules.specs.RangeClass.{hides, knowsWires}
-use Rattle.rules.specs.Sets.{Wire, Figure, plain, chain, lettering, placed, wired, passed, Drawing, Symbol, Contents, Set, rangeOf}
+use Rattle.rules.specs.Sets.{Wire, Figure, plain, chain, lettering, placed, wired, passed, Drawing, Symbol, Contents, Set, rangeOf, wiresOf}
 use Rattle.rules.specs.Machine.{Home, inElement, inLayer, State, top, file, drawing, layerNames, defines, symbol, hide, elements, figures, successive, texts, placing, skipping, ended, symbolBlock, wireBlock, wireUnread, Owned}
 use Rattle.rules.proofs.Chains.{by-cond, nil-map}
 use Rattle.promises.specs.Acceptance.{Place, place}
 use Rattle.promises.proofs.RecordLines.{pointPlaces, figurePlaces, figuresPlaces, blockPlaces, bodyPlaces, laterPlaces, frontPlaces, setPlaces}
 use Rattle.promises.proofs.CountState.{number, filePlaces, openPlaces, within, inFigures, ownedPlaces, shown}
-use Rattle.promises.proofs.Lower.{textLeast, lowerFigure, lowerFigures, lowerBlock, lowerContents, lowerSet, lowerSoFar, lowerOwned, lowerWire, lower}
+use Rattle.promises.proofs.Lower.{textLeast, wireTextLeast, lowerRead, rangesOf, lowerText, readOn, skipsOn, lowerFigure, lowerFigures, lowerBlock, lowerContents, lowerSet, lowerSoFar, lowerOwned, lowerWire, lower}
 
 abbrev Fewer : List Place → List Place → Type 0
 Fewer a b = length a ≤ length b
@@ -29,7 +28,7 @@ fewer-flat f g h [] = le-refl 0
 fewer-flat f g h (a ∷ s) = fewer-append (f (g a)) (flat (map f (map g s))) (f a) (flat (map f s)) (h a) (fewer-flat f g h s)
 
 -- ── what is read of layers ──
-module _ (c : Class) (d : Digits) where
+module _ (c d : Class) where
   figure-fewer : (k : ℕ) (f : Figure) → Fewer (figurePlaces k (lowerFigure c d f)) (figurePlaces k f)
   figure-fewer k (plain n j v) = le-refl 1
   figure-fewer k (chain n ps) = le-refl (length (figurePlaces k (chain n ps)))
@@ -77,45 +76,53 @@ module _ (c : Class) (d : Digits) where
 -- ── a state ──
 module _ (took : ℕ) (c : Class) where
   number-same : (s : Set) → number (lowerSet took c s) ≡ number s
-  number-same s = rw (length-map (s .volumes) (lowerContents c (rangeOf s)))
+  number-same s = rw (length-map (s .volumes) (lowerContents c (rangesOf s)))
 
   closed-fewer : (s : Set) → Fewer (setPlaces (s .drawing) (s .symbols) (lowerSet took c s .volumes)) (setPlaces (s .drawing) (s .symbols) (s .volumes))
-  closed-fewer s = set-fewer c (rangeOf s) (s .drawing) (s .symbols) (s .volumes)
+  closed-fewer s = set-fewer c (rangesOf s) (s .drawing) (s .symbols) (s .volumes)
 
   within-fewer : (s : Set) → Fewer (within (lowerSet took c s)) (within s)
   within-fewer s =
       rw (number-same s)
       (fewer-append (openPlaces (s .drawing) (s .symbols) (lowerSet took c s .volumes) (lowerSet took c s .now)) (bodyPlaces (number s) (lowerSet took c s .now))
       (openPlaces (s .drawing) (s .symbols) (s .volumes) (s .now)) (bodyPlaces (number s) (s .now))
-      (open-fewer c (rangeOf s) (s .drawing) (s .symbols) (s .volumes) (s .now)) (body-fewer c (rangeOf s) (number s) (s .now)))
+      (open-fewer c (rangesOf s) (s .drawing) (s .symbols) (s .volumes) (s .now)) (body-fewer c (rangesOf s) (number s) (s .now)))
 
-  in-fewer : (s : Set) (h : Home) (fs : List Figure) → Fewer (inFigures (lowerSet took c s) h (lowerSoFar c (rangeOf s) h fs)) (inFigures s h fs)
+  in-fewer : (s : Set) (h : Home) (fs : List Figure) → Fewer (inFigures (lowerSet took c s) h (lowerSoFar c (rangesOf s) h fs)) (inFigures s h fs)
   in-fewer s (inElement y) fs = rw (number-same s) (le-refl (length (inFigures s (inElement y) fs)))
   in-fewer s (inLayer k) fs =
-      fewer-append (within (lowerSet took c s)) (figuresPlaces (number (lowerSet took c s)) (lowerFigures c (rangeOf s) fs)) (within s) (figuresPlaces (number s) fs)
-      (within-fewer s) (rw (number-same s) (figures-fewer c (rangeOf s) (number s) fs))
+      fewer-append (within (lowerSet took c s)) (figuresPlaces (number (lowerSet took c s)) (lowerFigures c (rangesOf s) fs)) (within s) (figuresPlaces (number s) fs)
+      (within-fewer s) (rw (number-same s) (figures-fewer c (rangesOf s) (number s) fs))
 
   -- with an open figure's own records behind
-  open-figure : (s : Set) (h : Home) (fs : List Figure) (a b : List Place) → Fewer a b → Fewer (inFigures (lowerSet took c s) h (lowerSoFar c (rangeOf s) h fs) ++ a) (inFigures s h fs ++ b)
-  open-figure s h fs a b e = fewer-append (inFigures (lowerSet took c s) h (lowerSoFar c (rangeOf s) h fs)) a (inFigures s h fs) b (in-fewer s h fs) e
+  open-figure : (s : Set) (h : Home) (fs : List Figure) (a b : List Place) → Fewer a b → Fewer (inFigures (lowerSet took c s) h (lowerSoFar c (rangesOf s) h fs) ++ a) (inFigures s h fs ++ b)
+  open-figure s h fs a b e = fewer-append (inFigures (lowerSet took c s) h (lowerSoFar c (rangesOf s) h fs)) a (inFigures s h fs) b (in-fewer s h fs) e
 
   open-owned : (s : Set) (k : ℕ) (fs : List Figure) (n : ℕ) (b : Owned)
-      → Fewer (inFigures (lowerSet took c s) (inLayer k) (lowerFigures c (rangeOf s) fs) ++ ownedPlaces (number (lowerSet took c s)) n (lowerOwned c (rangeOf s) b)) (inFigures s (inLayer k) fs ++ ownedPlaces (number s) n b)
+      → Fewer (inFigures (lowerSet took c s) (inLayer k) (lowerFigures c (rangesOf s) fs) ++ ownedPlaces (number (lowerSet took c s)) n (lowerOwned c (rangesOf s) b)) (inFigures s (inLayer k) fs ++ ownedPlaces (number s) n b)
   open-owned s k fs n b =
-      open-figure s (inLayer k) fs (ownedPlaces (number (lowerSet took c s)) n (lowerOwned c (rangeOf s) b)) (ownedPlaces (number s) n b)
-      (rw (number-same s) (owned-fewer c (rangeOf s) (number s) n b))
+      open-figure s (inLayer k) fs (ownedPlaces (number (lowerSet took c s)) n (lowerOwned c (rangesOf s) b)) (ownedPlaces (number s) n b)
+      (rw (number-same s) (owned-fewer c (rangesOf s) (number s) n b))
 
-  -- in a wire the lower class is in the wire too, or in one that it skips whole
+  -- in a wire the lower class is in the wire too, in a text of it that it skips, or in one that it skips whole
   open-wire : (s : Set) (k : ℕ) (fs : List Figure) (n : ℕ) (w : Wire) (p : ℕ) → Fewer (shown (lowerWire took c s k fs n w p)) (shown (placing s k fs n (wireBlock w) p))
-  open-wire s k fs n w p = go (knowsWires c) (open-owned s k fs n (wireBlock w))
+  open-wire s k fs n w p = go (knowsWires c) p (open-owned s k fs n (wireBlock w))
     where
       behind : Owned → List Place
-      behind b = inFigures (lowerSet took c s) (inLayer k) (lowerFigures c (rangeOf s) fs) ++ ownedPlaces (number (lowerSet took c s)) n b
+      behind b = inFigures (lowerSet took c s) (inLayer k) (lowerFigures c (rangesOf s) fs) ++ ownedPlaces (number (lowerSet took c s)) n b
 
-      go : (t : Bool) → Fewer (behind (cond t (wireBlock w) wireUnread)) (shown (placing s k fs n (wireBlock w) p))
-          → Fewer (shown (cond t (placing (lowerSet took c s) k (lowerFigures c (rangeOf s) fs) n (wireBlock w) p) (skipping (lowerSet took c s) k (lowerFigures c (rangeOf s) fs) n wireUnread 0))) (shown (placing s k fs n (wireBlock w) p))
-      go true e = e
-      go false e = e
+      in-text : (t : Bool) (p : ℕ) → Fewer (behind (wireBlock (lowerRead (c .wires) (wiresOf s) w))) (shown (placing s k fs n (wireBlock w) p))
+          → Fewer (shown (lowerText t (lowerSet took c s) k (lowerFigures c (rangesOf s) fs) n (lowerRead (c .wires) (wiresOf s) w) p)) (shown (placing s k fs n (wireBlock w) p))
+      in-text true p e = e
+      in-text false p e = e
+
+      go : (t : Bool) (p : ℕ) → Fewer (behind (cond t (wireBlock (lowerRead (c .wires) (wiresOf s) w)) wireUnread)) (shown (placing s k fs n (wireBlock w) p))
+          → Fewer (shown (cond t (readOn (c .wires) (wiresOf s) (lowerSet took c s) k (lowerFigures c (rangesOf s) fs) n (lowerRead (c .wires) (wiresOf s) w) p) (skipsOn (lowerSet took c s) k (lowerFigures c (rangesOf s) fs) n p)))
+          (shown (placing s k fs n (wireBlock w) p))
+      go true zero e = e
+      go true (suc p) e = in-text (hides (c .wires) (wiresOf s) wireTextLeast) (suc p) e
+      go false zero e = e
+      go false (suc p) e = e
 
   pub fewer : (st : State) → Fewer (shown (lower took c st)) (shown st)
   fewer (top s zero) = closed-fewer s
@@ -125,7 +132,7 @@ module _ (took : ℕ) (c : Class) where
   fewer (top s (suc (suc (suc (suc k))))) = closed-fewer s
   fewer (file s n h p) =
       fewer-append (setPlaces (s .drawing) (s .symbols) (lowerSet took c s .volumes)) (filePlaces (lowerSet took c s .volumes) n) (setPlaces (s .drawing) (s .symbols) (s .volumes)) (filePlaces (s .volumes) n)
-      (closed-fewer s) (rw (number-same s, nil-map (lowerContents c (rangeOf s)) (s .volumes)) (le-refl (length (filePlaces (s .volumes) n))))
+      (closed-fewer s) (rw (number-same s, nil-map (lowerContents c (rangesOf s)) (s .volumes)) (le-refl (length (filePlaces (s .volumes) n))))
   fewer (drawing s d) = rw (number-same s) (le-refl (length (shown (drawing s d))))
   fewer (layerNames s d) = rw (number-same s) (le-refl (length (shown (layerNames s d))))
   fewer (defines s b) = rw (number-same s) (le-refl (length (shown (defines s b))))

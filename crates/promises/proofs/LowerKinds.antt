@@ -1,36 +1,36 @@
 -- Of which rows the figures of a set are: in a layer rows of its table, in a wire rows of the wire's, and no wire stands in a symbol. So the
 -- kinds of a wire's records are of nothing else.
-use Prim.Native.Nat.{ℕ, zero, suc, _≤_, _<_}
+use Prim.Native.Nat.{ℕ, zero, suc, _-_, _≤_, _<_}
 use mathlib.Core.Bool.{Bool, true, false, _&&_, _||_, not}
 use mathlib.Core.List.{List, [], _∷_, _++_, map}
 use mathlib.Core.Option.{some}
 use mathlib.Core.Path.{_≡_, refl}
 use native.Mathlib.Omega.{arith}
 use lib.Dec.{eqb, leb, ltb}
-use lib.ListN.{length, getD, set}
+use lib.ListN.{length, getD, set, length-set}
 use borrow.Author.Tests.{lt-ltb}
 use Rattle.rules.specs.declared.Digits.{Digits}
 use Rattle.rules.specs.Base.{isNil, all, among, hasNumber}
 use Rattle.rules.specs.RefusalNumbers.{Got, bad, unless, also}
 use Rattle.rules.specs.Lines.{Rest, Form, ignored, wrong, close, eof, keyed, freeShapeOf, shapeOf, hasForm}
 use Rattle.rules.specs.RangeClass.{digits, digitsOf, reaches, exceeds, both, knowsWires, skipOf, mostDepth}
-use Rattle.rules.specs.Values.{Value, Known, amountAt, numsOf, isLayerId}
+use Rattle.rules.specs.Values.{Num, Value, Known, amountAt, numsOf, isLayerId}
 use Rattle.rules.specs.Rows.{Rule, Found, absent, found, find, Slots, Held, partOf, rowsThere, rowsAtLimit, Act, stay, entry, begin, shut, refuse, orRefuse, actRow, actUnknown, actFound, act, complete}
 use Rattle.rules.specs.Blocks.{topTable, fileTables, drawingTable, mostLayers, definesTable, symbolTable, elementTable}
-use Rattle.rules.specs.Figures.{layerTable, pointTable, textTable, placedTable, placedTables, wireTable, leastPoints}
+use Rattle.rules.specs.Figures.{layerTable, pointTable, textTable, placedTable, placedTables, wireTable, wireTextTable, firstGroupRow, leastPoints}
 use Rattle.rules.specs.Sets.{Point, Edge, Wire, Figure, plain, chain, lettering, placed, wired, passed, Drawing, Symbol, Contents, Set, symbolOwn, isFirst, isSingle, isWired, arcOf, rangeOf, defineRange, joinDigit, wiresOf, knownOf, usedIn}
-use Rattle.rules.specs.VolumesAndTotals.{chained, dated, countedHere, countedAll, layersUsed}
-use Rattle.rules.specs.Machine.{Line, Env, Home, inElement, inLayer, State, top, file, drawing, layerNames, defines, symbol, hide, elements, figures, successive, texts, placing, skipping, ended, symbolBlock, wireBlock, wireUnread, Owned, byAct, beginWire, openTop, onTop, onFile, onDrawing, layerValue, onLayerNames, newName, openSymbol, onSymbol, onDefines, onHide, onElements, isLayer, homeTable, closeFigures, openFigure, onFigures, onSuccessive, onTexts, fileKinds}
+use Rattle.rules.specs.VolumesAndTotals.{chained, dated, countedHere, countedAll, layersUsed, partnersExist}
+use Rattle.rules.specs.Machine.{Line, Env, Home, inElement, inLayer, State, top, file, drawing, layerNames, defines, symbol, hide, elements, figures, successive, texts, placing, skipping, ended, symbolBlock, wireBlock, wireUnread, Owned, byAct, beginWire, testsPartners, openTop, onTop, onFile, onDrawing, layerValue, onLayerNames, newName, openSymbol, onSymbol, onDefines, onHide, onElements, isLayer, homeTable, closeFigures, openFigure, onFigures, onSuccessive, onTexts, fileKinds}
 use Rattle.rules.specs.PlacedSymbol.{onUnknown, newSerial, onPlaced, onPlacedKey, onPlacedOwn, onPlacing, skipShut, onSkipping}
-use Rattle.rules.specs.Wires.{joined, joinsEnds, lastEdge, onWire}
+use Rattle.rules.specs.Wires.{joined, joinsEnds, lastEdge, groupAt, isGroupRow, wireFull, isElementRow, onElement, numsAlike, newNumber, onAttribute, onWireAct, onWireUnknown, onWireKey, onWire}
 use Rattle.rules.specs.LineByLine.{stepIn, completes, nextVolume, step}
-use Rattle.rules.proofs.Chains.{by-cond, On, on-unless, on-cond, on-map, on-then, on-also, on-weaken, all-append}
+use Rattle.rules.proofs.Chains.{and-left, and-right, and-true, by-cond, On, on-unless, on-cond, on-map, on-then, on-also, on-weaken, all-append}
 use Rattle.rules.proofs.Rows.{found-row, row-below}
 use Rattle.rules.proofs.OnActs.{on-byAct, on-taking, on-shut, on-skip}
 use Rattle.promises.proofs.LowerRows.{RowAct, row-act, entered, opened, refused}
 
 -- ── what stands where ──
--- a layer's table has eight rows at most, a wire's two
+-- a layer's table has eight rows at most, the first two of a wire's are elements
 abbrev pub layerRows : ℕ
 layerRows = 8
 
@@ -40,12 +40,19 @@ edgeRows = 2
 abbrev pub edgeRow : Edge → Bool
 edgeRow e = ltb (e .row) edgeRows
 
+-- a wire's elements are of these rows, and it has a list of lines for each of the three keys that repeat
+abbrev pub groupRows : ℕ
+groupRows = 3
+
+abbrev pub wireShape : Wire → Bool
+wireShape w = all edgeRow (w .elements) && eqb (length (w .groups)) groupRows
+
 abbrev pub layerFigure : Figure → Bool
 layerFigure (plain n j v) = ltb j layerRows
 layerFigure (chain n ps) = true
 layerFigure (lettering n s) = true
 layerFigure (placed n h) = true
-layerFigure (wired n w) = all edgeRow (w .elements)
+layerFigure (wired n w) = wireShape w
 layerFigure (passed n) = true
 
 abbrev pub symbolFigure : Figure → Bool
@@ -72,7 +79,7 @@ HomeRows (inLayer k) fs = all layerFigure fs ≡ true
 
 abbrev OwnedRows : Owned → Type 0
 OwnedRows (symbolBlock o) = Unit {0}
-OwnedRows (wireBlock w) = all edgeRow (w .elements) ≡ true
+OwnedRows (wireBlock w) = wireShape w ≡ true
 OwnedRows wireUnread = Unit {0}
 
 abbrev pub Kinds : State → Type 0
@@ -135,10 +142,6 @@ unfolding layerTable
 layer-size single true = omega arith
 layer-size single false = omega arith
 
-wire-size : length wireTable ≤ edgeRows
-unfolding wireTable
-wire-size = omega arith
-
 -- ── each line keeps it so ──
 module _ (e : Env) (l : Line) where
   rows-open : (s : Set) (k : ℕ) → Rows s → On Kinds (openTop e l s k)
@@ -154,7 +157,8 @@ module _ (e : Env) (l : Line) where
   rows-top s k eof i =
       on-unless Kinds (eqb k 4 && (isNil (l .next) && l .last)) 9 _ λ _.
       on-unless Kinds (layersUsed s) 14 _ λ _.
-      on-unless Kinds (countedAll s) 17 _ λ _. i
+      on-unless Kinds (countedAll s) 17 _ λ _.
+      on-unless Kinds (not (testsPartners (e .class) s) || partnersExist s) 21 _ λ _. i
   rows-top s k (keyed key c) i =
       on-byAct Kinds _ _ _ _ (act (knownOf s) topTable (digits 0 0) (rowsAtLimit 0 topTable) (keyed key c)) i (λ j v. tt)
       (λ m j v b. on-unless Kinds (eqb j k) 9 _ λ _. rows-open s j i) tt
@@ -289,13 +293,49 @@ module _ (e : Env) (l : Line) where
   rows-placing s k fs n o (suc p) f i = rows-placed s k fs n o (suc p) (act (knownOf s) (getD placedTables (suc p) []) (digits 0 0) (rowsThere (partOf o (suc p))) f) i
 
   -- ── in a wire ──
-  rows-wire : (s : Set) (k : ℕ) (fs : List Figure) (n : ℕ) (w : Wire) (f : Form) → InLayer s fs → all edgeRow (w .elements) ≡ true → On Kinds (onWire e l s k fs n w f)
-  rows-wire s k fs n w f i h =
-      on-entry Kinds _ _ _ _ (length wireTable) (act (knownOf s) wireTable (wiresOf s) (rowsAtLimit 0 wireTable) f) (act-below (knownOf s) wireTable (wiresOf s) (rowsAtLimit 0 wireTable) f) (i .0, i .1, h)
-      (λ j v b. on-unless Kinds (joined (joinsEnds (joinDigit s)) (lastEdge (w .elements)) j (numsOf v)) 11 _ λ _.
-      on-taking Kinds e 1 s _ λ _. (i .0, i .1, all-more edgeRow (w .elements) _ h (lt-ltb j edgeRows (omega (arith, b, wire-size)))))
-      (λ m j v. tt)
+  rows-element : (s : Set) (k : ℕ) (fs : List Figure) (n : ℕ) (w : Wire) (j : ℕ) (v : List Num) → InLayer s fs → wireShape w ≡ true → isElementRow j ≡ true
+      → On Kinds (onElement e l s k fs n w j v)
+  rows-element s k fs n w j v i h b =
+      on-unless Kinds (joined (joinsEnds (joinDigit s)) (lastEdge (w .elements)) j v) 11 _ λ _.
+      on-taking Kinds e 1 s _ λ _.
+      (i .0, i .1, and-true _ _ (all-more edgeRow (w .elements) _ (and-left (all edgeRow (w .elements)) _ h) b) (and-right (all edgeRow (w .elements)) _ h))
+
+  rows-attribute : (s : Set) (k : ℕ) (fs : List Figure) (n : ℕ) (w : Wire) (j : ℕ) (v : Value) → InLayer s fs → wireShape w ≡ true → On Kinds (onAttribute s k fs n w j v)
+  rows-attribute s k fs n w j v i h =
+      on-unless Kinds (numsAlike w j (numsOf v)) 11 _ λ _.
+      on-unless Kinds (newNumber s fs j v) 15 _ λ _.
+      (i .0, i .1, by-cond (λ x. wireShape x ≡ true) (isGroupRow j) (λ _. more) (λ _. h))
+    where
+      more : (all edgeRow (w .elements) && eqb (length (set (w .groups) (j - firstGroupRow) (groupAt w j ++ numsOf v ∷ []))) groupRows) ≡ true
+      more = rw (length-set (w .groups) (j - firstGroupRow) (groupAt w j ++ numsOf v ∷ [])) h
+
+  rows-wire-act : (s : Set) (k : ℕ) (fs : List Figure) (n : ℕ) (w : Wire) (a : Act) → InLayer s fs → wireShape w ≡ true → On Kinds (onWireAct e l s k fs n w a)
+  rows-wire-act s k fs n w a i h =
+      on-byAct Kinds _ _ _ _ a (i .0, i .1, h)
+      (λ j v. on-cond Kinds (isElementRow j) _ _ (λ b. rows-element s k fs n w j (numsOf v) i h b) (λ _. rows-attribute s k fs n w j v i h))
+      (λ m j v b. (i .0, i .1, h))
       (i .0, all-more layerFigure fs (wired n w) (i .1) h)
+
+  rows-wire-unknown : (s : Set) (k : ℕ) (fs : List Figure) (n : ℕ) (w : Wire) (key : List ℕ) (c : Rest) → InLayer s fs → wireShape w ≡ true → On Kinds (onWireUnknown e l s k fs n w key c)
+  rows-wire-unknown s k fs n w key c i h =
+      on-cond Kinds (exceeds (wiresOf s) (e .class .wires)) _ _ (λ _. on-skip Kinds (skipOf key c) _ _ (i .0, i .1, h) (i .0, i .1, h)) (λ _. rows-wire-act s k fs n w (actUnknown c) i h)
+
+  rows-wire-key : (s : Set) (k : ℕ) (fs : List Figure) (n : ℕ) (w : Wire) (key : List ℕ) (c : Rest) (f : Found) → InLayer s fs → wireShape w ≡ true → On Kinds (onWireKey e l s k fs n w key c f)
+  rows-wire-key s k fs n w key c absent i h = rows-wire-unknown s k fs n w key c i h
+  rows-wire-key s k fs n w key c (found j r) i h =
+      on-cond Kinds (isElementRow j && w .past) _ _ (λ _. rows-wire-act s k fs n w (actUnknown c) i h) λ _.
+      on-cond Kinds (reaches (e .class .wires) (r .least)) _ _
+      (λ _. rows-wire-act s k fs n w (actRow (knownOf s) (wiresOf s) (getD (wireFull w) j false) j r c) i h)
+      (λ _. rows-wire-unknown s k fs n w key c i h)
+
+  rows-wire : (s : Set) (k : ℕ) (fs : List Figure) (n : ℕ) (w : Wire) (p : ℕ) (f : Form) → InLayer s fs → wireShape w ≡ true → On Kinds (onWire e l s k fs n w p f)
+  rows-wire s k fs n w zero ignored i h = (i .0, i .1, h)
+  rows-wire s k fs n w zero (wrong m) i h = tt
+  rows-wire s k fs n w zero close i h = rows-wire-act s k fs n w (act (knownOf s) wireTable (both (e .class .wires) (wiresOf s)) (rowsThere (w .own)) close) i h
+  rows-wire s k fs n w zero eof i h = tt
+  rows-wire s k fs n w zero (keyed key c) i h = rows-wire-key s k fs n w key c (find key wireTable) i h
+  rows-wire s k fs n w (suc p) f i h =
+      on-byAct Kinds _ _ _ _ (act (knownOf s) wireTextTable (digits 0 0) (rowsThere (w .writing)) f) (i .0, i .1, h) (λ j v. (i .0, i .1, h)) (λ m j v b. tt) (i .0, i .1, h)
 
   -- ── in a block that is skipped ──
   rows-shut : (s : Set) (k : ℕ) (fs : List Figure) (n : ℕ) (b : Owned) (d : ℕ) → Kinds (skipping s k fs n b d) → On Kinds (skipShut s k fs n b d)
@@ -327,7 +367,7 @@ module _ (e : Env) (l : Line) where
   rows-in (successive s h fs n ps) i = rows-successive s h fs n ps (l .form) i
   rows-in (texts s h fs n o) i = rows-texts s h fs n o (l .form) i
   rows-in (placing s k fs n (symbolBlock o) p) i = rows-placing s k fs n o p (l .form) (i .0, i .1)
-  rows-in (placing s k fs n (wireBlock w) p) i = rows-wire s k fs n w (l .form) (i .0, i .1) (i .2)
+  rows-in (placing s k fs n (wireBlock w) p) i = rows-wire s k fs n w p (l .form) (i .0, i .1) (i .2)
   rows-in (placing s k fs n wireUnread p) i = tt
   rows-in (skipping s k fs n b d) i = rows-skipping s k fs n b d (l .form) i
   rows-in (ended s) i = tt

@@ -23,7 +23,7 @@ use Rattle.rules.specs.PlacedSymbol.{bySkip, skipDeeper, onUnknown, newSerial, 
 use Rattle.rules.proofs.Chains.{and-left, and-right, and-true, clash, never, unless-got, map-append}
 use Rattle.rules.proofs.Rows.{Row, found-row, row-all}
 use Rattle.promises.specs.DemandThree.{NotAbove}
-use Rattle.promises.proofs.Lower.{reaches-up, exceeds-down, known-shows, unknown-hides, unknown-exceeds, maskSlots, textLeast, innerPart, lowerHeld, lowerFigure, lowerFigures, lowerSet, depthIn, lowerPlacing, lower, mask-slot, part-own, part-inner, enter-own, enter-hidden, enter-inner, enter-wiped, file-same}
+use Rattle.promises.proofs.Lower.{reaches-up, exceeds-down, known-shows, unknown-hides, unknown-exceeds, maskSlots, textLeast, innerPart, lowerHeld, rangesOf, lowerFigure, lowerFigures, lowerSet, depthIn, lowerPlacing, lower, mask-slot, part-own, part-inner, enter-own, enter-hidden, enter-inner, enter-wiped, file-same}
 use Rattle.promises.proofs.LowerSerials.{serial-new}
 use Rattle.promises.proofs.LowerRows.{RowAct, row-act, quiet, opensText, flatKind, quiet-passes, opens-text, flat-opens, quiet-rows, text-rows, quiet-texts, flat-texts, entered, opened, refused}
 
@@ -50,7 +50,7 @@ row-present false a b h o f g e = refl
 row-present true false b h o f g e = refl
 row-present true true b h o f g e = rw (g refl) (rw (f refl) at e)
 
-complete-mask : (low high d : Digits) → NotAbove low high → (t : List Rule) (s : Slots) → complete (both high d) t (rowsThere s) ≡ true
+pub complete-mask : (low high d : Digits) → NotAbove low high → (t : List Rule) (s : Slots) → complete (both high d) t (rowsThere s) ≡ true
     → complete (both low d) t (rowsThere (maskSlots low d t s)) ≡ true
 complete-mask low high d le [] [] e = refl
 complete-mask low high d le [] (o ∷ s) e = refl
@@ -83,13 +83,13 @@ module _ (low high : Class) (le : NotAbove (low .symbols) (high .symbols)) (took
   lo = unlimited low
 
   abbrev fs′ : List Figure
-  fs′ = lowerFigures low d fs
+  fs′ = lowerFigures low (rangesOf s) fs
 
   abbrev o′ : Held
   o′ = lowerHeld (low .symbols) d o
 
   same-file : firstContents (lowerSet took low s) .file ≡ firstContents s .file
-  same-file = file-same low d (s .now) (s .volumes)
+  same-file = file-same low (rangesOf s) (s .now) (s .volumes)
 
   -- where the two answers are the same but for what is left out
   via : {st st′ : State} → got st ≡ got st′ → got (lower took low st) ≡ got (lower took low st′)
@@ -111,13 +111,13 @@ module _ (low high : Class) (le : NotAbove (low .symbols) (high .symbols)) (took
       go false b e = unknown-never (placing s k fs n (symbolBlock o) 0) x s′ e
 
   -- a row that both know
-  sim-known : (key : List ℕ) (j : ℕ) (r : Rule) (x : Rest) → Row placedTable j r → hides (low .symbols) d (r .least) ≡ false → opensText (r .holds) (r .least) ≡ true
+  sim-known : (key : List ℕ) (j : ℕ) (r : Rule) (x : Rest) → Row placedTable j r → hides (low .symbols) d (r .least) ≡ false → opensText textLeast (r .holds) (r .least) ≡ true
       → (a : Act) → RowAct d j r x a → (s′ : State) → onPlaced s k fs n o 0 a ≡ got s′ → onPlaced (lowerSet took low s) k fs′ n o′ 0 a ≡ got (lower took low s′)
   sim-known key j r x w h t _ (entered v l q) s′ e =
       let u = unless-got (newSerial s fs v) 15 _ s′ e in
-      rw (serial-new low d took s fs v (u .0), enter-own (low .symbols) d w h o v) (via (u .1))
+      rw (serial-new low (rangesOf s) took s fs v (u .0), enter-own (low .symbols) d w h o v) (via (u .1))
   sim-known key j r x w h t _ (opened v l q f) s′ e =
-      let z = opens-text key r x t q f in
+      let z = opens-text textLeast key r x t q f in
       rw (enter-own (low .symbols) d w h o v, z .inner) (shown (rw (z .least) at h) (via (rw (z .inner) at e)))
     where
       shown : hides (low .symbols) d textLeast ≡ false → got (lowerPlacing took low s k fs n (enter o 0 j v) 1) ≡ got (lower took low s′)
@@ -126,14 +126,14 @@ module _ (low high : Class) (le : NotAbove (low .symbols) (high .symbols)) (took
   sim-known key j r x w h t _ (refused i) s′ e = never e
 
   -- a row that the lower doesn't know, and the file has
-  sim-hidden : (key : List ℕ) (j : ℕ) (r : Rule) (x : Rest) → Row placedTable j r → same key (r .key) ≡ true → quiet r ≡ true → opensText (r .holds) (r .least) ≡ true → reaches (low .symbols) (r .least) ≡ false
+  sim-hidden : (key : List ℕ) (j : ℕ) (r : Rule) (x : Rest) → Row placedTable j r → same key (r .key) ≡ true → quiet r ≡ true → opensText textLeast (r .holds) (r .least) ≡ true → reaches (low .symbols) (r .least) ≡ false
       → (a : Act) → RowAct d j r x a → (s′ : State) → onPlaced s k fs n o 0 a ≡ got s′ → onUnknown lo (lowerSet took low s) k fs′ n o′ key x ≡ got (lower took low s′)
   sim-hidden key j r x w sk c t u _ (entered v l q) s′ e =
       let p = unless-got (newSerial s fs v) 15 _ s′ e in
       rw (same-file, unknown-exceeds (low .symbols) d (r .least) l u, quiet-passes key r x sk c q)
       (ap (λ h. got (placing (lowerSet took low s) k fs′ n (symbolBlock h) 0)) (sym (enter-hidden (low .symbols) d w (unknown-hides (low .symbols) d (r .least) l u) o v)) ∙ via (p .1))
   sim-hidden key j r x w sk c t u _ (opened v l q f) s′ e =
-      let z = opens-text key r x t q f in
+      let z = opens-text textLeast key r x t q f in
       rw (same-file, unknown-exceeds (low .symbols) d (r .least) l u, z .skips)
       (ap (λ h. got (skipping (lowerSet took low s) k fs′ n (symbolBlock h) 1)) (sym (enter-hidden (low .symbols) d w (unknown-hides (low .symbols) d (r .least) l u) o v))
       ∙ left-out (rw (z .least) at (unknown-hides (low .symbols) d (r .least) l u)) (via (rw (z .inner) at e)))
@@ -155,15 +155,15 @@ module _ (low high : Class) (le : NotAbove (low .symbols) (high .symbols)) (took
       calm : quiet r ≡ true
       calm = row-all quiet (w .0) quiet-rows
 
-      text : opensText (r .holds) (r .least) ≡ true
-      text = row-all (λ r. opensText (r .holds) (r .least)) (w .0) text-rows
+      text : opensText textLeast (r .holds) (r .least) ≡ true
+      text = row-all (λ r. opensText textLeast (r .holds) (r .least)) (w .0) text-rows
 
       full : Slots → Bool
       full t = getD (rowsThere t) j false
 
       same-marks : hides (low .symbols) d (r .least) ≡ false → full (partOf o′ 0) ≡ full (partOf o 0)
       same-marks h =
-          List·getD-map isSome (partOf o′ 0) j none ∙ ap isSome (ap (λ t. getD t j none) (part-own (low .symbols) d o) ∙ mask-slot (low .symbols) d (w .0) h (partOf o 0)) ∙ sym (List·getD-map isSome (partOf o 0) j none)
+          List·getD-map isSome (partOf o′ 0) j none ∙ ap isSome (ap (λ t. getD t j none) (part-own (low .symbols) d o) ∙ mask-slot none (low .symbols) d (w .0) h (partOf o 0)) ∙ sym (List·getD-map isSome (partOf o 0) j none)
 
       go : (b : Bool) → reaches (high .symbols) (r .least) ≡ b → (a : Bool) → reaches (low .symbols) (r .least) ≡ a
           → cond b (onPlaced s k fs n o 0 (actRow (knownOf s) d (full (partOf o 0)) j r x)) (onUnknown hi s k fs n o key x) ≡ got s′
@@ -184,7 +184,7 @@ module _ (low high : Class) (le : NotAbove (low .symbols) (high .symbols)) (took
           → onPlacedOwn lo (lowerSet took low s) k fs′ n o′ close ≡ got (lower took low s′)
       go true b e =
           rw (same-file, part-own (low .symbols) d o, complete-mask (low .symbols) (high .symbols) d le placedTable (partOf o 0) b)
-          (ap (λ gs. got (figures (lowerSet took low s) (inLayer k) gs)) (sym (map-append (lowerFigure low d) fs (placed n o ∷ []))) ∙ via e)
+          (ap (λ gs. got (figures (lowerSet took low s) (inLayer k) gs)) (sym (map-append (lowerFigure low (rangesOf s)) fs (placed n o ∷ []))) ∙ via e)
       go false b e = never e
 
   sim-own : (f : Form) (s′ : State) → onPlacedOwn hi s k fs n o f ≡ got s′ → onPlacedOwn lo (lowerSet took low s) k fs′ n o′ f ≡ got (lower took low s′)
@@ -202,7 +202,7 @@ module _ (low high : Class) (le : NotAbove (low .symbols) (high .symbols)) (took
       shown q = rw h at q
   sim-shown p h (entry j v) s′ e =
       let u = unless-got (newSerial s fs v) 15 _ s′ e in
-      rw (serial-new low d took s fs v (u .0), enter-inner (low .symbols) d h o p j v) (shown (via (u .1)))
+      rw (serial-new low (rangesOf s) took s fs v (u .0), enter-inner (low .symbols) d h o p j v) (shown (via (u .1)))
     where
       shown : got (lowerPlacing took low s k fs n (enter o (suc p) j v) (suc p)) ≡ got (lower took low s′) → got (placing (lowerSet took low s) k fs′ n (symbolBlock (lowerHeld (low .symbols) d (enter o (suc p) j v))) (suc p)) ≡ got (lower took low s′)
       shown q = rw h at q
@@ -237,12 +237,12 @@ module _ (low high : Class) (le : NotAbove (low .symbols) (high .symbols)) (took
       by : (a : Act) → RowAct (digits 0 0) j r x a → onPlaced s k fs n o 1 a ≡ got s′ → onSkipping (lowerSet took low s) k fs′ n (symbolBlock o′) 1 (keyed key x) ≡ got (lower took low s′)
       by _ (entered v l c) e =
           let u = unless-got (newSerial s fs v) 15 _ s′ e in
-          rw (quiet-passes key r x (w .1) (row-all quiet (w .0) quiet-texts) c)
+          rw (quiet-passes key r x (w .1) (row-all quiet (w .0) (quiet-texts 16 24)) c)
           (ap (λ b. got (skipping (lowerSet took low s) k fs′ n (symbolBlock b) 1)) (sym (enter-wiped (low .symbols) d h o 0 j v)) ∙ wiped-out (via (u .1)))
         where
           wiped-out : got (lowerPlacing took low s k fs n (enter o 1 j v) 1) ≡ got (lower took low s′) → got (skipping (lowerSet took low s) k fs′ n (symbolBlock (lowerHeld (low .symbols) d (enter o 1 j v))) 1) ≡ got (lower took low s′)
           wiped-out p = rw h at p
-      by _ (opened v l c f) e = absurd (flat-opens (r .holds) (r .may) (shapeFor r x) (row-all (λ r. flatKind (r .holds)) (w .0) flat-texts) c f)
+      by _ (opened v l c f) e = absurd (flat-opens (r .holds) (r .may) (shapeFor r x) (row-all (λ r. flatKind (r .holds)) (w .0) (flat-texts 16 24)) c f)
       by _ (refused i) e = never e
 
   sim-closed : (p : ℕ) → hides (low .symbols) d textLeast ≡ true → (b : Bool) (s′ : State) → onPlaced s k fs n o (suc p) (cond b shut (refuse 8)) ≡ got s′

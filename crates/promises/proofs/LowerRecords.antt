@@ -2,19 +2,19 @@
 -- wires that it skips.
 use Prim.Native.Nat.{ℕ, zero, suc, _+_, _<_}
 use mathlib.Core.Bool.{Bool, true, false, cond, _&&_, _||_, not}
-use mathlib.Core.List.{List, [], _∷_, _++_, map}
+use mathlib.Core.List.{List, [], _∷_, _++_, map, append-nil}
 use mathlib.Core.Option.{Option, none, some}
 use mathlib.Core.Path.{_≡_, refl, sym, _∙_, ap, ap₂}
 use native.Mathlib.Omega.{arith}
 use lib.Dec.{eqb, ltb}
 use lib.IntN.{ℤ, pos, negsuc}
-use lib.ListN.{length, set}
+use lib.ListN.{set}
 use lib.Seq.{sets}
 use borrow.Author.Tests.{eqb-false, ne-eqb, ltb-true}
 use Rattle.rules.specs.declared.Digits.{Digits}
 use Rattle.rules.specs.declared.Class.{Class}
 use Rattle.rules.specs.Base.{flat, hasNumber, all}
-use Rattle.rules.specs.RangeClass.{digits, hides, knowsWires}
+use Rattle.rules.specs.RangeClass.{digits, digitsOf, hides, knowsWires}
 use Rattle.rules.specs.Values.{Num, Value, nums}
 use Rattle.rules.specs.Rows.{Rule, Slots, Held, partOf}
 use Rattle.rules.specs.Blocks.{fileTable, rangeTable, baseTable, elecTable, symTable, laterTable, drawingTable, symbolTable}
@@ -22,23 +22,15 @@ use Rattle.rules.specs.Figures.{figureTable, pointTable, textTable, placedTable
 use Rattle.rules.specs.Sets.{Point, Edge, Wire, Figure, plain, chain, lettering, placed, wired, passed, Layer, Drawing, Symbol, LayerBlock, Contents, Set, headOr, rangeOf, wireRange}
 use Rattle.rules.specs.RecordTable.{numbersOf, stateOf, columns, firstOr0, others, padded, putNumbers, putState, putSlot, firstSlot, otherSlots, putSlots, start, fileRecords, drawingRecord, layerRecord, layerRecords, ruleAt, plainRecord, pointRecords, chainRecord, textRecord, placedRecord, lineRecord, figureRecords, innerRecords, symbolRecords, blockRecords, bodyRecords, laterRecords, recordsFrom, recordsOf}
 use Rattle.rules.specs.Sets.{layerTableOf}
-use Rattle.rules.specs.RecordTable.{View, plainView, twoOf, wireStart, wireNumbers, unreadNumbers, edgeRecord, edgeRecords}
-use Rattle.rules.proofs.Rows.{Row, here, there, reaches-none}
-use Rattle.rules.proofs.Chains.{and-left, and-right, by-cond, clash, cond-same, map-append}
-use Rattle.promises.specs.DemandThree.{NotAbove, withoutWires, attributes, instead, unreadEach, isOf, placedKinds, wireKinds, edgeKinds, passedOver, unreadIn, keeps, filter, lowered}
-use Rattle.promises.proofs.Lower.{hides-up, known-shows, maskSlots, wiped, textLeast, innerPart, lowerHeld, lowerFigure, lowerBlock, lowerContents, lowerSet, part-own, part-inner, file-same}
-use Rattle.promises.proofs.LowerKinds.{layerRows, edgeRows, edgeRow, layerFigure, symbolFigure, symbolShapes, layerFigures, Rows}
+use Rattle.rules.specs.RecordTable.{View, plainView, twoOf, wireStart, wireValues, edgeRecord, edgeRecords}
+use Rattle.rules.proofs.Rows.{here, there, reaches-none}
+use Rattle.rules.proofs.Chains.{and-left, and-right, by-cond, clash, map-append}
+use Rattle.promises.specs.DemandThree.{NotAbove, ClassNotAbove, withoutWires, attributes, instead, unreadEach, isOf, placedKinds, firstWireKinds, secondWireKinds, edgeKinds, unreadIn, keeps, filter, lowered}
+use Rattle.promises.proofs.Lower.{hides-up, known-shows, maskSlots, wiped, textLeast, innerPart, lowerHeld, lowerRead, rangesOf, lowerFigure, lowerBlock, lowerContents, lowerSet, part-own, part-inner, file-same}
+use Rattle.promises.proofs.LowerWireRecords.{nth, nth-mask, state-of, mask-three, wire-two, first-lower, second-lower, passedTwo, overFirst, overSecond, passed-two, first-again, second-again}
+use Rattle.promises.proofs.LowerKinds.{layerRows, edgeRows, edgeRow, wireShape, layerFigure, symbolFigure, symbolShapes, layerFigures, Rows}
 
 -- ── slots that are left out ──
-module _ (c d : Digits) where
-  first-mask : (r : Rule) (rs : List Rule) (s : Slots) → firstSlot (maskSlots c d (r ∷ rs) s) ≡ cond (hides c d (r .least)) none (firstSlot s)
-  first-mask r rs [] = sym (cond-same (hides c d (r .least)) none)
-  first-mask r rs (o ∷ s) = refl
-
-  other-mask : (r : Rule) (rs : List Rule) (s : Slots) → otherSlots (maskSlots c d (r ∷ rs) s) ≡ maskSlots c d rs (otherSlots s)
-  other-mask r rs [] = refl
-  other-mask r rs (o ∷ s) = refl
-
 first-wiped : (s : Slots) → firstSlot (wiped s) ≡ none
 first-wiped [] = refl
 first-wiped (o ∷ s) = refl
@@ -46,11 +38,6 @@ first-wiped (o ∷ s) = refl
 other-wiped : (s : Slots) → otherSlots (wiped s) ≡ wiped (otherSlots s)
 other-wiped [] = refl
 other-wiped (o ∷ s) = refl
-
--- the nth slot
-abbrev nth : ℕ → Slots → Option Value
-nth zero s = firstSlot s
-nth (suc n) s = nth n (otherSlots s)
 
 nth-wiped : (n : ℕ) (s : Slots) → nth n (wiped s) ≡ none
 nth-wiped zero s = first-wiped s
@@ -68,11 +55,6 @@ nth-inner c d n s = go (hides c d textLeast)
 number-of : (f : Option Value → ℤ) → f none ≡ pos 0 → (b : Bool) (o o′ : Option Value) → o′ ≡ cond b none o → f o′ ≡ instead b (pos 0) (f o)
 number-of f z true o o′ e = ap f e ∙ z
 number-of f z false o o′ e = ap f e
-
-state-of : (low high : Bool) → (low ≡ false → high ≡ false) → (o o′ : Option Value) → o′ ≡ cond low none o
-    → cond low (pos 3) (stateOf o′) ≡ instead low (pos 3) (cond high (pos 3) (stateOf o))
-state-of true high f o o′ e = refl
-state-of false high f o o′ e = rw (f refl) (ap stateOf e)
 
 -- ── a placed symbol's record ──
 -- the numbers of a placed symbol from its eight slots and the five tests `unread`
@@ -115,12 +97,13 @@ high-kind k h =
 
 pub record Plain (r : List ℤ) : Type 0 where
   pub noSymbol : isOf placedKinds r ≡ false
-  pub noWire : isOf wireKinds r ≡ false
+  pub noFirst : isOf firstWireKinds r ≡ false
+  pub noSecond : isOf secondWireKinds r ≡ false
   pub noEdge : isOf edgeKinds r ≡ false
 
 plain-record : (r : List ℤ) → special (firstOr0 r) ≡ false → Plain r
-plain-record [] e = record { noSymbol = refl; noWire = refl; noEdge = refl }
-plain-record (negsuc k ∷ r) e = record { noSymbol = refl; noWire = refl; noEdge = refl }
+plain-record [] e = record { noSymbol = refl; noFirst = refl; noSecond = refl; noEdge = refl }
+plain-record (negsuc k ∷ r) e = record { noSymbol = refl; noFirst = refl; noSecond = refl; noEdge = refl }
 plain-record (pos k ∷ r) e = go (eqb k 16) refl (eqb k 18) refl (eqb k 19) refl (eqb k 20) refl (eqb k 21) refl e
   where
     go : (a : Bool) → eqb k 16 ≡ a → (b : Bool) → eqb k 18 ≡ b → (c : Bool) → eqb k 19 ≡ c → (d : Bool) → eqb k 20 ≡ d → (f : Bool) → eqb k 21 ≡ f
@@ -130,7 +113,7 @@ plain-record (pos k ∷ r) e = go (eqb k 16) refl (eqb k 18) refl (eqb k 19) ref
     go false x false y true z d u f v e = clash refl e
     go false x false y false z true u f v e = clash refl e
     go false x false y false z false u true v e = clash refl e
-    go false x false y false z false u false v e = record { noSymbol = rw x; noWire = rw (y, z); noEdge = rw (u, v) }
+    go false x false y false z false u false v e = record { noSymbol = rw x; noFirst = rw y; noSecond = rw z; noEdge = rw (u, v) }
 
 first-set : (r : List ℤ) (i : ℕ) (z : ℤ) → firstOr0 (set r (suc i) z) ≡ firstOr0 r
 first-set [] i z = refl
@@ -187,30 +170,26 @@ module _ (low high : Digits) (le : NotAbove low high) (d : Digits) where
       ∷ as-lower (nth 0 t) (nth 0 t′) (hides low d (digits 0 2)) x (λ z. firstOr0 (others (others (others (others z))))) refl i ∷ as-lower (nth 0 t) (nth 0 t′) (hides low d (digits 0 2)) x (λ z. firstOr0 (others (others (others (others (others z)))))) refl i
       ∷ as-lower (nth 0 t) (nth 0 t′) (hides low d (digits 0 2)) x (λ z. firstOr0 (others (others (others (others (others (others z))))))) refl i ∷ as-lower (nth 0 t) (nth 0 t′) (hides low d (digits 0 2)) x (λ z. firstOr0 (others (others (others (others (others (others (others z)))))))) refl i
       ∷ as-lower (nth 1 t) (nth 1 t′) (hides low d (digits 0 2)) y firstOr0 refl i ∷ as-lower (nth 1 t) (nth 1 t′) (hides low d (digits 0 2)) y (λ z. firstOr0 (others z)) refl i
-      ∷ state-of (hides low d (digits 0 2)) (hides high d (digits 0 2)) (up (digits 0 2)) (nth 1 s) (nth 1 s′) b i ∷ state-of (hides low d (digits 0 3)) (hides high d (digits 0 3)) (up (digits 0 3)) (nth 2 s) (nth 2 s′) e i ∷ state-of (hides low d (digits 0 4)) (hides high d (digits 0 4)) (up (digits 0 4)) (nth 3 s) (nth 3 s′) f i ∷ state-of (hides low d (digits 0 5)) (hides high d (digits 0 5)) (up (digits 0 5)) (nth 4 s) (nth 4 s′) g i ∷ state-of (hides low d (digits 1 0)) (hides high d (digits 1 0)) (up (digits 1 0)) (nth 5 s) (nth 5 s′) h i ∷ pos 0 ∷ []
-
-  nth-mask : {t : List Rule} {i : ℕ} {r : Rule} → Row t i r → (s : Slots) → nth i (maskSlots low d t s) ≡ cond (hides low d (r .least)) none (nth i s)
-  nth-mask (here {r = r} {rs = rs}) s = first-mask low d r rs s
-  nth-mask (there {q = q} {rs = rs} {i = i} w) s = ap (nth i) (other-mask low d q rs s) ∙ nth-mask w (otherSlots s)
+      ∷ state-of stateOf none (hides low d (digits 0 2)) (hides high d (digits 0 2)) (up (digits 0 2)) (nth 1 s) (nth 1 s′) b i ∷ state-of stateOf none (hides low d (digits 0 3)) (hides high d (digits 0 3)) (up (digits 0 3)) (nth 2 s) (nth 2 s′) e i ∷ state-of stateOf none (hides low d (digits 0 4)) (hides high d (digits 0 4)) (up (digits 0 4)) (nth 3 s) (nth 3 s′) f i ∷ state-of stateOf none (hides low d (digits 0 5)) (hides high d (digits 0 5)) (up (digits 0 5)) (nth 4 s) (nth 4 s′) g i ∷ state-of stateOf none (hides low d (digits 1 0)) (hides high d (digits 1 0)) (up (digits 1 0)) (nth 5 s) (nth 5 s′) h i ∷ pos 0 ∷ []
 
   own-masked : (s : Slots) → (nth 0 (maskSlots low d placedTable s) ≡ nth 0 s) × (nth 1 (maskSlots low d placedTable s) ≡ cond (hides low d (digits 0 2)) none (nth 1 s))
       × (nth 2 (maskSlots low d placedTable s) ≡ cond (hides low d (digits 0 3)) none (nth 2 s)) × (nth 3 (maskSlots low d placedTable s) ≡ cond (hides low d (digits 0 4)) none (nth 3 s))
       × (nth 4 (maskSlots low d placedTable s) ≡ cond (hides low d (digits 0 5)) none (nth 4 s)) × (nth 5 (maskSlots low d placedTable s) ≡ cond (hides low d (digits 1 0)) none (nth 5 s))
   unfolding placedTable
   own-masked s = (
-    nth-mask {t = placedTable} here s ∙ rw (known-shows low d (digits 0 0) (reaches-none low)),
-    nth-mask {t = placedTable} (there here) s,
-    nth-mask {t = placedTable} (there (there here)) s,
-    nth-mask {t = placedTable} (there (there (there here))) s,
-    nth-mask {t = placedTable} (there (there (there (there here)))) s,
-    nth-mask {t = placedTable} (there (there (there (there (there here))))) s,
+    nth-mask low d {t = placedTable} here s ∙ rw (known-shows low d (digits 0 0) (reaches-none low)),
+    nth-mask low d {t = placedTable} (there here) s,
+    nth-mask low d {t = placedTable} (there (there here)) s,
+    nth-mask low d {t = placedTable} (there (there (there here))) s,
+    nth-mask low d {t = placedTable} (there (there (there (there here)))) s,
+    nth-mask low d {t = placedTable} (there (there (there (there (there here))))) s,
   )
 
 -- a class is without wires where it doesn't know them
 abbrev pub Agree : Class → Type 0
 Agree c = withoutWires c ≡ not (knowsWires c)
 
-module _ (low high : Class) (le : NotAbove (low .symbols) (high .symbols)) (agree : Agree low) (d : Digits) (range : ℕ) where
+module _ (low high : Class) (le : ClassNotAbove low high) (agree : Agree low) (d : Digits) (range : ℕ) where
   has-wires : knowsWires low ≡ true → withoutWires low ≡ false
   has-wires k = agree ∙ ap not k
 
@@ -220,15 +199,19 @@ module _ (low high : Class) (le : NotAbove (low .symbols) (high .symbols)) (agre
   abbrev view : Class → List Rule → View
   view c t = record { class = c; symbols = d; wires = range; table = t }
 
+  -- the file's ranges
+  abbrev ds : Class
+  ds = record { symbols = d; wires = digitsOf range }
+
   abbrev u : List ℤ → List ℤ
-  u = unreadIn low d
+  u = unreadIn low d (digitsOf range)
 
   placed-lower : (t : List Rule) (owner volume line : ℕ) (h : Held) → placedRecord (view low t) 0 owner volume line (lowerHeld (low .symbols) d h) ≡ u (placedRecord (view high t) 0 owner volume line h)
   placed-lower t owner volume line h =
-      let w = own-masked (low .symbols) (high .symbols) le d (partOf h 0) in
+      let w = own-masked (low .symbols) (high .symbols) (le .symbols) d (partOf h 0) in
       placed-as (view low t) 0 owner volume line (lowerHeld (low .symbols) d h)
       ∙ ap₂ (placedAs (low .symbols) d 16 owner volume line) (part-own (low .symbols) d h) (part-inner (low .symbols) d h 0)
-      ∙ sixteen-lower (low .symbols) (high .symbols) le d owner volume line (partOf h 0) (maskSlots (low .symbols) d placedTable (partOf h 0)) (partOf h 1) (innerPart (low .symbols) d (partOf h 1))
+      ∙ sixteen-lower (low .symbols) (high .symbols) (le .symbols) d owner volume line (partOf h 0) (maskSlots (low .symbols) d placedTable (partOf h 0)) (partOf h 1) (innerPart (low .symbols) d (partOf h 1))
       (w .0, w .1, w .2, w .3, w .4, w .5, nth-inner (low .symbols) d 0 (partOf h 1), nth-inner (low .symbols) d 1 (partOf h 1))
       ∙ ap u (sym (placed-as (view high t) 0 owner volume line h))
 
@@ -258,7 +241,7 @@ module _ (low high : Class) (le : NotAbove (low .symbols) (high .symbols)) (agre
   cons-same : (r : List ℤ) (rs : List (List ℤ)) → special (firstOr0 r) ≡ false → Same rs → Same (r ∷ rs)
   cons-same r rs e h =
       let w = plain-record r e in
-      stays r rs (rw (w .noEdge)) ∙ ap₂ (λ a b. a ∷ b) (rw (w .noSymbol, w .noWire)) h
+      stays r rs (rw (w .noEdge)) ∙ ap₂ (λ a b. a ∷ b) (rw (w .noSymbol, w .noFirst, w .noSecond)) h
 
   append-same : (a b : List (List ℤ)) → Same a → Same b → Same (a ++ b)
   append-same a b p q = down-append a b ∙ ap₂ (λ x y. x ++ y) p q
@@ -285,7 +268,7 @@ module _ (low high : Class) (le : NotAbove (low .symbols) (high .symbols)) (agre
       alone = (some (nums v) ∷ []) ∷ []
 
       kept : lowerHeld (low .symbols) d alone ≡ alone
-      kept = first-alone (low .symbols) (high .symbols) le d (nums v)
+      kept = first-alone (low .symbols) (high .symbols) (le .symbols) d (nums v)
 
       go : (b : Bool) → eqb j 6 ≡ b → cond b (placedRecord (view low t) 0 owner volume n alone) (plainRecord (view low t) 0 owner volume n j v) ∷ []
           ≡ down (cond b (placedRecord (view high t) 0 owner volume n alone) (plainRecord (view high t) 0 owner volume n j v) ∷ [])
@@ -296,12 +279,6 @@ module _ (low high : Class) (le : NotAbove (low .symbols) (high .symbols)) (agre
           (low-kind (10 + 0 + j) (let h = ltb-true j layerRows below in omega (arith, h)) (ne-eqb (10 + 0 + j) 16 (λ z. eqb-false j 6 e (omega arith))))) refl)
 
   -- ── wires ──
-  abbrev readTwo : ℕ → ℕ → ℕ → Wire → List (List ℤ)
-  readTwo owner volume n w = twoOf (wireNumbers range (length (w .elements)) (wireStart owner volume n))
-
-  abbrev overTwo : ℕ → ℕ → ℕ → List (List ℤ)
-  overTwo owner volume n = twoOf (unreadNumbers (wireStart owner volume n))
-
   edge-first : (owner volume : ℕ) (e : Edge) → firstOr0 (edgeRecord owner volume e) ≡ pos (20 + e .row)
   edge-first owner volume e =
       first-set (putSlot (ruleAt wireTable (e .row)) (some (nums (e .values))) (start (20 + e .row) owner volume (e .line))) 10 (pos (e .join))
@@ -312,23 +289,18 @@ module _ (low high : Class) (le : NotAbove (low .symbols) (high .symbols)) (agre
   edges-same k owner volume [] = refl
   edges-same k owner volume (e ∷ es) =
       stays (edgeRecord owner volume e) (edgeRecords owner volume es) (kept (isOf edgeKinds (edgeRecord owner volume e)))
-      ∙ ap₂ (λ a b. a ∷ b) (as-it-is (edgeRecord owner volume e) (no-symbol (edgeRecord owner volume e) (edge-first owner volume e))) (edges-same k owner volume es)
+      ∙ ap₂ (λ a b. a ∷ b) (as-it-is (edgeRecord owner volume e) (edge-first owner volume e)) (edges-same k owner volume es)
     where
       kept : (b : Bool) → not (b && withoutWires low) ≡ true
       kept true = ap not (has-wires k)
       kept false = refl
 
-      no-symbol : (r : List ℤ) → firstOr0 r ≡ pos (20 + e .row) → isOf placedKinds r ≡ false
-      no-symbol [] q = refl
-      no-symbol (negsuc m ∷ r) q = refl
-      no-symbol (pos m ∷ r) q = let h : m ≡ 20 + e .row = cc in rw (ne-eqb m 16 (λ z. omega (arith, h, z)))
-
-      as-it-is : (r : List ℤ) → isOf placedKinds r ≡ false → u r ≡ r
-      as-it-is r q = rw (q, has-wires k) (over (isOf wireKinds r))
-        where
-          over : (b : Bool) → cond (b && false) (passedOver r) r ≡ r
-          over true = refl
-          over false = refl
+      as-it-is : (r : List ℤ) → firstOr0 r ≡ pos (20 + e .row) → u r ≡ r
+      as-it-is [] q = refl
+      as-it-is (negsuc m ∷ r) q = refl
+      as-it-is (pos m ∷ r) q =
+          let h : m ≡ 20 + e .row = cc in
+          rw (ne-eqb m 16 (λ z. omega (arith, h, z)), ne-eqb m 18 (λ z. omega (arith, h, z)), ne-eqb m 19 (λ z. omega (arith, h, z)))
 
   -- another has none of their lines and arcs
   edges-gone : knowsWires low ≡ false → (owner volume : ℕ) (es : List Edge) → all edgeRow es ≡ true → down (edgeRecords owner volume es) ≡ []
@@ -355,35 +327,43 @@ module _ (low high : Class) (le : NotAbove (low .symbols) (high .symbols)) (agre
           go false x true y h z = rw (x, y)
           go false x false y h z = absurd (none-else m (e .row) h z (eqb-false m 20 x) (eqb-false m 21 y))
 
-  wire-lower : (owner volume n : ℕ) (w : Wire) (t : List Rule) → all edgeRow (w .elements) ≡ true
-      → figureRecords (view low t) 0 owner volume (lowerFigure low d (wired n w)) ≡ down (figureRecords (view high t) 0 owner volume (wired n w))
-  wire-lower owner volume n w t rows = go (knowsWires low) refl
+  -- its two records, read by both, or skipped by the lower
+  two-lower : knowsWires low ≡ true → (t : List Rule) (owner volume n : ℕ) (w : Wire) → wireShape w ≡ true
+      → twoOf (wireValues (view low t) (lowerRead (low .wires) (digitsOf range) w) (wireStart owner volume n)) ≡ down (twoOf (wireValues (view high t) w (wireStart owner volume n)))
+  two-lower k t owner volume n w shape =
+      wire-two (view low t) owner volume n (lowerRead (low .wires) (digitsOf range) w) (mask-three (low .wires) (digitsOf range) (w .groups) (and-right (all edgeRow (w .elements)) _ shape))
+      ∙ ap₂ (λ a b. a ∷ b ∷ []) (first-lower (low .wires) (high .wires) (le .wires) (digitsOf range) owner volume n range w) (second-lower (low .wires) (high .wires) (le .wires) (digitsOf range) owner volume n w)
+      ∙ sym (ap down (wire-two (view high t) owner volume n w (and-right (all edgeRow (w .elements)) _ shape)) ∙ rw (has-wires k))
+
+  two-over : knowsWires low ≡ false → (t : List Rule) (owner volume n : ℕ) (w : Wire) → wireShape w ≡ true
+      → passedTwo (digitsOf range) owner volume n ≡ down (twoOf (wireValues (view high t) w (wireStart owner volume n)))
+  two-over k t owner volume n w shape =
+      passed-two (digitsOf range) owner volume n
+      ∙ sym (ap down (wire-two (view high t) owner volume n w (and-right (all edgeRow (w .elements)) _ shape)) ∙ rw (no-wires k))
+
+  wire-lower : (owner volume n : ℕ) (w : Wire) (t : List Rule) → wireShape w ≡ true
+      → figureRecords (view low t) 0 owner volume (lowerFigure low ds (wired n w)) ≡ down (figureRecords (view high t) 0 owner volume (wired n w))
+  wire-lower owner volume n w t shape = go (knowsWires low) refl
     where
-      all-of-them : List (List ℤ)
-      all-of-them = readTwo owner volume n w ++ edgeRecords owner volume (w .elements)
+      above : List (List ℤ)
+      above = twoOf (wireValues (view high t) w (wireStart owner volume n))
 
-      known : knowsWires low ≡ true → down (readTwo owner volume n w) ≡ readTwo owner volume n w
-      known k = rw (has-wires k)
-
-      over : knowsWires low ≡ false → down (readTwo owner volume n w) ≡ overTwo owner volume n
-      over k = rw (no-wires k)
-
-      go : (b : Bool) → knowsWires low ≡ b → figureRecords (view low t) 0 owner volume (cond b (wired n w) (passed n)) ≡ down all-of-them
+      go : (b : Bool) → knowsWires low ≡ b → figureRecords (view low t) 0 owner volume (cond b (wired n (lowerRead (low .wires) (digitsOf range) w)) (passed n)) ≡ down (above ++ edgeRecords owner volume (w .elements))
       go true k =
-          sym (down-append (readTwo owner volume n w) (edgeRecords owner volume (w .elements))
-          ∙ ap₂ (λ x y. x ++ y) (known k) (edges-same k owner volume (w .elements)))
+          ap₂ (λ x y. x ++ y) (two-lower k t owner volume n w shape) (sym (edges-same k owner volume (w .elements)))
+          ∙ sym (down-append above (edgeRecords owner volume (w .elements)))
       go false k =
-          sym (down-append (readTwo owner volume n w) (edgeRecords owner volume (w .elements))
-          ∙ ap₂ (λ x y. x ++ y) (over k) (edges-gone k owner volume (w .elements) rows))
+          two-over k t owner volume n w shape ∙ sym (append-nil (down above)) ∙ ap (λ y. down above ++ y) (sym (edges-gone k owner volume (w .elements) (and-left (all edgeRow (w .elements)) _ shape)))
+          ∙ sym (down-append above (edgeRecords owner volume (w .elements)))
 
-  passed-lower : (owner volume n : ℕ) → Same (overTwo owner volume n)
-  passed-lower owner volume n = go (knowsWires low) refl
+  passed-lower : (owner volume n : ℕ) → Same (passedTwo (digitsOf range) owner volume n)
+  passed-lower owner volume n = ap down (passed-two (digitsOf range) owner volume n) ∙ go (knowsWires low) refl ∙ sym (passed-two (digitsOf range) owner volume n)
     where
-      go : (b : Bool) → knowsWires low ≡ b → Same (overTwo owner volume n)
-      go true k = rw (has-wires k)
+      go : (b : Bool) → knowsWires low ≡ b → Same (overFirst (digitsOf range) owner volume n ∷ overSecond (digitsOf range) owner volume n ∷ [])
+      go true k = rw (has-wires k) (ap₂ (λ a b. a ∷ b ∷ []) (first-again (digitsOf range) owner volume n (low .wires)) (second-again (digitsOf range) owner volume n (low .wires)))
       go false k = rw (no-wires k)
 
-  figure-lower : (t : List Rule) (owner volume : ℕ) (f : Figure) → layerFigure f ≡ true → figureRecords (view low t) 0 owner volume (lowerFigure low d f) ≡ down (figureRecords (view high t) 0 owner volume f)
+  figure-lower : (t : List Rule) (owner volume : ℕ) (f : Figure) → layerFigure f ≡ true → figureRecords (view low t) 0 owner volume (lowerFigure low ds f) ≡ down (figureRecords (view high t) 0 owner volume f)
   figure-lower t owner volume (plain n j v) w = line-lower t owner volume n j v w
   figure-lower t owner volume (chain n ps) w = sym (cons-same (chainRecord 0 owner volume n ps) (pointRecords 17 owner volume ps) refl (points-same 17 owner volume refl ps))
   figure-lower t owner volume (lettering n s) w = sym (cons-same (textRecord 0 owner volume n s) [] (slots-same (textTable true 4 12) s (start 15 owner volume n) refl) refl)
@@ -396,11 +376,11 @@ module _ (low high : Class) (le : NotAbove (low .symbols) (high .symbols)) (agre
   flat-lower f g low′ p h [] e = refl
   flat-lower f g low′ p h (a ∷ s) e = ap₂ (λ x y. x ++ y) (h a (and-left (p a) _ e)) (flat-lower f g low′ p h s (and-right (p a) _ e)) ∙ sym (down-append (g a) (flat (map g s)))
 
-  block-lower : (t : List Rule) (k : ℕ) (b : LayerBlock) → all layerFigure (b .figures) ≡ true → blockRecords (view low t) k (lowerBlock low d b) ≡ down (blockRecords (view high t) k b)
-  block-lower t k b w = flat-lower (figureRecords (view low t) 0 (b .layer) k) (figureRecords (view high t) 0 (b .layer) k) (lowerFigure low d) layerFigure (figure-lower t (b .layer) k) (b .figures) w
+  block-lower : (t : List Rule) (k : ℕ) (b : LayerBlock) → all layerFigure (b .figures) ≡ true → blockRecords (view low t) k (lowerBlock low ds b) ≡ down (blockRecords (view high t) k b)
+  block-lower t k b w = flat-lower (figureRecords (view low t) 0 (b .layer) k) (figureRecords (view high t) 0 (b .layer) k) (lowerFigure low ds) layerFigure (figure-lower t (b .layer) k) (b .figures) w
 
-  body-lower : (t : List Rule) (k : ℕ) (v : Contents) → layerFigures v ≡ true → bodyRecords (view low t) k (lowerContents low d v) ≡ down (bodyRecords (view high t) k v)
-  body-lower t k v w = flat-lower (blockRecords (view low t) k) (blockRecords (view high t) k) (lowerBlock low d) (λ b. all layerFigure (b .figures)) (block-lower t k) (v .blocks) w
+  body-lower : (t : List Rule) (k : ℕ) (v : Contents) → layerFigures v ≡ true → bodyRecords (view low t) k (lowerContents low ds v) ≡ down (bodyRecords (view high t) k v)
+  body-lower t k v w = flat-lower (blockRecords (view low t) k) (blockRecords (view high t) k) (lowerBlock low ds) (λ b. all layerFigure (b .figures)) (block-lower t k) (v .blocks) w
 
   -- ── the rest ──
   file-records : (b : Bool) (k : ℕ) (v : Contents) → Same (fileRecords b k v)
@@ -408,7 +388,7 @@ module _ (low high : Class) (le : NotAbove (low .symbols) (high .symbols)) (agre
   file-records true k v = refl
   file-records false k v = refl
 
-  later-lower : (t : List Rule) (k : ℕ) (vs : List Contents) → all layerFigures vs ≡ true → laterRecords (view low t) k (map (lowerContents low d) vs) ≡ down (laterRecords (view high t) k vs)
+  later-lower : (t : List Rule) (k : ℕ) (vs : List Contents) → all layerFigures vs ≡ true → laterRecords (view low t) k (map (lowerContents low ds) vs) ≡ down (laterRecords (view high t) k vs)
   later-lower t k [] w = refl
   later-lower t k (v ∷ vs) w =
       ap₂ (λ x y. x ++ y) (ap₂ (λ x y. x ++ y) (sym (file-records false k v)) (body-lower t k v (and-left (layerFigures v) _ w))) (later-lower t (suc k) vs (and-right (layerFigures v) _ w))
@@ -471,10 +451,10 @@ module _ (low high : Class) (le : NotAbove (low .symbols) (high .symbols)) (agre
     pub tables : layerTableOf s′ ≡ layerTableOf s
 
   from-lower : (s s′ : Set) → Beneath s s′ → all symbolShapes (s .symbols) ≡ true → (vs : List Contents) → all layerFigures vs ≡ true
-      → recordsFrom low s′ (map (lowerContents low d) vs) ≡ down (recordsFrom high s vs)
+      → recordsFrom low s′ (map (lowerContents low ds) vs) ≡ down (recordsFrom high s vs)
   from-lower s s′ b shapes [] w = refl
   from-lower s s′ b shapes (v ∷ vs) w =
-      (λ i. from (b .drawings i) (b .defined i) (record { class = low; symbols = b .symbolsBelow i; wires = b .wiresBelow i; table = b .tables i }) (lowerContents low d v) (map (lowerContents low d) vs))
+      (λ i. from (b .drawings i) (b .defined i) (record { class = low; symbols = b .symbolsBelow i; wires = b .wiresBelow i; table = b .tables i }) (lowerContents low ds v) (map (lowerContents low ds) vs))
       ∙ apart (layerTableOf s)
       ∙ (λ i. down (from (s .drawing) (s .symbols) (record { class = high; symbols = sym (b .symbolsAbove) i; wires = sym (b .wiresAbove) i; table = layerTableOf s }) v vs))
     where
@@ -489,7 +469,7 @@ module _ (low high : Class) (le : NotAbove (low .symbols) (high .symbols)) (agre
           append-same (fileRecords true 1 v ++ (drawingRecord (s .drawing) ∷ layerRecords 0 (s .drawing .layers))) (symbolRecords 0 (s .symbols))
           (append-same (fileRecords true 1 v) (drawingRecord (s .drawing) ∷ layerRecords 0 (s .drawing .layers)) (file-records true 1 v) (head-same (s .drawing))) (symbols-same 0 (s .symbols) shapes)
 
-      apart : (t : List Rule) → head ++ bodyRecords (view low t) 1 (lowerContents low d v) ++ laterRecords (view low t) 2 (map (lowerContents low d) vs)
+      apart : (t : List Rule) → head ++ bodyRecords (view low t) 1 (lowerContents low ds v) ++ laterRecords (view low t) 2 (map (lowerContents low ds) vs)
           ≡ down (head ++ bodyRecords (view high t) 1 v ++ laterRecords (view high t) 2 vs)
       apart t =
           ap₂ (λ x y. x ++ y) (ap₂ (λ x y. x ++ y) (sym head-kept) (body-lower t 1 v (and-left (layerFigures v) _ w))) (later-lower t 2 vs (and-right (layerFigures v) _ w))
@@ -497,13 +477,13 @@ module _ (low high : Class) (le : NotAbove (low .symbols) (high .symbols)) (agre
           ∙ sym (down-append (head ++ bodyRecords (view high t) 1 v) (laterRecords (view high t) 2 vs))
 
 -- the records of a set, at the two classes
-pub records-lower : (low high : Class) → NotAbove (low .symbols) (high .symbols) → Agree low → (took : ℕ) (s : Set) → Rows s → recordsOf low (lowerSet took low s) ≡ lowered low s (recordsOf high s)
+pub records-lower : (low high : Class) → ClassNotAbove low high → Agree low → (took : ℕ) (s : Set) → Rows s → recordsOf low (lowerSet took low s) ≡ lowered low s (recordsOf high s)
 unfolding recordsOf
 records-lower low high le agree took s rows =
     from-lower low high le agree (rangeOf s) (wireRange s) s (lowerSet took low s) beneath (rows .0) (s .volumes) (rows .1)
   where
     first : headOr (lowerSet took low s .now) (lowerSet took low s .volumes) .file ≡ headOr (s .now) (s .volumes) .file
-    first = file-same low (rangeOf s) (s .now) (s .volumes)
+    first = file-same low (rangesOf s) (s .now) (s .volumes)
 
     beneath : Beneath low high le agree (rangeOf s) (wireRange s) s (lowerSet took low s)
     beneath = record { drawings = refl; defined = refl; symbolsBelow = simp first; symbolsAbove = refl; wiresBelow = simp first; wiresAbove = refl; tables = simp first }

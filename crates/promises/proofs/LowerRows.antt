@@ -11,12 +11,12 @@ use Rattle.rules.specs.Base.{bytes, same, all}
 use Rattle.rules.specs.RefusalNumbers.{got}
 use Rattle.rules.specs.Lines.{Rest, brace, equals, Shape, opener, noContent, content, opening, formless, stem, byStem, shapeOf, freeShapeOf}
 use Rattle.rules.specs.RangeClass.{digits, reaches, passes, deeper, skipShape, skipOf}
-use Rattle.rules.specs.Values.{Value, empty, nums, Known, Kind, values, text, word, volumeName, sheet, ratio, serials, nothing, opens, headed, either, isFree, readKind}
+use Rattle.rules.specs.Values.{Value, empty, nums, Known, Kind, values, text, word, volumeName, sheet, ratio, serials, wireSerial, nothing, opens, headed, either, isFree, readKind}
 use Rattle.rules.specs.Rows.{Rule, isContent, isEmpty, isOpener, fits, shapeFor, Act, stay, entry, begin, shut, refuse, innerOf, readShape, actRow}
 use Rattle.rules.specs.Figures.{placedTable, textTable, wireTable}
 use Rattle.rules.proofs.Chains.{and-left, and-right, and-false, clash, cond-same, same-eq, never, map-got}
 use Rattle.rules.proofs.Rows.{isRefusal, row-did}
-use Rattle.promises.proofs.Lower.{textLeast}
+use Rattle.promises.proofs.Lower.{textLeast, wireTextLeast}
 
 -- ── what a line of a row comes to ──
 abbrev entryShape : Shape → Bool
@@ -65,19 +65,20 @@ row-act k d full j r x = go (actRow k d full j r x) refl
 abbrev pub quiet : Rule → Bool
 quiet r = not (isFree (r .holds)) || same (r .key) (bytes "character")
 
--- an opener is `key:{`, for the text
-abbrev pub opensText : Kind → Digits → Bool
-opensText (values p ps a) l = true
-opensText (text n b) l = true
-opensText (word n b) l = true
-opensText volumeName l = true
-opensText sheet l = true
-opensText ratio l = true
-opensText serials l = true
-opensText nothing l = true
-opensText (opens i) l = eqb i 1 && (eqb (l .middle) 0 && eqb (l .last) 2)
-opensText (headed i p) l = false
-opensText (either i) l = false
+-- an opener is `key:{`, for a text that is known from the digits t on
+abbrev pub opensText : Digits → Kind → Digits → Bool
+opensText t (values p ps a) l = true
+opensText t (text n b) l = true
+opensText t (word n b) l = true
+opensText t volumeName l = true
+opensText t sheet l = true
+opensText t ratio l = true
+opensText t serials l = true
+opensText t wireSerial l = true
+opensText t nothing l = true
+opensText t (opens i) l = eqb i 1 && (eqb (l .middle) (t .middle) && eqb (l .last) (t .last))
+opensText t (headed i p) l = false
+opensText t (either i) l = false
 
 abbrev pub flatKind : Kind → Bool
 flatKind (values p ps a) = true
@@ -87,6 +88,7 @@ flatKind volumeName = true
 flatKind sheet = true
 flatKind ratio = true
 flatKind serials = true
+flatKind wireSerial = true
 flatKind nothing = true
 flatKind (opens i) = false
 flatKind (headed i p) = false
@@ -122,14 +124,14 @@ no-empty (content at c) e = refl
 no-empty (opening at c) e = refl
 no-empty formless e = refl
 
--- an opened row of the placed symbol is its text, and where it is skipped it opens
-pub record Opens (r : Rule) (key : List ℕ) (x : Rest) : Type 0 where
+-- an opened row of a placed symbol or of a wire is its text, and where it is skipped it opens
+pub record Opens (t : Digits) (r : Rule) (key : List ℕ) (x : Rest) : Type 0 where
   pub inner : innerOf (r .holds) ≡ 1
-  pub least : r .least ≡ textLeast
+  pub least : r .least ≡ t
   pub skips : skipOf key x ≡ deeper
 
-pub opens-text : (key : List ℕ) (r : Rule) (x : Rest) → opensText (r .holds) (r .least) ≡ true → openShape (shapeFor r x) ≡ true → fits (r .holds) (r .may) (shapeFor r x) ≡ true → Opens r key x
-opens-text key r x t o f = go (r .holds) refl t f
+pub opens-text : (l : Digits) (key : List ℕ) (r : Rule) (x : Rest) → opensText l (r .holds) (r .least) ≡ true → openShape (shapeFor r x) ≡ true → fits (r .holds) (r .may) (shapeFor r x) ≡ true → Opens l r key x
+opens-text l key r x t o f = go (r .holds) refl t f
   where
     is-brace : (x : Rest) → isOpener (shapeFor r x) ≡ true → skipOf key x ≡ deeper
     is-brace brace e = refl
@@ -146,7 +148,7 @@ opens-text key r x t o f = go (r .holds) refl t f
         not-opener at (b ∷ c) true = refl
         not-opener at (b ∷ c) false = by-stem at (b ∷ c) (stem (b ∷ c))
 
-    go : (h : Kind) → r .holds ≡ h → opensText h (r .least) ≡ true → fits h (r .may) (shapeFor r x) ≡ true → Opens r key x
+    go : (h : Kind) → r .holds ≡ h → opensText l h (r .least) ≡ true → fits h (r .may) (shapeFor r x) ≡ true → Opens l r key x
     go (values p ps a) q t f = clash f (no-content (shapeFor r x) (r .may) o)
     go (text n b) q t f = clash f (no-content (shapeFor r x) (r .may) o)
     go (word n b) q t f = clash f (no-content (shapeFor r x) (r .may) o)
@@ -154,12 +156,13 @@ opens-text key r x t o f = go (r .holds) refl t f
     go sheet q t f = clash f (no-content (shapeFor r x) (r .may) o)
     go ratio q t f = clash f (no-content (shapeFor r x) (r .may) o)
     go serials q t f = clash f (no-content (shapeFor r x) (r .may) o)
+    go wireSerial q t f = clash f (no-content (shapeFor r x) (r .may) o)
     go nothing q t f = clash f (no-empty (shapeFor r x) o)
     go (opens i) q t f =
         let one = eqb-true i 1 (and-left (eqb i 1) _ t) in
-        let m = eqb-true (r .least .middle) 0 (and-left (eqb (r .least .middle) 0) _ (and-right (eqb i 1) _ t)) in
-        let l = eqb-true (r .least .last) 2 (and-right (eqb (r .least .middle) 0) _ (and-right (eqb i 1) _ t)) in
-        record { inner = rw q one; least = λ i. digits (m i) (l i); skips = is-brace x f }
+        let m = eqb-true (r .least .middle) (l .middle) (and-left (eqb (r .least .middle) (l .middle)) _ (and-right (eqb i 1) _ t)) in
+        let z = eqb-true (r .least .last) (l .last) (and-right (eqb (r .least .middle) (l .middle)) _ (and-right (eqb i 1) _ t)) in
+        record { inner = rw q one; least = λ i. digits (m i) (z i); skips = is-brace x f }
     go (headed i p) q t f = clash t refl
     go (either i) q t f = clash t refl
 
@@ -171,6 +174,7 @@ flat-opens volumeName may sh t o f = clash f (no-content sh may o)
 flat-opens sheet may sh t o f = clash f (no-content sh may o)
 flat-opens ratio may sh t o f = clash f (no-content sh may o)
 flat-opens serials may sh t o f = clash f (no-content sh may o)
+flat-opens wireSerial may sh t o f = clash f (no-content sh may o)
 flat-opens nothing may sh t o f = clash f (no-empty sh o)
 flat-opens (opens i) may sh t o f = clash t refl
 flat-opens (headed i p) may sh t o f = clash t refl
@@ -181,22 +185,23 @@ pub quiet-rows : all quiet placedTable ≡ true
 unfolding placedTable
 quiet-rows = refl
 
-pub text-rows : all (λ r. opensText (r .holds) (r .least)) placedTable ≡ true
+pub text-rows : all (λ r. opensText textLeast (r .holds) (r .least)) placedTable ≡ true
 unfolding placedTable
 text-rows = refl
 
-pub quiet-texts : all quiet (textTable true 16 24) ≡ true
-unfolding textTable
-quiet-texts = refl
-
-pub flat-texts : all (λ r. flatKind (r .holds)) (textTable true 16 24) ≡ true
-unfolding textTable
-flat-texts = refl
-
-pub quiet-edges : all quiet wireTable ≡ true
+pub quiet-wire : all quiet wireTable ≡ true
 unfolding wireTable
-quiet-edges = refl
+quiet-wire = refl
 
-pub flat-edges : all (λ r. flatKind (r .holds)) wireTable ≡ true
+pub text-wire : all (λ r. opensText wireTextLeast (r .holds) (r .least)) wireTable ≡ true
 unfolding wireTable
-flat-edges = refl
+text-wire = refl
+
+-- a text's own rows, wherever its numbers go
+pub quiet-texts : (p q : ℕ) → all quiet (textTable true p q) ≡ true
+unfolding textTable
+quiet-texts p q = refl
+
+pub flat-texts : (p q : ℕ) → all (λ r. flatKind (r .holds)) (textTable true p q) ≡ true
+unfolding textTable
+flat-texts p q = refl

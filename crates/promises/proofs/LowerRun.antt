@@ -2,7 +2,7 @@
 -- One line goes without a limit first, where the count is not looked at. With the limit it goes too, since the lower class shows no more
 -- records than the higher, and each has taken what it shows.
 use Prim.Native.Nat.{ℕ, zero, suc, _≤_}
-use mathlib.Core.Bool.{Bool, true, false, cond, _&&_, _||_}
+use mathlib.Core.Bool.{Bool, true, false, cond, _&&_, _||_, not}
 use mathlib.Core.List.{List, [], _∷_}
 use mathlib.Core.Path.{_≡_, refl, sym, _∙_, ap, subst}
 use native.Mathlib.Omega.{arith}
@@ -12,20 +12,21 @@ use Rattle.rules.specs.declared.Class.{Class}
 use Rattle.rules.specs.Base.{isNil}
 use Rattle.rules.specs.RefusalNumbers.{Got, got, bad, mapG, also}
 use Rattle.rules.specs.Lines.{Form, ignored, wrong, close, eof, keyed}
-use Rattle.rules.specs.RangeClass.{hides, knowsWires}
-use Rattle.rules.specs.Sets.{Wire, Figure, Set, nothingYet, rangeOf}
-use Rattle.rules.specs.VolumesAndTotals.{countedAll, layersUsed}
-use Rattle.rules.specs.Machine.{Line, inLastVolume, Env, unlimited, limitedTo, State, top, file, drawing, layerNames, defines, symbol, hide, elements, figures, successive, texts, placing, skipping, ended, setOf, atEof, onTop}
+use Rattle.rules.specs.RangeClass.{hides, knowsWires, knowsSerials}
+use Rattle.rules.specs.Sets.{Wire, Figure, Set, nothingYet, rangeOf, wiresOf}
+use Rattle.rules.specs.VolumesAndTotals.{countedAll, layersUsed, partnersExist}
+use Rattle.rules.specs.Machine.{Line, inLastVolume, Env, unlimited, limitedTo, State, top, file, drawing, layerNames, defines, symbol, hide, elements, figures, successive, texts, placing, skipping, ended, setOf, testsPartners, atEof, onTop}
 use Rattle.rules.specs.LineByLine.{stepIn, Stage, between, withinElement, withinOther, atEnd, stageOf, isWithinElement, isAfterElement, inElements, afterElements, isIgnored, isClose, isEof, completes, begunAnew, nextVolume, step, refused, accepted, thenRun, finish, run}
 use Rattle.rules.specs.Machine.{symbolBlock, wireBlock, wireUnread}
-use Rattle.rules.specs.Wires.{onWire}
+use Rattle.rules.specs.Wires.{pastElements, onWireText, onWire}
 use Rattle.rules.proofs.Runs.{not-accepted, finish-ended}
 use Rattle.rules.proofs.Chains.{and-left, and-right, or-true, clash, by-cond, never, unless-got, map-got, also-got, cond-true, on-got}
 use Rattle.promises.specs.DemandThree.{ClassNotAbove}
-use Rattle.promises.proofs.Lower.{knows-up, textLeast, lowerFigures, lowerSet, lowerPlacing, lower, uncounted, lower-counted}
+use Rattle.promises.proofs.Lower.{knows-up, textLeast, wireTextLeast, lowerRead, rangesOf, lowerFigures, lowerSet, lowerText, readOn, skipsOn, lowerPlacing, lower, Goes, via, count-via}
 use Rattle.promises.proofs.LowerSteps.{sim-top, sim-file, sim-drawing, sim-layerNames, sim-defines, sim-symbol, sim-hide, sim-elements, sim-figures, sim-successive, sim-texts, sim-skipping}
 use Rattle.promises.proofs.LowerPlaced.{sim-placing}
-use Rattle.promises.proofs.LowerWires.{sim-read, sim-over}
+use Rattle.promises.proofs.LowerWires.{sim-read, sim-text, sim-passed, text-unknown, text-over, sim-over}
+use Rattle.promises.proofs.LowerSerials.{sim-eof}
 use Rattle.promises.proofs.LowerCount.{fewer}
 use Rattle.promises.proofs.LowerKinds.{Rows, Kinds, rows-step}
 use Rattle.promises.proofs.CountState.{Inv}
@@ -33,51 +34,54 @@ use Rattle.promises.proofs.Count.{inv-start, inv-step}
 use Rattle.promises.proofs.Limits.{alike-step, goes-unlimited, goes-limited}
 
 -- ── one line ──
-module _ (low high : Class) (le : ClassNotAbove low high) where
+module _ (low high : Class) (le : ClassNotAbove low high) (reads : knowsSerials (low .wires) ≡ true → knowsWires low ≡ true) where
   abbrev lo : Env
   lo = unlimited low
 
   abbrev hi : Env
   hi = unlimited high
 
-  -- the lower class goes on as well, to what the higher's next state is for it, with whatever records it has taken
-  abbrev Goes : Got State → State → Type 0
-  Goes g s′ = (took : ℕ) × (g ≡ got (lower took low s′))
-
-  -- an equation between the two answers is enough, or one but for the count
-  via : (took : ℕ) {g g′ : Got State} {s′ : State} → g′ ≡ mapG (lower took low) g → g ≡ got s′ → Goes g′ s′
-  via took q e = (took, q ∙ ap (mapG (lower took low)) e)
-
-  count-via : {g g′ : Got State} {s′ : State} → mapG uncounted g′ ≡ mapG (lower 0 low) g → g ≡ got s′ → Goes g′ s′
-  count-via {g′ = g′} {s′ = s′} q e =
-      let (a, p, r) = map-got uncounted g′ (lower 0 low s′) (q ∙ ap (mapG (lower 0 low)) e) in
-      (setOf a .taken, p ∙ ap got (lower-counted low a s′ r))
-
   up : knowsWires low ≡ true → knowsWires high ≡ true
   up = knows-up low high (le .wires)
 
   -- a line of a wire that the higher reads
-  sim-wire : (l : Line) (took : ℕ) (s : Set) (k : ℕ) (fs : List Figure) (n : ℕ) (w : Wire) (p : ℕ) (s′ : State) → onWire hi l s k fs n w (l .form) ≡ got s′
-      → Goes (stepIn lo l (lower took low (placing s k fs n (wireBlock w) p))) s′
-  sim-wire l took s k fs n w p s′ e = go (knowsWires low) refl
+  sim-wire : (l : Line) (took : ℕ) (s : Set) (k : ℕ) (fs : List Figure) (n : ℕ) (w : Wire) (p : ℕ) (s′ : State) → onWire hi l s k fs n w p (l .form) ≡ got s′
+      → Goes low (stepIn lo l (lower took low (placing s k fs n (wireBlock w) p))) s′
+  sim-wire l took s k fs n w p s′ e = go (knowsWires low) refl p e
     where
-      go : (b : Bool) → knowsWires low ≡ b
-          → Goes (stepIn lo l (cond b (placing (lowerSet took low s) k (lowerFigures low (rangeOf s) fs) n (wireBlock w) p) (skipping (lowerSet took low s) k (lowerFigures low (rangeOf s) fs) n wireUnread 0))) s′
-      go true b = count-via (sim-read low high took l s k fs n w b (l .form)) e
-      go false b = (took, sim-over low high took l s k fs n w b (l .form) s′ e)
+      below : Set
+      below = lowerSet took low s
 
-  sim-in : (l : Line) (took : ℕ) (s s′ : State) → stepIn hi l s ≡ got s′ → Goes (stepIn lo l (lower took low s)) s′
-  sim-in l took (top s k) s′ e = count-via (sim-top low high up took l s k (l .form)) e
-  sim-in l took (file s n h p) s′ e = via took (sim-file low high up took l s n h p (l .form)) e
-  sim-in l took (drawing s d) s′ e = via took (sim-drawing low high up took s d (l .form)) e
-  sim-in l took (layerNames s d) s′ e = count-via (sim-layerNames low high up took l s d (l .form)) e
-  sim-in l took (defines s b) s′ e = count-via (sim-defines low high up took l s b (l .form)) e
-  sim-in l took (symbol s y) s′ e = via took (sim-symbol low high up took s y (l .form)) e
-  sim-in l took (hide s y ps) s′ e = count-via (sim-hide low high up took l s y ps (l .form)) e
-  sim-in l took (elements s) s′ e = via took (sim-elements low high up took s (l .form)) e
-  sim-in l took (figures s h fs) s′ e = count-via (sim-figures low high up took l s h fs (l .form)) e
-  sim-in l took (successive s h fs n ps) s′ e = count-via (sim-successive low high up took l s h fs n ps (l .form)) e
-  sim-in l took (texts s h fs n o) s′ e = via took (sim-texts low high up took s h fs n o (l .form)) e
+      fs′ : List Figure
+      fs′ = lowerFigures low (rangesOf s) fs
+
+      w′ : Wire
+      w′ = lowerRead (low .wires) (wiresOf s) w
+
+      in-text : knowsWires low ≡ true → (p : ℕ) → onWireText s k fs n w (suc p) (l .form) ≡ got s′ → (t : Bool) → hides (low .wires) (wiresOf s) wireTextLeast ≡ t
+          → Goes low (stepIn lo l (lowerText t below k fs′ n w′ (suc p))) s′
+      in-text b p e true h = (took, sim-passed low high (le .wires) took l s k fs n w (wireBlock (pastElements w′)) (text-unknown low high (le .wires) took l s k fs n w b h) p (l .form) s′ e)
+      in-text b p e false h = (took, sim-text low high (le .wires) took l s k fs n w b h p (l .form) s′ e)
+
+      go : (b : Bool) → knowsWires low ≡ b → (p : ℕ) → onWire hi l s k fs n w p (l .form) ≡ got s′
+          → Goes low (stepIn lo l (cond b (readOn (low .wires) (wiresOf s) below k fs′ n w′ p) (skipsOn below k fs′ n p))) s′
+      go true b zero e = sim-read low high (le .wires) took l s k fs n w b (l .form) s′ e
+      go true b (suc p) e = in-text b p e (hides (low .wires) (wiresOf s) wireTextLeast) refl
+      go false b zero e = (took, sim-over low high (le .wires) took l s k fs n w b (l .form) s′ e)
+      go false b (suc p) e = (took, sim-passed low high (le .wires) took l s k fs n w wireUnread (text-over low high (le .wires) took l s k fs n w b) p (l .form) s′ e)
+
+  sim-in : (l : Line) (took : ℕ) (s s′ : State) → stepIn hi l s ≡ got s′ → Goes low (stepIn lo l (lower took low s)) s′
+  sim-in l took (top s k) s′ e = sim-top low high up took l s k (l .form) s′ (sim-eof low high le reads took l s k s′) e
+  sim-in l took (file s n h p) s′ e = via low took (sim-file low high up took l s n h p (l .form)) e
+  sim-in l took (drawing s d) s′ e = via low took (sim-drawing low high up took s d (l .form)) e
+  sim-in l took (layerNames s d) s′ e = count-via low (sim-layerNames low high up took l s d (l .form)) e
+  sim-in l took (defines s b) s′ e = count-via low (sim-defines low high up took l s b (l .form)) e
+  sim-in l took (symbol s y) s′ e = via low took (sim-symbol low high up took s y (l .form)) e
+  sim-in l took (hide s y ps) s′ e = count-via low (sim-hide low high up took l s y ps (l .form)) e
+  sim-in l took (elements s) s′ e = via low took (sim-elements low high up took s (l .form)) e
+  sim-in l took (figures s h fs) s′ e = count-via low (sim-figures low high up took l s h fs (l .form)) e
+  sim-in l took (successive s h fs n ps) s′ e = count-via low (sim-successive low high up took l s h fs n ps (l .form)) e
+  sim-in l took (texts s h fs n o) s′ e = via low took (sim-texts low high up took s h fs n o (l .form)) e
   sim-in l took (placing s k fs n (symbolBlock o) p) s′ e =
       (took, sim-placing low high (le .symbols) took s k fs n o p (l .form) s′ e (lowerPlacing took low s k fs n o p) refl (stepIn lo l) (λ o p. refl) (λ o q. refl))
   sim-in l took (placing s k fs n (wireBlock w) p) s′ e = sim-wire l took s k fs n w p s′ e
@@ -106,7 +110,13 @@ module _ (low high : Class) (le : ClassNotAbove low high) where
   stage-same took (texts s h fs n o) = refl
   stage-same took (placing s k fs n (symbolBlock o) zero) = refl
   stage-same took (placing s k fs n (symbolBlock o) (suc p)) = by-cond (λ st. stageOf st ≡ withinOther) (hides (low .symbols) (rangeOf s) textLeast) (λ _. refl) (λ _. refl)
-  stage-same took (placing s k fs n (wireBlock w) p) = by-cond (λ st. stageOf st ≡ withinOther) (knowsWires low) (λ _. refl) (λ _. refl)
+  stage-same took (placing s k fs n (wireBlock w) zero) = by-cond (λ st. stageOf st ≡ withinOther) (knowsWires low) (λ _. refl) (λ _. refl)
+  stage-same took (placing s k fs n (wireBlock w) (suc p)) =
+      by-cond (λ st. stageOf st ≡ withinOther) (knowsWires low) (λ _. in-text (hides (low .wires) (wiresOf s) wireTextLeast)) (λ _. refl)
+    where
+      in-text : (t : Bool) → stageOf (lowerText t (lowerSet took low s) k (lowerFigures low (rangesOf s) fs) n (lowerRead (low .wires) (wiresOf s) w) (suc p)) ≡ withinOther
+      in-text true = refl
+      in-text false = refl
   stage-same took (placing s k fs n wireUnread p) = refl
   stage-same took (skipping s k fs n b d) = refl
   stage-same took (ended s) = refl
@@ -133,19 +143,19 @@ module _ (low high : Class) (le : ClassNotAbove low high) where
       go withinOther = refl
       go (atEnd s) = refl
 
-  pub sim-step : (l : Line) (took : ℕ) (s s′ : State) → step hi l s ≡ got s′ → Goes (step lo l (lower took low s)) s′
+  pub sim-step : (l : Line) (took : ℕ) (s s′ : State) → step hi l s ≡ got s′ → Goes low (step lo l (lower took low s)) s′
   sim-step l took s s′ e = go (l .last) e
     where
       here : State
       here = lower took low s
 
-      last : (t : State) → completes l s ≡ true → stepIn hi l s ≡ got t → nextVolume t ≡ s′ → Goes (mapG nextVolume (also (completes l here) 9 (stepIn lo l here))) s′
+      last : (t : State) → completes l s ≡ true → stepIn hi l s ≡ got t → nextVolume t ≡ s′ → Goes low (mapG nextVolume (also (completes l here) 9 (stepIn lo l here))) s′
       last t c r q =
           let (n, p) = sim-in l took s t r in
           (n, rw (p, completes-same l took s, c) (ap got (next-same n t ∙ ap (lower n low) q)))
 
       go : (b : Bool) → cond b (mapG nextVolume (also (completes l s) 9 (stepIn hi l s))) (stepIn hi l s) ≡ got s′
-          → Goes (cond b (mapG nextVolume (also (completes l here) 9 (stepIn lo l here))) (stepIn lo l here)) s′
+          → Goes low (cond b (mapG nextVolume (also (completes l here) 9 (stepIn lo l here))) (stepIn lo l here)) s′
       go false e = sim-in l took s s′ e
       go true e =
           let (t, p, q) = map-got nextVolume (also (completes l s) 9 (stepIn hi l s)) s′ e in
@@ -161,11 +171,12 @@ last-ends e l s s′ p q h =
     let (t, z) = ends s u (cond-true (isNil (l .next)) (afterElements s && isEof (l .form)) ((inElements s && isClose (l .form)) || (afterElements s && isIgnored (l .form))) true q c) d in
     (t, sym b ∙ ap nextVolume z)
   where
-    at-eof : (s : Set) (k : ℕ) (u : State) → atEof l s k ≡ got u → (t : Set) × (u ≡ ended t)
-    at-eof s k u e =
-        let a = unless-got (eqb k 4 && (isNil (l .next) && l .last)) 9 _ u e in
+    at-eof : (s : Set) (k : ℕ) (u : State) → atEof e l s k ≡ got u → (t : Set) × (u ≡ ended t)
+    at-eof s k u h =
+        let a = unless-got (eqb k 4 && (isNil (l .next) && l .last)) 9 _ u h in
         let b = unless-got (layersUsed s) 14 _ u (a .1) in
         let c = unless-got (countedAll s) 17 _ u (b .1) in
+        let f = unless-got (not (testsPartners (e .class) s) || partnersExist s) 21 _ u (c .1) in
         (s, let z : ended s ≡ u = cc in sym z)
 
     at-top : (s : Set) (k : ℕ) (u : State) (f : Form) → (eqb k 4 && isEof f) ≡ true → onTop e l s k f ≡ got u → (t : Set) × (u ≡ ended t)
@@ -252,7 +263,7 @@ late e v n (l ∷ m ∷ ls) s p f k v′ n′ h = go (step e l s) (λ s′. late
         rw (← a, ← b) (f .0)
 
 -- ── all lines, with the limit ──
-module _ (low high : Class) (le : ClassNotAbove low high) (m : ℕ) where
+module _ (low high : Class) (le : ClassNotAbove low high) (reads : knowsSerials (low .wires) ≡ true → knowsWires low ≡ true) (m : ℕ) where
   abbrev lo′ : Env
   lo′ = limitedTo low m
 
@@ -274,7 +285,7 @@ module _ (low high : Class) (le : ClassNotAbove low high) (m : ℕ) where
   -- a line that the higher goes through with the limit, the lower goes through with it: without a limit it does, and it shows no more
   sim-limited : (l : Line) (took : ℕ) (s s′ : State) → Beside took s → step hi′ l s ≡ got s′ → After (step lo′ l (lower took low s)) s′
   sim-limited l took s s′ w e =
-      let (n, p) = sim-step low high le l took s s′ (goes-unlimited (alike-step high m l s) e) in
+      let (n, p) = sim-step low high le reads l took s s′ (goes-unlimited (alike-step high m l s) e) in
       let below = on-got (Inv (unlimited low)) (step (unlimited low) l (lower took low s)) (lower n low s′) (inv-step (unlimited low) l (lower took low s) (w .below)) p in
       let above = on-got (Inv hi′) (step hi′ l s) s′ (inv-step hi′ l s (w .above)) e in
       let rows = on-got Kinds (step hi′ l s) s′ (rows-step hi′ l s (w .rows)) e in

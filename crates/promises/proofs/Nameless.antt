@@ -7,7 +7,7 @@ use lib.IntN.{pos}
 use lib.ListN.{getD}
 use Rattle.rules.specs.Base.{all, split, join}
 use Rattle.rules.specs.RefusalNumbers.{mapG, keep}
-use Rattle.rules.specs.Values.{Num, num, Value, empty, nums, chars, linked, Known, Part, count, digit, typeDigits, range, rangeOfSymbols, rangeOfWires, day, clock, decimal, symbolName, layerId, readPart, showPart, readAll, showAll, agree, Kind, values, text, word, volumeName, sheet, ratio, serials, nothing, opens, headed, either, readKind, numsOf, showKind, showContent}
+use Rattle.rules.specs.Values.{Num, num, Value, empty, nums, chars, linked, Known, Part, count, digit, typeDigits, range, rangeOfSymbols, rangeOfWires, day, clock, decimal, symbolName, layerId, readPart, showPart, readAll, showAll, agree, Kind, values, text, word, volumeName, sheet, ratio, serials, wireSerial, nothing, opens, headed, either, readKind, numsOf, showKind, showContent}
 use Rattle.rules.specs.declared.Digits.{Digits}
 use Rattle.rules.specs.Lines.{Rest, Shape, opener, noContent, content, opening, formless}
 use Rattle.rules.specs.Rows.{Rule, shapeFor, readShape, actRow}
@@ -37,6 +37,7 @@ nameless volumeName = true
 nameless sheet = true
 nameless ratio = true
 nameless serials = true
+nameless wireSerial = true
 nameless nothing = true
 nameless (opens i) = true
 nameless (headed i p) = namelessPart p
@@ -76,6 +77,7 @@ read-nameless volumeName e k k′ at c = refl
 read-nameless sheet e k k′ at c = refl
 read-nameless ratio e k k′ at c = refl
 read-nameless serials e k k′ at c = refl
+read-nameless wireSerial e k k′ at c = refl
 read-nameless nothing e k k′ at c = refl
 read-nameless (opens i) e k k′ at c = refl
 read-nameless (headed i p) e k k′ at c = ap (mapG (λ n. nums (n ∷ []))) (part-nameless p e k k′ .0 c)
@@ -89,6 +91,7 @@ show-kind-nameless volumeName e k k′ v = refl
 show-kind-nameless sheet e k k′ v = refl
 show-kind-nameless ratio e k k′ v = refl
 show-kind-nameless serials e k k′ v = refl
+show-kind-nameless wireSerial e k k′ v = refl
 show-kind-nameless nothing e k k′ v = refl
 show-kind-nameless (opens i) e k k′ v = refl
 show-kind-nameless (headed i p) e k k′ v = part-nameless p e k k′ .1 (getD (numsOf v) 0 (num (pos 0)))
@@ -122,6 +125,7 @@ line-any r e k k′ v = ap (λ c. r .key ++ c) (go (r .holds) e)
     go sheet e = rw (show-nameless sheet e k k′ v)
     go ratio e = rw (show-nameless ratio e k k′ v)
     go serials e = rw (show-nameless serials e k k′ v)
+    go wireSerial e = rw (show-nameless wireSerial e k k′ v)
     go nothing e = refl
     go (opens i) e = refl
     go (headed i p) e = rw (show-nameless (headed i p) e k k′ v)

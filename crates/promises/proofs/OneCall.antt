@@ -8,7 +8,7 @@ use Rattle.rules.specs.declared.Answer.{Answer}
 use Rattle.rules.specs.declared.Answer.the-variants.{Accepted}
 use Rattle.rules.specs.RecordTable.{width}
 use Rattle.rules.specs.Answers.{readAnswer, readTable, written}
-use Rattle.promises.specs.DemandOne.{Answered, Filled, Written}
+use Rattle.promises.specs.DemandOne.{byReader, byRewriter, Answered, Filled, Written}
 use Rattle.promises.specs.Acceptance.{Keeps, recordsAt}
 use Rattle.promises.specs.ReaderCalls.{Call}
 use Rattle.promises.specs.SingleCalls.{CallAccepts, ReadCalls, RewriteCalls}
@@ -41,7 +41,7 @@ read-calls c =
     let w = demand-one .reader (c .class) (c .wire) len (c .spool) in
     let x = exactly-when .reader (c .class) (c .wire) (c .spool) in
     record {
-      answer = subst (λ (a : Answer). Answered 19 a) (sym (c .answers)) (w .answer);
+      answer = subst (λ (a : Answer). Answered byReader a) (sym (c .answers)) (w .answer);
       size = ap length (c .fills) ∙ w .size;
       whenRefused = λ r e. c .fills ∙ w .whenRefused r (sym (c .answers) ∙ e);
       whenAccepted = call-accepts c;
@@ -55,7 +55,7 @@ rewrite-calls c =
     let w = demand-one .rewriter len (c .spool) in
     let x = exactly-when .rewriter (c .spool) len in
     record {
-      answer = subst (λ (a : Answer). Answered 20 a) (sym (c .answers)) (w .answer);
+      answer = subst (λ (a : Answer). Answered byRewriter a) (sym (c .answers)) (w .answer);
       size = ap length (c .fills) ∙ w .size;
       whenRefused = λ r e. c .fills ∙ w .whenRefused r (sym (c .answers) ∙ e);
       whenAccepted = λ n e. subst (λ (o : List ℕ). Written len n (written (c .spool)) o) (sym (c .fills)) (w .whenAccepted n (sym (c .answers) ∙ e));

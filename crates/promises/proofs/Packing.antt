@@ -9,11 +9,11 @@ use Rattle.rules.specs.declared.Answer.the-variants.{Accepted, Refused}
 use Rattle.rules.specs.Spool.{mostVolumes}
 use Rattle.rules.specs.RecordTable.{width}
 use Rattle.rules.specs.Answers.{readAnswer, rewriteAnswer, ownRecords, packed, checkAnswer}
-use Rattle.promises.specs.DemandOne.{ofWhole, Located, Answered, acceptedWith, refusedWith}
+use Rattle.promises.specs.DemandOne.{byReader, byRewriter, ofWhole, Located, Answered, acceptedWith, refusedWith}
 use Rattle.promises.specs.TakenApart.{refusalIn, Tells, TakenApart}
 use Rattle.promises.proofs.Answered.{demand-one}
 
-few-volumes : {last : ℕ} (r : Refusal) → Located last r → r .volume ≤ mostVolumes
+few-volumes : {whose : ℕ → Bool} (r : Refusal) → Located whose r → r .volume ≤ mostVolumes
 few-volumes r w = go (ofWhole (r .number)) refl
   where
     go : (b : Bool) → ofWhole (r .number) ≡ b → r .volume ≤ mostVolumes
@@ -32,17 +32,17 @@ parts n v l a b =
     ∙ ap (λ (i : ℕ). Refused (record { number = p % 100; volume = i; line = l })) f
     ∙ ap (λ (i : ℕ). Refused (record { number = p % 100; volume = p / 100 % 100; line = i })) g
 
-tells : (last : ℕ) → last < 100 → (a : Answer) → Answered last a → Tells (packed a) a
+tells : (whose : ℕ → Bool) (a : Answer) → Answered whose a → Tells (packed a) a
 unfolding packed
-tells last h (Accepted n) (acceptedWith _) = record { accepted = λ _. refl; refused = λ q. absurd (omega arith) }
-tells last h (Refused r) (refusedWith _ w) =
+tells whose (Accepted n) (acceptedWith _) = record { accepted = λ _. refl; refused = λ q. absurd (omega arith) }
+tells whose (Refused r) (refusedWith _ w) =
     let v = few-volumes r w in
-    record { accepted = λ q. absurd (omega (arith, q, w .least)); refused = λ _. parts (r .number) (r .volume) (r .line) (omega (arith, h, w .most)) (omega (arith, v)) }
+    record { accepted = λ q. absurd (omega (arith, q, w .least)); refused = λ _. parts (r .number) (r .volume) (r .line) (omega (arith, w .most)) (omega (arith, v)) }
 
 pub taken-apart : TakenApart
 unfolding checkAnswer
 taken-apart = record {
-  reader = λ class wire len spool. tells 19 (omega arith) (readAnswer class wire len spool) (demand-one .reader class wire len spool .answer);
-  rewriter = λ len spool. tells 20 (omega arith) (rewriteAnswer len spool) (demand-one .rewriter len spool .answer);
-  check = λ class wire spool. tells 19 (omega arith) (readAnswer class wire (ownRecords * width) spool) (demand-one .reader class wire (ownRecords * width) spool .answer);
+  reader = λ class wire len spool. tells byReader (readAnswer class wire len spool) (demand-one .reader class wire len spool .answer);
+  rewriter = λ len spool. tells byRewriter (rewriteAnswer len spool) (demand-one .rewriter len spool .answer);
+  check = λ class wire spool. tells byReader (readAnswer class wire (ownRecords * width) spool) (demand-one .reader class wire (ownRecords * width) spool .answer);
 }

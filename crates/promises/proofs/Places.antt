@@ -1,7 +1,7 @@
 -- The reading does not look at places.
-use Prim.Native.Nat.{ℕ, zero, suc}
-use mathlib.Core.Bool.{Bool, false, cond, true}
-use mathlib.Core.List.{List, [], _∷_, map}
+use Prim.Native.Nat.{ℕ, zero, suc, _-_}
+use mathlib.Core.Bool.{Bool, false, cond, true, _&&_}
+use mathlib.Core.List.{List, [], _∷_, _++_, map}
 use mathlib.Core.Option.{none, some, Option}
 use mathlib.Core.Path.{_≡_, refl, sym, _∙_, ap, ap₂}
 use native.Mathlib.Omega.{arith}
@@ -11,10 +11,10 @@ use Rattle.rules.specs.Base.{mapO}
 use Rattle.rules.specs.RefusalNumbers.{Got, got, bad, unless, mapG}
 use Rattle.rules.specs.Lines.{Rest, Form, ignored, wrong, close, eof, keyed, Shape, opener, noContent, content, opening, formless, freeShapeOf}
 use Rattle.rules.specs.RangeClass.{digits, digitsOf, reaches, exceeds, both, Skip, passes, deeper, noForm}
-use Rattle.rules.specs.Values.{Value, Num}
+use Rattle.rules.specs.Values.{Value, Num, numsOf}
 use Rattle.rules.specs.Rows.{Found, absent, found, find, Slots, Held, partOf, rowsThere, rowsAtLimit, Act, actRow, actUnknown, act}
 use Rattle.rules.specs.Blocks.{topTable, fileTables, drawingTable, definesTable, symbolTable, elementTable, layerNameKind, around}
-use Rattle.rules.specs.Figures.{layerTable, pointTable, textTable, placedTable, placedTables, wireTable}
+use Rattle.rules.specs.Figures.{layerTable, pointTable, textTable, placedTable, placedTables, wireTable, wireTextTable, firstGroupRow}
 use Rattle.rules.specs.Sets.{Point, Figure, Drawing, Symbol, Set, isFirst, arcOf, defineRange, rangeOf, knownOf, symbolOwn, Edge, Wire, joinDigit, wiresOf}
 use Rattle.rules.specs.Machine.{Line, Env, Home, inElement, inLayer, State, top, file, drawing, layerNames, defines, symbol, hide, elements, figures, successive, texts, placing, skipping, ended, openTop, atEof, onTop, closeFile, shutPart, onFile, onDrawing, layerValue, onLayerNames, onDefines, newName, openSymbol, onSymbol, onHide, onElements, isLayer, homeTable, closeFigures, openPlaced, openFigure, onFigures, onSuccessive, onTexts, wireBlock, wireUnread, beginWire, openWire}
 use Rattle.rules.specs.PlacedSymbol.{bySkip, onUnknown, newSerial, onPlaced, onPlacedKey, onPlacedOwn, onPlacing, skipShut, onSkipping, skipEnded, unreadShut}
@@ -22,9 +22,9 @@ use Rattle.rules.specs.LineByLine.{stepIn, inElements, afterElements, isIgnored
 use Rattle.rules.specs.Machine.{symbolBlock, Owned}
 use Rattle.rules.proofs.Chains.{nil-map, map-cond, map-unless, through, map-append, map-set}
 use Rattle.promises.specs.PlacesApart.{bareValue, bareSlots, bareHeld, barePoint, bareFigure, bareLayer, bareDrawing, bareSymbol, bareSet, bareRest, bareForm, bareLine, bareAct, bareHome, bareState, bareOutcome, bareOwned, bareEdge, bareWire}
-use Rattle.promises.proofs.Bare.{nums-bare, serials-bare, amount-bare, none-bare, marks-bare, at-bare, blank-bare, part-marks, enter-bare, held-blank, first-bare, arc-bare, sym-bare, define-bare, range-bare, single-bare, name-bare, names-bare, ids-bare, known-bare, figures-serials, set-serials, used-bare, chained-bare, dated-bare, here-bare, all-bare, layers-bare, wire-bare, wired-bare}
+use Rattle.promises.proofs.Bare.{nums-bare, serials-bare, amount-bare, none-bare, marks-bare, at-bare, blank-bare, part-marks, enter-bare, held-blank, first-bare, arc-bare, sym-bare, define-bare, range-bare, single-bare, name-bare, names-bare, ids-bare, known-bare, figures-serials, set-serials, used-bare, chained-bare, dated-bare, here-bare, all-bare, layers-bare, wire-bare, wired-bare, tests-bare, exist-bare}
 use Rattle.promises.proofs.BareActs.{bareShape, free-bare, skipped-bare, kind-bare, row-bare, unknown-bare, act-bare, by-act, by-line}
-use Rattle.rules.specs.Wires.{joinsEnds, lastEdge, joinOf, joined, onElement, onWire}
+use Rattle.rules.specs.Wires.{joinsEnds, lastEdge, joinOf, joined, onElement, onAttribute, withAttribute, withGroups, withOnce, groupAt, isGroupRow, isElementRow, newNumber, wireFull, onWireAct, onWireUnknown, onWireKey, onWireOwn, onWireText, onWire}
 
 -- ── each block ──
 openTop-bare : (e : Env) (l : Line) (s : Set) (k : ℕ) → mapG bareState (openTop e l s k) ≡ openTop e (bareLine l) (bareSet s) k
@@ -33,14 +33,14 @@ openTop-bare e l s (suc zero) = simp (through, blank-bare)
 openTop-bare e l s (suc (suc zero)) = refl
 openTop-bare e l s (suc (suc (suc k))) = refl
 
-atEof-bare : (l : Line) (s : Set) (k : ℕ) → mapG bareState (atEof l s k) ≡ atEof (bareLine l) (bareSet s) k
-atEof-bare l s k = rw (layers-bare s, all-bare s) (simp through)
+atEof-bare : (e : Env) (l : Line) (s : Set) (k : ℕ) → mapG bareState (atEof e l s k) ≡ atEof e (bareLine l) (bareSet s) k
+atEof-bare e l s k = rw (layers-bare s, all-bare s, tests-bare (e .class) s, exist-bare s) (simp through)
 
 onTop-bare : (e : Env) (l : Line) (s : Set) (k : ℕ) (f : Form) → mapG bareState (onTop e l s k f) ≡ onTop e (bareLine l) (bareSet s) k (bareForm f)
 onTop-bare e l s k ignored = refl
 onTop-bare e l s k (wrong n) = refl
 onTop-bare e l s k close = refl
-onTop-bare e l s k eof = atEof-bare l s k
+onTop-bare e l s k eof = atEof-bare e l s k
 onTop-bare e l s k (keyed key c) =
     rw (known-bare s)
     (by-line (knownOf s) topTable (digits 0 0) (rowsAtLimit 0 topTable) (keyed key c) (top s k) _ _ _ _ _ _ (λ j v. refl)
@@ -134,7 +134,7 @@ openPlaced-bare e l s (inElement y) fs = refl
 openPlaced-bare e l s (inLayer k) fs = simp (through, blank-bare)
 
 begin-bare : (b : Bool) (s : Set) (k : ℕ) (fs : List Figure) (n : ℕ) → bareState (beginWire b s k fs n) ≡ beginWire b (bareSet s) k (map bareFigure fs) 0
-begin-bare true s k fs n = refl
+begin-bare true s k fs n = rw (blank-bare wireTable)
 begin-bare false s k fs n = refl
 
 openWire-bare : (e : Env) (l : Line) (s : Set) (h : Home) (fs : List Figure) → mapG bareState (openWire e l s h fs) ≡ openWire e (bareLine l) (bareSet s) (bareHome h) (map bareFigure fs)
@@ -245,12 +245,87 @@ onElement-bare e l s h fs n w row v =
     let ends = joinsEnds (joinDigit s) in
     rw (wire-bare s, last-bare (w .elements), joined-bare ends (lastEdge (w .elements)) row v, join-bare ends (lastEdge (w .elements)) row) (simp (through, map-append))
 
-onWire-bare : (e : Env) (l : Line) (s : Set) (h : ℕ) (fs : List Figure) (n : ℕ) (w : Wire) (f : Form)
-    → mapG bareState (onWire e l s h fs n w f) ≡ onWire e (bareLine l) (bareSet s) h (map bareFigure fs) 0 (bareWire w) (bareForm f)
-onWire-bare e l s h fs n w f =
-    rw (known-bare s, ap digitsOf (wire-bare s))
-    (by-line (knownOf s) wireTable (wiresOf s) (rowsAtLimit 0 wireTable) f (placing s h fs n (wireBlock w) 0) _ _ _ _ _ _
-    (λ j v. rw (nums-bare v) (onElement-bare e l s h fs n w j _)) (λ i j v. refl) (simp map-append))
+-- its attributes
+newNumber-bare : (s : Set) (fs : List Figure) (j : ℕ) (v : Value) → newNumber (bareSet s) (map bareFigure fs) j (bareValue v) ≡ newNumber s fs j v
+newNumber-bare s fs j v = rw (nums-bare v, set-serials s, figures-serials fs)
+
+attribute-bare : (w : Wire) (j : ℕ) (v : Value) → bareWire (withAttribute w j v) ≡ withAttribute (bareWire w) j (bareValue v)
+attribute-bare w j v = go (isGroupRow j)
+  where
+    go : (b : Bool) → bareWire (cond b (withGroups (set (w .groups) (j - firstGroupRow) (groupAt w j ++ numsOf v ∷ [])) w) (withOnce (set (w .own) j (some v)) w))
+        ≡ cond b (withGroups (set (w .groups) (j - firstGroupRow) (groupAt w j ++ numsOf (bareValue v) ∷ [])) (bareWire w))
+        (withOnce (set (bareSlots (w .own)) j (some (bareValue v))) (bareWire w))
+    go true = rw (nums-bare v)
+    go false = rw (← (own-bare (w .own) j v))
+
+onAttribute-bare : (s : Set) (h : ℕ) (fs : List Figure) (n : ℕ) (w : Wire) (j : ℕ) (v : Value)
+    → mapG bareState (onAttribute s h fs n w j v) ≡ onAttribute (bareSet s) h (map bareFigure fs) 0 (bareWire w) j (bareValue v)
+onAttribute-bare s h fs n w j v = rw (newNumber-bare s fs j v, ← (attribute-bare w j v), nums-bare v) (simp through)
+
+onWireAct-bare : (e : Env) (l : Line) (s : Set) (h : ℕ) (fs : List Figure) (n : ℕ) (w : Wire) (a : Act)
+    → mapG bareState (onWireAct e l s h fs n w a) ≡ onWireAct e (bareLine l) (bareSet s) h (map bareFigure fs) 0 (bareWire w) (bareAct a)
+onWireAct-bare e l s h fs n w a =
+    by-act (placing s h fs n (wireBlock w) 0) _ _ _ _ _ _ a
+    (λ j v. map-cond bareState (isElementRow j) _ _
+    ∙ ap₂ (cond (isElementRow j)) (rw (nums-bare v) (onElement-bare e l s h fs n w j (numsOf v))) (onAttribute-bare s h fs n w j v))
+    (λ i j v. rw (blank-bare wireTextTable))
+    (simp map-append)
+
+full-bare : (w : Wire) → wireFull (bareWire w) ≡ wireFull w
+full-bare w = rw (marks-bare (w .own))
+
+wires-bare : (s : Set) → wiresOf (bareSet s) ≡ wiresOf s
+wires-bare s = ap digitsOf (wire-bare s)
+
+test-same : {A : Type 0} (x y : A) (a b : Bool) → a ≡ b → cond a x y ≡ cond b x y
+test-same x y a b e = ap (λ t. cond t x y) e
+
+onWireUnknown-bare : (e : Env) (l : Line) (s : Set) (h : ℕ) (fs : List Figure) (n : ℕ) (w : Wire) (k : List ℕ) (c : Rest)
+    → mapG bareState (onWireUnknown e l s h fs n w k c) ≡ onWireUnknown e (bareLine l) (bareSet s) h (map bareFigure fs) 0 (bareWire w) k (bareRest c)
+onWireUnknown-bare e l s h fs n w k c =
+    map-cond bareState (exceeds (wiresOf s) (e .class .wires)) _ _
+    ∙ ap₂ (cond (exceeds (wiresOf s) (e .class .wires))) (rw (skipped-bare k c) (simp (bySkip-bare, through))) (rw (unknown-bare c) (onWireAct-bare e l s h fs n w (actUnknown c)))
+    ∙ test-same _ _ _ _ (ap (λ d. exceeds d (e .class .wires)) (sym (wires-bare s)))
+
+onWireKey-bare : (e : Env) (l : Line) (s : Set) (h : ℕ) (fs : List Figure) (n : ℕ) (w : Wire) (k : List ℕ) (c : Rest) (f : Found)
+    → mapG bareState (onWireKey e l s h fs n w k c f) ≡ onWireKey e (bareLine l) (bareSet s) h (map bareFigure fs) 0 (bareWire w) k (bareRest c) f
+onWireKey-bare e l s h fs n w k c absent = onWireUnknown-bare e l s h fs n w k c
+onWireKey-bare e l s h fs n w k c (found j r) =
+    let a = actRow (knownOf s) (wiresOf s) (getD (wireFull w) j false) j r c in
+    let q : actRow (knownOf (bareSet s)) (wiresOf (bareSet s)) (getD (wireFull (bareWire w)) j false) j r (bareRest c) ≡ bareAct a =
+    ap (λ (full : List Bool). actRow (knownOf (bareSet s)) (wiresOf (bareSet s)) (getD full j false) j r (bareRest c)) (full-bare w)
+    ∙ rw (known-bare s, wire-bare s) (row-bare (knownOf s) (wiresOf s) (getD (wireFull w) j false) j r c) in
+    map-cond bareState (isElementRow j && w .past) _ _
+    ∙ ap₂ (cond (isElementRow j && w .past))
+    (rw (unknown-bare c) (onWireAct-bare e l s h fs n w (actUnknown c)))
+    (map-cond bareState (reaches (e .class .wires) (r .least)) _ _
+    ∙ ap₂ (cond (reaches (e .class .wires) (r .least)))
+    (onWireAct-bare e l s h fs n w a ∙ ap (onWireAct e (bareLine l) (bareSet s) h (map bareFigure fs) 0 (bareWire w)) (sym q))
+    (onWireUnknown-bare e l s h fs n w k c))
+
+onWireOwn-bare : (e : Env) (l : Line) (s : Set) (h : ℕ) (fs : List Figure) (n : ℕ) (w : Wire) (f : Form)
+    → mapG bareState (onWireOwn e l s h fs n w f) ≡ onWireOwn e (bareLine l) (bareSet s) h (map bareFigure fs) 0 (bareWire w) (bareForm f)
+onWireOwn-bare e l s h fs n w ignored = refl
+onWireOwn-bare e l s h fs n w (wrong m) = refl
+onWireOwn-bare e l s h fs n w close =
+    let a : Form → Act = act (knownOf s) wireTable (both (e .class .wires) (wiresOf s)) (rowsThere (w .own)) in
+    let q : act (knownOf s) wireTable (both (e .class .wires) (wiresOf (bareSet s))) (rowsThere (bareSlots (w .own))) close ≡ bareAct (a close) =
+    rw (wire-bare s, marks-bare (w .own)) (act-bare (knownOf s) wireTable (both (e .class .wires) (wiresOf s)) (rowsThere (w .own)) close) in
+    onWireAct-bare e l s h fs n w (a close) ∙ ap (onWireAct e (bareLine l) (bareSet s) h (map bareFigure fs) 0 (bareWire w)) (sym q)
+onWireOwn-bare e l s h fs n w eof = refl
+onWireOwn-bare e l s h fs n w (keyed k c) = onWireKey-bare e l s h fs n w k c (find k wireTable)
+
+onWireText-bare : (s : Set) (h : ℕ) (fs : List Figure) (n : ℕ) (w : Wire) (p : ℕ) (f : Form)
+    → mapG bareState (onWireText s h fs n w p f) ≡ onWireText (bareSet s) h (map bareFigure fs) 0 (bareWire w) p (bareForm f)
+onWireText-bare s h fs n w p f =
+    rw (known-bare s, marks-bare (w .writing))
+    (by-line (knownOf s) wireTextTable (digits 0 0) (rowsThere (w .writing)) f (placing s h fs n (wireBlock w) p) _ _ _ _ _ _
+    (λ j v. simp own-bare) (λ i j v. refl) (simp map-append))
+
+onWire-bare : (e : Env) (l : Line) (s : Set) (h : ℕ) (fs : List Figure) (n : ℕ) (w : Wire) (p : ℕ) (f : Form)
+    → mapG bareState (onWire e l s h fs n w p f) ≡ onWire e (bareLine l) (bareSet s) h (map bareFigure fs) 0 (bareWire w) p (bareForm f)
+onWire-bare e l s h fs n w zero f = onWireOwn-bare e l s h fs n w f
+onWire-bare e l s h fs n w (suc p) f = onWireText-bare s h fs n w (suc p) f
 
 -- ── skipped lines ──
 skipEnded-bare : (s : Set) (h : ℕ) (fs : List Figure) (n : ℕ) (b : Owned) → bareState (skipEnded s h fs n b) ≡ skipEnded (bareSet s) h (map bareFigure fs) 0 (bareOwned b)
@@ -291,7 +366,7 @@ stepIn-bare e l (figures s h fs) = onFigures-bare e l s h fs (l .form)
 stepIn-bare e l (successive s h fs n ps) = onSuccessive-bare e l s h fs n ps (l .form)
 stepIn-bare e l (texts s h fs n o) = onTexts-bare s h fs n o (l .form)
 stepIn-bare e l (placing s h fs n (symbolBlock o) p) = onPlacing-bare e s h fs n o p (l .form)
-stepIn-bare e l (placing s h fs n (wireBlock w) p) = onWire-bare e l s h fs n w (l .form)
+stepIn-bare e l (placing s h fs n (wireBlock w) p) = onWire-bare e l s h fs n w p (l .form)
 stepIn-bare e l (placing s h fs n wireUnread p) = refl
 stepIn-bare e l (skipping s h fs n b d) = onSkipping-bare s h fs n b d (l .form)
 stepIn-bare e l (ended s) = refl

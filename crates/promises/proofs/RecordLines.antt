@@ -1,29 +1,30 @@
 -- The volume and line of each record of a set: those of the line at which it was taken, in the order of the lines.
-use Prim.Native.Nat.{ℕ, zero, suc, _+_, _≤_, _<_}
-use mathlib.Core.Bool.{Bool, true, false, cond, _&&_, _||_, not}
+use Prim.Native.Nat.{ℕ, suc, _+_}
+use mathlib.Core.Bool.{Bool, true, false, cond, _&&_, not}
 use mathlib.Core.List.{List, [], _∷_, _++_, map}
 use mathlib.Core.Option.{Option, some}
 use mathlib.Core.Path.{_≡_, refl, _∙_, ap, ap₂}
 use native.Mathlib.Omega.{arith}
-use lib.Dec.{eqb, leb, ltb}
+use lib.Dec.{eqb}
 use lib.IntN.{ℤ, pos}
-use lib.ListN.{length, getD, set, take, drop}
-use lib.Seq.{sets, getD-set-other, getD-take, getD-drop}
-use borrow.Author.Tests.{ltb-true, leb-true, eqb-false, not-true}
+use lib.ListN.{getD, set, take, drop}
+use lib.Seq.{getD-take, getD-drop}
 use Rattle.rules.specs.declared.Digits.{Digits}
 use Rattle.rules.specs.declared.Class.{Class}
 use Rattle.rules.specs.Base.{all, flat}
-use Rattle.rules.specs.RangeClass.{digits, hides}
+use Rattle.rules.specs.RangeClass.{digits, digitsOf}
 use Rattle.rules.specs.Values.{Value, nums}
-use Rattle.rules.specs.Rows.{Rule, Slots, Held, partOf}
+use Rattle.rules.specs.Rows.{Rule, Slots, Held}
 use Rattle.rules.specs.Blocks.{fileTable, rangeTable, baseTable, elecTable, symTable, laterTable, fileTables, drawingTable, symbolTable}
 use Rattle.rules.specs.Figures.{layerTable, figureTable, pointTable, textTable, placedTable, placedTables, wireTable}
-use Rattle.rules.specs.Sets.{Point, Edge, Figure, plain, chain, lettering, placed, wired, passed, Layer, Drawing, Symbol, LayerBlock, Contents, Set, isSingle, isWired}
-use Rattle.rules.specs.RecordTable.{numbersOf, stateOf, columns, others, padded, putNumbers, putState, putSlot, firstSlot, otherSlots, putSlots, putParts, putHeld, unreadState, markUnread, start, fileRecords, drawingRecord, layerRecords, ruleAt, pointRecords, figureRecords, innerRecords, symbolRecords, blockRecords, bodyRecords, laterRecords, recordsFrom, recordsOf}
+use Rattle.rules.specs.Sets.{Point, Edge, Wire, Figure, plain, chain, lettering, placed, wired, passed, Layer, Drawing, Symbol, LayerBlock, Contents, Set, isSingle, isWired}
+use Rattle.rules.specs.RecordTable.{putSlot, putSlots, putHeld, markUnread, start, fileRecords, drawingRecord, layerRecords, ruleAt, pointRecords, figureRecords, innerRecords, symbolRecords, blockRecords, bodyRecords, laterRecords, recordsFrom, recordsOf}
 use Rattle.rules.specs.RecordTable.{View, viewOf, plainView, kindEdge, placeJoin, edgeRecord, edgeRecords}
+use Rattle.rules.specs.RecordTable.{twoOf, wireStart, wireValues, width, placeMark, unreadMark, unreadNumbers}
 use Rattle.rules.proofs.Chains.{and-left, and-right, by-cond, map-append}
 use Rattle.promises.specs.Acceptance.{Place, place, placeOf}
 use Rattle.promises.specs.TableTexts.{amountOf}
+use Rattle.promises.proofs.LeftAlone.{misses, set-miss, slot-miss, slots-miss, parts-miss, unread-miss, at-misses, wire-miss}
 
 -- ── the lines of what is held, in volume k ──
 abbrev pub pointPlaces : ℕ → List Point → List Place
@@ -77,76 +78,6 @@ frontPlaces k d ys v = (headPlaces k v ++ drawnPlaces k d) ++ symbolsPlaces k ys
 abbrev pub setPlaces : Drawing → List Symbol → List Contents → List Place
 setPlaces d ys [] = []
 setPlaces d ys (v ∷ vs) = (frontPlaces 1 d ys v ++ bodyPlaces 1 v) ++ laterPlaces 2 vs
-
--- ── what is put into a record leaves its volume and line ──
--- numbers from place p on, n of them, are not at i; a state is not at i; place 0 is nowhere
-abbrev outside : ℕ → ℕ → ℕ → Bool
-outside i zero n = true
-outside i (suc p) n = ltb i (suc p) || leb (suc p + n) i
-
-abbrev apart : ℕ → ℕ → Bool
-apart i zero = true
-apart i (suc q) = not (eqb i (suc q))
-
-abbrev misses : ℕ → Rule → Bool
-misses i r = outside i (r .place) (columns (r .holds)) && apart i (r .state)
-
-sets-behind : (vs l : List ℤ) (p i : ℕ) → i < p → getD (sets l p vs) i (pos 0) ≡ getD l i (pos 0)
-sets-behind [] l p i h = refl
-sets-behind (v ∷ vs) l p i h = sets-behind vs (set l p v) (suc p) i (omega (arith, h)) ∙ getD-set-other l p i v (pos 0) (λ e. absurd (omega (arith, e, h)))
-
-sets-before : (vs l : List ℤ) (p i : ℕ) → p + length vs ≤ i → getD (sets l p vs) i (pos 0) ≡ getD l i (pos 0)
-sets-before [] l p i h = refl
-sets-before (v ∷ vs) l p i h = sets-before vs (set l p v) (suc p) i (omega (arith, h)) ∙ getD-set-other l p i v (pos 0) (λ e. absurd (omega (arith, e, h)))
-
-padded-length : (n : ℕ) (zs : List ℤ) → length (padded n zs) ≡ n
-padded-length zero zs = refl
-padded-length (suc n) zs = ap suc (padded-length n (others zs))
-
-numbers-miss : (p n i : ℕ) (zs t : List ℤ) → outside i p n ≡ true → length zs ≡ n → getD (putNumbers p zs t) i (pos 0) ≡ getD t i (pos 0)
-numbers-miss zero n i zs t e h = refl
-numbers-miss (suc p) n i zs t e h = go (ltb i (suc p)) refl e
-  where
-    go : (b : Bool) → ltb i (suc p) ≡ b → (b || leb (suc p + n) i) ≡ true → getD (sets t (suc p) zs) i (pos 0) ≡ getD t i (pos 0)
-    go true q e = sets-behind zs t (suc p) i (ltb-true i (suc p) q)
-    go false q e = let w = leb-true (suc p + n) i e in sets-before zs t (suc p) i (omega (arith, w, h))
-
-set-miss : (q i : ℕ) (z : ℤ) (t : List ℤ) → not (eqb i q) ≡ true → getD (set t q z) i (pos 0) ≡ getD t i (pos 0)
-set-miss q i z t e = getD-set-other t q i z (pos 0) (eqb-false i q (not-true (eqb i q) e))
-
-state-miss : (q i : ℕ) (z : ℤ) (t : List ℤ) → apart i q ≡ true → getD (putState q z t) i (pos 0) ≡ getD t i (pos 0)
-state-miss zero i z t e = refl
-state-miss (suc q) i z t e = set-miss (suc q) i z t e
-
-slot-miss : (i : ℕ) (r : Rule) (o : Option Value) (t : List ℤ) → misses i r ≡ true → getD (putSlot r o t) i (pos 0) ≡ getD t i (pos 0)
-slot-miss i r o t e =
-    let out = and-left (outside i (r .place) (columns (r .holds))) _ e in
-    state-miss (r .state) i (stateOf o) _ (and-right (outside i (r .place) (columns (r .holds))) _ e)
-    ∙ numbers-miss (r .place) (columns (r .holds)) i _ t out (padded-length (columns (r .holds)) (numbersOf o))
-
-slots-miss : (i : ℕ) (rs : List Rule) (s : Slots) (t : List ℤ) → all (misses i) rs ≡ true → getD (putSlots rs s t) i (pos 0) ≡ getD t i (pos 0)
-slots-miss i [] s t e = refl
-slots-miss i (r ∷ rs) s t e =
-    slot-miss i r (firstSlot s) _ (and-left (misses i r) _ e) ∙ slots-miss i rs (otherSlots s) t (and-right (misses i r) _ e)
-
-parts-miss : (i p : ℕ) (ts : List (List Rule)) (h : Held) (t : List ℤ) → all (all (misses i)) ts ≡ true → getD (putParts p ts h t) i (pos 0) ≡ getD t i (pos 0)
-parts-miss i p [] h t e = refl
-parts-miss i p (r ∷ ts) h t e =
-    slots-miss i r (partOf h p) _ (and-left (all (misses i) r) _ e) ∙ parts-miss i (suc p) ts h t (and-right (all (misses i) r) _ e)
-
-unread-miss : (i : ℕ) (c d : Digits) (rs : List Rule) (t : List ℤ) → all (misses i) rs ≡ true → getD (markUnread c d rs t) i (pos 0) ≡ getD t i (pos 0)
-unread-miss i c d [] t e = refl
-unread-miss i c d (r ∷ rs) t e = one (r .state) (and-right (outside i (r .place) (columns (r .holds))) _ (and-left (misses i r) _ e)) ∙ unread-miss i c d rs t (and-right (misses i r) _ e)
-  where
-    one : (q : ℕ) → apart i q ≡ true → getD (unreadState q (hides c d (r .least)) (markUnread c d rs t)) i (pos 0) ≡ getD (markUnread c d rs t) i (pos 0)
-    one zero e = refl
-    one (suc q) e = set-miss (suc q) i _ (markUnread c d rs t) e
-
--- a row by its number, one that there is not too
-at-misses : (i : ℕ) (t : List Rule) (j : ℕ) → all (misses i) t ≡ true → misses i (ruleAt t j) ≡ true
-at-misses i [] j e = refl
-at-misses i (r ∷ t) zero e = and-left (misses i r) _ e
-at-misses i (r ∷ t) (suc j) e = at-misses i t j (and-right (misses i r) _ e)
 
 -- ── a record's place ──
 -- the rows of a table leave places 2 and 3 alone
@@ -245,6 +176,50 @@ edges-at : (owner k : ℕ) (es : List Edge) → map placeOf (edgeRecords owner k
 edges-at owner k [] = refl
 edges-at owner k (e ∷ es) = ap₂ _∷_ (edge-at owner k e) (edges-at owner k es)
 
+-- a wire's two records are both taken at its line: places 2 and 3, and 34 and 35
+record AtWire (k n : ℕ) (t : List ℤ) : Type 0 where
+  volume : getD t 2 (pos 0) ≡ pos k
+  line : getD t 3 (pos 0) ≡ pos n
+  volumeToo : getD t 34 (pos 0) ≡ pos k
+  lineToo : getD t 35 (pos 0) ≡ pos n
+
+two-at : {k n : ℕ} (t : List ℤ) (rs : List (List ℤ)) {ps : List Place} → map placeOf rs ≡ ps → AtWire k n t → map placeOf (twoOf t ++ rs) ≡ place k n ∷ place k n ∷ ps
+two-at {k} {n} t rs e a =
+    let one = place-kept 18 0 k n (take 32 t) (getD-take 32 t 2 (pos 0) (omega arith) ∙ a .volume) (getD-take 32 t 3 (pos 0) (omega arith) ∙ a .line) in
+    let two = place-kept 19 0 k n (drop 32 t) (getD-drop 32 t 2 (pos 0) ∙ a .volumeToo) (getD-drop 32 t 3 (pos 0) ∙ a .lineToo) in
+    ap₂ _∷_ one (ap₂ _∷_ two e)
+
+clear-two : (all (misses 34) wireTable ≡ true) × (all (misses 35) wireTable ≡ true)
+unfolding wireTable
+clear-two = (refl, refl)
+
+wire-at : (w : View) (x : Wire) (owner k n : ℕ) → AtWire k n (wireValues w x (wireStart owner k n))
+wire-at w x owner k n =
+    let t = wireStart owner k n in
+    record {
+      volume = wire-miss 2 w x t (at-two wireTable clear-wire) refl;
+      line = wire-miss 3 w x t (at-three wireTable clear-wire) refl;
+      volumeToo = wire-miss 34 w x t (clear-two .0) refl;
+      lineToo = wire-miss 35 w x t (clear-two .1) refl;
+    }
+
+abbrev unreadStart : View → ℕ → ℕ → ℕ → List ℤ
+unreadStart w owner k n = markUnread (digits 0 0) (digitsOf (w .wires)) wireTable (wireStart owner k n)
+
+unread-at : (w : View) (owner k n : ℕ) → AtWire k n (unreadNumbers (unreadStart w owner k n))
+unread-at w owner k n =
+    let t = wireStart owner k n in
+    let d = digitsOf (w .wires) in
+    let u = unreadStart w owner k n in
+    let at : (i : ℕ) → all (misses i) wireTable ≡ true → not (eqb i placeMark) ≡ true → not (eqb i (width + placeMark)) ≡ true → getD (unreadNumbers u) i (pos 0) ≡ getD t i (pos 0) =
+    λ i e p q. set-miss (width + placeMark) i unreadMark (set u placeMark unreadMark) q ∙ set-miss placeMark i unreadMark u p ∙ unread-miss i (digits 0 0) d wireTable t e in
+    record {
+      volume = at 2 (at-two wireTable clear-wire) refl refl;
+      line = at 3 (at-three wireTable clear-wire) refl refl;
+      volumeToo = at 34 (clear-two .0) refl refl;
+      lineToo = at 35 (clear-two .1) refl refl;
+    }
+
 figure-at : (w : View) → clear (w .table) ≡ true → (more owner k : ℕ) (f : Figure) → map placeOf (figureRecords w more owner k f) ≡ figurePlaces k f
 figure-at w e more owner k (plain n j v) =
     by-cond (λ (r : List ℤ). placeOf r ∷ [] ≡ place k n ∷ []) (eqb j 6)
@@ -253,8 +228,8 @@ figure-at w e more owner k (plain n j v) =
 figure-at w e more owner k (chain n ps) = ap (λ qs. place k n ∷ qs) (points-at (17 + more) owner k ps)
 figure-at w e more owner k (lettering n s) = ap (λ p. p ∷ []) (slots-place (15 + more) owner k n (textTable true 4 12) clear-text s)
 figure-at w e more owner k (placed n h) = ap (λ p. p ∷ []) (placed-at (w .class .symbols) (w .symbols) (16 + more) owner k n h)
-figure-at w e more owner k (wired n x) = ap (λ qs. place k n ∷ place k n ∷ qs) (edges-at owner k (x .elements))
-figure-at w e more owner k (passed n) = refl
+figure-at w e more owner k (wired n x) = two-at (wireValues w x (wireStart owner k n)) (edgeRecords owner k (x .elements)) (edges-at owner k (x .elements)) (wire-at w x owner k n)
+figure-at w e more owner k (passed n) = two-at (unreadNumbers (unreadStart w owner k n)) [] refl (unread-at w owner k n)
 
 flat-at : {A : Type 0} (f : A → List (List ℤ)) (g : A → List Place) → ((a : A) → map placeOf (f a) ≡ g a) → (s : List A) → map placeOf (flat (map f s)) ≡ flat (map g s)
 flat-at f g h [] = refl

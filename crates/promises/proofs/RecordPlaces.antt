@@ -1,28 +1,33 @@
 -- Records differ in their places alone, where only rows of text hold text.
-use Prim.Native.Nat.{ℕ, zero, suc, _+_}
-use mathlib.Core.Bool.{Bool, true, false, cond, _||_, not}
+use Prim.Native.Nat.{ℕ, zero, suc, _+_, _/_, _≤_}
+use mathlib.Core.Bool.{Bool, true, false, cond, _&&_, _||_, not}
 use mathlib.Core.List.{List, [], _∷_, _++_, map}
 use mathlib.Core.Option.{Option, none, some}
 use mathlib.Core.Path.{_≡_, refl, sym, _∙_, ap, ap₂}
 use lib.Dec.{eqb}
 use lib.IntN.{ℤ, pos, negsuc}
-use lib.ListN.{length, getD, set, take, drop, length-map}
+use native.Mathlib.Omega.{arith}
+use lib.ListN.{length, getD, set, take, drop, replicate, length-map, length-take, length-drop}
 use lib.Seq.{sets}
 use Rattle.rules.specs.declared.Digits.{Digits}
 use Rattle.rules.specs.declared.Class.{Class}
-use Rattle.rules.specs.Base.{mapO, all, flat, hasNumber}
-use Rattle.rules.specs.RangeClass.{digits, hides}
-use Rattle.rules.specs.Values.{Num, Value, empty, nums, chars, linked, Kind, values, text, word, volumeName, sheet, ratio, serials, nothing, opens, headed, either}
+use Rattle.rules.specs.Base.{mapO, isNil, all, flat, hasNumber}
+use Rattle.rules.specs.RangeClass.{digitsOf, hides}
+use Rattle.rules.specs.Values.{Num, Value, empty, nums, chars, linked, Kind, values, text, word, volumeName, sheet, ratio, serials, wireSerial, nothing, opens, headed, either}
 use Rattle.rules.specs.Rows.{Rule, Slots, Held, partOf}
 use Rattle.rules.specs.Blocks.{fileTable, rangeTable, baseTable, elecTable, symTable, laterTable, fileTables, drawingTable, symbolTable}
-use Rattle.rules.specs.Figures.{pointTable, textTable, placedTable, placedTables, wireTable}
-use Rattle.rules.specs.Sets.{Point, Figure, plain, chain, lettering, placed, Layer, Drawing, Symbol, Contents, Set, Edge, wired, passed}
+use Rattle.rules.specs.Figures.{pointTable, textTable, placedTable, placedTables, wireTable, wireTextTable}
+use Rattle.rules.specs.Sets.{Point, Figure, plain, chain, lettering, placed, Layer, Drawing, Symbol, Contents, Set, Edge, Wire, wired, passed}
 use Rattle.rules.specs.RecordTable.{numbers, numbersOf, stateOf, columns, firstOr0, others, padded, putNumbers, putState, putSlot, firstSlot, otherSlots, putSlots, putParts, putHeld, unreadState, markUnread, start, fileRecords, drawingRecord, layerRecord, layerRecords, ruleAt, plainRecord, lineRecord, pointRecords, firstType, chainRecord, textRecord, placedRecord, figureRecords, innerRecords, symbolRecords, blockRecords, bodyRecords, laterRecords, recordsFrom, recordsOf, kindEdge, placeJoin, edgeRecord, edgeRecords}
-use Rattle.rules.specs.RecordTable.{View, viewOf, plainView}
-use Rattle.rules.proofs.Chains.{and-left, and-right, cond-same, map-append}
-use Rattle.promises.specs.PlacesApart.{bareValue, bareSlots, bareHeld, barePoint, bareFigure, bareLayer, bareDrawing, bareSymbol, bareBlock, bareContents, bareSet, textPlaces, kindOf, without, placesApart, bareEdge}
+use Rattle.rules.specs.RecordTable.{View, viewOf, plainView, width, twoOf, wireStart, placeElements, placeJoinDigit, Shelf, shelves, stateOfMany, shownLines, putGroup, putGroups, placeTexts, placeTextState, firstText, textShown, textNumbers, putTexts, wireValues}
+use Rattle.rules.proofs.Chains.{and-left, and-right, clash, cond-same, map-append}
+use Rattle.promises.specs.PlacesApart.{bareValue, bareSlots, bareHeld, barePoint, bareFigure, bareLayer, bareDrawing, bareSymbol, bareBlock, bareContents, bareSet, textPlaces, kindOf, without, placesApart, bareEdge, bareWire}
 use Rattle.promises.proofs.Bare.{part-bare, range-bare, single-bare, wire-bare, wired-bare}
-use Rattle.promises.proofs.FitSets.{isText, isShown, anyText, FitSlot, FitSlots, FitHeld, Each, FitFigure, FitSymbol, FitBlock, FitContents, FitVolumes, FitSet}
+use Rattle.promises.proofs.FitSets.{isText, isShown, anyText, FitSlot, FitSlots, FitHeld, Each, FitFigure, FitSymbol, FitBlock, FitContents, FitVolumes, FitSet, FitWire}
+use Rattle.promises.proofs.FitRows.{fit-nil}
+use Rattle.promises.proofs.Weights.{onward}
+use Rattle.promises.proofs.Widths.{wire-length}
+use Rattle.promises.proofs.WireRecords.{wire-shows}
 
 -- ── lists that agree but at some places ──
 abbrev isPlace : ℕ → ℕ → Bool
@@ -61,6 +66,7 @@ text-columns volumeName e = refl
 text-columns sheet e = refl
 text-columns ratio e = refl
 text-columns serials e = refl
+text-columns wireSerial e = cc
 text-columns nothing e = cc
 text-columns (opens i) e = cc
 text-columns (headed i p) e = cc
@@ -70,6 +76,9 @@ text-columns (either i) e = cc
 abbrev FitParts : ℕ → List (List Rule) → Held → Type 0
 FitParts n [] h = Unit {0}
 FitParts n (r ∷ ts) h = FitSlots anyText r (partOf h n) × FitParts (suc n) ts h
+
+nil-full : {A : Type 0} {z : ℤ} {zs : List ℤ} → z ∷ zs ≡ [] → A
+nil-full e = clash refl (ap isNil (sym e))
 
 module _ (p : ℕ → Bool) where
   -- the same number goes into both
@@ -152,6 +161,28 @@ module _ (p : ℕ → Bool) where
       rw (part-bare h n)
       (slots-apart r (partOf h n) (putParts (suc n) ts h t) (putParts (suc n) ts (bareHeld h) u) (and-left (all rowApart r) (all (all rowApart) ts) a) (f .0)
       (parts-apart ts (suc n) h t u (and-right (all rowApart r) (all (all rowApart) ts) a) (f .1) e))
+
+  -- ── a wire's groups and texts ──
+  group-same : (h : Shelf) (vs : List (List Num)) (t u : List ℤ) → without p t ≡ without p u → without p (putGroup h vs t) ≡ without p (putGroup h vs u)
+  group-same h vs t u e =
+      set-same (sets t (h .place) (pos (length vs) ∷ shownLines (h .shown) (h .wide) vs)) (sets u (h .place) (pos (length vs) ∷ shownLines (h .shown) (h .wide) vs)) (h .state) (stateOfMany (length vs))
+      (sets-same (pos (length vs) ∷ shownLines (h .shown) (h .wide) vs) t u (h .place) e)
+
+  groups-same : (hs : List Shelf) (gs : List (List (List Num))) (t u : List ℤ) → without p t ≡ without p u → without p (putGroups hs gs t) ≡ without p (putGroups hs gs u)
+  groups-same [] gs t u e = e
+  groups-same (h ∷ hs) [] t u e = e
+  groups-same (h ∷ hs) (g ∷ gs) t u e = group-same h g (putGroups hs gs t) (putGroups hs gs u) (groups-same hs gs t u e)
+
+  -- numbers that differ only where it does not count
+  sets-apart : (zs ys t u : List ℤ) (i : ℕ) → without (λ k. p (onward i k)) zs ≡ without (λ k. p (onward i k)) ys → without p t ≡ without p u
+      → without p (sets t i zs) ≡ without p (sets u i ys)
+  sets-apart [] [] t u i d e = e
+  sets-apart [] (y ∷ ys) t u i d e = nil-full (sym d)
+  sets-apart (z ∷ zs) [] t u i d e = nil-full d
+  sets-apart (z ∷ zs) (y ∷ ys) t u i d e =
+      let head : cond (p i) (pos 0) z ≡ cond (p i) (pos 0) y = cc in
+      let tail : without (λ k. p (onward (suc i) k)) zs ≡ without (λ k. p (onward (suc i) k)) ys = cc in
+      sets-apart zs ys (set t i z) (set u i y) (suc i) tail (rw (set-without p t i z, set-without p u i y, e, head))
 
 -- ── one record ──
 kind-sets : (zs t : List ℤ) (i : ℕ) → kindOf (sets t (suc i) zs) ≡ kindOf t
@@ -298,6 +329,116 @@ edges-apart : (owner volume : ℕ) (es : List Edge) → Apart (edgeRecords owner
 edges-apart owner volume [] = no-record
 edges-apart owner volume (e ∷ es) = one-more (edge-apart owner volume e) (edges-apart owner volume es)
 
+-- a wire's two records: their lines stand at 3 and 35, the first text's place at 46, the circuit's at 48
+abbrev isTwo : ℕ → Bool
+isTwo i = hasNumber i (3 ∷ 35 ∷ 46 ∷ 48 ∷ [])
+
+-- two tests of places that say the same of the first n
+abbrev agreeTo : ℕ → (ℕ → Bool) → (ℕ → Bool) → Bool
+agreeTo zero p q = true
+agreeTo (suc n) p q = cond (p 0) (q 0) (not (q 0)) && agreeTo n (λ i. p (suc i)) (λ i. q (suc i))
+
+without-agree : (n : ℕ) (p q : ℕ → Bool) (t : List ℤ) → length t ≤ n → agreeTo n p q ≡ true → without p t ≡ without q t
+without-agree n p q [] l e = refl
+without-agree zero p q (z ∷ t) l e = absurd (omega arith)
+without-agree (suc n) p q (z ∷ t) l e =
+    ap₂ _∷_ (go (p 0) (q 0) (and-left (cond (p 0) (q 0) (not (q 0))) _ e))
+    (without-agree n (λ i. p (suc i)) (λ i. q (suc i)) t (omega arith) (and-right (cond (p 0) (q 0) (not (q 0))) _ e))
+  where
+    go : (a b : Bool) → cond a b (not b) ≡ true → cond a (pos 0) z ≡ cond b (pos 0) z
+    go true true e = refl
+    go true false e = clash e refl
+    go false true e = clash e refl
+    go false false e = refl
+
+take-without : (n : ℕ) (p : ℕ → Bool) (t : List ℤ) → take n (without p t) ≡ without p (take n t)
+take-without zero p t = refl
+take-without (suc n) p [] = refl
+take-without (suc n) p (z ∷ t) = ap (λ u. cond (p 0) (pos 0) z ∷ u) (take-without n (λ i. p (suc i)) t)
+
+-- the test of a place that is n further
+abbrev shifted : ℕ → (ℕ → Bool) → ℕ → Bool
+shifted zero p = p
+shifted (suc n) p = shifted n (λ i. p (suc i))
+
+drop-without : (n : ℕ) (p : ℕ → Bool) (t : List ℤ) → drop n (without p t) ≡ without (shifted n p) (drop n t)
+drop-without zero p t = refl
+drop-without (suc n) p [] = refl
+drop-without (suc n) p (z ∷ t) = drop-without n (λ i. p (suc i)) t
+
+-- each record by itself, from the two together
+first-of : (t : List ℤ) → kindOf (take 32 t) ≡ 18 → placesApart (take 32 t) ≡ take 32 (without isTwo t)
+first-of t e =
+    ap (λ k. without (isPlace k) (take 32 t)) e
+    ∙ without-agree 32 (isPlace 18) isTwo (take 32 t) (omega (arith, length-take 32 t)) refl ∙ sym (take-without 32 isTwo t)
+
+second-of : (t : List ℤ) → length t ≡ 64 → kindOf (drop 32 t) ≡ 19 → placesApart (drop 32 t) ≡ drop 32 (without isTwo t)
+second-of t l e =
+    ap (λ k. without (isPlace k) (drop 32 t)) e
+    ∙ without-agree 32 (isPlace 19) (shifted 32 isTwo) (drop 32 t) (omega (arith, length-drop 32 t)) refl ∙ sym (drop-without 32 isTwo t)
+
+first-text : (ss : List Slots) → firstText (map bareSlots ss) ≡ bareSlots (firstText ss)
+first-text [] = refl
+first-text (s ∷ ss) = refl
+
+first-fits : (ss : List Slots) → Each (FitSlots anyText wireTextTable) ss → FitSlots anyText wireTextTable (firstText ss)
+first-fits [] g = fit-nil anyText wireTextTable
+first-fits (s ∷ ss) g = g .0
+
+-- of the ten numbers of a text the ninth is its byte place
+text-numbers : (s : Slots) → FitSlots anyText wireTextTable s
+    → without (λ k. isTwo (onward (suc placeTexts) k)) (textNumbers s) ≡ without (λ k. isTwo (onward (suc placeTexts) k)) (textNumbers (bareSlots s))
+unfolding textTable
+text-numbers s f =
+    ap (λ t. take textShown (drop 4 t)) (slots-apart (isPlace 15) wireTextTable s (replicate width (pos 0)) (replicate width (pos 0)) refl f refl)
+
+texts-apart : (ss : List Slots) (t u : List ℤ) → Each (FitSlots anyText wireTextTable) ss → without isTwo t ≡ without isTwo u
+    → without isTwo (putTexts ss t) ≡ without isTwo (putTexts (map bareSlots ss) u)
+texts-apart ss t u f e =
+    let n = pos (length ss) in
+    rw (length-map ss bareSlots, first-text ss)
+    (set-same isTwo (sets t placeTexts (n ∷ textNumbers (firstText ss))) (sets u placeTexts (n ∷ textNumbers (bareSlots (firstText ss)))) placeTextState (stateOfMany (length ss))
+    (sets-apart isTwo (n ∷ textNumbers (firstText ss)) (n ∷ textNumbers (bareSlots (firstText ss))) t u placeTexts
+    (ap (λ zs. n ∷ zs) (text-numbers (firstText ss) (first-fits ss f))) e))
+
+own-apart : (owner volume line : ℕ) (s : Slots) → FitSlots anyText wireTable s
+    → without isTwo (putSlots wireTable s (wireStart owner volume line)) ≡ without isTwo (putSlots wireTable (bareSlots s) (wireStart owner volume 0))
+unfolding wireTable
+own-apart owner volume line s f = slots-apart isTwo wireTable s (wireStart owner volume line) (wireStart owner volume 0) refl f refl
+
+values-apart : (w : View) (owner volume line : ℕ) (x : Wire) → FitWire anyText x
+    → without isTwo (wireValues w x (wireStart owner volume line)) ≡ without isTwo (wireValues w (bareWire x) (wireStart owner volume 0))
+values-apart w owner volume line x f =
+    let own = putSlots wireTable (x .own) (wireStart owner volume line) in
+    let own′ = putSlots wireTable (bareSlots (x .own)) (wireStart owner volume 0) in
+    let texts = putTexts (x .texts) own in
+    let texts′ = putTexts (map bareSlots (x .texts)) own′ in
+    let groups = putGroups shelves (x .groups) texts in
+    let groups′ = putGroups shelves (x .groups) texts′ in
+    let n = pos (length (x .elements)) in
+    let j = pos (w .wires / 100) in
+    rw (length-map (x .elements) bareEdge)
+    (marked-same isTwo (w .class .wires) (digitsOf (w .wires)) wireTable (set (set groups placeElements n) placeJoinDigit j) (set (set groups′ placeElements n) placeJoinDigit j)
+    (set-same isTwo (set groups placeElements n) (set groups′ placeElements n) placeJoinDigit j
+    (set-same isTwo groups groups′ placeElements n
+    (groups-same isTwo shelves (x .groups) texts texts′ (texts-apart (x .texts) own own′ (f .1) (own-apart owner volume line (x .own) (f .2)))))))
+
+wire-apart : (w : View) (owner volume line : ℕ) (x : Wire) → FitWire anyText x
+    → Apart (twoOf (wireValues w x (wireStart owner volume line))) (twoOf (wireValues w (bareWire x) (wireStart owner volume 0)))
+wire-apart w owner volume line x f =
+    let t = wireValues w x (wireStart owner volume line) in
+    let u = wireValues w (bareWire x) (wireStart owner volume 0) in
+    let same = values-apart w owner volume line x f in
+    let shows = wire-shows w x owner volume line in
+    let shows′ = wire-shows w (bareWire x) owner volume 0 in
+    one-more (first-of t (shows .kind) ∙ ap (take 32) same ∙ sym (first-of u (shows′ .kind)))
+    (one-more (second-of t (wire-length w x (wireStart owner volume line)) (shows .kindToo) ∙ ap (drop 32) same
+    ∙ sym (second-of u (wire-length w (bareWire x) (wireStart owner volume 0)) (shows′ .kindToo))) no-record)
+
+passed-apart : (w : View) (more owner volume line : ℕ) → Apart (figureRecords w more owner volume (passed line)) (figureRecords w more owner volume (passed 0))
+unfolding wireTable
+passed-apart w more owner volume line = one-more refl (one-more refl no-record)
+
 figure-apart : (b : Bool) (w : View) (owner volume : ℕ) (f : Figure) → FitFigure anyText b f
     → Apart (figureRecords w (moreIn b) owner volume f) (figureRecords w (moreIn b) owner volume (bareFigure f))
 figure-apart b w owner volume (plain n j v) g = one-more (plain-apart w (moreIn b) owner volume n j v) no-record
@@ -305,9 +446,9 @@ figure-apart b w owner volume (chain n ps) g = one-more (chain-apart (moreIn b) 
 figure-apart b w owner volume (lettering n s) g = one-more (text-apart b owner volume n s g) no-record
 figure-apart true w owner volume (placed n h) g = one-more (placed-apart w owner volume n h g) no-record
 figure-apart false w owner volume (placed n h) g = absurd g
-figure-apart b w owner volume (wired n x) g =
-    rw (length-map (x .elements) bareEdge) (one-more refl (one-more refl (edges-apart owner volume (x .elements))))
-figure-apart b w owner volume (passed n) g = one-more refl (one-more refl no-record)
+figure-apart true w owner volume (wired n x) g = behind-it (wire-apart w owner volume n x g) (edges-apart owner volume (x .elements))
+figure-apart false w owner volume (wired n x) g = absurd g
+figure-apart b w owner volume (passed n) g = passed-apart w (moreIn b) owner volume n
 
 -- ── the whole ──
 layers-apart : (n : ℕ) (ls : List Layer) → Apart (layerRecords n ls) (layerRecords n (map bareLayer ls))

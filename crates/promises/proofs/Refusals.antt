@@ -1,4 +1,4 @@
--- Every refusal of the reading has a number from 1 to 19, 4 to 19 at a line, 1 to 3 before, and a volume of the spool where it has one.
+-- Every refusal of the reading has a number from 1 to 19 or 21, from 4 at a line, 1 to 3 before, and a volume of the spool where it has one.
 use Prim.Native.Nat.{ℕ, zero, suc, _+_, _≤_}
 use mathlib.Core.Bool.{Bool, true, false}
 use mathlib.Core.List.{List, [], _∷_, _++_}
@@ -7,7 +7,7 @@ use mathlib.Core.Path.{_≡_, refl, sym, subst}
 use native.Mathlib.Omega.{arith}
 use lib.Dec.{eqb}
 use lib.ListN.{length}
-use borrow.Author.Tests.{ne-eqb}
+use borrow.Author.Tests.{ne-eqb, not-true}
 use Rattle.rules.specs.declared.Class.{Class}
 use Rattle.rules.specs.Base.{choose, bytes, isNil, same}
 use Rattle.rules.specs.RefusalNumbers.{Got, got, bad}
@@ -15,22 +15,22 @@ use Rattle.rules.specs.Lines.{Rest, Form, ignored, Scan, neither, atEqual, atBr
 use Rattle.rules.specs.RangeClass.{digits, both, Skip, passes, deeper, noForm}
 use Rattle.rules.specs.Rows.{Found, absent, found, find, Slots, Held, partOf, rowsThere, rowsAtLimit, Act}
 use Rattle.rules.specs.Blocks.{topTable}
-use Rattle.rules.specs.Figures.{placedTable}
-use Rattle.rules.specs.Sets.{Point, Wire, Figure, Drawing, Symbol, Set, nothingYet, rangeOf, knownOf}
+use Rattle.rules.specs.Figures.{placedTable, wireTable}
+use Rattle.rules.specs.Sets.{Point, Wire, Figure, Drawing, Symbol, Set, nothingYet, rangeOf, wiresOf, knownOf}
 use Rattle.rules.specs.Machine.{Line, Env, Home, inElement, inLayer, State, top, file, drawing, layerNames, defines, symbol, hide, elements, figures, successive, texts, placing, skipping, ended, openTop, onTop, shutPart, onFile, onDrawing, layerValue, onLayerNames, openSymbol, onSymbol, onDefines, onHide, onElements, closeFigures, openPlaced, openFigure, onFigures, onSuccessive, onTexts}
 use Rattle.rules.specs.PlacedSymbol.{bySkip, onUnknown, onPlaced, onPlacedKey, onPlacedOwn, onPlacing, unreadShut, skipShut, onSkipping}
 use Rattle.rules.specs.LineByLine.{stepIn, step, Outcome, refused, accepted, thenRun, finish, run}
 use Rattle.rules.specs.Spool.{Volume, volumesOf, linesOf, mostVolumes}
 use Rattle.rules.specs.Answers.{numbered, linesOfVolume, nextName, Listed, listed, noLines, ontoLines, listVolume, listVolumes, outcomeOfLines, outcomeOfVolumes, outcomeOf, outcomeAt}
 use Rattle.rules.specs.Machine.{symbolBlock, wireBlock, wireUnread, Owned, openWire}
-use Rattle.rules.specs.Wires.{onWire}
+use Rattle.rules.specs.Wires.{onWireAct, onWireUnknown, onWireKey, onWire}
 use Rattle.rules.proofs.Chains.{and-left, and-right, clash, by-cond}
 use Rattle.rules.proofs.Runs.{not-accepted}
-use Rattle.promises.specs.DemandOne.{ofWhole, Located}
+use Rattle.promises.specs.DemandOne.{ofWhole, byReader, lastNumber, Located}
 use Rattle.promises.proofs.Frame.{volumes-inv}
 use Rattle.promises.proofs.LowerRun.{last-ends, proper}
 use Rattle.promises.proofs.Listing.{Among, Within, listing-within, lines-proper}
-use Rattle.promises.proofs.FineActs.{within-le, Fine, fine-cond, fines, fine-kind, FineAct, FineForm, fine-row, fine-unknown, fine-act, fine-byAct, answers, refuses, passed, broken, closing, ending, keying}
+use Rattle.promises.proofs.FineActs.{at-line, Fine, fine-cond, fines, fine-kind, FineAct, FineForm, fine-row, fine-unknown, fine-act, fine-byAct, answers, refuses, passed, broken, closing, ending, keying}
 
 -- ── the contexts ──
 fine-shut : (p : ℕ) (whole : Got State) (back : ℕ → State) → Fine whole → Fine (shutPart p whole back)
@@ -144,8 +144,23 @@ module _ (e : Env) (l : Line) where
   fine-placing s k fs n o zero w = fine-own s k fs n o w
   fine-placing s k fs n o (suc p) w = search (fine-placed, fine-act)
 
-  fine-wire : (s : Set) (k : ℕ) (fs : List Figure) (n : ℕ) (w : Wire) {f : Form} → FineForm f → Fine (onWire e l s k fs n w f)
-  fine-wire s k fs n w v = search steps
+  fine-wire-act : (s : Set) (k : ℕ) (fs : List Figure) (n : ℕ) (w : Wire) {a : Act} → FineAct a → Fine (onWireAct e l s k fs n w a)
+  fine-wire-act s k fs n w v = search steps depth 8
+
+  fine-wire-unknown : (s : Set) (k : ℕ) (fs : List Figure) (n : ℕ) (w : Wire) (key : List ℕ) (c : Rest) → Fine (onWireUnknown e l s k fs n w key c)
+  fine-wire-unknown s k fs n w key c = search (fines, fine-skip, fine-wire-act, fine-unknown)
+
+  fine-wire-key : (s : Set) (k : ℕ) (fs : List Figure) (n : ℕ) (w : Wire) (key : List ℕ) (c : Rest) (f : Found) → Fine (onWireKey e l s k fs n w key c f)
+  fine-wire-key s k fs n w key c absent = fine-wire-unknown s k fs n w key c
+  fine-wire-key s k fs n w key c (found j r) = search (fine-cond, fine-wire-act, fine-row, fine-unknown, fine-wire-unknown)
+
+  fine-wire : (s : Set) (k : ℕ) (fs : List Figure) (n : ℕ) (w : Wire) (p : ℕ) {f : Form} → FineForm f → Fine (onWire e l s k fs n w p f)
+  fine-wire s k fs n w zero passed = answers
+  fine-wire s k fs n w zero (broken m h) = refuses m h
+  fine-wire s k fs n w zero closing = fine-wire-act s k fs n w (fine-act (knownOf s) wireTable (both (e .class .wires) (wiresOf s)) (rowsThere (w .own)) closing)
+  fine-wire s k fs n w zero ending = refuses 9 tt
+  fine-wire s k fs n w zero (keying {k = key} {c = c}) = fine-wire-key s k fs n w key c (find key wireTable)
+  fine-wire s k fs n w (suc p) v = search steps
 
   fine-unread-shut : (s : Set) (k : ℕ) (fs : List Figure) (n : ℕ) (b : Owned) → Fine (unreadShut s k fs n b)
   fine-unread-shut s k fs n (symbolBlock o) = refuses 9 tt
@@ -177,7 +192,7 @@ module _ (e : Env) (l : Line) where
   fine-in (successive s h fs n ps) w = fine-successive s h fs n ps w
   fine-in (texts s h fs n o) w = fine-texts s h fs n o w
   fine-in (placing s h fs n (symbolBlock o) p) w = fine-placing s h fs n o p w
-  fine-in (placing s h fs n (wireBlock x) p) w = fine-wire s h fs n x w
+  fine-in (placing s h fs n (wireBlock x) p) w = fine-wire s h fs n x p w
   fine-in (placing s h fs n wireUnread p) w = refuses 9 tt
   fine-in (skipping s h fs n b d) w = fine-skipping s h fs n b d w
   fine-in (ended s) w = refuses 9 tt
@@ -265,7 +280,7 @@ least-run e st (l ∷ ls) (oneLine w r) k v n q = go (step e l st) (fine-step e 
   where
     go : (g : Got State) → Fine g → ((st′ : State) → run e st′ ls ≡ refused k v n → 4 ≤ k) → thenRun g l (λ st′. run e st′ ls) ≡ refused k v n → 4 ≤ k
     go (got st′) f ih q = ih st′ q
-    go (bad j) (refuses _ f) ih q = let z : j ≡ k = cc in omega (arith, within-le 4 19 j f .0, z)
+    go (bad j) (refuses _ f) ih q = let z : j ≡ k = cc in omega (arith, at-line j f .0, z)
 
 pub least-listed : (e : Env) (vs : List Volume) (ls : List Line) → listVolumes 1 vs ≡ listed ls → (k v n : ℕ) → run e (top nothingYet 0) ls ≡ refused k v n → 4 ≤ k
 least-listed e vs ls q k v n = go (subst FineListed q (fine-volumes 1 vs))
@@ -276,22 +291,23 @@ least-listed e vs ls q k v n = go (subst FineListed q (fine-volumes 1 vs))
 -- ── the outcome ──
 pub data OutcomeTold : Outcome → Type 0 where
   toldSet : {s : Set} → OutcomeTold (accepted s)
-  toldNumber : (n v l : ℕ) → Located 19 (record { number = n; volume = v; line = l }) → OutcomeTold (refused n v l)
+  toldNumber : (n v l : ℕ) → Located byReader (record { number = n; volume = v; line = l }) → OutcomeTold (refused n v l)
 
 -- a refusal of the spool as a whole, and one in a volume
-told-whole : (n : ℕ) → 1 ≤ n → n ≤ 19 → ofWhole n ≡ true → OutcomeTold (refused n 0 0)
-told-whole n p q w = toldNumber n 0 0 (record { least = p; most = q; whole = λ _. (refl, refl); inVolume = λ e. clash w e })
+told-whole : (n : ℕ) → 1 ≤ n → n ≤ 2 → ofWhole n ≡ true → OutcomeTold (refused n 0 0)
+told-whole n p q w =
+    toldNumber n 0 0 (record { least = p; most = omega (arith, q); known = rw (ne-eqb n 20 (λ e. omega (arith, e, q))); whole = λ _. (refl, refl); inVolume = λ e. clash w e })
 
-not-whole : (n : ℕ) → 3 ≤ n → n ≤ 19 → ofWhole n ≡ false
-not-whole n p q = rw (ne-eqb n 1 (λ e. omega (arith, e)), ne-eqb n 2 (λ e. omega (arith, e)), ne-eqb n 20 (λ e. omega (arith, e)))
+not-whole : (n : ℕ) → 3 ≤ n → byReader n ≡ true → ofWhole n ≡ false
+not-whole n p q = rw (ne-eqb n 1 (λ e. omega (arith, e, p)), ne-eqb n 2 (λ e. omega (arith, e, p)), not-true (eqb n 20) q)
 
-told-in : (n v l : ℕ) → 3 ≤ n → n ≤ 19 → 1 ≤ v → v ≤ mostVolumes → OutcomeTold (refused n v l)
-told-in n v l p q a b =
-    toldNumber n v l (record { least = omega (arith, p); most = q; whole = λ e. clash e (not-whole n p q); inVolume = λ _. (a, b) })
+told-in : (n v l : ℕ) → 3 ≤ n → n ≤ lastNumber → byReader n ≡ true → 1 ≤ v → v ≤ mostVolumes → OutcomeTold (refused n v l)
+told-in n v l p q r a b =
+    toldNumber n v l (record { least = omega (arith, p); most = q; known = r; whole = λ e. clash e (not-whole n p r); inVolume = λ _. (a, b) })
 
 told-step : (g : Got State) (l : Line) (f : State → Outcome) → Fine g → 1 ≤ l .volume → l .volume ≤ mostVolumes → ((st : State) → g ≡ got st → OutcomeTold (f st)) → OutcomeTold (thenRun g l f)
 told-step (got st) l f w a b h = h st refl
-told-step (bad n) l f (refuses _ w) a b h = let r = within-le 4 19 n w in told-in n (l .volume) (l .line) (omega (arith, r .0)) (r .1) a b
+told-step (bad n) l f (refuses _ w) a b h = let r = at-line n w in told-in n (l .volume) (l .line) (omega (arith, r .0)) (r .1) (r .2) a b
 
 -- through the last line no set comes but one that has ended
 told-run : (e : Env) (st : State) (ls : List Line) → FineLines ls → proper ls ≡ true → Among 1 mostVolumes ls → OutcomeTold (run e st ls)
@@ -308,7 +324,7 @@ told-volumes e spool = go (volumesOf spool) refl
   where
     by : (u : Volume) (vs : List Volume) (l : Listed) → listVolumes 1 (u ∷ vs) ≡ l → FineListed l → Within 1 mostVolumes l → OutcomeTold (outcomeOfLines e l)
     by u vs (listed ls) q (lines w) m = told-run e (top nothingYet 0) ls w (lines-proper 1 u vs ls q) m
-    by u vs (noLines v) q w m = told-in 3 v 0 (omega arith) (omega arith) (m .0) (m .1)
+    by u vs (noLines v) q w m = told-in 3 v 0 (omega arith) (omega arith) refl (m .0) (m .1)
 
     go : (o : Option (List Volume)) → volumesOf spool ≡ o → OutcomeTold (outcomeOfVolumes e o)
     go none p = told-whole 2 (omega arith) (omega arith) refl

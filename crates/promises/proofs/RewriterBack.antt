@@ -1,6 +1,6 @@
 -- Demand 2 of calls of the reader and the rewriter, proved from their contracts and the theorems of the demands.
 use Prim.Native.Nat.{ℕ, _*_, _≤_}
-use mathlib.Core.List.{List, _++_, map}
+use mathlib.Core.List.{List, map}
 use mathlib.Core.Path.{_≡_, refl, sym, _∙_, ap, ap₂, subst}
 use native.Mathlib.Nat.{le-refl}
 use native.Mathlib.Omega.{arith}
@@ -23,7 +23,7 @@ use Rattle.promises.proofs.Answered.{demand-one}
 use Rattle.promises.proofs.Calls.{accepted-set, table-records}
 use Rattle.promises.proofs.AnyTable.{class15, fits-table, any-table}
 use Rattle.promises.proofs.Round.{accepted-same, room-accepts, written-back, demand-two}
-use Rattle.promises.proofs.ShownTexts.{texts-kept}
+use Rattle.promises.proofs.ShownTexts.{wire-texts, texts-kept}
 use Rattle.promises.proofs.TwoClasses.{taken}
 
 -- ── the rewriter's answer ──
@@ -54,6 +54,7 @@ call-texts call n e =
       set = s;
       read = q;
       texts = subst (λ rs. ShowTexts (call .spool) rs (textsKept s)) (sym (call-table call n e)) (texts-kept (call .class) (call .wire) len (call .spool) s q);
+      wires = wire-texts (call .class) (call .wire) len (call .spool) s q;
     }
 
 -- what a call at class 15 with wire part 18 asks for

@@ -20,7 +20,7 @@ use Rattle.rules.specs.Answers.{numbered, nextName, answerWith, refusal, readOu
 use Rattle.rules.proofs.Chains.{and-left, and-right, and-true, clash}
 use Rattle.promises.specs.PlacesApart.{bareLine, bareSet, placesApart}
 use Rattle.promises.specs.TableTexts.{textsOf}
-use Rattle.promises.specs.TextsKept.{textsKept}
+use Rattle.promises.specs.TextsKept.{textsKept, textsOfWires}
 use Rattle.promises.specs.DemandTwo.{RoundTrip, DemandTwo, WrittenBack}
 use Rattle.promises.proofs.AnyTable.{rewrite-is, class15, fits-table, any-table}
 use Rattle.promises.proofs.Frame.{Spooled, laid, framed, volumes-inv, volumes-back, volumes-framed, framed-length, names-laid}
@@ -40,7 +40,7 @@ use Rattle.promises.proofs.TwoClasses.{taken, outcome-at}
 use Rattle.promises.proofs.BareForm.{form-bare}
 use Rattle.promises.proofs.Parsed.{Parsed, parsed, reading}
 use Rattle.promises.proofs.ShownTexts.{shown-texts, read-shows}
-use Rattle.promises.proofs.TextPlaces.{texts-bare}
+use Rattle.promises.proofs.TextPlaces.{texts-bare, wires-bare}
 
 -- what is written of a spool whose set is known
 written-is : (spool : List ℕ) (vs : List Volume) (s : Set) → volumesOf spool ≡ some vs → rewriteOutcome spool ≡ accepted s → written spool ≡ fixedForm (namesOf vs) s
@@ -327,6 +327,7 @@ module _ (spool : List ℕ) (s : Set) (outcome : rewriteOutcome spool ≡ accept
             let (u, o, q) = accepted-inv len spool n e in
             ap (textsOf (written spool)) (taken len (written spool) fullNumber fullWire fullClass (a .set) class15 (again-limited a len u o) .0) ∙ again-texts a fullClass
             ∙ ap (λ v. textsOf spool (recordsOf fullClass v)) (sym (same-set a len u o)) ∙ ap (textsOf spool) (sym (taken len spool fullNumber fullWire fullClass u class15 o .0));
+        wires = sym (wires-bare (a .set)) ∙ ap textsOfWires (again-set a) ∙ wires-bare s;
         twice = again-form a;
       }
 

@@ -15,7 +15,7 @@ use Rattle.rules.specs.RefusalNumbers.{got, orBad, keep}
 use Rattle.rules.specs.Numbers.{readFixed, fixedOnto, fixed}
 use Rattle.rules.specs.Lines.{allowed, Rest, brace, equals, keyed, formOf, stem, Shape, opener, noContent, content, opening, formless, byStem, shapeOf, freeShapeOf, hasForm}
 use Rattle.rules.specs.RangeClass.{reaches}
-use Rattle.rules.specs.Values.{Num, num, Value, empty, nums, chars, Known, anyBytes, byteIn, isLayerId, Part, range, readPart, Kind, values, text, word, volumeName, sheet, ratio, serials, nothing, opens, headed, either, isFree, readKind, charsOf, showContent}
+use Rattle.rules.specs.Values.{Num, num, Value, empty, nums, chars, Known, anyBytes, byteIn, isLayerId, Part, range, readPart, Kind, values, text, word, volumeName, sheet, ratio, serials, wireSerial, nothing, opens, headed, either, isFree, readKind, charsOf, showContent}
 use Rattle.rules.specs.Rows.{Times, once, upTo, anyNumber, Rule, isContent, isEmpty, fits, shapeFor, Act, entry, begin, innerOf, readShape, notTwice, actRow}
 use Rattle.rules.specs.Machine.{layerValue}
 use Rattle.rules.specs.FixedForm.{opensBlock, behind, lineOf}
@@ -111,6 +111,7 @@ sort volumeName = plain (λ m s. refl) (λ k v. refl) (λ v. refl)
 sort sheet = plain (λ m s. refl) (λ k v. refl) (λ v. refl)
 sort ratio = plain (λ m s. refl) (λ k v. refl) (λ v. refl)
 sort serials = plain (λ m s. refl) (λ k v. refl) (λ v. refl)
+sort wireSerial = plain (λ m s. refl) (λ k v. refl) (λ v. refl)
 sort nothing = emptyOnly
 sort (opens i) = braceOnly
 sort (headed i p) = heads
@@ -125,6 +126,7 @@ numbersOnly volumeName = false
 numbersOnly sheet = false
 numbersOnly ratio = false
 numbersOnly serials = false
+numbersOnly wireSerial = false
 numbersOnly nothing = false
 numbersOnly (opens i) = true
 numbersOnly (headed i p) = false

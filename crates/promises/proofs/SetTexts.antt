@@ -3,24 +3,27 @@ use Prim.Native.Nat.{ℕ, zero, suc, _+_, _<_}
 use mathlib.Core.Bool.{Bool, true, false, cond}
 use mathlib.Core.List.{List, [], _∷_, _++_, map}
 use mathlib.Core.Option.{Option, none, some}
-use mathlib.Core.Path.{_≡_, refl, subst}
+use mathlib.Core.Path.{_≡_, refl, sym, subst}
 use native.Mathlib.Omega.{arith}
 use lib.IntN.{ℤ, pos}
-use lib.ListN.{length, getD}
+use lib.ListN.{length, getD, take, drop}
 use Rattle.rules.specs.declared.Class.{Class}
 use Rattle.rules.specs.Base.{flat}
 use Rattle.rules.specs.Values.{Num, Value, empty, nums, chars, linked, charsOf}
-use Rattle.rules.specs.Rows.{Rule, Slots, Held, partOf, slotValue}
+use Rattle.rules.specs.Rows.{Slots, Held, partOf, slotValue}
 use Rattle.rules.specs.Blocks.{fileTable, rangeTable, baseTable, elecTable, symTable, laterTable, fileTables, drawingTable, symbolTable}
-use Rattle.rules.specs.Figures.{layerTable, figureTable, pointTable, textTable, placedTable, placedTables, wireTable}
-use Rattle.rules.specs.Sets.{Point, Figure, plain, chain, lettering, placed, Layer, Drawing, Symbol, Contents, Set, symbolNameOf, Edge, wired, passed}
-use Rattle.rules.specs.RecordTable.{numbersOf, firstOr0, others, firstSlot, otherSlots, putSlots, start, fileRecords, drawingRecord, layerRecords, pointRecords, chainRecord, lineRecord, textRecord, placedRecord, figureRecords, innerRecords, symbolRecords, blockRecords, bodyRecords, laterRecords, recordsFrom, recordsOf, edgeRecord, edgeRecords}
-use Rattle.rules.specs.RecordTable.{View, plainView}
+use Rattle.rules.specs.Figures.{layerTable, figureTable, pointTable, textTable, placedTable, placedTables, wireTable, wireTextTable}
+use Rattle.rules.specs.Sets.{Point, Figure, plain, chain, lettering, placed, Layer, Drawing, Symbol, Contents, Set, symbolNameOf, Edge, Wire, wired, passed}
+use Rattle.rules.specs.RecordTable.{numbersOf, firstOr0, others, firstSlot, putSlots, start, fileRecords, drawingRecord, layerRecords, pointRecords, chainRecord, lineRecord, textRecord, placedRecord, figureRecords, innerRecords, symbolRecords, blockRecords, bodyRecords, laterRecords, recordsFrom, recordsOf, edgeRecord, edgeRecords}
+use Rattle.rules.specs.RecordTable.{View, plainView, width, kindWireMore, wireStart, wireValues, firstText}
 use Rattle.rules.proofs.Chains.{clash}
 use Rattle.promises.specs.PlacesApart.{textPlaces, kindOf}
-use Rattle.promises.specs.TableTexts.{Shows, ShowsAt, ShowTexts}
-use Rattle.promises.specs.TextsKept.{Kept, fileKept, drawingKept, layerKept, noTexts, pointKept, figureKept, innerKept, symbolKept, blockKept, bodyKept, laterKept, keptFrom, textsKept, edgeKept}
-use Rattle.promises.proofs.FitSets.{Each, FitSlot, FitSlots, FitHeld, FitFigure, FitLayer, FitSymbol, FitBlock, FitContents, FitVolumes, FitSet, FitEdge}
+use Rattle.promises.specs.TableTexts.{numberAt, Shows, ShowsAt, ShowTexts}
+use Rattle.promises.specs.TextsKept.{Kept, keptAt, fileKept, drawingKept, layerKept, noTexts, pointKept, figureKept, innerKept, symbolKept, blockKept, bodyKept, laterKept, keptFrom, textsKept, edgeKept, wireKept, figureTexts, blockTexts, volumeTexts, textsOfWires, StandsIn, AllStand, WiresStand}
+use Rattle.promises.proofs.FitSets.{Each, FitSlot, FitSlots, FitHeld, FitFigure, FitLayer, FitSymbol, FitBlock, FitContents, FitVolumes, FitSet, FitEdge, FitWire}
+use Rattle.promises.proofs.FitRows.{fit-nil}
+use Rattle.promises.proofs.WireRecords.{pastSlots, slot-at, wire-shows}
+use Rattle.promises.proofs.WireValues.{texts-at}
 use Rattle.promises.proofs.RecordPlaces.{moreIn}
 use Rattle.promises.proofs.Good.{Ranges, rangesOf, symbolDigits, hasWires, layerRows}
 use lib.Dec.{eqb}
@@ -28,17 +31,6 @@ use lib.Dec.{eqb}
 -- a text and its place, as a record has them
 abbrev pub Standing : List ℕ → ℕ → List ℕ → Type 0
 Standing spool at c = Shows spool (pos at) (pos (length c)) c
-
--- the slots behind the first i
-abbrev skips : ℕ → Slots → Slots
-skips zero s = s
-skips (suc i) s = skips i (otherSlots s)
-
-at-skips : (i : ℕ) (s : Slots) → firstSlot (skips i s) ≡ getD s i none
-at-skips zero [] = refl
-at-skips zero (o ∷ s) = refl
-at-skips (suc i) [] = at-skips i []
-at-skips (suc i) (o ∷ s) = at-skips i s
 
 module _ (spool : List ℕ) where
   abbrev S : ℕ → List ℕ → Type 0
@@ -52,11 +44,11 @@ module _ (spool : List ℕ) where
   slot-shows (some (chars at c)) f = f .1 refl
   slot-shows (some (linked n ps)) f = clash refl f
 
-  column : (i : ℕ) (s : Slots) → FitSlot S true true (firstSlot (skips i s))
-      → Shows spool (firstOr0 (numbersOf (firstSlot (skips i s)))) (firstOr0 (others (numbersOf (firstSlot (skips i s))))) (charsOf (slotValue (getD s i none)))
+  column : (i : ℕ) (s : Slots) → FitSlot S true true (firstSlot (pastSlots i s))
+      → Shows spool (firstOr0 (numbersOf (firstSlot (pastSlots i s)))) (firstOr0 (others (numbersOf (firstSlot (pastSlots i s))))) (charsOf (slotValue (getD s i none)))
   column i s f =
-      subst (λ o. Shows spool (firstOr0 (numbersOf (firstSlot (skips i s)))) (firstOr0 (others (numbersOf (firstSlot (skips i s))))) (charsOf (slotValue o)))
-      (at-skips i s) (slot-shows (firstSlot (skips i s)) f)
+      subst (λ o. Shows spool (firstOr0 (numbersOf (firstSlot (pastSlots i s)))) (firstOr0 (others (numbersOf (firstSlot (pastSlots i s))))) (charsOf (slotValue o)))
+      (slot-at i s) (slot-shows (firstSlot (pastSlots i s)) f)
 
   -- ── lists of records ──
   record Show (rs : List (List ℤ)) (cs : List Kept) : Type 0 where
@@ -199,6 +191,47 @@ module _ (spool : List ℕ) where
   edges-show owner volume [] g = no-record
   edges-show owner volume (e ∷ es) g = one-more (edge-shows owner volume (e .line) (e .row) (e .values) (e .join) (g .0)) (edges-show owner volume es (g .1))
 
+  -- a wire's two records: the first shows no text, the second its first text and its circuit
+  wire-first : (w : View) (owner volume n : ℕ) (x : Wire)
+      → let t = take width (wireValues w x (wireStart owner volume n)) in ShowsAt spool t (textPlaces (kindOf t)) []
+  wire-first w owner volume n x =
+      let t = take width (wireValues w x (wireStart owner volume n)) in
+      subst (λ k. ShowsAt spool t (textPlaces k) []) (sym (wire-shows w x owner volume n .kind)) tt
+
+  first-shows : (ss : List Slots) → Each (FitSlots S wireTextTable) ss → FitSlots S wireTextTable (firstText ss)
+  first-shows [] g = fit-nil S wireTextTable
+  first-shows (s ∷ ss) g = g .0
+
+  text-shown : (s : Slots) → FitSlots S wireTextTable s
+      → Shows spool (firstOr0 (numbersOf (firstSlot (pastSlots 1 s)))) (firstOr0 (others (numbersOf (firstSlot (pastSlots 1 s))))) (keptAt "character" wireTextTable s)
+  unfolding textTable
+  text-shown s f = column 1 s (f .1 .0)
+
+  circuit-shown : (s : Slots) → FitSlots S wireTable s
+      → Shows spool (firstOr0 (numbersOf (firstSlot (pastSlots 7 s)))) (firstOr0 (others (numbersOf (firstSlot (pastSlots 7 s))))) (keptAt "circuit" wireTable s)
+  unfolding wireTable
+  circuit-shown s f = column 7 s (f .1 .1 .1 .1 .1 .1 .1 .0)
+
+  shown-as : (a b m n : ℤ) (c : List ℕ) → a ≡ b → m ≡ n → Shows spool b n c → Shows spool a m c
+  shown-as a b m n c p q h = subst (λ z. Shows spool z m c) (sym p) (subst (λ z. Shows spool b z c) (sym q) h)
+
+  both-shown : (t : List ℤ) (c d : List ℕ) → kindOf t ≡ kindWireMore → Shows spool (numberAt t 14) (numberAt t 15) c → Shows spool (numberAt t 16) (numberAt t 17) d
+      → ShowsAt spool t (textPlaces (kindOf t)) (c ∷ d ∷ [])
+  both-shown t c d e x y = subst (λ k. ShowsAt spool t (textPlaces k) (c ∷ d ∷ [])) (sym e) (x, (y, tt))
+
+  wire-second : (w : View) (owner volume n : ℕ) (x : Wire) → FitWire S x
+      → let t = drop width (wireValues w x (wireStart owner volume n)) in ShowsAt spool t (textPlaces (kindOf t)) (wireKept x)
+  wire-second w owner volume n x g =
+      let t = drop width (wireValues w x (wireStart owner volume n)) in
+      let (at, long, circuit, wide) = texts-at w x owner volume n in
+      both-shown t (keptAt "character" wireTextTable (firstText (x .texts))) (keptAt "circuit" wireTable (x .own)) (wire-shows w x owner volume n .kindToo)
+      (shown-as _ _ _ _ _ at long (text-shown (firstText (x .texts)) (first-shows (x .texts) (g .1))))
+      (shown-as _ _ _ _ _ circuit wide (circuit-shown (x .own) (g .2)))
+
+  passed-shows : (w : View) (owner volume n : ℕ) → Show (figureRecords w 0 owner volume (passed n)) (figureKept 0 (passed n))
+  unfolding wireTable
+  passed-shows w owner volume n = record { texts = (tt, ((Shows.empty, (Shows.empty, tt)), tt)) }
+
   figure-shows : (b : Bool) (c : Class) (x : Ranges) (owner volume : ℕ) (f : Figure) → FitFigure S b f
       → Show (figureRecords (viewIn b c x) (moreIn b) owner volume f) (figureKept (moreIn b) f)
   figure-shows true c x owner volume (plain n j v) g = one-more (line-layer c x owner volume n j v g) no-record
@@ -207,9 +240,10 @@ module _ (spool : List ℕ) where
   figure-shows b c x owner volume (lettering n s) g = text-shows b owner volume n s g
   figure-shows true c x owner volume (placed n h) g = placed-shows (inLayers c x) owner volume n h g
   figure-shows false c x owner volume (placed n h) g = absurd g
-  figure-shows true c x owner volume (wired n w) g = one-more tt (one-more tt (edges-show owner volume (w .elements) g))
+  figure-shows true c x owner volume (wired n w) g =
+      one-more (wire-first (inLayers c x) owner volume n w) (one-more (wire-second (inLayers c x) owner volume n w g) (edges-show owner volume (w .elements) (g .0)))
   figure-shows false c x owner volume (wired n w) g = absurd g
-  figure-shows true c x owner volume (passed n) g = one-more tt (one-more tt no-record)
+  figure-shows true c x owner volume (passed n) g = passed-shows (inLayers c x) owner volume n
   figure-shows false c x owner volume (passed n) g = absurd g
 
   -- ── the whole ──
@@ -248,3 +282,42 @@ module _ (spool : List ℕ) where
           (behind-it (behind-it (header-shows 1 v (g .0 .0)) (one-more (drawing-shows (s .drawing) (f .0 .0)) (layers-show 0 (s .drawing .layers) (f .0 .1)))) (symbols-show 0 (s .symbols) (f .1)))
           (body-shows c (rangesOf s) 1 v (g .0 .1)))
           (volumes-show c (rangesOf s) 2 vs (g .1))
+
+  -- ── all texts of wires stand in the spool ──
+  text-stands : (s : Slots) → FitSlots S wireTextTable s → StandsIn spool (keptAt "character" wireTextTable s)
+  text-stands s f = record { place = _; long = _; shown = text-shown s f }
+
+  circuit-stands : (s : Slots) → FitSlots S wireTable s → StandsIn spool (keptAt "circuit" wireTable s)
+  circuit-stands s f = record { place = _; long = _; shown = circuit-shown s f }
+
+  wire-stands : (ss : List Slots) (o : Slots) → Each (FitSlots S wireTextTable) ss → FitSlots S wireTable o
+      → AllStand spool (map (keptAt "character" wireTextTable) ss ++ keptAt "circuit" wireTable o ∷ [])
+  wire-stands [] o g f = (circuit-stands o f, tt)
+  wire-stands (s ∷ ss) o g f = (text-stands s (g .0), wire-stands ss o (g .1) f)
+
+  stand-append : (a b : List Kept) → WiresStand spool a → WiresStand spool b → WiresStand spool (a ++ b)
+  stand-append [] b p q = q
+  stand-append (c ∷ a) b p q = (p .0, stand-append a b (p .1) q)
+
+  stand-each : {A : Type 0} (P : A → Type 0) (f : A → List Kept) → ((a : A) → P a → WiresStand spool (f a)) → (s : List A) → Each P s → WiresStand spool (flat (map f s))
+  stand-each P f e [] g = tt
+  stand-each P f e (a ∷ s) g = stand-append (f a) (flat (map f s)) (e a (g .0)) (stand-each P f e s (g .1))
+
+  figure-stands : (f : Figure) → FitFigure S true f → WiresStand spool (figureTexts f)
+  figure-stands (plain n j v) g = tt
+  figure-stands (chain n ps) g = tt
+  figure-stands (lettering n s) g = tt
+  figure-stands (placed n h) g = tt
+  figure-stands (wired n w) g = (wire-stands (w .texts) (w .own) (g .1) (g .2), tt)
+  figure-stands (passed n) g = tt
+
+  volume-stands : (first : Bool) (v : Contents) → FitContents S first v → WiresStand spool (volumeTexts v)
+  volume-stands first v g = stand-each (FitBlock S) blockTexts (λ u h. stand-each (FitFigure S true) figureTexts figure-stands (u .figures) h) (v .blocks) (g .1)
+
+  pub wires-stand : (s : Set) → FitSet S s → WiresStand spool (textsOfWires s)
+  wires-stand s f = go (s .volumes) (f .2)
+    where
+      go : (vs : List Contents) → FitVolumes S vs → WiresStand spool (flat (map volumeTexts vs))
+      go [] g = tt
+      go (v ∷ vs) g =
+          stand-append (volumeTexts v) (flat (map volumeTexts vs)) (volume-stands true v (g .0)) (stand-each (FitContents S false) volumeTexts (volume-stands false) vs (g .1))

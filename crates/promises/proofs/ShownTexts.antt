@@ -17,11 +17,11 @@ use Rattle.rules.specs.Answers.{outcomeOfVolumes, readOutcome, readRecords}
 use Rattle.rules.proofs.Runs.{not-accepted}
 use Rattle.promises.specs.PlacesApart.{textPlaces, kindOf}
 use Rattle.promises.specs.TableTexts.{amountOf, textAt, textsOf, Shows, ShowsAt, ShowTexts}
-use Rattle.promises.specs.TextsKept.{textsKept, TextsKept}
+use Rattle.promises.specs.TextsKept.{textsKept, TextsKept, textsOfWires, WiresStand, WireTexts}
 use Rattle.promises.proofs.Fits.{accepted-fit}
 use Rattle.promises.proofs.LinePlaces.{listing-fits, volumes-stand}
 use Rattle.promises.proofs.Parsed.{parsed}
-use Rattle.promises.proofs.SetTexts.{Standing, set-shows}
+use Rattle.promises.proofs.SetTexts.{Standing, set-shows, wires-stand}
 use Rattle.promises.proofs.Sizes.{listing}
 use Rattle.promises.proofs.TwoClasses.{taken, outcome-at}
 
@@ -55,6 +55,13 @@ read-shows e c spool s h =
     let lines = listing-fits spool 1 (p .volumes) (p .texts) (p .theirs) (volumes-stand spool (p .volumes) (p .found)) in
     set-shows spool c s (accepted-fit (Standing spool) e (listing 1 (p .volumes) (p .texts)) s lines (p .runs))
 
+-- its wires' texts
+pub read-stands : (e : Env) (spool : List ℕ) (s : Set) → outcomeOfVolumes e (volumesOf spool) ≡ accepted s → WiresStand spool (textsOfWires s)
+read-stands e spool s h =
+    let p = parsed e spool s h in
+    let lines = listing-fits spool 1 (p .volumes) (p .texts) (p .theirs) (volumes-stand spool (p .volumes) (p .found)) in
+    wires-stand spool s (accepted-fit (Standing spool) e (listing 1 (p .volumes) (p .texts)) s lines (p .runs))
+
 pub no-class : (len : ℕ) (spool : List ℕ) (class wire : ℕ) → classOf class wire ≡ none → readOutcome class wire len spool ≡ refused 1 0 0
 unfolding readOutcome
 no-class len spool class wire p = rw p
@@ -67,3 +74,10 @@ texts-kept class wire len spool s e = go (classOf class wire) refl
     go (some c) p =
         subst (λ rs. ShowTexts spool rs (textsKept s)) (sym (taken len spool class wire c s p e .0))
         (read-shows _ c spool s (sym (outcome-at len spool class wire c p) ∙ e))
+
+pub wire-texts : WireTexts
+wire-texts class wire len spool s e = go (classOf class wire) refl
+  where
+    go : (o : Option Class) → classOf class wire ≡ o → WiresStand spool (textsOfWires s)
+    go none p = not-accepted (sym (no-class len spool class wire p) ∙ e)
+    go (some c) p = read-stands _ spool s (sym (outcome-at len spool class wire c p) ∙ e)

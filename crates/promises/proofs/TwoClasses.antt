@@ -1,19 +1,19 @@
 -- Demand 3, proved.
 use Prim.Native.Nat.{ℕ, zero, suc, _/_, _%_, _≤_}
-use mathlib.Core.Bool.{Bool, true, false, _&&_, _||_}
+use mathlib.Core.Bool.{Bool, true, false, _&&_, _||_, not}
 use mathlib.Core.List.{List, [], _∷_}
 use mathlib.Core.Option.{Option, none, some}
 use mathlib.Core.Path.{_≡_, refl, sym, _∙_, ap, subst}
 use native.Mathlib.Omega.{arith}
 use lib.Dec.{eqb, leb}
 use lib.ListN.{length}
-use borrow.Author.Tests.{eqb-true, eqb-false, leb-true, le-leb}
+use borrow.Author.Tests.{eqb-true, eqb-false, ne-eqb, leb-true, le-leb}
 use Rattle.rules.specs.declared.Class.{Class}
 use Rattle.rules.specs.declared.Refusal.{Refusal}
 use Rattle.rules.specs.declared.Answer.the-variants.{Accepted, Refused}
 use Rattle.rules.specs.Spool.{Volume, volumesOf}
 use Rattle.rules.specs.Base.{within}
-use Rattle.rules.specs.RangeClass.{digitsOf, isSymbolPart, isWirePart, classOf}
+use Rattle.rules.specs.RangeClass.{digitsOf, isSymbolPart, isWirePart, classOf, knowsWires, knowsSerials}
 use Rattle.rules.specs.Sets.{Set, nothingYet}
 use Rattle.rules.specs.Machine.{limitedTo, Env, top}
 use Rattle.rules.specs.LineByLine.{Outcome, refused, accepted}
@@ -29,7 +29,7 @@ use Rattle.promises.proofs.LowerRecords.{Agree, records-lower}
 use Rattle.promises.proofs.LowerRun.{notAfter, notAfter-refl, beside-start, sim-run, refused-too}
 use Rattle.promises.proofs.Listing.{lines-whole, lines-proper}
 
-module _ (low high : Class) (le : ClassNotAbove low high) (m : ℕ) where
+module _ (low high : Class) (le : ClassNotAbove low high) (reads : knowsSerials (low .wires) ≡ true → knowsWires low ≡ true) (m : ℕ) where
   abbrev lo : Env
   lo = limitedTo low m
 
@@ -44,7 +44,7 @@ module _ (low high : Class) (le : ClassNotAbove low high) (m : ℕ) where
   accepts (some vs) s e = go (listVolumes 1 vs) e
     where
       go : (l : Listed) → outcomeOfLines hi l ≡ accepted s → AcceptedToo (outcomeOfLines lo l) s
-      go (listed ls) e = sim-run low high le m ls 0 (top nothingYet 0) s (beside-start low high le m) e
+      go (listed ls) e = sim-run low high le reads m ls 0 (top nothingYet 0) s (beside-start low high le reads m) e
       go (noLines v) e = not-accepted e
 
   abbrev There : Outcome → ℕ → ℕ → Type 0
@@ -60,7 +60,7 @@ module _ (low high : Class) (le : ClassNotAbove low high) (m : ℕ) where
       by : (vs : List Volume) → volumesOf spool ≡ some vs → (l : Listed) → listVolumes 1 vs ≡ l → outcomeOfLines lo l ≡ refused k v n → There (outcomeOfLines hi l) v n
       by [] p l q e = absurd (let w = volumes-inv spool [] p in omega (arith, w .one))
       by (u ∷ vs) p (noLines w) q e = both (refused 3 w 0) k v n e
-      by (u ∷ vs) p (listed ls) q e = refused-too low high le m ls 0 (top nothingYet 0) (beside-start low high le m) (lines-proper 1 u vs ls q) (lines-whole 0 (u ∷ vs) ls q .sorted) k v n e
+      by (u ∷ vs) p (listed ls) q e = refused-too low high le reads m ls 0 (top nothingYet 0) (beside-start low high le reads m) (lines-proper 1 u vs ls q) (lines-whole 0 (u ∷ vs) ls q .sorted) k v n e
 
       go : (o : Option (List Volume)) → volumesOf spool ≡ o → outcomeOfVolumes lo o ≡ refused k v n → There (outcomeOfVolumes hi o) v n
       go none p e = both (refused 2 0 0) k v n e
@@ -108,15 +108,24 @@ listed-agrees class wire c e =
     let (p, q) = cond-some (isSymbolPart class && isWirePart wire) (record { symbols = digitsOf class; wires = digitsOf wire }) c e in
     digits-agree c (subst (λ (k : Class). k .wires .last ≡ 0 → k .wires .middle ≡ 0) q (part-digits wire (and-right (isSymbolPart class) _ p)))
 
+-- so it knows wires where it knows their serials
+serials-read : (c : Class) → Agree c → knowsSerials (c .wires) ≡ true → knowsWires c ≡ true
+serials-read c agree e = not-not (knowsWires c) (sym agree ∙ rw (ne-eqb (c .wires .middle) 0 (λ z. let h = leb-true 1 (c .wires .middle) (and-left (leb 1 (c .wires .middle)) _ e) in omega (arith, h, z))))
+  where
+    not-not : (b : Bool) → not b ≡ false → b ≡ true
+    not-not true e = refl
+    not-not false e = clash refl e
+
 pub lower-accepts : LowerAccepts
 lower-accepts lo loWire hi hiWire low high cs len spool set e =
     let m = len / width in
+    let agree = listed-agrees lo loWire low (cs .lower) in
     let up = outcome-at len spool hi hiWire high (cs .higher) in
-    let (took, p, rows) = accepts low high (cs .below) m (volumesOf spool) set (sym up ∙ e) in
+    let (took, p, rows) = accepts low high (cs .below) (serials-read low agree) m (volumesOf spool) set (sym up ∙ e) in
     let down = outcome-at len spool lo loWire low (cs .lower) ∙ p in
     let a = taken len spool hi hiWire high set (cs .higher) e in
     let b = taken len spool lo loWire low (lowerSet took low set) (cs .lower) down in
-    let r = records-lower low high (cs .below .symbols) (listed-agrees lo loWire low (cs .lower)) took set rows ∙ ap (lowered low set) (sym (a .0)) in
+    let r = records-lower low high (cs .below) agree took set rows ∙ ap (lowered low set) (sym (a .0)) in
     (b .1 ∙ ap (λ rs. Accepted (length rs)) r, b .0 ∙ r)
 
 -- an answer that refuses comes of an outcome that refuses
@@ -136,5 +145,5 @@ pub higher-refuses : HigherRefuses
 higher-refuses lo loWire hi hiWire low high cs len spool r e =
     let m = len / width in
     let down = sym (outcome-at len spool lo loWire low (cs .lower)) ∙ refused-inv len spool lo loWire r e in
-    let (k, v, n, p, q) = refuses low high (cs .below) m spool (r .number) (r .volume) (r .line) down in
+    let (k, v, n, p, q) = refuses low high (cs .below) (serials-read low (listed-agrees lo loWire low (cs .lower))) m spool (r .number) (r .volume) (r .line) down in
     (record { number = k; volume = v; line = n }, refused-of len spool hi hiWire k v n (outcome-at len spool hi hiWire high (cs .higher) ∙ p), q)

@@ -3,17 +3,17 @@ use Prim.Native.Nat.{ℕ, suc, _+_, _-_, _≤_}
 use mathlib.Core.Bool.{Bool, true, false, cond, _&&_, _||_}
 use mathlib.Core.List.{List, [], _∷_, _++_, map}
 use mathlib.Core.Option.{Option, none, some}
-use mathlib.Core.Path.{_≡_, refl, sym, _∙_, ap, subst}
+use mathlib.Core.Path.{_≡_, refl, sym, _∙_, ap, ap₂, subst}
 use native.Mathlib.Omega.{arith}
 use lib.Dec.{eqb, leb, ltb}
 use lib.IntN.{pos}
 use lib.ListN.{length, getD, length-append, length-map}
 use borrow.Author.Tests.{lt-leb, ltb-true, eqb-true, eq-eqb, ne-eqb}
-use Rattle.rules.specs.Base.{mapO, isNil, all, same, indexOf, within, Cut, whole, parts, cut, headOnto, split, join}
-use Rattle.rules.specs.RefusalNumbers.{got, mapG, orBad, keep}
+use Rattle.rules.specs.Base.{mapO, isNil, all, flat, same, indexOf, within, Cut, whole, parts, cut, headOnto, split, join}
+use Rattle.rules.specs.RefusalNumbers.{got, mapG, orBad, keep, consG}
 use Rattle.rules.specs.Numbers.{isDigit, readCount, readFixed, isDay, isClock, readDecimal, fixedOnto, fixed, showCount}
 use Rattle.rules.specs.Lines.{allowed, stem}
-use Rattle.rules.specs.Values.{Num, num, Value, nums, chars, linked, Known, isLetter, lettersAndDigits, byteIn, capital, isLayerId, inBound, Part, count, digit, typeDigits, range, rangeOfSymbols, rangeOfWires, day, clock, decimal, symbolName, layerId, servedSymbols, servedWires, natural, readPart, amount, showPart, readAll, showAll, agree, Kind, values, text, word, volumeName, sheet, ratio, serials, nothing, opens, headed, either, sheets, twoNums, findSheet, showSheet, goodRatio, withOne, ratioParts, readCounts, readRatio, showRatio, mostPartners, readSerials, linkedOf, showSerials, readKind, showContent}
+use Rattle.rules.specs.Values.{Num, num, Value, nums, chars, linked, Known, isLetter, lettersAndDigits, byteIn, capital, isLayerId, inBound, Part, count, digit, typeDigits, range, rangeOfSymbols, rangeOfWires, day, clock, decimal, symbolName, layerId, servedSymbols, servedWires, natural, readPart, amount, showPart, readAll, showAll, agree, Kind, values, text, word, volumeName, sheet, ratio, serials, wireSerial, nothing, opens, headed, either, sheets, twoNums, findSheet, showSheet, goodRatio, withOne, ratioParts, readCounts, readRatio, showRatio, mostPartners, readSerials, linkedOf, showSerials, readKind, showContent, readWireSerial, readPartner, showPartner, amountAt}
 use Rattle.rules.proofs.Chains.{map-some, and-left, and-right, and-true, by-cond, clash, same-eq, never, none-some, unless-got, map-got, keep-got, or-got, cons-got, all-weaken, all-append}
 use Rattle.promises.specs.PlacesApart.{bareValue}
 use Rattle.promises.proofs.Numbers.{within-both, both-within, numeric, free, all-free, free-head, free-tail, cut-none, cut-at, cut-parts, some-full, Again, count-back, fixed-same, decimal-back}
@@ -169,6 +169,66 @@ serials-back (s ∷ ss) ns e =
     let (b, r) = serials-back ss u y in
     subst (λ (ns : List ℕ). (readSerials (showSerials ns) ≡ got ns) × Pieces (s ∷ ss) (showSerials ns)) q
     (rw (w .back, b), piece (again-stands (readCount 10) s (showCount 10 n) n w) (λ f. all-free numeric 44 refl (showCount 10 n) (w .plain)) r)
+
+-- ── a wire's serial ──
+-- what is written of a partner that was read from s: nothing where it was empty
+record Partner (s : List ℕ) (state n : ℕ) : Type 0 where
+  back : readPartner (showPartner state n) ≡ got (twoNums state n)
+  stands : Stands s (showPartner state n)
+  apart : free 44 (showPartner state n) ≡ true
+
+partner-full : (s : List ℕ) → isNil s ≡ false → readPartner s ≡ mapG (λ n. twoNums 2 n) (orBad 10 (readCount 10 s))
+partner-full [] e = clash refl e
+partner-full (b ∷ s) e = refl
+
+partner-back : (s : List ℕ) (v : List Num) → readPartner s ≡ got v → (state : ℕ) × (n : ℕ) × (twoNums state n ≡ v) × Partner s state n
+partner-back [] v e = let q : twoNums 1 0 ≡ v = cc in (1, 0, q, record { back = refl; stands = stands-same []; apart = refl })
+partner-back (b ∷ s) v e =
+    let (n, g, q) = map-got (λ n. twoNums 2 n) (orBad 10 (readCount 10 (b ∷ s))) v e in
+    let w = count-back 10 n (b ∷ s) (or-got 10 (readCount 10 (b ∷ s)) n g) in
+    let z = again-stands (readCount 10) (b ∷ s) (showCount 10 n) n w in (
+      2,
+      n,
+      q,
+      record {
+        back = partner-full (showCount 10 n) (z .full refl) ∙ rw (w .back);
+        stands = z;
+        apart = all-free numeric 44 refl (showCount 10 n) (w .plain);
+      },
+    )
+
+-- an own number and two partners, as they are written
+abbrev threeParts : List Num → List (List ℕ)
+threeParts v =
+    showCount 10 (amountAt (nums v) 0) ∷ showPartner (amountAt (nums v) 1) (amountAt (nums v) 2) ∷ showPartner (amountAt (nums v) 3) (amountAt (nums v) 4) ∷ []
+
+abbrev SerialBack : List (List ℕ) → List Num → Type 0
+SerialBack ss v = (readWireSerial (threeParts v) ≡ got v) × Pieces ss (threeParts v)
+
+three-back : (o a b : List ℕ) (m i p j q : ℕ) → Again (readCount 10) o (showCount 10 m) m → Partner a i p → Partner b j q
+    → SerialBack (o ∷ a ∷ b ∷ []) (num (pos m) ∷ twoNums i p ++ (twoNums j q ++ []))
+three-back o a b m i p j q w x y = (
+  rw (w .back, x .back, y .back),
+  piece (again-stands (readCount 10) o (showCount 10 m) m w) (λ f. all-free numeric 44 refl (showCount 10 m) (w .plain))
+      (piece (x .stands) (λ f. x .apart) (piece (y .stands) (λ f. y .apart) done)),
+)
+
+wire-serial-back : (ss : List (List ℕ)) (v : List Num) → readWireSerial ss ≡ got v → SerialBack ss v
+wire-serial-back [] v e = never e
+wire-serial-back (o ∷ []) v e = never e
+wire-serial-back (o ∷ a ∷ []) v e = never e
+wire-serial-back (o ∷ a ∷ b ∷ c ∷ ss) v e = never e
+wire-serial-back (o ∷ a ∷ b ∷ []) v e =
+    let (x, u, gx, gu, q) = cons-got (natural (orBad 10 (readCount 10 o))) (mapG flat (consG (readPartner a) (consG (readPartner b) (got [])))) v e in
+    let (m, gm, qm) = map-got (λ n. num (pos n)) (orBad 10 (readCount 10 o)) x gx in
+    let (ls, gl, ql) = map-got flat (consG (readPartner a) (consG (readPartner b) (got []))) u gu in
+    let (va, r, ga, gr, qr) = cons-got (readPartner a) (consG (readPartner b) (got [])) ls gl in
+    let (vb, r′, gb, gn, qn) = cons-got (readPartner b) (got []) r gr in
+    let (i, p, qa, wa) = partner-back a va ga in
+    let (j, y, qb, wb) = partner-back b vb gb in
+    let z : _≡_ {A = List (List Num)} (twoNums i p ∷ twoNums j y ∷ []) ls = cc in
+    subst (λ (v : List Num). SerialBack (o ∷ a ∷ b ∷ []) v) (ap₂ _∷_ qm (ap flat z ∙ ql) ∙ q)
+    (three-back o a b m i p j y (count-back 10 m o (or-got 10 (readCount 10 o) m gm)) wa wb)
 
 -- ── a scale ──
 count-got : (s : List ℕ) (x : Num) → natural (orBad 10 (readCount 9 s)) ≡ got x → (n : ℕ) × (num (pos n) ≡ x) × Again (readCount 9) s (showCount 9 n) n
@@ -351,6 +411,11 @@ kind-back k serials at c v n e =
         → Kept k serials c (linkedOf u)
     go [] t b w z = clash refl (w .full n)
     go (m ∷ ms) t b w z = kept k serials c (linked m ms) n w (rw (z, b, t))
+kind-back k wireSerial at c v n e =
+    let (u, g, q) = map-got nums (readWireSerial (split 44 c)) v e in
+    let (b, r) = wire-serial-back (split 44 c) u g in
+    let (w, z) = content-stands c (threeParts u) r in
+    subst (λ (v : Value). Kept k wireSerial c v) q (kept k wireSerial c (nums u) n w (rw (z, b)))
 kind-back k nothing at c v n e = never e
 kind-back k (opens i) at c v n e = never e
 kind-back k (headed i p) at c v n e = part-kept k (headed i p) p c v n (λ s. refl) (λ a. refl) e

@@ -7,15 +7,15 @@ use mathlib.Core.Path.{_≡_, refl}
 use native.Mathlib.Omega.{arith}
 use lib.ListN.{length, getD, set}
 use Rattle.rules.specs.Base.{bytes, isNil, total}
-use Rattle.rules.specs.Values.{Value, nums, Known, Part, Kind, values, text, word, volumeName, sheet, ratio, serials, nothing, opens, headed, either, charsOf}
+use Rattle.rules.specs.Values.{Num, Value, nums, Known, Part, Kind, values, text, word, volumeName, sheet, ratio, serials, wireSerial, nothing, opens, headed, either, charsOf}
 use Rattle.rules.specs.Rows.{Rule, Slots, blank, Held, partOf, rowsThere}
 use Rattle.rules.specs.Blocks.{fileTable, rangeTable, baseTable, elecTable, symTable, laterTable, fileTables, drawingTable, symbolTable, blankHeld}
-use Rattle.rules.specs.Figures.{figureTable, pointTable, textTable, placedTable, placedTables, wireTable}
-use Rattle.rules.specs.Sets.{Point, Figure, plain, chain, lettering, placed, Layer, Drawing, Symbol, LayerBlock, Contents, Set, knownOf, Edge, wired, passed}
+use Rattle.rules.specs.Figures.{figureTable, pointTable, textTable, placedTable, placedTables, wireTable, wireTextTable, firstGroupRow}
+use Rattle.rules.specs.Sets.{Point, Figure, plain, chain, lettering, placed, Layer, Drawing, Symbol, LayerBlock, Contents, Set, knownOf, Edge, Wire, wired, passed}
 use Rattle.rules.specs.RecordTable.{ruleAt}
-use Rattle.rules.specs.FixedForm.{Text, openLine, opensBlock, innerOf, lineOf, showValue, showSlots, noInner, showInner, showHeld, block, showPoints, showFigure, showFigures, showLayers, showDrawing, symbolInner, exchanged, showSymbol, showSymbols, showDefines, showBlocks, showFirst, showLater, ending, laterLines, volumeLines, showEdges}
+use Rattle.rules.specs.FixedForm.{Text, openLine, opensBlock, innerOf, lineOf, showValue, showSlots, noInner, showInner, showHeld, block, showPoints, showFigure, showFigures, showLayers, showDrawing, symbolInner, exchanged, showSymbol, showSymbols, showDefines, showBlocks, showFirst, showLater, ending, laterLines, volumeLines, showEdges, showGroup, showGroups, showWireTexts, showWire}
 use Rattle.rules.specs.Sets.{layerTableOf}
-use Rattle.rules.proofs.Chains.{clash}
+use Rattle.rules.proofs.Chains.{clash, total-more}
 use Rattle.rules.proofs.Rows.{Row, here, there}
 
 abbrev pub weigh : Text → ℕ
@@ -32,6 +32,7 @@ open-kind P f g h volumeName v e = clash e refl
 open-kind P f g h sheet v e = clash e refl
 open-kind P f g h ratio v e = clash e refl
 open-kind P f g h serials v e = clash e refl
+open-kind P f g h wireSerial v e = clash e refl
 open-kind P f g h nothing v e = clash e refl
 open-kind P f g h (opens i) v e = f i
 open-kind P f g h (headed i p) v e = g i p
@@ -46,6 +47,7 @@ innerCost w volumeName = 0
 innerCost w sheet = 0
 innerCost w ratio = 0
 innerCost w serials = 0
+innerCost w wireSerial = 0
 innerCost w nothing = 0
 innerCost w (opens i) = w i
 innerCost w (headed i p) = w i
@@ -189,12 +191,49 @@ edges-weight : (k : Known) (es : List Edge) (ls : Text) → weigh (showEdges k e
 edges-weight k [] ls = omega arith
 edges-weight k (e ∷ es) ls = omega (arith, edges-weight k es ls)
 
+-- the lines of a row that repeats, and of such rows from number j on
+abbrev pub groupCost : Known → Rule → List (List Num) → ℕ
+groupCost k r vs = total (λ v. length (lineOf k r (nums v)) + 2) vs
+
+abbrev pub groupsCost : Known → ℕ → List (List (List Num)) → ℕ
+groupsCost k j [] = 0
+groupsCost k j (g ∷ gs) = groupCost k (ruleAt wireTable j) g + groupsCost k (suc j) gs
+
+-- the number of the row that is i behind row j
+abbrev pub onward : ℕ → ℕ → ℕ
+onward j zero = j
+onward j (suc i) = onward (suc j) i
+
+-- a line more in one of them
+pub groups-more : (k : Known) (gs : List (List (List Num))) (j i : ℕ) (v : List Num)
+    → groupsCost k j (set gs i (getD gs i [] ++ v ∷ [])) ≤ groupsCost k j gs + (length (lineOf k (ruleAt wireTable (onward j i)) (nums v)) + 2)
+groups-more k [] j i v = omega arith
+groups-more k (g ∷ gs) j zero v = omega (arith, total-more (λ v. length (lineOf k (ruleAt wireTable j) (nums v)) + 2) g v)
+groups-more k (g ∷ gs) j (suc i) v = omega (arith, groups-more k gs (suc j) i v)
+
+group-weight : (k : Known) (r : Rule) (vs : List (List Num)) (ls : Text) → weigh (showGroup k r vs ls) ≤ groupCost k r vs + weigh ls
+group-weight k r [] ls = omega arith
+group-weight k r (v ∷ vs) ls = omega (arith, group-weight k r vs ls)
+
+groups-weight : (k : Known) (j : ℕ) (gs : List (List (List Num))) (ls : Text) → weigh (showGroups k j gs ls) ≤ groupsCost k j gs + weigh ls
+groups-weight k j [] ls = omega arith
+groups-weight k j (g ∷ gs) ls = omega (arith, group-weight k (ruleAt wireTable j) g (showGroups k (suc j) gs ls), groups-weight k (suc j) gs ls)
+
+abbrev pub textCost : Known → Slots → ℕ
+textCost k s = blockCost (bytes "text") (slotsCost k wireTextTable s)
+
+abbrev pub textsCost : Known → List Slots → ℕ
+textsCost k ss = total (textCost k) ss
+
+abbrev pub wireCost : Known → Wire → ℕ
+wireCost k w = edgesCost k (w .elements) + (groupsCost k firstGroupRow (w .groups) + (textsCost k (w .texts) + slotsCost k wireTable (w .own)))
+
 abbrev pub figureCost : Known → Bool → List Rule → Figure → ℕ
 figureCost k b t (plain n j v) = length (lineOf k (ruleAt t j) (nums v)) + 2
 figureCost k b t (chain n ps) = blockCost (bytes "successive") (pointsCost k b ps)
 figureCost k b t (lettering n s) = blockCost (bytes "text") (slotsCost k (textTable b 4 12) s)
 figureCost k b t (placed n h) = blockCost (bytes "E_symbol") (heldCost k placedTables h)
-figureCost k b t (wired n w) = blockCost (bytes "E_wire") (edgesCost k (w .elements))
+figureCost k b t (wired n w) = blockCost (bytes "E_wire") (wireCost k w)
 figureCost k b t (passed n) = blockCost (bytes "E_wire") 0
 
 abbrev pub figuresCost : Known → Bool → List Rule → List Figure → ℕ
@@ -204,12 +243,32 @@ text-weight : (k : Known) (b : Bool) (s : Slots) (ls : Text) → weigh (showSlot
 unfolding textTable
 text-weight k b s ls = omega (arith, slots-weight k noInner (λ i. 0) (λ i ls. omega arith) (textTable b 4 12) s ls)
 
+texts-weight : (k : Known) (ss : List Slots) (ls : Text) → weigh (showWireTexts k ss ls) ≤ textsCost k ss + weigh ls
+texts-weight k [] ls = omega arith
+texts-weight k (s ∷ ss) ls = omega (arith, text-weight k true s (bytes "}" ∷ showWireTexts k ss ls), texts-weight k ss ls)
+
+once-weight : (k : Known) (s : Slots) (ls : Text) → weigh (showSlots k wireTable s noInner ls) ≤ slotsCost k wireTable s + weigh ls
+unfolding wireTable
+once-weight k s ls = omega (arith, slots-weight k noInner (λ i. 0) (λ i ls. omega arith) wireTable s ls)
+
+wire-weight : (k : Known) (w : Wire) (ls : Text) → weigh (showWire k w ls) ≤ wireCost k w + weigh ls
+wire-weight k w ls =
+    let l1 : Text = showSlots k wireTable (w .own) noInner ls in
+    let l2 : Text = showWireTexts k (w .texts) l1 in
+    omega (
+      arith,
+      once-weight k (w .own) ls,
+      texts-weight k (w .texts) l1,
+      groups-weight k firstGroupRow (w .groups) l2,
+      edges-weight k (w .elements) (showGroups k firstGroupRow (w .groups) l2),
+    )
+
 figure-weight : (k : Known) (b : Bool) (t : List Rule) (f : Figure) (ls : Text) → weigh (showFigure k b t f ls) ≤ figureCost k b t f + weigh ls
 figure-weight k b t (plain n j v) ls = omega arith
 figure-weight k b t (chain n ps) ls = omega (arith, points-weight k b ps (bytes "}" ∷ ls))
 figure-weight k b t (lettering n s) ls = omega (arith, text-weight k b s (bytes "}" ∷ ls))
 figure-weight k b t (placed n h) ls = omega (arith, placed-weight k h (bytes "}" ∷ ls))
-figure-weight k b t (wired n w) ls = omega (arith, edges-weight k (w .elements) (bytes "}" ∷ ls))
+figure-weight k b t (wired n w) ls = omega (arith, wire-weight k w (bytes "}" ∷ ls))
 figure-weight k b t (passed n) ls = omega arith
 
 pub figures-weight : (k : Known) (b : Bool) (t : List Rule) (fs : List Figure) (ls : Text) → weigh (showFigures k b t fs ls) ≤ figuresCost k b t fs + weigh ls

@@ -1,5 +1,5 @@
 -- Every record has 32 numbers: what is put into a record keeps its length.
-use Prim.Native.Nat.{ℕ, zero, suc, _+_, _*_, _-_, _≤_}
+use Prim.Native.Nat.{ℕ, zero, suc, _+_, _*_, _-_, _/_, _≤_}
 use mathlib.Core.Bool.{Bool, true, false}
 use mathlib.Core.List.{List, [], _∷_, _++_, map}
 use mathlib.Core.Option.{some}
@@ -7,19 +7,20 @@ use mathlib.Core.Path.{_≡_, refl, _∙_, ap}
 use native.Mathlib.Omega.{arith}
 use lib.IntN.{ℤ, pos}
 use lib.Dec.{eqb}
-use lib.ListN.{length, take, drop, replicate, length-append, length-take, length-drop, length-replicate, length-set}
-use lib.Seq.{take-append-add}
+use lib.ListN.{length, set, take, drop, replicate, length-append, length-take, length-drop, length-replicate, length-set}
+use lib.Seq.{sets, take-append-add, length-sets}
 use Rattle.rules.specs.declared.Digits.{Digits}
 use Rattle.rules.specs.declared.Class.{Class}
 use Rattle.rules.specs.Base.{flat}
-use Rattle.rules.specs.RangeClass.{digits}
-use Rattle.rules.specs.Values.{nums}
-use Rattle.rules.specs.Rows.{Rule, Held}
+use Rattle.rules.specs.RangeClass.{digits, digitsOf}
+use Rattle.rules.specs.Values.{Num, nums}
+use Rattle.rules.specs.Rows.{Slots, Held}
 use Rattle.rules.specs.Blocks.{fileTables, drawingTable, symbolTable}
 use Rattle.rules.specs.Figures.{pointTable, textTable, placedTable, placedTables, wireTable}
-use Rattle.rules.specs.Sets.{Point, Edge, Figure, plain, chain, lettering, placed, wired, passed, Layer, Symbol, Contents, Set}
+use Rattle.rules.specs.Sets.{Point, Edge, Wire, Figure, plain, chain, lettering, placed, wired, passed, Layer, Symbol, Contents, Set}
 use Rattle.rules.specs.RecordTable.{putHeld, markUnread, start, twoOf, fileRecords, layerRecords, ruleAt, pointRecords, figureRecords, innerRecords, symbolRecords, bodyRecords, laterRecords, recordsFrom, recordsOf}
-use Rattle.rules.specs.RecordTable.{View, viewOf, plainView, putSlot, wireStart, wireNumbers, unreadNumbers, kindEdge, placeJoin, edgeRecords}
+use Rattle.rules.specs.RecordTable.{View, viewOf, plainView, putSlot, wireStart, wireNumbers, unreadNumbers, kindEdge, placeJoin, edgeRecords, width, putSlots}
+use Rattle.rules.specs.RecordTable.{Shelf, shelves, stateOfMany, shownLines, putGroup, putGroups, placeTexts, placeTextState, firstText, textNumbers, putTexts, placeElements, placeJoinDigit, wireValues, placeMark, unreadMark}
 use Rattle.rules.proofs.Chains.{by-cond}
 use Rattle.rules.proofs.RecordLengths.{length-slot, length-slots, length-parts, length-unread}
 use Rattle.promises.specs.DemandOne.{Wide, noRecord, oneMore}
@@ -27,6 +28,36 @@ use Rattle.promises.specs.DemandOne.{Wide, noRecord, oneMore}
 -- ── what is put into a record ──
 placed-length : (c d : Digits) (h : Held) (t : List ℤ) → length (markUnread c d placedTable (putHeld placedTables h t)) ≡ length t
 placed-length c d h t = length-unread c d placedTable _ ∙ length-parts 0 placedTables h t
+
+group-length : (h : Shelf) (vs : List (List Num)) (t : List ℤ) → length (putGroup h vs t) ≡ length t
+group-length h vs t =
+    let zs = pos (length vs) ∷ shownLines (h .shown) (h .wide) vs in
+    length-set (sets t (h .place) zs) (h .state) (stateOfMany (length vs)) ∙ length-sets t (h .place) zs
+
+groups-length : (hs : List Shelf) (gs : List (List (List Num))) (t : List ℤ) → length (putGroups hs gs t) ≡ length t
+groups-length [] gs t = refl
+groups-length (h ∷ hs) [] t = refl
+groups-length (h ∷ hs) (g ∷ gs) t = group-length h g (putGroups hs gs t) ∙ groups-length hs gs t
+
+texts-length : (ss : List Slots) (t : List ℤ) → length (putTexts ss t) ≡ length t
+texts-length ss t =
+    let zs = pos (length ss) ∷ textNumbers (firstText ss) in
+    length-set (sets t placeTexts zs) placeTextState (stateOfMany (length ss)) ∙ length-sets t placeTexts zs
+
+-- the rows that stand once, texts and rows that repeat
+pub rows-length : (x : Wire) (t : List ℤ) → length (putGroups shelves (x .groups) (putTexts (x .texts) (putSlots wireTable (x .own) t))) ≡ length t
+rows-length x t =
+    let own = putSlots wireTable (x .own) t in
+    groups-length shelves (x .groups) (putTexts (x .texts) own) ∙ texts-length (x .texts) own ∙ length-slots wireTable (x .own) t
+
+pub numbers-length : (range n : ℕ) (t : List ℤ) → length (wireNumbers range n t) ≡ length t
+numbers-length range n t = length-set (set t placeElements (pos n)) placeJoinDigit (pos (range / 100)) ∙ length-set t placeElements (pos n)
+
+pub wire-length : (w : View) (x : Wire) (t : List ℤ) → length (wireValues w x t) ≡ length t
+wire-length w x t =
+    let rows = putGroups shelves (x .groups) (putTexts (x .texts) (putSlots wireTable (x .own) t)) in
+    length-unread (w .class .wires) (digitsOf (w .wires)) wireTable (wireNumbers (w .wires) (length (x .elements)) rows)
+    ∙ numbers-length (w .wires) (length (x .elements)) rows ∙ rows-length x t
 
 -- ── lists of records ──
 wide-append : (a b : List (List ℤ)) → Wide a → Wide b → Wide (a ++ b)
@@ -72,8 +103,11 @@ wide-figure w more owner volume (chain n ps) = oneMore refl (wide-points (17 + m
 wide-figure w more owner volume (lettering n s) = oneMore (length-slots (textTable true 4 12) s _) noRecord
 wide-figure w more owner volume (placed n h) = oneMore (placed-length (w .class .symbols) (w .symbols) h _) noRecord
 wide-figure w more owner volume (wired n x) =
-    wide-append _ _ (wide-two (wireNumbers (w .wires) (length (x .elements)) (wireStart owner volume n)) refl) (wide-edges owner volume (x .elements))
-wide-figure w more owner volume (passed n) = wide-two (unreadNumbers (wireStart owner volume n)) refl
+    wide-append _ _ (wide-two (wireValues w x (wireStart owner volume n)) (wire-length w x (wireStart owner volume n))) (wide-edges owner volume (x .elements))
+wide-figure w more owner volume (passed n) =
+    let t = markUnread (digits 0 0) (digitsOf (w .wires)) wireTable (wireStart owner volume n) in
+    wide-two (unreadNumbers t)
+    (length-set (set t placeMark unreadMark) (width + placeMark) unreadMark ∙ length-set t placeMark unreadMark ∙ length-unread (digits 0 0) (digitsOf (w .wires)) wireTable (wireStart owner volume n))
 
 wide-inner : (n : ℕ) (y : Symbol) → Wide (innerRecords n y)
 wide-inner n y =

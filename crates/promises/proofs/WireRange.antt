@@ -12,20 +12,22 @@ use Rattle.rules.specs.Base.{isNil, among, hasNumber}
 use Rattle.rules.specs.RefusalNumbers.{Got, got, bad, also}
 use Rattle.rules.specs.Lines.{Rest, Form, ignored, wrong, close, eof, keyed, freeShapeOf}
 use Rattle.rules.specs.RangeClass.{digits, digitsOf, reaches, exceeds, both, knowsWires, skipOf, mostDepth}
-use Rattle.rules.specs.Values.{Value, amountAt, numsOf, isLayerId}
-use Rattle.rules.specs.Rows.{Found, absent, found, find, Slots, Held, partOf, numberOf, rowsThere, rowsAtLimit, Act, shut, refuse, actRow, actUnknown, act, complete}
+use Rattle.rules.specs.Values.{amountAt, isLayerId}
+use Rattle.rules.specs.Rows.{Found, absent, found, find, Slots, Held, partOf, numberOf, rowsThere, rowsAtLimit, Act, shut, actRow, actUnknown, act, complete}
 use Rattle.rules.specs.Blocks.{topTable, fileTables, elecTable, drawingTable, mostLayers, definesTable, symbolTable, elementTable}
-use Rattle.rules.specs.Figures.{pointTable, textTable, placedTable, placedTables, wireTable, leastPoints}
-use Rattle.rules.specs.Sets.{Point, Wire, Figure, Drawing, Symbol, Contents, Set, headOr, symbolOwn, isFirst, isWired, arcOf, rangeOf, defineRange, joinDigit, wiresOf, knownOf, usedIn}
-use Rattle.rules.specs.VolumesAndTotals.{chained, dated, countedHere, countedAll, layersUsed}
-use Rattle.rules.specs.Machine.{Line, Env, Home, inElement, inLayer, State, top, file, drawing, layerNames, defines, symbol, hide, elements, figures, successive, texts, placing, skipping, ended, setOf, symbolBlock, wireBlock, wireUnread, Owned, byAct, beginWire, openTop, atEof, onTop, closeFile, onFile, onDrawing, layerValue, onLayerNames, newName, openSymbol, onSymbol, onDefines, onHide, onElements, isLayer, homeTable, closeFigures, openFigure, onFigures, onSuccessive, onTexts, fileKinds}
+use Rattle.rules.specs.Figures.{pointTable, textTable, placedTable, placedTables, leastPoints}
+use Rattle.rules.specs.Sets.{Point, Wire, Figure, Drawing, Symbol, Contents, Set, headOr, symbolOwn, isFirst, isWired, arcOf, rangeOf, defineRange, joinDigit, knownOf, usedIn}
+use Rattle.rules.specs.VolumesAndTotals.{chained, dated, countedHere}
+use Rattle.rules.specs.Machine.{Line, Env, Home, inElement, inLayer, State, top, file, drawing, layerNames, defines, symbol, hide, elements, figures, successive, texts, placing, skipping, ended, setOf, symbolBlock, wireBlock, wireUnread, Owned, beginWire, openTop, onTop, closeFile, onFile, onDrawing, layerValue, onLayerNames, newName, openSymbol, onSymbol, onDefines, onHide, onElements, isLayer, homeTable, closeFigures, openFigure, onFigures, onSuccessive, onTexts, fileKinds}
 use Rattle.rules.specs.PlacedSymbol.{onUnknown, newSerial, onPlaced, onPlacedKey, onPlacing, skipShut, onSkipping}
 use Rattle.rules.specs.Wires.{joined, joinsEnds, lastEdge, onWire}
 use Rattle.rules.specs.LineByLine.{stepIn, isIgnored, isClose, isEof, completes, nextVolume, step, accepted, thenRun, run}
-use Rattle.rules.proofs.Chains.{and-left, and-false, or-left, clash, by-cond, cond-same, On, on-unless, on-cond, on-map, on-then, on-also, on-got, nil-snoc}
+use Rattle.rules.proofs.Chains.{and-false, or-left, clash, by-cond, cond-same, On, on-unless, on-cond, on-map, on-then, on-also, on-got, nil-snoc}
 use Rattle.rules.proofs.OnActs.{on-byAct, on-taking, on-shut, on-skip}
 use Rattle.rules.proofs.Runs.{not-accepted, finish-ended, head-snoc, head-file}
 use Rattle.promises.specs.WireParts.{goOn, readUpTo}
+use Rattle.promises.proofs.Count.{both-left, on-close, on-eof}
+use Rattle.promises.proofs.OnWires.{on-wire}
 
 -- E_wire of a FILE_FORMAT isn't 000
 abbrev wiredFile : Held → Bool
@@ -82,16 +84,6 @@ later-file v w (u ∷ us) e = refl
 volume-back : (s : Set) → headOr (s .now) (s .volumes ++ s .now ∷ []) .file ≡ headOr (s .now) (s .volumes) .file
 volume-back s = ap (λ (c : Contents). c .file) (head-snoc (s .now) (s .now) (s .volumes))
 
--- one of two tests of which the first part is the same
-both-left : (b t x y : Bool) → cond b (t && x) (t && y) ≡ true → t ≡ true
-both-left true t x y e = and-left t x e
-both-left false t x y e = and-left t y e
-
-on-close : (P : State → Type 0) (st : State) (en : ℕ → Value → Got State) (op : ℕ → ℕ → Value → Got State) (cl : Unit {0} → Got State) (b : Bool)
-    → On P (cl tt) → On P (byAct st en op cl (cond b shut (refuse 8)))
-on-close P st en op cl true w = w
-on-close P st en op cl false w = tt
-
 past-first : (s : Set) (k : ℕ) → eqb k 4 ≡ true → TopSettled s k → isFirst s ≡ false
 past-first s k q i = subst (λ (m : ℕ). TopSettled s m → isFirst s ≡ false) (sym (eqb-true k 4 q)) (λ i. i) i
 
@@ -106,17 +98,11 @@ module _ (e : Env) (l : Line) (s : Set) where
   range-open (suc (suc zero)) i = (tt, as-before)
   range-open (suc (suc (suc k))) i = (tt, as-before)
 
-  on-eof : (Q : State → Type 0) (k : ℕ) → Q (ended s) → On Q (atEof l s k)
-  on-eof Q k h =
-      on-unless Q (eqb k 4 && (isNil (l .next) && l .last)) 9 _ λ _.
-      on-unless Q (layersUsed s) 14 _ λ _.
-      on-unless Q (countedAll s) 17 _ λ _. h
-
   range-top : (k : ℕ) (f : Form) → TopSettled s k → On P (onTop e l s k f)
   range-top k ignored i = (i, as-before)
   range-top k (wrong n) i = tt
   range-top k close i = tt
-  range-top k eof i = on-eof P k (tt, as-before)
+  range-top k eof i = on-eof e l P s k (λ _ _. (tt, as-before))
   range-top k (keyed key c) i =
       on-byAct P _ _ _ _ (act (knownOf s) topTable (digits 0 0) (rowsAtLimit 0 topTable) (keyed key c)) (i, as-before) (λ j v. tt)
       (λ m j v b. on-unless P (eqb j k) 9 _ λ q. rw (eqb-true j k q) (range-open k i)) tt
@@ -237,11 +223,17 @@ module _ (e : Env) (l : Line) (s : Set) where
   range-placing k fs n o zero (keyed key c) = range-key k fs n o key c (find key placedTable)
   range-placing k fs n o (suc p) f = range-placed k fs n o (suc p) (act (knownOf s) (getD placedTables (suc p) []) (digits 0 0) (rowsThere (partOf o (suc p))) f)
 
-  range-wire : (k : ℕ) (fs : List Figure) (n : ℕ) (w : Wire) (f : Form) → On P (onWire e l s k fs n w f)
-  range-wire k fs n w f =
-      on-byAct P _ _ _ _ (act (knownOf s) wireTable (wiresOf s) (rowsAtLimit 0 wireTable) f) (tt, as-before)
-      (λ j v. on-unless P (joined (joinsEnds (joinDigit s)) (lastEdge (w .elements)) j (numsOf v)) 11 _ λ _. on-taking P e 1 s _ λ _. (tt, as-before))
-      (λ m j v b. tt) (tt, as-before)
+  range-wire : (k : ℕ) (fs : List Figure) (n : ℕ) (w : Wire) (p : ℕ) (f : Form) → On P (onWire e l s k fs n w p f)
+  range-wire k fs n w p f =
+      on-wire P e l s k fs n w
+      (record {
+        other = λ gs ts o b q. (tt, as-before);
+        element = λ row v _. on-unless P (joined (joinsEnds (joinDigit s)) (lastEdge (w .elements)) row v) 11 _ λ _. on-taking P e 1 s _ λ _. (tt, as-before);
+        once = λ j v r q. (tt, as-before);
+        shut = (tt, as-before);
+        skipped = (tt, as-before);
+      })
+      p f
 
   range-shut : (k : ℕ) (fs : List Figure) (n : ℕ) (b : Owned) (d : ℕ) → On P (skipShut s k fs n b d)
   range-shut k fs n (symbolBlock o) zero = tt
@@ -267,7 +259,7 @@ module _ (e : Env) (l : Line) (s : Set) where
   last-top k ignored q i = (λ f. clash f (past-first s k (both-left (isNil (l .next)) (eqb k 4) false true q) i), as-before)
   last-top k (wrong n) q i = tt
   last-top k close q i = tt
-  last-top k eof q i = on-eof Anew k (tt, as-before)
+  last-top k eof q i = on-eof e l Anew s k (λ _ _. (tt, as-before))
   last-top k (keyed key c) q i = clash q (rw (and-false (eqb k 4)) (cond-same (isNil (l .next)) false))
 
   last-element : (f : Form) → isClose f ≡ true → On Anew (onElements s f)
@@ -293,7 +285,7 @@ module _ (e : Env) (l : Line) where
   range-in (successive s h fs n ps) i = range-successive e l s h fs n ps (l .form)
   range-in (texts s h fs n o) i = range-texts e l s h fs n o (l .form)
   range-in (placing s k fs n (symbolBlock o) p) i = range-placing e l s k fs n o p (l .form)
-  range-in (placing s k fs n (wireBlock w) p) i = range-wire e l s k fs n w (l .form)
+  range-in (placing s k fs n (wireBlock w) p) i = range-wire e l s k fs n w p (l .form)
   range-in (placing s k fs n wireUnread p) i = tt
   range-in (skipping s k fs n b d) i = range-skipping e l s k fs n b d (l .form)
   range-in (ended s) i = tt

@@ -7,7 +7,7 @@ use mathlib.Core.Path.{_≡_, refl, sym, _∙_, ap, ap₂, subst}
 use native.Mathlib.Omega.{arith}
 use lib.Dec.{eqb, leb}
 use lib.IntN.{ℤ, pos, negsuc}
-use lib.ListN.{length, length-map, take, drop}
+use lib.ListN.{length-map, take, drop}
 use borrow.Author.Tests.{eqb-true, eqb-false, leb-true, le-leb, lt-leb}
 use Rattle.rules.specs.declared.Class.{Class}
 use Rattle.rules.specs.Base.{mapO, flat, within}
@@ -16,28 +16,22 @@ use Rattle.rules.specs.Values.{Num, nums, valueAt, equalZ}
 use Rattle.rules.specs.Rows.{Held}
 use Rattle.rules.specs.Blocks.{fileTable, rangeTable, baseTable, elecTable, symTable, laterTable, drawingTable, symbolTable}
 use Rattle.rules.specs.Figures.{pointTable, textTable, placedTable, wireTable}
-use Rattle.rules.specs.Sets.{Point, Edge, Figure, plain, chain, lettering, placed, wired, passed, Layer, Symbol, Contents, Set, wireRange, Wire}
-use Rattle.rules.specs.Spool.{volumesOf}
-use Rattle.rules.specs.LineByLine.{accepted}
-use Rattle.rules.specs.Machine.{Env}
-use Rattle.rules.specs.RecordTable.{View, viewOf, plainView, firstOr0, others, start, fileRecords, drawingRecord, layerRecords, ruleAt, plainRecord, placedRecord, lineRecord, pointRecords, wireStart, wireNumbers, edgeRecord, edgeRecords, figureRecords, innerRecords, symbolRecords, blockRecords, bodyRecords, laterRecords, recordsFrom, recordsOf}
+use Rattle.rules.specs.Sets.{Point, Edge, Figure, plain, chain, lettering, placed, wired, passed, Layer, Symbol, Contents, Set, wireRange, wiresOf, Wire}
+use Rattle.rules.specs.RecordTable.{View, viewOf, plainView, start, fileRecords, drawingRecord, layerRecords, ruleAt, plainRecord, placedRecord, lineRecord, pointRecords, markUnread, wireStart, unreadNumbers, edgeRecord, edgeRecords, figureRecords, innerRecords, symbolRecords, blockRecords, bodyRecords, laterRecords, recordsFrom, recordsOf}
 use Rattle.rules.specs.Wires.{isLineRow, meets, joinOf, joined}
-use Rattle.rules.specs.Answers.{outcomeOfVolumes, readRecords}
-use Rattle.rules.proofs.Chains.{and-left, and-right, and-true, and-false, clash, by-cond, cond-some}
-use Rattle.rules.proofs.Runs.{not-accepted}
+use Rattle.rules.proofs.Chains.{and-left, and-right, and-true, and-false, clash, by-cond, cond-some, map-agree}
 use Rattle.promises.specs.PlacesApart.{kindOf}
 use Rattle.promises.specs.TableTexts.{numberAt}
-use Rattle.promises.specs.WiresJoined.{isLine, Meets, joinIn, Tested, JoinedTo, Elements, isOfWire, WiresIn, noRecord, another, readWire, skippedWire, firstDigit, WiresJoined}
+use Rattle.promises.specs.WiresJoined.{isLine, Meets, joinIn, Tested, JoinedTo, Elements, isOfWire, WiresIn, noRecord, another, readWire, skippedWire, firstDigit, WiresJoined, elementIn, elementOf, elementsOf, ElementsShown}
+use Rattle.promises.specs.OwnNumbers.{figuresIn}
 use Rattle.promises.proofs.Edges.{Behind, Joins}
-use Rattle.promises.proofs.FitSets.{anyText, Each, FitEdge, FitFigure, FitSymbol, FitBlock, FitContents, FitVolumes, FitSet}
-use Rattle.promises.proofs.Fits.{accepted-any}
-use Rattle.promises.proofs.JoinState.{JoinFigure, JoinBlock, JoinContents, JoinSet}
-use Rattle.promises.proofs.JoinSteps.{accepted-joins}
-use Rattle.promises.proofs.Parsed.{parsed}
+use Rattle.promises.proofs.FitSets.{anyText, Each, FitFigure, FitSymbol, FitBlock, FitContents, FitVolumes, FitSet}
+use Rattle.promises.proofs.FigureState.{EdgeRow, SoundWire, SoundFigure, SoundBlock, SoundContents}
+use Rattle.promises.proofs.ReadSound.{read-sound}
 use Rattle.promises.proofs.RecordPlaces.{kind-slot}
-use Rattle.promises.proofs.Sizes.{listing}
-use Rattle.promises.proofs.TwoClasses.{taken, outcome-at}
-use Rattle.promises.proofs.ShownTexts.{no-class}
+use Rattle.promises.proofs.SerialsShown.{other-kinds, not-kind, symbol-kind}
+use Rattle.promises.proofs.ShownNumbers.{isOther, Shown, ofFigure, set-shown}
+use Rattle.promises.proofs.WireRecords.{value-at, both, wire-shows, skip-shows}
 
 -- ── numbers ──
 equal-is : (a b : ℤ) → equalZ a b ≡ true → a ≡ b
@@ -47,17 +41,6 @@ equal-is (pos a) (negsuc b) e = clash e refl
 equal-is (negsuc a) (pos b) e = clash e refl
 equal-is (negsuc a) (negsuc b) e =
     let same : a ≡ b = omega (arith, leb-true b a (and-left (leb b a) _ e), leb-true a b (and-right (leb b a) _ e)) in ap negsuc same
-
--- the numbers behind the first i
-abbrev past : ℕ → List ℤ → List ℤ
-past zero zs = zs
-past (suc i) zs = past i (others zs)
-
-value-at : (i : ℕ) (v : List Num) → firstOr0 (past i (map (λ n. n .value) v)) ≡ valueAt v i
-value-at zero [] = refl
-value-at zero (a ∷ v) = refl
-value-at (suc i) [] = value-at i []
-value-at (suc i) (a ∷ v) = value-at i v
 
 -- ── the record of an element ──
 module _ (owner volume : ℕ) where
@@ -79,7 +62,7 @@ module _ (owner volume : ℕ) where
   edge-said n (suc zero) v j h = record { kind = refl; line = refl; layer = refl; volume-is = refl; join = refl }
   edge-said n (suc (suc row)) v j h = absurd (omega arith)
 
-  said : (e : Edge) → FitEdge e → Said e (recordOf e)
+  said : (e : Edge) → EdgeRow e → Said e (recordOf e)
   said e h = edge-said (e .line) (e .row) (e .values) (e .join) h
 
   -- a line's has its start and its end
@@ -106,7 +89,7 @@ module _ (owner volume : ℕ) where
       record { x = a .endX ∙ x ∙ sym (b .startX); y = a .endY ∙ y ∙ sym (b .startY) }
 
   -- ── how it is joined ──
-  tested : (f e : Edge) → FitEdge e → (both : Bool) → (isLineRow (f .row) && isLineRow (e .row)) ≡ both → (not both || meets (f .values) (e .values)) ≡ true
+  tested : (f e : Edge) → EdgeRow e → (both : Bool) → (isLineRow (f .row) && isLineRow (e .row)) ≡ both → (not both || meets (f .values) (e .values)) ≡ true
       → e .join ≡ cond both 1 2 → Tested both (recordOf f) (recordOf e)
   tested f e h true b m j =
       (said e h .join ∙ ap pos j, lines-meet f e (and-left (isLineRow (f .row)) _ b) (and-right (isLineRow (f .row)) _ b) m)
@@ -114,9 +97,9 @@ module _ (owner volume : ℕ) where
 
   abbrev FitFormer : Option Edge → Type 0
   FitFormer none = Unit {0}
-  FitFormer (some f) = FitEdge f
+  FitFormer (some f) = EdgeRow f
 
-  joined-to : (ends : Bool) (former : Option Edge) (e : Edge) → FitFormer former → FitEdge e → joined ends former (e .row) (e .values) ≡ true → e .join ≡ joinOf ends former (e .row)
+  joined-to : (ends : Bool) (former : Option Edge) (e : Edge) → FitFormer former → EdgeRow e → joined ends former (e .row) (e .values) ≡ true → e .join ≡ joinOf ends former (e .row)
       → JoinedTo ends (mapO recordOf former) (recordOf e)
   joined-to false former e p h m j = said e h .join ∙ ap pos j
   joined-to true none e p h m j = said e h .join ∙ ap pos j
@@ -125,7 +108,7 @@ module _ (owner volume : ℕ) where
       (tested f e h (isLineRow (f .row) && isLineRow (e .row)) refl m j)
 
   elements-joined : (wires : ℕ) (own : List ℤ) → numberAt own 1 ≡ pos owner → numberAt own 2 ≡ pos volume → (former : Option Edge) → FitFormer former
-      → (es : List Edge) → Each FitEdge es → Behind (Joins wires) former es → Elements (eqb (wires / 100) 4) own (mapO recordOf former) (edgeRecords owner volume es)
+      → (es : List Edge) → Each EdgeRow es → Behind (Joins wires) former es → Elements (eqb (wires / 100) 4) own (mapO recordOf former) (edgeRecords owner volume es)
   elements-joined wires own a b former p [] h g = tt
   elements-joined wires own a b former p (e ∷ es) h g =
       let s = said e (h .0) in (
@@ -234,50 +217,52 @@ module _ (c : Class) (s : Set) where
   abbrev InView : List (List ℤ) → Type 0
   InView rs = WiresIn (knowsWires c) (wireRange s / 100) rs
 
-  wire-read : (owner volume n : ℕ) (w : Wire) → Each FitEdge (w .elements) → knowsWires c ≡ true → Behind (Joins (wireRange s)) none (w .elements)
-      → InView (figureRecords view 0 owner volume (wired n w))
-  wire-read owner volume n w g k i =
-      let t = wireNumbers (wireRange s) (length (w .elements)) (wireStart owner volume n) in
-      let own = take 32 t in
-      let more = drop 32 t in
+  wire-read : (owner volume n : ℕ) (w : Wire) → SoundWire c (wireRange s) w → InView (figureRecords view 0 owner volume (wired n w))
+  wire-read owner volume n w i =
+      let own = take 32 (both view w owner volume n) in
+      let more = drop 32 (both view w owner volume n) in
+      let r = wire-shows view w owner volume n in
       let edges = edgeRecords owner volume (w .elements) in
       subst (λ (us : List (List ℤ)). InView (own ∷ more ∷ us)) (append-nil edges)
-      (readWire edges k
+      (readWire edges (i .known)
       (record {
-        kinds = (refl, refl);
-        unmarked = (refl, refl);
-        count = ap pos (sym (length-map (w .elements) (edgeRecord owner volume)));
-        first = refl;
-        joined = elements-joined owner volume (wireRange s) own refl refl none tt (w .elements) g i;
+        kinds = (r .kind, r .kindToo);
+        unmarked = (r .mark, r .markToo);
+        count = r .count ∙ ap pos (sym (length-map (w .elements) (edgeRecord owner volume)));
+        first = r .digit;
+        joined = elements-joined owner volume (wireRange s) own (r .layer) (r .volume-is) none tt (w .elements) (i .rows) (i .joins);
       }) noRecord)
 
-  figure-wires : (owner volume : ℕ) (f : Figure) → FitFigure anyText true f → JoinFigure c (wireRange s) f → InView (figureRecords view 0 owner volume f)
+  wire-skipped : (owner volume n : ℕ) → knowsWires c ≡ false → InView (figureRecords view 0 owner volume (passed n))
+  wire-skipped owner volume n k = let r = skip-shows view owner volume n in skippedWire k (record { kinds = (r .kind, r .kindToo); marked = (r .mark, r .markToo) }) noRecord
+
+  figure-wires : (owner volume : ℕ) (f : Figure) → FitFigure anyText true f → SoundFigure c (wireRange s) f → InView (figureRecords view 0 owner volume f)
   unfolding textTable
   figure-wires owner volume (plain n j v) g i = another (layer-line view owner volume n j v g) noRecord
   figure-wires owner volume (chain n ps) g i = another refl (points-other (knowsWires c) (wireRange s / 100) 17 owner volume ps refl)
   figure-wires owner volume (lettering n o) g i = another refl noRecord
   figure-wires owner volume (placed n h) g i = another (placed-other view owner volume n h) noRecord
-  figure-wires owner volume (wired n w) g i = wire-read owner volume n w g (i .0) (i .1)
-  figure-wires owner volume (passed n) g i = skippedWire i (record { kinds = (refl, refl); marked = (refl, refl) }) noRecord
+  figure-wires owner volume (wired n w) g i = wire-read owner volume n w i
+  figure-wires owner volume (passed n) g i = wire-skipped owner volume n i
 
-  body-wires : (k : ℕ) (v : Contents) → Each (FitBlock anyText) (v .blocks) → JoinContents c (wireRange s) v → InView (bodyRecords view k v)
+  body-wires : (k : ℕ) (v : Contents) → Each (FitBlock anyText) (v .blocks) → SoundContents c (wireRange s) v → InView (bodyRecords view k v)
   body-wires k v g i =
-      each-item (knowsWires c) (wireRange s / 100) (FitBlock anyText) (JoinBlock c (wireRange s)) (blockRecords view k)
-      (λ u p q. each-item (knowsWires c) (wireRange s / 100) (FitFigure anyText true) (JoinFigure c (wireRange s)) (figureRecords view 0 (u .layer) k) (figure-wires (u .layer) k) (u .figures) p q)
+      each-item (knowsWires c) (wireRange s / 100) (FitBlock anyText) (SoundBlock c (wireRange s)) (blockRecords view k)
+      (λ u p q. each-item (knowsWires c) (wireRange s / 100) (FitFigure anyText true) (SoundFigure c (wireRange s)) (figureRecords view 0 (u .layer) k) (figure-wires (u .layer) k) (u .figures) p q)
       (v .blocks) g i
 
-  volumes-wires : (k : ℕ) (vs : List Contents) → Each (FitContents anyText false) vs → Each (JoinContents c (wireRange s)) vs → InView (laterRecords view k vs)
+  volumes-wires : (k : ℕ) (vs : List Contents) → Each (FitContents anyText false) vs → Each (SoundContents c (wireRange s)) vs → InView (laterRecords view k vs)
   volumes-wires k [] g i = noRecord
   volumes-wires k (v ∷ vs) g i =
       let b = knowsWires c in
       let d = wireRange s / 100 in
       behind-it b d (behind-it b d (later-other b d k v) (body-wires k v (g .0 .1) (i .0))) (volumes-wires (suc k) vs (g .1) (i .1))
 
-  pub set-wires : FitSet anyText s → JoinSet c s → InView (recordsOf c s)
+  set-wires : FitSet anyText s → Each (SoundContents c (wireRange s)) (s .volumes) → InView (recordsOf c s)
   unfolding recordsOf
-  set-wires f i = go (s .volumes) (f .2) (i .0)
+  set-wires f i = go (s .volumes) (f .2) i
     where
-      go : (vs : List Contents) → FitVolumes anyText vs → Each (JoinContents c (wireRange s)) vs → InView (recordsFrom c s vs)
+      go : (vs : List Contents) → FitVolumes anyText vs → Each (SoundContents c (wireRange s)) vs → InView (recordsFrom c s vs)
       go [] g h = noRecord
       go (v ∷ vs) g h =
           let b = knowsWires c in
@@ -316,17 +301,69 @@ class-knows class wire c e =
     let (t, is) = cond-some (isSymbolPart class && isWirePart wire) _ c e in
     ap knowsWires (sym is) ∙ part-knows wire (and-right (isSymbolPart class) _ t)
 
-read-wires : (e : Env) (spool : List ℕ) (s : Set) → outcomeOfVolumes e (volumesOf spool) ≡ accepted s → WiresIn (knowsWires (e .class)) (firstDigit s) (recordsOf (e .class) s)
-read-wires e spool s h =
-    let p = parsed e spool s h in
-    let ls = listing 1 (p .volumes) (p .texts) in
-    set-wires (e .class) s (accepted-any e ls s (p .runs)) (accepted-joins e ls s (p .runs))
-
 pub wires-joined : WiresJoined
-wires-joined class wire len spool s e = go (classOf class wire) refl
-  where
-    go : (o : Option Class) → classOf class wire ≡ o → WiresIn (not (eqb wire 0)) (firstDigit s) (readRecords class wire len spool)
-    go none p = not-accepted (sym (no-class len spool class wire p) ∙ e)
-    go (some c) p =
-        subst (λ rs. WiresIn (not (eqb wire 0)) (firstDigit s) rs) (sym (taken len spool class wire c s p e .0))
-        (subst (λ (b : Bool). WiresIn b (firstDigit s) (recordsOf c s)) (class-knows class wire c p) (read-wires _ spool s (sym (outcome-at len spool class wire c p) ∙ e)))
+wires-joined class wire len spool s e =
+    let r = read-sound class wire len spool s e in
+    subst (λ rs. WiresIn (not (eqb wire 0)) (firstDigit s) rs) (sym (r .records))
+    (subst (λ (b : Bool). WiresIn b (firstDigit s) (recordsOf (r .at) s)) (class-knows class wire (r .at) (r .listed)) (set-wires (r .at) s (r .fits) (r .sound .figures)))
+
+-- ── the values of lines and arcs ──
+element-none : (r : List ℤ) → eqb (kindOf r) 20 ≡ false → eqb (kindOf r) 21 ≡ false → elementIn r ≡ []
+element-none r p q = rw (p, q)
+
+of-kind : (r : List ℤ) (k : ℕ) → kindOf r ≡ k → eqb k 20 ≡ false → eqb k 21 ≡ false → elementIn r ≡ []
+of-kind r k e p q = element-none r (ap (λ (m : ℕ). eqb m 20) e ∙ p) (ap (λ (m : ℕ). eqb m 21) e ∙ q)
+
+element-quiet : (r : List ℤ) → isOther (kindOf r) ≡ true → elementIn r ≡ []
+element-quiet r e = let w = other-kinds (kindOf r) e .1 in element-none r (not-kind (kindOf r) 20 refl w) (not-kind (kindOf r) 21 refl w)
+
+edge-shown : (owner volume n row : ℕ) (v : List Num) (j : ℕ) → row < 2
+    → let e : Edge = record { line = n; row = row; values = v; join = j } in elementIn (edgeRecord owner volume e) ≡ elementOf e ∷ []
+unfolding wireTable
+edge-shown owner volume n zero v j h =
+    ap (λ zs. (pos 20 ∷ zs) ∷ []) (ap₂ _∷_ (value-at 0 v) (ap₂ _∷_ (value-at 1 v) (ap₂ _∷_ (value-at 2 v) (ap₂ _∷_ (value-at 3 v) (ap₂ _∷_ (value-at 4 v) refl)))))
+edge-shown owner volume n (suc zero) v j h =
+    ap (λ zs. (pos 21 ∷ zs) ∷ [])
+    (ap₂ _∷_ (value-at 0 v)
+    (ap₂ _∷_ (value-at 1 v) (ap₂ _∷_ (value-at 2 v) (ap₂ _∷_ (value-at 3 v) (ap₂ _∷_ (value-at 4 v) (ap₂ _∷_ (value-at 5 v) (ap₂ _∷_ (value-at 6 v) refl)))))))
+edge-shown owner volume n (suc (suc row)) v j h = absurd (omega arith)
+
+edges-shown : (owner volume : ℕ) (es : List Edge) → Each EdgeRow es → flat (map elementIn (edgeRecords owner volume es)) ≡ map elementOf es
+edges-shown owner volume [] h = refl
+edges-shown owner volume (e ∷ es) h = ap₂ _++_ (edge-shown owner volume (e .line) (e .row) (e .values) (e .join) (h .0)) (edges-shown owner volume es (h .1))
+
+abbrev noEdges : Held → List (List ℤ)
+noEdges h = []
+
+abbrev wireEdges : Wire → List (List ℤ)
+wireEdges w = map elementOf (w .elements)
+
+elements-shown-in : (c : Class) (s : Set) → Shown elementIn element-quiet noEdges wireEdges c s
+elements-shown-in c s = record {
+  symbols = λ owner volume n h g. of-kind (placedRecord (viewOf c s) 0 owner volume n h) 16 (symbol-kind c s owner volume n h) refl refl;
+  single = λ owner volume n v. of-kind (placedRecord (viewOf c s) 0 owner volume n ((some (nums v) ∷ []) ∷ [])) 16 (symbol-kind c s owner volume n ((some (nums v) ∷ []) ∷ [])) refl refl;
+  wires = λ owner volume n w i.
+      let r = wire-shows (viewOf c s) w owner volume n in
+      let own = take 32 (both (viewOf c s) w owner volume n) in
+      let more = drop 32 (both (viewOf c s) w owner volume n) in
+      record { are = ap₂ _++_ (of-kind own 18 (r .kind) refl refl) (ap₂ _++_ (of-kind more 19 (r .kindToo) refl refl) (edges-shown owner volume (w .elements) (i .rows))) };
+  skipped = λ owner volume n.
+      let r = skip-shows (viewOf c s) owner volume n in
+      let t = unreadNumbers (markUnread (digits 0 0) (wiresOf s) wireTable (wireStart owner volume n)) in
+      record { are = ap₂ _++_ (of-kind (take 32 t) 18 (r .kind) refl refl) (ap₂ _++_ (of-kind (drop 32 t) 19 (r .kindToo) refl refl) refl) };
+}
+
+of-edges : (f : Figure) → ofFigure elementIn element-quiet noEdges wireEdges f ≡ elementsOf f
+of-edges (plain n j v) = refl
+of-edges (chain n ps) = refl
+of-edges (lettering n s) = refl
+of-edges (placed n h) = refl
+of-edges (wired n w) = refl
+of-edges (passed n) = refl
+
+pub elements-shown : ElementsShown
+elements-shown class wire len spool s e =
+    let r = read-sound class wire len spool s e in
+    ap (λ rs. flat (map elementIn rs)) (r .records)
+    ∙ set-shown elementIn element-quiet noEdges wireEdges (r .at) s (elements-shown-in (r .at) s) (r .fits) (r .sound .figures) .are
+    ∙ ap flat (map-agree (ofFigure elementIn element-quiet noEdges wireEdges) elementsOf of-edges (figuresIn s))

@@ -1,10 +1,10 @@
 -- The small set and what it is answered, computed.
 use mathlib.Core.Path.{refl}
-use Rattle.rules.specs.Answers.{readAnswer, written, rewriteAnswer, checkAnswer, readRecords}
-use Rattle.promises.specs.Witnesses.{small, cut, wiredOf, serialsWith, Witnesses}
+use Rattle.rules.specs.Answers.{readOutcome, readAnswer, written, rewriteAnswer, checkAnswer, readRecords}
+use Rattle.promises.specs.Witnesses.{small, cut, wiredOf, serialsWith, linkedWith, Witnesses}
 
 pub witnesses : Witnesses
-unfolding small cut wiredOf serialsWith readAnswer readRecords written rewriteAnswer checkAnswer
+unfolding small cut wiredOf serialsWith linkedWith readOutcome readAnswer readRecords written rewriteAnswer checkAnswer
 witnesses = record {
   accepted = refl;
   checked = refl;
@@ -25,4 +25,14 @@ witnesses = record {
   serials = refl;
   serialsTaken = refl;
   serialTwice = refl;
+  linkedTaken = refl;
+  linkedOwn = refl;
+  linkedEnds = refl;
+  linkedTests = refl;
+  linkedFixed = refl;
+  linkedTwice = refl;
+  symbolAlone = refl;
+  startAlone = refl;
+  endAlone = refl;
+  edges = refl;
 }

@@ -2,7 +2,8 @@
 -- says, number for number. (That the code returns these answers and this memory are the contracts of the code; that there is no second
 -- answer is said by the theorems `Unique` of its crates.)
 use Prim.Native.Nat.{ℕ, _*_, _-_, _≤_, _<_}
-use mathlib.Core.Bool.{Bool, true, false}
+use mathlib.Core.Bool.{Bool, true, false, not}
+use lib.Dec.{eqb}
 use mathlib.Core.List.{List, [], _∷_, _++_}
 use mathlib.Core.Path.{_≡_}
 use lib.IntN.{ℤ, pos}
@@ -22,17 +23,29 @@ use Rattle.rules.specs.Answers.{refusal, readRecords, readAnswer, readTable, re
 abbrev pub ofWhole : ℕ → Bool
 ofWhole number = hasNumber number (1 ∷ 2 ∷ 20 ∷ [])
 
+-- "21, partner not found" is the last
+abbrev pub lastNumber : ℕ
+lastNumber = 21
+
+-- whose numbers: 20 is never the reader's, and the rewriter has all
+abbrev pub byReader : ℕ → Bool
+byReader number = not (eqb number 20)
+
+abbrev pub byRewriter : ℕ → Bool
+byRewriter number = true
+
 -- "A refusal is one number with volume and line": a number from 1 to the last; a volume from 1 to 12, but 0 and line 0 of the whole spool
-pub record Located (last : ℕ) (r : Refusal) : Type 0 where
+pub record Located (whose : ℕ → Bool) (r : Refusal) : Type 0 where
   pub least : 1 ≤ r .number
-  pub most : r .number ≤ last
+  pub most : r .number ≤ lastNumber
+  pub known : whose (r .number) ≡ true
   pub whole : ofWhole (r .number) ≡ true → (r .volume ≡ 0) × (r .line ≡ 0)
   pub inVolume : ofWhole (r .number) ≡ false → (1 ≤ r .volume) × (r .volume ≤ mostVolumes)
 
 -- a count, or a refusal
-pub data Answered (last : ℕ) : Answer → Type 0 where
-  acceptedWith : (n : ℕ) → Answered last (Accepted n)
-  refusedWith : (r : Refusal) → Located last r → Answered last (Refused r)
+pub data Answered (whose : ℕ → Bool) : Answer → Type 0 where
+  acceptedWith : (n : ℕ) → Answered whose (Accepted n)
+  refusedWith : (r : Refusal) → Located whose r → Answered whose (Refused r)
 
 -- ── the reader ──
 -- each record has 32 numbers
@@ -49,7 +62,7 @@ pub record Filled (len n : ℕ) (records : List (List ℤ)) (table : List ℤ) :
 
 -- what the reader gives back for a class and its wire part, a table of `len` numbers and a spool
 pub record Reads (class wire len : ℕ) (spool : List ℕ) : Type 0 where
-  pub answer : Answered 19 (readAnswer class wire len spool)
+  pub answer : Answered byReader (readAnswer class wire len spool)
   -- the lent table is as long as it was
   pub size : length (readTable class wire len spool) ≡ len
   -- "Refused: no records, table wholly zero"
@@ -65,7 +78,7 @@ pub record Written (len n : ℕ) (bytes output : List ℕ) : Type 0 where
 
 -- what the rewriter gives back for an output of `len` bytes and a spool
 pub record Rewrites (len : ℕ) (spool : List ℕ) : Type 0 where
-  pub answer : Answered 20 (rewriteAnswer len spool)
+  pub answer : Answered byRewriter (rewriteAnswer len spool)
   -- the lent output is as long as it was
   pub size : length (rewriteOutput len spool) ≡ len
   -- "Refused: output wholly zero"

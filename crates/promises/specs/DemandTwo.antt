@@ -13,6 +13,7 @@ use Rattle.rules.specs.RecordTable.{width}
 use Rattle.rules.specs.Answers.{readOutcome, readAnswer, readRecords, fullNumber, fullWire, rewriteOutcome, written, rewriteAnswer}
 use Rattle.promises.specs.PlacesApart.{bareSet, placesApart}
 use Rattle.promises.specs.TableTexts.{textsOf}
+use Rattle.promises.specs.TextsKept.{textsOfWires}
 
 -- what is true of a spool whose set is s, and of its fixed form
 pub record RoundTrip (spool : List ℕ) (s : Set) : Type 0 where
@@ -28,7 +29,8 @@ pub record RoundTrip (spool : List ℕ) (s : Set) : Type 0 where
   -- "read back": it is again a spool that document 01 takes, and accepted at class 15
   pub set : Set
   pub again : rewriteOutcome (written spool) ≡ accepted set
-  -- as the same set, places apart, with what no record shows: partner numbers, next_file, a later volume's date and time
+  -- as the same set, places apart, with what no record shows: partner numbers, next_file, a later volume's date and time; of a wire every
+  -- line of a key that repeats, in the order written, and every text
   pub whole : bareSet set ≡ bareSet s
   -- "gives the same records, places apart": with a table in which the spool's records fit it gives as many, the same apart from line
   -- numbers and byte places of text
@@ -38,6 +40,8 @@ pub record RoundTrip (spool : List ℕ) (s : Set) : Type 0 where
   -- "and texts": record by record, the bytes that it points at in its own spool
   pub texts : (len n : ℕ) → readAnswer fullNumber fullWire len spool ≡ Accepted n
       → textsOf (written spool) (readRecords fullNumber fullWire len (written spool)) ≡ textsOf spool (readRecords fullNumber fullWire len spool)
+  -- of a wire every text and its circuit, with those texts behind the first for which its record has no room
+  pub wires : textsOfWires set ≡ textsOfWires s
   -- "writing it twice changes nothing more", byte for byte
   pub twice : written (written spool) ≡ written spool
 

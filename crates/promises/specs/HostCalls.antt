@@ -8,7 +8,7 @@ use lib.IntN.{ℤ, pos}
 use lib.ListN.{length, replicate}
 use Rattle.rules.specs.RecordTable.{width}
 use Rattle.rules.specs.Answers.{answerCount, readAnswer, readTable, fullNumber, fullWire, rewriteAnswer, rewriteOutput, written, ownRecords, packed, checkAnswer}
-use Rattle.promises.specs.DemandOne.{Located, Written}
+use Rattle.promises.specs.DemandOne.{byReader, byRewriter, Located, Written}
 use Rattle.promises.specs.Acceptance.{Keeps}
 use Rattle.promises.specs.DemandThree.{atOrBefore}
 use Rattle.promises.specs.ReaderCalls.{Call, TwoCalls, Accepts}
@@ -27,7 +27,7 @@ pub record HostCheck : Type 0 where
 pub record Checked (c : HostCheck) : Type 0 where
   -- accepted: the spool keeps the rules of the class, and its records fit a table of 256
   pub whenAccepted : c .number ≡ 0 → (n : ℕ) × Keeps (c .class) (c .wire) (c .spool) n × (n ≤ ownRecords)
-  pub whenRefused : 0 < c .number → Located 19 (refusalIn (c .number))
+  pub whenRefused : 0 < c .number → Located byReader (refusalIn (c .number))
   -- and accepted only so
   pub whenKept : (n : ℕ) → Keeps (c .class) (c .wire) (c .spool) n → n ≤ ownRecords → c .number ≡ 0
 
@@ -59,7 +59,7 @@ readBy c = record {
 
 pub record HostReads (c : HostRead) : Type 0 where
   pub size : length (c .after) ≡ length (c .before)
-  pub whenRefused : 0 < c .number → Located 19 (refusalIn (c .number))
+  pub whenRefused : 0 < c .number → Located byReader (refusalIn (c .number))
   pub noCount : 0 < c .number → c .count ≡ 0
   pub zeros : 0 < c .number → c .after ≡ replicate (length (c .before)) (pos 0)
   pub whenAccepted : c .number ≡ 0 → CallAccepts (readBy c) (c .count)
@@ -89,7 +89,7 @@ rewrittenBy c = record {
 
 pub record HostRewrites (c : HostRewrite) : Type 0 where
   pub size : length (c .after) ≡ length (c .before)
-  pub whenRefused : 0 < c .number → Located 20 (refusalIn (c .number))
+  pub whenRefused : 0 < c .number → Located byRewriter (refusalIn (c .number))
   pub noCount : 0 < c .number → c .count ≡ 0
   pub zeros : 0 < c .number → c .after ≡ replicate (length (c .before)) 0
   pub whenAccepted : c .number ≡ 0 → Written (length (c .before)) (c .count) (written (c .spool)) (c .after)

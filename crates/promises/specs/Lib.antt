@@ -1,9 +1,12 @@
 pub mod Acceptance
+pub mod BackWitnesses
 pub mod DemandOne
 pub mod DemandThree
 pub mod DemandTwo
 pub mod HostCalls
+pub mod LowerWitnesses
 pub mod OwnNumbers
+pub mod Partners
 pub mod PlacesApart
 pub mod ReaderCalls
 pub mod RewriterCalls

@@ -13,7 +13,7 @@ use Rattle.rules.specs.Sets.{Point, Edge, Wire, Figure, plain, chain, lettering
 use Rattle.rules.specs.Machine.{Line, Home, inElement, inLayer, State, top, file, drawing, layerNames, defines, symbol, hide, elements, figures, successive}
 use Rattle.rules.specs.Machine.{texts, placing, skipping, ended, symbolBlock, wireBlock, wireUnread, Owned}
 use Rattle.rules.specs.LineByLine.{Outcome, refused, accepted}
-use Rattle.rules.specs.RecordTable.{kindHeader, kindDrawing, kindSymbol, kindLayer, kindText, kindPlaced, inSymbol}
+use Rattle.rules.specs.RecordTable.{kindHeader, kindDrawing, kindSymbol, kindLayer, kindText, kindPlaced, kindWireMore, inSymbol}
 
 -- ── what is kept ──
 abbrev pub bareValue : Value → Value
@@ -35,7 +35,15 @@ abbrev pub bareEdge : Edge → Edge
 bareEdge e = record { line = 0; row = e .row; values = e .values; join = e .join }
 
 abbrev pub bareWire : Wire → Wire
-bareWire w = record { elements = map bareEdge (w .elements) }
+bareWire w =
+    record {
+      elements = map bareEdge (w .elements);
+      groups = w .groups;
+      texts = map bareSlots (w .texts);
+      own = bareSlots (w .own);
+      writing = bareSlots (w .writing);
+      past = w .past;
+    }
 
 abbrev pub bareFigure : Figure → Figure
 bareFigure (plain n j v) = plain 0 j v
@@ -124,7 +132,8 @@ bareOutcome (refused n v l) = refused n 0 0
 bareOutcome (accepted s) = accepted (bareSet s)
 
 -- ── one record ──
--- where a record of a kind has the byte places of its texts (document 01, "Record table"); a wire's, 18 to 21, have none
+-- where a record of a kind has the byte places of its texts (document 01, "Record table"); of a wire's, 18 to 21, the second has two: of
+-- its first text and of its circuit
 abbrev pub textPlaces : ℕ → List ℕ
 textPlaces kind =
     cond (eqb kind kindHeader) (16 ∷ 18 ∷ 20 ∷ 22 ∷ 24 ∷ 26 ∷ 28 ∷ 30 ∷ [])
@@ -132,7 +141,8 @@ textPlaces kind =
     (cond (eqb kind kindSymbol) (5 ∷ [])
     (cond (eqb kind kindLayer) (7 ∷ [])
     (cond (eqb kind kindText || eqb kind (kindText + inSymbol)) (12 ∷ [])
-    (cond (eqb kind kindPlaced) (12 ∷ 24 ∷ []) [])))))
+    (cond (eqb kind kindPlaced) (12 ∷ 24 ∷ [])
+    (cond (eqb kind kindWireMore) (14 ∷ 16 ∷ []) []))))))
 
 abbrev pub kindOf : List ℤ → ℕ
 kindOf [] = 0

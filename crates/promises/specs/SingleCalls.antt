@@ -10,7 +10,7 @@ use Rattle.rules.specs.Sets.{Set}
 use Rattle.rules.specs.LineByLine.{accepted, refused}
 use Rattle.rules.specs.RecordTable.{width}
 use Rattle.rules.specs.Answers.{refusal, fullNumber, fullWire, written}
-use Rattle.promises.specs.DemandOne.{Answered, Filled, Written}
+use Rattle.promises.specs.DemandOne.{byReader, byRewriter, Answered, Filled, Written}
 use Rattle.promises.specs.Acceptance.{ruled, recordsAt, placeOf, noRoom, firstOut}
 use Rattle.promises.specs.ReaderCalls.{Call}
 use Rattle.promises.specs.RewriterCalls.{Rewriting}
@@ -23,7 +23,7 @@ pub record CallAccepts (c : Call) (n : ℕ) : Type 0 where
   pub table : Filled (length (c .before)) n (recordsAt (c .class) (c .wire) set) (c .after)
 
 pub record ReadCall (c : Call) : Type 0 where
-  pub answer : Answered 19 (c .answer)
+  pub answer : Answered byReader (c .answer)
   pub size : length (c .after) ≡ length (c .before)
   pub whenRefused : (r : Refusal) → c .answer ≡ Refused r → c .after ≡ replicate (length (c .before)) (pos 0)
   pub whenAccepted : (n : ℕ) → c .answer ≡ Accepted n → CallAccepts c n
@@ -38,7 +38,7 @@ ReadCalls = (c : Call) → ReadCall c
 
 -- ── the rewriter ──
 pub record RewriteCall (w : Rewriting) : Type 0 where
-  pub answer : Answered 20 (w .answer)
+  pub answer : Answered byRewriter (w .answer)
   pub size : length (w .after) ≡ length (w .before)
   pub whenRefused : (r : Refusal) → w .answer ≡ Refused r → w .after ≡ replicate (length (w .before)) 0
   pub whenAccepted : (n : ℕ) → w .answer ≡ Accepted n → Written (length (w .before)) n (written (w .spool)) (w .after)

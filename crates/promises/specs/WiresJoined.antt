@@ -2,20 +2,22 @@
 -- values between two lines, and recorded as untested where an arc takes part." Said of the records of an accepted set: which of them are a
 -- wire's, and how each of its lines and arcs is joined to the one before it. The numbers stand here again, and not by the names that the
 -- definitions have for them: a definition that took another digit or another place would not keep this.
-use Prim.Native.Nat.{ℕ, _/_}
-use mathlib.Core.Bool.{Bool, true, false, _&&_, _||_, not}
-use mathlib.Core.List.{List, [], _∷_, _++_}
+use Prim.Native.Nat.{ℕ, zero, suc, _/_}
+use mathlib.Core.Bool.{Bool, true, false, cond, _&&_, _||_, not}
+use mathlib.Core.List.{List, [], _∷_, _++_, map}
 use mathlib.Core.Option.{Option, none, some}
 use mathlib.Core.Path.{_≡_}
 use lib.Dec.{eqb}
 use lib.IntN.{ℤ, pos}
 use lib.ListN.{length}
-use Rattle.rules.specs.Base.{within}
+use Rattle.rules.specs.Base.{flat, within}
+use Rattle.rules.specs.Values.{Num, valueAt}
 use Rattle.rules.specs.Rows.{partOf, numberOf}
 use Rattle.rules.specs.Blocks.{elecTable}
-use Rattle.rules.specs.Sets.{Set, firstContents}
+use Rattle.rules.specs.Sets.{Edge, Figure, plain, chain, lettering, placed, wired, passed, Set, firstContents}
 use Rattle.rules.specs.LineByLine.{accepted}
 use Rattle.rules.specs.Answers.{readOutcome, readRecords}
+use Rattle.promises.specs.OwnNumbers.{figuresIn}
 use Rattle.promises.specs.PlacesApart.{kindOf}
 use Rattle.promises.specs.TableTexts.{numberAt}
 
@@ -102,3 +104,32 @@ abbrev pub LinesMeet : Type 0
 LinesMeet = (class wire len : ℕ) (spool : List ℕ) (s : Set) → readOutcome class wire len spool ≡ accepted s
     → (before : List (List ℤ)) (former r : List ℤ) (after : List (List ℤ)) → readRecords class wire len spool ≡ before ++ former ∷ r ∷ after
     → isLine former ≡ true → isLine r ≡ true → joinIn r ≡ pos 1 → Meets former r
+
+-- ── what the record of a line or arc shows: its kind, and its values from place 4 on, five of a line and seven of an arc ──
+abbrev pub numbersFrom : ℕ → List ℤ → ℕ → List ℤ
+numbersFrom zero r i = []
+numbersFrom (suc n) r i = numberAt r i ∷ numbersFrom n r (suc i)
+
+abbrev pub elementIn : List ℤ → List (List ℤ)
+elementIn r = cond (isElement r) ((pos (kindOf r) ∷ numbersFrom (cond (isLine r) 5 7) r 4) ∷ []) []
+
+-- what was read of it: rows 0 and 1 of a wire's block are `line` and `circle`
+abbrev pub valuesFrom : ℕ → List Num → ℕ → List ℤ
+valuesFrom zero v i = []
+valuesFrom (suc n) v i = valueAt v i ∷ valuesFrom n v (suc i)
+
+abbrev pub elementOf : Edge → List ℤ
+elementOf e = cond (eqb (e .row) 0) (pos 20 ∷ valuesFrom 5 (e .values) 0) (pos 21 ∷ valuesFrom 7 (e .values) 0)
+
+abbrev pub elementsOf : Figure → List (List ℤ)
+elementsOf (plain n j v) = []
+elementsOf (chain n ps) = []
+elementsOf (lettering n s) = []
+elementsOf (placed n h) = []
+elementsOf (wired n w) = map elementOf (w .elements)
+elementsOf (passed n) = []
+
+-- so kind 20 is a `line=` and kind 21 a `circle=` of a wire that was read, with its values, one after the other and none left out
+abbrev pub ElementsShown : Type 0
+ElementsShown = (class wire len : ℕ) (spool : List ℕ) (s : Set) → readOutcome class wire len spool ≡ accepted s
+    → flat (map elementIn (readRecords class wire len spool)) ≡ flat (map elementsOf (figuresIn s))

@@ -4,15 +4,20 @@ use Prim.Native.String as S
 use mathlib.Core.List.{List, [], _∷_, _++_, map}
 use mathlib.Core.Path.{_≡_}
 use lib.ListN.{length, take, drop}
+use Rattle.rules.specs.declared.Answer.{Answer}
 use Rattle.rules.specs.declared.Answer.the-variants.{Accepted}
 use Rattle.rules.specs.Base.{bytes, flat}
 use Rattle.rules.specs.Spool.{unlines, volumeBytes}
 use Rattle.rules.specs.RecordTable.{width}
-use Rattle.rules.specs.Answers.{refusal, readAnswer, written, rewriteAnswer, checkAnswer, fullNumber, fullWire, readRecords}
-use mathlib.Core.Bool.{cond}
+use Rattle.rules.specs.Answers.{refusal, readAnswer, written, rewriteAnswer, checkAnswer, fullNumber, fullWire, readOutcome, readRecords}
+use mathlib.Core.Bool.{Bool, true, false, cond}
 use lib.Dec.{eqb}
-use lib.IntN.{pos}
-use Rattle.promises.specs.OwnNumbers.{ownNumber}
+use lib.IntN.{ℤ, pos}
+use Rattle.rules.specs.Numbers.{minus}
+use Rattle.rules.specs.LineByLine.{Outcome, refused, accepted}
+use Rattle.promises.specs.OwnNumbers.{ownNumbers}
+use Rattle.promises.specs.Partners.{tested, endsOf}
+use Rattle.promises.specs.WiresJoined.{elementIn}
 use Rattle.promises.specs.TableTexts.{numberAt}
 
 -- "1 to 5 or 11 to 15"
@@ -95,7 +100,39 @@ serialsWith second =
 
 -- the own numbers that a class shows of it
 abbrev pub ownAt : ℕ → List ℕ → List ℕ
-ownAt class spool = flat (map ownNumber (readRecords class fullWire (8 * width) spool))
+ownAt class spool = ownNumbers (readRecords class fullWire (8 * width) spool)
+
+-- a placed symbol and a wire of one line, in a file of E_sym 011 and E_wire 011, with these serials, the wire's at line 61
+unfoldable pub linkedWith : S.String → S.String → List ℕ
+linkedWith symbol wire =
+    oneVolume
+    (fileLines ("elec=001:{" ∷ "E_sym=011" ∷ "E_wire=011" ∷ "E_cirno=000" ∷ "}" ∷ "sym=001:{" ∷ "S_base=000" ∷ "S_elec=001" ∷ "}" ∷ [])
+    ("all_line=65" ∷ "this_line=65" ∷ "all_ele=2" ∷ "this_ele=2" ∷ [])
+    ++ linesWith ("E_symbol:{" ∷ "name=LAMP" ∷ "element:{" ∷ "circle=1307,0,0,2,0,360,0" ∷ "}" ∷ "hide:{" ∷ "}" ∷ "}" ∷ []) ("E_001=" ∷ [])
+    ("LAYER=E_001:{" ∷ "E_symbol:{" ∷ "symbol=LAMP,1,2,90,1.5" ∷ symbol ∷ "}" ∷ "E_wire:{" ∷ "line=1307,0,0,10,5" ∷ wire ∷ "}" ∷ "}" ∷ [])
+    ++ "EOF" ∷ [])
+
+-- each a partner of the other, the symbol's named before the wire stands; the wire's end has none
+abbrev pub linked : List ℕ
+linked = linkedWith "serial=7,8" "serial=08,7,"
+
+-- what classes and wire parts answer, and what they show: own numbers, and partners of wires
+abbrev pub parts : List (ℕ × ℕ)
+parts = (15, 18) ∷ (11, 11) ∷ (15, 8) ∷ (5, 18) ∷ (15, 0) ∷ []
+
+abbrev pub answersTo : List ℕ → List Answer
+answersTo spool = map (λ p. readAnswer (p .0) (p .1) (10 * width) spool) parts
+
+abbrev pub shownAt : (List (List ℤ) → List ℕ) → List ℕ → List (List ℕ)
+shownAt show spool = map (λ p. show (readRecords (p .0) (p .1) (10 * width) spool)) parts
+
+abbrev pub testedIn : ℕ → ℕ → Outcome → Bool
+testedIn class wire (refused n v l) = false
+testedIn class wire (accepted s) = tested class wire s
+
+-- where a partner is missing: only the first two know serials of both; a class that skips the wire has one record less
+abbrev pub testedBy : Answer → List Answer
+testedBy a = a ∷ a ∷ Accepted 10 ∷ Accepted 10 ∷ Accepted 9 ∷ []
 
 -- a class with 0 keeps the wire's own two records alone
 abbrev pub recordsWith : ℕ → ℕ
@@ -131,3 +168,18 @@ pub record Witnesses : Type 0 where
   pub serials : map (λ class. ownAt class (serialsWith "serial=08,7")) (11 ∷ 15 ∷ 5 ∷ []) ≡ (7 ∷ 8 ∷ []) ∷ (7 ∷ 8 ∷ []) ∷ [] ∷ []
   pub serialsTaken : readAnswer fullNumber fullWire (8 * width) (serialsWith "serial=08,7") ≡ Accepted 8
   pub serialTwice : readAnswer fullNumber fullWire (8 * width) (serialsWith "serial=007") ≡ refusal 15 1 61
+  -- a wire's own number and its partner are shown where the wire part knows them, a symbol's own number where the class knows it
+  pub linkedTaken : answersTo linked ≡ testedBy (Accepted 10)
+  pub linkedOwn : shownAt ownNumbers linked ≡ (7 ∷ 8 ∷ []) ∷ (7 ∷ 8 ∷ []) ∷ (7 ∷ []) ∷ (8 ∷ []) ∷ (7 ∷ []) ∷ []
+  pub linkedEnds : shownAt (λ rs. flat (map endsOf rs)) linked ≡ (7 ∷ []) ∷ (7 ∷ []) ∷ [] ∷ (7 ∷ []) ∷ [] ∷ []
+  pub linkedTests : map (λ p. testedIn (p .0) (p .1) (readOutcome (p .0) (p .1) (10 * width) linked)) parts ≡ true ∷ true ∷ false ∷ false ∷ false ∷ []
+  pub linkedFixed : written linked ≡ linkedWith "serial=7,8" "serial=8,7,"
+  -- a wire's number that a symbol has is 15, at the wire's line; a partner that none has is 21, at EOF: a symbol's, a wire's start's, its end's
+  pub linkedTwice : readAnswer fullNumber fullWire (10 * width) (linkedWith "serial=7,8" "serial=007,,") ≡ refusal 15 1 61
+  pub symbolAlone : answersTo (linkedWith "serial=7,9" "serial=8,7,") ≡ testedBy (refusal 21 1 65)
+  pub startAlone : answersTo (linkedWith "serial=7,8" "serial=8,9,7") ≡ testedBy (refusal 21 1 65)
+  pub endAlone : answersTo (linkedWith "serial=7,8" "serial=8,7,9") ≡ testedBy (refusal 21 1 65)
+  -- a line of a wire is shown with its values, and an arc
+  pub edges : flat (map elementIn (readRecords fullNumber fullWire (9 * width) (wiredWith joinedLine)))
+      ≡ map (map pos) ((20 ∷ 1307 ∷ 0 ∷ 0 ∷ 100000 ∷ 50000 ∷ []) ∷ (20 ∷ 1307 ∷ 100000 ∷ 50000 ∷ 100000 ∷ 90000 ∷ []) ∷ [])
+      ++ (pos 21 ∷ pos 1307 ∷ minus 50000 ∷ map pos (50000 ∷ 30000 ∷ 0 ∷ 900000 ∷ 1 ∷ [])) ∷ []

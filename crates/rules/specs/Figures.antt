@@ -1,8 +1,9 @@
 -- Document 01, "Figures": the tables of figures in layers and in symbols, of points, of texts and of the placed symbol.
-use Prim.Native.Nat.{ℕ}
+use Prim.Native.Nat.{ℕ, _+_}
 use mathlib.Core.Bool.{Bool, true, false}
 use mathlib.Core.List.{List, [], _∷_, _++_}
-use Rattle.rules.specs.Values.{Part, digit, typeDigits, decimal, anySign, notNegative, aboveZero, angle, symbolName, Kind, values, text, word, serials}
+use Rattle.rules.specs.Values.{Part, count, digit, typeDigits, decimal, anySign, notNegative, aboveZero, angle, halfTurn, symbolName, Kind, values, text, word, serials}
+use Rattle.rules.specs.Values.{wireSerial, servedPower}
 use Rattle.rules.specs.Values.{opens, anyBytes, circuitBytes, nothingMore, endsDiffer, arcOfCircle, axesOfEllipse}
 use Rattle.rules.specs.Rows.{Rule, row, mayBeEmpty, from, optional, repeated, stateAt, upTo, anyNumber}
 
@@ -103,9 +104,44 @@ placedTable =
     ∷ stateAt 29 (from 0 5 (mayBeEmpty (row "circuit" (word 10 circuitBytes) 12)))
     ∷ stateAt 30 (from 1 0 (row "serial" serials 14)) ∷ []
 
--- a wire's block: "lines and arcs first, nothing else before or among them", with the values of those in a layer
+-- A wire's block: "lines and arcs first, nothing else before or among them", with the values of those in a layer; "then `direc`, `piend`,
+-- `num`, `text`, `length`, `circuit`, `power` one by one as the last digit goes from 2 to 8, and `serial` at middle digit 1": the range of
+-- this table is E_wire's last two digits. Places from 32 on are the second record's. What rows that repeat hold goes by `RecordTable: shelves`.
+abbrev pub mostDirecs : ℕ
+mostDirecs = 2
+
+abbrev pub site : Part
+site = decimal notNegative
+
 unfoldable pub wireTable : List Rule
-wireTable = anyOf (lineRow true ∷ circleRow ∷ [])
+wireTable =
+    repeated anyNumber (lineRow true)
+    ∷ repeated anyNumber circleRow
+    ∷ stateAt 26 (from 0 2 (repeated (upTo mostDirecs) (row "direc" (values (digit 0 4) (site ∷ site ∷ degrees ∷ []) nothingMore) 0)))
+    ∷ stateAt 27 (from 0 3 (repeated anyNumber (row "piend" (values site (site ∷ degrees ∷ []) nothingMore) 0)))
+    ∷ stateAt 28 (from 0 4 (repeated anyNumber (row "num" (values flag (count ∷ site ∷ site ∷ decimal halfTurn ∷ []) nothingMore) 0)))
+    ∷ stateAt (32 + 26) (from 0 5 (repeated anyNumber (row "text" (opens 1) 0)))
+    ∷ stateAt 29 (from 0 6 (mayBeEmpty (row "length" (values site [] nothingMore) 25)))
+    ∷ stateAt (32 + 27) (from 0 7 (mayBeEmpty (row "circuit" (word 10 circuitBytes) (32 + 16))))
+    ∷ stateAt (32 + 28) (from 0 8 (mayBeEmpty (row "power" (values (digit 0 9) (digit 0 9 ∷ count ∷ []) servedPower) (32 + 18))))
+    ∷ stateAt (32 + 29) (from 1 0 (row "serial" wireSerial (32 + 21))) ∷ []
+
+-- rows of it: the first of the three that repeat, the text's, serial's
+abbrev pub firstGroupRow : ℕ
+firstGroupRow = 2
+
+abbrev pub numRow : ℕ
+numRow = 4
+
+abbrev pub wireTextRow : ℕ
+wireTextRow = 5
+
+abbrev pub wireSerialRow : ℕ
+wireSerialRow = 9
+
+-- `text`: "block as the figure text in a layer", by its table
+abbrev pub wireTextTable : List Rule
+wireTextTable = textTable true 4 12
 
 -- the placed symbol's own keys, and those of its text
 abbrev pub placedTables : List (List Rule)

@@ -8,12 +8,12 @@ use lib.Dec.{eqb}
 use lib.ListN.{getD}
 use Rattle.rules.specs.Base.{bytes, isNil}
 use Rattle.rules.specs.Spool.{unlines, volumeBytes}
-use Rattle.rules.specs.Values.{Value, nums, Known, Kind, values, text, word, volumeName, sheet, ratio, serials, nothing, opens, headed, either}
+use Rattle.rules.specs.Values.{Num, Value, nums, Known, Kind, values, text, word, volumeName, sheet, ratio, serials, wireSerial, nothing, opens, headed, either}
 use Rattle.rules.specs.Values.{showContent, charsOf, amountAt}
 use Rattle.rules.specs.Rows.{Rule, Slots, Held, partOf}
 use Rattle.rules.specs.Blocks.{fileTables, drawingTable, symbolTable}
-use Rattle.rules.specs.Figures.{figureTable, pointTable, textTable, placedTables, wireTable}
-use Rattle.rules.specs.Sets.{Point, Edge, Figure, plain, chain, lettering, placed, wired, passed, Layer, Drawing, Symbol, LayerBlock, Contents, Set}
+use Rattle.rules.specs.Figures.{figureTable, pointTable, textTable, placedTables, wireTable, wireTextTable, firstGroupRow}
+use Rattle.rules.specs.Sets.{Point, Edge, Wire, Figure, plain, chain, lettering, placed, wired, passed, Layer, Drawing, Symbol, LayerBlock, Contents, Set}
 use Rattle.rules.specs.Sets.{layerTableOf, knownOf}
 use Rattle.rules.specs.RecordTable.{ruleAt}
 
@@ -33,6 +33,7 @@ opensBlock volumeName v = false
 opensBlock sheet v = false
 opensBlock ratio v = false
 opensBlock serials v = false
+opensBlock wireSerial v = false
 opensBlock nothing v = false
 opensBlock (opens i) v = true
 opensBlock (headed i p) v = true
@@ -50,6 +51,7 @@ behind k volumeName v = 61 ∷ showContent k volumeName v
 behind k sheet v = 61 ∷ showContent k sheet v
 behind k ratio v = 61 ∷ showContent k ratio v
 behind k serials v = 61 ∷ showContent k serials v
+behind k wireSerial v = 61 ∷ showContent k wireSerial v
 behind k nothing v = 61 ∷ []
 behind k (opens i) v = bytes ":{"
 behind k (headed i p) v = 61 ∷ openLine (showContent k (headed i p) v)
@@ -95,13 +97,32 @@ abbrev pub showEdges : Known → List Edge → Text → Text
 showEdges k [] ls = ls
 showEdges k (e ∷ es) ls = lineOf k (ruleAt wireTable (e .row)) (nums (e .values)) ∷ showEdges k es ls
 
+-- "several of one key in the order written": the lines of a row that stands any number of times
+abbrev pub showGroup : Known → Rule → List (List Num) → Text → Text
+showGroup k r [] ls = ls
+showGroup k r (v ∷ vs) ls = lineOf k r (nums v) ∷ showGroup k r vs ls
+
+-- the groups of a wire, from the row j on
+abbrev pub showGroups : Known → ℕ → List (List (List Num)) → Text → Text
+showGroups k j [] ls = ls
+showGroups k j (g ∷ gs) ls = showGroup k (ruleAt wireTable j) g (showGroups k (suc j) gs ls)
+
+abbrev pub showWireTexts : Known → List Slots → Text → Text
+showWireTexts k [] ls = ls
+showWireTexts k (s ∷ ss) ls = block (bytes "text") (showSlots k wireTextTable s noInner) (showWireTexts k ss ls)
+
+-- "lines and arcs first", then direc, piend, num, text, length, circuit, power, serial
+abbrev pub showWire : Known → Wire → Text → Text
+showWire k w ls =
+    showEdges k (w .elements) (showGroups k firstGroupRow (w .groups) (showWireTexts k (w .texts) (showSlots k wireTable (w .own) noInner ls)))
+
 -- a figure of a layer, or of a symbol, with its table of figures; no wire is skipped at the class that is written from
 abbrev pub showFigure : Known → Bool → List Rule → Figure → Text → Text
 showFigure k inLayer t (plain n j v) ls = lineOf k (ruleAt t j) (nums v) ∷ ls
 showFigure k inLayer t (chain n ps) ls = block (bytes "successive") (showPoints k inLayer ps) ls
 showFigure k inLayer t (lettering n s) ls = block (bytes "text") (showSlots k (textTable inLayer 4 12) s noInner) ls
 showFigure k inLayer t (placed n h) ls = block (bytes "E_symbol") (showHeld k placedTables h) ls
-showFigure k inLayer t (wired n w) ls = block (bytes "E_wire") (showEdges k (w .elements)) ls
+showFigure k inLayer t (wired n w) ls = block (bytes "E_wire") (showWire k w) ls
 showFigure k inLayer t (passed n) ls = block (bytes "E_wire") (λ rest. rest) ls
 
 abbrev pub showFigures : Known → Bool → List Rule → List Figure → Text → Text

@@ -9,17 +9,17 @@ use Rattle.rules.specs.declared.Class.{Class}
 use Rattle.rules.specs.Base.{isNil, isNone, among, hasNumber}
 use Rattle.rules.specs.RefusalNumbers.{Got, got, bad, unless, andThen}
 use Rattle.rules.specs.Lines.{Rest, Form, ignored, wrong, close, eof, keyed, freeShapeOf, Shape, opener, noContent, content, opening, formless}
-use Rattle.rules.specs.RangeClass.{digits, digitsOf, knowsWires}
+use Rattle.rules.specs.RangeClass.{digits, digitsOf, knowsWires, knowsSerials}
 use Rattle.rules.specs.Values.{Value, empty, numsOf, amountAt, isLayerId, readKind}
 use Rattle.rules.specs.Rows.{Rule, Slots, blank, Held, partOf, enter, rowsThere, rowsAtLimit, Act, stay, entry, begin, shut, refuse, act}
 use Rattle.rules.specs.Blocks.{topTable, fileTables, around, blankHeld, drawingTable, mostLayers, layerNameKind, definesTable, symbolTable, elementTable}
-use Rattle.rules.specs.Figures.{figureTable, leastPoints, pointTable, textTable, placedTables}
+use Rattle.rules.specs.Figures.{figureTable, leastPoints, pointTable, textTable, placedTables, wireTable}
 use Rattle.rules.specs.Sets.{Point, Wire, Figure, plain, chain, lettering, Drawing, Symbol, Set, withNow, withDrawing, withSymbol, withVolume, withRecords}
-use Rattle.rules.specs.Sets.{withBlock, withLayer, withOwn, symbolOwn, symbolFigures, symbolHidden, symbolOrder, isFirst, arcOf, rangeOf, defineRange}
+use Rattle.rules.specs.Sets.{withBlock, withLayer, withOwn, symbolOwn, symbolFigures, symbolHidden, symbolOrder, isFirst, arcOf, rangeOf, wiresOf, defineRange}
 use Rattle.rules.specs.Sets.{layerTableOf, symbolNameOf, knownOf, usedIn}
 use Rattle.rules.specs.RecordTable.{kindHeader, kindVolume, kindDrawing, kindSymbol, kindLayer, kindLine, kindSuccessive, kindText, kindPlaced, kindPoint, kindWire, kindWireMore}
 use Rattle.rules.specs.RecordTable.{inSymbol, kindHidden}
-use Rattle.rules.specs.VolumesAndTotals.{chained, dated, countedHere, countedAll, layersUsed}
+use Rattle.rules.specs.VolumesAndTotals.{chained, dated, countedHere, countedAll, layersUsed, partnersExist}
 
 -- ── a line of the set, and what the reading knows from the start ──
 pub record Line : Type 0 where
@@ -123,20 +123,26 @@ openTop e l s (suc zero) = taking e (kindDrawing ∷ []) s λ s′. drawing s′
 openTop e l s (suc (suc zero)) = got (defines s false)
 openTop e l s (suc (suc (suc k))) = got (elements s)
 
--- EOF: "9 (EOF misplaced, at EOF's line, also if any line follows it)", then "14 (unused, at EOF)", then "17 (all_ele at EOF)"
-abbrev pub atEof : Line → Set → ℕ → Got State
-atEof l s k =
+-- "partners are tested where file and class both know serials of symbols and of wires"
+abbrev pub testsPartners : Class → Set → Bool
+testsPartners c s = (knowsSerials (rangeOf s) && knowsSerials (wiresOf s)) && (knowsSerials (c .symbols) && knowsSerials (c .wires))
+
+-- EOF: "9 (EOF misplaced, at EOF's line, also if any line follows it)", then "14 (unused, at EOF)", then "17 (all_ele at EOF)", then "21,
+-- partner not found, at EOF after 17"
+abbrev pub atEof : Env → Line → Set → ℕ → Got State
+atEof e l s k =
     unless (eqb k pastElement && (inLastVolume l && l .last)) 9
     (unless (layersUsed s) 14
     (unless (countedAll s) 17
-    (got (ended s))))
+    (unless (not (testsPartners (e .class) s) || partnersExist s) 21
+    (got (ended s)))))
 
 -- a line with a key enters nothing here and closes nothing: those two arms are never reached
 abbrev pub onTop : Env → Line → Set → ℕ → Form → Got State
 onTop e l s k ignored = got (top s k)
 onTop e l s k (wrong n) = bad n
 onTop e l s k close = bad 9
-onTop e l s k eof = atEof l s k
+onTop e l s k eof = atEof e l s k
 onTop e l s k (keyed key c) =
     byAct (top s k) (λ j v. bad 5) (λ i j v. unless (eqb j k) 9 (openTop e l s j)) (λ _. bad 9)
     (act (knownOf s) topTable (digits 0 0) (rowsAtLimit 0 topTable) (keyed key c))
@@ -276,7 +282,7 @@ openPlaced e l s (inLayer k) fs = taking e (kindPlaced ∷ []) s λ s′. placin
 
 -- "A class with 0 skips whole wires": what the reading of a wire begins with, its line and whether its wire part is another
 abbrev pub noWire : Wire
-noWire = record { elements = [] }
+noWire = record { elements = []; groups = [] ∷ [] ∷ [] ∷ []; texts = []; own = blank wireTable; writing = []; past = false }
 
 abbrev pub beginWire : Bool → Set → ℕ → List Figure → ℕ → State
 beginWire true s k fs n = placing s k fs n (wireBlock noWire) 0

@@ -36,8 +36,12 @@ abbrev pub noneOf : List ℕ → List ℕ → Bool
 noneOf [] used = true
 noneOf (n ∷ ns) used = not (hasNumber n used) && noneOf ns used
 
+-- those of the set and of the layer that is open, symbols' and wires'
+abbrev pub numbersSoFar : Set → List Figure → List ℕ
+numbersSoFar s fs = serialsIn s ++ flat (map figureSerial fs)
+
 abbrev pub newSerial : Set → List Figure → Value → Bool
-newSerial s fs v = noneOf (ownSerial (serialsOf v)) (serialsIn s ++ flat (map figureSerial fs))
+newSerial s fs v = noneOf (ownSerial (serialsOf v)) (numbersSoFar s fs)
 
 abbrev pub onPlaced : Set → ℕ → List Figure → ℕ → Held → ℕ → Act → Got State
 onPlaced s h fs n o p a =

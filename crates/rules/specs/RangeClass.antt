@@ -50,6 +50,10 @@ hides c d l = reaches d l && not (reaches c l)
 abbrev pub knowsWires : Class → Bool
 knowsWires c = reaches (c .wires) (digits 0 1)
 
+-- serials are known from middle digit 1 on
+abbrev pub knowsSerials : Digits → Bool
+knowsSerials d = reaches d (digits 1 0)
+
 -- ── skipped lines ──
 -- what a skipped line does: nothing, or it opens a block; or it has no form (5)
 pub data Skip : Type 0 where

@@ -10,14 +10,14 @@ use lib.Seq.{sets}
 use Rattle.rules.specs.declared.Digits.{Digits}
 use Rattle.rules.specs.declared.Class.{Class}
 use Rattle.rules.specs.Base.{flat}
-use Rattle.rules.specs.RangeClass.{digits, hides}
+use Rattle.rules.specs.RangeClass.{digits, digitsOf, hides}
 use Rattle.rules.specs.Numbers.{value}
-use Rattle.rules.specs.Values.{Num, Value, empty, nums, chars, linked, valueAt, Kind, values, text, word, volumeName, sheet, ratio, serials, nothing}
+use Rattle.rules.specs.Values.{Num, Value, empty, nums, chars, linked, valueAt, Kind, values, text, word, volumeName, sheet, ratio, serials, wireSerial, nothing}
 use Rattle.rules.specs.Values.{opens, headed, either}
 use Rattle.rules.specs.Rows.{Rule, row, Slots, Held, partOf}
 use Rattle.rules.specs.Blocks.{fileTables, drawingTable, symbolTable}
-use Rattle.rules.specs.Figures.{figureTable, pointTable, textTable, placedTable, placedTables, wireTable}
-use Rattle.rules.specs.Sets.{Point, Edge, Figure, plain, chain, lettering, placed, wired, passed, Layer, Drawing, Symbol, LayerBlock, Contents, Set}
+use Rattle.rules.specs.Figures.{figureTable, pointTable, textTable, placedTable, placedTables, wireTable, wireTextTable}
+use Rattle.rules.specs.Sets.{Point, Edge, Wire, Figure, plain, chain, lettering, placed, wired, passed, Layer, Drawing, Symbol, LayerBlock, Contents, Set}
 use Rattle.rules.specs.Sets.{rangeOf, wireRange, layerTableOf}
 
 -- ── what a line's value puts into its record ──
@@ -52,6 +52,7 @@ columns volumeName = 2
 columns sheet = 2
 columns ratio = 2
 columns serials = 2
+columns wireSerial = 5
 columns nothing = 0
 columns (opens i) = 0
 columns (headed i p) = 1
@@ -259,8 +260,67 @@ placeJoinDigit = 30
 abbrev pub placeMark : ℕ
 placeMark = 31
 
+-- Where a key that repeats shows how often it stands, the first of its lines (of `direc` both), and its state. All lines are in the fixed
+-- form; the record has room for these.
+pub record Shelf : Type 0 where
+  pub place : ℕ
+  pub state : ℕ
+  pub wide : ℕ  -- how many values a line has
+  pub shown : ℕ  -- how many lines are shown
+
+abbrev pub shelf : ℕ → ℕ → ℕ → ℕ → Shelf
+shelf p q w n = record { place = p; state = q; wide = w; shown = n }
+
+abbrev pub shelves : List Shelf
+shelves = shelf 6 26 4 2 ∷ shelf 15 27 3 1 ∷ shelf 19 28 5 1 ∷ []
+
+-- "States as in kind 16": given where a line stands
+abbrev pub stateOfMany : ℕ → ℤ
+stateOfMany zero = pos 0
+stateOfMany (suc n) = pos 2
+
+abbrev pub shownLines : ℕ → ℕ → List (List Num) → List ℤ
+shownLines zero wide vs = []
+shownLines (suc n) wide [] = padded wide [] ++ shownLines n wide []
+shownLines (suc n) wide (v ∷ vs) = padded wide (map (λ m. m .value) v) ++ shownLines n wide vs
+
+abbrev pub putGroup : Shelf → List (List Num) → List ℤ → List ℤ
+putGroup h vs t = set (sets t (h .place) (pos (length vs) ∷ shownLines (h .shown) (h .wide) vs)) (h .state) (stateOfMany (length vs))
+
+abbrev pub putGroups : List Shelf → List (List (List Num)) → List ℤ → List ℤ
+putGroups [] gs t = t
+putGroups (h ∷ hs) [] t = t
+putGroups (h ∷ hs) (g ∷ gs) t = putGroup h g (putGroups hs gs t)
+
+-- how many texts, and the first
+abbrev pub placeTexts : ℕ
+placeTexts = width + 5
+
+abbrev pub placeTextState : ℕ
+placeTextState = width + 26
+
+abbrev pub firstText : List Slots → Slots
+firstText [] = []
+firstText (s ∷ ss) = s
+
+-- "ten of the first text": the numbers that the record of a text has from place 4 on
+abbrev pub textShown : ℕ
+textShown = 10
+
+abbrev pub textNumbers : Slots → List ℤ
+textNumbers s = take textShown (drop 4 (putSlots wireTextTable s (replicate width (pos 0))))
+
+abbrev pub putTexts : List Slots → List ℤ → List ℤ
+putTexts ss t = set (sets t placeTexts (pos (length ss) ∷ textNumbers (firstText ss))) placeTextState (stateOfMany (length ss))
+
 abbrev pub wireNumbers : ℕ → ℕ → List ℤ → List ℤ
 wireNumbers range elements t = set (set t placeElements (pos elements)) placeJoinDigit (pos (range / 100))
+
+-- all of a wire that is read, at a wire part
+abbrev pub wireValues : View → Wire → List ℤ → List ℤ
+wireValues w x t =
+    markUnread (w .class .wires) (digitsOf (w .wires)) wireTable
+    (wireNumbers (w .wires) (length (x .elements)) (putGroups shelves (x .groups) (putTexts (x .texts) (putSlots wireTable (x .own) t))))
 
 -- "each keeping what records a wire has at its own line, marked unread, zeros from place 4 on but for that mark and the states"
 abbrev pub unreadMark : ℤ
@@ -287,8 +347,9 @@ figureRecords w more owner volume (chain n ps) = chainRecord more owner volume n
 figureRecords w more owner volume (lettering n s) = textRecord more owner volume n s ∷ []
 figureRecords w more owner volume (placed n h) = placedRecord w more owner volume n h ∷ []
 figureRecords w more owner volume (wired n x) =
-    twoOf (wireNumbers (w .wires) (length (x .elements)) (wireStart owner volume n)) ++ edgeRecords owner volume (x .elements)
-figureRecords w more owner volume (passed n) = twoOf (unreadNumbers (wireStart owner volume n))
+    twoOf (wireValues w x (wireStart owner volume n)) ++ edgeRecords owner volume (x .elements)
+figureRecords w more owner volume (passed n) =
+    twoOf (unreadNumbers (markUnread (digits 0 0) (digitsOf (w .wires)) wireTable (wireStart owner volume n)))
 
 -- ── symbols ──
 -- "4 symbol: name, wall state, x, y"; its figures and hide points follow in the order written

@@ -1,17 +1,18 @@
 -- What is read: the set of volumes, block by block, in the order written.
 -- Lines and byte places are plain data, kept with what takes a record.
 use Prim.Native.Nat.{ℕ, _+_, _/_}
-use mathlib.Core.Bool.{Bool, not}
+use mathlib.Core.Bool.{Bool, cond, not}
+use mathlib.Core.Option.{Option, none, some}
 use mathlib.Core.List.{List, [], _∷_, _++_, map}
 use lib.Dec.{eqb}
-use lib.ListN.{length}
+use lib.ListN.{length, getD, drop}
 use Rattle.rules.specs.declared.Digits.{Digits}
 use Rattle.rules.specs.Base.{isNil, total, flat}
 use Rattle.rules.specs.RangeClass.{digitsOf}
-use Rattle.rules.specs.Values.{Num, Value, Known, charsOf, serialsOf}
+use Rattle.rules.specs.Values.{Num, Value, Known, charsOf, serialsOf, amountAt}
 use Rattle.rules.specs.Rows.{Rule, Slots, Held, partOf, slotValue, held, numberOf}
 use Rattle.rules.specs.Blocks.{rangeTable, elecTable, symTable, symbolTable}
-use Rattle.rules.specs.Figures.{layerTable, placedTable}
+use Rattle.rules.specs.Figures.{layerTable, placedTable, wireSerialRow}
 
 -- ── figures ──
 pub record Point : Type 0 where
@@ -25,9 +26,15 @@ pub record Edge : Type 0 where
   pub values : List Num
   pub join : ℕ
 
--- a wire that is read: its lines and arcs, in the order written
+-- a wire that is read: its lines and arcs, in the order written; the values of each direc, of each piend, of each num (`groups`, by these
+-- three keys); its texts; the rows that stand once; the text that is open; whether anything but an element has stood in it
 pub record Wire : Type 0 where
   pub elements : List Edge
+  pub groups : List (List (List Num))
+  pub texts : List Slots
+  pub own : Slots
+  pub writing : Slots
+  pub past : Bool
 
 pub data Figure : Type 0 where
   plain : ℕ → ℕ → List Num → Figure  -- its line, its row in the table of figures, its values
@@ -183,12 +190,17 @@ abbrev pub ownSerial : List ℕ → List ℕ
 ownSerial [] = []
 ownSerial (n ∷ ps) = n ∷ []
 
+-- a wire's, the first number of its serial
+abbrev pub ownNumber : Option Value → List ℕ
+ownNumber none = []
+ownNumber (some v) = amountAt v 0 ∷ []
+
 abbrev pub figureSerial : Figure → List ℕ
 figureSerial (plain n j v) = []
 figureSerial (chain n ps) = []
 figureSerial (lettering n s) = []
 figureSerial (placed n h) = ownSerial (serialsOf (slotValue (held "serial" placedTable (partOf h 0))))
-figureSerial (wired n w) = []
+figureSerial (wired n w) = ownNumber (getD (w .own) wireSerialRow none)
 figureSerial (passed n) = []
 
 abbrev pub serialsOfBlock : LayerBlock → List ℕ
@@ -196,6 +208,25 @@ serialsOfBlock u = flat (map figureSerial (u .figures))
 
 abbrev pub serialsOfVolume : Contents → List ℕ
 serialsOfVolume v = flat (map serialsOfBlock (v .blocks))
+
+-- ── partners ──
+-- those that are given, of a wire's start and end; of a placed symbol all
+abbrev pub givenPartner : ℕ → ℕ → List ℕ
+givenPartner state n = cond (eqb state 2) (n ∷ []) []
+
+abbrev pub wirePartners : Value → List ℕ
+wirePartners v = givenPartner (amountAt v 1) (amountAt v 2) ++ givenPartner (amountAt v 3) (amountAt v 4)
+
+abbrev pub figurePartners : Figure → List ℕ
+figurePartners (plain n j v) = []
+figurePartners (chain n ps) = []
+figurePartners (lettering n s) = []
+figurePartners (placed n h) = drop 1 (serialsOf (slotValue (held "serial" placedTable (partOf h 0))))
+figurePartners (wired n w) = wirePartners (slotValue (getD (w .own) wireSerialRow none))
+figurePartners (passed n) = []
+
+abbrev pub partnersOfVolume : Contents → List ℕ
+partnersOfVolume v = flat (map (λ u. flat (map figurePartners (u .figures))) (v .blocks))
 
 -- all own numbers in the layers that are closed
 abbrev pub serialsIn : Set → List ℕ

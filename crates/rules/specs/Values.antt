@@ -8,7 +8,7 @@ use lib.Dec.{eqb, leb, ltb}
 use lib.IntN.{ℤ, pos, negsuc}
 use lib.Signed.{ltZ, leZ}
 use lib.ListN.{length, getD, take, drop}
-use Rattle.rules.specs.Base.{bytes, all, same, indexOf, hasNumber, within, Cut, whole, parts, cut, split, join}
+use Rattle.rules.specs.Base.{bytes, all, flat, among, same, indexOf, hasNumber, within, Cut, whole, parts, cut, split, join}
 use Rattle.rules.specs.RefusalNumbers.{Got, got, bad, unless, mapG, orBad, keep, consG}
 use Rattle.rules.specs.Numbers.{isDigit, digitRun, value, readCount, readFixed, isDay, isClock, readDecimal, fixedOnto, fixed, showCount, showDecimal}
 
@@ -59,13 +59,14 @@ isLayerId (l ∷ s) = hasNumber l (bytes "BAEPM") && (same (take 1 s) (bytes "_"
 -- the sign and limit of a decimal: "Angles are 0 to 360 inclusive"; "Radius, axes, width, height above zero; gap not negative";
 -- "In layers no coordinate is negative but the two centres; in symbols any sign."
 pub data Bound : Type 0 where
-  anySign notNegative aboveZero angle : Bound
+  anySign notNegative aboveZero angle halfTurn : Bound
 
 abbrev pub inBound : Bound → ℤ → Bool
 inBound anySign z = true
 inBound notNegative z = leZ (pos 0) z
 inBound aboveZero z = ltZ (pos 0) z
 inBound angle z = leZ (pos 0) z && leZ z (pos 3600000)
+inBound halfTurn z = leZ (pos 0) z && leZ z (pos 1800000)
 
 pub data Part : Type 0 where
   count : Part  -- 1 to 9 digits
@@ -82,16 +83,16 @@ pub data Part : Type 0 where
 abbrev pub servedSymbols : ℕ → Bool
 servedSymbols n = within 0 5 n || within 11 15 n
 
--- "12, for E_wire, now covers values other than 000 and those above": the first digit 0 to 4; of the middle and the last digit those that
--- are read so far
+-- "12, for E_wire, now covers values other than 000 and those above": the first digit 0 to 4, the middle and the last
+-- 0 or 1 and 1 to 8
 abbrev pub mostJoinDigit : ℕ
 mostJoinDigit = 4
 
 abbrev pub mostWireMiddle : ℕ
-mostWireMiddle = 0
+mostWireMiddle = 1
 
 abbrev pub mostWireLast : ℕ
-mostWireLast = 1
+mostWireLast = 8
 
 abbrev pub servedWires : ℕ → Bool
 servedWires n = eqb n 0 || (leb (n / 100) mostJoinDigit && (leb (n / 10 % 10) mostWireMiddle && within 1 mostWireLast (n % 10)))
@@ -151,6 +152,7 @@ pub data Across : Type 0 where
   endsDiffer : Across  -- line: "ends differ in value"
   arcOfCircle : Across  -- circle: "start and end differ"
   axesOfEllipse : Across  -- ellipse: "long > short", start and end differ
+  servedPower : Across  -- a wire's power: phase, wires and volts are a row of document 000's table
 
 abbrev pub valueAt : List Num → ℕ → ℤ
 valueAt v i = getD v i (num (pos 0)) .value
@@ -158,11 +160,19 @@ valueAt v i = getD v i (num (pos 0)) .value
 abbrev pub equalZ : ℤ → ℤ → Bool
 equalZ a b = leZ a b && leZ b a
 
+-- document 000, table 5: phase, wires, volts
+abbrev pub powers : List (List ℕ)
+powers =
+    (1 ∷ 2 ∷ 100 ∷ []) ∷ (1 ∷ 2 ∷ 200 ∷ []) ∷ (1 ∷ 2 ∷ 231 ∷ []) ∷ (1 ∷ 3 ∷ 200 ∷ []) ∷ (3 ∷ 3 ∷ 200 ∷ []) ∷ (3 ∷ 3 ∷ 400 ∷ [])
+    ∷ (3 ∷ 3 ∷ 3300 ∷ []) ∷ (3 ∷ 3 ∷ 6600 ∷ []) ∷ (3 ∷ 3 ∷ 22000 ∷ []) ∷ (3 ∷ 3 ∷ 33000 ∷ []) ∷ (3 ∷ 3 ∷ 66000 ∷ []) ∷ (3 ∷ 4 ∷ 173 ∷ [])
+    ∷ (3 ∷ 4 ∷ 400 ∷ []) ∷ []
+
 abbrev pub agree : Across → List Num → Bool
 agree nothingMore v = true
 agree endsDiffer v = not (equalZ (valueAt v 1) (valueAt v 3) && equalZ (valueAt v 2) (valueAt v 4))
 agree arcOfCircle v = not (equalZ (valueAt v 4) (valueAt v 5))
 agree axesOfEllipse v = ltZ (valueAt v 4) (valueAt v 3) && not (equalZ (valueAt v 5) (valueAt v 6))
+agree servedPower v = among (map amount v) powers
 
 -- ── a key's content ──
 pub data Kind : Type 0 where
@@ -173,6 +183,7 @@ pub data Kind : Type 0 where
   sheet : Kind  -- size
   ratio : Kind  -- scale
   serials : Kind  -- serial: own number and partners
+  wireSerial : Kind  -- a wire's serial: own number, and the start's and the end's partner, each of which may be empty
   nothing : Kind  -- `NON=`
   opens : ℕ → Kind  -- `key:{`; the number of the inner block
   headed : ℕ → Part → Kind  -- `key=content:{`
@@ -186,6 +197,7 @@ isFree volumeName = false
 isFree sheet = false
 isFree ratio = false
 isFree serials = false
+isFree wireSerial = false
 isFree nothing = false
 isFree (opens i) = false
 isFree (headed i p) = false
@@ -261,6 +273,21 @@ abbrev pub showSerials : List ℕ → List (List ℕ)
 showSerials [] = []
 showSerials (n ∷ ns) = showCount 10 n ∷ showSerials ns
 
+-- "own,start,end": the own number, and of each partner its state (1 empty, 2 given) and number
+abbrev pub readPartner : List ℕ → Got (List Num)
+readPartner [] = got (twoNums 1 0)
+readPartner (b ∷ s) = mapG (λ n. twoNums 2 n) (orBad 10 (readCount 10 (b ∷ s)))
+
+abbrev pub readWireSerial : List (List ℕ) → Got (List Num)
+readWireSerial [] = bad 10
+readWireSerial (o ∷ []) = bad 10
+readWireSerial (o ∷ a ∷ []) = bad 10
+readWireSerial (o ∷ a ∷ b ∷ []) = consG (natural (orBad 10 (readCount 10 o))) (mapG flat (consG (readPartner a) (consG (readPartner b) (got []))))
+readWireSerial (o ∷ a ∷ b ∷ c ∷ s) = bad 10
+
+abbrev pub showPartner : ℕ → ℕ → List ℕ
+showPartner state n = cond (eqb state 2) (showCount 10 n) []
+
 abbrev pub readText : ℕ → Bytes → ℕ → List ℕ → Got Value
 readText n b at c = unless (all (byteIn b) c && leb (length c) n) 11 (got (chars at c))
 
@@ -273,6 +300,7 @@ readKind k volumeName at c = unless (all (byteIn lettersAndDigits) c) 11 (got (c
 readKind k sheet at c = mapG nums (orBad 11 (findSheet c sheets))
 readKind k ratio at c = mapG nums (readRatio c)
 readKind k serials at c = mapG linkedOf (keep 11 (λ ns. leb (length ns) (mostPartners + 1)) (readSerials (split 44 c)))
+readKind k wireSerial at c = mapG nums (readWireSerial (split 44 c))
 readKind k nothing at c = bad 5
 readKind k (opens i) at c = bad 5
 readKind k (headed i p) at c = mapG (λ n. nums (n ∷ [])) (readPart k p c)
@@ -309,6 +337,8 @@ showKind k volumeName v = charsOf v
 showKind k sheet v = showSheet (amountAt v 0) (amountAt v 1)
 showKind k ratio v = showRatio (amountAt v 0) (amountAt v 1)
 showKind k serials v = join 44 (showSerials (serialsOf v))
+showKind k wireSerial v =
+    join 44 (showCount 10 (amountAt v 0) ∷ showPartner (amountAt v 1) (amountAt v 2) ∷ showPartner (amountAt v 3) (amountAt v 4) ∷ [])
 showKind k nothing v = []
 showKind k (opens i) v = []
 showKind k (headed i p) v = showPart k p (getD (numsOf v) 0 (num (pos 0)))

@@ -3,11 +3,11 @@ use Prim.Native.Nat.{ℕ, suc}
 use mathlib.Core.Bool.{Bool, true, false, _&&_}
 use mathlib.Core.List.{List, [], _∷_, map}
 use lib.Dec.{eqb}
-use Rattle.rules.specs.Base.{same, total, flat, hasNumber}
+use Rattle.rules.specs.Base.{all, same, total, flat, hasNumber}
 use Rattle.rules.specs.Values.{charsOf}
 use Rattle.rules.specs.Rows.{Held, partOf, slotValue, held, numberOf}
 use Rattle.rules.specs.Blocks.{fileTable, laterTable}
-use Rattle.rules.specs.Sets.{Set, isFirst, firstContents, elementsOf, usedIn}
+use Rattle.rules.specs.Sets.{Set, isFirst, firstContents, elementsOf, usedIn, serialsOfVolume, partnersOfVolume}
 
 -- FILE_FORMAT's own table: of the first volume, and of later ones
 abbrev pub ownTable : Bool → List Rattle.rules.specs.Rows.Rule
@@ -32,6 +32,10 @@ countedHere s = eqb (numberOf "this_ele" (ownTable (isFirst s)) (partOf (s .now 
 -- "all_ele is the set's"
 abbrev pub countedAll : Set → Bool
 countedAll s = eqb (numberOf "all_ele" fileTable (partOf (firstContents s .file) 0)) (total elementsOf (s .volumes))
+
+-- "partners must exist by the end of the set": every partner is an own number of the set
+abbrev pub partnersExist : Set → Bool
+partnersExist s = all (λ n. hasNumber n (flat (map serialsOfVolume (s .volumes)))) (flat (map partnersOfVolume (s .volumes)))
 
 -- "each declared layer present somewhere in the set": the layers from number n on
 abbrev pub allUsed : ℕ → List (List ℕ) → List ℕ → Bool

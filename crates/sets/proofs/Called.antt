@@ -17,9 +17,11 @@ use Rattle.promises.specs.SingleCalls.{ReadCall, RewriteCall}
 use Rattle.promises.specs.TextsKept.{Points}
 use Rattle.promises.specs.TableTexts.{firstRecords}
 use Rattle.promises.specs.OwnNumbers.{NoneTwice}
+use Rattle.promises.specs.Partners.{CallFound}
 use Rattle.promises.proofs.OneCall.{read-calls, rewrite-calls}
 use Rattle.promises.proofs.Calls.{lower-call-accepts, higher-call-refuses}
 use Rattle.promises.proofs.OwnNumbers.{call-numbers-differ}
+use Rattle.promises.proofs.PartnersFound.{call-partners-found}
 use Rattle.promises.proofs.RewriterBack.{call-texts, rewriter-calls, accepted-rewrites}
 use Rattle.sets.proofs.reader.read as read′
 use Rattle.sets.proofs.rewriter.rewrite as rewrite′
@@ -80,6 +82,11 @@ read-texts κs x r e c n = call-texts (read-call κs x r e c) n
 pub read-numbers : (κs : Lfts 2) (x : Dens κs read′.Kinds.ps) (r : resT read′.Kinds.r κs .Denot) (e : AtExit (endedOf 2 read′.Kinds.ps read′.Kinds.r) κs)
     (c : read′.Reads.Learnt κs x r e) (n : ℕ) → r ≡ Accepted n → NoneTwice (firstRecords n (read-call κs x r e c .after))
 read-numbers κs x r e c n = call-numbers-differ (read-call κs x r e c) n
+
+-- where partners are tested, every one is an own number
+pub read-partners : (κs : Lfts 2) (x : Dens κs read′.Kinds.ps) (r : resT read′.Kinds.r κs .Denot) (e : AtExit (endedOf 2 read′.Kinds.ps read′.Kinds.r) κs)
+    (c : read′.Reads.Learnt κs x r e) (n : ℕ) → r ≡ Accepted n → CallFound (read-call κs x r e c) n
+read-partners κs x r e c n = call-partners-found (read-call κs x r e c) n
 
 -- ── demand 3: two calls of `read` ──
 module _ (κs κs′ : Lfts 2) (x : Dens κs read′.Kinds.ps) (x′ : Dens κs′ read′.Kinds.ps) (r : resT read′.Kinds.r κs .Denot) (r′ : resT read′.Kinds.r κs′ .Denot)

@@ -53,7 +53,7 @@ begin-stands c spool = record {
   symbols = refl;
   layers = refl;
   few-layers = omega arith;
-  serials = refl;
+  serials = record { ordered = refl; owns = λ n. refl; partners = λ found. refl };
   used = λ h. clash h refl;
   used-all = λ j h. none-used 64 j;
   counted = omega arith;

@@ -16,10 +16,11 @@ use Rattle.rules.specs.Rows.{Found, absent, found, find, Slots, Held, partOf, r
 use Rattle.rules.specs.Blocks.{topTable, fileTables, drawingTable, mostLayers, definesTable, symbolTable, elementTable}
 use Rattle.rules.specs.Figures.{leastPoints, pointTable, textTable, placedTable, placedTables, wireTable}
 use Rattle.rules.specs.Sets.{Point, Wire, Figure, Drawing, Symbol, Set, nothingYet, withRecords, symbolOwn, isFirst, arcOf, rangeOf, defineRange, joinDigit, wiresOf, knownOf, usedIn}
-use Rattle.rules.specs.VolumesAndTotals.{chained, dated, countedHere, countedAll, layersUsed}
-use Rattle.rules.specs.Machine.{Line, Env, Home, inElement, inLayer, State, top, file, drawing, layerNames, defines, symbol, hide, elements, figures, successive, texts, placing, skipping, ended, roomFor, openTop, onTop, onFile, onDrawing, layerValue, onLayerNames, newName, openSymbol, onSymbol, onDefines, onHide, onElements, isLayer, homeTable, closeFigures, openPlaced, beginWire, openWire, openFigure, onFigures, onSuccessive, onTexts}
+use Rattle.rules.specs.VolumesAndTotals.{chained, dated, countedHere, countedAll, layersUsed, partnersExist}
+use Rattle.rules.specs.Machine.{Line, Env, Home, inElement, inLayer, State, top, file, drawing, layerNames, defines, symbol, hide, elements, figures, successive, texts, placing, skipping, ended, roomFor, openTop, onTop, onFile, onDrawing, layerValue, onLayerNames, newName, openSymbol, onSymbol, onDefines, onHide, onElements, isLayer, homeTable, closeFigures, openPlaced, beginWire, openWire, openFigure, onFigures, onSuccessive, onTexts, testsPartners}
 use Rattle.rules.specs.PlacedSymbol.{onUnknown, newSerial, onPlaced, onPlacedKey, onPlacing, skipEnded, unreadShut, skipShut, onSkipping}
 use Rattle.rules.specs.Wires.{joinsEnds, lastEdge, joined, onElement, onWire}
+use Rattle.promises.proofs.OnWires.{on-wire}
 use Rattle.rules.specs.RecordTable.{kindWire, kindWireMore}
 use Rattle.rules.specs.LineByLine.{stepIn, completes, nextVolume, step, accepted, thenRun, run}
 use Rattle.rules.specs.Machine.{symbolBlock, wireBlock, wireUnread, fileKinds, Owned, setOf}
@@ -58,7 +59,8 @@ module _ (e : Env) (l : Line) (s : Set) where
   few-top k eof =
       on-unless Few (eqb k 4 && (isNil (l .next) && l .last)) 9 _ λ _.
       on-unless Few (layersUsed s) 14 _ λ _.
-      on-unless Few (countedAll s) 17 _ λ _. none-taken
+      on-unless Few (countedAll s) 17 _ λ _.
+      on-unless Few (not (testsPartners (e .class) s) || partnersExist s) 21 _ λ _. none-taken
   few-top k (keyed key c) =
       on-byAct Few _ _ _ _ (act (knownOf s) topTable (digits 0 0) (rowsAtLimit 0 topTable) (keyed key c)) none-taken (λ j v. tt) (λ i j v _. on-unless Few (eqb j k) 9 _ λ _. few-open j) tt
 
@@ -173,9 +175,9 @@ module _ (e : Env) (l : Line) (s : Set) where
   few-element : (k : ℕ) (fs : List Figure) (n : ℕ) (w : Wire) (row : ℕ) (v : List Num) → On Few (onElement e l s k fs n w row v)
   few-element k fs n w row v = on-unless Few (joined (joinsEnds (joinDigit s)) (lastEdge (w .elements)) row v) 11 _ λ _. taken 1 _ (omega arith) refl
 
-  few-wire : (k : ℕ) (fs : List Figure) (n : ℕ) (w : Wire) (f : Form) → On Few (onWire e l s k fs n w f)
-  few-wire k fs n w f =
-      on-byAct Few _ _ _ _ (act (knownOf s) wireTable (wiresOf s) (rowsAtLimit 0 wireTable) f) none-taken (λ j v. few-element k fs n w j (numsOf v)) (λ i j v _. tt) none-taken
+  few-wire : (k : ℕ) (fs : List Figure) (n : ℕ) (w : Wire) (p : ℕ) (f : Form) → On Few (onWire e l s k fs n w p f)
+  few-wire k fs n w p f =
+      on-wire Few e l s k fs n w (record { other = λ gs ts o b q. none-taken; element = λ row v _. few-element k fs n w row v; once = λ j v _ _. none-taken; shut = none-taken; skipped = none-taken }) p f
 
   few-shut : (k : ℕ) (fs : List Figure) (n : ℕ) (b : Owned) → On Few (unreadShut s k fs n b)
   few-shut k fs n (symbolBlock o) = tt
@@ -212,7 +214,7 @@ few-in e l (figures s h fs) = few-figures e l s h fs (l .form)
 few-in e l (successive s h fs n ps) = few-chain e l s h fs n ps (l .form)
 few-in e l (texts s h fs n o) = few-texts e l s h fs n o (l .form)
 few-in e l (placing s k fs n (symbolBlock o) p) = few-own e l s k fs n o p (l .form)
-few-in e l (placing s k fs n (wireBlock w) p) = few-wire e l s k fs n w (l .form)
+few-in e l (placing s k fs n (wireBlock w) p) = few-wire e l s k fs n w p (l .form)
 few-in e l (placing s k fs n wireUnread p) = tt
 few-in e l (skipping s k fs n b d) = few-skipping e l s k fs n b d (l .form)
 few-in e l (ended s) = tt

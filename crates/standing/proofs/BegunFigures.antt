@@ -2,6 +2,7 @@
 use Prim.Native.Nat.{ℕ, _+_}
 use mathlib.Core.Bool.{Bool, true, false}
 use mathlib.Core.List.{List, [], _∷_, _++_, append-nil}
+use mathlib.Core.Option.{none}
 use mathlib.Core.Path.{_≡_, refl, sym, _∙_, ap}
 use native.Mathlib.Omega.{arith}
 use lib.IntN.{pos}
@@ -9,26 +10,26 @@ use lib.ListN.{length, set, take, replicate}
 use Rattle.rules.specs.Values.{Num, nums}
 use Rattle.rules.specs.Rows.{Rule, blank, partOf, rowsThere}
 use Rattle.rules.specs.Blocks.{blankHeld}
-use Rattle.rules.specs.Figures.{textTable, placedTable, placedTables}
-use Rattle.rules.specs.Sets.{Figure, plain, placed, Set, withRecords, figureSerial}
-use Rattle.rules.specs.Machine.{Home, inElement, inLayer, isLayer, elements, figures, successive, texts, placing, symbolBlock}
+use Rattle.rules.specs.Figures.{textTable, placedTable, placedTables, wireTable}
+use Rattle.rules.specs.Sets.{Figure, plain, placed, Set, withRecords}
+use Rattle.rules.specs.Machine.{Home, inElement, inLayer, isLayer, elements, figures, successive, texts, placing, symbolBlock, wireBlock, noWire}
 use Rattle.rules.specs.RecordTable.{putState}
 use Rattle.entries.specs.Acts.{putLine}
 use Rattle.account.specs.Placing.{Shaped}
 use Rattle.standing.specs.SoFar.{homeMore, emptyRecord}
-use Rattle.standing.specs.Standing.{homeUsed, serialsWith, serialBytes}
+use Rattle.standing.specs.Standing.{homeUsed, linksWith, serialBytes, figureLinks}
 use Rattle.account.specs.FigureLines.{blockKind}
 use Rattle.standing.proofs.FigureSights.{plain-serials}
 use Rattle.standing.proofs.Standings.{Sight, sight}
 
 -- ── what a begun or a plain figure leaves alone ──
-abbrev sighted : Set → List ℕ → List ℕ → Bool → Sight
+abbrev sighted : Set → List (List ℕ) → List ℕ → Bool → Sight
 sighted s serials used inside =
     record { set = sight (elements s) .set; layers = s .drawing .layers; serials = serials; used = used; inside = inside; counts = true }
 
 pub plain-sight : (kind : ℕ) (s : Set) (h : Home) (fs : List Figure) (n j : ℕ) (v : List Num) → sight (figures s h fs) ≡ sight (figures (withRecords (kind ∷ []) s) h (fs ++ plain n j v ∷ []))
 plain-sight kind s (inElement y) fs n j v = refl
-plain-sight kind s (inLayer m) fs n j v = ap (λ (u : List ℕ). sighted s u (homeUsed s (inLayer m)) true) (plain-serials s (inLayer m) fs (plain n j v) refl)
+plain-sight kind s (inLayer m) fs n j v = ap (λ (u : List (List ℕ)). sighted s u (homeUsed s (inLayer m)) true) (plain-serials s (inLayer m) fs (plain n j v) refl)
 
 pub chain-sight : (kind : ℕ) (s : Set) (h : Home) (fs : List Figure) (n : ℕ) → sight (figures s h fs) ≡ sight (successive (withRecords (kind ∷ []) s) h fs n [])
 chain-sight kind s (inElement y) fs n = refl
@@ -38,14 +39,14 @@ pub text-sight : (kind : ℕ) (s : Set) (h : Home) (fs : List Figure) (n : ℕ) 
 text-sight kind s (inElement y) fs n = refl
 text-sight kind s (inLayer m) fs n = refl
 
-no-serial : (n : ℕ) → figureSerial (placed n (blankHeld placedTables)) ≡ []
+no-serial : (n : ℕ) → figureLinks (placed n (blankHeld placedTables)) ≡ []
 unfolding placedTable
 no-serial n = refl
 
 pub placed-sight : (kind : ℕ) (s : Set) (m : ℕ) (fs : List Figure) (n : ℕ) → sight (figures s (inLayer m) fs) ≡ sight (placing (withRecords (kind ∷ []) s) m fs n (symbolBlock (blankHeld placedTables)) 0)
 placed-sight kind s m fs n =
-    ap (λ (u : List ℕ). sighted s u (homeUsed s (inLayer m)) true)
-    (sym (ap (λ (u : List ℕ). serialsWith s fs ++ u) (no-serial n) ∙ append-nil (serialsWith s fs)))
+    ap (λ (u : List (List ℕ)). sighted s u (homeUsed s (inLayer m)) true)
+    (sym (ap (λ (u : List (List ℕ)). linksWith s fs ++ u) (no-serial n) ∙ append-nil (linksWith s fs)))
 
 -- ── the kinds of the figures that are blocks ──
 pub chain-kind : (h : Home) → blockKind (isLayer h) 1 ≡ 14 + homeMore h
@@ -78,6 +79,20 @@ unfolding placedTable textTable
 blank-shaped = (omega arith, refl, (omega arith, refl, tt))
 
 -- `E_symbol:{` is read, the line of its serial number isn't
-pub placed-bytes : (s : Set) (m : ℕ) (fs : List Figure) (n : ℕ) → serialBytes (placing s m fs n (symbolBlock (blankHeld placedTables)) 0) ≡ 32
+pub placed-bytes : (s : Set) (m : ℕ) (fs : List Figure) (n : ℕ) → serialBytes (placing s m fs n (symbolBlock (blankHeld placedTables)) 0) ≡ 15
 unfolding placedTable
 placed-bytes s m fs n = refl
+
+-- ── a wire of which nothing is read ──
+pub wire-unmarked : (ms : List Bool) → length ms ≡ 28 → take 10 (replicate (length ms) false) ≡ rowsThere (noWire .own)
+unfolding wireTable
+wire-unmarked ms q = ap (λ (m : ℕ). take 10 (replicate m false)) q
+
+pub wire-blank : (length (noWire .own) ≡ 10) × (take 6 (noWire .own) ≡ replicate 6 none)
+unfolding wireTable
+wire-blank = (refl, refl)
+
+-- `E_wire:{` is read, the line of its serial number isn't
+pub wire-bytes : (s : Set) (m : ℕ) (fs : List Figure) (n : ℕ) → serialBytes (placing s m fs n (wireBlock noWire) 0) ≡ 13
+unfolding wireTable
+wire-bytes s m fs n = refl

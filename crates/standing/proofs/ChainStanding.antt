@@ -55,7 +55,7 @@ same-sight kind s (inLayer m) fs n ps ps′ = refl
 
 closed-sight : (s : Set) (h : Home) (fs : List Figure) (n : ℕ) (ps : List Point) → sight (successive s h fs n ps) ≡ sight (figures s h (fs ++ chain n ps ∷ []))
 closed-sight s h fs n ps =
-    ap (λ (u : List ℕ). record { set = sight (successive s h fs n ps) .set; layers = s .drawing .layers; serials = u; used = usedOf (figures s h fs); inside = inside (figures s h fs); counts = true })
+    ap (λ (u : List (List ℕ)). record { set = sight (successive s h fs n ps) .set; layers = s .drawing .layers; serials = u; used = usedOf (figures s h fs); inside = inside (figures s h fs); counts = true })
     (plain-serials s h fs (chain n ps) refl)
 
 module _ (c : Class) (spool : List ℕ) (k : ℕ) (FileHere : Desk → Set → ℕ → Held → ℕ → Type 0) (d : Desk) (at to own : ℕ) (l : Line) (w : Where) (form : LineForm)

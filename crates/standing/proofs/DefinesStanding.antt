@@ -156,7 +156,7 @@ module _ (c : Class) (spool : List ℕ) (k : ℕ) (FileHere : Desk → Set → �
 
     -- nothing but what is open, and the place in the spool
     kept : (st′ : State) (n : Now) → stepIn (unlimited c) l st ≡ got st′ → completed (d .now) n ≡ C.Nothing → n .records ≡ d .now .records → setOf st′ .taken ≡ s .taken → sight st ≡ sight st′ → Same
-        → Enters c st st′ (d .scratch) → openFigures st′ ≡ 0 → nameBytes st′ ≡ 0 → serialBytes st′ ≡ 20
+        → Enters c st st′ (d .scratch) → openFigures st′ ≡ 0 → nameBytes st′ ≡ 0 → serialBytes st′ ≡ 3
         → Inside c spool k (deskWith d n m₁ (d .inner) t₁) (FileHere (deskWith d n m₁ (d .inner) t₁)) st′
         → Out (S.Go n)
     kept st′ n step done records taken v q entered a g h i =

@@ -1,5 +1,5 @@
 -- A line in ELEMENT, outside its layers: from the code's answer to the step that the definitions make.
-use Prim.Native.Nat.{ℕ, suc, _+_, _≤_, _<_}
+use Prim.Native.Nat.{ℕ, suc, _+_, _≤_, _<_, _*_}
 use mathlib.Core.Bool.{Bool, true, false, cond, not}
 use mathlib.Core.List.{List, [], _∷_, _++_, map, append-nil, append-assoc}
 use mathlib.Core.Path.{_≡_, refl, sym, _∙_, ap, subst}
@@ -15,7 +15,7 @@ use Rattle.rules.specs.Lines.{formIn}
 use Rattle.rules.specs.Values.{Known, Value, amountAt}
 use Rattle.rules.specs.Rows.{Rule, Held, rowsAtLimit, Act, stay, entry, begin, shut, refuse, act}
 use Rattle.rules.specs.Blocks.{elementTable}
-use Rattle.rules.specs.Sets.{Layer, Set, withVolume, knownOf, serialsIn, elementsOf, usedIn}
+use Rattle.rules.specs.Sets.{Layer, Set, withVolume, knownOf, elementsOf, usedIn}
 use Rattle.rules.specs.VolumesAndTotals.{countedHere}
 use Rattle.rules.specs.Machine.{Line, inLayer, State, top, elements, figures, byAct}
 use Rattle.rules.proofs.Chains.{clash, nil-snoc, total-more}
@@ -27,7 +27,8 @@ use Rattle.account.specs.declared.Step.{Step}
 use Rattle.account.specs.declared.Step.the-variants as S
 use Rattle.account.specs.Account.{atBlock}
 use Rattle.standing.specs.Kept.{Enters}
-use Rattle.standing.specs.Standing.{Desk, closedSerials, tallyOf, Stands, LineHere, Counted, StepOut}
+use Rattle.account.specs.SerialNumbers.{bytesLent}
+use Rattle.standing.specs.Standing.{Numbers, Desk, closedLinks, tallyOf, Stands, LineHere, Counted, StepOut, linksIn}
 use Rattle.account.specs.ElementLines.{layerOpened, agrees, elementStep, ElementTally, LayersInUse, ElementLine}
 use Rattle.standing.proofs.Openers.{isEntry, no-entry}
 use Rattle.standing.proofs.Standings.{known, lengths-kept, stands-still}
@@ -112,7 +113,7 @@ module _ (c : Class) (spool : List ℕ) (k : ℕ) (FileHere : Desk → Set → �
 
     on-begin : getD (d .used) m false ≡ false → OutOf (d .tally) (set (d .used) m true) (set (d .usedAll) m true) (S.Go (layerOpened (d .now) m))
     on-begin b =
-        let same : serialsIn s ≡ serialsIn s ++ [] = sym (append-nil (serialsIn s)) in
+        let same : linksIn s ≡ linksIn s ++ [] = sym (append-nil (linksIn s)) in
         let opened : Enters c st st′ (d .scratch) = layer-opens c s m (d .scratch) (z .scratch) in
         let now : Now = layerOpened (d .now) m in
         goes-entering c spool k FileHere own l to st (elementDesk d (d .tally) (set (d .used) m true) (set (d .usedAll) m true)) now st′
@@ -132,18 +133,18 @@ module _ (c : Class) (spool : List ℕ) (k : ℕ) (FileHere : Desk → Set → �
           scratch = opened .scratch;
           here = z .here;
           this = z .this;
-          tally = z .tally ∙ ap (λ (n : List ℕ). tallyOf s (z .here) (length (s .drawing .layers)) (length n)) same;
+          tally = z .tally ∙ ap (λ (n : List (List ℕ)). tallyOf s (z .here) (length (s .drawing .layers)) (length n)) same;
           symbols = z .symbols;
           layers = z .layers;
           few-layers = z .few-layers;
-          serials = subst (λ (n : List ℕ). take (length n) (d .serials) ≡ n) same (z .serials);
+          serials = subst (λ (n : List (List ℕ)). Numbers spool (take (length n) (d .serials)) n) same (z .serials);
           used = λ h n q. used-more (d .used) used m (omega (arith, few, z .lengths .used)) n (z .used refl n q);
           used-all = λ n q.
               used-more (d .usedAll) (flat (map usedIn (s .volumes)) ++ used) m (omega (arith, few, z .lengths .usedAll)) n (z .used-all n q)
               ∙ ap (hasNumber n) (append-assoc (flat (map usedIn (s .volumes))) used (m ∷ []));
           counted = omega (arith, z .counted, later);
           named = omega (arith, z .named, later);
-          numbered = omega (arith, z .numbered, later, ap length same);
+          numbered = subst (λ (n : List (List ℕ)). 27 * length n + 3 ≤ to + 3 + bytesLent (take (length n) (d .serials))) same (omega (arith, z .numbered, later));
           block = (refl, (z .block .1, refl, refl, few), refl);
         })
 
@@ -161,7 +162,7 @@ module _ (c : Class) (spool : List ℕ) (k : ℕ) (FileHere : Desk → Set → �
 
     on-shut : agrees (d .tally) ≡ true → OutOf (set (d .tally) 8 (getD (d .tally) 8 0 + getD (d .tally) 7 0)) (d .used) (d .usedAll) (S.Go (atBlock (d .now) 0 4))
     on-shut b =
-        let same : serialsIn s ≡ closedSerials (withVolume s) = sym (closed-serials s) in
+        let same : linksIn s ≡ closedLinks (withVolume s) = sym (closed-serials s) in
         let closed : Enters c st st″ (d .scratch) = elements-close c s (d .scratch) (z .scratch) in
         let tally : List ℕ = set (d .tally) 8 (getD (d .tally) 8 0 + getD (d .tally) 7 0) in
         let now : Now = atBlock (d .now) 0 4 in
@@ -176,12 +177,12 @@ module _ (c : Class) (spool : List ℕ) (k : ℕ) (FileHere : Desk → Set → �
           symbols = z .symbols;
           layers = z .layers;
           few-layers = z .few-layers;
-          serials = subst (λ (n : List ℕ). take (length n) (d .serials) ≡ n) same (z .serials);
+          serials = subst (λ (n : List (List ℕ)). Numbers spool (take (length n) (d .serials)) n) same (z .serials);
           used = λ h. clash h refl;
           used-all = λ n q. z .used-all n q ∙ ap (hasNumber n) (closed-used s);
           counted = omega (arith, z .counted, later, total-more elementsOf (s .volumes) (s .now));
           named = omega (arith, z .named, later);
-          numbered = omega (arith, z .numbered, later, ap length same);
+          numbered = subst (λ (n : List (List ℕ)). 27 * length n + 3 ≤ to + 3 + bytesLent (take (length n) (d .serials))) same (omega (arith, z .numbered, later));
           block = (refl, refl, (omega (arith, z .block .1, length-append (s .volumes) (s .now ∷ [])), refl, nil-snoc (s .volumes) (s .now)));
         })
 

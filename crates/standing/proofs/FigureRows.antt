@@ -84,21 +84,22 @@ unfolding figureTable
 figure-rows s (inElement y) = refl
 figure-rows s (inLayer m) = layer-figure-rows (isSingle s) (isWired s)
 
--- `E_symbol:{` has 8 bytes before its colon
-abbrev pub placedKey : Rule → Bool
-placedKey r = not (eqb (innerOf (r .holds)) 3) || eqb (length (r .key)) 8
+-- the key of the row that opens the inner block i has so many bytes
+abbrev pub opensKey : ℕ → ℕ → Rule → Bool
+opensKey i n r = not (eqb (innerOf (r .holds)) i) || eqb (length (r .key)) n
 
-layer-placed-key : (b w : Bool) → all placedKey (layerTable b w) ≡ true
+-- `E_symbol:{` has 8 before its colon, `E_wire:{` has 6
+layer-keys : (b w : Bool) → (all (opensKey 3 8) (layerTable b w) ≡ true) × (all (opensKey 4 6) (layerTable b w) ≡ true)
 unfolding layerTable
-layer-placed-key true true = refl
-layer-placed-key true false = refl
-layer-placed-key false true = refl
-layer-placed-key false false = refl
+layer-keys true true = (refl, refl)
+layer-keys true false = (refl, refl)
+layer-keys false true = (refl, refl)
+layer-keys false false = (refl, refl)
 
-pub placed-key : (s : Set) (h : Home) → all placedKey (M.homeTable s h) ≡ true
+pub block-keys : (s : Set) (h : Home) → (all (opensKey 3 8) (M.homeTable s h) ≡ true) × (all (opensKey 4 6) (M.homeTable s h) ≡ true)
 unfolding figureTable
-placed-key s (inElement y) = refl
-placed-key s (inLayer m) = layer-placed-key (isSingle s) (isWired s)
+block-keys s (inElement y) = (refl, refl)
+block-keys s (inLayer m) = layer-keys (isSingle s) (isWired s)
 
 -- ── a figure on one line ──
 -- `E_symbol=`: at E_sym 001 no attribute is allowed, so none is unread

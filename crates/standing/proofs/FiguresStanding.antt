@@ -2,7 +2,6 @@
 use Prim.Native.Nat.{ℕ, zero, suc, _+_, _*_, _≤_, _<_}
 use mathlib.Core.Bool.{Bool, true, false, cond, _&&_, _||_, not}
 use mathlib.Core.List.{List, [], _∷_, _++_, map}
-use mathlib.Core.Option.{none}
 use mathlib.Core.Path.{_≡_, refl, sym, _∙_, ap, subst}
 use native.Mathlib.Omega.{arith}
 use borrow.Author.Tests.{eqb-true, eq-eqb, leb-true, not-true}
@@ -12,7 +11,7 @@ use lib.ListN.{length, getD, set, take, replicate, length-append, length-replica
 use lib.Seq.{sets, length-sets}
 use Rattle.rules.specs.declared.Class.{Class}
 use Rattle.rules.specs.declared.LineForm.{LineForm}
-use Rattle.rules.specs.Base.{flat, isNil, hasNumber}
+use Rattle.rules.specs.Base.{all, flat, isNil, hasNumber}
 use Rattle.rules.specs.RefusalNumbers.{got, unless}
 use Rattle.rules.specs.RangeClass.{digitsOf, knowsWires}
 use Rattle.rules.specs.Lines.{Rest, brace, formIn}
@@ -23,7 +22,7 @@ use Rattle.rules.specs.Figures.{textTable, placedTables}
 use Rattle.rules.specs.Sets.{Figure, plain, Symbol, Set, symbolRange, wireRange, rangeOf, knownOf, withRecords, symbolFigures, usedIn}
 use Rattle.rules.specs.Machine as M
 use Rattle.rules.specs.Machine.{Line, Home, inElement, inLayer, isLayer, State, symbol, elements, figures, successive, texts, placing, byAct}
-use Rattle.rules.specs.RecordTable.{numbers, ruleAt, start, kindLine, kindSuccessive, kindText, kindPlaced, kindWire, kindWireMore}
+use Rattle.rules.specs.RecordTable.{numbers, ruleAt, start, kindLine, kindSuccessive, kindText, kindPlaced, kindWire, kindWireMore, wireStart}
 use Rattle.rules.specs.Machine.{symbolBlock, kindIn, noWire, beginWire, setOf, unlimited}
 use Rattle.rules.specs.LineByLine.{stepIn}
 use Rattle.rules.proofs.Chains.{clash, and-left, and-right, same-eq, or-left}
@@ -41,30 +40,31 @@ use Rattle.account.specs.declared.Complete.the-variants as C
 use Rattle.account.specs.Account.{atBlock, headAt, recordMade}
 use Rattle.account.specs.Putting.{completed}
 use Rattle.account.specs.WireLines.{wireBegun, begunStep, begunPut}
-use Rattle.standing.specs.SoFar.{homeOwner, homeVolume, homeMore, homeFigure, emptyRecord}
+use Rattle.standing.specs.SoFar.{volumeOf, homeOwner, homeVolume, homeMore, homeFigure, emptyRecord}
 use Rattle.standing.specs.Kept.{Scratch, Opens, Begins, Enters}
 use Rattle.standing.specs.Reading.{tallyAfter}
-use Rattle.standing.specs.Standing.{Desk, InHome, InSymbol, Inside, Stands, Counted, LineHere, Goes, StepOut, formSize, restSize, openFigures, nameBytes, serialBytes}
+use Rattle.account.specs.SerialNumbers.{bytesLent}
+use Rattle.standing.specs.Standing.{Numbers, Desk, InHome, InSymbol, Inside, Stands, Counted, LineHere, Goes, StepOut, formSize, restSize, openFigures, nameBytes, serialBytes}
 use Rattle.account.specs.FigureLines.{homeTable, homeRows, homeRule, lineKind, blockKind, moreFigures, figureOpened, figuresClosed, figureStep, FigureRecord, unmarkedIf, MarksFor, FigureLine}
 use Rattle.account.proofs.RowsTaken.{entry-taken}
 use Rattle.standing.proofs.LineOrigins.{From, isValues, entry-from, begin-from, entry-nums}
 use Rattle.standing.proofs.RowOpeners.{isOpens, entry-opens, begin-values, begin-opens}
 use Rattle.standing.proofs.LineSizes.{shut-close}
-use Rattle.standing.proofs.FigureRows.{home-rows, home-full, figureRow, valuesRow, blockRow, mostBlock, figure-rows, placedKey, placed-key, lineMade, line-record}
+use Rattle.standing.proofs.FigureRows.{home-rows, home-full, figureRow, valuesRow, blockRow, mostBlock, figure-rows, opensKey, block-keys, lineMade, line-record}
 use Rattle.standing.proofs.LaidTables.{with-back}
 use Rattle.standing.proofs.Completing.{goes-still, goes-entering, goes-opening, goes-filling, completed-by, completed-line, number-same}
 use Rattle.standing.proofs.OpenersKept.{headOf, chain-opens, text-opens, placed-opens}
 use Rattle.standing.proofs.EntriesKept.{element-close, layer-close}
 use Rattle.standing.proofs.ClosesKept.{line-fills}
 use Rattle.standing.proofs.ClearedKept.{line-there, line-cleared}
-use Rattle.standing.proofs.WireScratch.{wireScratch, scratch-wire, scratch-unread, wire-begun}
+use Rattle.standing.proofs.WireScratch.{scratch-wire, scratch-unread, wire-begun, none-scratch}
 use Rattle.standing.proofs.WireKept.{wire-opens, unread-opens, wire-sight, unread-sight}
 use Rattle.standing.proofs.Standings.{sight, deskWith, stands-on, known, deskKept, lengths-kept, nil-count, stands-still}
 use Rattle.standing.proofs.HomeFacts.{home-layered, home-owner, home-volume, home-on}
 use Rattle.standing.proofs.SlotLengths.{length-line}
 use Rattle.standing.proofs.Marks.{marks-length}
 use Rattle.standing.proofs.HeadRecords.{line-put}
-use Rattle.standing.proofs.BegunFigures.{plain-sight, chain-sight, text-sight, placed-sight, chain-kind, text-kind, empty-line, two-unmarked, two-slots, unmarked, blank-shaped, placed-bytes}
+use Rattle.standing.proofs.BegunFigures.{plain-sight, chain-sight, text-sight, placed-sight, chain-kind, text-kind, empty-line, two-unmarked, two-slots, unmarked, blank-shaped, placed-bytes, wire-unmarked, wire-blank, wire-bytes}
 use Rattle.standing.proofs.ClosedLayers.{withClosed, serials-closed, used-closed, elements-closed, tally-closed}
 
 or-second : (a b : Bool) → a ≡ false → (a || b) ≡ true → b ≡ true
@@ -265,6 +265,12 @@ module _ (c : Class) (spool : List ℕ) (k : ℕ) (FileHere : Desk → Set → �
             ap formSize (opened .form) ∙ ap (λ (o : Rest). length (opened .key) + restSize o) (begun .2)
             ∙ ap (λ (o : List ℕ). length o + 2) (same-eq (opened .key) (q .key) (found-row (opened .key) rows j q (opened .place) .1))
 
+        -- its key's length
+        key-long : (n : ℕ) → all (opensKey i n) rows ≡ true → length (q .key) ≡ n
+        key-long n e =
+            eqb-true (length (q .key)) n
+            (or-second (not (eqb (innerOf (q .holds)) i)) (eqb (length (q .key)) n) (ap not (eq-eqb (innerOf (q .holds)) i (sym (begun .0)))) (row-all (opensKey i n) (opened .row) e))
+
       -- its head on the scratch
       on-scratch : (st′ : State) (made : List ℤ) → rec₁ ≡ made → Scratch (withPart 32 made (d .scratch)) st′ → Scratch t₁ st′
       on-scratch st′ made q o = subst (λ (r : List ℤ). Scratch (withPart 32 r (d .scratch)) st′) (sym q) o
@@ -320,17 +326,12 @@ module _ (c : Class) (spool : List ℕ) (k : ℕ) (FileHere : Desk → Set → �
         let st′ : State = placing (withRecords (kindPlaced ∷ []) s) m fs (l .line) (symbolBlock held) 0 in
         let head : List ℤ = start kindPlaced m (homeVolume s h) (l .line) in
         let o : Begins c (figures s h fs) st′ 1 (withPart 32 head (d .scratch)) = placed-opens c s m fs (l .line) (d .scratch) (z .scratch) in
-        let r : Rule = opened h z m₁ i₁ rec₁ 3 j v a .rule in
-        let long : length (r .key) ≡ 8 =
-        eqb-true (length (r .key)) 8
-        (or-second (not (eqb (innerOf (r .holds)) 3)) (eqb (length (r .key)) 8) (ap not (eq-eqb (innerOf (r .holds)) 3 (sym (begun h z m₁ i₁ rec₁ 3 j v a .0))))
-        (row-all placedKey (opened h z m₁ i₁ rec₁ 3 j v a .row) (placed-key s h))) in
         subst (λ (y : List Bool). StepOut c spool k FileHere own l to (figures s h fs) (deskWith d (d .now) m₁ y t) (S.Go n)) (sym qi)
         (goes-opening c spool k FileHere own l to (figures s h fs) (deskWith d (d .now) m₁ (d .inner) t) n st′ (ap (byAct _ _ _ _) a) (completed-by (d .now) n 8 11 (z .block .0) refl) 1 refl refl (o .opens)
         (stands-on c spool k FileHere d at to (figures s h fs) st′ z n m₁ (d .inner) t (placed-sight kindPlaced s m fs (l .line)) (ap length qm ∙ length-replicate (length (d .marks)) false ∙ z .lengths .marks) (z .lengths .inner)
         (on-scratch h z m₁ i₁ rec₁ st′ head (put-begun h z m₁ i₁ rec₁ 3 j v a 16 refl q) (o .scratch))
         (omega (arith, z .counted, later)) (omega (arith, z .named, later))
-        (omega (arith, z .numbered, x .bytes, opener-size h z m₁ i₁ rec₁ 3 j v a, long, placed-bytes (withRecords (kindPlaced ∷ []) s) m fs (l .line))) (
+        (omega (arith, z .numbered, x .bytes, opener-size h z m₁ i₁ rec₁ 3 j v a, key-long h z m₁ i₁ rec₁ 3 j v a 8 (block-keys s h .0), placed-bytes (withRecords (kindPlaced ∷ []) s) m fs (l .line))) (
           refl,
           record {
             home = home-on spool k (d .now) n (d .marks) (d .inner) (d .inner) s (kindPlaced ∷ []) h refl refl (z .block .1);
@@ -349,8 +350,8 @@ module _ (c : Class) (spool : List ℕ) (k : ℕ) (FileHere : Desk → Set → �
     abbrev begunDesk : Desk
     begunDesk = deskWith d (d .now) m₁ i₁ (headAt 64 kindWireMore (d .now .owner) w t)
 
-    module _ (j : ℕ) (v : Value) (a : did h z ≡ begin 4 j v) (q : rec₁ ≡ recordMade (blockKind (d .now .layered) 4) (d .now) w (homeRule (d .now .layered) range wires j) v rec₀) (qm : m₁ ≡ d .marks)
-        (qi : i₁ ≡ d .inner) where
+    module _ (j : ℕ) (v : Value) (a : did h z ≡ begin 4 j v) (q : rec₁ ≡ recordMade (blockKind (d .now .layered) 4) (d .now) w (homeRule (d .now .layered) range wires j) v rec₀)
+        (qm : m₁ ≡ replicate (length (d .marks)) false) (qi : i₁ ≡ d .inner) where
       abbrev opened-now : Now
       opened-now = figureOpened (d .now) 4
 
@@ -358,22 +359,24 @@ module _ (c : Class) (spool : List ℕ) (k : ℕ) (FileHere : Desk → Set → �
       ks = kindWire ∷ kindWireMore ∷ []
 
       -- what stands on the scratch then
-      begun-scratch : headAt 64 kindWireMore (d .now .owner) w t ≡ wireScratch m (homeVolume s h) (l .line) none
+      begun-scratch : headAt 64 kindWireMore (d .now .owner) w t ≡ emptyRecord ++ wireStart m (volumeOf s) (l .line)
       begun-scratch =
           wire-begun s m fs (l .line) (d .scratch) rec₁ (z .scratch) (d .now .owner) w (put-begun h z m₁ i₁ rec₁ 4 j v a 18 refl q)
           (home-owner spool k (d .now) (d .marks) (d .inner) s h (z .block .1)) (x .volume ∙ home-volume spool k (d .now) (d .marks) (d .inner) s h (z .block .1)) (x .line)
 
       -- st′: the wire's state; n′: what is open there
       on-begun : (st′ : State) (n′ : Now) → stepIn (unlimited c) l (figures s h fs) ≡ got st′ → completed (d .now) n′ ≡ C.Nothing → n′ .records ≡ d .now .records + 2
-          → setOf st′ .taken ≡ s .taken + 2 → Opens c (figures s h fs) st′ 2 → sight (figures s h fs) ≡ sight st′ → Scratch (wireScratch m (homeVolume s h) (l .line) none) st′
-          → openFigures st′ ≡ length fs + 0 → nameBytes st′ ≡ 0 → serialBytes st′ ≡ 20
+          → setOf st′ .taken ≡ s .taken + 2 → Opens c (figures s h fs) st′ 2 → sight (figures s h fs) ≡ sight st′ → Scratch (emptyRecord ++ wireStart m (volumeOf s) (l .line)) st′
+          → openFigures st′ ≡ length fs + 0 → nameBytes st′ ≡ 0 → serialBytes st′ ≤ 13
           → Inside c spool k (deskWith d n′ m₁ i₁ (headAt 64 kindWireMore (d .now .owner) w t)) (FileHere (deskWith d n′ m₁ i₁ (headAt 64 kindWireMore (d .now .owner) w t))) st′
           → Goes c spool k FileHere own l to (figures s h fs) begunDesk n′
-      on-begun st′ n′ step none-made taken-more taken opens seen begun few named numbered block =
+      on-begun st′ n′ step none-made taken-more taken opens seen begun-so few named numbered block =
           goes-opening c spool k FileHere own l to (figures s h fs) begunDesk n′ st′ step none-made 2 taken-more taken opens
-          (stands-on c spool k FileHere d at to (figures s h fs) st′ z n′ m₁ i₁ (headAt 64 kindWireMore (d .now .owner) w t) seen (ap length qm ∙ z .lengths .marks) (ap length qi ∙ z .lengths .inner)
-          (subst (λ (u : List ℤ). Scratch u st′) (sym begun-scratch) begun)
-          (omega (arith, z .counted, later, few)) (omega (arith, z .named, later, named)) (omega (arith, z .numbered, later, numbered)) block)
+          (stands-on c spool k FileHere d at to (figures s h fs) st′ z n′ m₁ i₁ (headAt 64 kindWireMore (d .now .owner) w t) seen
+          (ap length qm ∙ length-replicate (length (d .marks)) false ∙ z .lengths .marks) (ap length qi ∙ z .lengths .inner)
+          (subst (λ (u : List ℤ). Scratch u st′) (sym begun-scratch) begun-so)
+          (omega (arith, z .counted, later, few)) (omega (arith, z .named, later, named))
+          (omega (arith, z .numbered, x .bytes, opener-size h z m₁ i₁ rec₁ 4 j v a, key-long h z m₁ i₁ rec₁ 4 j v a 6 (block-keys s h .1), numbered)) block)
 
       abbrev Begun : Bool → Type 0
       Begun b =
@@ -384,16 +387,32 @@ module _ (c : Class) (spool : List ℕ) (k : ℕ) (FileHere : Desk → Set → �
       step-is : (b : Bool) → knowsWires c ≡ b → stepIn (unlimited c) l (figures s h fs) ≡ got (beginWire b (withRecords ks s) m fs (l .line))
       step-is b e = ap (byAct _ _ _ _) a ∙ ap (λ (y : Bool). got (beginWire y (withRecords ks s) m fs (l .line))) e
 
+      wire-home : (n′ : Now) → n′ .layered ≡ d .now .layered → n′ .owner ≡ d .now .owner → InHome spool k n′ m₁ i₁ (withRecords ks s) h
+      wire-home n′ a b = home-on spool k (d .now) n′ (d .marks) (d .inner) i₁ s ks h a b (z .block .1)
+
       on-wire : (b : Bool) → knowsWires c ≡ b → Begun b
       on-wire true e =
           on-begun (beginWire true (withRecords ks s) m fs (l .line)) opened-now (step-is true e) (completed-by (d .now) opened-now 8 12 (z .block .0) refl) refl refl
-          (wire-opens c s ks m fs (l .line)) (wire-sight ks s m fs (l .line) noWire) (scratch-wire (withRecords ks s) m fs (l .line) noWire none refl) refl refl refl
-          (refl, refl, record { home = home-on spool k (d .now) opened-now (d .marks) (d .inner) (d .inner) s ks h refl refl (z .block .1); figures = z .block .2; part = refl; points = refl })
+          (wire-opens c s ks m fs (l .line)) (wire-sight ks s m fs (l .line))
+          (scratch-wire (withRecords ks s) m fs (l .line) noWire 0 (emptyRecord ++ wireStart m (volumeOf s) (l .line)) (none-scratch s m (l .line)))
+          refl refl (omega (arith, wire-bytes (withRecords ks s) m fs (l .line))) (
+            refl,
+            record {
+              wire = record { home = wire-home opened-now refl refl; figures = z .block .2; part = refl; points = refl };
+              parts = omega arith;
+              slots = wire-blank .0;
+              marked = ap (take 10) qm ∙ wire-unmarked (d .marks) (z .lengths .marks);
+              repeats = wire-blank .1;
+              groups = refl;
+              shut = λ y. refl;
+              writes = λ y. absurd (omega (arith, y));
+            },
+          )
       on-wire false e =
           let n′ : Now = atBlock opened-now 12 2 in
           on-begun (beginWire false (withRecords ks s) m fs (l .line)) n′ (step-is false e) (completed-by (d .now) n′ 8 12 (z .block .0) refl) refl refl
-          (unread-opens c s ks m fs (l .line)) (unread-sight ks s m fs (l .line) 0) (scratch-unread (withRecords ks s) m fs (l .line) 0) refl refl refl
-          (refl, omega arith, record { home = home-on spool k (d .now) n′ (d .marks) (d .inner) (d .inner) s ks h refl refl (z .block .1); figures = z .block .2; part = refl; points = refl })
+          (unread-opens c s ks m fs (l .line)) (unread-sight ks s m fs (l .line) 0) (scratch-unread (withRecords ks s) m fs (l .line) 0) refl refl (omega arith)
+          (refl, omega arith, record { home = wire-home n′ refl refl; figures = z .block .2; part = refl; points = refl })
 
     -- its end
     on-layer-end : did h z ≡ shut → rec₁ ≡ rec₀ → m₁ ≡ d .marks → i₁ ≡ d .inner
@@ -415,12 +434,12 @@ module _ (c : Class) (spool : List ℕ) (k : ℕ) (FileHere : Desk → Set → �
           symbols = z .symbols;
           layers = z .layers;
           few-layers = z .few-layers;
-          serials = subst (λ (y : List ℕ). take (length y) (d .serials) ≡ y) (serials-closed s m fs) (z .serials);
+          serials = subst (λ (y : List (List ℕ)). Numbers spool (take (length y) (d .serials)) y) (serials-closed s m fs) (z .serials);
           used = λ y. subst (λ (ns : List ℕ). (j : ℕ) → j < 64 → getD (d .used) j false ≡ hasNumber j ns) (used-closed s m fs) (z .used y);
           used-all = subst (λ (ns : List ℕ). (j : ℕ) → j < 64 → getD (d .usedAll) j false ≡ hasNumber j (flat (map usedIn (s .volumes)) ++ ns)) (used-closed s m fs) (z .used-all);
           counted = omega (arith, z .counted, elements-closed s m fs, later);
           named = omega (arith, z .named, later);
-          numbered = subst (λ (ns : List ℕ). 42 * length ns + 20 ≤ to + 20) (serials-closed s m fs) (omega (arith, z .numbered, later));
+          numbered = subst (λ (ns : List (List ℕ)). 27 * length ns + 3 ≤ to + 3 + bytesLent (take (length ns) (d .serials))) (serials-closed s m fs) (omega (arith, z .numbered, later));
           block = (refl, z .block .1 .0);
         })
 
@@ -493,7 +512,7 @@ module _ (c : Class) (spool : List ℕ) (k : ℕ) (FileHere : Desk → Set → �
 
   on-open : (h : Home) (z : Stands c spool k d (FileHere d) at (figures s h fs)) (m₁ i₁ : List Bool) (rec₁ : List ℤ) (i j : ℕ) (v : Value) → did h z ≡ begin i j v
       → rec₁ ≡ recordMade (blockKind (d .now .layered) i) (d .now) w (homeRule (d .now .layered) range wires j) v rec₀
-      → m₁ ≡ unmarkedIf (eqb i 3) (d .marks) → i₁ ≡ unmarkedIf (eqb i 2) (d .inner) → Tallied h z m₁ i₁ rec₁ (S.Go (figureOpened (d .now) i))
+      → m₁ ≡ unmarkedIf (leb 3 i) (d .marks) → i₁ ≡ unmarkedIf (eqb i 2) (d .inner) → Tallied h z m₁ i₁ rec₁ (S.Go (figureOpened (d .now) i))
   on-open h z m₁ i₁ rec₁ zero j v a q qm qi = absurd (omega (arith, from-one h z m₁ i₁ rec₁ 0 j v a))
   on-open h z m₁ i₁ rec₁ (suc zero) j v a q qm qi = on-chain h z m₁ i₁ rec₁ j v a q qm qi
   on-open h z m₁ i₁ rec₁ (suc (suc zero)) j v a q qm qi = on-text h z m₁ i₁ rec₁ j v a q qm qi
@@ -503,7 +522,7 @@ module _ (c : Class) (spool : List ℕ) (k : ℕ) (FileHere : Desk → Set → �
   on-open (inLayer m) z m₁ i₁ rec₁ (suc (suc (suc (suc (suc i))))) j v a q qm qi = absurd (omega (arith, at-most (inLayer m) z m₁ i₁ rec₁ (suc (suc (suc (suc (suc i))))) j v a))
 
   module _ (h : Home) (z : Stands c spool k d (FileHere d) at (figures s h fs)) (y : Counted c own d (figures s h fs)) (m₁ i₁ : List Bool) (rec₁ : List ℤ) where
-    by-act : (f : Act) → did h z ≡ f → FigureRecord (d .now) range wires w rec₀ rec₁ f → MarksFor 3 (d .marks) m₁ f → MarksFor 2 (d .inner) i₁ f → Tallied h z m₁ i₁ rec₁ (figureStep (d .now) f)
+    by-act : (f : Act) → did h z ≡ f → FigureRecord (d .now) range wires w rec₀ rec₁ f → MarksFor (λ i. leb 3 i) (d .marks) m₁ f → MarksFor (λ i. eqb i 2) (d .inner) i₁ f → Tallied h z m₁ i₁ rec₁ (figureStep (d .now) f)
     by-act stay a q qm qi = same-tally h z m₁ i₁ rec₁ (d .now) (z .block .0) (on-stay h z m₁ i₁ rec₁ a q qm qi)
     by-act (entry j v) a q qm qi = same-tally h z m₁ i₁ rec₁ (moreFigures (d .now)) (z .block .0) (on-entry h z m₁ i₁ rec₁ j v a y q qm qi)
     by-act (begin i j v) a q qm qi = on-open h z m₁ i₁ rec₁ i j v a q qm qi
@@ -517,4 +536,4 @@ module _ (c : Class) (spool : List ℕ) (k : ℕ) (FileHere : Desk → Set → �
     figures-line f y =
         let p : figureAct spool d form ≡ did h z = figures-act h z in
         subst (Tallied h z m₁ i₁ rec₁) (sym (y .answer ∙ ap (figureStep (d .now)) p))
-        (by-act (did h z) refl (subst (FigureRecord (d .now) range wires w rec₀ rec₁) p (y .rec)) (subst (MarksFor 3 (d .marks) m₁) p (y .marks)) (subst (MarksFor 2 (d .inner) i₁) p (y .inner)))
+        (by-act (did h z) refl (subst (FigureRecord (d .now) range wires w rec₀ rec₁) p (y .rec)) (subst (MarksFor (λ i. leb 3 i) (d .marks) m₁) p (y .marks)) (subst (MarksFor (λ i. eqb i 2) (d .inner) i₁) p (y .inner)))

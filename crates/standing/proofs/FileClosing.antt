@@ -15,7 +15,7 @@ use Rattle.rules.specs.VolumesAndTotals.{chained, dated}
 use Rattle.rules.specs.Machine.{Line, top, file}
 use Rattle.rules.proofs.Chains.{clash}
 use Rattle.account.specs.Account.{atBlock}
-use Rattle.standing.specs.Standing.{Desk, deskNow, closedSerials, thisOf, fileNumber, Stands}
+use Rattle.standing.specs.Standing.{Desk, deskNow, closedLinks, thisOf, fileNumber, Stands}
 use Rattle.account.specs.FileLines.{countAt, chainedTo, datedAs, agrees, firstTally, laterTally}
 use Rattle.standing.specs.FileStanding.{InFile}
 use Rattle.standing.proofs.FileReadBack.{arc-back, sym-back, elec-back, date-back, time-back, all-back, this-back, later-back}
@@ -98,7 +98,7 @@ module _ (c : Class) (spool : List ℕ) (k : ℕ) (d : Desk) (at to : ℕ) (dr :
           this = λ _. refl;
           tally =
               et ∙ ap (laterTally hd) (z .tally)
-              ∙ ap (λ (a : ℕ). arcOf s′ ∷ symbolRange s′ ∷ defineRange s′ ∷ fileNumber "date" s′ ∷ fileNumber "time" s′ ∷ fileNumber "all_ele" s′ ∷ a ∷ 0 ∷ total elementsOf (y ∷ vs) ∷ length sy ∷ length (dr .layers) ∷ length (closedSerials s′) ∷ wireRange s′ ∷ []) (later-back k n h hd (f .header) (f .filled) (f .counted));
+              ∙ ap (λ (a : ℕ). arcOf s′ ∷ symbolRange s′ ∷ defineRange s′ ∷ fileNumber "date" s′ ∷ fileNumber "time" s′ ∷ fileNumber "all_ele" s′ ∷ a ∷ 0 ∷ total elementsOf (y ∷ vs) ∷ length sy ∷ length (dr .layers) ∷ length (closedLinks s′) ∷ wireRange s′ ∷ []) (later-back k n h hd (f .header) (f .filled) (f .counted));
           symbols = z .symbols;
           layers = z .layers;
           few-layers = z .few-layers;

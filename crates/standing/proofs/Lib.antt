@@ -16,6 +16,11 @@ pub mod FileKept
 pub mod LinesKept
 pub mod ScratchKept
 pub mod OpenersKept
+pub mod LinkLaws
+pub mod SerialKept
+pub mod SerialContents
+pub mod WireCells
+pub mod WireParts
 pub mod WireScratch
 pub mod WireKept
 pub mod EntriesKept
@@ -41,7 +46,6 @@ pub mod DefinesStanding
 pub mod SymbolFacts
 pub mod SymbolStanding
 pub mod LineSizes
-pub mod ValueSizes
 pub mod HeadRecords
 pub mod WordPlaces
 pub mod OwnLines
@@ -53,6 +57,9 @@ pub mod PlacedTables
 pub mod PlacedTextStanding
 pub mod PlacedKeyStanding
 pub mod PlacedStanding
+pub mod WireRows
+pub mod WireOnce
+pub mod WireTexts
 pub mod WireStanding
 pub mod UnreadStanding
 pub mod DrawingStanding
@@ -60,7 +67,10 @@ pub mod FileOpening
 pub mod LayerNamesStanding
 pub mod OpenBlocks
 pub mod StepPromises
+pub mod WirePromises
+pub mod OpenWires
 pub mod StepReady
+pub mod PartnersMet
 pub mod TopStanding
 pub mod FileClosing
 pub mod FileEntered

@@ -10,7 +10,7 @@ use Rattle.rules.specs.declared.Digits.{Digits}
 use Rattle.rules.specs.Base.{split, isNil}
 use Rattle.rules.specs.RefusalNumbers.{got, bad, unless, keep}
 use Rattle.rules.specs.Lines.{Rest, Form, ignored, wrong, close, eof, keyed, Shape, opener, noContent, content, opening, formless, hasForm, shapeOf, equals, brace, stem, byStem, freeShapeOf}
-use Rattle.rules.specs.Values.{Value, empty, nums, Known, Part, Across, Kind, values, text, word, volumeName, sheet, ratio, serials, nothing, opens, headed, either, readAll, agree, readKind, numsOf, Bytes, isFree}
+use Rattle.rules.specs.Values.{Value, empty, nums, Known, Part, Across, Kind, values, text, word, volumeName, sheet, ratio, serials, wireSerial, nothing, opens, headed, either, readAll, agree, readKind, numsOf, Bytes, isFree}
 use Rattle.rules.specs.Rows.{Rule, Found, absent, found, find, shapeFor, fits, Act, stay, entry, begin, shut, refuse, orRefuse, innerOf, isContent, readShape, actRow, actUnknown, actFound, complete, act}
 use Rattle.rules.proofs.Chains.{clash, never, map-got, by-cond, or-left}
 use Rattle.rules.proofs.Rows.{Row, found-row, isRefusal, Did, row-did}
@@ -144,6 +144,7 @@ isValues volumeName = false
 isValues sheet = false
 isValues ratio = false
 isValues serials = false
+isValues wireSerial = false
 isValues nothing = false
 isValues (opens i) = false
 isValues (headed i p) = false
@@ -157,6 +158,7 @@ read-nums k volumeName at c v i e = clash i refl
 read-nums k sheet at c v i e = clash i refl
 read-nums k ratio at c v i e = clash i refl
 read-nums k serials at c v i e = clash i refl
+read-nums k wireSerial at c v i e = clash i refl
 read-nums k nothing at c v i e = clash i refl
 read-nums k (opens n) at c v i e = clash i refl
 read-nums k (headed n p) at c v i e = clash i refl
@@ -170,6 +172,7 @@ content-of-values volumeName i = clash i refl
 content-of-values sheet i = clash i refl
 content-of-values ratio i = clash i refl
 content-of-values serials i = clash i refl
+content-of-values wireSerial i = clash i refl
 content-of-values nothing i = clash i refl
 content-of-values (opens n) i = clash i refl
 content-of-values (headed n p) i = clash i refl

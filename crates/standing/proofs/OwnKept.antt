@@ -16,15 +16,15 @@ use Rattle.rules.specs.RangeClass.{digits, digitsOf, reaches, exceeds, both, sk
 use Rattle.rules.specs.Values.{amountAt, isLayerId, numsOf}
 use Rattle.rules.specs.Rows.{Slots, Found, absent, found, find, Held, partOf, rowsThere, rowsAtLimit, Act, actRow, actUnknown, act}
 use Rattle.rules.specs.Blocks.{topTable, fileTables, drawingTable, mostLayers, definesTable, symbolTable, elementTable}
-use Rattle.rules.specs.Figures.{leastPoints, pointTable, textTable, placedTable, placedTables, wireTable}
+use Rattle.rules.specs.Figures.{leastPoints, pointTable, textTable, placedTable, placedTables, wireTable, wireTextTable}
 use Rattle.rules.specs.Sets.{Point, Wire, Figure, Drawing, Symbol, Set, isFirst, withRecords, arcOf, rangeOf, defineRange, joinDigit, wiresOf, knownOf, usedIn, symbolOwn}
-use Rattle.rules.specs.VolumesAndTotals.{chained, dated, countedHere, countedAll, layersUsed}
+use Rattle.rules.specs.VolumesAndTotals.{chained, dated, countedHere, countedAll, layersUsed, partnersExist}
 use Rattle.rules.specs.Machine.{Line, inLastVolume, Env, Home, inElement, inLayer, isLayer, State, top, file, drawing, layerNames, defines, symbol, hide, elements, figures, successive, texts, placing, skipping, ended, Owned, symbolBlock, wireBlock, wireUnread, pastElement}
-use Rattle.rules.specs.Machine.{roomFor, kindIn, fileKinds, openTop, onTop, onFile, onDrawing, layerValue, onLayerNames, onDefines, newName, openSymbol, onSymbol, onHide, onElements, homeTable, closeFigures, openPlaced, beginWire, openWire, openFigure, onFigures, onSuccessive, onTexts}
+use Rattle.rules.specs.Machine.{roomFor, testsPartners, kindIn, fileKinds, openTop, onTop, onFile, onDrawing, layerValue, onLayerNames, onDefines, newName, openSymbol, onSymbol, onHide, onElements, homeTable, closeFigures, openPlaced, beginWire, openWire, openFigure, onFigures, onSuccessive, onTexts}
 use Rattle.rules.specs.RecordTable.{kindLine, kindSuccessive, kindText, kindPoint}
 use Rattle.rules.specs.PlacedSymbol.{onUnknown, newSerial, onPlaced, onPlacedKey, onPlacing, skipShut, onSkipping}
 use Rattle.rules.specs.LineByLine.{stepIn}
-use Rattle.rules.specs.Wires.{joinsEnds, lastEdge, joined, onWire}
+use Rattle.rules.specs.Wires.{joinsEnds, lastEdge, joined, isElementRow, numsAlike, newNumber, wireFull, onWireAct, onWireUnknown, onWireKey, onWire}
 use Rattle.rules.proofs.OnActs.{on-byAct, on-shut, on-skip}
 use Rattle.rules.proofs.Chains.{On, on-unless, on-cond, on-then, on-got}
 use Rattle.standing.specs.Kept.{shutSoFar, HomeOwnAt, OwnAt, ownBehind}
@@ -51,7 +51,8 @@ module _ (c : Class) (e : Env) (l : Line) (records : ℕ) where
   own-top s k eof size =
       on-unless (OwnAt c records) (eqb k pastElement && (inLastVolume l && l .last)) 9 _ λ _.
       on-unless (OwnAt c records) (layersUsed s) 14 _ λ _.
-      on-unless (OwnAt c records) (countedAll s) 17 _ λ _. tt
+      on-unless (OwnAt c records) (countedAll s) 17 _ λ _.
+      on-unless (OwnAt c records) (not (testsPartners (e .class) s) || partnersExist s) 21 _ λ _. tt
   own-top s k (keyed key r) size =
       on-byAct (OwnAt c records) _ _ _ _ (act (knownOf s) topTable (digits 0 0) (rowsAtLimit 0 topTable) (keyed key r)) tt (λ j v. tt)
       (λ i j v _. on-unless (OwnAt c records) (eqb j k) 9 _ λ q. own-open s j (subst (λ (m : ℕ). Sized (top s m)) (sym (eqb-true j k q)) size))
@@ -174,11 +175,32 @@ module _ (c : Class) (e : Env) (l : Line) (records : ℕ) where
     own-placing s k fs n o (suc p) f = placed-act s k fs n o (suc p) (act (knownOf s) (getD placedTables (suc p) []) (digits 0 0) (rowsThere (partOf o (suc p))) f)
 
     -- .. and a wire
-    own-in-wire : (s : Set) (k : ℕ) (fs : List Figure) (n : ℕ) (x : Wire) (f : Form) → On P (onWire e l s k fs n x f)
-    own-in-wire s k fs n x f =
-        on-byAct P _ _ _ _ (act (knownOf s) wireTable (wiresOf s) (rowsAtLimit 0 wireTable) f) tt
-        (λ j v. on-unless P (joined (joinsEnds (joinDigit s)) (lastEdge (x .elements)) j (numsOf v)) 11 _ λ _. on-unless P (roomFor (e .limit) (s .taken + 1)) 19 _ λ _. tt)
+    wire-act : (s : Set) (k : ℕ) (fs : List Figure) (n : ℕ) (x : Wire) (a : Act) → On P (onWireAct e l s k fs n x a)
+    wire-act s k fs n x a =
+        on-byAct P _ _ _ _ a tt
+        (λ j v. on-cond P (isElementRow j) _ _
+        (λ _. on-unless P (joined (joinsEnds (joinDigit s)) (lastEdge (x .elements)) j (numsOf v)) 11 _ λ _. on-unless P (roomFor (e .limit) (s .taken + 1)) 19 _ λ _. tt)
+        (λ _. on-unless P (numsAlike x j (numsOf v)) 11 _ λ _. on-unless P (newNumber s fs j v) 15 _ λ _. tt))
         (λ m j v _. tt) tt
+
+    wire-unknown : (s : Set) (k : ℕ) (fs : List Figure) (n : ℕ) (x : Wire) (key : List ℕ) (r : Rest) → On P (onWireUnknown e l s k fs n x key r)
+    wire-unknown s k fs n x key r =
+        on-cond P (exceeds (wiresOf s) (e .class .wires)) _ _ (λ _. on-skip P (skipOf key r) _ _ tt tt) (λ _. wire-act s k fs n x (actUnknown r))
+
+    wire-key : (s : Set) (k : ℕ) (fs : List Figure) (n : ℕ) (x : Wire) (key : List ℕ) (r : Rest) (f : Found) → On P (onWireKey e l s k fs n x key r f)
+    wire-key s k fs n x key r absent = wire-unknown s k fs n x key r
+    wire-key s k fs n x key r (found j u) =
+        on-cond P (isElementRow j && x .past) _ _ (λ _. wire-act s k fs n x (actUnknown r))
+        (λ _. on-cond P (reaches (e .class .wires) (u .least)) _ _ (λ _. wire-act s k fs n x (actRow (knownOf s) (wiresOf s) (getD (wireFull x) j false) j u r))
+        (λ _. wire-unknown s k fs n x key r))
+
+    own-in-wire : (s : Set) (k : ℕ) (fs : List Figure) (n : ℕ) (x : Wire) (p : ℕ) (f : Form) → On P (onWire e l s k fs n x p f)
+    own-in-wire s k fs n x zero ignored = tt
+    own-in-wire s k fs n x zero (wrong m) = tt
+    own-in-wire s k fs n x zero close = wire-act s k fs n x (act (knownOf s) wireTable (both (e .class .wires) (wiresOf s)) (rowsThere (x .own)) close)
+    own-in-wire s k fs n x zero eof = tt
+    own-in-wire s k fs n x zero (keyed key r) = wire-key s k fs n x key r (find key wireTable)
+    own-in-wire s k fs n x (suc p) f = on-byAct P _ _ _ _ (act (knownOf s) wireTextTable (digits 0 0) (rowsThere (x .writing)) f) tt (λ j v. tt) (λ m j v _. tt) tt
 
     skipped-close : (s : Set) (k : ℕ) (fs : List Figure) (n : ℕ) (o : Owned) (d : ℕ) → On P (skipShut s k fs n o d)
     skipped-close s k fs n (symbolBlock o) zero = tt
@@ -209,7 +231,7 @@ module _ (c : Class) (e : Env) (l : Line) (records : ℕ) where
     own-line (successive s h fs n ps) i size = own-chain s h fs n ps (l .form) i
     own-line (texts s h fs n o) i size = own-texts s h fs n o (l .form) i
     own-line (placing s k fs n (symbolBlock o) p) i size = own-placing s k fs n o p (l .form)
-    own-line (placing s k fs n (wireBlock x) p) i size = own-in-wire s k fs n x (l .form)
+    own-line (placing s k fs n (wireBlock x) p) i size = own-in-wire s k fs n x p (l .form)
     own-line (placing s k fs n wireUnread p) i size = tt
     own-line (skipping s k fs n o d) i size = own-skipping s k fs n o d (l .form)
     own-line (ended s) i size = tt

@@ -1,31 +1,27 @@
 -- What is computed of a placed symbol's tables, and which values its lines have: those of the row `serial` are serial numbers, no others.
 use Prim.Native.Nat.{ℕ, zero, suc, _<_}
-use mathlib.Core.Bool.{Bool, true, false, _&&_, _||_, not}
+use mathlib.Core.Bool.{Bool, true, false, _&&_, not}
 use mathlib.Core.List.{List, [], _∷_, map}
 use mathlib.Core.Option.{none}
-use mathlib.Core.Path.{_≡_, refl, sym, _∙_, ap, subst}
+use mathlib.Core.Path.{_≡_, refl, sym, _∙_, ap}
 use native.Mathlib.Omega.{arith}
 use lib.Dec.{eqb, leb}
 use lib.ListN.{length, getD, replicate}
-use Rattle.rules.specs.declared.Digits.{Digits}
-use Rattle.rules.specs.Base.{all, split, isSome}
-use Rattle.rules.specs.RefusalNumbers.{Got, got, bad, unless, mapG, keep, orBad}
+use Rattle.rules.specs.Base.{all, split}
+use Rattle.rules.specs.RefusalNumbers.{Got, got, unless, mapG, keep, orBad}
 use Rattle.rules.specs.Lines.{Shape, opener, noContent, content, opening, formless}
-use Rattle.rules.specs.Values.{Num, Value, empty, nums, chars, linked, Known, byteIn, lettersAndDigits, capital, Kind, values, text, word, volumeName, sheet, ratio, serials, nothing, opens, headed, either, range, readPart, readAll, readRatio, findSheet, sheets, agree, readKind, serialsOf}
-use Rattle.rules.specs.Rows.{Rule, Slots, blank, Held, partOf, rowsThere, slotValue, entry, begin, innerOf, readShape, complete}
-use Rattle.rules.specs.RangeClass.{digits, reaches}
-use Rattle.rules.specs.Figures.{placing, placedTable, textTable, placedTables}
+use Rattle.rules.specs.Values.{Num, Value, empty, nums, chars, Known, byteIn, lettersAndDigits, capital, Kind, values, text, word, volumeName, sheet, ratio, serials, wireSerial, nothing, opens, headed, either, range, readPart, readAll, readRatio, readWireSerial, findSheet, sheets, agree, readKind, serialsOf}
+use Rattle.rules.specs.Rows.{Rule, blank, Held, partOf, rowsThere, slotValue, entry, begin, innerOf, readShape}
+use Rattle.rules.specs.Figures.{placedTable, textTable, placedTables}
 use Rattle.rules.specs.RecordTable.{ruleAt}
-use Rattle.rules.specs.Sets.{placed, figureSerial, ownSerial}
-use Rattle.rules.proofs.Chains.{clash, and-left, never, map-got, unless-got}
+use Rattle.rules.specs.Sets.{placed}
+use Rattle.standing.specs.Standing.{symbolLinks, figureLinks}
+use Rattle.rules.proofs.Chains.{clash, never, map-got, unless-got}
 use Rattle.tables.specs.Tables.{tableOf}
 use Rattle.entries.specs.Acts.{valueOf}
-use Rattle.entries.specs.Entering.{On}
-use Rattle.entries.proofs.ByKind.{on-linked-in}
 use Rattle.account.specs.Placing.{clearParts}
 use Rattle.standing.proofs.Openers.{plainKind}
 use Rattle.standing.proofs.OwnLines.{housed}
-use Rattle.standing.proofs.Marks.{must-row}
 
 -- ── the tables ──
 pub placed-rows : tableOf 18 ≡ placedTable
@@ -65,6 +61,7 @@ isSerials volumeName = false
 isSerials sheet = false
 isSerials ratio = false
 isSerials serials = true
+isSerials wireSerial = false
 isSerials nothing = false
 isSerials (opens i) = false
 isSerials (headed i p) = false
@@ -87,6 +84,7 @@ read-plain k volumeName at c v i e = chars-plain (all (byteIn lettersAndDigits) 
 read-plain k sheet at c v i e = nums-plain (orBad 11 (findSheet c sheets)) v e
 read-plain k ratio at c v i e = nums-plain (readRatio c) v e
 read-plain k serials at c v i e = clash refl i
+read-plain k wireSerial at c v i e = nums-plain (readWireSerial (split 44 c)) v e
 read-plain k nothing at c v i e = never e
 read-plain k (opens n) at c v i e = never e
 read-plain k (headed n p) at c v i e = one-plain (readPart k p c) v e
@@ -104,32 +102,10 @@ entry-plain k i j r (opening at c) v h e =
     let (w, p, q) = map-got (begin (innerOf (r .holds)) i) (readKind k (r .holds) at c) (entry j v) e in absurd (let z : _≡_ {A = ℕ} 0 1 = cc in omega arith)
 entry-plain k i j r formless v h e = never e
 
--- the row `serial`
-abbrev IsLinked : Value → Type 0
-IsLinked v = (n : ℕ) × (ps : List ℕ) × (v ≡ linked n ps)
-
-on-linked : (g : Got Value) (v : Value) → On IsLinked g → g ≡ got v → IsLinked v
-on-linked (got w) v h e = let q : w ≡ v = cc in subst IsLinked q h
-on-linked (bad n) v h e = never e
-
-pub serials-linked : (k : Known) (at : ℕ) (c : List ℕ) (v : Value) → readKind k serials at c ≡ got v → IsLinked v
-serials-linked k at c v e = on-linked (readKind k serials at c) v (on-linked-in IsLinked (λ n ps. (n, ps, refl)) c) e
-
 -- ── the rows by number ──
 pub serial-rule : (ruleAt placedTable 5 .holds ≡ serials) × (ruleAt placedTable 5 .may ≡ false) × (length (ruleAt placedTable 5 .key) ≡ 6)
 unfolding placedTable
 serial-rule = (refl, refl, refl)
-
--- `symbol=`: four commas and four decimals
-pub symbol-rule : (ruleAt placedTable 0 .holds ≡ placing) × (ruleAt placedTable 0 .may ≡ false) × (length (ruleAt placedTable 0 .key) ≡ 6)
-unfolding placedTable
-symbol-rule = (refl, refl, refl)
-
--- a placed symbol that closes has it
-pub must-symbol : (g : Digits) (o : Slots) → length o ≡ 6 → complete g placedTable (rowsThere o) ≡ true → isSome (getD o 0 none) ≡ true
-unfolding placedTable
-must-symbol g [] h e = absurd (omega (arith, h))
-must-symbol g (a ∷ o) h e = must-row g a (and-left (not (reaches g (digits 0 0)) || isSome a) _ e)
 
 pub other-rule : (j : ℕ) → j < 6 → eqb j 5 ≡ false → isSerials (ruleAt placedTable j .holds) ≡ false
 unfolding placedTable
@@ -166,6 +142,6 @@ unfolding textTable
 blank-marks n e = ap (λ (m : ℕ). replicate m false) e
 
 -- ── the serial number of a placed symbol ──
-pub figure-serial : (n : ℕ) (o : Held) → figureSerial (placed n o) ≡ ownSerial (serialsOf (slotValue (getD (partOf o 0) 5 none)))
+pub figure-serial : (n : ℕ) (o : Held) → figureLinks (placed n o) ≡ symbolLinks (serialsOf (slotValue (getD (partOf o 0) 5 none)))
 unfolding placedTable
 figure-serial n o = refl

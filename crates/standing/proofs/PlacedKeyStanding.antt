@@ -1,29 +1,30 @@
 -- A line of a key that the class knows, directly in a placed symbol: from the code's answer to the step that the definitions make.
-use Prim.Native.Nat.{ℕ, suc, _+_, _*_, _≤_, _<_}
+use Prim.Native.Nat.{ℕ, _≤_, _<_}
 use mathlib.Core.Bool.{Bool, true, false, cond, _&&_, not}
-use mathlib.Core.List.{List, [], _∷_, _++_, append-nil}
+use mathlib.Core.List.{List, [], _∷_}
 use mathlib.Core.Option.{Option, none, some}
 use mathlib.Core.Path.{_≡_, refl, sym, _∙_, ap, subst}
 use native.Mathlib.Omega.{arith}
 use borrow.Author.Tests.{eqb-true, eqb-false}
 use lib.Dec.{eqb}
 use lib.IntN.{ℤ}
-use lib.ListN.{length, getD, set, take, replicate, length-set, length-append, length-replicate}
-use lib.Seq.{getD-set-same, getD-set-other, take-set-lt, take-suc-set, getD-take}
+use lib.ListN.{length, getD, set, take, replicate, length-set, length-replicate}
+use lib.Seq.{getD-set-same, getD-set-other, take-set-lt, getD-take}
 use Rattle.rules.specs.declared.Digits.{Digits}
 use Rattle.rules.specs.declared.Class.{Class}
 use Rattle.rules.specs.declared.LineForm.{LineForm}
 use Rattle.rules.specs.Base.{isNone, hasNumber}
 use Rattle.rules.specs.RefusalNumbers.{got, unless}
 use Rattle.rules.specs.RangeClass.{digitsOf}
-use Rattle.rules.specs.Lines.{Rest, keyed}
-use Rattle.rules.specs.Values.{Known, Value, linked, notNegative, aboveZero, angle, decimal, symbolName, nothingMore, Kind, serials, readKind}
+use Rattle.rules.specs.declared.Span.{Span}
+use Rattle.rules.specs.Lines.{Rest, keyed, span}
+use Rattle.rules.specs.Values.{Known, Value, serials}
 use Rattle.rules.specs.Values.{serialsOf as numbersOf}
 use Rattle.rules.specs.Rows.{Rule, found, find, Slots, Held, partOf, enter, rowsThere, slotValue, shapeFor, innerOf, Act, stay, entry, begin, shut, refuse, actRow, actFound, act}
 use Rattle.rules.specs.Figures.{placedTable, placedTables}
 use Rattle.rules.specs.Sets.{Figure, ownSerial, Set, rangeOf, knownOf}
 use Rattle.rules.specs.Machine.{Line, inLayer, State, placing, byAct, symbolBlock, unlimited}
-use Rattle.rules.specs.PlacedSymbol.{noneOf, newSerial, onPlaced}
+use Rattle.rules.specs.PlacedSymbol.{noneOf, numbersSoFar, newSerial, onPlaced}
 use Rattle.rules.specs.LineByLine.{stepIn}
 use Rattle.rules.specs.RecordTable.{ruleAt}
 use Rattle.rules.proofs.Chains.{clash}
@@ -37,21 +38,23 @@ use Rattle.account.specs.declared.Step.{Step}
 use Rattle.account.specs.declared.Step.the-variants as S
 use Rattle.account.specs.Records.{partAt, withPart}
 use Rattle.account.specs.Account.{atBlock}
-use Rattle.account.specs.PlacedLines.{Lent, lent, serialCount, ownNumber, inUse, clashes, lentAfter, lentInside, placedStep, PlacedLent, RowLine}
-use Rattle.standing.specs.Standing.{Desk, layersOf, serialsWith, serialsOf, tallyOf, formSize, restSize, rowBytes, serialDue, InPlaced, Stands, deskNow, LineHere, StandsAt, StepOut}
+use Rattle.account.specs.SerialNumbers.{contentAt, inUse}
+use Rattle.account.specs.PlacedLines.{Lent, lent, ownNumber, clashes, lentWith, lentInside, placedStep, PlacedLent, RowLine}
+use Rattle.standing.specs.Standing.{Desk, symbolLinks, formSize, dueOf, InPlaced, Stands, deskNow, LineHere, StandsAt, StepOut}
+use Rattle.standing.specs.Reading.{PlacedForm}
 use Rattle.standing.specs.Kept.{Scratch}
 use Rattle.account.proofs.RowsTaken.{Taken, entry-taken, begin-taken}
-use Rattle.standing.proofs.LineOrigins.{From, entry-from, begin-from, ContentKind, ContentRead, serials-content, content-read}
-use Rattle.standing.proofs.LineSizes.{line-size, read-shut}
-use Rattle.standing.proofs.ValueSizes.{values-size}
+use Rattle.standing.proofs.LineOrigins.{From, entry-from, begin-from, serials-content}
+use Rattle.standing.proofs.LineSizes.{read-shut}
 use Rattle.standing.proofs.Marks.{marks-set, mark-free}
 use Rattle.standing.proofs.ForeParts.{part-long}
-use Rattle.standing.proofs.ScratchKept.{scratch-long}
 use Rattle.standing.proofs.Completing.{goes-still}
 use Rattle.standing.proofs.Standings.{known}
 use Rattle.standing.proofs.HomeFacts.{home-stays}
 use Rattle.account.proofs.PlacedLaws.{own-is}
-use Rattle.standing.proofs.PlacedFacts.{isSerials, placed-rows, placed-rows-six, serial-rule, symbol-rule, other-rule, entry-plain, begin-inner, blank-marks, figure-serial, opening-row, serials-linked}
+use Rattle.standing.proofs.PlacedFacts.{isSerials, placed-rows, placed-rows-six, serial-rule, other-rule, entry-plain, begin-inner, blank-marks, figure-serial, opening-row}
+use Rattle.standing.proofs.SerialKept.{SerialTaken, number-used, serial-stands}
+use Rattle.standing.proofs.SerialContents.{LineContent, line-content, SymbolSerial, symbol-content}
 use Rattle.standing.proofs.PlacedTables.{lentOf, lentDesk, record-kept, record-entered, range-is, placing-on}
 use Rattle.standing.proofs.OwnLines.{was-none}
 use Rattle.standing.proofs.HeldParts.{shaped-enter, enter-own, enter-other}
@@ -114,92 +117,11 @@ module _ (c : Class) (spool : List ℕ) (k : ℕ) (FileHere : Desk → Set → �
   pub same-stands : (x₁ : Lent) (rec₁ : List ℤ) → x₁ ≡ lentOf d → rec₁ ≡ rec₀ → StandsAt c spool k FileHere (deskNow (lentDesk d x₁ rec₁) (d .now)) to st
   same-stands x₁ rec₁ y q =
       subst (λ (t : Lent). StandsAt c spool k FileHere (deskNow (lentDesk d t rec₁) (d .now)) to st) (sym y)
-      (placing-on c spool k FileHere d at to s m fs n o 0 z (d .now) (d .marks) (d .inner) rec₁ o 0 later (omega (arith, later)) (z .lengths .marks) (z .lengths .inner)
+      (placing-on c spool k FileHere d at to s m fs n o 0 z (d .now) (d .marks) (d .inner) rec₁ o 0 later (z .lengths .marks) (z .lengths .inner)
       (record-kept c spool k FileHere d at to s m fs n o 0 z 0 rec₁ q) refl (z .block .0) inp)
 
-  -- ── a line of the row `serial` ──
-  module _ (v : Value) (q : ℕ) (ps : List ℕ) (is : v ≡ linked q ps) (free : getD (partOf o 0) 5 none ≡ none) where
-    abbrev o′ : Held
-    o′ = enter o 0 5 v
-
-    abbrev st′ : State
-    st′ = placing s m fs n (symbolBlock o′) 0
-
-    none-yet : serialsOf st ≡ serialsWith s fs
-    none-yet =
-        ap (λ (y : List ℕ). serialsWith s fs ++ y) (figure-serial n o ∙ ap (λ (y : Option Value). ownSerial (numbersOf (slotValue y))) free) ∙ append-nil (serialsWith s fs)
-
-    slot-now : getD (partOf o′ 0) 5 none ≡ some v
-    slot-now = ap (λ (y : Slots). getD y 5 none) (enter-own o 0 5 v (inp .shaped .0)) ∙ getD-set-same (partOf o 0) 5 (some v) none (omega (arith, six))
-
-    one-more : serialsOf st′ ≡ serialsWith s fs ++ q ∷ []
-    one-more =
-        ap (λ (y : List ℕ). serialsWith s fs ++ y)
-        (figure-serial n o′ ∙ ap (λ (y : Option Value). ownSerial (numbersOf (slotValue y))) slot-now ∙ ap (λ (y : Value). ownSerial (numbersOf y)) is)
-
-    count : serialCount (d .tally) ≡ length (serialsOf st)
-    count = ap (λ (t : List ℕ). getD t 11 0) (z .tally)
-
-    -- the numbers in use
-    in-use : inUse (d .tally) (d .serials) q ≡ hasNumber q (serialsWith s fs)
-    in-use = ap (λ (i : ℕ). hasNumber q (take i (d .serials))) count ∙ ap (hasNumber q) (z .serials ∙ none-yet)
-
-    is-new : newSerial s fs v ≡ not (hasNumber q (serialsWith s fs))
-    is-new = ap (λ (y : Value). noneOf (ownSerial (numbersOf y)) (serialsWith s fs)) is ∙ one-of q (serialsWith s fs)
-
-    grown : length (serialsOf st′) ≡ length (serialsOf st) + 1
-    grown = ap length one-more ∙ length-append (serialsWith s fs) (q ∷ []) ∙ ap (λ (y : List ℕ). length y + 1) (sym none-yet)
-
-    module _ (size : 8 ≤ formSize (l .form)) (rec₁ : List ℤ) (put : Scratch (withPart 32 rec₁ (d .scratch)) st′) where
-      -- what `symbol=` has taken
-      abbrev symbol-bytes : Held → ℕ
-      symbol-bytes h = rowBytes 17 (getD (partOf h 0) 0 none)
-
-      same-symbol : symbol-bytes o′ ≡ symbol-bytes o
-      same-symbol = ap (rowBytes 17) (other-slot 5 0 v (λ y. omega (arith, y)))
-
-      credit : 42 * length (serialsOf st) + (32 + symbol-bytes o) ≤ at + 20
-      credit = omega (arith, z .numbered, ap serialDue free)
-
-      few : length (serialsOf st) < length (d .serials)
-      few = omega (arith, credit, x .bytes, x .most, size, z .lengths .serials)
-
-      serial-stands : StandsAt c spool k FileHere (deskNow (lentDesk d (lentAfter (lentOf d) 5 q) rec₁) (d .now)) to st′
-      serial-stands = record {
-        lengths = record {
-          symbols = z .lengths .symbols;
-          layers = z .lengths .layers;
-          serials = length-set (d .serials) (serialCount (d .tally)) q ∙ z .lengths .serials;
-          used = z .lengths .used;
-          usedAll = z .lengths .usedAll;
-          marks = length-set (d .marks) 5 true ∙ z .lengths .marks;
-          inner = z .lengths .inner;
-          header = z .lengths .header;
-          scratch = scratch-long (withPart 32 rec₁ (d .scratch)) st′ put;
-        };
-        scratch = put;
-        here = z .here;
-        this = z .this;
-        tally = ap (λ (t : List ℕ). set t 11 (serialCount t + 1)) (z .tally) ∙ ap (tallyOf s (z .here) (length (layersOf st))) (sym grown);
-        symbols = z .symbols;
-        layers = z .layers;
-        few-layers = z .few-layers;
-        serials =
-            let up : length (serialsOf st′) ≡ suc (length (serialsOf st)) = omega (arith, grown) in
-            ap (λ (i : ℕ). take i (set (d .serials) (serialCount (d .tally)) q)) up
-            ∙ ap (λ (i : ℕ). take (suc (length (serialsOf st))) (set (d .serials) i q)) count
-            ∙ take-suc-set (d .serials) (length (serialsOf st)) q few
-            ∙ ap (λ (y : List ℕ). y ++ q ∷ []) (z .serials ∙ none-yet) ∙ sym one-more;
-        used = z .used;
-        used-all = z .used-all;
-        counted = omega (arith, z .counted, later);
-        named = omega (arith, z .named, later);
-        numbered = omega (arith, credit, grown, x .bytes, size, same-symbol, ap serialDue slot-now);
-        block = (z .block .0, in-entered 5 v (omega arith));
-      }
-
   -- ── a row's line ──
-  module _ (key : List ℕ) (rest : Rest) (row : ℕ) (rule : Rule) (keyed-so : l .form ≡ keyed key rest) (place : find key placedTable ≡ found row rule) where
+  module _ (key : List ℕ) (rest : Rest) (row : ℕ) (rule : Rule) (keyed-so : l .form ≡ keyed key rest) (place : find key placedTable ≡ found row rule) (in-spool : PlacedForm (l .form)) where
     -- what the definitions do, and what the code goes by
     abbrev did : Act
     did = actRow (knownOf s) (rangeOf s) (getD full row false) row rule rest
@@ -245,102 +167,111 @@ module _ (c : Class) (spool : List ℕ) (k : ℕ) (FileHere : Desk → Set → �
         put-entry : Scratch (withPart 32 rec₁ (d .scratch)) st″
         put-entry = record-entered c spool k FileHere d at to s m fs n o 0 z 0 0 i v rec₁ (omega arith) taken (q ∙ ap (λ (t : List Rule). putLine (ruleAt t i) 0 v rec₀) placed-rows)
 
-        -- `symbol=` is paid by its line
-        paid : at + rowBytes 17 (getD (partOf (enter o 0 i v) 0) 0 none) ≤ to + rowBytes 17 (getD (partOf o 0) 0 none)
-        paid = go (eqb i 0) refl
-          where
-            most : (y : Option Value) → rowBytes 17 y ≤ 17
-            most none = omega arith
-            most (some y) = omega arith
-
-            go : (b : Bool) → eqb i 0 ≡ b → at + rowBytes 17 (getD (partOf (enter o 0 i v) 0) 0 none) ≤ to + rowBytes 17 (getD (partOf o 0) 0 none)
-            go true b =
-                let symbol-row : ruleAt placedTable 0 ≡ from .rule = ap (ruleAt placedTable) (sym (eqb-true i 0 b)) ∙ is-rule in
-                let behind : 9 ≤ restSize (from .rest) =
-                values-size (knownOf s) placedTable (rangeOf s) full (l .form) symbolName (decimal notNegative ∷ decimal notNegative ∷ decimal angle ∷ decimal aboveZero ∷ []) nothingMore i v from
-                (ap (λ (r : Rule). r .holds) (sym symbol-row) ∙ symbol-rule .0) (ap (λ (r : Rule). r .may) (sym symbol-row) ∙ symbol-rule .1) in
-                omega
-                (arith, x .bytes, line-size (knownOf s) placedTable (rangeOf s) full (l .form) i (entry i v) from, ap (λ (r : Rule). length (r .key)) symbol-row, symbol-rule .2, behind, most (getD (partOf (enter o 0 i v) 0) 0 none))
-            go false b = omega (arith, later, ap (rowBytes 17) (other-slot i 0 v (λ y. eqb-false i 0 b (sym y))))
+        -- what is lent behind it, its own number being n
+        abbrev lentBy : ℕ → Lent
+        lentBy q = lentWith (eqb i 5) (lentOf d) i q (contentAt rest)
 
         -- of another row than `serial`
-        on-other : eqb i 5 ≡ false → x₁ ≡ lentAfter (lentOf d) i (ownNumber rec₁) → Out (S.Go (d .now))
+        on-other : eqb i 5 ≡ false → x₁ ≡ lentBy (ownNumber rec₁) → Out (S.Go (d .now))
         on-other b y =
             let plain : numbersOf v ≡ [] =
             entry-plain (knownOf s) i i (from .rule) (shapeFor (from .rule) (from .rest)) v (subst (λ (r : Rule). isSerials (r .holds) ≡ false) is-rule (other-rule i below b)) (from .did .read) in
-            let lent-is : x₁ ≡ lent (d .tally) (d .serials) (set (d .marks) i true) (d .inner) =
-            y ∙ ap (λ (t : Bool). lent (cond t (set (d .tally) 11 (serialCount (d .tally) + 1)) (d .tally)) (cond t (set (d .serials) (serialCount (d .tally)) (ownNumber rec₁)) (d .serials)) (set (d .marks) i true) (d .inner)) b in
-            goes-still c spool k FileHere own l to st d₁ (d .now) st″ (h ∙ ap (byAct _ _ _ _) a ∙ ap (λ (t : List ℕ). unless (noneOf (ownSerial t) (serialsWith s fs)) 15 (got st″)) plain) refl refl refl refl
+            let lent-is : x₁ ≡ lent (d .tally) (d .serials) (set (d .marks) i true) (d .inner) = y ∙ ap (λ (t : Bool). lentWith t (lentOf d) i (ownNumber rec₁) (contentAt rest)) b in
+            goes-still c spool k FileHere own l to st d₁ (d .now) st″ (h ∙ ap (byAct _ _ _ _) a ∙ ap (λ (t : List ℕ). unless (noneOf (ownSerial t) (numbersSoFar s fs)) 15 (got st″)) plain) refl refl refl refl
             (subst (λ (t : Lent). StandsAt c spool k FileHere (deskNow (lentDesk d t rec₁) (d .now)) to st″) (sym lent-is)
-            (placing-on c spool k FileHere d at to s m fs n o 0 z (d .now) (set (d .marks) i true) (d .inner) rec₁ (enter o 0 i v) 0 later paid (length-set (d .marks) i true ∙ z .lengths .marks) (z .lengths .inner) put-entry
+            (placing-on c spool k FileHere d at to s m fs n o 0 z (d .now) (set (d .marks) i true) (d .inner) rec₁ (enter o 0 i v) 0 later (length-set (d .marks) i true ∙ z .lengths .marks) (z .lengths .inner) put-entry
             (sym (other-slot i 5 v (λ t. eqb-false i 5 b (sym t))))
             (z .block .0) (in-entered i v below)))
 
         -- of the row `serial`
         module _ (five : i ≡ 5) where
-          abbrev r₅ : Rule
-          r₅ = ruleAt placedTable 5
-
-          five-rule : r₅ ≡ from .rule
+          five-rule : ruleAt placedTable 5 ≡ from .rule
           five-rule = ap (ruleAt placedTable) (sym five) ∙ is-rule
 
-          holds-serials : from .rule .holds ≡ serials
-          holds-serials = ap (λ (r : Rule). r .holds) (sym five-rule) ∙ serial-rule .0
+          line : LineContent spool (knownOf s) serials (length (from .rule .key)) (formSize (l .form)) (from .rest) v
+          line =
+              line-content spool form (knownOf s) placedTable (rangeOf s) full (l .form) i v from (x .is) in-spool serials serials-content
+              (ap (λ (r : Rule). r .holds) (sym five-rule) ∙ serial-rule .0) (ap (λ (r : Rule). r .may) (sym five-rule) ∙ serial-rule .1)
 
-          content : ContentRead (knownOf s) (from .rule .holds) (from .rest) v
-          content =
-              content-read (knownOf s) placedTable (rangeOf s) full (l .form) i v from (subst ContentKind (sym holds-serials) serials-content)
-              (ap (λ (r : Rule). r .may) (sym five-rule) ∙ serial-rule .1)
+          serial : SymbolSerial spool (line .place) (line .bytes) v
+          serial = symbol-content spool (line .place) (line .bytes) (line .here) (line .low) (knownOf s) v (line .read)
 
-          linked-so : (y : ℕ) × (ps : List ℕ) × (v ≡ linked y ps)
-          linked-so = serials-linked (knownOf s) (content .at) (content .bytes) v (ap (λ (d : Kind). readKind (knownOf s) d (content .at) (content .bytes)) (sym holds-serials) ∙ content .read)
+          abbrev where-at : Span
+          where-at = span (line .place) (length (line .bytes))
 
-          size : 8 ≤ formSize (l .form)
-          size =
-              omega (arith, line-size (knownOf s) placedTable (rangeOf s) full (l .form) i (entry i v) from, ap (λ (r : Rule). length (r .key)) five-rule, serial-rule .2, content .long)
+          content-is : contentAt rest ≡ where-at
+          content-is = let same = sym keyed-so ∙ from .form in let q : rest ≡ from .rest = cc in ap contentAt (q ∙ line .behind)
 
-          abbrev serial : ℕ
-          serial = linked-so .0
+          abbrev o₅ : Held
+          o₅ = enter o 0 5 v
+
+          abbrev st₅ : State
+          st₅ = placing s m fs n (symbolBlock o₅) 0
 
           free : getD (partOf o 0) 5 none ≡ none
           free = ap (λ (y : ℕ). getD (partOf o 0) y none) (sym five) ∙ mark-free (partOf o 0) i (taken .free)
 
-          number : ownNumber rec₁ ≡ serial
+          slot-now : getD (partOf o₅ 0) 5 none ≡ some v
+          slot-now = ap (λ (y : Slots). getD y 5 none) (enter-own o 0 5 v (inp .shaped .0)) ∙ getD-set-same (partOf o 0) 5 (some v) none (omega (arith, six))
+
+          abbrev links-by : Option Value → List (List ℕ)
+          links-by y = symbolLinks (numbersOf (slotValue y))
+
+          taken-so : SerialTaken spool at to n (symbolBlock o) (symbolBlock o₅) (serial .own) (serial .partners) (line .place) (line .bytes)
+          taken-so = record {
+            extra = 0;
+            opener = 12;
+            read = serial .read;
+            none-yet = figure-serial n o ∙ ap links-by free;
+            one = figure-serial n o₅ ∙ ap links-by slot-now ∙ ap (λ (y : Value). symbolLinks (numbersOf y)) (serial .is);
+            due = ap (dueOf 12) free;
+            spent = ap (dueOf 12) slot-now;
+            whole = refl;
+            bytes = omega (arith, x .bytes, line .size, ap (λ (r : Rule). length (r .key)) five-rule, serial-rule .2);
+            most = x .most;
+          }
+
+          number : ownNumber rec₁ ≡ serial .own
           number =
               ap ownNumber
-              (q ∙ ap (λ (y : ℕ). putLine (ruleAt (tableOf 18) y) 0 v rec₀) five ∙ ap (λ (y : Value). putLine (ruleAt (tableOf 18) 5) 0 y rec₀) (linked-so .2))
-              ∙ own-is rec₀ serial (linked-so .1) (part-long 32 (d .scratch) (omega (arith, z .lengths .scratch)))
+              (q ∙ ap (λ (y : ℕ). putLine (ruleAt (tableOf 18) y) 0 v rec₀) five ∙ ap (λ (y : Value). putLine (ruleAt (tableOf 18) 5) 0 y rec₀) (serial .is))
+              ∙ own-is rec₀ (serial .own) (serial .partners) (part-long 32 (d .scratch) (omega (arith, z .lengths .scratch)))
 
-          used-so : inUse (d .tally) (d .serials) serial ≡ hasNumber serial (serialsWith s fs)
-          used-so = in-use v serial (linked-so .1) (linked-so .2) free
+          used-so : inUse (d .tally) (d .serials) (serial .own) ≡ hasNumber (serial .own) (numbersSoFar s fs)
+          used-so = number-used c spool k FileHere d at to s m fs n (symbolBlock o) (symbolBlock o₅) 0 0 z (serial .own) (serial .partners) (line .place) (line .bytes) taken-so
 
-          new-so : newSerial s fs v ≡ not (hasNumber serial (serialsWith s fs))
-          new-so = is-new v serial (linked-so .1) (linked-so .2) free
+          new-so : newSerial s fs v ≡ not (hasNumber (serial .own) (numbersSoFar s fs))
+          new-so = ap (λ (y : Value). noneOf (ownSerial (numbersOf y)) (numbersSoFar s fs)) (serial .is) ∙ one-of (serial .own) (numbersSoFar s fs)
 
-          on-used : inUse (d .tally) (d .serials) serial ≡ true → Out (S.Stop 15)
-          on-used b = h ∙ ap (byAct _ _ _ _) a ∙ ap (λ (t : Bool). unless t 15 (got st″)) (new-so ∙ ap not (sym used-so ∙ b))
+          stepped : (t : Bool) → inUse (d .tally) (d .serials) (serial .own) ≡ t → stepIn (unlimited c) l st ≡ unless (not t) 15 (got st″)
+          stepped t b = h ∙ ap (byAct _ _ _ _) a ∙ ap (λ (y : Bool). unless y 15 (got st″)) (new-so ∙ ap not (sym used-so ∙ b))
 
-          on-new : inUse (d .tally) (d .serials) serial ≡ false → x₁ ≡ lentAfter (lentOf d) 5 serial → Out (S.Go (d .now))
+          on-new : inUse (d .tally) (d .serials) (serial .own) ≡ false → x₁ ≡ lentWith true (lentOf d) 5 (serial .own) where-at → Out (S.Go (d .now))
           on-new b y =
-              goes-still c spool k FileHere own l to st d₁ (d .now) st″ (h ∙ ap (byAct _ _ _ _) a ∙ ap (λ (t : Bool). unless t 15 (got st″)) (new-so ∙ ap not (sym used-so ∙ b))) refl refl refl refl
+              goes-still c spool k FileHere own l to st d₁ (d .now) st″ (stepped false b) refl refl refl refl
               (subst (λ (t : ℕ). StandsAt c spool k FileHere (deskNow d₁ (d .now)) to (placing s m fs n (symbolBlock (enter o 0 t v)) 0)) (sym five)
-              (subst (λ (t : Lent). StandsAt c spool k FileHere (deskNow (lentDesk d t rec₁) (d .now)) to (placing s m fs n (symbolBlock (enter o 0 5 v)) 0)) (sym y)
-              (serial-stands v serial (linked-so .1) (linked-so .2) free size rec₁
-              (subst (λ (t : ℕ). Scratch (withPart 32 rec₁ (d .scratch)) (placing s m fs n (symbolBlock (enter o 0 t v)) 0)) five put-entry))))
+              (subst (λ (t : Lent). StandsAt c spool k FileHere (deskNow (lentDesk d t rec₁) (d .now)) to st₅) (sym y)
+              (serial-stands c spool k FileHere d at to s m fs n (symbolBlock o) (symbolBlock o₅) 0 0 z (serial .own) (serial .partners) (line .place) (line .bytes) taken-so
+              (sym used-so ∙ b) (d .now) (set (d .marks) 5 true) (d .inner) (withPart 32 rec₁ (d .scratch))
+              (length-set (d .marks) 5 true ∙ z .lengths .marks) (z .lengths .inner)
+              (subst (λ (t : ℕ). Scratch (withPart 32 rec₁ (d .scratch)) (placing s m fs n (symbolBlock (enter o 0 t v)) 0)) five put-entry)
+              (omega arith) (z .block .0, in-entered 5 v (omega arith)))))
 
-          by-use : (t : Bool) → inUse (d .tally) (d .serials) serial ≡ t → (t ≡ false → x₁ ≡ lentAfter (lentOf d) 5 serial) → Out (cond t (S.Stop 15) (S.Go (d .now)))
-          by-use true b y = on-used b
+          by-use : (t : Bool) → inUse (d .tally) (d .serials) (serial .own) ≡ t → (t ≡ false → x₁ ≡ lentWith true (lentOf d) 5 (serial .own) where-at)
+              → Out (cond t (S.Stop 15) (S.Go (d .now)))
+          by-use true b y = stepped true b
           by-use false b y = on-new b (y refl)
 
-          on-serial : clashes (lentOf d) i (ownNumber rec₁) ≡ inUse (d .tally) (d .serials) (ownNumber rec₁) → (clashes (lentOf d) i (ownNumber rec₁) ≡ false → x₁ ≡ lentAfter (lentOf d) i (ownNumber rec₁))
+          on-serial : clashes (lentOf d) i (ownNumber rec₁) ≡ inUse (d .tally) (d .serials) (ownNumber rec₁) → (clashes (lentOf d) i (ownNumber rec₁) ≡ false → x₁ ≡ lentBy (ownNumber rec₁))
               → Out (cond (clashes (lentOf d) i (ownNumber rec₁)) (S.Stop 15) (S.Go (d .now)))
           on-serial t y =
-              let same : clashes (lentOf d) i (ownNumber rec₁) ≡ inUse (d .tally) (d .serials) serial = t ∙ ap (inUse (d .tally) (d .serials)) number in
+              let same : clashes (lentOf d) i (ownNumber rec₁) ≡ inUse (d .tally) (d .serials) (serial .own) = t ∙ ap (inUse (d .tally) (d .serials)) number in
               subst Out (ap (λ (b : Bool). cond b (S.Stop 15) (S.Go (d .now))) (sym same))
-              (by-use (inUse (d .tally) (d .serials) serial) refl
-              (λ f. y (same ∙ f) ∙ ap (λ (j : ℕ). lentAfter (lentOf d) j (ownNumber rec₁)) five ∙ ap (lentAfter (lentOf d) 5) number))
+              (by-use (inUse (d .tally) (d .serials) (serial .own)) refl
+              (λ f. y (same ∙ f) ∙ ap (λ (j : ℕ). lentWith (eqb j 5) (lentOf d) j (ownNumber rec₁) (contentAt rest)) five ∙ ap (λ (j : ℕ). lentWith true (lentOf d) 5 j (contentAt rest)) number
+              ∙ ap (lentWith true (lentOf d) 5 (serial .own)) content-is))
 
-        on-entry : (b : Bool) → eqb i 5 ≡ b → (clashes (lentOf d) i (ownNumber rec₁) ≡ false → x₁ ≡ lentAfter (lentOf d) i (ownNumber rec₁))
+        on-entry : (b : Bool) → eqb i 5 ≡ b → (clashes (lentOf d) i (ownNumber rec₁) ≡ false → x₁ ≡ lentBy (ownNumber rec₁))
             → Out (cond (clashes (lentOf d) i (ownNumber rec₁)) (S.Stop 15) (S.Go (d .now)))
         on-entry true b y = on-serial (eqb-true i 5 b) (ap (λ (t : Bool). t && inUse (d .tally) (d .serials) (ownNumber rec₁)) b) y
         on-entry false b y =
@@ -366,7 +297,7 @@ module _ (c : Class) (spool : List ℕ) (k : ℕ) (FileHere : Desk → Set → �
           let free : isNone (getD (partOf o 0) 1 none) ≡ true = ap (λ (t : ℕ). isNone (getD (partOf o 0) t none)) (sym one) ∙ ap isNone (mark-free (partOf o 0) j (taken .free)) in
           goes-still c spool k FileHere own l to st d₁ now st₁ (h ∙ ap (byAct _ _ _ _) a ∙ ap (λ (t : ℕ). got (placing s m fs n (symbolBlock o′) t)) part-so) (z .block .0) refl refl refl
           (subst (λ (t : Lent). StandsAt c spool k FileHere (deskNow (lentDesk d t rec₁) now) to st₁) (sym y)
-          (placing-on c spool k FileHere d at to s m fs n o 0 z now (set (d .marks) j true) (replicate (length (d .inner)) false) rec₁ o′ 1 later (omega (arith, later, ap (rowBytes 17) (other-slot j 0 v (λ t. omega (arith, t, one)))))
+          (placing-on c spool k FileHere d at to s m fs n o 0 z now (set (d .marks) j true) (replicate (length (d .inner)) false) rec₁ o′ 1 later
           (length-set (d .marks) j true ∙ z .lengths .marks) (length-replicate (length (d .inner)) false ∙ z .lengths .inner)
           (record-entered c spool k FileHere d at to s m fs n o 0 z 1 0 j v rec₁ (omega arith) taken (q ∙ ap (λ (t : List Rule). putLine (ruleAt t j) 0 v rec₀) placed-rows))
           (sym (other-slot j 5 v (λ t. omega (arith, t, one)))) refl
@@ -385,15 +316,15 @@ module _ (c : Class) (spool : List ℕ) (k : ℕ) (FileHere : Desk → Set → �
       on-stay : did ≡ stay → x₁ ≡ lentOf d → rec₁ ≡ rec₀ → Out (S.Go (d .now))
       on-stay a y q = goes-still c spool k FileHere own l to st d₁ (d .now) st (h ∙ ap (byAct _ _ _ _) a) refl refl refl refl (same-stands x₁ rec₁ y q)
 
-      by-act : (a : Act) → did ≡ a → Entered (ruleAt (tableOf 18)) 0 rec₀ a rec₁ → PlacedLent (lentOf d) x₁ (ownNumber rec₁) (nextOf a) → Out (placedStep (d .now) (lentOf d) (ownNumber rec₁) (nextOf a))
+      by-act : (a : Act) → did ≡ a → Entered (ruleAt (tableOf 18)) 0 rec₀ a rec₁ → PlacedLent (lentOf d) x₁ (ownNumber rec₁) (contentAt rest) (nextOf a) → Out (placedStep (d .now) (lentOf d) (ownNumber rec₁) (nextOf a))
       by-act stay a q y = on-stay a y q
       by-act (entry i v) a q y = on-entry i v a q (eqb i 5) refl y
       by-act (begin i j v) a q y = on-begin i j v a q y
       by-act shut a q y = clash refl (read-shut (knownOf s) row rule (shapeFor rule rest) shut (row-did (knownOf s) (rangeOf s) (getD full row false) row rule rest shut refl a .read))
       by-act (refuse i) a q y = h ∙ ap (byAct _ _ _ _) a
 
-      pub row-line : (r : Step) → RowLine (d .now) (lentOf d) x₁ rec₀ rec₁ r rowAct → Out r
+      pub row-line : (r : Step) → RowLine (d .now) (lentOf d) x₁ rec₀ rec₁ r (contentAt rest) rowAct → Out r
       row-line r y =
           subst Out (sym (y .did .answer ∙ ap (λ (a : Act). placedStep (d .now) (lentOf d) (ownNumber rec₁) (nextOf a)) row-act))
           (by-act did refl (subst (λ (a : Act). Entered (ruleAt (tableOf 18)) 0 rec₀ a rec₁) row-act (y .entered))
-          (subst (λ (a : Act). PlacedLent (lentOf d) x₁ (ownNumber rec₁) (nextOf a)) row-act (y .did .lent)))
+          (subst (λ (a : Act). PlacedLent (lentOf d) x₁ (ownNumber rec₁) (contentAt rest) (nextOf a)) row-act (y .did .lent)))

@@ -2,7 +2,6 @@
 use Prim.Native.Nat.{ℕ, zero, suc, _+_, _-_}
 use mathlib.Core.Bool.{Bool, true, false, cond}
 use mathlib.Core.List.{List, [], _∷_, _++_, map, append-assoc}
-use mathlib.Core.Option.{none}
 use mathlib.Core.Path.{_≡_, refl, sym, _∙_, ap, subst}
 use native.Mathlib.Omega.{arith}
 use lib.Dec.{eqb}
@@ -18,7 +17,7 @@ use Rattle.rules.specs.Lines.{Rest, Form, ignored, wrong, close, eof, keyed, fo
 use Rattle.rules.specs.Values.{Known}
 use Rattle.rules.specs.Rows.{Rule, Found, absent, found, find, Held, partOf, rowsThere, shut, refuse, orRefuse, actRow, actUnknown, complete}
 use Rattle.rules.specs.Figures.{placedTable}
-use Rattle.rules.specs.Sets.{Figure, placed, figureSerial, Set, rangeOf, knownOf, serialsIn}
+use Rattle.rules.specs.Sets.{Figure, placed, Set, rangeOf, knownOf}
 use Rattle.rules.specs.Machine.{Line, inLayer, State, figures, placing, skipping, byAct, symbolBlock, unlimited}
 use Rattle.rules.specs.PlacedSymbol.{bySkip, skipDeeper, onUnknown, onPlaced, onPlacedKey, onPlacedOwn}
 use Rattle.rules.specs.LineByLine.{stepIn}
@@ -34,7 +33,8 @@ use Rattle.account.specs.Account.{figureDone}
 use Rattle.account.specs.SkippedLines.{skippedAs, inPlaced}
 use Rattle.standing.specs.SoFar.{emptyRecord}
 use Rattle.account.specs.PlacedLines.{Lent, skipStep, unknownStep, FoundLine, KeyLine, isWhole, OwnLine, PlacedLine}
-use Rattle.standing.specs.Standing.{Desk, formSize, usedOf, rowBytes, InPlaced, Stands, Counted, deskNow, deskScratch, LineHere, StandsAt, StepOut}
+use Rattle.standing.specs.Standing.{Desk, formSize, usedOf, InPlaced, Stands, Counted, deskNow, deskScratch, LineHere, StandsAt, StepOut, figureLinks, linksIn}
+use Rattle.standing.specs.Reading.{PlacedForm}
 use Rattle.standing.proofs.MoreRecords.{flat-map-more}
 use Rattle.standing.proofs.ForeParts.{part-long}
 use Rattle.standing.proofs.Completing.{goes-still, goes-filling, completed-by, number-by}
@@ -43,7 +43,7 @@ use Rattle.standing.proofs.ClearedKept.{line-there, placed-cleared}
 use Rattle.standing.proofs.Standings.{sight, stands-on}
 use Rattle.standing.proofs.HomeFacts.{home-stays}
 use Rattle.rules.proofs.RecordLengths.{length-unread}
-use Rattle.standing.proofs.PlacedFacts.{placed-rows, placed-rows-six, must-symbol}
+use Rattle.standing.proofs.PlacedFacts.{placed-rows}
 use Rattle.standing.proofs.PlacedTables.{lentOf, lentDesk, range-is}
 use Rattle.standing.proofs.PlacedTextStanding.{text-line}
 use Rattle.standing.proofs.PlacedKeyStanding.{same-stands, row-line}
@@ -51,8 +51,8 @@ use Rattle.standing.proofs.PlacedKeyStanding.{same-stands, row-line}
 -- the closed symbol's serial number is that of a figure of the layer
 closed-sight : (s : Set) (m : ℕ) (fs : List Figure) (n : ℕ) (o : Held) → sight (placing s m fs n (symbolBlock o) 0) ≡ sight (figures s (inLayer m) (fs ++ placed n o ∷ []))
 closed-sight s m fs n o =
-    ap (λ (u : List ℕ). record { set = sight (placing s m fs n (symbolBlock o) 0) .set; layers = s .drawing .layers; serials = u; used = usedOf (placing s m fs n (symbolBlock o) 0); inside = true; counts = true })
-    (append-assoc (serialsIn s) (flat (map figureSerial fs)) (figureSerial (placed n o)) ∙ ap (λ (u : List ℕ). serialsIn s ++ u) (sym (flat-map-more figureSerial fs (placed n o))))
+    ap (λ (u : List (List ℕ)). record { set = sight (placing s m fs n (symbolBlock o) 0) .set; layers = s .drawing .layers; serials = u; used = usedOf (placing s m fs n (symbolBlock o) 0); inside = true; counts = true })
+    (append-assoc (linksIn s) (flat (map figureLinks fs)) (figureLinks (placed n o)) ∙ ap (λ (u : List (List ℕ)). linksIn s ++ u) (sym (flat-map-more figureLinks fs (placed n o))))
 
 module _ (c : Class) (spool : List ℕ) (k : ℕ) (FileHere : Desk → Set → ℕ → Held → ℕ → Type 0) (d : Desk) (at to own : ℕ) (l : Line) (w : Where) (form : LineForm)
     (x : LineHere spool k at to form w l) (s : Set) (m : ℕ) (fs : List Figure) (n : ℕ) (o : Held) where
@@ -158,15 +158,13 @@ module _ (c : Class) (spool : List ℕ) (k : ℕ) (FileHere : Desk → Set → �
           let put : partAt 32 t₁ ≡ markUnread (c .symbols) (rangeOf s) placedTable rec₀ =
           line-there (d .scratch) rec₁ st long (z .scratch) ∙ q ∙ ap (λ (i : Digits). markUnread (c .symbols) i placedTable rec₀) (range-is c spool k FileHere d at to s m fs n o 0 z) in
           let one : formSize (l .form) ≡ 1 = ap formSize shut-so in
-          let symbol-read : rowBytes 17 (getD (partOf o 0) 0 none) ≡ 17 =
-          ap (λ (i : Bool). cond i 17 0) (must-symbol (both (c .symbols) (rangeOf s)) (partOf o 0) (inp .shaped .1 ∙ placed-rows-six) b) in
           goes-filling c spool k FileHere own l to st d₁ now st′ (stepped ∙ ap (λ (i : Bool). onPlaced s m fs n o 0 (cond i shut (refuse 8))) b) 32 (d .now .records - 1)
           (completed-by (d .now) now 11 8 (z .block .0) refl) (number-by (d .now) now own 11 8 (z .block .0) refl) 0 (omega arith) (omega arith)
           (placed-fills c s m fs n o (d .now .records) (y .size) (d .scratch) t₁ (z .scratch) put)
           (subst (λ (i : Lent). StandsAt c spool k FileHere (deskNow (deskScratch (lentDesk d i rec₁) (withPart 32 emptyRecord t₁)) now) to st′) (sym a)
           (stands-on c spool k FileHere d at to st st′ z now (d .marks) (d .inner) (withPart 32 emptyRecord t₁) (closed-sight s m fs n o) (z .lengths .marks) (z .lengths .inner)
           (placed-cleared s m fs n o 0 (d .scratch) rec₁ long (z .scratch))
-          (omega (arith, z .counted, x .bytes, one, length-append fs (placed n o ∷ []))) (omega (arith, z .named, x .bytes)) (omega (arith, z .numbered, x .bytes, one, symbol-read))
+          (omega (arith, z .counted, x .bytes, one, length-append fs (placed n o ∷ []))) (omega (arith, z .named, x .bytes)) (omega (arith, z .numbered, x .bytes, one))
           (refl, home-stays spool k (d .now) now (d .marks) (d .inner) (d .inner) s (inLayer m) refl refl (inp .home), ap (λ (i : ℕ). i + 1) (inp .figures) ∙ sym (length-append fs (placed n o ∷ [])))))
 
       on-close : (b : Bool) → there ≡ b → x₁ ≡ lentOf d → (b ≡ true → rec₁ ≡ markUnread (c .symbols) range₀ placedTable rec₀) → Out (cond b (S.Go (figureDone (d .now))) (S.Stop 8))
@@ -174,7 +172,7 @@ module _ (c : Class) (spool : List ℕ) (k : ℕ) (FileHere : Desk → Set → �
       on-close false b a q = on-short b
 
     -- ── any line ──
-    module _ (r : Step) where
+    module _ (in-spool : PlacedForm (l .form)) (r : Step) where
       on-key : (key : List ℕ) (rest : Rest) (f : Found) → l .form ≡ keyed key rest → find key placedTable ≡ f
           → KeyLine known₀ (c .symbols) range₀ (d .now) (lentOf d) x₁ rec₀ rec₁ r (skippedAs (skipOf key rest)) rest f → Out r
       on-key key rest absent a b v =
@@ -189,7 +187,7 @@ module _ (c : Class) (spool : List ℕ) (k : ℕ) (FileHere : Desk → Set → �
               g
 
           go : (i : Bool) → reaches (c .symbols) (q .least) ≡ i → FoundLine known₀ (c .symbols) range₀ (d .now) (lentOf d) x₁ rec₀ rec₁ r (skippedAs (skipOf key rest)) rest j q i → Out r
-          go true g v = row-line c spool k FileHere d at to own l w form x s m fs n o z key rest j q a b (reached true g) x₁ rec₁ r v
+          go true g v = row-line c spool k FileHere d at to own l w form x s m fs n o z key rest j q a b in-spool (reached true g) x₁ rec₁ r v
           go false g v = on-unknown key rest (reached false g) (v .lent) (v .rec) r (v .answer)
 
       on-form : (f : Form) → l .form ≡ f → OwnLine known₀ (c .symbols) range₀ (d .now) (lentOf d) x₁ rec₀ rec₁ r f → Out r
@@ -208,13 +206,13 @@ module _ (c : Class) (spool : List ℕ) (k : ℕ) (FileHere : Desk → Set → �
       own-line v = on-form (l .form) refl (subst (OwnLine known₀ (c .symbols) range₀ (d .now) (lentOf d) x₁ rec₀ rec₁ r) (sym (x .is)) v)
 
   -- ── in its text, or directly in it ──
-  pub placed-line : (p : ℕ) → Stands c spool k d (FileHere d) at (placing s m fs n (symbolBlock o) p) → Counted c own d (placing s m fs n (symbolBlock o) p) → (x₁ : Lent) (rec₁ : List ℤ) (r : Step)
+  pub placed-line : PlacedForm (l .form) → (p : ℕ) → Stands c spool k d (FileHere d) at (placing s m fs n (symbolBlock o) p) → Counted c own d (placing s m fs n (symbolBlock o) p) → (x₁ : Lent) (rec₁ : List ℤ) (r : Step)
       → PlacedLine known₀ (c .symbols) range₀ (d .now) (lentOf d) x₁ rec₀ rec₁ r (eqb (d .now .part) 1) (formIn spool form)
       → StepOut c spool k FileHere own l to (placing s m fs n (symbolBlock o) p) (lentDesk d x₁ rec₁) r
-  placed-line zero z y x₁ rec₁ r v =
-      own-line z y x₁ rec₁ r (subst (λ (i : ℕ). PlacedLine known₀ (c .symbols) range₀ (d .now) (lentOf d) x₁ rec₀ rec₁ r (eqb i 1) (formIn spool form)) (z .block .1 .part) v)
-  placed-line (suc zero) z y x₁ rec₁ r v =
+  placed-line in-spool zero z y x₁ rec₁ r v =
+      own-line z y x₁ rec₁ in-spool r (subst (λ (i : ℕ). PlacedLine known₀ (c .symbols) range₀ (d .now) (lentOf d) x₁ rec₀ rec₁ r (eqb i 1) (formIn spool form)) (z .block .1 .part) v)
+  placed-line in-spool (suc zero) z y x₁ rec₁ r v =
       let f = subst (λ (i : ℕ). PlacedLine known₀ (c .symbols) range₀ (d .now) (lentOf d) x₁ rec₀ rec₁ r (eqb i 1) (formIn spool form)) (z .block .1 .part) v in
       subst (λ (i : Lent). StepOut c spool k FileHere own l to (placing s m fs n (symbolBlock o) 1) (lentDesk d i rec₁) r) (sym (f .1))
       (text-line c spool k FileHere d at to own l w form x s m fs n o z (x₁ .inner) rec₁ r (f .0))
-  placed-line (suc (suc p)) z y x₁ rec₁ r v = absurd (omega (arith, z .block .1 .parts))
+  placed-line in-spool (suc (suc p)) z y x₁ rec₁ r v = absurd (omega (arith, z .block .1 .parts))

@@ -19,7 +19,7 @@ use Rattle.rules.specs.Rows.{Rule, Slots, Held, partOf, enter, rowsThere, shape
 use Rattle.rules.specs.Figures.{textTable, placedTables}
 use Rattle.rules.specs.Sets.{Figure, Set, knownOf, ownSerial}
 use Rattle.rules.specs.Machine.{Line, inLayer, State, placing, byAct, symbolBlock}
-use Rattle.rules.specs.PlacedSymbol.{noneOf}
+use Rattle.rules.specs.PlacedSymbol.{noneOf, numbersSoFar}
 use Rattle.rules.specs.RecordTable.{ruleAt}
 use Rattle.rules.proofs.Chains.{clash}
 use Rattle.rules.proofs.Rows.{row-all}
@@ -33,7 +33,7 @@ use Rattle.account.specs.declared.Step.the-variants as S
 use Rattle.account.specs.Records.{partAt, withPart}
 use Rattle.account.specs.Account.{atBlock}
 use Rattle.account.specs.PlacedLines.{placedTextStep, PlacedTextMarks, PlacedTextLine}
-use Rattle.standing.specs.Standing.{Desk, serialsWith, rowBytes, InPlaced, Stands, LineHere, StepOut}
+use Rattle.standing.specs.Standing.{Desk, InPlaced, Stands, LineHere, StepOut}
 use Rattle.standing.proofs.Openers.{isBegin, no-begin}
 use Rattle.account.proofs.RowsTaken.{Taken, entry-taken}
 use Rattle.standing.proofs.LineOrigins.{From, entry-from}
@@ -89,7 +89,7 @@ module _ (c : Class) (spool : List ℕ) (k : ℕ) (FileHere : Desk → Set → �
     on-stay : did ≡ stay → is ≡ d .inner → rec₁ ≡ rec₀ → Out (S.Go (d .now))
     on-stay a i q =
         goes-still c spool k FileHere own l to st d₁ (d .now) st (ap (byAct _ _ _ _) a) refl refl refl refl
-        (placing-on c spool k FileHere d at to s m fs n o 1 z (d .now) (d .marks) is rec₁ o 1 later (omega (arith, later)) (z .lengths .marks) (long i)
+        (placing-on c spool k FileHere d at to s m fs n o 1 z (d .now) (d .marks) is rec₁ o 1 later (z .lengths .marks) (long i)
         (record-kept c spool k FileHere d at to s m fs n o 1 z 1 rec₁ q) refl (z .block .0)
         (record {
           home = inp .home;
@@ -114,8 +114,8 @@ module _ (c : Class) (spool : List ℕ) (k : ℕ) (FileHere : Desk → Set → �
         let st′ : State = placing s m fs n (symbolBlock o′) 1 in
         let same : partOf o′ 0 ≡ partOf o 0 = enter-other o 1 0 j v (λ y. omega (arith, y)) in
         let first : Slots → Option Value = λ y. getD y 1 none in
-        goes-still c spool k FileHere own l to st d₁ (d .now) st′ (ap (byAct _ _ _ _) a ∙ ap (λ (y : List ℕ). unless (noneOf (ownSerial y) (serialsWith s fs)) 15 (got st′)) plain) refl refl refl refl
-        (placing-on c spool k FileHere d at to s m fs n o 1 z (d .now) (d .marks) is rec₁ o′ 1 later (omega (arith, later, ap (λ (y : Slots). rowBytes 17 (getD y 0 none)) same)) (z .lengths .marks)
+        goes-still c spool k FileHere own l to st d₁ (d .now) st′ (ap (byAct _ _ _ _) a ∙ ap (λ (y : List ℕ). unless (noneOf (ownSerial y) (numbersSoFar s fs)) 15 (got st′)) plain) refl refl refl refl
+        (placing-on c spool k FileHere d at to s m fs n o 1 z (d .now) (d .marks) is rec₁ o′ 1 later (z .lengths .marks)
         (ap length i ∙ length-set (d .inner) j true ∙ z .lengths .inner)
         (record-entered c spool k FileHere d at to s m fs n o 1 z 1 1 j v rec₁ (omega arith) taken (q ∙ ap (λ (y : List Rule). putLine (ruleAt y j) 0 v rec₀) text-rows))
         (ap (λ (y : Slots). getD y 5 none) (sym same)) (z .block .0)
@@ -139,7 +139,7 @@ module _ (c : Class) (spool : List ℕ) (k : ℕ) (FileHere : Desk → Set → �
     on-shut a i q =
         let now : Now = atBlock (d .now) 11 0 in
         goes-still c spool k FileHere own l to st d₁ now (placing s m fs n (symbolBlock o) 0) (ap (byAct _ _ _ _) a) (z .block .0) refl refl refl
-        (placing-on c spool k FileHere d at to s m fs n o 1 z now (d .marks) is rec₁ o 0 later (omega (arith, later)) (z .lengths .marks) (long i)
+        (placing-on c spool k FileHere d at to s m fs n o 1 z now (d .marks) is rec₁ o 0 later (z .lengths .marks) (long i)
         (record-kept c spool k FileHere d at to s m fs n o 1 z 0 rec₁ q) refl refl
         (record {
           home = home-stays spool k (d .now) now (d .marks) (d .inner) is s (inLayer m) refl refl (inp .home);

@@ -1,34 +1,62 @@
 -- The scratch with another record in one of its three parts.
-use Prim.Native.Nat.{ℕ}
-use mathlib.Core.List.{List, _++_, append-nil}
+use Prim.Native.Nat.{ℕ, zero, suc}
+use mathlib.Core.List.{List, [], _∷_, _++_, append-nil}
 use mathlib.Core.Option.{Option, none, some}
 use mathlib.Core.Path.{_≡_, refl, sym, _∙_, ap, subst}
 use native.Mathlib.Omega.{arith}
 use lib.IntN.{ℤ, pos}
-use lib.ListN.{length, take, drop, replicate, length-append, length-take, length-drop, drop-of-length-le}
-use lib.Seq.{take-at, drop-at, drop-drop}
-use Rattle.rules.specs.Sets.{Edge, Set}
+use lib.ListN.{length, set, take, drop, replicate, length-set, length-append, length-take, length-drop, drop-of-length-le}
+use lib.Seq.{sets, length-sets, take-at, drop-at, drop-drop}
+use Rattle.rules.specs.Values.{Num, valueAt}
+use Rattle.rules.specs.Rows.{Slots}
+use Rattle.rules.specs.Figures.{wireTable}
+use Rattle.rules.specs.Sets.{Edge, Wire, Set}
 use Rattle.rules.specs.Machine.{State, top, file, drawing, layerNames, defines, symbol, hide, elements, figures, successive, texts, placing, skipping, ended}
 use Rattle.rules.specs.Machine.{Owned, symbolBlock, wireBlock, wireUnread}
-use Rattle.rules.specs.RecordTable.{wireStart}
+use Rattle.rules.specs.RecordTable.{wireStart, Shelf, shelves, shownLines, stateOfMany, putGroups, textNumbers, firstText, putTexts, putSlots}
+use Rattle.rules.proofs.RecordLengths.{length-slots}
 use Rattle.rules.specs.Wires.{lastEdge}
 use Rattle.account.specs.Records.{partAt, withPart}
-use Rattle.standing.specs.SoFar.{volumeOf, formerNumbers, emptyRecord}
+use Rattle.standing.specs.SoFar.{volumeOf, formerNumbers, wireRead, textBegun, wireSoFar, emptyRecord}
 use Rattle.standing.specs.Kept.{ownOpen, figureOpen, secondIn, secondOpen, Scratch}
 use Rattle.standing.proofs.LaidTables.{part-of, behind-of, with-of}
 use Rattle.standing.proofs.ForeParts.{part-fore, fore-part}
 
 -- ── it is three records long ──
--- an open wire's two are, whatever is known of its last element
-pub former-long : (o : Option Edge) (k volume n : ℕ) → length (formerNumbers o (wireStart k volume n)) ≡ 64
-former-long none k volume n = refl
-former-long (some e) k volume n = refl
+-- an open wire's two are, whatever is known of it
+pub former-long : (o : Option Edge) (t : List ℤ) → length t ≡ 64 → length (formerNumbers o t) ≡ 64
+former-long none t e = e
+former-long (some e) t h =
+    let x : ℤ = valueAt (e .values) 3 in
+    let y : ℤ = valueAt (e .values) 4 in
+    length-set (set (set t 4 x) 36 y) 62 (pos (suc (e .row))) ∙ length-set (set t 4 x) 36 y ∙ length-set t 4 x ∙ h
 
-second-of : (s : Set) (k n : ℕ) (o : Owned) → length (secondIn s k n o) ≡ 32
-second-of s k n (symbolBlock o) = refl
-second-of s k n (wireBlock w) =
-    omega (arith, length-drop 32 (formerNumbers (lastEdge (w .elements)) (wireStart k (volumeOf s) n)), former-long (lastEdge (w .elements)) k (volumeOf s) n)
-second-of s k n wireUnread = refl
+groups-long : (hs : List Shelf) (gs : List (List (List Num))) (t : List ℤ) → length (putGroups hs gs t) ≡ length t
+groups-long [] gs t = refl
+groups-long (h ∷ hs) [] t = refl
+groups-long (h ∷ hs) (g ∷ gs) t =
+    length-set (sets (putGroups hs gs t) (h .place) (pos (length g) ∷ shownLines (h .shown) (h .wide) g)) (h .state) (stateOfMany (length g))
+    ∙ length-sets (putGroups hs gs t) (h .place) (pos (length g) ∷ shownLines (h .shown) (h .wide) g) ∙ groups-long hs gs t
+
+texts-long : (ts : List Slots) (t : List ℤ) → length (putTexts ts t) ≡ length t
+texts-long ts t =
+    length-set (sets t 37 (pos (length ts) ∷ textNumbers (firstText ts))) 58 (stateOfMany (length ts)) ∙ length-sets t 37 (pos (length ts) ∷ textNumbers (firstText ts))
+
+begun-long : (p : ℕ) (t : List ℤ) → length t ≡ 64 → length (textBegun p t) ≡ 64
+begun-long zero t e = e
+begun-long (suc p) t e = length-set t 58 (pos 2) ∙ e
+
+pub wire-long : (s : Set) (k n : ℕ) (w : Wire) (p : ℕ) → length (wireSoFar s k n w p) ≡ 64
+wire-long s k n w p =
+    former-long (lastEdge (w .elements)) (textBegun p (wireRead w (wireStart k (volumeOf s) n)))
+    (begun-long p (wireRead w (wireStart k (volumeOf s) n))
+    (groups-long shelves (w .groups) (putTexts (w .texts) (putSlots wireTable (w .own) (wireStart k (volumeOf s) n)))
+    ∙ texts-long (w .texts) (putSlots wireTable (w .own) (wireStart k (volumeOf s) n)) ∙ length-slots wireTable (w .own) (wireStart k (volumeOf s) n)))
+
+second-of : (s : Set) (k n : ℕ) (o : Owned) (p : ℕ) → length (secondIn s k n o p) ≡ 32
+second-of s k n (symbolBlock o) p = refl
+second-of s k n (wireBlock w) p = omega (arith, length-drop 32 (wireSoFar s k n w p), wire-long s k n w p)
+second-of s k n wireUnread p = refl
 
 second-long : (st : State) → length (secondOpen st) ≡ 32
 second-long (top s k) = refl
@@ -42,8 +70,8 @@ second-long (elements s) = refl
 second-long (figures s h fs) = refl
 second-long (successive s h fs n ps) = refl
 second-long (texts s h fs n o) = refl
-second-long (placing s k fs n o p) = second-of s k n o
-second-long (skipping s k fs n o d) = second-of s k n o
+second-long (placing s k fs n o p) = second-of s k n o p
+second-long (skipping s k fs n o d) = second-of s k n o 0
 second-long (ended s) = refl
 
 pub scratch-long : (t : List ℤ) (st : State) → Scratch t st → length t ≡ 96

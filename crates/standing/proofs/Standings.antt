@@ -16,9 +16,10 @@ use Rattle.rules.specs.Sets.{Layer, Set, symbolNameOf, elementsOf, usedIn, know
 use Rattle.rules.specs.Machine.{State, setOf}
 use Rattle.entries.specs.Names.{namesIn, knownIn}
 use Rattle.account.specs.declared.Now.{Now}
+use Rattle.account.specs.SerialNumbers.{bytesLent}
 use Rattle.standing.specs.SoFar.{volumeOf}
 use Rattle.standing.specs.Kept.{Scratch}
-use Rattle.standing.specs.Standing.{Desk, Lengths, layersOf, serialsOf, usedOf, openFigures, inside, counts, elementsHere, thisOf, tallyOf, nameBytes, serialBytes, Inside, Stands}
+use Rattle.standing.specs.Standing.{Desk, Lengths, layersOf, linksOf, usedOf, Numbers, openFigures, inside, counts, elementsHere, thisOf, tallyOf, nameBytes, serialBytes, Inside, Stands}
 use Rattle.standing.proofs.ScratchKept.{scratch-long}
 
 -- ── counts ──
@@ -39,7 +40,7 @@ nil-count (a ∷ s) = ne-eqb (suc (length s)) 0 (λ e. absurd (omega (arith, e))
 pub record Sight : Type 0 where
   pub set : Set
   pub layers : List Layer
-  pub serials : List ℕ
+  pub serials : List (List ℕ)
   pub used : List ℕ
   pub inside : Bool
   pub counts : Bool
@@ -50,7 +51,7 @@ sight st =
     record {
       set = record { drawing = s .drawing; symbols = s .symbols; volumes = s .volumes; now = s .now; taken = 0 };
       layers = layersOf st;
-      serials = serialsOf st;
+      serials = linksOf st;
       used = usedOf st;
       inside = inside st;
       counts = counts st;
@@ -95,7 +96,7 @@ module _ (c : Class) (spool : List ℕ) (k : ℕ) (FileHere : Desk → Set → �
       → Scratch t st′
       → total elementsOf (setOf st .volumes) + elementsHere st + openFigures st′ ≤ to
       → 48 * length (setOf st .symbols) + nameBytes st′ ≤ to
-      → 42 * length (serialsOf st) + serialBytes st′ ≤ to + 20
+      → 27 * length (linksOf st) + serialBytes st′ ≤ to + 3 + bytesLent (take (length (linksOf st)) (d .serials))
       → Inside c spool k (deskKept d n (d .tally) marks inner header t) (FileHere (deskKept d n (d .tally) marks inner header t)) st′
       → Stands c spool k (deskKept d n (d .tally) marks inner header t) (FileHere (deskKept d n (d .tally) marks inner header t)) to st′
   stands-with n marks inner header t v lm li lh scratch counted named numbered block = record {
@@ -107,12 +108,12 @@ module _ (c : Class) (spool : List ℕ) (k : ℕ) (FileHere : Desk → Set → �
     symbols = subst (λ (x : Sight). namesIn spool (take (length (x .set .symbols)) (d .symbols)) ≡ map symbolNameOf (x .set .symbols)) v (z .symbols);
     layers = subst (λ (x : Sight). namesIn spool (take (length (x .layers)) (d .layers)) ≡ map (λ (l : Layer). l .id) (x .layers)) v (z .layers);
     few-layers = subst (λ (x : Sight). length (x .layers) ≤ 64) v (z .few-layers);
-    serials = subst (λ (x : Sight). take (length (x .serials)) (d .serials) ≡ x .serials) v (z .serials);
+    serials = subst (λ (x : Sight). Numbers spool (take (length (x .serials)) (d .serials)) (x .serials)) v (z .serials);
     used = subst (λ (x : Sight). x .inside ≡ true → (j : ℕ) → j < 64 → getD (d .used) j false ≡ hasNumber j (x .used)) v (z .used);
     used-all = subst (λ (x : Sight). (j : ℕ) → j < 64 → getD (d .usedAll) j false ≡ hasNumber j (flat (map usedIn (x .set .volumes)) ++ x .used)) v (z .used-all);
     counted = subst (λ (x : Sight). total elementsOf (x .set .volumes) + cond (x .counts) (elementsOf (x .set .now)) 0 + openFigures st′ ≤ to) v counted;
     named = subst (λ (x : Sight). 48 * length (x .set .symbols) + nameBytes st′ ≤ to) v named;
-    numbered = subst (λ (x : Sight). 42 * length (x .serials) + serialBytes st′ ≤ to + 20) v numbered;
+    numbered = subst (λ (x : Sight). 27 * length (x .serials) + serialBytes st′ ≤ to + 3 + bytesLent (take (length (x .serials)) (d .serials))) v numbered;
     block = block;
   }
 
@@ -120,7 +121,7 @@ module _ (c : Class) (spool : List ℕ) (k : ℕ) (FileHere : Desk → Set → �
       → Scratch t st′
       → total elementsOf (setOf st .volumes) + elementsHere st + openFigures st′ ≤ to
       → 48 * length (setOf st .symbols) + nameBytes st′ ≤ to
-      → 42 * length (serialsOf st) + serialBytes st′ ≤ to + 20
+      → 27 * length (linksOf st) + serialBytes st′ ≤ to + 3 + bytesLent (take (length (linksOf st)) (d .serials))
       → Inside c spool k (deskWith d n marks inner t) (FileHere (deskWith d n marks inner t)) st′
       → Stands c spool k (deskWith d n marks inner t) (FileHere (deskWith d n marks inner t)) to st′
   stands-on n marks inner t v lm li = stands-with n marks inner (d .header) t v lm li (z .lengths .header)

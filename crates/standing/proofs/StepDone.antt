@@ -23,6 +23,7 @@ use Rattle.standing.specs.LineDone.{Done, top, file, drawing, layer-name
 use Rattle.standing.proofs.Standings.{deskWith}
 use Rattle.standing.proofs.SymbolStanding.{nameKept, symbolDesk}
 use Rattle.standing.proofs.StepPromises as promise
+use Rattle.standing.proofs.WirePromises.{wire-promise}
 
 -- a closed symbol's name is kept, or nothing is
 named-desk : (d : Desk) (m₁ : List Bool) (rec₁ : List ℤ) (r : Step)
@@ -72,10 +73,12 @@ module _ (c : Class) (spool following : List ℕ) (form : LineForm) (w : Where) 
   defined x y t = desk (d .now) x y (d .layers) (d .serials) (d .used) (d .usedAll) (d₁ .marks) (d .inner) (d .header) t
 
   on-top : w .volume < 4294967296 → w .line < 4294967296 → d .now .block ≡ 0
-      → OnTop spool form (d .now) (d .tally) (d .symbols) (d .layers) w (d .usedAll) (topLent (d .marks) (d .used) (d .header)) (topLent (d₁ .marks) (d₁ .used) (d₁ .header)) (d .scratch) (d₁ .scratch) r
+      → OnTop spool form (d .now) (d .tally) (d .symbols) (d .layers) c (d .serials) w (d .usedAll) (topLent (d .marks) (d .used) (d .header)) (topLent (d₁ .marks) (d₁ .used) (d₁ .header)) (d .scratch) (d₁ .scratch) r
       → d₁ ≡ headed (d₁ .scratch) → Promise d₁
   on-top fv fl b h e =
-      subst Promise (sym (e ∙ ap headed (h .back))) (promise.top-promise c spool k form w following d (topLent (d₁ .marks) (d₁ .used) (d₁ .header) (h .rec)) fv fl refl r b (h .did))
+      let lends = h .lends in
+      subst Promise (sym (e ∙ ap headed (lends .back)))
+      (promise.top-promise c spool k form w following d (topLent (d₁ .marks) (d₁ .used) (d₁ .header) (lends .rec)) fv fl refl (h .did) r b (lends .did) (h .answer))
 
   on-drawing : d .now .block ≡ 2 → OnDrawing spool form (d .now) (d .tally) (d .symbols) (d .layers) (d .marks) (d₁ .marks) (d .scratch) (d₁ .scratch) r
       → d₁ ≡ marked (d₁ .scratch) → Promise d₁
@@ -133,8 +136,11 @@ module _ (c : Class) (spool following : List ℕ) (form : LineForm) (w : Where) 
       subst Promise (sym (e ∙ ap set-down (h .back)))
       (promise.placed-promise c spool k form w following d (lent (d₁ .tally) (d₁ .serials) (d₁ .marks) (d₁ .inner)) (h .rec) r b (h .did))
 
-  on-wire : d .now .block ≡ 12 → OnWire spool form (d .now) (d .tally) (d .symbols) (d .layers) w (d .scratch) (d₁ .scratch) r → d₁ ≡ unmarked (d₁ .scratch) → Promise d₁
-  on-wire b h e = subst Promise (sym e) (promise.wire-promise c spool k form w following d (d₁ .scratch) r b h)
+  on-wire : d .now .block ≡ 12
+      → OnWire spool form (d .now) (d .tally) (d .symbols) (d .layers) c w (lent (d .tally) (d .serials) (d .marks) (d .inner)) (lent (d₁ .tally) (d₁ .serials) (d₁ .marks) (d₁ .inner)) (d .scratch) (d₁ .scratch) r
+      → d₁ ≡ set-down (d₁ .scratch) → Promise d₁
+  on-wire b h e =
+      subst Promise (sym e) (wire-promise c spool k form w following d (lent (d₁ .tally) (d₁ .serials) (d₁ .marks) (d₁ .inner)) (d₁ .scratch) r b h)
 
   pub done-promise : length spool ≤ 61440 → w .volume < 4294967296 → w .line < 4294967296 → Done c spool following form w d d₁ r → Promise d₁
   done-promise short fv fl (top b h e) = on-top fv fl b h e

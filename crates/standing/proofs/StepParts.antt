@@ -13,6 +13,8 @@ use Rattle.rules.specs.RangeClass.{knowsWires}
 use Rattle.rules.specs.Rows.{Act, stay, entry, begin, shut, refuse}
 use Rattle.rules.specs.RecordTable.{ruleAt}
 use Rattle.rules.specs.declared.LineForm.{LineForm}
+use Rattle.rules.specs.Lines.{formIn}
+use Rattle.entries.specs.Names.{knownIn}
 use Rattle.tables.specs.Tables.{tableOf}
 use Rattle.entries.specs.Acts.{Entered}
 use Rattle.account.specs.declared.Now.{Now}
@@ -25,7 +27,9 @@ use Rattle.standing.specs.Reading.{tallyAfter, tallyNamed, symbolsNamed}
 use Rattle.account.specs.FigureLines.{figureStep, FigureLine}
 use Rattle.account.specs.SymbolLines.{isNamed, nameOf, isNew, symbolPart, symbolPut, symbolStep, SymbolLine}
 use Rattle.account.specs.WireLines.{begunStep, begunPut}
-use Rattle.standing.specs.LineDone.{namesOf, idsOf, Named, Lends, LendsChain, figureAct, OnFigures, symbolAct, SymbolReady, OnSymbol}
+use Rattle.account.specs.SerialNumbers.{partnersMet}
+use Rattle.account.specs.TopLines.{Answered, TopLent, topNow, topLentBy}
+use Rattle.standing.specs.LineDone.{namesOf, idsOf, Named, Lends, LendsChain, figureAct, OnFigures, symbolAct, SymbolReady, OnSymbol, OnTop}
 use Rattle.account.proofs.Lent.{lent-part}
 use mir.Syntax.{w64}
 use mir.Val.{Fits}
@@ -135,6 +139,15 @@ part-back n u t h e =
     ∙ ap (take 32) (drop-append-seam (take n t) (u ++ rest))
     ∙ ap (λ (m : ℕ). take m (u ++ rest)) (sym e)
     ∙ take-append-seam u rest
+
+-- ── the top level ──
+-- what comes back of it, and of the partners' test
+pub top-back : (spool : List ℕ) (form : LineForm) (n : Now) (tally symbols layers : List ℕ) (c : Class) (serials : List ℕ) (w : Where) (usedAll : List Bool) (b₀ b₁ : List ℤ → TopLent) (t₀ t₁ : List ℤ) (did r : Step)
+    → Lends 0 t₀ t₁
+    (λ rec₀ rec₁. Answered (topNow (knownIn spool (namesOf tally symbols) (idsOf tally layers)) (eqb (w .volume) 1) n w tally usedAll (formIn spool form))
+    (b₁ rec₁ ≡ topLentBy (knownIn spool (namesOf tally symbols) (idsOf tally layers)) (eqb (w .volume) 1) w (b₀ rec₀) (formIn spool form)) did)
+    → r ≡ partnersMet c spool tally serials did → OnTop spool form n tally symbols layers c serials w usedAll b₀ b₁ t₀ t₁ r
+top-back spool form n tally symbols layers c serials w usedAll b₀ b₁ t₀ t₁ did r h q = record { did = did; lends = h; answer = q }
 
 -- ── figures ──
 -- how many there are behind a step

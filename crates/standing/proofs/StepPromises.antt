@@ -2,7 +2,7 @@
 use Prim.Native.Nat.{ℕ, _≤_, _<_}
 use mathlib.Core.Bool.{Bool, false}
 use mathlib.Core.List.{List, [], _∷_, _++_}
-use mathlib.Core.Path.{_≡_, refl, sym, subst}
+use mathlib.Core.Path.{_≡_, refl, subst}
 use native.Mathlib.Omega.{arith}
 use lib.Dec.{eqb}
 use lib.IntN.{ℤ}
@@ -30,7 +30,8 @@ use Rattle.account.specs.FigureLines.{FigureLine}
 use Rattle.account.specs.ElementLines.{ElementLine}
 use Rattle.account.specs.SymbolLines.{nonIn, DefinesLine, SymbolLine}
 use Rattle.account.specs.PlacedLines.{Lent, PlacedLine}
-use Rattle.account.specs.WireLines.{begunStep, begunPut, WireLine}
+use Rattle.account.specs.WireLines.{begunStep, begunPut}
+use Rattle.account.specs.SerialNumbers.{partnersMet}
 use Rattle.account.specs.TopLines.{Answered, TopLent, topLent, topNow, topLentBy}
 use Rattle.account.specs.DrawingLines.{drawingAct, drawingNow, drawingMarks, drawingPut, NamesLine}
 use Rattle.account.specs.FileLines.{fileTableOf, partMarks, FileLine}
@@ -51,8 +52,6 @@ use Rattle.standing.proofs.LayerNamesStanding.{deskNames, names-line}
 use Rattle.standing.proofs.TopStanding.{deskTop, top-line}
 use Rattle.standing.proofs.PlacedTables.{lentOf, lentDesk}
 use Rattle.standing.proofs.PlacedStanding.{placed-line}
-use Rattle.standing.proofs.WireStanding.{wire-line}
-use Rattle.standing.proofs.UnreadStanding.{unread-line}
 
 -- ── promises ──
 module _ (c : Class) (spool : List ℕ) (k : ℕ) (form : LineForm) (w : Where) (following : List ℕ) (d : Desk) where
@@ -134,24 +133,7 @@ module _ (c : Class) (spool : List ℕ) (k : ℕ) (form : LineForm) (w : Where) 
   placed-promise x₁ rec₁ r b f own l at to st x q p z y = go st (OpenBlocks.in-placed c spool k d (F d) st (z .block) b) z y
     where
       go : (st : State) → OpenBlocks.InAPlaced st → Standing c spool k d at st → Counted c own d st → StepOut c spool k F own l to st (lentDesk d x₁ rec₁) r
-      go _ (OpenBlocks.here s m fs n o i) z y = placed-line c spool k F d at to own l w form x s m fs n o i z y x₁ rec₁ r f
-
-  abbrev wireLine : List ℤ → Step → Bool → Type 0
-  wireLine t₁ r skipped = WireLine (knownIn spool names ids) (getD (d .tally) 12 0) (d .now) w (d .scratch) t₁ r skipped (formIn spool form)
-
-  pub wire-promise : (t₁ : List ℤ) (r : Step) → d .now .block ≡ 12 → wireLine t₁ r (eqb (d .now .part) 2) → Promise (deskWith d (d .now) (d .marks) (d .inner) t₁) r
-  wire-promise t₁ r b f own l at to st x q p z y = go st (OpenBlocks.in-wire c spool k d (F d) st (z .block) b) z y
-    where
-      -- by the part that is open
-      part-is : (i : ℕ) → d .now .part ≡ i → wireLine t₁ r (eqb i 2)
-      part-is i e = subst (λ (j : ℕ). wireLine t₁ r (eqb j 2)) e f
-
-      go : (st : State) → OpenBlocks.InAWire st → Standing c spool k d at st → Counted c own d st → StepOut c spool k F own l to st (deskWith d (d .now) (d .marks) (d .inner) t₁) r
-      go _ (OpenBlocks.here s m fs n wire i) z y =
-          subst (λ (j : ℕ). Standing c spool k d at (placing s m fs n (wireBlock wire) j) → Counted c own d (placing s m fs n (wireBlock wire) j)
-          → StepOut c spool k F own l to (placing s m fs n (wireBlock wire) j) (deskWith d (d .now) (d .marks) (d .inner) t₁) r) (sym (z .block .1))
-          (λ z y. wire-line c spool k F d at to own l w form x s m fs n wire z y t₁ r (part-is 0 (z .block .2 .part))) z y
-      go _ (OpenBlocks.unread s m fs n i) z y = unread-line c spool k F d at to own l w form x s m fs n i z y t₁ r (part-is 2 (z .block .2 .part))
+      go _ (OpenBlocks.here s m fs n o i) z y = placed-line c spool k F d at to own l w form x s m fs n o p i z y x₁ rec₁ r f
 
   pub drawing-promise : (m₁ : List Bool) (rec₁ : List ℤ) (r : Step) → d .now .block ≡ 2
       → Answered (drawingNow (d .now) (drawingAct (knownIn spool names []) (getD (d .tally) 0 0) (d .marks) (formIn spool form)))
@@ -171,17 +153,18 @@ module _ (c : Class) (spool : List ℕ) (k : ℕ) (form : LineForm) (w : Where) 
       go : (st : State) → OpenBlocks.InLayerNames st → Standing c spool k d at st → Counted c own d st → StepOut c spool k F own l to st (deskNames d tally₁ layers₁ (withPart 32 rec₁ (d .scratch))) r
       go _ (OpenBlocks.here s g) z y = names-line c spool k F d at to own l w form x s g z y tally₁ layers₁ rec₁ kept r f
 
-  pub top-promise : (lent : TopLent) → w .volume < 4294967296 → w .line < 4294967296 → w .volume ≡ k → (r : Step) → d .now .block ≡ 0
+  -- did: what the line did by itself; then partners are tested where the set has ended
+  pub top-promise : (lent : TopLent) → w .volume < 4294967296 → w .line < 4294967296 → w .volume ≡ k → (did r : Step) → d .now .block ≡ 0
       → Answered (topNow (knownIn spool names ids) (eqb (w .volume) 1) (d .now) w (d .tally) (d .usedAll) (formIn spool form))
-      (lent ≡ topLentBy (knownIn spool names ids) (eqb (w .volume) 1) w (topLent (d .marks) (d .used) (d .header) (partAt 0 (d .scratch))) (formIn spool form)) r
-      → Promise (deskTop d lent) r
-  top-promise lent fv fl vk r b f own l at to st x q p z y = go st (OpenBlocks.at-top c spool k d (F d) st (z .block) b) z y
+      (lent ≡ topLentBy (knownIn spool names ids) (eqb (w .volume) 1) w (topLent (d .marks) (d .used) (d .header) (partAt 0 (d .scratch))) (formIn spool form)) did
+      → r ≡ partnersMet c spool (d .tally) (d .serials) did → Promise (deskTop d lent) r
+  top-promise lent fv fl vk did r b f e own l at to st x q p z y = go st (OpenBlocks.at-top c spool k d (F d) st (z .block) b) z y
     where
       go : (st : State) → OpenBlocks.AtTop st → Standing c spool k d at st → Counted c own d st → StepOut c spool k F own l to st (deskTop d lent) r
       go _ (OpenBlocks.here s m) z y =
-          top-line c spool k d at to own l w form x s m z y lent fv fl r
+          top-line c spool k d at to own l w form x s m z y lent fv fl did r
           (subst (λ (i : ℕ). Answered (topNow (knownIn spool names ids) (eqb i 1) (d .now) w (d .tally) (d .usedAll) (formIn spool form))
-          (lent ≡ topLentBy (knownIn spool names ids) (eqb i 1) w (topLent (d .marks) (d .used) (d .header) (partAt 0 (d .scratch))) (formIn spool form)) r) vk f)
+          (lent ≡ topLentBy (knownIn spool names ids) (eqb i 1) w (topLent (d .marks) (d .used) (d .header) (partAt 0 (d .scratch))) (formIn spool form)) did) vk f) e
 
   pub file-promise : (tally₁ : List ℕ) (m₁ : List Bool) (h₁ : List ℤ) → w .volume ≡ k → (r : Step) → d .now .block ≡ 1
       → FileLine (act (knownIn spool names ids) (tableOf (fileTableOf (eqb (w .volume) 1) (d .now .part))) (digits 0 0) (partMarks (eqb (w .volume) 1) (d .now .part) (d .marks)) (formIn spool form)) spool following (eqb (w .volume) 1) (d .now)

@@ -14,13 +14,16 @@ use Rattle.rules.specs.Machine.{State, setOf}
 use Rattle.account.specs.declared.Where.{Where}
 use Rattle.account.specs.Records.{partAt}
 use Rattle.account.specs.PlacedLines.{LentReady}
+use Rattle.account.specs.WireLines.{WireReady}
 use Rattle.account.specs.SymbolLines.{ContentPlaced, isNamed}
 use Rattle.standing.specs.LineDone.{symbolAct, SymbolReady, LineFits}
 use Rattle.standing.specs.Standing.{Desk, layersOf}
 use Rattle.standing.specs.FileStanding.{InFile}
 use Rattle.standing.specs.Reading.{Standing, PlacedForm, LineReady}
 use Rattle.account.specs.FileLines.{FileReady}
-use Rattle.standing.proofs.PlacedTables.{lentOf, placed-ready}
+use Rattle.standing.proofs.PlacedTables.{lentOf, lent-ready, placed-ready}
+use Rattle.standing.proofs.OpenWires.{read-shelves, unread-shelves}
+use Rattle.standing.proofs.SerialKept.{serials-count, serials-few, kept-ordered}
 use Rattle.standing.proofs.OpenBlocks
 use Rattle.standing.proofs.OpenPlaces as places
 use Rattle.standing.proofs.SymbolStanding.{name-at-close}
@@ -82,20 +85,42 @@ module _ (c : Class) (spool : List ℕ) (k : ℕ) (form : LineForm) (w : Where) 
       go : (st : State) → OpenBlocks.InElement st → Standing c spool k d at st → getD (d .tally) 8 0 + getD (d .tally) 7 0 ≤ 4294967295
       go _ (OpenBlocks.here s) z = omega (arith, z .counted, early, ap (λ (t : List ℕ). getD t 7 0) (z .tally), ap (λ (t : List ℕ). getD t 8 0) (z .tally))
 
-  -- ── a wire ──
-  -- its elements were read, or a few blocks are open in it
-  wire-counts : d .now .block ≡ 12 → (d .now .figures < 4294967295) × (d .now .points < 4294967295)
-  wire-counts b = go st (OpenBlocks.in-wire c spool k d (InFile spool k d) st (z .block) b) z
-    where
-      go : (st : State) → OpenBlocks.InAWire st → Standing c spool k d at st → (d .now .figures < 4294967295) × (d .now .points < 4294967295)
-      go _ (OpenBlocks.here s m fs n x p) z = (omega (arith, z .block .2 .figures, z .counted, early), omega (arith, z .block .2 .points, z .counted, early))
-      go _ (OpenBlocks.unread s m fs n p) z = (omega (arith, z .block .2 .figures, z .counted, early), omega (arith, z .block .2 .points, z .block .1))
+  -- ── a placed symbol, and a wire ──
+  lent-now : LentReady (lentOf d)
+  lent-now = lent-ready c spool k d (InFile spool k d) at st z early
 
-  placed-lent : d .now .block ≡ 11 → LentReady (lentOf d) (partAt 32 (d .scratch)) × (d .now .figures < 4294967295)
+  placed-lent : d .now .block ≡ 11 → LentReady (lentOf d) × (d .now .figures < 4294967295)
   placed-lent b = go st (OpenBlocks.in-placed c spool k d (InFile spool k d) st (z .block) b) z
     where
-      go : (st : State) → OpenBlocks.InAPlaced st → Standing c spool k d at st → LentReady (lentOf d) (partAt 32 (d .scratch)) × (d .now .figures < 4294967295)
+      go : (st : State) → OpenBlocks.InAPlaced st → Standing c spool k d at st → LentReady (lentOf d) × (d .now .figures < 4294967295)
       go _ (OpenBlocks.here s m fs n o p) z = placed-ready c spool k (InFile spool k) d at at s m fs n o p z early
+
+  -- its elements were read, or a few blocks are open in it
+  wire-ready : d .now .block ≡ 12 → WireReady (lentOf d) (d .now) (d .scratch)
+  wire-ready b = go st (OpenBlocks.in-wire c spool k d (InFile spool k d) st (z .block) b) z
+    where
+      few-records : d .now .records < 18446744073709551615
+      few-records = omega (arith, y .countable)
+
+      go : (st : State) → OpenBlocks.InAWire st → Standing c spool k d at st → WireReady (lentOf d) (d .now) (d .scratch)
+      go _ (OpenBlocks.here s m fs n x p) z = record {
+        lent = lent-now;
+        open-wire = record {
+          figures = omega (arith, z .block .1 .wire .figures, z .counted, early);
+          points = omega (arith, z .block .1 .wire .points, z .counted, early);
+          records = few-records;
+        };
+        shelves = read-shelves c spool k d (InFile spool k d) at early s m fs n x p z;
+      }
+      go _ (OpenBlocks.unread s m fs n p) z = record {
+        lent = lent-now;
+        open-wire = record {
+          figures = omega (arith, z .block .2 .figures, z .counted, early);
+          points = omega (arith, z .block .2 .points, z .block .1);
+          records = few-records;
+        };
+        shelves = unread-shelves c spool k d (InFile spool k d) at early s m fs n p z;
+      }
 
   -- a symbol that closes
   content-placed : ContentPlaced (formIn spool form)
@@ -152,5 +177,9 @@ module _ (c : Class) (spool : List ℕ) (k : ℕ) (form : LineForm) (w : Where) 
     chain = λ b. (chain-figures b, places.chain-points c spool k d at st z b);
     text = text-figures;
     placed = placed-lent;
-    wire = wire-counts;
+    wire = wire-ready;
+    numbers = record {
+      count = omega (arith, serials-count c spool k d (InFile spool k d) at st z, serials-few c spool k d (InFile spool k d) at st z early);
+      ordered = kept-ordered c spool k d (InFile spool k d) at st z;
+    };
   }

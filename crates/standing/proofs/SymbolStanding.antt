@@ -36,7 +36,7 @@ use Rattle.account.specs.Records.{partAt, withPart}
 use Rattle.account.specs.Account.{atBlock}
 use Rattle.standing.specs.SoFar.{ownRecord, emptyRecord}
 use Rattle.standing.specs.Kept.{Scratch, Enters}
-use Rattle.standing.specs.Standing.{Desk, InSymbol, CharsHere, isText, Stands, LineHere, Counted, StepOut, rowBytes, symbolWith, symbolBytes, hideBytes, formSize, tallyOf, closedSerials}
+use Rattle.standing.specs.Standing.{Desk, InSymbol, CharsHere, isText, Stands, LineHere, Counted, StepOut, rowBytes, symbolWith, symbolBytes, hideBytes, formSize, tallyOf, closedLinks}
 use Rattle.account.specs.SymbolLines.{nameOf, isNamed, isNew, symbolEntry, symbolPart, symbolPut, symbolStep, SymbolMarks, SymbolLine, nameNumber}
 use Rattle.standing.proofs.RowOpeners.{isOpens, entry-opens, begin-row}
 use Rattle.standing.proofs.LineOrigins.{From, entry-from, begin-from}
@@ -475,7 +475,7 @@ module _ (c : Class) (spool : List ℕ) (short : length spool ≤ 61440) (k : �
             this = z .this;
             tally =
                 ap (λ (t : List ℕ). set t 9 (getD t 9 0 + 1)) (z .tally)
-                ∙ ap (λ (m : ℕ). set (tallyOf s (z .here) (length (s .drawing .layers)) (length (closedSerials s))) 9 m) one-more;
+                ∙ ap (λ (m : ℕ). set (tallyOf s (z .here) (length (s .drawing .layers)) (length (closedLinks s))) 9 m) one-more;
             symbols = all-names;
             layers = z .layers;
             few-layers = z .few-layers;

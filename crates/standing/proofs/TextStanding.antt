@@ -57,7 +57,7 @@ plain-rows b = refl
 
 closed-sight : (s : Set) (h : Home) (fs : List Figure) (n : ℕ) (o : Slots) → sight (texts s h fs n o) ≡ sight (figures s h (fs ++ lettering n o ∷ []))
 closed-sight s h fs n o =
-    ap (λ (u : List ℕ). record { set = sight (texts s h fs n o) .set; layers = s .drawing .layers; serials = u; used = usedOf (figures s h fs); inside = inside (figures s h fs); counts = true })
+    ap (λ (u : List (List ℕ)). record { set = sight (texts s h fs n o) .set; layers = s .drawing .layers; serials = u; used = usedOf (figures s h fs); inside = inside (figures s h fs); counts = true })
     (plain-serials s h fs (lettering n o) refl)
 
 module _ (c : Class) (spool : List ℕ) (k : ℕ) (FileHere : Desk → Set → ℕ → Held → ℕ → Type 0) (d : Desk) (at to own : ℕ) (l : Line) (w : Where) (form : LineForm)

@@ -1,6 +1,6 @@
 -- A line at the top level: from the code's answer to the step that the definitions make.
 use Prim.Native.Nat.{ℕ, zero, suc, _+_, _*_, _≤_, _<_}
-use mathlib.Core.Bool.{Bool, true, false, _&&_}
+use mathlib.Core.Bool.{Bool, true, false, cond, _&&_, not}
 use mathlib.Core.List.{List, [], _∷_, _++_, map, append-nil}
 use mathlib.Core.Path.{_≡_, refl, sym, _∙_, ap, subst}
 use native.Mathlib.Omega.{arith}
@@ -17,7 +17,7 @@ use Rattle.rules.specs.Lines.{Rest, Form, ignored, wrong, close, eof, keyed, fo
 use Rattle.rules.specs.Values.{Known}
 use Rattle.rules.specs.Rows.{Rule, blank, rowsThere, rowsAtLimit, Act, stay, entry, begin, shut, refuse, act}
 use Rattle.rules.specs.Blocks.{topTable, fileTables, blankHeld, drawingTable}
-use Rattle.rules.specs.Sets.{Layer, Drawing, Contents, LayerBlock, Set, isFirst, withRecords, knownOf, serialsIn, serialsOfBlock, usedIn}
+use Rattle.rules.specs.Sets.{Layer, Drawing, Contents, LayerBlock, Set, isFirst, withRecords, knownOf, usedIn}
 use Rattle.rules.specs.VolumesAndTotals.{allUsed, layersUsed, countedAll}
 use Rattle.rules.specs.Machine.{Line, State, top, file, drawing, defines, elements, ended, byAct, openTop, onTop, fileKinds, unlimited}
 use Rattle.rules.specs.LineByLine.{stepIn}
@@ -32,9 +32,10 @@ use Rattle.account.specs.declared.Step.the-variants as S
 use Rattle.account.specs.Records.{partAt, withPart}
 use Rattle.account.specs.Account.{atBlock, headAt}
 use Rattle.standing.specs.Kept.{Begins, Enters}
-use Rattle.standing.specs.Standing.{Desk, Lengths, Bare, First, Stands, LineHere, Counted, StepOut, closedSerials, tallyOf}
+use Rattle.account.specs.SerialNumbers.{bytesLent, partnersMet}
+use Rattle.standing.specs.Standing.{Numbers, Desk, Lengths, Bare, First, Stands, LineHere, Counted, StepOut, closedLinks, tallyOf, linksIn, linksOfBlock}
 use Rattle.standing.specs.FileStanding.{InFile}
-use Rattle.account.specs.TopLines.{Answered, allOf, totalOf, layersOf, eofNow, TopLent, topLent, recordsTaken, unmarked, headerBegun, fileTakes, openedNow, openedLent, blockNow, keyNow, keyLent, topAct, topNow, topLentBy}
+use Rattle.account.specs.TopLines.{stepOf, Answered, allOf, totalOf, layersOf, eofNow, TopLent, topLent, recordsTaken, unmarked, headerBegun, fileTakes, openedNow, openedLent, blockNow, keyNow, keyLent, topAct, topNow, topLentBy}
 use Rattle.account.proofs.RowsTaken.{begin-taken}
 use Rattle.account.proofs.Lent.{with-same}
 use Rattle.standing.proofs.Standings.{sight, deskKept, stands-on, known, first-volume, stands-with, stands-still}
@@ -42,6 +43,7 @@ use Rattle.standing.proofs.HeadRecords.{head-put}
 use Rattle.standing.proofs.Completing.{completed-by, goes-still, goes-entering, goes-opening}
 use Rattle.standing.proofs.OpenersKept.{file-opens, drawing-opens, defines-opens, elements-opens}
 use Rattle.standing.proofs.EntriesKept.{eof-enters}
+use Rattle.standing.proofs.PartnersMet as partners
 use Rattle.standing.proofs.FileOpening.{begun-long, header-same, file-begins}
 
 -- ── what is computed of the tables ──
@@ -77,8 +79,8 @@ all-marked (y ∷ ls) n (b ∷ bs) us h f =
     up n j = omega arith
 
 -- ── a volume of which nothing is read ──
-blockless-serials : (s : Set) → s .now .blocks ≡ [] → serialsIn s ≡ closedSerials s
-blockless-serials s e = ap (λ (y : List LayerBlock). closedSerials s ++ flat (map serialsOfBlock y)) e ∙ append-nil (closedSerials s)
+blockless-serials : (s : Set) → s .now .blocks ≡ [] → linksIn s ≡ closedLinks s
+blockless-serials s e = ap (λ (y : List LayerBlock). closedLinks s ++ flat (map linksOfBlock y)) e ∙ append-nil (closedLinks s)
 
 blockless-used : (v : Contents) → v .blocks ≡ [] → usedIn v ≡ []
 blockless-used v e = ap (λ (y : List LayerBlock). map (λ (i : LayerBlock). i .layer) y) e
@@ -159,7 +161,7 @@ module _ (c : Class) (spool : List ℕ) (k : ℕ) (d : Desk) (at to own : ℕ) (
   elements-begin z step =
       let n : Now = atBlock (d .now) 7 0 in
       let none : s .now .blocks ≡ [] = z .block .2 .1 in
-      let serial : closedSerials s ≡ serialsIn s = sym (blockless-serials s none) in
+      let serial : closedLinks s ≡ linksIn s = sym (blockless-serials s none) in
       let entered : Enters c (top s 3) (elements s) (d .scratch) = elements-opens c s (d .scratch) none (z .scratch) in
       goes-entering c spool k (InFile spool k) own l to (top s 3) (topDesk d (d .marks) (unmarked (d .used)) (d .header) (d .scratch)) n (elements s) step
       (completed-by (d .now) n 0 7 (z .block .0) refl) refl refl (entered .same)
@@ -178,16 +180,16 @@ module _ (c : Class) (spool : List ℕ) (k : ℕ) (d : Desk) (at to own : ℕ) (
         scratch = entered .scratch;
         here = z .here;
         this = z .this;
-        tally = z .tally ∙ ap (λ (y : List ℕ). tallyOf s (z .here) (length (s .drawing .layers)) (length y)) serial;
+        tally = z .tally ∙ ap (λ (y : List (List ℕ)). tallyOf s (z .here) (length (s .drawing .layers)) (length y)) serial;
         symbols = z .symbols;
         layers = z .layers;
         few-layers = z .few-layers;
-        serials = subst (λ (y : List ℕ). take (length y) (d .serials) ≡ y) serial (z .serials);
+        serials = subst (λ (y : List (List ℕ)). Numbers spool (take (length y) (d .serials)) y) serial (z .serials);
         used = λ _ j h. getD-replicate (length (d .used)) j false false (omega (arith, h, z .lengths .used)) ∙ ap (hasNumber j) (sym (blockless-used (s .now) none));
         used-all = λ j h. z .used-all j h ∙ ap (λ (y : List ℕ). hasNumber j (flat (map usedIn (s .volumes)) ++ y)) (sym (blockless-used (s .now) none));
         counted = omega (arith, z .counted, later);
         named = omega (arith, z .named, later);
-        numbered = subst (λ (y : List ℕ). 42 * length y + 20 ≤ to + 20) serial (omega (arith, z .numbered, later));
+        numbered = subst (λ (y : List (List ℕ)). 27 * length y + 3 ≤ to + 3 + bytesLent (take (length y) (d .serials))) serial (omega (arith, z .numbered, later));
         block = (refl, z .block .2 .0);
       })
 
@@ -205,7 +207,7 @@ module _ (c : Class) (spool : List ℕ) (k : ℕ) (d : Desk) (at to own : ℕ) (
       let rec₁ : List ℤ = headAt 0 3 0 w (partAt 0 (d .scratch)) in
       let t₁ : List ℤ = withPart 0 rec₁ (d .scratch) in
       let v : sight (top s 1) ≡ sight st′ =
-      ap (λ (y : List Layer). record { set = sight st′ .set; layers = y; serials = closedSerials s; used = []; inside = false; counts = true }) (bare .layers) in
+      ap (λ (y : List Layer). record { set = sight st′ .set; layers = y; serials = closedLinks s; used = []; inside = false; counts = true }) (bare .layers) in
       let begun : Begins c (top s 1) st′ 1 t₁ =
       subst (λ (u : List ℤ). Begins c (top s 1) st′ 1 (withPart 0 u (d .scratch)))
       (sym (head-put 3 0 1 (l .line) w (partAt 0 (d .scratch)) (z .scratch .own) (x .volume ∙ phase .volume) (x .line))) (drawing-opens c s (l .line) (d .scratch) (z .scratch)) in
@@ -290,23 +292,51 @@ module _ (c : Class) (spool : List ℕ) (k : ℕ) (d : Desk) (at to own : ℕ) (
     code-ends : (eqb (d .now .part) 4 && w .ends) ≡ ends
     code-ends = ap (λ (i : ℕ). eqb i 4 && w .ends) (z .block .1) ∙ ap (λ (t : Bool). eqb m 4 && t) (x .ends)
 
-    by-eof : (p q r : Bool) → ends ≡ p → stepIn (unlimited c) l st ≡ unless p 9 (unless q 14 (unless r 17 (got (ended s)))) → (y : Step)
-        → Answered (unless p 9 (unless q 14 (unless r 17 (got (atBlock (d .now) 15 0))))) (b ≡ lentOf d) y → Out y
-    by-eof false q r h a y v = subst Out (sym (v .answer)) a
-    by-eof true false r h a y v = subst Out (sym (v .answer)) a
-    by-eof true true false h a y v = subst Out (sym (v .answer)) a
-    by-eof true true true h a y v =
-        let four : m ≡ 4 = eqb-true m 4 (and-left (eqb m 4) (isNil (l .next) && l .last) h) in
-        lent-is m (lentOf d) (atBlock (d .now) 15 0) y v
-        (record-same m (d .marks) (d .used) (d .header) (S.Go (atBlock (d .now) 15 0))
-        (subst (λ (i : ℕ). Stood i → stepFrom i ≡ got (ended s) → From i (topDesk d (d .marks) (d .used) (d .header) (d .scratch)) (S.Go (atBlock (d .now) 15 0))) (sym four) set-ends z a))
+    -- ── then partners ──
+    abbrev fails : Bool
+    fails = partners.fails c spool k d (InFile spool k d) at s m z
 
-    on-eof : l .form ≡ eof → (y : Step) → Answered (eofNow (d .now) w (d .tally) (d .usedAll)) (b ≡ lentOf d) y → Out y
+    -- "21, partner not found, at EOF after 17"
+    abbrev met : Step → Step
+    met y = partnersMet c spool (d .tally) (d .serials) y
+
+    -- a line that does not end the set
+    abbrev endsSet : Step → Bool
+    endsSet (S.Go n) = eqb (n .block) 15
+    endsSet (S.Skip n) = false
+    endsSet (S.Stop n) = false
+
+    goes-on : (y : Step) → endsSet y ≡ false → Out y → Out (met y)
+    goes-on (S.Go n) e o = subst Out (sym (ap (λ (t : Bool). cond (t && fails) (S.Stop 21) (S.Go n)) e)) o
+    goes-on (S.Skip n) e o = o
+    goes-on (S.Stop n) e o = o
+
+    abbrev endedNow : Now
+    endedNow = atBlock (d .now) 15 0
+
+    by-eof : (p q r t : Bool) → ends ≡ p → fails ≡ t → stepIn (unlimited c) l st ≡ unless p 9 (unless q 14 (unless r 17 (unless (not t) 21 (got (ended s))))) → (y : Step)
+        → Answered (unless p 9 (unless q 14 (unless r 17 (got endedNow)))) (b ≡ lentOf d) y → Out (met y)
+    by-eof false q r t h f a y v = subst (λ (i : Step). Out (met i)) (sym (v .answer)) a
+    by-eof true false r t h f a y v = subst (λ (i : Step). Out (met i)) (sym (v .answer)) a
+    by-eof true true false t h f a y v = subst (λ (i : Step). Out (met i)) (sym (v .answer)) a
+    by-eof true true true true h f a y v =
+        subst (λ (i : Step). Out (met i)) (sym (v .answer)) (subst Out (sym (ap (λ (t : Bool). cond t (S.Stop 21) (S.Go endedNow)) f)) a)
+    by-eof true true true false h f a y v =
+        let four : m ≡ 4 = eqb-true m 4 (and-left (eqb m 4) (isNil (l .next) && l .last) h) in
+        let goes : Out y =
+        lent-is m (lentOf d) endedNow y v
+        (record-same m (d .marks) (d .used) (d .header) (S.Go endedNow)
+        (subst (λ (i : ℕ). Stood i → stepFrom i ≡ got (ended s) → From i (topDesk d (d .marks) (d .used) (d .header) (d .scratch)) (S.Go endedNow)) (sym four) set-ends z a)) in
+        subst (λ (i : Step). Out (met i)) (sym (v .answer)) (subst Out (sym (ap (λ (t : Bool). cond t (S.Stop 21) (S.Go endedNow)) f)) (subst Out (v .answer) goes))
+
+    on-eof : l .form ≡ eof → (y : Step) → Answered (eofNow (d .now) w (d .tally) (d .usedAll)) (b ≡ lentOf d) y → Out (met y)
     on-eof a y v =
-        by-eof ends (layersUsed s) (countedAll s) refl (ap (onTop (unlimited c) l s m) a) y
-        (subst (λ (t : Bool). Answered (unless t 9 (unless (layersUsed s) 14 (unless (countedAll s) 17 (got (atBlock (d .now) 15 0))))) (b ≡ lentOf d) y) code-ends
-        (subst (λ (t : Bool). Answered (unless (eqb (d .now .part) 4 && w .ends) 9 (unless t 14 (unless (countedAll s) 17 (got (atBlock (d .now) 15 0))))) (b ≡ lentOf d) y) (sym used-layers)
-        (subst (λ (t : Bool). Answered (unless (eqb (d .now .part) 4 && w .ends) 9 (unless (all (λ t. t) (take (layersOf (d .tally)) (d .usedAll))) 14 (unless t 17 (got (atBlock (d .now) 15 0))))) (b ≡ lentOf d) y)
+        by-eof ends (layersUsed s) (countedAll s) fails refl refl
+        (ap (onTop (unlimited c) l s m) a
+        ∙ ap (λ (t : Bool). unless ends 9 (unless (layersUsed s) 14 (unless (countedAll s) 17 (unless t 21 (got (ended s)))))) (partners.fails-so c spool k d (InFile spool k d) at s m z)) y
+        (subst (λ (t : Bool). Answered (unless t 9 (unless (layersUsed s) 14 (unless (countedAll s) 17 (got endedNow)))) (b ≡ lentOf d) y) code-ends
+        (subst (λ (t : Bool). Answered (unless (eqb (d .now .part) 4 && w .ends) 9 (unless t 14 (unless (countedAll s) 17 (got endedNow)))) (b ≡ lentOf d) y) (sym used-layers)
+        (subst (λ (t : Bool). Answered (unless (eqb (d .now .part) 4 && w .ends) 9 (unless (all (λ t. t) (take (layersOf (d .tally)) (d .usedAll))) 14 (unless t 17 (got endedNow)))) (b ≡ lentOf d) y)
         (sym all-counted) v)))
 
     -- ── a block opens ──
@@ -364,18 +394,38 @@ module _ (c : Class) (spool : List ℕ) (k : ℕ) (d : Desk) (at to own : ℕ) (
         ∙ ap (λ (t : List Rule). act (knownOf s) t (digits 0 0) (replicate 4 false) f) top-table
         ∙ ap (λ (t : List Bool). act (knownOf s) topTable (digits 0 0) t f) none-full
 
+    still-top : eqb (d .now .block) 15 ≡ false
+    still-top = ap (λ (i : ℕ). eqb i 15) (z .block .0)
+
+    -- no key ends the set
+    key-goes : (o : Act) → endsSet (stepOf (keyNow first (d .now) o)) ≡ false
+    key-goes stay = still-top
+    key-goes (entry j v) = refl
+    key-goes (begin i j v) = go (eqb j (d .now .part)) j
+      where
+        go : (t : Bool) (j : ℕ) → endsSet (stepOf (unless t 9 (got (openedNow first (d .now) j)))) ≡ false
+        go false j = refl
+        go true zero = refl
+        go true (suc zero) = refl
+        go true (suc (suc zero)) = refl
+        go true (suc (suc (suc j))) = refl
+    key-goes shut = refl
+    key-goes (refuse n) = refl
+
     by-form : (f : Form) → l .form ≡ f → (y : Step)
-        → Answered (topNow codeKnown first (d .now) w (d .tally) (d .usedAll) f) (b ≡ topLentBy codeKnown first w (lentOf d) f) y → Out y
-    by-form ignored a y v = on-stay (ap (onTop (unlimited c) l s m) a) y v
-    by-form (wrong n) a y v = subst Out (sym (v .answer)) (ap (onTop (unlimited c) l s m) a)
-    by-form close a y v = subst Out (sym (v .answer)) (ap (onTop (unlimited c) l s m) a)
+        → Answered (topNow codeKnown first (d .now) w (d .tally) (d .usedAll) f) (b ≡ topLentBy codeKnown first w (lentOf d) f) y → Out (met y)
+    by-form ignored a y v = goes-on y (ap endsSet (v .answer) ∙ still-top) (on-stay (ap (onTop (unlimited c) l s m) a) y v)
+    by-form (wrong n) a y v = goes-on y (ap endsSet (v .answer)) (subst Out (sym (v .answer)) (ap (onTop (unlimited c) l s m) a))
+    by-form close a y v = goes-on y (ap endsSet (v .answer)) (subst Out (sym (v .answer)) (ap (onTop (unlimited c) l s m) a))
     by-form eof a y v = on-eof a y v
     by-form (keyed key rest) a y v =
-        by-act key rest a (act (knownOf s) topTable (digits 0 0) (rowsAtLimit 0 topTable) (keyed key rest)) refl y
-        (subst (λ (o : Act). Answered (keyNow first (d .now) o) (b ≡ keyLent first w (lentOf d) o) y) (top-act (keyed key rest)) v)
+        goes-on y (ap endsSet (v .answer) ∙ key-goes (topAct codeKnown (keyed key rest)))
+        (by-act key rest a (act (knownOf s) topTable (digits 0 0) (rowsAtLimit 0 topTable) (keyed key rest)) refl y
+        (subst (λ (o : Act). Answered (keyNow first (d .now) o) (b ≡ keyLent first w (lentOf d) o) y) (top-act (keyed key rest)) v))
 
-    pub top-line : (r : Step)
+    -- y: what the line did by itself, r: with the partners tested where it ended the set
+    pub top-line : (y r : Step)
         → Answered (topNow codeKnown (eqb k 1) (d .now) w (d .tally) (d .usedAll) (formIn spool form))
-        (b ≡ topLentBy codeKnown (eqb k 1) w (topLent (d .marks) (d .used) (d .header) (partAt 0 (d .scratch))) (formIn spool form)) r
-        → Out r
-    top-line r v = by-form (formIn spool form) (x .is) r v
+        (b ≡ topLentBy codeKnown (eqb k 1) w (topLent (d .marks) (d .used) (d .header) (partAt 0 (d .scratch))) (formIn spool form)) y
+        → r ≡ partnersMet c spool (d .tally) (d .serials) y → Out r
+    top-line y r v e = subst Out (sym e) (by-form (formIn spool form) (x .is) y v)

@@ -7,18 +7,21 @@ use native.Mathlib.Omega.{arith}
 use borrow.Author.Tests.{ltb-true, ne-eqb}
 use lib.Dec.{eqb, ltb}
 use lib.IntN.{ℤ, pos}
-use lib.ListN.{length, take, drop, replicate, length-append}
+use lib.ListN.{length, getD, set, take, drop, replicate, length-append, length-set}
+use lib.Seq.{take-all, drop-at}
 use Rattle.rules.specs.declared.Class.{Class}
 use Rattle.rules.specs.declared.LineForm.{LineForm}
 use Rattle.rules.specs.RefusalNumbers.{Got, got, bad, unless}
-use Rattle.rules.specs.RangeClass.{Skip, passes, deeper, noForm, skipOf, mostDepth}
+use Rattle.rules.specs.RangeClass.{digits, digitsOf, Skip, passes, deeper, noForm, skipOf, mostDepth}
 use Rattle.rules.specs.Lines.{Form, ignored, wrong, close, eof, keyed, formIn}
 use Rattle.rules.specs.Rows.{Held}
-use Rattle.rules.specs.Sets.{Figure, passed, Set}
+use Rattle.rules.specs.Figures.{wireTable}
+use Rattle.rules.specs.Sets.{Figure, passed, Set, wireRange}
 use Rattle.rules.specs.Machine.{Line, inLayer, State, figures, skipping, wireUnread, unlimited}
 use Rattle.rules.specs.PlacedSymbol.{bySkip, skipDeeper, skipShut, onSkipping}
 use Rattle.rules.specs.LineByLine.{stepIn}
-use Rattle.rules.specs.RecordTable.{wireStart, unreadNumbers}
+use Rattle.rules.specs.RecordTable.{markUnread, wireStart}
+use Rattle.rules.proofs.RecordLengths.{length-unread}
 use Rattle.account.specs.declared.Now.{Now}
 use Rattle.account.specs.declared.Where.{Where}
 use Rattle.account.specs.declared.Step.{Step}
@@ -35,7 +38,7 @@ use Rattle.standing.specs.Standing.{Desk, InWire, Stands, Counted, LineH
 use Rattle.standing.proofs.Completing.{goes-still, goes-wiring, completed-by, number-by}
 use Rattle.standing.proofs.ScratchKept.{scratch-zeros}
 use Rattle.standing.proofs.WireScratch.{unread-scratch, scratch-unread, unread-closed, cleared-two}
-use Rattle.standing.proofs.WireKept.{unread-fills, unread-shut-sight}
+use Rattle.standing.proofs.WireKept.{unreadOf, unread-fills, unread-shut-sight}
 use Rattle.standing.proofs.Standings.{deskWith, stands-on, stands-still}
 use Rattle.standing.proofs.HomeFacts.{home-stays}
 
@@ -58,6 +61,11 @@ module _ (s : Set) (m : ℕ) (fs : List Figure) (n q : ℕ) where
       go passes = refl
       go deeper = refl
       go noForm = refl
+
+unread-long : (range k volume n : ℕ) → length (unreadOf range k volume n) ≡ 64
+unread-long range k volume n =
+    length-set (set (markUnread (digits 0 0) (digitsOf range) wireTable (wireStart k volume n)) 31 (pos 3)) 63 (pos 3)
+    ∙ length-set (markUnread (digits 0 0) (digitsOf range) wireTable (wireStart k volume n)) 31 (pos 3) ∙ length-unread (digits 0 0) (digitsOf range) wireTable (wireStart k volume n)
 
 -- the end of a skipped block in it
 inner-shut : (s : Set) (m : ℕ) (fs : List Figure) (n q : ℕ) → skipShut s m fs n wireUnread (suc q) ≡ got (skipping s m fs n wireUnread q)
@@ -120,21 +128,23 @@ module _ (c : Class) (spool : List ℕ) (k : ℕ) (FileHere : Desk → Set → �
 
   -- ── a `}` ──
   -- its own
-  on-end : (z : Stands c spool k d (FileHere d) at (skipping s m fs n wireUnread 0)) (y : Counted c own d (skipping s m fs n wireUnread 0)) (t₁ : List ℤ) → did 0 z y t₁ ≡ K.Shut → t₁ ≡ markedUnread (d .scratch)
+  on-end : (z : Stands c spool k d (FileHere d) at (skipping s m fs n wireUnread 0)) (y : Counted c own d (skipping s m fs n wireUnread 0)) (t₁ : List ℤ) → did 0 z y t₁ ≡ K.Shut → t₁ ≡ markedUnread (wireRange s) (d .scratch)
       → Out 0 z y t₁ (S.Go (figureDone (d .now)))
   on-end z y t₁ a p =
       let now : Now = figureDone (d .now) in
       let st : State = skipping s m fs n wireUnread 0 in
       let st′ : State = figures s (inLayer m) (fs ++ passed n ∷ []) in
       let inw : InWire spool k (d .now) (d .marks) (d .inner) s m fs 2 0 = z .block .2 in
-      let two : List ℤ = unreadNumbers (wireStart m (volumeOf s) n) in
-      let put : t₁ ≡ emptyRecord ++ two = p ∙ ap markedUnread (unread-scratch (d .scratch) s m fs n 0 (z .scratch)) ∙ unread-closed m (volumeOf s) n in
-      let there : take 64 (drop 32 t₁) ≡ two = ap (λ (u : List ℤ). take 64 (drop 32 u)) put in
+      let two : List ℤ = unreadOf (wireRange s) m (volumeOf s) n in
+      let put : t₁ ≡ emptyRecord ++ two = p ∙ ap (markedUnread (wireRange s)) (unread-scratch (d .scratch) s m fs n 0 (z .scratch)) ∙ unread-closed m (volumeOf s) n (wireRange s) in
+      let long : length two ≡ 64 = unread-long (wireRange s) m (volumeOf s) n in
+      let there : take 64 (drop 32 t₁) ≡ two =
+      ap (λ (u : List ℤ). take 64 (drop 32 u)) put ∙ ap (take 64) (drop-at emptyRecord two 32 refl) ∙ take-all 64 two (omega (arith, long)) in
       let cleared : withPart 64 emptyRecord (withPart 32 emptyRecord t₁) ≡ replicate 96 (pos 0) =
-      ap (λ (u : List ℤ). withPart 64 emptyRecord (withPart 32 emptyRecord u)) put ∙ cleared-two two refl in
+      ap (λ (u : List ℤ). withPart 64 emptyRecord (withPart 32 emptyRecord u)) put ∙ cleared-two two long in
       goes-wiring c spool k FileHere own l to st (d₁ 0 z y t₁) now st′ (step-is 0 z y t₁ K.Shut a) (d .now .records - 2) (completed-by (d .now) now 12 8 (z .block .0) refl)
-      (number-by (d .now) now own 12 8 (z .block .0) refl ∙ ap (λ (i : ℕ). d .now .records - (i + 2)) (inw .points)) refl refl (ap length put)
-      (unread-fills c s m fs n (d .now .records) (y .size) (take 64 (drop 32 t₁)) there)
+      (number-by (d .now) now own 12 8 (z .block .0) refl ∙ ap (λ (i : ℕ). d .now .records - (i + 2)) (inw .points)) refl refl (ap length put ∙ omega (arith, length-append emptyRecord two, long))
+      (unread-fills c s m fs n (d .now .records) (y .size) (take 64 (drop 32 t₁)) there (ap length there ∙ long))
       (stands-on c spool k FileHere d at to st st′ z now (d .marks) (d .inner) (withPart 64 emptyRecord (withPart 32 emptyRecord t₁)) (unread-shut-sight s m fs n 0) (z .lengths .marks) (z .lengths .inner)
       (subst (λ (u : List ℤ). Scratch u st′) (sym cleared) (scratch-zeros st′ refl refl refl))
       (omega (arith, z .counted, x .bytes, length-append fs (passed n ∷ []))) (omega (arith, z .named, later)) (omega (arith, z .numbered, later))
@@ -142,27 +152,29 @@ module _ (c : Class) (spool : List ℕ) (k : ℕ) (FileHere : Desk → Set → �
 
   -- its own, or that of the last block that opened in it
   on-shut : (q : ℕ) (z : Stands c spool k d (FileHere d) at (skipping s m fs n wireUnread q)) (y : Counted c own d (skipping s m fs n wireUnread q)) (t₁ : List ℤ) → did q z y t₁ ≡ K.Shut
-      → t₁ ≡ cond (eqb (d .now .points) 0) (markedUnread (d .scratch)) (d .scratch)
+      → t₁ ≡ cond (eqb (d .now .points) 0) (markedUnread (wireRange s) (d .scratch)) (d .scratch)
       → Out q z y t₁ (cond (eqb (d .now .points) 0) (S.Go (figureDone (d .now))) (S.Go (openSkipped (d .now) (d .now .points - 1))))
   on-shut zero z y t₁ a p =
       let none-open : eqb (d .now .points) 0 ≡ true = ap (λ (i : ℕ). eqb i 0) (z .block .2 .points) in
       subst (λ (b : Bool). Out 0 z y t₁ (cond b (S.Go (figureDone (d .now))) (S.Go (openSkipped (d .now) (d .now .points - 1))))) (sym none-open)
-      (on-end z y t₁ a (p ∙ ap (λ (b : Bool). cond b (markedUnread (d .scratch)) (d .scratch)) none-open))
+      (on-end z y t₁ a (p ∙ ap (λ (b : Bool). cond b (markedUnread (wireRange s) (d .scratch)) (d .scratch)) none-open))
   on-shut (suc q) z y t₁ a p =
       let some-open : eqb (d .now .points) 0 ≡ false = ne-eqb (d .now .points) 0 (λ e. absurd (omega (arith, e, z .block .2 .points))) in
       subst (λ (b : Bool). Out (suc q) z y t₁ (cond b (S.Go (figureDone (d .now))) (S.Go (openSkipped (d .now) (d .now .points - 1))))) (sym some-open)
       (on-moved (suc q) z y t₁ (d .now .points - 1) q (omega (arith, z .block .2 .points)) (omega (arith, z .block .1)) (step-is (suc q) z y t₁ K.Shut a ∙ inner-shut s m fs n q)
-      (p ∙ ap (λ (b : Bool). cond b (markedUnread (d .scratch)) (d .scratch)) some-open))
+      (p ∙ ap (λ (b : Bool). cond b (markedUnread (wireRange s) (d .scratch)) (d .scratch)) some-open))
 
   -- ── the line ──
   module _ (q : ℕ) (z : Stands c spool k d (FileHere d) at (skipping s m fs n wireUnread q)) (y : Counted c own d (skipping s m fs n wireUnread q)) (t₁ : List ℤ) where
-    by-skip : (f : Skipped) → did q z y t₁ ≡ f → t₁ ≡ skippedPut (d .now) (d .scratch) f → Out q z y t₁ (skippedStep (d .now) f)
+    by-skip : (f : Skipped) → did q z y t₁ ≡ f → t₁ ≡ skippedPut (wireRange s) (d .now) (d .scratch) f → Out q z y t₁ (skippedStep (d .now) f)
     by-skip K.Passes a p = on-passed q z y t₁ a p
     by-skip K.Deeper a p = on-deeper q z y t₁ a p (ltb (d .now .points) mostDepth) refl
     by-skip K.Shut a p = on-shut q z y t₁ a p
     by-skip (K.Refuse i) a p = on-refuse q z y t₁ i a
 
-    pub unread-line : (r : Step) → SkippedLine (d .now) (skippedBy (formIn spool form)) (d .scratch) t₁ r → Out q z y t₁ r
-    unread-line r f =
+    pub unread-line : (r : Step) → SkippedLine (getD (d .tally) 12 0) (d .now) (skippedBy (formIn spool form)) (d .scratch) t₁ r → Out q z y t₁ r
+    unread-line r g =
+        let range-here : getD (d .tally) 12 0 ≡ wireRange s = ap (λ (u : List ℕ). getD u 12 0) (z .tally) in
+        let f : SkippedLine (wireRange s) (d .now) (skippedBy (formIn spool form)) (d .scratch) t₁ r = subst (λ (i : ℕ). SkippedLine i (d .now) (skippedBy (formIn spool form)) (d .scratch) t₁ r) range-here g in
         let is : skippedBy (formIn spool form) ≡ did q z y t₁ = ap skippedBy (sym (x .is)) in
-        subst (Out q z y t₁) (sym (f .answer ∙ ap (skippedStep (d .now)) is)) (by-skip (did q z y t₁) refl (f .records ∙ ap (skippedPut (d .now) (d .scratch)) is))
+        subst (Out q z y t₁) (sym (f .answer ∙ ap (skippedStep (d .now)) is)) (by-skip (did q z y t₁) refl (f .records ∙ ap (skippedPut (wireRange s) (d .now) (d .scratch)) is))

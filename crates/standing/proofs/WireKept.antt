@@ -7,21 +7,22 @@ use mathlib.Core.Option.{some}
 use mathlib.Core.Path.{_≡_, refl, sym, _∙_, ap}
 use native.Mathlib.Omega.{arith}
 use lib.IntN.{ℤ, pos}
-use lib.ListN.{length, length-append, length-set}
+use lib.ListN.{length, take, drop, take-append-drop, length-append, length-set}
 use Rattle.rules.specs.declared.Class.{Class}
 use Rattle.rules.specs.Base.{flat}
+use Rattle.rules.specs.RangeClass.{digits, digitsOf}
 use Rattle.rules.specs.Values.{nums}
 use Rattle.rules.specs.Figures.{wireTable}
 use Rattle.rules.specs.Sets.{Edge, Wire, Figure, wired, passed, Set, wireRange, withRecords}
 use Rattle.rules.specs.Machine.{inLayer, elements, figures, placing, skipping, wireBlock, wireUnread, noWire}
-use Rattle.rules.specs.RecordTable.{putSlot, ruleAt, start, twoOf, wireStart, wireNumbers, unreadNumbers, edgeRecord, edgeRecords, kindEdge}
+use Rattle.rules.specs.RecordTable.{putSlot, ruleAt, start, twoOf, markUnread, viewOf, wireStart, wireValues, unreadNumbers, edgeRecord, edgeRecords, kindEdge}
 use Rattle.rules.specs.Wires.{withElement}
 use Rattle.rules.proofs.Chains.{flat-append, map-append}
 use Rattle.rules.proofs.RecordLengths.{length-slot}
 use Rattle.account.specs.Records.{partAt}
 use Rattle.standing.specs.SoFar.{volumeOf, layersRecords, homeFigure, emptyRecord}
 use Rattle.standing.specs.Kept.{figuresShut, shutSoFar, Opens, Fills, FillsAll}
-use Rattle.standing.specs.Standing.{homeUsed, serialsWith}
+use Rattle.standing.specs.Standing.{homeUsed, linksWith, linksIn, figureLinks}
 use Rattle.standing.proofs.KeptLaws.{fills-one}
 use Rattle.standing.proofs.MoreRecords.{flat-map-more}
 use Rattle.standing.proofs.ClosesKept.{shut-taken}
@@ -59,6 +60,13 @@ edge-fills c s ks m fs n w e records all t put =
     ∙ sym (append-assoc fore (emptyRecord ∷ emptyRecord ∷ old) (partAt 0 t ∷ [])))
 
 -- ── its end: its two are complete, before its elements' ──
+-- of a wire that is skipped whole
+abbrev pub unreadOf : ℕ → ℕ → ℕ → ℕ → List ℤ
+unreadOf range k volume n = unreadNumbers (markUnread (digits 0 0) (digitsOf range) wireTable (wireStart k volume n))
+
+two-of : (x : List ℤ) → flat (twoOf x) ≡ x
+two-of x = ap (λ (u : List ℤ). take 32 x ++ u) (append-nil (drop 32 x)) ∙ take-append-drop 32 x
+
 module _ (c : Class) (s : Set) (m : ℕ) (fs : List Figure) (n : ℕ) where
   abbrev fore : List (List ℤ)
   fore = figuresShut c s (inLayer m) fs
@@ -84,49 +92,53 @@ module _ (c : Class) (s : Set) (m : ℕ) (fs : List Figure) (n : ℕ) where
       ∙ sym (append-assoc (layersRecords c s) (flat (map (homeFigure c s (inLayer m)) fs)) (homeFigure c s (inLayer m) f))
 
   pub wire-fills : (w : Wire) (records : ℕ) → length (flat (shutSoFar c (placing s m fs n (wireBlock w) 0))) ≡ 32 * records → (us : List ℤ)
-      → us ≡ wireNumbers (wireRange s) (length (w .elements)) (wireStart m (volumeOf s) n)
+      → us ≡ wireValues (viewOf c s) w (wireStart m (volumeOf s) n) → length us ≡ 64
       → FillsAll c (placing s m fs n (wireBlock w) 0) (figures s (inLayer m) (fs ++ wired n w ∷ [])) 0 (records - (length (w .elements) + 2)) us
-  wire-fills w records all us q =
+  wire-fills w records all us q long =
       let old : List (List ℤ) = edgeRecords m (volumeOf s) (w .elements) in
       record {
         fore = fore;
-        made = twoOf (wireNumbers (wireRange s) (length (w .elements)) (wireStart m (volumeOf s) n));
+        made = twoOf (wireValues (viewOf c s) w (wireStart m (volumeOf s) n));
         behind = old;
         before = append-nil (fore ++ emptyRecord ∷ emptyRecord ∷ old);
         after = one-more (wired n w);
-        are = sym q;
+        are = two-of (wireValues (viewOf c s) w (wireStart m (volumeOf s) n)) ∙ sym q;
         size = before-two old (length (w .elements)) records (edges-size m (volumeOf s) (w .elements)) all;
-        long = ap length q;
+        long = long;
       }
 
-  pub unread-fills : (records : ℕ) → length (flat (shutSoFar c (skipping s m fs n wireUnread 0))) ≡ 32 * records → (us : List ℤ) → us ≡ unreadNumbers (wireStart m (volumeOf s) n)
+  pub unread-fills : (records : ℕ) → length (flat (shutSoFar c (skipping s m fs n wireUnread 0))) ≡ 32 * records → (us : List ℤ) → us ≡ unreadOf (wireRange s) m (volumeOf s) n → length us ≡ 64
       → FillsAll c (skipping s m fs n wireUnread 0) (figures s (inLayer m) (fs ++ passed n ∷ [])) 0 (records - 2) us
-  unread-fills records all us q =
+  unread-fills records all us q long =
       let size : length (flat fore) ≡ 32 * (records - (0 + 2)) = before-two [] 0 records refl all in
       record {
         fore = fore;
-        made = twoOf (unreadNumbers (wireStart m (volumeOf s) n));
+        made = twoOf (unreadOf (wireRange s) m (volumeOf s) n);
         behind = [];
         before = append-nil (fore ++ emptyRecord ∷ emptyRecord ∷ []);
         after = one-more (passed n);
-        are = sym q;
+        are = two-of (unreadOf (wireRange s) m (volumeOf s) n) ∙ sym q;
         size = omega (arith, size);
-        long = ap length q;
+        long = long;
       }
 
 -- ── what a wire leaves alone ──
-abbrev sighted : Set → List ℕ → ℕ → Sight
+abbrev sighted : Set → List (List ℕ) → ℕ → Sight
 sighted s serials m = record { set = sight (elements s) .set; layers = s .drawing .layers; serials = serials; used = homeUsed s (inLayer m); inside = true; counts = true }
 
 module _ (ks : List ℕ) (s : Set) (m : ℕ) (fs : List Figure) (n : ℕ) where
-  pub wire-sight : (w : Wire) → sight (figures s (inLayer m) fs) ≡ sight (placing (withRecords ks s) m fs n (wireBlock w) 0)
-  wire-sight w = ap (λ (u : List ℕ). sighted s u m) (sym (append-nil (serialsWith s fs)))
+  pub wire-sight : sight (figures s (inLayer m) fs) ≡ sight (placing (withRecords ks s) m fs n (wireBlock noWire) 0)
+  unfolding wireTable
+  wire-sight = ap (λ (u : List (List ℕ)). sighted s u m) (sym (append-nil (linksWith s fs)))
 
   pub unread-sight : (d : ℕ) → sight (figures s (inLayer m) fs) ≡ sight (skipping (withRecords ks s) m fs n wireUnread d)
-  unread-sight d = ap (λ (u : List ℕ). sighted s u m) (sym (append-nil (serialsWith s fs)))
+  unread-sight d = ap (λ (u : List (List ℕ)). sighted s u m) (sym (append-nil (linksWith s fs)))
 
+-- the closed wire's serial number is that of a figure of the layer
 pub wire-shut-sight : (s : Set) (m : ℕ) (fs : List Figure) (n : ℕ) (w : Wire) → sight (placing s m fs n (wireBlock w) 0) ≡ sight (figures s (inLayer m) (fs ++ wired n w ∷ []))
-wire-shut-sight s m fs n w = ap (λ (u : List ℕ). sighted s u m) (append-nil (serialsWith s fs) ∙ plain-serials s (inLayer m) fs (wired n w) refl)
+wire-shut-sight s m fs n w =
+    ap (λ (u : List (List ℕ)). sighted s u m)
+    (append-assoc (linksIn s) (flat (map figureLinks fs)) (figureLinks (wired n w)) ∙ ap (λ (u : List (List ℕ)). linksIn s ++ u) (sym (flat-map-more figureLinks fs (wired n w))))
 
 pub unread-shut-sight : (s : Set) (m : ℕ) (fs : List Figure) (n d : ℕ) → sight (skipping s m fs n wireUnread d) ≡ sight (figures s (inLayer m) (fs ++ passed n ∷ []))
-unread-shut-sight s m fs n d = ap (λ (u : List ℕ). sighted s u m) (append-nil (serialsWith s fs) ∙ plain-serials s (inLayer m) fs (passed n) refl)
+unread-shut-sight s m fs n d = ap (λ (u : List (List ℕ)). sighted s u m) (append-nil (linksWith s fs) ∙ plain-serials s (inLayer m) fs (passed n) refl)

@@ -1,98 +1,78 @@
 -- A line in a wire that is read: from the code's answer to the step that the definitions make.
-use Prim.Native.Nat.{ℕ, _+_, _-_, _≤_}
-use mathlib.Core.Bool.{Bool, true, false, cond, not}
+use Prim.Native.Nat.{ℕ, _+_, _-_, _/_, _≤_}
+use mathlib.Core.Bool.{Bool, true, false, cond, _&&_}
 use mathlib.Core.List.{List, [], _∷_, _++_}
-use mathlib.Core.Option.{Option, some}
 use mathlib.Core.Path.{_≡_, refl, sym, _∙_, ap, subst}
 use native.Mathlib.Omega.{arith}
-use borrow.Author.Tests.{not-true}
+use borrow.Author.Tests.{ltb-true, ltb-false}
+use lib.Dec.{eqb}
 use lib.IntN.{ℤ, pos}
-use lib.ListN.{length, getD, take, drop, replicate, length-append}
-use lib.Seq.{take-at, drop-at}
+use lib.ListN.{length, getD, set, take, drop, replicate, length-set, length-append}
+use lib.Seq.{take-all, take-at, drop-at}
 use Rattle.rules.specs.declared.Class.{Class}
 use Rattle.rules.specs.declared.LineForm.{LineForm}
-use Rattle.rules.specs.Base.{all}
-use Rattle.rules.specs.RefusalNumbers.{got, unless}
-use Rattle.rules.specs.Lines.{formIn}
-use Rattle.rules.specs.Values.{Known, Num, Value, nums, numsOf}
-use Rattle.rules.specs.Rows.{Rule, Held, rowsAtLimit, Act, stay, entry, begin, shut, refuse, act}
+use Rattle.rules.specs.RefusalNumbers.{Got, got, bad, unless}
+use Rattle.rules.specs.RangeClass.{digitsOf, reaches, exceeds, both, Skip, passes, deeper, noForm, skipOf}
+use Rattle.rules.specs.Lines.{Rest, Form, ignored, wrong, close, eof, keyed, shapeOf, hasForm, formIn}
+use Rattle.rules.specs.Values.{Known}
+use Rattle.rules.specs.Rows.{Rule, Found, absent, found, find, Held, rowsThere, orRefuse, shut, refuse, actRow, actUnknown, complete}
 use Rattle.rules.specs.Figures.{wireTable}
-use Rattle.rules.specs.Sets.{Edge, Wire, Figure, wired, Set, wireRange, wiresOf, joinDigit, knownOf, withRecords}
-use Rattle.rules.specs.Machine.{Line, inLayer, State, figures, placing, wireBlock, byAct}
-use Rattle.rules.specs.RecordTable.{numbers, ruleAt, wireStart, wireNumbers, edgeRecord, kindEdge}
-use Rattle.rules.specs.Wires.{joinsEnds, lastEdge, joinOf, joined, withElement}
-use Rattle.rules.proofs.Chains.{clash}
-use Rattle.rules.proofs.Rows.{row-all}
+use Rattle.rules.specs.Sets.{Wire, Figure, wired, Set, wireRange, wiresOf, knownOf}
+use Rattle.rules.specs.Machine.{Line, inLayer, State, figures, placing, skipping, wireBlock, unlimited}
+use Rattle.rules.specs.PlacedSymbol.{bySkip, skipDeeper}
+use Rattle.rules.specs.LineByLine.{stepIn}
+use Rattle.rules.specs.Wires.{lastEdge, isElementRow, pastElements, wireFull, onWireAct, onWireUnknown, onWireKey, onWireOwn}
+use Rattle.rules.specs.RecordTable.{markUnread, wireStart, wireNumbers, wireValues, viewOf}
+use Rattle.rules.proofs.RecordLengths.{length-unread}
+use Rattle.tables.specs.Tables.{tableOf}
 use Rattle.entries.specs.Names.{knownIn}
 use Rattle.account.specs.declared.Now.{Now}
 use Rattle.account.specs.declared.Where.{Where}
 use Rattle.account.specs.declared.Step.{Step}
 use Rattle.account.specs.declared.Step.the-variants as S
-use Rattle.account.specs.Placing.{fills}
-use Rattle.account.specs.Records.{partAt, withPart}
+use Rattle.account.specs.Records.{withPart}
 use Rattle.account.specs.Account.{figureDone}
-use Rattle.account.specs.Points.{morePoints}
-use Rattle.account.specs.WireLines.{wireAct, elementRead, joinHolds, elementPut, wireClosed, wireStep, WireRecords, ReadLine}
-use Rattle.account.proofs.RowsTaken.{Taken, entry-taken}
-use Rattle.standing.specs.SoFar.{volumeOf, formerNumbers, emptyRecord}
+use Rattle.account.specs.SkippedLines.{skippedAs, inWire}
+use Rattle.account.specs.PlacedLines.{Lent, skipStep, notHere, UnknownLine}
+use Rattle.account.specs.WireLines.{pastNow, isFrontRow, fullAt, misplaced, RowInWire, FoundInWire, KeyInWire, wireWhole, formerCleared, wireCounted, statesMarked, wireClosed, ReadLine}
+use Rattle.standing.specs.SoFar.{volumeOf, emptyRecord}
 use Rattle.standing.specs.Kept.{Scratch}
-use Rattle.standing.specs.Standing.{Desk, InWire, Stands, Counted, LineHere, StepOut}
-use Rattle.standing.proofs.LineOrigins.{From, isValues, entry-from, entry-nums}
-use Rattle.standing.proofs.Openers.{plainKind, isBegin, no-begin}
-use Rattle.standing.proofs.Completing.{goes-still, goes-filling, goes-wiring, completed-by, completed-line, number-by, number-same}
+use Rattle.standing.specs.Standing.{Desk, partIn, InRead, Stands, StandsAt, Counted, LineHere, StepOut, deskNow, formSize}
+use Rattle.standing.specs.Reading.{PlacedForm}
+use Rattle.standing.proofs.Completing.{goes-still, goes-wiring, completed-by, number-by}
 use Rattle.standing.proofs.ScratchKept.{scratch-zeros}
-use Rattle.standing.proofs.WireScratch.{wireScratch, wire-scratch, scratch-wire, Filled, filled, wire-rows, edgeOf, edgeScratch, element-holds, element-put, wire-closed, cleared-two}
-use Rattle.standing.proofs.WireKept.{edge-long, edge-fills, wire-fills, wire-shut-sight}
-use Rattle.standing.proofs.Standings.{deskWith, stands-on, known, stands-still}
-use Rattle.standing.proofs.HomeFacts.{home-owner, home-volume, home-on, home-stays}
+use Rattle.standing.proofs.WireCells.{close-counted}
+use Rattle.standing.proofs.WireParts.{direcsOf, piendsOf, numsIn, slotOf, cellsOf, read-cells}
+use Rattle.standing.proofs.WireScratch.{wireScratch, wire-rows, cleared-two}
+use Rattle.standing.proofs.WireKept.{wire-fills, wire-shut-sight}
+use Rattle.standing.proofs.WireRows.{lentBy, wireDesk, before, still, front-line}
+use Rattle.standing.proofs.WireOnce.{once-line}
+use Rattle.standing.proofs.Standings.{stands-on, stands-still}
+use Rattle.standing.proofs.HomeFacts.{home-stays}
 
--- ── what is computed of a wire's table ──
-two-rows : length wireTable ≡ 2
-unfolding wireTable
-two-rows = refl
+-- the code knows by the wire's part whether anything but an element has stood in it
+past-part : (b : Bool) → eqb (partIn 0 b) 3 ≡ b
+past-part true = refl
+past-part false = refl
 
-plain-rows : all (λ r. plainKind (r .holds)) wireTable ≡ true
-unfolding wireTable
-plain-rows = refl
-
-values-rows : all (λ r. isValues (r .holds)) wireTable ≡ true
-unfolding wireTable
-values-rows = refl
-
-none-empty : all (λ r. not (r .may)) wireTable ≡ true
-unfolding wireTable
-none-empty = refl
-
--- any number: no row is ever full
-none-full : rowsAtLimit 0 wireTable ≡ false ∷ false ∷ []
-unfolding wireTable
-none-full = refl
-
--- ── the last element ──
-last-more : (es : List Edge) (e : Edge) → lastEdge (es ++ e ∷ []) ≡ some e
-last-more [] e = refl
-last-more (f ∷ []) e = refl
-last-more (f ∷ g ∷ es) e = last-more (g ∷ es) e
+numbers-long : (range elements : ℕ) (t : List ℤ) → length t ≡ 64 → length (wireNumbers range elements t) ≡ 64
+numbers-long range elements t e = length-set (set t 5 (pos elements)) 30 (pos (range / 100)) ∙ length-set t 5 (pos elements) ∙ e
 
 module _ (c : Class) (spool : List ℕ) (k : ℕ) (FileHere : Desk → Set → ℕ → Held → ℕ → Type 0) (d : Desk) (at to own : ℕ) (l : Line) (w : Where) (form : LineForm)
     (x : LineHere spool k at to form w l) (s : Set) (m : ℕ) (fs : List Figure) (n : ℕ) (wire : Wire) (z : Stands c spool k d (FileHere d) at (placing s m fs n (wireBlock wire) 0))
-    (y : Counted c own d (placing s m fs n (wireBlock wire) 0)) where
+    (y : Counted c own d (placing s m fs n (wireBlock wire) 0)) (x₁ : Lent) (t₁ : List ℤ) where
   abbrev st : State
   st = placing s m fs n (wireBlock wire) 0
 
-  abbrev es : List Edge
-  es = wire .elements
-
-  abbrev did : Act
-  did = act (knownOf s) wireTable (wiresOf s) (rowsAtLimit 0 wireTable) (l .form)
-
-  inw : InWire spool k (d .now) (d .marks) (d .inner) s m fs 0 (length es)
-  inw = z .block .2
+  inr : InRead spool k (d .now) (d .marks) (d .inner) s m fs wire 0
+  inr = z .block .1
 
   later : at ≤ to
   later = omega (arith, x .bytes)
 
-  -- ── the act that the code goes by ──
+  abbrev Out : Step → Type 0
+  Out r = StepOut c spool k FileHere own l to st (wireDesk d x₁ t₁) r
+
   abbrev known₀ : Known
   known₀ = knownIn spool (take (getD (d .tally) 9 0) (d .symbols)) (take (getD (d .tally) 10 0) (d .layers))
 
@@ -102,154 +82,187 @@ module _ (c : Class) (spool : List ℕ) (k : ℕ) (FileHere : Desk → Set → �
   range-here : range₀ ≡ wireRange s
   range-here = ap (λ (t : List ℕ). getD t 12 0) (z .tally)
 
-  wire-act : wireAct known₀ (wireRange s) (formIn spool form) ≡ did
-  wire-act =
-      ap (λ (y : Known). wireAct y (wireRange s) (formIn spool form)) (known c spool k FileHere d at to st st z refl)
-      ∙ ap (λ (t : List Rule). act (knownOf s) t (wiresOf s) (false ∷ false ∷ []) (formIn spool form)) wire-rows
-      ∙ ap (λ (t : List Bool). act (knownOf s) wireTable (wiresOf s) t (formIn spool form)) (sym none-full)
-      ∙ ap (act (knownOf s) wireTable (wiresOf s) (rowsAtLimit 0 wireTable)) (sym (x .is))
+  -- a line that is passed over
+  on-passed : stepIn (unlimited c) l st ≡ got st → x₁ ≡ lentBy d → t₁ ≡ d .scratch → Out (S.Go (d .now))
+  on-passed f a q =
+      goes-still c spool k FileHere own l to st (wireDesk d x₁ t₁) (d .now) st f refl refl refl refl
+      (subst (λ (u : Lent). StandsAt c spool k FileHere (deskNow (wireDesk d u t₁) (d .now)) to st) (sym a)
+      (stands-still c spool k FileHere d at to st z later (d .tally) (d .marks) (d .inner) (d .header) t₁ refl refl refl refl q))
 
-  -- ── the scratch ──
-  abbrev ends : Bool
-  ends = joinsEnds (joinDigit s)
+  -- ── a key that the wire part doesn't know ──
+  abbrev wire′ : Wire
+  wire′ = pastElements wire
 
-  abbrev former : Option Edge
-  former = lastEdge es
+  abbrev st′ : State
+  st′ = placing s m fs n (wireBlock wire′) 0
 
-  abbrev volume : ℕ
-  volume = volumeOf s
+  past-stands : x₁ ≡ lentBy d → t₁ ≡ d .scratch → StandsAt c spool k FileHere (deskNow (wireDesk d x₁ t₁) (pastNow (d .now))) to st′
+  past-stands a q =
+      subst (λ (u : Lent). StandsAt c spool k FileHere (deskNow (wireDesk d u t₁) (pastNow (d .now))) to st′) (sym a)
+      (stands-on c spool k FileHere d at to st st′ z (pastNow (d .now)) (d .marks) (d .inner) t₁ refl (z .lengths .marks) (z .lengths .inner)
+      (still c spool k FileHere d at to own l w form x s m fs n wire z wire′ (inr .slots) (inr .repeats) (inr .groups) (inr .shut refl) t₁ (q ∙ before c spool k FileHere d at to own l w form x s m fs n wire z))
+      (omega (arith, z .counted, later)) (omega (arith, z .named, later)) (omega (arith, z .numbered, later)) (
+        refl,
+        record {
+          wire = record {
+            home = home-stays spool k (d .now) (pastNow (d .now)) (d .marks) (d .inner) (d .inner) s (inLayer m) refl refl (inr .wire .home);
+            figures = inr .wire .figures;
+            part = refl;
+            points = inr .wire .points;
+          };
+          parts = inr .parts;
+          slots = inr .slots;
+          marked = inr .marked;
+          repeats = inr .repeats;
+          groups = inr .groups;
+          shut = inr .shut;
+          writes = λ e. absurd (omega (arith, e));
+        },
+      ))
 
-  before : d .scratch ≡ wireScratch m volume n former
-  before = wire-scratch (d .scratch) s m fs n wire (z .scratch)
+  -- a key that is not allowed here
+  refused : (rest : Rest) → stepIn (unlimited c) l st ≡ onWireAct (unlimited c) l s m fs n wire (actUnknown rest) → Out (notHere rest)
+  refused rest h = go (hasForm (shapeOf rest)) (h ∙ refl)
+    where
+      go : (t : Bool) → stepIn (unlimited c) l st ≡ onWireAct (unlimited c) l s m fs n wire (orRefuse (unless t 5 (bad 6))) → Out (cond t (S.Stop 6) (S.Stop 5))
+      go true f = f
+      go false f = f
 
-  owner-is : d .now .owner ≡ m
-  owner-is = home-owner spool k (d .now) (d .marks) (d .inner) s (inLayer m) (inw .home)
+  module _ (key : List ℕ) (rest : Rest) (h : stepIn (unlimited c) l st ≡ onWireUnknown (unlimited c) l s m fs n wire key rest) where
+    abbrev skipping₁ : Got State
+    skipping₁ = skipDeeper 0 (skipping s m fs n (wireBlock wire′) 1)
 
-  volume-is : w .volume ≡ volume
-  volume-is = x .volume ∙ home-volume spool k (d .now) (d .marks) (d .inner) s (inLayer m) (inw .home)
+    abbrev known-not : Got State
+    known-not = onWireAct (unlimited c) l s m fs n wire (actUnknown rest)
 
-  -- t₁: on return
-  module _ (t₁ : List ℤ) where
-    abbrev d₁ : Desk
-    d₁ = deskWith d (d .now) (d .marks) (d .inner) t₁
+    by-skip : x₁ ≡ lentBy d → t₁ ≡ d .scratch → (t : Skip) → skipOf key rest ≡ t → exceeds (wiresOf s) (c .wires) ≡ true → Out (skipStep (pastNow (d .now)) (skippedAs t))
+    by-skip a q t f b = go t (h ∙ ap (λ (i : Bool). cond i (bySkip (skipOf key rest) (got st′) skipping₁) known-not) b ∙ ap (λ (i : Skip). bySkip i (got st′) skipping₁) f)
+      where
+        go : (t : Skip) → stepIn (unlimited c) l st ≡ bySkip t (got st′) skipping₁ → Out (skipStep (pastNow (d .now)) (skippedAs t))
+        go passes f = goes-still c spool k FileHere own l to st (wireDesk d x₁ t₁) (pastNow (d .now)) st′ f (z .block .0) refl refl refl (past-stands a q)
+        go deeper f = record {
+          inside = skipping s m fs n (wireBlock wire′) 1;
+          behind = st′;
+          skips = inWire s m fs n wire′;
+          step = f;
+          records = refl;
+          taken = refl;
+          same = refl;
+          stands = past-stands a q;
+        }
+        go noForm f = f
 
-    abbrev Out : Step → Type 0
-    Out r = StepOut c spool k FileHere own l to st d₁ r
+    by-range : x₁ ≡ lentBy d → t₁ ≡ d .scratch → (t : Bool) → exceeds (wiresOf s) (c .wires) ≡ t → Out (cond t (skipStep (pastNow (d .now)) (skippedAs (skipOf key rest))) (notHere rest))
+    by-range a q true b = by-skip a q (skipOf key rest) refl b
+    by-range a q false b = refused rest (h ∙ ap (λ (i : Bool). cond i (bySkip (skipOf key rest) (got st′) skipping₁) known-not) b)
 
-    -- nothing but the place in the spool
-    on-stay : did ≡ stay → t₁ ≡ d .scratch → Out (S.Go (d .now))
-    on-stay a q =
-        goes-still c spool k FileHere own l to st d₁ (d .now) st (ap (byAct _ _ _ _) a) refl refl refl refl
-        (stands-still c spool k FileHere d at to st z later (d .tally) (d .marks) (d .inner) (d .header) t₁ refl refl refl refl q)
+    on-unknown : (r : Step) → UnknownLine (c .wires) (digitsOf range₀) (pastNow (d .now)) (lentBy d) x₁ (d .scratch) t₁ r (skippedAs (skipOf key rest)) rest → Out r
+    on-unknown r v =
+        let f : exceeds (digitsOf range₀) (c .wires) ≡ exceeds (wiresOf s) (c .wires) = ap (λ (i : ℕ). exceeds (digitsOf i) (c .wires)) range-here in
+        subst Out (sym (v .answer ∙ ap (λ (i : Bool). cond i (skipStep (pastNow (d .now)) (skippedAs (skipOf key rest))) (notHere rest)) f)) (by-range (v .lent) (v .rec) (exceeds (wiresOf s) (c .wires)) refl)
 
-    -- ── a line or an arc ──
-    module _ (j : ℕ) (v : Value) (a : did ≡ entry j v) where
-      from : From (knownOf s) wireTable (wiresOf s) (rowsAtLimit 0 wireTable) (l .form) j (entry j v)
-      from = entry-from (knownOf s) wireTable (wiresOf s) (rowsAtLimit 0 wireTable) (l .form) j v a
+  -- ── the closing line ──
+  module _ (shut-so : l .form ≡ close) where
+    abbrev there : Bool
+    there = complete (both (c .wires) (wiresOf s)) wireTable (rowsThere (wire .own))
 
-      taken : Taken wireTable (rowsAtLimit 0 wireTable) j v
-      taken = entry-taken (knownOf s) wireTable (wiresOf s) (rowsAtLimit 0 wireTable) (l .form) j v a
+    whole : wireWhole (c .wires) range₀ (d .marks) ≡ there
+    whole =
+        ap (λ (i : ℕ). complete (both (c .wires) (digitsOf i)) (tableOf 20) (take 10 (d .marks))) range-here
+        ∙ ap (λ (i : List Rule). complete (both (c .wires) (wiresOf s)) i (take 10 (d .marks))) wire-rows
+        ∙ ap (complete (both (c .wires) (wiresOf s)) wireTable) (inr .marked)
 
-      abbrev vs : List Num
-      vs = numsOf v
+    stepped : stepIn (unlimited c) l st ≡ onWireAct (unlimited c) l s m fs n wire (cond there shut (refuse 8))
+    stepped = ap (onWireOwn (unlimited c) l s m fs n wire) shut-so
 
-      is-nums : v ≡ nums vs
-      is-nums =
-          entry-nums (knownOf s) wireTable (wiresOf s) (rowsAtLimit 0 wireTable) (l .form) j v from (row-all (λ r. isValues (r .holds)) (from .row) values-rows)
-          (not-true (from .rule .may) (row-all (λ r. not (r .may)) (from .row) none-empty))
+    on-short : there ≡ false → Out (S.Stop 8)
+    on-short b = stepped ∙ ap (λ (i : Bool). onWireAct (unlimited c) l s m fs n wire (cond i shut (refuse 8))) b
 
-      full : Filled j vs
-      full =
-          filled j vs (omega (arith, taken .row, two-rows)) (subst (λ (y : Value). fills (ruleAt wireTable j .holds) (numbers y) ≡ true) is-nums (taken .fill))
-
-      -- what the code reads, by the definitions' values
-      abbrev read : List ℤ
-      read = elementRead j v (d .scratch)
-
-      read-is : read ≡ elementRead j (nums vs) (wireScratch m volume n former)
-      read-is = ap (λ (y : Value). elementRead j y (d .scratch)) is-nums ∙ ap (elementRead j (nums vs)) before
-
-      holds-is : joinHolds ends j read ≡ joined ends former j vs
-      holds-is = ap (joinHolds ends j) read-is ∙ element-holds m volume n ends j vs former full
-
-      abbrev edge : Edge
-      edge = edgeOf (l .line) j vs (joinOf ends former j)
-
-      abbrev ks : List ℕ
-      ks = (kindEdge + j) ∷ []
-
-      abbrev now : Now
-      now = morePoints (d .now)
-
-      abbrev st′ : State
-      st′ = placing (withRecords ks s) m fs n (wireBlock (withElement wire edge)) 0
-
-      on-apart : joinHolds ends j read ≡ false → Out (S.Stop 11)
-      on-apart q = ap (byAct _ _ _ _) a ∙ ap (λ (t : Bool). unless t 11 (got st′)) (sym holds-is ∙ q)
-
-      on-element : joinHolds ends j read ≡ true → t₁ ≡ elementPut ends (d .now) w j read → Out (S.Go now)
-      on-element q p =
-          let put : t₁ ≡ edgeScratch m volume n edge =
-          p ∙ ap (elementPut ends (d .now) w j) read-is ∙ element-put m volume n ends (d .now) w (l .line) j vs former full owner-is volume-is (x .line) in
-          let two : List ℤ = formerNumbers (some edge) (wireStart m volume n) in
-          let long : length (edgeRecord m volume edge) ≡ 32 = edge-long m volume edge in
-          let there : partAt 0 t₁ ≡ edgeRecord m volume edge = ap (take 32) put ∙ take-at (edgeRecord m volume edge) two 32 long in
-          let cleared : withPart 0 emptyRecord t₁ ≡ wireScratch m volume n (some edge) =
-          ap (λ (u : List ℤ). emptyRecord ++ u) (ap (drop 32) put ∙ drop-at (edgeRecord m volume edge) two 32 long) in
-          goes-filling c spool k FileHere own l to st d₁ now st′ (ap (byAct _ _ _ _) a ∙ ap (λ (t : Bool). unless t 11 (got st′)) (sym holds-is ∙ q)) 0 (d .now .records)
-          (completed-line (d .now) now 12 0 (z .block .0) refl (z .block .0) refl) (number-same (d .now) now own refl) 1 refl refl
-          (edge-fills c s ks m fs n wire edge (d .now .records) (y .size) t₁ there)
-          (stands-on c spool k FileHere d at to st st′ z now (d .marks) (d .inner) (withPart 0 emptyRecord t₁) refl (z .lengths .marks) (z .lengths .inner)
-          (subst (λ (u : List ℤ). Scratch u st′) (sym cleared) (scratch-wire (withRecords ks s) m fs n (withElement wire edge) (some edge) (last-more es edge)))
-          (omega (arith, z .counted, x .bytes, length-append es (edge ∷ []))) (omega (arith, z .named, later)) (omega (arith, z .numbered, later)) (
-            z .block .0,
-            refl,
-            record {
-              home = home-on spool k (d .now) now (d .marks) (d .inner) (d .inner) s ks (inLayer m) refl refl (inw .home);
-              figures = inw .figures;
-              part = inw .part;
-              points = ap (λ (i : ℕ). i + 1) (inw .points) ∙ sym (length-append es (edge ∷ []));
-            },
-          ))
-
-      on-entry : (b : Bool) → joinHolds ends j read ≡ b → (joinHolds ends j read ≡ true → t₁ ≡ elementPut ends (d .now) w j read) → Out (cond b (S.Go now) (S.Stop 11))
-      on-entry true q p = on-element q (p q)
-      on-entry false q p = on-apart q
-
-    on-begin : (i j : ℕ) (v : Value) → did ≡ begin i j v → Out (S.Stop 5)
-    on-begin i j v a = clash (ap isBegin a) (no-begin (knownOf s) wireTable (wiresOf s) (rowsAtLimit 0 wireTable) (l .form) plain-rows)
-
-    on-refuse : (i : ℕ) → did ≡ refuse i → Out (S.Stop i)
-    on-refuse i a = ap (byAct _ _ _ _) a
-
-    -- ── its end ──
-    on-shut : did ≡ shut → t₁ ≡ wireClosed (wireRange s) (d .now) (d .scratch) → Out (S.Go (figureDone (d .now)))
-    on-shut a q =
+    on-whole : there ≡ true → x₁ ≡ lentBy d → t₁ ≡ wireClosed (c .wires) range₀ (d .now) (d .scratch) → Out (S.Go (figureDone (d .now)))
+    on-whole b a q =
         let now : Now = figureDone (d .now) in
-        let st′ : State = figures s (inLayer m) (fs ++ wired n wire ∷ []) in
-        let two : List ℤ = wireNumbers (wireRange s) (length es) (wireStart m volume n) in
-        let put : t₁ ≡ emptyRecord ++ two = q ∙ ap (wireClosed (wireRange s) (d .now)) before ∙ wire-closed m volume n (wireRange s) (d .now) (length es) former (inw .points) in
-        let there : take 64 (drop 32 t₁) ≡ two = ap (λ (u : List ℤ). take 64 (drop 32 u)) put in
+        let one : formSize (l .form) ≡ 1 = ap formSize shut-so in
+        let st₂ : State = figures s (inLayer m) (fs ++ wired n wire ∷ []) in
+        let two : List ℤ = wireValues (viewOf c s) wire (wireStart m (volumeOf s) n) in
+        let numbers : List ℤ = wireNumbers (wireRange s) (length (wire .elements)) (cellsOf s m n wire (inr .slots) (inr .repeats) (inr .groups)) in
+        let counted : wireCounted range₀ (d .now) (d .scratch) ≡ emptyRecord ++ numbers =
+        ap (λ (i : ℕ). wireCounted i (d .now) (d .scratch)) range-here
+        ∙ ap (wireCounted (wireRange s) (d .now)) (before c spool k FileHere d at to own l w form x s m fs n wire z)
+        ∙ ap (λ (i : ℕ). set (set (formerCleared (wireScratch emptyRecord (lastEdge (wire .elements)) (cellsOf s m n wire (inr .slots) (inr .repeats) (inr .groups)))) 37 (pos i)) 62 (pos (wireRange s / 100))) (inr .wire .points)
+        ∙ close-counted m (volumeOf s) n (wireRange s) (length (wire .elements)) (direcsOf wire) (piendsOf wire) (numsIn wire) (wire .texts) (slotOf 6 wire) (slotOf 7 wire) (slotOf 8 wire) (slotOf 9 wire) (lastEdge (wire .elements)) in
+        let marked : wireClosed (c .wires) range₀ (d .now) (d .scratch) ≡ emptyRecord ++ markUnread (c .wires) (wiresOf s) wireTable numbers =
+        ap (statesMarked (c .wires) range₀) counted ∙ ap (λ (i : ℕ). statesMarked (c .wires) i (emptyRecord ++ numbers)) range-here
+        ∙ ap (λ (u : List ℤ). u ++ markUnread (c .wires) (wiresOf s) wireTable (drop 32 (emptyRecord ++ numbers))) (take-at emptyRecord numbers 32 refl)
+        ∙ ap (λ (u : List ℤ). emptyRecord ++ markUnread (c .wires) (wiresOf s) wireTable u) (drop-at emptyRecord numbers 32 refl) in
+        let is-two : markUnread (c .wires) (wiresOf s) wireTable numbers ≡ two =
+        ap (λ (u : List ℤ). markUnread (c .wires) (wiresOf s) wireTable (wireNumbers (wireRange s) (length (wire .elements)) u)) (sym (read-cells s m n wire (inr .slots) (inr .repeats) (inr .groups))) in
+        let put : t₁ ≡ emptyRecord ++ two = q ∙ marked ∙ ap (λ (u : List ℤ). emptyRecord ++ u) is-two in
+        let long : length two ≡ 64 = ap length (sym is-two) ∙ length-unread (c .wires) (wiresOf s) wireTable numbers ∙ numbers-long (wireRange s) (length (wire .elements)) (cellsOf s m n wire (inr .slots) (inr .repeats) (inr .groups)) refl in
+        let there-two : take 64 (drop 32 t₁) ≡ two =
+        ap (λ (u : List ℤ). take 64 (drop 32 u)) put ∙ ap (take 64) (drop-at emptyRecord two 32 refl) ∙ take-all 64 two (omega (arith, long)) in
         let cleared : withPart 64 emptyRecord (withPart 32 emptyRecord t₁) ≡ replicate 96 (pos 0) =
-        ap (λ (u : List ℤ). withPart 64 emptyRecord (withPart 32 emptyRecord u)) put ∙ cleared-two two refl in
-        goes-wiring c spool k FileHere own l to st d₁ now st′ (ap (byAct _ _ _ _) a) (d .now .records - (length es + 2)) (completed-by (d .now) now 12 8 (z .block .0) refl)
-        (number-by (d .now) now own 12 8 (z .block .0) refl ∙ ap (λ (i : ℕ). d .now .records - (i + 2)) (inw .points)) refl refl (ap length put)
-        (wire-fills c s m fs n wire (d .now .records) (y .size) (take 64 (drop 32 t₁)) there)
-        (stands-on c spool k FileHere d at to st st′ z now (d .marks) (d .inner) (withPart 64 emptyRecord (withPart 32 emptyRecord t₁)) (wire-shut-sight s m fs n wire) (z .lengths .marks) (z .lengths .inner)
-        (subst (λ (u : List ℤ). Scratch u st′) (sym cleared) (scratch-zeros st′ refl refl refl))
-        (omega (arith, z .counted, x .bytes, length-append fs (wired n wire ∷ []))) (omega (arith, z .named, later)) (omega (arith, z .numbered, later))
-        (refl, home-stays spool k (d .now) now (d .marks) (d .inner) (d .inner) s (inLayer m) refl refl (inw .home), ap (λ (i : ℕ). i + 1) (inw .figures) ∙ sym (length-append fs (wired n wire ∷ []))))
+        ap (λ (u : List ℤ). withPart 64 emptyRecord (withPart 32 emptyRecord u)) put ∙ cleared-two two long in
+        goes-wiring c spool k FileHere own l to st (wireDesk d x₁ t₁) now st₂ (stepped ∙ ap (λ (i : Bool). onWireAct (unlimited c) l s m fs n wire (cond i shut (refuse 8))) b) (d .now .records - (length (wire .elements) + 2))
+        (completed-by (d .now) now 12 8 (z .block .0) refl)
+        (number-by (d .now) now own 12 8 (z .block .0) refl ∙ ap (λ (i : ℕ). d .now .records - (i + 2)) (inr .wire .points)) refl refl (ap length put ∙ omega (arith, length-append emptyRecord two, long))
+        (wire-fills c s m fs n wire (d .now .records) (y .size) (take 64 (drop 32 t₁)) there-two (ap length there-two ∙ long))
+        (subst (λ (u : Lent). StandsAt c spool k FileHere (deskNow (wireDesk d u (withPart 64 emptyRecord (withPart 32 emptyRecord t₁))) now) to st₂) (sym a)
+        (stands-on c spool k FileHere d at to st st₂ z now (d .marks) (d .inner) (withPart 64 emptyRecord (withPart 32 emptyRecord t₁)) (wire-shut-sight s m fs n wire) (z .lengths .marks) (z .lengths .inner)
+        (subst (λ (u : List ℤ). Scratch u st₂) (sym cleared) (scratch-zeros st₂ refl refl refl))
+        (omega (arith, z .counted, x .bytes, length-append fs (wired n wire ∷ []))) (omega (arith, z .named, later)) (omega (arith, z .numbered, x .bytes, one))
+        (refl, home-stays spool k (d .now) now (d .marks) (d .inner) (d .inner) s (inLayer m) refl refl (inr .wire .home), ap (λ (i : ℕ). i + 1) (inr .wire .figures) ∙ sym (length-append fs (wired n wire ∷ [])))))
 
-    -- ── the line ──
-    by-act : (f : Act) → did ≡ f → WireRecords (wireRange s) (d .now) w (d .scratch) t₁ f → Out (wireStep ends (d .now) (d .scratch) f)
-    by-act stay a q = on-stay a q
-    by-act (entry j v) a q = on-entry j v a (joinHolds ends j (elementRead j v (d .scratch))) refl q
-    by-act (begin i j v) a q = on-begin i j v a
-    by-act shut a q = on-shut a q
-    by-act (refuse i) a q = on-refuse i a
+    on-close : (b : Bool) → there ≡ b → x₁ ≡ lentBy d → (b ≡ true → t₁ ≡ wireClosed (c .wires) range₀ (d .now) (d .scratch)) → Out (cond b (S.Go (figureDone (d .now))) (S.Stop 8))
+    on-close true b a q = on-whole b a (q refl)
+    on-close false b a q = on-short b
 
-    pub wire-line : (r : Step) → ReadLine (wireAct known₀ range₀ (formIn spool form)) range₀ (d .now) w (d .scratch) t₁ r → Out r
-    wire-line r f =
-        let g : ReadLine (wireAct known₀ (wireRange s) (formIn spool form)) (wireRange s) (d .now) w (d .scratch) t₁ r =
-        subst (λ (i : ℕ). ReadLine (wireAct known₀ i (formIn spool form)) i (d .now) w (d .scratch) t₁ r) range-here f in
-        subst Out (sym (g .answer ∙ ap (wireStep ends (d .now) (d .scratch)) wire-act)) (by-act did refl (subst (WireRecords (wireRange s) (d .now) w (d .scratch) t₁) wire-act (g .records)))
+  -- ── any line directly in it ──
+  module _ (in-spool : PlacedForm (l .form)) (r : Step) where
+    abbrev at-part : ℕ → Bool
+    at-part j = isElementRow j && eqb (d .now .part) 3
+
+    misplaced-is : (j : ℕ) → misplaced (d .now) j ≡ (isElementRow j && wire .past)
+    misplaced-is j = ap (λ (b : Bool). isElementRow j && b) (ap (λ (i : ℕ). eqb i 3) (inr .wire .part) ∙ past-part (wire .past))
+
+    on-row : (key : List ℕ) (rest : Rest) (j : ℕ) (q : Rule) → l .form ≡ keyed key rest → find key wireTable ≡ found j q → (isElementRow j && wire .past) ≡ false
+        → stepIn (unlimited c) l st ≡ onWireAct (unlimited c) l s m fs n wire (actRow (knownOf s) (wiresOf s) (getD (wireFull wire) j false) j q rest)
+        → (b : Bool) → isFrontRow j ≡ b → RowInWire known₀ c range₀ (d .now) w (lentBy d) x₁ (d .scratch) t₁ r rest b (actRow known₀ (digitsOf range₀) (fullAt (d .marks) (d .scratch) j) j q rest) → Out r
+    on-row key rest j q a b g h true f v =
+        let fresh : isElementRow j ≡ true → wire .past ≡ false = λ e. ap (λ (u : Bool). u && wire .past) (sym e) ∙ g in
+        subst (λ (u : Lent). StepOut c spool k FileHere own l to st (wireDesk d u t₁) r) (sym (v .1))
+        (front-line c spool k FileHere d at to own l w form x s m fs n wire z key rest j q a b (ltb-true j 5 f) fresh h y t₁ r (v .0))
+    on-row key rest j q a b g h false f v = once-line c spool k FileHere d at to own l w form x s m fs n wire z key rest j q a b in-spool (ltb-false j 5 f) h x₁ t₁ r v
+
+    on-key : (key : List ℕ) (rest : Rest) (f : Found) → l .form ≡ keyed key rest → find key wireTable ≡ f
+        → KeyInWire known₀ c range₀ (d .now) w (lentBy d) x₁ (d .scratch) t₁ r (skippedAs (skipOf key rest)) rest f → Out r
+    on-key key rest absent a b v = on-unknown key rest (ap (onWireOwn (unlimited c) l s m fs n wire) a ∙ ap (onWireKey (unlimited c) l s m fs n wire key rest) b) r v
+    on-key key rest (found j q) a b v =
+        go (isElementRow j && wire .past) refl (reaches (c .wires) (q .least)) refl
+        (subst (λ (t : Bool). FoundInWire known₀ c range₀ (d .now) w (lentBy d) x₁ (d .scratch) t₁ r (skippedAs (skipOf key rest)) rest j q t (reaches (c .wires) (q .least))) (misplaced-is j) v)
+      where
+        reached : (g i : Bool) → (isElementRow j && wire .past) ≡ g → reaches (c .wires) (q .least) ≡ i
+            → stepIn (unlimited c) l st ≡ cond g (onWireAct (unlimited c) l s m fs n wire (actUnknown rest)) (cond i (onWireAct (unlimited c) l s m fs n wire (actRow (knownOf s) (wiresOf s) (getD (wireFull wire) j false) j q rest)) (onWireUnknown (unlimited c) l s m fs n wire key rest))
+        reached g i e f =
+            ap (onWireOwn (unlimited c) l s m fs n wire) a ∙ ap (onWireKey (unlimited c) l s m fs n wire key rest) b
+            ∙ ap (λ (t : Bool). cond t (onWireAct (unlimited c) l s m fs n wire (actUnknown rest)) (cond (reaches (c .wires) (q .least)) (onWireAct (unlimited c) l s m fs n wire (actRow (knownOf s) (wiresOf s) (getD (wireFull wire) j false) j q rest)) (onWireUnknown (unlimited c) l s m fs n wire key rest))) e
+            ∙ ap (λ (t : Bool). cond g (onWireAct (unlimited c) l s m fs n wire (actUnknown rest)) (cond t (onWireAct (unlimited c) l s m fs n wire (actRow (knownOf s) (wiresOf s) (getD (wireFull wire) j false) j q rest)) (onWireUnknown (unlimited c) l s m fs n wire key rest))) f
+
+        go : (g : Bool) → (isElementRow j && wire .past) ≡ g → (i : Bool) → reaches (c .wires) (q .least) ≡ i
+            → FoundInWire known₀ c range₀ (d .now) w (lentBy d) x₁ (d .scratch) t₁ r (skippedAs (skipOf key rest)) rest j q g i → Out r
+        go true e i f v = subst Out (sym v) (refused rest (reached true i e f))
+        go false e true f v = on-row key rest j q a b e (reached false true e f) (isFrontRow j) refl v
+        go false e false f v = on-unknown key rest (reached false false e f) r v
+
+    on-form : (f : Form) → l .form ≡ f → ReadLine known₀ c range₀ (d .now) w (lentBy d) x₁ (d .scratch) t₁ r f → Out r
+    on-form ignored a v = subst Out (sym (v .0)) (on-passed (ap (onWireOwn (unlimited c) l s m fs n wire) a) (v .1) (v .2))
+    on-form (wrong i) a v = subst Out (sym v) (ap (onWireOwn (unlimited c) l s m fs n wire) a)
+    on-form close a v =
+        let b = whole a in
+        subst Out (sym (v .0 .answer ∙ ap (λ (t : Bool). cond t (S.Go (figureDone (d .now))) (S.Stop 8)) b)) (on-close a (there a) refl (v .1) (λ t. v .0 .records (b ∙ t)))
+    on-form eof a v = subst Out (sym v) (ap (onWireOwn (unlimited c) l s m fs n wire) a)
+    on-form (keyed key rest) a v =
+        on-key key rest (find key wireTable) a refl
+        (subst (λ (t : List Rule). KeyInWire known₀ c range₀ (d .now) w (lentBy d) x₁ (d .scratch) t₁ r (skippedAs (skipOf key rest)) rest (find key t)) wire-rows v)
+
+    pub own-line : ReadLine known₀ c range₀ (d .now) w (lentBy d) x₁ (d .scratch) t₁ r (formIn spool form) → Out r
+    own-line v = on-form (l .form) refl (subst (ReadLine known₀ c range₀ (d .now) w (lentBy d) x₁ (d .scratch) t₁ r) (sym (x .is)) v)

@@ -12,18 +12,24 @@ use Rattle.rules.specs.Figures.{placedTables}
 use Rattle.rules.specs.Sets.{Figure, Symbol, Set, isFirst}
 use Rattle.rules.specs.Machine.{Home, inElement, inLayer, State, top, file, drawing, layerNames, defines, symbol, hide, elements, figures, successive, texts}
 use Rattle.rules.specs.Machine.{placing, skipping, ended, Owned, symbolBlock, wireBlock, wireUnread}
-use Rattle.rules.specs.RecordTable.{putHeld, start, fileRecords, drawingRecord, layerRecords, pointRecords, textRecord, edgeRecords, innerRecords}
+use Rattle.rules.specs.RecordTable.{putHeld, start, fileRecords, drawingRecord, layerRecords, pointRecords, textRecord, edgeRecords, wireStart, innerRecords}
 use Rattle.rules.specs.RecordTable.{width, kindPlaced, kindPoint, kindHidden}
 use Rattle.account.specs.Records.{partAt}
 use Rattle.standing.specs.SoFar.{volumeOf, closedRecords, frontRecords, layersRecords, ownRecord, homeOwner, homeVolume, homeMore, homeFigure}
-use Rattle.standing.specs.SoFar.{chainSoFar, wireSoFar, emptyRecord, emptyRecords, topSoFar}
+use Rattle.standing.specs.SoFar.{chainSoFar, wireSoFar, writingRecord, emptyRecord, emptyRecords, topSoFar}
 
 -- ── the records that are open ──
 abbrev pub homeOwn : Set → Home → List ℤ
 homeOwn s (inElement y) = ownRecord (length (s .symbols)) y
 homeOwn s (inLayer k) = emptyRecord
 
--- the drawing's or the symbol's own, as far as it is; zeros where neither is open
+-- the open text of a wire
+abbrev pub frontOpen : Owned → List ℤ
+frontOpen (symbolBlock o) = emptyRecord
+frontOpen (wireBlock w) = writingRecord w
+frontOpen wireUnread = emptyRecord
+
+-- the drawing's or the symbol's own, as far as it is; a wire's open text; zeros where neither is open
 abbrev pub ownOpen : State → List ℤ
 ownOpen (top s k) = emptyRecord
 ownOpen (file s n h p) = emptyRecord
@@ -36,8 +42,8 @@ ownOpen (elements s) = emptyRecord
 ownOpen (figures s h fs) = homeOwn s h
 ownOpen (successive s h fs n ps) = homeOwn s h
 ownOpen (texts s h fs n o) = homeOwn s h
-ownOpen (placing s k fs n o p) = emptyRecord
-ownOpen (skipping s k fs n o d) = emptyRecord
+ownOpen (placing s k fs n o p) = frontOpen o
+ownOpen (skipping s k fs n o d) = frontOpen o
 ownOpen (ended s) = emptyRecord
 
 -- the figure's
@@ -54,18 +60,18 @@ figureOpen (figures s h fs) = emptyRecord
 figureOpen (successive s h fs n ps) = chainSoFar s h n ps
 figureOpen (texts s h fs n o) = textRecord (homeMore h) (homeOwner s h) (homeVolume s h) n o
 figureOpen (placing s k fs n (symbolBlock o) p) = putHeld placedTables o (start kindPlaced k (volumeOf s) n)
-figureOpen (placing s k fs n (wireBlock w) p) = take width (wireSoFar s k n (w .elements))
-figureOpen (placing s k fs n wireUnread p) = take width (wireSoFar s k n [])
+figureOpen (placing s k fs n (wireBlock w) p) = take width (wireSoFar s k n w p)
+figureOpen (placing s k fs n wireUnread p) = take width (wireStart k (volumeOf s) n)
 figureOpen (skipping s k fs n (symbolBlock o) d) = putHeld placedTables o (start kindPlaced k (volumeOf s) n)
-figureOpen (skipping s k fs n (wireBlock w) d) = take width (wireSoFar s k n (w .elements))
-figureOpen (skipping s k fs n wireUnread d) = take width (wireSoFar s k n [])
+figureOpen (skipping s k fs n (wireBlock w) d) = take width (wireSoFar s k n w 0)
+figureOpen (skipping s k fs n wireUnread d) = take width (wireStart k (volumeOf s) n)
 figureOpen (ended s) = emptyRecord
 
 -- a wire's second
-abbrev pub secondIn : Set → ℕ → ℕ → Owned → List ℤ
-secondIn s k n (symbolBlock o) = emptyRecord
-secondIn s k n (wireBlock w) = drop width (wireSoFar s k n (w .elements))
-secondIn s k n wireUnread = drop width (wireSoFar s k n [])
+abbrev pub secondIn : Set → ℕ → ℕ → Owned → ℕ → List ℤ
+secondIn s k n (symbolBlock o) p = emptyRecord
+secondIn s k n (wireBlock w) p = drop width (wireSoFar s k n w p)
+secondIn s k n wireUnread p = drop width (wireStart k (volumeOf s) n)
 
 abbrev pub secondOpen : State → List ℤ
 secondOpen (top s k) = emptyRecord
@@ -79,8 +85,8 @@ secondOpen (elements s) = emptyRecord
 secondOpen (figures s h fs) = emptyRecord
 secondOpen (successive s h fs n ps) = emptyRecord
 secondOpen (texts s h fs n o) = emptyRecord
-secondOpen (placing s k fs n o p) = secondIn s k n o
-secondOpen (skipping s k fs n o d) = secondIn s k n o
+secondOpen (placing s k fs n o p) = secondIn s k n o p
+secondOpen (skipping s k fs n o d) = secondIn s k n o 0
 secondOpen (ended s) = emptyRecord
 
 -- the first record of the scratch is an element's of a wire, the third a point's, for the length of their lines

@@ -27,14 +27,15 @@ use Rattle.account.specs.FigureLines.{homeTable, homeRows, FigureLine}
 use Rattle.account.specs.ElementLines.{ElementLine}
 use Rattle.account.specs.SymbolLines.{nonIn, isNamed, ContentPlaced, DefinesLine, SymbolLine}
 use Rattle.account.specs.PlacedLines.{Lent, lent, PlacedLine, LentReady}
-use Rattle.account.specs.WireLines.{begunStep, begunPut, WireLine}
+use Rattle.account.specs.WireLines.{begunStep, begunPut, WireLine, WireReady}
+use Rattle.account.specs.SerialNumbers.{ascending, serialCount, keptIn, partnersMet}
 use Rattle.account.specs.TopLines.{Answered, TopLent, topLent, topNow, topLentBy}
 use Rattle.account.specs.DrawingLines.{drawingAct, drawingNow, drawingMarks, drawingPut, NamesLine}
 use Rattle.account.specs.FileLines.{fileTableOf, partMarks, FileLine, FileReady}
 use Rattle.rules.specs.Blocks.{mostLayers}
 use Rattle.tables.specs.Numbering.{tableDefines, tableSymbol, tableElement, tableSymbolPoints}
 use Rattle.account.specs.Numbering.{blockTop, blockFile, blockDrawing, blockLayerNames, blockDefines, blockSymbol, blockHide, blockElements, blockFigures}
-use Rattle.account.specs.Numbering.{blockChain, blockText, blockPlaced, blockWire, wireSkipped, tallyWireRange, tallyArc, tallySymbolRange, tallyDefineRange, tallyElementsHere}
+use Rattle.account.specs.Numbering.{blockChain, blockText, blockPlaced, blockWire, wireText, wireSkipped, tallyWireRange, tallyArc, tallySymbolRange, tallyDefineRange, tallyElementsHere}
 use Rattle.account.specs.Numbering.{tallyTotal, tallySymbols, tallyLayers, tallyLength, mostRows, innerPlacedText}
 use Rattle.rules.specs.RecordTable.{width}
 
@@ -52,6 +53,11 @@ pub record Named (tally symbols layers : List ℕ) : Type 0 where
   pub ids : getD tally tallyLayers 0 ≤ length layers
   pub few-symbols : length symbols ≤ 65536
   pub few-layers : length layers ≤ mostLayers
+
+-- the own numbers that are kept, so many as the tally tells
+pub record NumbersReady (tally serials : List ℕ) : Type 0 where
+  pub count : serialCount tally ≤ length serials
+  pub ordered : ascending (keptIn tally serials) ≡ true
 
 -- ── a record that is lent ──
 -- P says what becomes of the record at n; the rest of the scratch stays
@@ -106,8 +112,9 @@ module _ (spool : List ℕ) (form : LineForm) (n : Now) (tally symbols layers : 
     pub tallied : tally₁ ≡ tallyAfter tally r
 
   -- a line in a wire is lent the whole scratch
-  abbrev pub OnWire : Where → List ℤ → List ℤ → Step → Type 0
-  OnWire w t₀ t₁ r = WireLine known (getD tally tallyWireRange 0) n w t₀ t₁ r (eqb (n .part) wireSkipped) line
+  abbrev pub OnWire : Class → Where → Lent → Lent → List ℤ → List ℤ → Step → Type 0
+  OnWire c w x₀ x₁ t₀ t₁ r =
+      WireLine known c (getD tally tallyWireRange 0) n w x₀ x₁ t₀ t₁ r (eqb (n .part) wireSkipped) (eqb (n .part) wireText) line
 
   abbrev pub OnElements : List ℕ → List Bool → List Bool → List Bool → List Bool → Step → Type 0
   OnElements tally₁ u₀ u₁ a₀ a₁ r = ElementLine (act known (tableOf tableElement) (digits 0 0) (false ∷ []) line) n tally tally₁ u₀ u₁ a₀ a₁ r
@@ -149,11 +156,12 @@ module _ (spool : List ℕ) (form : LineForm) (n : Now) (tally symbols layers : 
   OnNames w tally₁ layers₁ t₀ t₁ r =
       Lends width t₀ t₁ (λ rec₀ rec₁. NamesLine spool n w line tally tally₁ layers layers₁ rec₀ rec₁ r) × (length layers₁ ≡ length layers)
 
-  -- b₀, b₁: the marks, the layers in use and the header, by the record that is lent
-  abbrev pub OnTop : Where → List Bool → (List ℤ → TopLent) → (List ℤ → TopLent) → List ℤ → List ℤ → Step → Type 0
-  OnTop w usedAll b₀ b₁ t₀ t₁ r =
-      Lends 0 t₀ t₁ λ rec₀ rec₁.
-      Answered (topNow known (eqb (w .volume) 1) n w tally usedAll line) (b₁ rec₁ ≡ topLentBy known (eqb (w .volume) 1) w (b₀ rec₀) line) r
+  -- b₀, b₁: the marks, the layers in use and the header, by the record that is lent; then partners are tested where the set has ended
+  pub record OnTop (c : Class) (serials : List ℕ) (w : Where) (usedAll : List Bool) (b₀ b₁ : List ℤ → TopLent) (t₀ t₁ : List ℤ) (r : Step) : Type 0 where
+    pub did : Step
+    pub lends : Lends 0 t₀ t₁ λ rec₀ rec₁.
+        Answered (topNow known (eqb (w .volume) 1) n w tally usedAll line) (b₁ rec₁ ≡ topLentBy known (eqb (w .volume) 1) w (b₀ rec₀) line) did
+    pub answer : r ≡ partnersMet c spool tally serials did
 
   abbrev pub OnFile : List ℕ → Where → List ℕ → List Bool → List Bool → List ℤ → List ℤ → Step → Type 0
   OnFile following w tally₁ m₀ m₁ h₀ h₁ r =
@@ -164,7 +172,7 @@ module _ (spool : List ℕ) (form : LineForm) (n : Now) (tally symbols layers : 
 -- what is lent on return; a line leaves what its block has no use for
 pub data Done (c : Class) (spool following : List ℕ) (form : LineForm) (w : Where) (d d₁ : Desk) (r : Step) : Type 0 where
   top : d .now .block ≡ blockTop
-      → OnTop spool form (d .now) (d .tally) (d .symbols) (d .layers) w (d .usedAll) (topLent (d .marks) (d .used) (d .header))
+      → OnTop spool form (d .now) (d .tally) (d .symbols) (d .layers) c (d .serials) w (d .usedAll) (topLent (d .marks) (d .used) (d .header))
       (topLent (d₁ .marks) (d₁ .used) (d₁ .header)) (d .scratch) (d₁ .scratch) r
       → d₁ ≡ desk (d .now) (d .tally) (d .symbols) (d .layers) (d .serials) (d₁ .used) (d .usedAll) (d₁ .marks) (d .inner) (d₁ .header) (d₁ .scratch)
       → Done c spool following form w d d₁ r
@@ -214,8 +222,9 @@ pub data Done (c : Class) (spool following : List ℕ) (form : LineForm) (w : Wh
       → d₁ ≡ desk (d .now) (d₁ .tally) (d .symbols) (d .layers) (d₁ .serials) (d .used) (d .usedAll) (d₁ .marks) (d₁ .inner) (d .header) (d₁ .scratch)
       → Done c spool following form w d d₁ r
   wire : d .now .block ≡ blockWire
-      → OnWire spool form (d .now) (d .tally) (d .symbols) (d .layers) w (d .scratch) (d₁ .scratch) r
-      → d₁ ≡ desk (d .now) (d .tally) (d .symbols) (d .layers) (d .serials) (d .used) (d .usedAll) (d .marks) (d .inner) (d .header) (d₁ .scratch)
+      → OnWire spool form (d .now) (d .tally) (d .symbols) (d .layers) c w (lent (d .tally) (d .serials) (d .marks) (d .inner))
+      (lent (d₁ .tally) (d₁ .serials) (d₁ .marks) (d₁ .inner)) (d .scratch) (d₁ .scratch) r
+      → d₁ ≡ desk (d .now) (d₁ .tally) (d .symbols) (d .layers) (d₁ .serials) (d .used) (d .usedAll) (d₁ .marks) (d₁ .inner) (d .header) (d₁ .scratch)
       → Done c spool following form w d d₁ r
   other : blockWire < d .now .block → r ≡ S.Stop 9 → d₁ ≡ d → Done c spool following form w d d₁ r
 
@@ -233,22 +242,23 @@ pub record LineFits (spool : List ℕ) (form : LineForm) (w : Where) (d : Desk) 
   pub chain : d .now .block ≡ blockChain → (d .now .figures < 4294967295) × (d .now .points < 4294967295)
   pub text : d .now .block ≡ blockText → d .now .figures < 4294967295
   pub placed : d .now .block ≡ blockPlaced
-      → LentReady (lent (d .tally) (d .serials) (d .marks) (d .inner)) (partAt width (d .scratch)) × (d .now .figures < 4294967295)
-  pub wire : d .now .block ≡ blockWire → (d .now .figures < 4294967295) × (d .now .points < 4294967295)
+      → LentReady (lent (d .tally) (d .serials) (d .marks) (d .inner)) × (d .now .figures < 4294967295)
+  pub wire : d .now .block ≡ blockWire → WireReady (lent (d .tally) (d .serials) (d .marks) (d .inner)) (d .now) (d .scratch)
+  pub numbers : NumbersReady (d .tally) (d .serials)
 
 -- ── a line of some blocks ──
 -- A function for some of the blocks is lent what they use. What it needs it needs with some other parts of the desk, what it promises it promises
 -- with all.
 module _ (spool : List ℕ) (form : LineForm) (w : Where) (n : Now) where
   -- at the top level or in FILE_FORMAT
-  abbrev pub HeadFits : List ℕ → List ℕ → List ℕ → List Bool → List Bool → List Bool → List ℤ → List ℤ → Type 0
-  HeadFits tally symbols layers used usedAll marks header t =
-      (serials : List ℕ) × (inner : List Bool) × LineFits spool form w (desk n tally symbols layers serials used usedAll marks inner header t)
+  abbrev pub HeadFits : List ℕ → List ℕ → List ℕ → List ℕ → List Bool → List Bool → List Bool → List ℤ → List ℤ → Type 0
+  HeadFits tally symbols layers serials used usedAll marks header t =
+      (inner : List Bool) × LineFits spool form w (desk n tally symbols layers serials used usedAll marks inner header t)
 
-  abbrev pub HeadDone : List ℕ → List ℕ → List ℕ → List ℕ → List ℕ → List Bool → List Bool → List Bool → List Bool → List Bool → List ℤ → List ℤ
-      → List ℤ → List ℤ → Step → Type 0
-  HeadDone following tally tally₁ symbols layers used used₁ usedAll marks marks₁ header header₁ t t₁ r =
-      (c : Class) (serials : List ℕ) (inner : List Bool)
+  abbrev pub HeadDone : Class → List ℕ → List ℕ → List ℕ → List ℕ → List ℕ → List ℕ → List Bool → List Bool → List Bool → List Bool → List Bool
+      → List ℤ → List ℤ → List ℤ → List ℤ → Step → Type 0
+  HeadDone c following tally tally₁ symbols layers serials used used₁ usedAll marks marks₁ header header₁ t t₁ r =
+      (inner : List Bool)
       → Done c spool following form w (desk n tally symbols layers serials used usedAll marks inner header t)
       (desk n tally₁ symbols layers serials used₁ usedAll marks₁ inner header₁ t₁) r
 

@@ -9,11 +9,12 @@ use lib.Seq.{sets}
 use Rattle.rules.specs.declared.Class.{Class}
 use Rattle.rules.specs.Blocks.{symbolTable}
 use Rattle.rules.specs.Values.{valueAt}
-use Rattle.rules.specs.Sets.{Point, Edge, Figure, Drawing, Symbol, Set, isFirst}
+use Rattle.rules.specs.Figures.{wireTable, wireTextTable}
+use Rattle.rules.specs.Sets.{Point, Edge, Wire, Figure, Drawing, Symbol, Set, isFirst}
 use Rattle.rules.specs.Machine.{Home, inElement, inLayer}
 use Rattle.rules.specs.RecordTable.{putSlots, start, fileRecords, drawingRecord, layerRecords, firstType, figureRecords}
 use Rattle.rules.specs.RecordTable.{symbolRecords, bodyRecords, recordsFrom, width, kindSymbol, kindSuccessive, inSymbol}
-use Rattle.rules.specs.RecordTable.{viewOf, plainView, wireStart}
+use Rattle.rules.specs.RecordTable.{viewOf, plainView, wireStart, shelves, putGroups, putTexts, placeTextState}
 use Rattle.rules.specs.Wires.{lastEdge}
 
 -- the number of the volume at hand
@@ -72,8 +73,22 @@ abbrev pub formerNumbers : Option Edge → List ℤ → List ℤ
 formerNumbers none t = t
 formerNumbers (some e) t = set (set (set t 4 (valueAt (e .values) 3)) (width + 4) (valueAt (e .values) 4)) (width + 30) (pos (suc (e .row)))
 
-abbrev pub wireSoFar : Set → ℕ → ℕ → List Edge → List ℤ
-wireSoFar s k n es = formerNumbers (lastEdge es) (wireStart k (volumeOf s) n)
+-- what was read of it: the rows that stand once, the texts, the keys that repeat
+abbrev pub wireRead : Wire → List ℤ → List ℤ
+wireRead w t = putGroups shelves (w .groups) (putTexts (w .texts) (putSlots wireTable (w .own) t))
+
+-- a text has its state from its opener on
+abbrev pub textBegun : ℕ → List ℤ → List ℤ
+textBegun zero t = t
+textBegun (suc p) t = set t placeTextState (pos 2)
+
+-- with its text open, or not
+abbrev pub wireSoFar : Set → ℕ → ℕ → Wire → ℕ → List ℤ
+wireSoFar s k n w p = formerNumbers (lastEdge (w .elements)) (textBegun p (wireRead w (wireStart k (volumeOf s) n)))
+
+-- its open text, as a text's own record
+abbrev pub writingRecord : Wire → List ℤ
+writingRecord w = putSlots wireTextTable (w .writing) (replicate width (pos 0))
 
 -- a record whose numbers come later
 abbrev pub emptyRecord : List ℤ

@@ -6,21 +6,20 @@ use mathlib.Core.Path.{_≡_}
 use mathlib.Core.List.{List, [], _∷_, _++_, map}
 use mathlib.Core.Option.{Option, none, some}
 use lib.IntN.{ℤ}
-use lib.ListN.{length, getD, take, drop}
-use Rattle.rules.specs.declared.Digits.{Digits}
+use lib.ListN.{length, getD, take, drop, replicate}
 use Rattle.rules.specs.declared.Class.{Class}
 use Rattle.rules.specs.RangeClass.{mostDepth}
-use Rattle.rules.specs.Base.{flat, total, hasNumber, isNone, isSome}
+use Rattle.rules.specs.Base.{all, flat, total, hasNumber, isNone, isSome}
 use Rattle.rules.specs.RefusalNumbers.{got, bad}
 use Rattle.rules.specs.Lines.{Rest, brace, equals, Form, ignored, wrong, close, eof, keyed, span, bytesAt, formIn}
-use Rattle.rules.specs.Values.{Value, empty, nums, chars, linked}
-use Rattle.rules.specs.Rows.{blank, Held, partOf, rowsThere, numberOf}
+use Rattle.rules.specs.Values.{Value, empty, nums, chars, linked, amountAt, serialsOf}
+use Rattle.rules.specs.Rows.{blank, Held, partOf, rowsThere, numberOf, slotValue, held}
 use Rattle.rules.specs.Blocks.{fileTable, mostLayers}
-use Rattle.rules.specs.Figures.{textTable, placedTables}
-use Rattle.rules.specs.Sets.{Point, Figure, placed, Layer, Drawing, Symbol, Set, isFirst, firstContents, arcOf, symbolRange, defineRange, wireRange, symbolNameOf}
-use Rattle.rules.specs.Sets.{figureSerial, serialsOfVolume, serialsIn, elementsOf, usedIn}
+use Rattle.rules.specs.Figures.{textTable, placedTable, placedTables, wireTextRow, wireSerialRow}
+use Rattle.rules.specs.Sets.{Point, Wire, Figure, plain, chain, lettering, placed, wired, passed, LayerBlock, Contents, Layer, Drawing, Symbol, Set, isFirst, firstContents, arcOf, symbolRange, defineRange, wireRange, symbolNameOf}
+use Rattle.rules.specs.Sets.{ownSerial, wirePartners, elementsOf, usedIn}
 use Rattle.rules.specs.VolumesAndTotals.{ownTable}
-use Rattle.rules.specs.Machine.{Line, inLastVolume, Env, Home, inElement, inLayer, State, top, file, drawing, layerNames, defines, symbol, hide, elements, unlimited}
+use Rattle.rules.specs.Machine.{Line, inLastVolume, Home, inElement, inLayer, State, top, file, drawing, layerNames, defines, symbol, hide, elements, unlimited}
 use Rattle.rules.specs.Machine.{figures, successive, texts, placing, skipping, ended, setOf, newName, Owned, symbolBlock, wireBlock, wireUnread}
 use Rattle.rules.specs.LineByLine.{stepIn}
 use Rattle.entries.specs.Names.{namesIn}
@@ -33,13 +32,14 @@ use Rattle.account.specs.Placing.{Shaped}
 use Rattle.account.specs.SkippedLines.{Skips}
 use Rattle.account.specs.declared.Complete.{Complete}
 use Rattle.account.specs.declared.Complete.the-variants as C
+use Rattle.account.specs.SerialNumbers.{ownsOf, ascending, bytesLent, allPartners}
 use Rattle.account.specs.FileLines.{fileWidth}
 use Rattle.account.specs.Putting.{completed, numberFor, clearedBy}
 use Rattle.standing.specs.SoFar.{volumeOf}
 use Rattle.standing.specs.Kept.{Scratch, shutSoFar, OwnAt, Opens, Fills, FillsAll}
 use Rattle.account.specs.Numbering.{blockTop, blockFile, blockDrawing, blockLayerNames, blockDefines, blockSymbol, blockHide, blockElements, blockFigures}
-use Rattle.account.specs.Numbering.{blockChain, blockText, blockPlaced, blockWire, blockEnded, wireRead, wireSkipped, rowsText, mostRows, headerLength, scratchLength, mostSymbols, mostSerials}
-use Rattle.rules.specs.RecordTable.{width}
+use Rattle.account.specs.Numbering.{blockChain, blockText, blockPlaced, blockWire, blockEnded, wireRead, wireText, wireSkipped, wirePast, rowsWire, rowsText, mostRows, headerLength, scratchLength, mostSymbols, mostSerials}
+use Rattle.rules.specs.RecordTable.{width, shelves}
 
 -- ── what is lent from line to line ──
 pub record Desk : Type 0 where
@@ -70,8 +70,8 @@ desk n tally symbols layers serials used usedAll marks inner header scratch = re
   scratch = scratch;
 }
 
--- a symbol takes 48 bytes of a spool at least, a placed symbol with a serial number 42: at most 1,280 names, and 1,463 serials with one free
--- place behind them, which a line in a placed symbol asks for
+-- a symbol takes 48 bytes of a spool at least, a placed symbol or a wire with a serial number of three digits 27 (`bytesLent`): at most 1,280
+-- names, and 2,279 serials with one free place behind them, which a line in such a block asks for
 pub record Lengths (d : Desk) : Type 0 where
   pub symbols : length (d .symbols) ≡ mostSymbols
   pub layers : length (d .layers) ≡ mostLayers
@@ -101,37 +101,75 @@ layersOf (placing s k fs n o p) = s .drawing .layers
 layersOf (skipping s k fs n o d) = s .drawing .layers
 layersOf (ended s) = s .drawing .layers
 
--- the own serial numbers read so far
-abbrev pub closedSerials : Set → List ℕ
-closedSerials s = flat (map serialsOfVolume (s .volumes))
+-- the serial numbers read so far, in the order written: of each symbol or wire that has them, its own number and its partners
+abbrev pub wireLinks : Option Value → List (List ℕ)
+wireLinks none = []
+wireLinks (some v) = (amountAt v 0 ∷ wirePartners v) ∷ []
 
-abbrev pub serialsWith : Set → List Figure → List ℕ
-serialsWith s fs = serialsIn s ++ flat (map figureSerial fs)
+abbrev pub symbolLinks : List ℕ → List (List ℕ)
+symbolLinks [] = []
+symbolLinks (n ∷ ps) = (n ∷ ps) ∷ []
 
-abbrev pub homeSerials : Set → Home → List Figure → List ℕ
-homeSerials s (inElement y) fs = closedSerials s
-homeSerials s (inLayer k) fs = serialsWith s fs
+abbrev pub figureLinks : Figure → List (List ℕ)
+figureLinks (plain n j v) = []
+figureLinks (chain n ps) = []
+figureLinks (lettering n s) = []
+figureLinks (placed n h) = symbolLinks (serialsOf (slotValue (held "serial" placedTable (partOf h 0))))
+figureLinks (wired n w) = wireLinks (getD (w .own) wireSerialRow none)
+figureLinks (passed n) = []
 
-abbrev pub ownedSerial : ℕ → Owned → List ℕ
-ownedSerial n (symbolBlock o) = figureSerial (placed n o)
-ownedSerial n (wireBlock w) = []
-ownedSerial n wireUnread = []
+abbrev pub linksOfBlock : LayerBlock → List (List ℕ)
+linksOfBlock u = flat (map figureLinks (u .figures))
 
-abbrev pub serialsOf : State → List ℕ
-serialsOf (top s k) = closedSerials s
-serialsOf (file s n h p) = closedSerials s
-serialsOf (drawing s d) = closedSerials s
-serialsOf (layerNames s d) = closedSerials s
-serialsOf (defines s b) = closedSerials s
-serialsOf (symbol s y) = closedSerials s
-serialsOf (hide s y ps) = closedSerials s
-serialsOf (elements s) = serialsIn s
-serialsOf (figures s h fs) = homeSerials s h fs
-serialsOf (successive s h fs n ps) = homeSerials s h fs
-serialsOf (texts s h fs n o) = homeSerials s h fs
-serialsOf (placing s k fs n o p) = serialsWith s fs ++ ownedSerial n o
-serialsOf (skipping s k fs n o d) = serialsWith s fs ++ ownedSerial n o
-serialsOf (ended s) = closedSerials s
+abbrev pub linksOfVolume : Contents → List (List ℕ)
+linksOfVolume v = flat (map linksOfBlock (v .blocks))
+
+abbrev pub closedLinks : Set → List (List ℕ)
+closedLinks s = flat (map linksOfVolume (s .volumes))
+
+-- in the layers that are closed
+abbrev pub linksIn : Set → List (List ℕ)
+linksIn s = closedLinks s ++ linksOfVolume (s .now)
+
+abbrev pub linksWith : Set → List Figure → List (List ℕ)
+linksWith s fs = linksIn s ++ flat (map figureLinks fs)
+
+abbrev pub homeLinks : Set → Home → List Figure → List (List ℕ)
+homeLinks s (inElement y) fs = closedLinks s
+homeLinks s (inLayer k) fs = linksWith s fs
+
+abbrev pub ownedLinks : ℕ → Owned → List (List ℕ)
+ownedLinks n (symbolBlock o) = figureLinks (placed n o)
+ownedLinks n (wireBlock w) = figureLinks (wired n w)
+ownedLinks n wireUnread = []
+
+abbrev pub linksOf : State → List (List ℕ)
+linksOf (top s k) = closedLinks s
+linksOf (file s n h p) = closedLinks s
+linksOf (drawing s d) = closedLinks s
+linksOf (layerNames s d) = closedLinks s
+linksOf (defines s b) = closedLinks s
+linksOf (symbol s y) = closedLinks s
+linksOf (hide s y ps) = closedLinks s
+linksOf (elements s) = linksIn s
+linksOf (figures s h fs) = homeLinks s h fs
+linksOf (successive s h fs n ps) = homeLinks s h fs
+linksOf (texts s h fs n o) = homeLinks s h fs
+linksOf (placing s k fs n o p) = linksWith s fs ++ ownedLinks n o
+linksOf (skipping s k fs n o d) = linksWith s fs ++ ownedLinks n o
+linksOf (ended s) = closedLinks s
+
+-- how the numbers that are kept stand to them: in their order, the same own numbers, and the same partners
+abbrev pub ownsIn : List (List ℕ) → List ℕ
+ownsIn links = flat (map ownSerial links)
+
+abbrev pub partnersOf : List (List ℕ) → List ℕ
+partnersOf links = flat (map (λ l. drop 1 l) links)
+
+pub record Numbers (spool ks : List ℕ) (links : List (List ℕ)) : Type 0 where
+  pub ordered : ascending ks ≡ true
+  pub owns : (n : ℕ) → hasNumber n (ownsOf ks) ≡ hasNumber n (ownsIn links)
+  pub partners : (found : ℕ → Bool) → all found (allPartners spool ks) ≡ all found (partnersOf links)
 
 -- the layers used so far in the volume at hand
 abbrev pub homeUsed : Set → Home → List ℕ
@@ -154,13 +192,16 @@ usedOf (placing s k fs n o p) = homeUsed s (inLayer k)
 usedOf (skipping s k fs n o d) = homeUsed s (inLayer k)
 usedOf (ended s) = []
 
--- the elements of a wire that is open
+-- the elements of a wire that is open, and the lines of its keys that repeat
+abbrev pub repeatsOf : Wire → ℕ
+repeatsOf w = total length (w .groups) + length (w .texts)
+
 abbrev pub ownedElements : Owned → ℕ
 ownedElements (symbolBlock o) = 0
-ownedElements (wireBlock w) = length (w .elements)
+ownedElements (wireBlock w) = length (w .elements) + repeatsOf w
 ownedElements wireUnread = 0
 
--- the figures of the layer or symbol that is open, and the elements of its open wire
+-- the figures of the layer or symbol that is open, and the elements and repeated lines of its open wire
 abbrev pub openFigures : State → ℕ
 openFigures (top s k) = 0
 openFigures (file s n h p) = 0
@@ -288,35 +329,32 @@ nameBytes (placing s k fs n o p) = 0
 nameBytes (skipping s k fs n o d) = 0
 nameBytes (ended s) = 0
 
--- A serial number counts as a whole placed symbol from its own line on, though `symbol=` (17: four commas, and a digit of each number) and
--- the end (3) may be still to come: these 20 are always lent. Before its serial's line (10) an open placed symbol has them and `E_symbol:{`,
--- behind it all 42 are spent.
-abbrev pub serialDue : Option Value → ℕ
-serialDue o = cond (isSome o) 0 32
-
-abbrev pub placedBytes : Held → ℕ
-placedBytes o = serialDue (getD (partOf o 0) 5 none) + rowBytes 17 (getD (partOf o 0) 0 none)
+-- A serial number counts as a whole block from its own line on, though the end (3) may be still to come: these 3 are always lent. Before its
+-- serial's line (`serial=100`, 12; `serial=100,,`, 14) an open block has them and its opener (`E_symbol:{`, 12; `E_wire:{`, 10), behind it
+-- all 27 are spent.
+abbrev pub dueOf : ℕ → Option Value → ℕ
+dueOf opener o = cond (isSome o) 0 (3 + opener)
 
 abbrev pub ownedBytes : Owned → ℕ
-ownedBytes (symbolBlock o) = placedBytes o
-ownedBytes (wireBlock w) = 20
-ownedBytes wireUnread = 20
+ownedBytes (symbolBlock o) = dueOf 12 (getD (partOf o 0) 5 none)
+ownedBytes (wireBlock w) = dueOf 10 (getD (w .own) wireSerialRow none)
+ownedBytes wireUnread = 3
 
 abbrev pub serialBytes : State → ℕ
-serialBytes (top s k) = 20
-serialBytes (file s n h p) = 20
-serialBytes (drawing s d) = 20
-serialBytes (layerNames s d) = 20
-serialBytes (defines s b) = 20
-serialBytes (symbol s y) = 20
-serialBytes (hide s y ps) = 20
-serialBytes (elements s) = 20
-serialBytes (figures s h fs) = 20
-serialBytes (successive s h fs n ps) = 20
-serialBytes (texts s h fs n o) = 20
+serialBytes (top s k) = 3
+serialBytes (file s n h p) = 3
+serialBytes (drawing s d) = 3
+serialBytes (layerNames s d) = 3
+serialBytes (defines s b) = 3
+serialBytes (symbol s y) = 3
+serialBytes (hide s y ps) = 3
+serialBytes (elements s) = 3
+serialBytes (figures s h fs) = 3
+serialBytes (successive s h fs n ps) = 3
+serialBytes (texts s h fs n o) = 3
 serialBytes (placing s k fs n o p) = ownedBytes o
 serialBytes (skipping s k fs n o d) = ownedBytes o
-serialBytes (ended s) = 20
+serialBytes (ended s) = 3
 
 -- ── the block that is open ──
 -- no layers are declared yet, and no symbols
@@ -352,6 +390,12 @@ isText (some empty) = false
 isText (some (nums v)) = false
 isText (some (chars at c)) = true
 isText (some (linked n ps)) = false
+
+-- how far a wire that is read is, as the code remembers it
+abbrev pub partIn : ℕ → Bool → ℕ
+partIn zero false = wireRead
+partIn zero true = wirePast
+partIn (suc p) past = wireText
 
 -- n, ms, is: what the code remembers, the marks of the open block and those of its inner part
 module _ (spool : List ℕ) (k : ℕ) (n : Now) (ms is : List Bool) where
@@ -405,12 +449,23 @@ module _ (spool : List ℕ) (k : ℕ) (n : Now) (ms is : List Bool) where
     pub unopened : isNone (getD (partOf o 0) 1 none) ≡ true → partOf o 1 ≡ blank (textTable true 16 24)
     pub opened : p ≡ 1 → isNone (getD (partOf o 0) 1 none) ≡ false
 
-  -- a wire: whether it is read, and how many elements it has or how many skipped blocks are open in it
-  pub record InWire (s : Set) (m : ℕ) (fs : List Figure) (read many : ℕ) : Type 0 where
+  -- a wire: how far it is, and how many elements it has or how many skipped blocks are open in it
+  pub record InWire (s : Set) (m : ℕ) (fs : List Figure) (far many : ℕ) : Type 0 where
     pub home : InHome s (inLayer m)
     pub figures : n .figures ≡ length fs
-    pub part : n .part ≡ read
+    pub part : n .part ≡ far
     pub points : n .points ≡ many
+
+  -- one that is read: p is 1 in its text
+  pub record InRead (s : Set) (m : ℕ) (fs : List Figure) (w : Wire) (p : ℕ) : Type 0 where
+    pub wire : InWire s m fs (partIn p (w .past)) (length (w .elements))
+    pub parts : p ≤ 1
+    pub slots : length (w .own) ≡ rowsWire
+    pub marked : take rowsWire ms ≡ rowsThere (w .own)
+    pub repeats : take (suc wireTextRow) (w .own) ≡ replicate (suc wireTextRow) none  -- the rows that repeat are not among those that stand once
+    pub groups : length (w .groups) ≡ length shelves
+    pub shut : p ≡ 0 → w .writing ≡ []
+    pub writes : p ≡ 1 → (w .past ≡ true) × (length (w .writing) ≡ rowsText) × (is ≡ rowsThere (w .writing))
 
 module _ (c : Class) (spool : List ℕ) (k : ℕ) (d : Desk) where
   -- FILE_FORMAT's part is said in FileStanding
@@ -430,7 +485,7 @@ module _ (c : Class) (spool : List ℕ) (k : ℕ) (d : Desk) where
       × (d .inner ≡ rowsThere o)
   Inside FileHere (placing s m fs n (symbolBlock o) p) = (d .now .block ≡ blockPlaced) × InPlaced spool k (d .now) (d .marks) (d .inner) s m fs o p
   Inside FileHere (placing s m fs n (wireBlock w) p) =
-      (d .now .block ≡ blockWire) × (p ≡ 0) × InWire spool k (d .now) (d .marks) (d .inner) s m fs wireRead (length (w .elements))
+      (d .now .block ≡ blockWire) × InRead spool k (d .now) (d .marks) (d .inner) s m fs w p
   Inside FileHere (placing s m fs n wireUnread p) = ⊥
   Inside FileHere (skipping s m fs n (symbolBlock o) q) = ⊥
   Inside FileHere (skipping s m fs n (wireBlock w) q) = ⊥
@@ -444,16 +499,16 @@ module _ (c : Class) (spool : List ℕ) (k : ℕ) (d : Desk) where
     pub scratch : Scratch (d .scratch) st
     pub here : ℕ
     pub this : counts st ≡ true → here ≡ thisOf (setOf st)
-    pub tally : d .tally ≡ tallyOf (setOf st) here (length (layersOf st)) (length (serialsOf st))
+    pub tally : d .tally ≡ tallyOf (setOf st) here (length (layersOf st)) (length (linksOf st))
     pub symbols : namesIn spool (take (length (setOf st .symbols)) (d .symbols)) ≡ map symbolNameOf (setOf st .symbols)
     pub layers : namesIn spool (take (length (layersOf st)) (d .layers)) ≡ map (λ l. l .id) (layersOf st)
     pub few-layers : length (layersOf st) ≤ mostLayers
-    pub serials : take (length (serialsOf st)) (d .serials) ≡ serialsOf st
+    pub serials : Numbers spool (take (length (linksOf st)) (d .serials)) (linksOf st)
     pub used : inside st ≡ true → (j : ℕ) → j < mostLayers → getD (d .used) j false ≡ hasNumber j (usedOf st)
     pub used-all : (j : ℕ) → j < mostLayers → getD (d .usedAll) j false ≡ hasNumber j (flat (map usedIn (setOf st .volumes)) ++ usedOf st)
     pub counted : total elementsOf (setOf st .volumes) + elementsHere st + openFigures st ≤ at
     pub named : 48 * length (setOf st .symbols) + nameBytes st ≤ at
-    pub numbered : 42 * length (serialsOf st) + serialBytes st ≤ at + 20
+    pub numbered : 27 * length (linksOf st) + serialBytes st ≤ at + 3 + bytesLent (take (length (linksOf st)) (d .serials))
     pub block : Inside FileHere st
 
 -- ── what a line does ──

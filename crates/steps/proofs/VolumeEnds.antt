@@ -16,8 +16,8 @@ use Rattle.rules.specs.RangeClass.{digits}
 use Rattle.rules.specs.Rows.{Held, rowsAtLimit, shut, refuse, complete}
 use Rattle.rules.specs.Blocks.{elementTable}
 use Rattle.rules.specs.Sets.{Set, withVolume, usedIn}
-use Rattle.rules.specs.VolumesAndTotals.{layersUsed, countedHere, countedAll}
-use Rattle.rules.specs.Machine.{Line, Env, State, top, file, drawing, layerNames, defines, symbol, hide, elements, figures, successive, texts, placing, skipping, ended, setOf, inLayer, byAct, onTop, onElements, limitedTo}
+use Rattle.rules.specs.VolumesAndTotals.{layersUsed, countedHere, countedAll, partnersExist}
+use Rattle.rules.specs.Machine.{Line, Env, State, top, file, drawing, layerNames, defines, symbol, hide, elements, figures, successive, texts, placing, skipping, ended, setOf, inLayer, byAct, onTop, onElements, limitedTo, testsPartners}
 use Rattle.rules.specs.LineByLine.{stepIn, isIgnored, isClose, isEof, completes, nextVolume, step}
 use Rattle.rules.proofs.Chains.{clash, never, unless-got, and-left, and-right, or-left}
 use Rattle.account.specs.declared.Now.{Now}
@@ -27,7 +27,7 @@ use Rattle.account.specs.declared.Complete.{Complete}
 use Rattle.account.specs.declared.Complete.the-variants as C
 use Rattle.account.specs.Account.{atBlock}
 use Rattle.account.specs.Putting.{completed, numberFor, clearedBy}
-use Rattle.account.specs.SkippedLines.{Skips, inPlaced}
+use Rattle.account.specs.SkippedLines.{Skips, inPlaced, inWire}
 use Rattle.standing.specs.SoFar.{volumeOf}
 use Rattle.steps.specs.VolumeLines.{nextNow, lastStep}
 use Rattle.standing.specs.Reading.{nextNumber, nextState, Kept}
@@ -46,6 +46,8 @@ Ends false taken st = (s : Set) × (st ≡ top s 4) × (s .taken ≡ taken)
 never-ends : (b : Bool) (taken : ℕ) {inside behind : State} → Skips inside behind → Ends b taken inside → ⊥
 never-ends true taken (inPlaced s m fs i o) (s′, v, e) = absurd (let x : _≡_ {A = ℕ} 0 1 = cc in omega arith)
 never-ends false taken (inPlaced s m fs i o) (s′, v, e) = absurd (let x : _≡_ {A = ℕ} 0 1 = cc in omega arith)
+never-ends true taken (inWire s m fs i x) (s′, v, e) = absurd (let x : _≡_ {A = ℕ} 0 1 = cc in omega arith)
+never-ends false taken (inWire s m fs i x) (s′, v, e) = absurd (let x : _≡_ {A = ℕ} 0 1 = cc in omega arith)
 
 form-ignored : (f : Form) → isIgnored f ≡ true → f ≡ ignored
 form-ignored ignored h = refl
@@ -80,12 +82,13 @@ module _ (e : Env) (l : Line) where
       → stepIn e l (top s m) ≡ got st → Ends b (s .taken) st
   top-ends s m st true n h g =
       let f = form-eof (l .form) (and-right (eqb m 4) _ h) in
-      let z : Got State = unless (eqb m 4 && (isNil (l .next) && l .last)) 9 (unless (layersUsed s) 14 (unless (countedAll s) 17 (got (ended s)))) in
+      let z : Got State = unless (eqb m 4 && (isNil (l .next) && l .last)) 9 (unless (layersUsed s) 14 (unless (countedAll s) 17 (unless (not (testsPartners (e .class) s) || partnersExist s) 21 (got (ended s))))) in
       let q : z ≡ got st = sym (ap (λ (x : Form). onTop e l s m x) f) ∙ g in
       let (a₁, q₁) = unless-got (eqb m 4 && (isNil (l .next) && l .last)) 9 _ st q in
       let (a₂, q₂) = unless-got (layersUsed s) 14 _ st q₁ in
       let (a₃, q₃) = unless-got (countedAll s) 17 _ st q₂ in
-      (s, sym (got-same q₃), refl)
+      let (a₄, q₄) = unless-got (not (testsPartners (e .class) s) || partnersExist s) 21 _ st q₃ in
+      (s, sym (got-same q₄), refl)
   top-ends s m st false n h g =
       let f = form-ignored (l .form) (and-right (eqb m 4) _ h) in
       let q : got (top s m) ≡ got st = sym (ap (λ (x : Form). onTop e l s m x) f) ∙ g in

@@ -30,7 +30,7 @@ use Rattle.account.specs.declared.Pos.{Pos}
 use Rattle.account.specs.declared.Left.the-variants as L
 use Rattle.account.specs.Putting.{withinLimit, completed, numberFor, putBy, clearedBy, ownAfter}
 use Rattle.account.specs.Walk.{seenFrom, At, todo, Next}
-use Rattle.account.specs.SkippedLines.{Skips, inPlaced, SkipMet}
+use Rattle.account.specs.SkippedLines.{Skips, inPlaced, inWire, SkipMet}
 use Rattle.steps.specs.VolumeLines.{completesOf, lastStep}
 use Rattle.standing.specs.Kept.{Scratch, OwnAt}
 use Rattle.standing.specs.Standing.{Desk, inside, formSize, Inside, Stands, deskNow, deskScratch, LineHere, Counted, Goes, StepOut}
@@ -118,9 +118,11 @@ stands-between c spool k d F G at b s z = record {
 -- behind a skipped block no own record is open
 own-skipped : (c : Class) (own : ℕ) {inside behind : State} → Skips inside behind → OwnAt c own behind
 own-skipped c own (inPlaced s m fs i o) = tt
+own-skipped c own (inWire s m fs i w) = tt
 
 same-skipped : {inside behind : State} → Skips inside behind → setOf inside ≡ setOf behind
 same-skipped (inPlaced s m fs i o) = refl
+same-skipped (inWire s m fs i w) = refl
 
 module _ (c : Class) (spool body : List ℕ) (v : Volume) (following : List ℕ) (limit : ℕ) where
   abbrev k : ℕ

@@ -35,6 +35,7 @@ use elements::points::on_hide;
 use elements::texts::on_text;
 use elements::wires::begin_wire;
 use elements::wires::on_wire;
+use groundwork::serials::partners_met;
 use rules::WIDTH;
 ghost use mathlib.Core.Path.{_≡_};
 ghost use mathlib.Core.Bool.{true};
@@ -46,11 +47,12 @@ ghost use Rattle.account.specs.declared.Step.the-variants as S;
 ghost use Rattle.account.specs.Records.{partAt};
 ghost use Rattle.account.specs.SymbolLines.{isNamed};
 ghost use Rattle.account.specs.PlacedLines.{lent, LentReady};
+ghost use Rattle.account.specs.WireLines.{WireReady};
 ghost use Rattle.account.specs.TopLines.{topLent};
 ghost use Rattle.account.specs.FileLines.{FileReady};
 ghost use Rattle.standing.specs.Standing.{desk};
 ghost use Rattle.standing.specs.Reading.{tallyAfter, tallyNamed, symbolsNamed, LineReady, LinePromise};
-ghost use Rattle.standing.specs.LineDone.{Named, SymbolReady, OnTop, OnFile, OnDrawing, OnNames, OnDefines, OnSymbol, OnHide, OnElements, OnFigures, OnChain, OnText, OnPlaced, OnWire, HeadFits, HeadDone, SheetFits, SheetDone, FiguresFit, FiguresDone};
+ghost use Rattle.standing.specs.LineDone.{Named, NumbersReady, SymbolReady, OnTop, OnFile, OnDrawing, OnNames, OnDefines, OnSymbol, OnHide, OnElements, OnFigures, OnChain, OnText, OnPlaced, OnWire, HeadFits, HeadDone, SheetFits, SheetDone, FiguresFit, FiguresDone};
 ghost use Rattle.account.specs.Numbering.{blockDrawing, blockDefines, blockSymbol, blockElements, blockFigures, tallyElementsHere, tallyTotal, tallySymbols, tallyLayers, tallyLength, mostRows, headerLength, scratchLength};
 ghost use Rattle.rules.specs.RecordTable.{width};
 
@@ -98,20 +100,21 @@ fn at_top(
     tally: &[u32],
     symbols: &[u32],
     layers: &[u32],
+    serials: &[u64],
     used: &mut [bool],
     used_all: &[bool],
     marks: &mut [bool],
     header: &mut [i64],
     t: &mut [i64],
 ) -> Step
-    requires { ⌜ (length (now s) ≤ 61440) × Named (now tally) (now symbols) (now layers) × (getD (now tally) tallyLayers 0 ≤ length (now «used_all»)) × (length (now header) ≡ headerLength) × (length (now t) ≡ scratchLength) × (x .here .records + 2 ≤ 18446744073709551615) ⌝ }
-    ensures { λ r. ⌜ OnTop (now (s .entry)) (x .form) (x .here) (now (tally .entry)) (now (symbols .entry)) (now (layers .entry)) (x .at) (now («used_all» .entry)) (topLent (now (marks .entry)) (now (used .entry)) (now (header .entry))) (topLent (now (marks .exit)) (now (used .exit)) (now (header .exit))) (now (t .entry)) (now (t .exit)) r ⌝ }
+    requires { ⌜ (length (now s) ≤ 61440) × Named (now tally) (now symbols) (now layers) × (getD (now tally) tallyLayers 0 ≤ length (now «used_all»)) × (length (now header) ≡ headerLength) × (length (now t) ≡ scratchLength) × (x .here .records + 2 ≤ 18446744073709551615) × NumbersReady (now tally) (now serials) ⌝ }
+    ensures { λ r. ⌜ OnTop (now (s .entry)) (x .form) (x .here) (now (tally .entry)) (now (symbols .entry)) (now (layers .entry)) (x .class) (now (serials .entry)) (x .at) (now («used_all» .entry)) (topLent (now (marks .entry)) (now (used .entry)) (now (header .entry))) (topLent (now (marks .exit)) (now (used .exit)) (now (header .exit))) (now (t .entry)) (now (t .exit)) r ⌝ }
 {
     let form = x.form;
     let ns = tally[TALLY_SYMBOLS] as usize;
     let nl = tally[TALLY_LAYERS] as usize;
     let first = x.at.volume == 1;
-    on_top(
+    let did = on_top(
         s,
         &symbols[..ns],
         &layers[..nl],
@@ -125,7 +128,8 @@ fn at_top(
         used_all,
         header,
         &mut t[0..WIDTH],
-    )
+    );
+    partners_met(did, x.class, s, tally, serials)
 }
 
 fn in_file(
@@ -416,7 +420,7 @@ fn in_placed(
     inner: &mut [bool],
     t: &mut [i64],
 ) -> Step
-    requires { ⌜ (length (now s) ≤ 61440) × Named (now tally) (now symbols) (now layers) × LentReady (lent (now tally) (now serials) (now marks) (now inner)) (partAt width (now t)) × (x .here .figures < 4294967295) × (length (now t) ≡ scratchLength) ⌝ }
+    requires { ⌜ (length (now s) ≤ 61440) × Named (now tally) (now symbols) (now layers) × LentReady (lent (now tally) (now serials) (now marks) (now inner)) × (x .here .figures < 4294967295) × (length (now t) ≡ scratchLength) ⌝ }
     ensures { λ r. ⌜ OnPlaced (now (s .entry)) (x .form) (x .here) (now (tally .entry)) (now (symbols .entry)) (now (layers .entry)) (x .class) (lent (now (tally .entry)) (now (serials .entry)) (now (marks .entry)) (now (inner .entry))) (lent (now (tally .exit)) (now (serials .exit)) (now (marks .exit)) (now (inner .exit))) (now (t .entry)) (now (t .exit)) r ⌝ }
 {
     let form = x.form;
@@ -442,26 +446,28 @@ fn in_placed(
 fn in_wire(
     s: &[u8],
     x: LineAt,
-    tally: &[u32],
+    tally: &mut [u32],
     symbols: &[u32],
     layers: &[u32],
+    serials: &mut [u64],
+    marks: &mut [bool],
+    inner: &mut [bool],
     t: &mut [i64],
 ) -> Step
-    requires { ⌜ (length (now s) ≤ 61440) × Named (now tally) (now symbols) (now layers) × (x .here .figures < 4294967295) × (x .here .points < 4294967295) × (length (now t) ≡ scratchLength) × (x .here .records < 18446744073709551615) ⌝ }
-    ensures { λ r. ⌜ OnWire (now (s .entry)) (x .form) (x .here) (now (tally .entry)) (now (symbols .entry)) (now (layers .entry)) (x .at) (now (t .entry)) (now (t .exit)) r ⌝ }
+    requires { ⌜ (length (now s) ≤ 61440) × Named (now tally) (now symbols) (now layers) × WireReady (lent (now tally) (now serials) (now marks) (now inner)) (x .here) (now t) ⌝ }
+    ensures { λ r. ⌜ OnWire (now (s .entry)) (x .form) (x .here) (now (tally .entry)) (now (symbols .entry)) (now (layers .entry)) (x .class) (x .at) (lent (now (tally .entry)) (now (serials .entry)) (now (marks .entry)) (now (inner .entry))) (lent (now (tally .exit)) (now (serials .exit)) (now (marks .exit)) (now (inner .exit))) (now (t .entry)) (now (t .exit)) r ⌝ }
 {
-    let form = x.form;
     let ns = tally[TALLY_SYMBOLS] as usize;
     let nl = tally[TALLY_LAYERS] as usize;
-    let range = tally[TALLY_WIRE_RANGE];
     on_wire(
         s,
         &symbols[..ns],
         &layers[..nl],
-        range,
-        x.here,
-        form,
-        x.at,
+        x,
+        tally,
+        serials,
+        marks,
+        inner,
         t,
     )
 }
@@ -474,14 +480,15 @@ fn head_line(
     tally: &mut [u32],
     symbols: &[u32],
     layers: &[u32],
+    serials: &[u64],
     used: &mut [bool],
     used_all: &[bool],
     marks: &mut [bool],
     header: &mut [i64],
     t: &mut [i64],
 ) -> Step
-    requires { ⌜ HeadFits (now s) (x .form) (x .at) (x .here) (now tally) (now symbols) (now layers) (now used) (now «used_all») (now marks) (now header) (now t) × (x .here .block < blockDrawing) ⌝ }
-    ensures { λ r. ⌜ HeadDone (now (s .entry)) (x .form) (x .at) (x .here) (now (following .entry)) (now (tally .entry)) (now (tally .exit)) (now (symbols .entry)) (now (layers .entry)) (now (used .entry)) (now (used .exit)) (now («used_all» .entry)) (now (marks .entry)) (now (marks .exit)) (now (header .entry)) (now (header .exit)) (now (t .entry)) (now (t .exit)) r ⌝ }
+    requires { ⌜ HeadFits (now s) (x .form) (x .at) (x .here) (now tally) (now symbols) (now layers) (now serials) (now used) (now «used_all») (now marks) (now header) (now t) × (x .here .block < blockDrawing) ⌝ }
+    ensures { λ r. ⌜ HeadDone (now (s .entry)) (x .form) (x .at) (x .here) (x .class) (now (following .entry)) (now (tally .entry)) (now (tally .exit)) (now (symbols .entry)) (now (layers .entry)) (now (serials .entry)) (now (used .entry)) (now (used .exit)) (now («used_all» .entry)) (now (marks .entry)) (now (marks .exit)) (now (header .entry)) (now (header .exit)) (now (t .entry)) (now (t .exit)) r ⌝ }
 {
     if x.here.block == BLOCK_TOP {
         return at_top(
@@ -490,6 +497,7 @@ fn head_line(
             tally,
             symbols,
             layers,
+            serials,
             used,
             used_all,
             marks,
@@ -556,7 +564,7 @@ fn figure_line(
         return in_placed(s, x, tally, symbols, layers, serials, marks, inner, t);
     }
     if x.here.block == BLOCK_WIRE {
-        return in_wire(s, x, tally, symbols, layers, t);
+        return in_wire(s, x, tally, symbols, layers, serials, marks, inner, t);
     }
     Step::Stop(9)
 }
@@ -594,6 +602,7 @@ pub(crate) fn step(
             tally,
             symbols,
             layers,
+            serials,
             used,
             used_all,
             marks,

@@ -108,8 +108,17 @@ holdsHeaded = 9
 abbrev pub holdsEither : ℕ
 holdsEither = 10
 
+abbrev pub holdsWireSerial : ℕ
+holdsWireSerial = 11
+
 -- ── the forms of values ──
--- any other number below those of decimals is that of a type
+-- any other number below those of decimals is that of a type; a wire's `direc` has the sign of a direction, 0 to 4
+abbrev pub partSign : ℕ
+partSign = 2
+
+abbrev pub partDigit : ℕ
+partDigit = 3
+
 abbrev pub partFlag : ℕ
 partFlag = 5
 
@@ -159,6 +168,9 @@ partNotNegative = 21
 abbrev pub partAboveZero : ℕ
 partAboveZero = 22
 
+abbrev pub partHalfTurn : ℕ
+partHalfTurn = 24
+
 -- ── the rules across values ──
 abbrev pub acrossEnds : ℕ
 acrossEnds = 1
@@ -168,6 +180,9 @@ acrossArc = 2
 
 abbrev pub acrossAxes : ℕ
 acrossAxes = 3
+
+abbrev pub acrossPower : ℕ
+acrossPower = 4
 
 -- ── how often a row may stand ──
 -- any other number is the most times

@@ -5,8 +5,8 @@ use mathlib.Core.List.{List, [], _∷_}
 use lib.Dec.{eqb, ltb}
 use Rattle.rules.specs.RangeClass.{digits}
 use Rattle.rules.specs.Values.{Part, count, digit, typeDigits, range, rangeOfSymbols, rangeOfWires, day, clock, decimal, Bound, anySign, notNegative, aboveZero, angle}
-use Rattle.rules.specs.Values.{symbolName, layerId, Across, nothingMore, endsDiffer, arcOfCircle, axesOfEllipse, Kind, values, text, word, volumeName, sheet}
-use Rattle.rules.specs.Values.{ratio, serials, nothing, opens, headed, either}
+use Rattle.rules.specs.Values.{halfTurn, symbolName, layerId, Across, nothingMore, endsDiffer, arcOfCircle, axesOfEllipse, servedPower, Kind, values, text, word}
+use Rattle.rules.specs.Values.{volumeName, sheet, ratio, serials, wireSerial, nothing, opens, headed, either}
 use Rattle.rules.specs.Rows.{Times, once, upTo, anyNumber, Rule, Found, absent, found}
 use lib.ListN.{getD}
 use Rattle.leaves.specs.Bytes.{bytesOf}
@@ -14,14 +14,18 @@ use Rattle.leaves.specs.Texts.{textRules, noText}
 use Rattle.tables.specs.declared.Row.{Row}
 use Rattle.tables.specs.declared.Found.{Found as Finding}
 use Rattle.tables.specs.declared.Found.the-variants as F
-use Rattle.tables.specs.Numbering.{partFlag, partPosition, partCount, partDay, partClock, partRange0, partRange01, partRange02, partRange1}
-use Rattle.tables.specs.Numbering.{partSymbolRange, partSymbolName, partLayerId, partWireRange, partAnySign, partNotNegative, partAboveZero, acrossEnds}
-use Rattle.tables.specs.Numbering.{acrossArc, acrossAxes, timesOnce, timesAny, holdsValues, holdsText, holdsWord, holdsVolumeName, holdsSheet, holdsRatio}
-use Rattle.tables.specs.Numbering.{holdsSerials, holdsNothing, holdsBlock, holdsHeaded, holdsEither}
+use Rattle.tables.specs.Numbering.{partSign, partDigit, partFlag, partPosition, partCount, partDay, partClock, partRange0, partRange01, partRange02, partRange1}
+use Rattle.tables.specs.Numbering.{partSymbolRange, partSymbolName, partLayerId, partWireRange, partAnySign, partNotNegative, partAboveZero, partHalfTurn}
+use Rattle.tables.specs.Numbering.{acrossEnds, acrossArc, acrossAxes, acrossPower, timesOnce, timesAny, holdsValues, holdsText, holdsWord, holdsVolumeName, holdsSheet, holdsRatio}
+use Rattle.tables.specs.Numbering.{holdsSerials, holdsNothing, holdsBlock, holdsHeaded, holdsEither, holdsWireSerial}
 
 -- the sign and limit of a decimal, by its number
 abbrev pub boundOf : ℕ → Bound
-boundOf n = cond (eqb n partAnySign) anySign (cond (eqb n partNotNegative) notNegative (cond (eqb n partAboveZero) aboveZero angle))
+boundOf n =
+    cond (eqb n partAnySign) anySign
+    (cond (eqb n partNotNegative) notNegative
+    (cond (eqb n partAboveZero) aboveZero
+    (cond (eqb n partHalfTurn) halfTurn angle)))
 
 -- a value that is no decimal; any other number is that of a type
 abbrev pub wholeOf : ℕ → Part
@@ -38,7 +42,9 @@ wholeOf n =
     (cond (eqb n partSymbolRange) rangeOfSymbols
     (cond (eqb n partSymbolName) symbolName
     (cond (eqb n partLayerId) layerId
-    (cond (eqb n partWireRange) rangeOfWires typeDigits))))))))))))
+    (cond (eqb n partWireRange) rangeOfWires
+    (cond (eqb n partSign) (digit 0 4)
+    (cond (eqb n partDigit) (digit 0 9) typeDigits))))))))))))))
 
 -- one value between commas, by its number
 abbrev pub partOf : ℕ → Part
@@ -50,7 +56,11 @@ partsOf zero c = []
 partsOf (suc n) c = partOf (c % 100) ∷ partsOf n (c / 100)
 
 abbrev pub acrossOf : ℕ → Across
-acrossOf n = cond (eqb n acrossEnds) endsDiffer (cond (eqb n acrossArc) arcOfCircle (cond (eqb n acrossAxes) axesOfEllipse nothingMore))
+acrossOf n =
+    cond (eqb n acrossEnds) endsDiffer
+    (cond (eqb n acrossArc) arcOfCircle
+    (cond (eqb n acrossAxes) axesOfEllipse
+    (cond (eqb n acrossPower) servedPower nothingMore)))
 
 abbrev pub timesOf : ℕ → Times
 timesOf n = cond (eqb n timesOnce) once (cond (eqb n timesAny) anyNumber (upTo n))
@@ -68,7 +78,8 @@ kindOf r =
     (cond (eqb (r .kind) holdsBlock) (opens (r .inner))
     (cond (eqb (r .kind) holdsHeaded) (headed (r .inner) (partOf (r .parts)))
     (cond (eqb (r .kind) holdsEither) (either (r .inner))
-    (values (partOf (r .parts % 100)) (partsOf (r .count) (r .parts / 100)) (acrossOf (r .across))))))))))))
+    (cond (eqb (r .kind) holdsWireSerial) wireSerial
+    (values (partOf (r .parts % 100)) (partsOf (r .count) (r .parts / 100)) (acrossOf (r .across)))))))))))))
 
 -- the rule that a row stands for, but for its key and whether it is required: a line does not go by these
 abbrev pub ruleOf : Row → Rule

@@ -2,6 +2,7 @@
 // Made by tools/make-keys from the definitions' rows: change those, or the script.
 use crate::ACROSS_ARC;
 use crate::ACROSS_ENDS;
+use crate::ACROSS_POWER;
 use crate::Found;
 use crate::HOLDS_BLOCK;
 use crate::HOLDS_EITHER;
@@ -11,6 +12,7 @@ use crate::HOLDS_RATIO;
 use crate::HOLDS_SERIALS;
 use crate::HOLDS_SHEET;
 use crate::HOLDS_VOLUME_NAME;
+use crate::HOLDS_WIRE_SERIAL;
 use crate::HOLDS_WORD;
 use crate::PART_ANY_SIGN;
 use crate::PART_CLOCK;
@@ -37,6 +39,7 @@ use crate::keys::is_circle;
 use crate::keys::is_circuit;
 use crate::keys::is_corp;
 use crate::keys::is_date;
+use crate::keys::is_direc;
 use crate::keys::is_drawer;
 use crate::keys::is_drawing_format;
 use crate::keys::is_drawname;
@@ -54,14 +57,18 @@ use crate::keys::is_hide;
 use crate::keys::is_hight;
 use crate::keys::is_layer;
 use crate::keys::is_layer_name;
+use crate::keys::is_length;
 use crate::keys::is_line;
 use crate::keys::is_make;
 use crate::keys::is_name;
 use crate::keys::is_next_file;
 use crate::keys::is_non;
+use crate::keys::is_num;
 use crate::keys::is_os;
+use crate::keys::is_piend;
 use crate::keys::is_pipe;
 use crate::keys::is_pos;
+use crate::keys::is_power;
 use crate::keys::is_project;
 use crate::keys::is_range;
 use crate::keys::is_s_base;
@@ -103,6 +110,14 @@ const SYMBOL_FORMS: u64 = 22_23_21_21_15;
 const LINE_FORMS: u64 = 21_21_21_21_17;
 
 const CIRCLE_FORMS: u64 = 5_23_23_22_20_20_17;
+
+const DIREC_FORMS: u64 = 23_21_21_02;
+
+const PIEND_FORMS: u64 = 23_21_21;
+
+const NUM_FORMS: u64 = 24_21_21_07_05;
+
+const POWER_FORMS: u64 = 7_03_03;
 
 // the free texts, by their numbers in TEXT_LIMITS
 const CAD: u8 = 0;
@@ -413,7 +428,7 @@ pub(crate) fn placed_row(k: &[u8]) -> Found
     Found::Absent
 }
 
-// A wire's block.
+// A wire's block; its range is the last two digits of E_wire.
 pub(crate) fn wire_row(k: &[u8]) -> Found
     ensures { λ r. ⌜ foundForLine (find (now (k .entry)) wireTable) ≡ foundOf r ⌝ }
 {
@@ -422,6 +437,56 @@ pub(crate) fn wire_row(k: &[u8]) -> Found
     }
     if is_circle(k) {
         return Found::Row(times(several(1, CIRCLE_FORMS, 6, ACROSS_ARC, 4), TIMES_ANY));
+    }
+    if is_direc(k) {
+        return Found::Row(with_state(from(times(several(2, DIREC_FORMS, 3, 0, 0), 2), 0, 2), 26));
+    }
+    if is_piend(k) {
+        return Found::Row(with_state(
+            from(times(several(3, PIEND_FORMS, 2, 0, 0), TIMES_ANY), 0, 3),
+            27,
+        ));
+    }
+    if is_num(k) {
+        return Found::Row(with_state(
+            from(times(several(4, NUM_FORMS, 4, 0, 0), TIMES_ANY), 0, 4),
+            28,
+        ));
+    }
+    if is_text(k) {
+        return Found::Row(with_state(
+            from(times(inner(5, HOLDS_BLOCK, 0, 1, 0), TIMES_ANY), 0, 5),
+            58,
+        ));
+    }
+    if is_length(k) {
+        return Found::Row(with_state(
+            from(may_be_empty(several(6, PART_NOT_NEGATIVE, 0, 0, 25)), 0, 6),
+            29,
+        ));
+    }
+    if is_circuit(k) {
+        return Found::Row(with_state(
+            from(
+                may_be_empty(text(7, HOLDS_WORD, 10, CIRCUIT_BYTES, 48)),
+                0,
+                7,
+            ),
+            59,
+        ));
+    }
+    if is_power(k) {
+        return Found::Row(with_state(
+            from(
+                may_be_empty(several(8, POWER_FORMS, 2, ACROSS_POWER, 50)),
+                0,
+                8,
+            ),
+            60,
+        ));
+    }
+    if is_serial(k) {
+        return Found::Row(with_state(from(plain(9, HOLDS_WIRE_SERIAL, 53), 1, 0), 61));
     }
     Found::Absent
 }

@@ -120,6 +120,16 @@ pub const CIRCUIT: [u8; 7] = *b"circuit";
 
 pub const SERIAL: [u8; 6] = *b"serial";
 
+pub const DIREC: [u8; 5] = *b"direc";
+
+pub const PIEND: [u8; 5] = *b"piend";
+
+pub const NUM: [u8; 3] = *b"num";
+
+pub const LENGTH: [u8; 6] = *b"length";
+
+pub const POWER: [u8; 5] = *b"power";
+
 pub(crate) fn is_file_format(k: &[u8]) -> bool
     ensures { λ r. ⌜ r ≡ sameBytes (now (k .entry)) (bytes "FILE_FORMAT") ⌝ }
 {
@@ -466,4 +476,34 @@ pub(crate) fn is_serial(k: &[u8]) -> bool
     ensures { λ r. ⌜ r ≡ sameBytes (now (k .entry)) (bytes "serial") ⌝ }
 {
     same(k, &SERIAL)
+}
+
+pub(crate) fn is_direc(k: &[u8]) -> bool
+    ensures { λ r. ⌜ r ≡ sameBytes (now (k .entry)) (bytes "direc") ⌝ }
+{
+    same(k, &DIREC)
+}
+
+pub(crate) fn is_piend(k: &[u8]) -> bool
+    ensures { λ r. ⌜ r ≡ sameBytes (now (k .entry)) (bytes "piend") ⌝ }
+{
+    same(k, &PIEND)
+}
+
+pub(crate) fn is_num(k: &[u8]) -> bool
+    ensures { λ r. ⌜ r ≡ sameBytes (now (k .entry)) (bytes "num") ⌝ }
+{
+    same(k, &NUM)
+}
+
+pub(crate) fn is_length(k: &[u8]) -> bool
+    ensures { λ r. ⌜ r ≡ sameBytes (now (k .entry)) (bytes "length") ⌝ }
+{
+    same(k, &LENGTH)
+}
+
+pub(crate) fn is_power(k: &[u8]) -> bool
+    ensures { λ r. ⌜ r ≡ sameBytes (now (k .entry)) (bytes "power") ⌝ }
+{
+    same(k, &POWER)
 }

@@ -77,7 +77,13 @@ pub const HOLDS_HEADED: u8 = 9;
 
 pub const HOLDS_EITHER: u8 = 10;
 
+pub const HOLDS_WIRE_SERIAL: u8 = 11;
+
 // The forms of values; any other number below those of decimals is that of a type, any other above them that of an angle.
+pub const PART_SIGN: u64 = 2;
+
+pub const PART_DIGIT: u64 = 3;
+
 pub const PART_FLAG: u64 = 5;
 
 pub const PART_POSITION: u64 = 6;
@@ -111,12 +117,16 @@ pub const PART_NOT_NEGATIVE: u64 = 21;
 
 pub const PART_ABOVE_ZERO: u64 = 22;
 
+pub const PART_HALF_TURN: u64 = 24;
+
 // The rules across values; 0 for none.
 pub const ACROSS_ENDS: u8 = 1;
 
 pub const ACROSS_ARC: u8 = 2;
 
 pub const ACROSS_AXES: u8 = 3;
+
+pub const ACROSS_POWER: u8 = 4;
 
 // How often a row may stand; any other number is the most times.
 pub const TIMES_ONCE: u8 = 0;

@@ -40,7 +40,7 @@ use Rattle.pens.specs.Standing.{Front, InSymbol, Pens}
 use Rattle.pens.specs.Drawing.{FormFits, LineOut}
 use Rattle.pens.proofs.Laying.{bytes-append, on-draws}
 use Rattle.volumes.proofs.Acted.{reads-any, acted}
-use Rattle.volumes.proofs.NotedLaws.{zeros-at}
+use Rattle.pens.proofs.NotedLaws.{zeros-at}
 use Rattle.pens.proofs.ShownLaws.{symbols-more}
 use Rattle.volumes.proofs.FrontSteps.{took, closed, row-is, front-more}
 

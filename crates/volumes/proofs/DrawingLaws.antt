@@ -43,7 +43,7 @@ use Rattle.pens.specs.Standing.{InDrawing, Here, Pens}
 use Rattle.pens.specs.Drawing.{FormFits, LineOut}
 use Rattle.pens.proofs.Laying.{on-draws, on-inserts}
 use Rattle.volumes.proofs.Acted.{reads-any, acted}
-use Rattle.volumes.proofs.NotedLaws.{noted-line, set-rows}
+use Rattle.pens.proofs.NotedLaws.{noted-line, set-rows}
 use Rattle.pens.proofs.ShownLaws.{opensNothing, block-parts, slots-more, slots-append, slots-flat, none-more, layers-more, layers-last, block-more}
 use Rattle.volumes.proofs.FrontSteps.{took, closed, row-is, unread, draws-line, line-long, still, front-more}
 

@@ -10,7 +10,7 @@ use Rattle.rules.specs.Base.{bytes, hasNumber}
 use Rattle.rules.specs.RefusalNumbers.{got, unless}
 use Rattle.rules.specs.Lines.{Rest, close, keyed, Shape, opener, noContent, content, opening, formless, bytesAt}
 use Rattle.rules.specs.RangeClass.{digits}
-use Rattle.rules.specs.Values.{Num, Value, empty, nums, chars, linked, Known, Kind, layerId, headed, readPart, readKind, servedSymbols, amountAt, showContent}
+use Rattle.rules.specs.Values.{Num, Value, empty, nums, chars, linked, Known, Kind, layerId, headed, readPart, readKind, amountAt, showContent}
 use Rattle.rules.specs.Rows.{Rule, found, find, rowsAtLimit, fits, shapeFor, Act, begin, readShape, innerOf, complete}
 use Rattle.rules.specs.Blocks.{elementTable}
 use Rattle.rules.specs.Sets.{Set, withVolume, layerTableOf, knownOf, usedIn}
@@ -38,7 +38,7 @@ use Rattle.pens.specs.Keys.{isBrace, KeyLine, PlacedRest}
 use Rattle.pens.specs.Closing.{CloseDone}
 use Rattle.pens.specs.Drawing.{FormFits, LineOut}
 use Rattle.volumes.proofs.Acted.{acted}
-use Rattle.volumes.proofs.HomeLaws.{shut-did, key-line, shut-line, volume-range, volume-table, front-volume}
+use Rattle.volumes.proofs.HomeLaws.{shut-did, key-line, shut-line, served-volume, volume-table, front-volume}
 use Rattle.pens.proofs.ShownLaws.{blocks-more}
 
 -- ── the line of a layer ──
@@ -122,4 +122,4 @@ module _ (K : Known) (spool : List ℕ) (first : Bool) (p : Pen) (ns out : List 
           let is′ : top (withVolume s) 4 ≡ st′ = cc in
           subst (λ (st : State). LineOut K spool first st ns′ out′ d) is′
           (shut-line K spool first p ns out (elements s) z (top (withVolume s) 4) (moved p 3 0 0) ns′ out′ d size many (done .elements (z .here .0)) refl volume
-          (refl, (refl, ap servedSymbols (volume-range s) ∙ z .here .1 .served)))
+          (refl, (refl, served-volume s (z .here .1 .served))))

@@ -1,5 +1,5 @@
 -- A line among figures, in a symbol's `element` or in a layer.
-use Prim.Native.Nat.{ℕ, zero, suc, _≤_, _<_, _+_}
+use Prim.Native.Nat.{ℕ, zero, suc, _≤_, _<_, _+_, _-_}
 use mathlib.Core.Bool.{Bool, true, false, cond, _&&_, not}
 use mathlib.Core.List.{List, [], _∷_, _++_, append-assoc, append-nil}
 use mathlib.Core.Option.{Option, none, some}
@@ -14,13 +14,14 @@ use Rattle.rules.specs.declared.Span.{Span}
 use Rattle.rules.specs.Base.{bytes, all, same, isNil, isSome}
 use Rattle.rules.specs.RefusalNumbers.{got}
 use Rattle.rules.specs.Lines.{Rest, brace, equals, close, keyed, stem, byStem, shapeOf, bytesAt}
-use Rattle.rules.specs.Values.{Value, empty, nums, chars, linked, Known, Kind, values, text, word, volumeName, sheet, ratio, serials, nothing, opens, headed, either, numsOf, servedSymbols}
+use Rattle.rules.specs.Values.{Value, empty, nums, chars, linked, Known, Kind, values, text, word, volumeName, sheet, ratio, serials, wireSerial, nothing, opens, headed, either, numsOf}
 use Rattle.rules.specs.Rows.{Rule, row, repeated, anyNumber, found, find, blank, rowsAtLimit, fits, shapeFor, isOpener as opensShape, innerOf, complete}
 use Rattle.rules.specs.Blocks.{blankHeld}
-use Rattle.rules.specs.Figures.{plainRows, blockRows, placedRow, wireRows, anyOf, layerTable, figureTable, textTable, placedTables}
+use Rattle.rules.specs.Figures.{plainRows, blockRows, placedRow, wireRows, anyOf, layerTable, figureTable, textTable, placedTables, wireTable}
 use Rattle.rules.specs.RecordTable.{ruleAt, kindLine, kindSuccessive, kindText, kindPlaced, kindWire, kindWireMore}
 use Rattle.rules.specs.Sets.{Figure, plain, Symbol, LayerBlock, Set, withRecords, withBlock, symbolFigures, rangeOf, isSingle, isWired, knownOf, layerTableOf}
 use Rattle.rules.specs.Machine.{Line, Env, Home, inElement, inLayer, State, symbol, elements, figures, successive, texts, placing, isLayer, homeTable, taking, openFigure, onFigures, closeFigures}
+use Rattle.rules.specs.Wires.{groupAt}
 use Rattle.rules.specs.LineByLine.{stepIn}
 use Rattle.rules.specs.Answers.{fullClass}
 use Rattle.rules.specs.FixedForm.{Text, openLine, opensBlock, behind, lineOf, block, showFigures, showBlocks}
@@ -42,16 +43,16 @@ use Rattle.pens.specs.declared.Pen.{Pen}
 use Rattle.pens.specs.declared.Drawn.{Drawn}
 use Rattle.pens.specs.Texts.{ended, Draws}
 use Rattle.pens.specs.Moves.{moved, isOpener, figureBlock, tableFor}
-use Rattle.pens.specs.Noting.{textForgotten, figureNotes, NotedRows, NotedParts}
+use Rattle.pens.specs.Noting.{textForgotten, figureNotes, Noted, NotedRows, NotedParts}
 use Rattle.pens.specs.Shown.{frontText, symbolBegun, hiddenPart, partsText, homeKnown, figuresText, shown}
-use Rattle.pens.specs.Standing.{Body, InHome, Here, Pens}
+use Rattle.pens.specs.Standing.{Body, InHome, InWire, Here, Pens}
 use Rattle.pens.specs.Keys.{isBrace, KeyDone, KeyLine, PlacedRest}
 use Rattle.pens.specs.Closing.{shutBytes, CloseDone}
 use Rattle.pens.specs.Drawing.{FormFits, LineOut}
 use Rattle.volumes.proofs.Acted.{acted, reads-any}
-use Rattle.volumes.proofs.HomeLaws.{shut-did, key-line, shut-line, block-range, block-table, front-block, text-records, text-more, rows-table, symbol-at, home-at, home-records}
+use Rattle.volumes.proofs.HomeLaws.{shut-did, key-line, shut-line, served-block, block-table, front-block, text-records, text-more, rows-table, symbol-at, home-at, home-records}
 use Rattle.volumes.proofs.FrontSteps.{took}
-use Rattle.volumes.proofs.NotedLaws.{blank-text, blank-parts}
+use Rattle.pens.proofs.NotedLaws.{zeros-at, blank-text, blank-parts, blank-long, blank-at}
 use Rattle.pens.proofs.ShownLaws.{block-parts, figures-more, blocks-one, blocks-last}
 
 -- ── the table of figures ──
@@ -125,6 +126,7 @@ opensAs key volumeName = false
 opensAs key sheet = false
 opensAs key ratio = false
 opensAs key serials = false
+opensAs key wireSerial = false
 opensAs key nothing = false
 opensAs key (opens i) = same key (figureKey i) && leb i 4
 opensAs key (headed i p) = false
@@ -150,6 +152,7 @@ opens-figure key volumeName v e o f = clash o refl
 opens-figure key sheet v e o f = clash o refl
 opens-figure key ratio v e o f = clash o refl
 opens-figure key serials v e o f = clash o refl
+opens-figure key wireSerial v e o f = clash o refl
 opens-figure key nothing v e o f = clash o refl
 opens-figure key (opens i) v e o f =
     f i refl (same-eq key (figureKey i) (and-left (same key (figureKey i)) _ e)) (leb-true i 4 (and-right (same key (figureKey i)) _ e))
@@ -165,6 +168,7 @@ no-block volumeName v o = refl
 no-block sheet v o = refl
 no-block ratio v o = refl
 no-block serials v o = refl
+no-block wireSerial v o = refl
 no-block nothing v o = refl
 no-block (opens i) v o = clash refl o
 no-block (headed i p) v o = refl
@@ -182,19 +186,50 @@ behind-nums k volumeName v e = clash e refl
 behind-nums k sheet v e = clash e refl
 behind-nums k ratio v e = clash e refl
 behind-nums k serials v e = clash e refl
+behind-nums k wireSerial v e = clash e refl
 behind-nums k nothing v e = clash e refl
 behind-nums k (opens i) v e = refl
 behind-nums k (headed i p) v e = clash e refl
 behind-nums k (either i) v e = clash e refl
 
+pub row-nums : {t : List Rule} {j : ℕ} {r : Rule} → Row t j r → numbersOnly (r .holds) ≡ true → (k : Known) (v : Value) → lineOf k (ruleAt t j) (nums (numsOf v)) ≡ lineOf k r v
+row-nums {r = r} w e k v =
+    ap (λ (q : Rule). lineOf k q (nums (numsOf v))) (row-at w (row "" (opens 0) 0)) ∙ ap (λ (u : List ℕ). r .key ++ u) (behind-nums k (r .holds) v e)
+
 pub nums-line : {t : List Rule} {j : ℕ} {r : Rule} → Row t j r → figureRows t ≡ true → (k : Known) (v : Value) → lineOf k (ruleAt t j) (nums (numsOf v)) ≡ lineOf k r v
-nums-line {r = r} w e k v =
-    ap (λ (q : Rule). lineOf k q (nums (numsOf v))) (row-at w (row "" (opens 0) 0))
-    ∙ ap (λ (u : List ℕ). r .key ++ u) (behind-nums k (r .holds) v (row-all (λ r. numbersOnly (r .holds)) w e))
+nums-line w e k v = row-nums w (row-all (λ r. numbersOnly (r .holds)) w e) k v
 
 pub text-rows : (b : Bool) → length (textTable b 4 12) ≤ 2
 unfolding textTable
 text-rows b = omega arith
+
+wire-ten : length wireTable ≡ 10
+unfolding wireTable
+wire-ten = refl
+
+-- a wire of which nothing was read
+pub new-wire : (K : Known) (first : Bool) (spool : List ℕ) (p : Pen) (ns : List ℕ) (s : Set) (m : ℕ) → InHome K spool first p ns s (inLayer m) → p .part ≡ 0 → ((i : ℕ) → getD ns i 0 ≡ 0)
+    → InWire K spool first p ns s m noWire 0
+new-wire K first spool p ns s m home part zeros = record {
+  home = home;
+  part = part;
+  open-part = omega arith;
+  slots = blank-long wireTable ∙ wire-ten;
+  others = λ j _. blank-at wireTable j;
+  noted = λ j l h. subst (Noted spool (knownOf s) (ruleAt wireTable j) (getD ns (6 + j) 0)) (sym (blank-at wireTable j)) (zeros (6 + j));
+  groups = refl;
+  no-group = λ j l h _. none-yet j;
+  no-text = λ _. (refl, refl);
+}
+  where
+    none-yet : (j : ℕ) → groupAt noWire j ≡ []
+    none-yet j = at (j - 2)
+      where
+        at : (i : ℕ) → getD (noWire .groups) i [] ≡ []
+        at zero = refl
+        at (suc zero) = refl
+        at (suc (suc zero)) = refl
+        at (suc (suc (suc i))) = refl
 
 -- ── at home ──
 module _ (K : Known) (spool : List ℕ) (first : Bool) where
@@ -264,14 +299,12 @@ module _ (K : Known) (spool : List ℕ) (first : Bool) where
         let ks : List ℕ = kindWire ∷ kindWireMore ∷ [] in
         let st : State = placing (withRecords ks s) m fs (l .line) (wireBlock noWire) 0 in
         let begun : st ≡ st′ = ap (λ (x : Class). beginWire (knowsWires x) (withRecords ks s) m fs (l .line)) (sym c) ∙ took e ks s (λ s′. beginWire (knowsWires (e .class)) s′ m fs (l .line)) st′ q in
-        let same : (i : ℕ) → getD ns′ i 0 ≡ getD ns i 0 = λ i. ap (λ (u : List ℕ). getD u i 0) notes in
+        let body : Body first s = z .here .1 .0 in
         subst (λ (st : State). LineOut K spool first st ns′ out′ d) begun
         (draws st (ap (λ (t : Text). t ++ openLine (bytes "E_wire") ∷ []) (text-records K first ks s (inLayer m) fs) ∙ ap (λ (u : List ℕ). figuresText K first s (inLayer m) fs ++ u ∷ []) (sym key)) (
           refl,
-          record {
-            home = home-records K first spool p′ ns′ ks s (inLayer m) (home-at K first spool p p′ ns ns′ s (inLayer m) refl refl (same 0) (same 3) (z .here .1));
-            whole = refl;
-          },
+          new-wire K first spool p′ ns′ (withRecords ks s) m (record { volume = body .volume; served = body .served }, z .here .1 .1) refl
+              (λ i. ap (λ (u : List ℕ). getD u i 0) notes ∙ zeros-at (length ns) i),
         ))
     opened s h fs z (suc (suc (suc (suc (suc i))))) w le q notes key draws = absurd (omega (arith, le))
 
@@ -384,7 +417,7 @@ module _ (K : Known) (spool : List ℕ) (first : Bool) where
         ∙ sym (append-assoc N (E ∷ B) ((L ∷ F) ++ S))
         ∙ sym (append-assoc A (L ∷ F) S)
         ∙ ap (λ (b : Text). b ++ S) (sym (append-assoc A (L ∷ []) F)))
-        (refl, record { volume = body .volume; served = ap servedSymbols (block-range u s) ∙ body .served }))
+        (refl, record { volume = body .volume; served = served-block u s (body .served) }))
 
     pub figures-close : (s : Set) (h : Home) (fs : List Figure) (z : Pens K spool first p ns out (figures s h fs)) (q : stepIn e l (figures s h fs) ≡ got st′)
         → l .form ≡ close → CloseDone spool first p ns out out′ d → ns′ ≡ ns → LineOut K spool first st′ ns′ out′ d

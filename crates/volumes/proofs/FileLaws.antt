@@ -11,11 +11,11 @@ use lib.IntN.{pos}
 use lib.ListN.{length, getD, set, take, drop, take-append-drop}
 use Rattle.rules.specs.declared.Span.{Span}
 use Rattle.rules.specs.Base.{bytes, isNil, all, split}
-use Rattle.rules.specs.RefusalNumbers.{Got, got, keep, orBad}
+use Rattle.rules.specs.RefusalNumbers.{Got, got, mapG, keep, orBad}
 use Rattle.rules.specs.Lines.{Form, close, keyed, Shape, opener, noContent, content, opening, formless, bytesAt}
 use Rattle.rules.specs.RangeClass.{digits}
 use Rattle.rules.specs.Numbers.{readFixed}
-use Rattle.rules.specs.Values.{Num, num, Value, nums, Known, Kind, rangeOfSymbols, nothingMore, values, servedSymbols, readPart, readAll, agree, readKind, amount, amountAt}
+use Rattle.rules.specs.Values.{Num, num, Value, nums, Known, Part, Kind, rangeOfSymbols, rangeOfWires, nothingMore, values, servedSymbols, servedWires, readPart, readAll, agree, readKind, amount, amountAt}
 use Rattle.rules.specs.Rows.{Rule, found, find, Held, partOf, enter, rowsThere, slotValue, numberOf, innerOf, fits, shapeFor, readShape, Act, entry, shut, refuse, act, complete}
 use Rattle.rules.specs.Blocks.{fileTable, rangeTable, baseTable, elecTable, symTable, laterTable, fileTables, around}
 use Rattle.rules.specs.RecordTable.{ruleAt}
@@ -47,7 +47,7 @@ use Rattle.pens.specs.Closing.{rowsBytes, CloseDone}
 use Rattle.pens.specs.Drawing.{FormFits, LineOut}
 use Rattle.pens.proofs.Laying.{bytes-append, on-draws}
 use Rattle.volumes.proofs.Acted.{reads-any, acted}
-use Rattle.volumes.proofs.NotedLaws.{noted-line, file-laid, file-tables-of, set-parts}
+use Rattle.pens.proofs.NotedLaws.{noted-line, file-laid, file-tables-of, set-parts}
 use Rattle.pens.proofs.ShownLaws.{held-more}
 
 -- ── what a line did that drew nothing, or that closed ──
@@ -112,49 +112,69 @@ around-part : (first : Bool) (i : ℕ) → suc i < length (fileTables first) →
 around-part first zero l = omega (arith, l)
 around-part first (suc i) l = omega (arith, l)
 
--- ── E_sym, as it was read, is one that is served ──
-abbrev symbolsKind : Kind
-symbolsKind = values rangeOfSymbols [] nothingMore
+-- ── E_sym and E_wire, as they were read, are such as are served ──
+-- a range of three digits and the test that it must pass
+pub record Ranged (p : Part) (served : ℕ → Bool) : Type 0 where
+  pub reading : (k : Known) (c : List ℕ) → readPart k p c ≡ mapG (λ (n : ℕ). num (pos n)) (keep 12 served (orBad 10 (readFixed 3 c)))
+  pub unwritten : served 0 ≡ true
 
-part-served : (k : Known) (c : List ℕ) (a : Num) → readPart k rangeOfSymbols c ≡ got a → servedSymbols (amount a) ≡ true
-part-served k c a e =
-    let (n, g, is) = map-got (λ (n : ℕ). num (pos n)) (keep 12 servedSymbols (orBad 10 (readFixed 3 c))) a e in
-    let (h, served) = keep-got 12 servedSymbols (orBad 10 (readFixed 3 c)) n g in
-    subst (λ (x : Num). servedSymbols (amount x) ≡ true) is served
+symbols-ranged : Ranged rangeOfSymbols servedSymbols
+symbols-ranged = record { reading = λ k c. refl; unwritten = refl }
 
-all-served : (k : Known) (ss : List (List ℕ)) (ms : List Num) → readAll k (rangeOfSymbols ∷ []) ss ≡ got ms → servedSymbols (amount (getD ms 0 (num (pos 0)))) ≡ true
-all-served k [] ms e = never e
-all-served k (s ∷ ss) ms e =
-    let (a, more, g, h, is) = cons-got (readPart k rangeOfSymbols s) (readAll k [] ss) ms e in
-    subst (λ (x : List Num). servedSymbols (amount (getD x 0 (num (pos 0)))) ≡ true) is (part-served k s a g)
+wires-ranged : Ranged rangeOfWires servedWires
+wires-ranged = record { reading = λ k c. refl; unwritten = refl }
 
-kind-served : (k : Known) (at : ℕ) (c : List ℕ) (v : Value) → readKind k symbolsKind at c ≡ got v → servedSymbols (amountAt v 0) ≡ true
-kind-served k at c v e =
-    let (ms, g, is) = map-got nums (keep 11 (agree nothingMore) (readAll k (rangeOfSymbols ∷ []) (split 44 c))) v e in
-    let (h, _) = keep-got 11 (agree nothingMore) (readAll k (rangeOfSymbols ∷ []) (split 44 c)) ms g in
-    subst (λ (x : Value). servedSymbols (amountAt x 0) ≡ true) is (all-served k (split 44 c) ms h)
+module _ (p : Part) (served : ℕ → Bool) (ranged : Ranged p served) where
+  abbrev rangeKind : Kind
+  rangeKind = values p [] nothingMore
 
-shape-served : (k : Known) (j : ℕ) (r : Rule) (s : Shape) (a : Act) → r .holds ≡ symbolsKind → fits (r .holds) false s ≡ true → readShape k j r s ≡ got a → servedSymbols (amountAt (valueOf a) 0) ≡ true
-shape-served k j r opener a e f g = clash (subst (λ (d : Kind). fits d false opener ≡ true) e f) refl
-shape-served k j r noContent a e f g = clash (subst (λ (d : Kind). fits d false noContent ≡ true) e f) refl
-shape-served k j r (content at c) a e f g =
-    let (v, h, is) = map-got (entry j) (readKind k (r .holds) at c) a g in
-    subst (λ (x : Act). servedSymbols (amountAt (valueOf x) 0) ≡ true) is (kind-served k at c v (ap (λ (d : Kind). readKind k d at c) (sym e) ∙ h))
-shape-served k j r (opening at c) a e f g = clash (subst (λ (d : Kind). fits d false (opening at c) ≡ true) e f) refl
-shape-served k j r formless a e f g = never g
+  part-served : (k : Known) (c : List ℕ) (a : Num) → readPart k p c ≡ got a → served (amount a) ≡ true
+  part-served k c a e =
+      let (n, g, is) = map-got (λ (n : ℕ). num (pos n)) (keep 12 served (orBad 10 (readFixed 3 c))) a (sym (ranged .reading k c) ∙ e) in
+      let (h, good) = keep-got 12 served (orBad 10 (readFixed 3 c)) n g in
+      subst (λ (x : Num). served (amount x) ≡ true) is good
 
-slot-served : (spool : List ℕ) (k : Known) (r : Rule) (n : ℕ) (o : Option Value) → r .holds ≡ symbolsKind → r .may ≡ false → Noted spool k r n o
-    → servedSymbols (amountAt (slotValue o) 0) ≡ true
-slot-served spool k r n none e f z = refl
-slot-served spool k r n (some v) e f z =
-    let (_, reads) = z in
-    let s : Shape = shapeFor r (restOf spool (r .holds) n) in
-    subst (λ (x : Value). servedSymbols (amountAt x 0) ≡ true) (reads .value)
-    (shape-served k (reads .number) r s (reads .act) e (subst (λ (b : Bool). fits (r .holds) b s ≡ true) f (reads .fit)) (reads .read))
+  all-served : (k : Known) (ss : List (List ℕ)) (ms : List Num) → readAll k (p ∷ []) ss ≡ got ms → served (amount (getD ms 0 (num (pos 0)))) ≡ true
+  all-served k [] ms e = never e
+  all-served k (s ∷ ss) ms e =
+      let (a, more, g, h, is) = cons-got (readPart k p s) (readAll k [] ss) ms e in
+      subst (λ (x : List Num). served (amount (getD x 0 (num (pos 0)))) ≡ true) is (part-served k s a g)
 
-file-served : (spool : List ℕ) (k : Known) (ns : List ℕ) (h : Held) → NotedParts spool k 1 ns h → servedSymbols (numberOf "E_sym" elecTable (partOf h 3)) ≡ true
+  kind-served : (k : Known) (at : ℕ) (c : List ℕ) (v : Value) → readKind k rangeKind at c ≡ got v → served (amountAt v 0) ≡ true
+  kind-served k at c v e =
+      let (ms, g, is) = map-got nums (keep 11 (agree nothingMore) (readAll k (p ∷ []) (split 44 c))) v e in
+      let (h, _) = keep-got 11 (agree nothingMore) (readAll k (p ∷ []) (split 44 c)) ms g in
+      subst (λ (x : Value). served (amountAt x 0) ≡ true) is (all-served k (split 44 c) ms h)
+
+  shape-served : (k : Known) (j : ℕ) (r : Rule) (s : Shape) (a : Act) → r .holds ≡ rangeKind → fits (r .holds) false s ≡ true → readShape k j r s ≡ got a → served (amountAt (valueOf a) 0) ≡ true
+  shape-served k j r opener a e f g = clash (subst (λ (d : Kind). fits d false opener ≡ true) e f) refl
+  shape-served k j r noContent a e f g = clash (subst (λ (d : Kind). fits d false noContent ≡ true) e f) refl
+  shape-served k j r (content at c) a e f g =
+      let (v, h, is) = map-got (entry j) (readKind k (r .holds) at c) a g in
+      subst (λ (x : Act). served (amountAt (valueOf x) 0) ≡ true) is (kind-served k at c v (ap (λ (d : Kind). readKind k d at c) (sym e) ∙ h))
+  shape-served k j r (opening at c) a e f g = clash (subst (λ (d : Kind). fits d false (opening at c) ≡ true) e f) refl
+  shape-served k j r formless a e f g = never g
+
+  slot-served : (spool : List ℕ) (k : Known) (r : Rule) (n : ℕ) (o : Option Value) → r .holds ≡ rangeKind → r .may ≡ false → Noted spool k r n o
+      → served (amountAt (slotValue o) 0) ≡ true
+  slot-served spool k r n none e f z = ranged .unwritten
+  slot-served spool k r n (some v) e f z =
+      let (_, reads) = z in
+      let s : Shape = shapeFor r (restOf spool (r .holds) n) in
+      subst (λ (x : Value). served (amountAt x 0) ≡ true) (reads .value)
+      (shape-served k (reads .number) r s (reads .act) e (subst (λ (b : Bool). fits (r .holds) b s ≡ true) f (reads .fit)) (reads .read))
+
+-- of a FILE_FORMAT
+abbrev ServedIn : Held → Type 0
+ServedIn h = (servedSymbols (numberOf "E_sym" elecTable (partOf h 3)) ≡ true) × (servedWires (numberOf "E_wire" elecTable (partOf h 3)) ≡ true)
+
+file-served : (spool : List ℕ) (k : Known) (ns : List ℕ) (h : Held) → NotedParts spool k 1 ns h → ServedIn h
 unfolding elecTable
-file-served spool k ns h z = slot-served spool k (ruleAt elecTable 0) (getD ns (23 + 0) 0) (getD (partOf h 3) 0 none) refl refl (z .parts 3 (omega arith) .rows 0 (omega arith))
+file-served spool k ns h z =
+    let rows = z .parts 3 (omega arith) .rows in (
+      slot-served rangeOfSymbols servedSymbols symbols-ranged spool k (ruleAt elecTable 0) (getD ns (23 + 0) 0) (getD (partOf h 3) 0 none) refl refl (rows 0 (omega arith)),
+      slot-served rangeOfWires servedWires wires-ranged spool k (ruleAt elecTable 1) (getD ns (23 + 1) 0) (getD (partOf h 3) 1 none) refl refl (rows 1 (omega arith)),
+    )
 
 -- ── FILE_FORMAT closes ──
 first-volume : (vs : List Contents) (v : Contents) → isNil vs ≡ true → headOr v vs ≡ v
@@ -175,12 +195,12 @@ module _ (K : Known) (spool : List ℕ) where
   closed-here true p ns s n h next ns′ e z =
       let v : Contents = record { line = n; file = h; blocks = [] } in
       let served : Served (closedSet s n h) =
-      subst (λ (x : Contents). servedSymbols (numberOf "E_sym" elecTable (partOf (x .file) 3)) ≡ true) (sym (first-volume (s .volumes) v (z .volume))) (file-served spool K ns h (z .noted)) in
+      subst (λ (x : Contents). ServedIn (x .file)) (sym (first-volume (s .volumes) v (z .volume))) (file-served spool K ns h (z .noted)) in
       (e, (record { volume = refl; alone = z .volume; empty = refl; served = served }, z .bare refl))
   closed-here false p ns s n h next ns′ e z =
       let v : Contents = record { line = n; file = h; blocks = [] } in
       let served : Served (closedSet s n h) =
-      subst (λ (x : Contents). servedSymbols (numberOf "E_sym" elecTable (partOf (x .file) 3)) ≡ true) (later-volume (s .volumes) (s .now) v (z .volume)) (z .later refl) in
+      subst (λ (x : Contents). ServedIn (x .file)) (later-volume (s .volumes) (s .now) v (z .volume)) (z .later refl) in
       (e, (record { volume = z .volume; served = served }, refl))
 
   closed-shown : (first : Bool) (s : Set) (n : ℕ) (h : Held)

@@ -12,7 +12,7 @@ use Rattle.rules.specs.Values.{Value, Known, Kind}
 use Rattle.rules.specs.Rows.{Rule, innerOf, shut, refuse}
 use Rattle.rules.specs.RecordTable.{ruleAt}
 use Rattle.rules.specs.Blocks.{symbolTable}
-use Rattle.rules.specs.Sets.{Figure, Contents, Set, LayerBlock, Symbol, withRecords, withBlock, withVolume, symbolRange, knownOf, layerTableOf}
+use Rattle.rules.specs.Sets.{Figure, Contents, Set, LayerBlock, Symbol, withRecords, withBlock, withVolume, knownOf, layerTableOf}
 use Rattle.rules.specs.Machine.{Home, inElement, inLayer, State, isLayer, homeTable, byAct}
 use Rattle.rules.specs.FixedForm.{Text, openLine, opensBlock, lineOf, showFigure, showFigures, showBlocks}
 use Rattle.rules.proofs.Chains.{never}
@@ -23,7 +23,7 @@ use Rattle.pens.specs.Texts.{ended, lineBytes, Draws}
 use Rattle.pens.specs.Moves.{moved, atOnce, keyPen}
 use Rattle.pens.specs.Noting.{Noted, keyNotes}
 use Rattle.pens.specs.Shown.{frontText, homeText, homeKnown, homeRows, figuresText, shown}
-use Rattle.pens.specs.Standing.{Front, InSymbol, InHome, Here, Pens}
+use Rattle.pens.specs.Standing.{Served, Front, InSymbol, InHome, Here, Pens}
 use Rattle.pens.specs.Keys.{keyText, KeyDone}
 use Rattle.pens.specs.Closing.{shutBytes}
 use Rattle.pens.specs.Drawing.{LineOut}
@@ -57,7 +57,7 @@ module _ (K : Known) (spool : List ℕ) (first : Bool) (p : Pen) (ns out : List 
 
   -- a line with a key, written at once
   pub key-line : (t : ℕ) (rest : CodeRest) (k : Known) (j : ℕ) (r : Rule) (v : Value) → KeyDone t p rest k j r v ns ns′ out out′ d
-      → atOnce (p .block) j ≡ true → keyPen p j (r .holds) (opensBlock (r .holds) v) (innerOf (r .holds)) (length (ended (lineOf k r v))) ≡ next
+      → atOnce p j ≡ true → keyPen p j (r .holds) (opensBlock (r .holds) v) (innerOf (r .holds)) (length (ended (lineOf k r v))) ≡ next
       → next .at ≡ p .at + length (ended (lineOf k r v))
       → shown K first st′ ≡ shown K first st ++ lineOf k r v ∷ [] → Here K spool first next ns′ st′ → LineOut K spool first st′ ns′ out′ d
   key-line t rest k j r v done once pen a e h =
@@ -68,7 +68,7 @@ module _ (K : Known) (spool : List ℕ) (first : Bool) (p : Pen) (ns out : List 
 
   -- a line with a key, noted
   pub key-noted : (t : ℕ) (rest : CodeRest) (k : Known) (j : ℕ) (r : Rule) (v : Value) → KeyDone t p rest k j r v ns ns′ out out′ d
-      → atOnce (p .block) j ≡ false → keyPen p j (r .holds) (opensBlock (r .holds) v) (innerOf (r .holds)) 0 ≡ next
+      → atOnce p j ≡ false → keyPen p j (r .holds) (opensBlock (r .holds) v) (innerOf (r .holds)) 0 ≡ next
       → next .at ≡ p .at
       → shown K first st′ ≡ shown K first st → Here K spool first next ns′ st′ → LineOut K spool first st′ ns′ out′ d
   key-noted t rest k j r v done later pen a e h =
@@ -83,25 +83,26 @@ module _ (K : Known) (spool : List ℕ) (first : Bool) (p : Pen) (ns out : List 
   shut-line x a e h = on-line (bytes "}") e x a h
 
 -- the notes behind a line with a key, by the block that is open
-pub notes-at : (p : Pen) (b : ℕ) → p .block ≡ b → (t j : ℕ) (d : Kind) (inner n : ℕ) (ns : List ℕ) → keyNotes p t j d inner n ns ≡ keyNotes (moved p 0 b 0) t j d inner n ns
-notes-at p b h t j d inner n ns = ap (λ (a : ℕ). keyNotes (moved p 0 a 0) t j d inner n ns) h
+pub notes-at : (p : Pen) (b : ℕ) → p .block ≡ b → (t j : ℕ) (d : Kind) (inner n : ℕ) (ns : List ℕ) → keyNotes p t j d inner n ns ≡ keyNotes (moved p 0 b (p .part)) t j d inner n ns
+notes-at p b h t j d inner n ns = ap (λ (a : ℕ). keyNotes (moved p 0 a (p .part)) t j d inner n ns) h
 
 -- ── the set, where one thing of it changes ──
-pub block-range : (u : LayerBlock) (s : Set) → symbolRange (withBlock u s) ≡ symbolRange s
-block-range u s = go (s .volumes)
-  where
-    go : (vs : List Contents) → symbolRange (withBlock u (record { drawing = s .drawing; symbols = s .symbols; volumes = vs; now = s .now; taken = s .taken }))
-        ≡ symbolRange (record { drawing = s .drawing; symbols = s .symbols; volumes = vs; now = s .now; taken = s .taken })
-    go [] = refl
-    go (v ∷ vs) = refl
+abbrev withVolumes : Set → List Contents → Set
+withVolumes s vs = record { drawing = s .drawing; symbols = s .symbols; volumes = vs; now = s .now; taken = s .taken }
 
-pub volume-range : (s : Set) → symbolRange (withVolume s) ≡ symbolRange s
-volume-range s = go (s .volumes)
+pub served-block : (u : LayerBlock) (s : Set) → Served s → Served (withBlock u s)
+served-block u s z = go (s .volumes) z
   where
-    go : (vs : List Contents) → symbolRange (withVolume (record { drawing = s .drawing; symbols = s .symbols; volumes = vs; now = s .now; taken = s .taken }))
-        ≡ symbolRange (record { drawing = s .drawing; symbols = s .symbols; volumes = vs; now = s .now; taken = s .taken })
-    go [] = refl
-    go (v ∷ vs) = refl
+    go : (vs : List Contents) → Served (withVolumes s vs) → Served (withBlock u (withVolumes s vs))
+    go [] x = x
+    go (v ∷ vs) x = x
+
+pub served-volume : (s : Set) → Served s → Served (withVolume s)
+served-volume s z = go (s .volumes) z
+  where
+    go : (vs : List Contents) → Served (withVolumes s vs) → Served (withVolume (withVolumes s vs))
+    go [] x = x
+    go (v ∷ vs) x = x
 
 -- the table of a layer stays
 pub block-table : (u : LayerBlock) (s : Set) → layerTableOf (withBlock u s) ≡ layerTableOf s

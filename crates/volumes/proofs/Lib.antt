@@ -1,5 +1,4 @@
 pub mod Acted
-pub mod NotedLaws
 pub mod TopLaws
 pub mod FileLaws
 pub mod FrontSteps
@@ -11,9 +10,11 @@ pub mod HomeLaws
 pub mod ElementLaws
 pub mod FigureLaws
 pub mod ChainLaws
-pub mod WireLaws
 pub mod TextLaws
 pub mod PlacedLaws
+pub mod WireRows
+pub mod WireLaws
+pub mod WireAlong
 pub mod LineLaws
 pub mod LentOutput
 pub mod Openings

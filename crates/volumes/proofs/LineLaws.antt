@@ -1,7 +1,7 @@
 -- One line, in any state: what the code promises of it is what the definitions make of it.
 use Prim.Native.Nat.{ℕ, zero, suc}
 use mathlib.Core.Bool.{Bool}
-use mathlib.Core.List.{List}
+use mathlib.Core.List.{List, _∷_}
 use mathlib.Core.Path.{_≡_, sym, _∙_, ap, subst}
 use native.Mathlib.Omega.{arith}
 use lib.ListN.{length}
@@ -9,11 +9,12 @@ use Rattle.rules.specs.declared.LineForm.{LineForm}
 use Rattle.rules.specs.declared.LineForm.the-variants as L
 use Rattle.rules.specs.declared.Span.{Span}
 use Rattle.rules.specs.RefusalNumbers.{got}
-use Rattle.rules.specs.Lines.{ignored, wrong, close, eof, keyed, bytesAt}
+use Rattle.rules.specs.Lines.{Form, ignored, wrong, close, eof, keyed, bytesAt}
 use Rattle.rules.specs.Values.{Known}
 use Rattle.rules.specs.Machine.{Line, Env, State, top, file, drawing, layerNames, defines, symbol, hide, elements, figures, successive, texts, placing, skipping, ended, onTop, onFile, onDrawing, onLayerNames, onDefines, onSymbol, onHide, onElements, onFigures, onSuccessive, onTexts}
 use Rattle.rules.specs.PlacedSymbol.{onPlacing, onSkipping}
-use Rattle.rules.specs.Wires.{onWire}
+use Rattle.rules.specs.Wires.{onWireOwn, onWireText}
+use Rattle.rules.specs.Sets.{knownOf}
 use Rattle.rules.specs.LineByLine.{stepIn}
 use Rattle.rules.specs.Answers.{fullClass}
 use Rattle.rules.specs.Machine.{symbolBlock, wireBlock, wireUnread}
@@ -26,8 +27,8 @@ use Rattle.pens.specs.declared.Drawn.{Drawn}
 use Rattle.pens.specs.declared.Drawn.the-variants as D
 use Rattle.pens.specs.Keys.{KeyLine, EofLine, PlacedRest}
 use Rattle.pens.specs.KeyWriting.{KeyOrName}
-use Rattle.pens.specs.Closing.{CloseDone}
-use Rattle.pens.specs.Standing.{Pens}
+use Rattle.pens.specs.Closing.{CloseDone, WireDone}
+use Rattle.pens.specs.Standing.{Pens, Since, Along}
 use Rattle.pens.specs.Drawing.{FormFits, LineOut, DrawPromise}
 use Rattle.volumes.proofs.TopLaws.{top-key, top-eof, top-close}
 use Rattle.volumes.proofs.FileLaws.{file-key, file-close}
@@ -70,24 +71,25 @@ module _ (K : Known) (spool : List ℕ) (first : Bool) (p : Pen) (ns out : List 
     on-key (ended s) z q = never q
 
   -- ── a `}` ──
-  module _ (f : l .form ≡ close) (w : CloseDone spool first p ns out out′ d) (same : ns′ ≡ ns) where
-    pub on-close : (st : State) → Pens K spool first p ns out st → stepIn e l st ≡ got st′ → LineOut K spool first st′ ns′ out′ d
-    on-close (top s k) z q = top-close K spool first p ns out s k z e l c st′ q ns′ out′ d size many f
-    on-close (file s n h i) z q = file-close K spool first p ns out s n h i z e l c st′ q ns′ out′ d size many f w same
-    on-close (drawing s g) z q = drawing-close K spool first p ns out s g z e l c st′ q ns′ out′ d size many f w same
-    on-close (layerNames s g) z q = names-close K spool first p ns out s g z e l c st′ q ns′ out′ d size many f w same
-    on-close (defines s b) z q = defines-close K spool first p ns out s b z e l c st′ q ns′ out′ d size many f w same
-    on-close (symbol s y) z q = symbol-close K spool first p ns out s y z e l c st′ q ns′ out′ d size many f w same
-    on-close (hide s y ps) z q = hide-close K spool first p ns out s y ps z e l c st′ q ns′ out′ d size many f w same
-    on-close (elements s) z q = elements-close K spool first p ns out e l c st′ ns′ out′ d size many s z q f w same
-    on-close (figures s h fs) z q = figures-close K spool first p ns out e l c st′ ns′ out′ d size many s h fs z q f w same
-    on-close (successive s h fs n qs) z q = successive-close K spool first p ns out e l c st′ ns′ out′ d size many s h fs n qs z q f w same
-    on-close (texts s h fs n o) z q = texts-close K spool first p ns out e l c st′ ns′ out′ d size many s h fs n o z q f w same
-    on-close (placing s m fs n (symbolBlock o) i) z q = placing-close K spool first p ns out e l c st′ ns′ out′ d size many s m fs n o i z q f w same
-    on-close (placing s m fs n (wireBlock x) i) z q = wire-close K spool first p ns out e l c st′ ns′ out′ d size many s m fs n x i z q f w same
-    on-close (placing s m fs n wireUnread i) z q = never q
-    on-close (skipping s m fs n o i) z q = absurd (z .here)
-    on-close (ended s) z q = never q
+  module _ (f : l .form ≡ close) (w : CloseDone spool first p ns out out′ d) (same : ns′ ≡ ns) (body : List ℕ) (start from : ℕ) (hs : List Form) (x : WireDone spool body start from p ns out out′ d) where
+    pub on-close : (st : State) → Pens K spool first p ns out st → Along spool body start from (l .form ∷ hs) st → stepIn e l st ≡ got st′ → LineOut K spool first st′ ns′ out′ d
+    on-close (top s k) z along q = top-close K spool first p ns out s k z e l c st′ q ns′ out′ d size many f
+    on-close (file s n h i) z along q = file-close K spool first p ns out s n h i z e l c st′ q ns′ out′ d size many f w same
+    on-close (drawing s g) z along q = drawing-close K spool first p ns out s g z e l c st′ q ns′ out′ d size many f w same
+    on-close (layerNames s g) z along q = names-close K spool first p ns out s g z e l c st′ q ns′ out′ d size many f w same
+    on-close (defines s b) z along q = defines-close K spool first p ns out s b z e l c st′ q ns′ out′ d size many f w same
+    on-close (symbol s y) z along q = symbol-close K spool first p ns out s y z e l c st′ q ns′ out′ d size many f w same
+    on-close (hide s y ps) z along q = hide-close K spool first p ns out s y ps z e l c st′ q ns′ out′ d size many f w same
+    on-close (elements s) z along q = elements-close K spool first p ns out e l c st′ ns′ out′ d size many s z q f w same
+    on-close (figures s h fs) z along q = figures-close K spool first p ns out e l c st′ ns′ out′ d size many s h fs z q f w same
+    on-close (successive s h fs n qs) z along q = successive-close K spool first p ns out e l c st′ ns′ out′ d size many s h fs n qs z q f w same
+    on-close (texts s h fs n o) z along q = texts-close K spool first p ns out e l c st′ ns′ out′ d size many s h fs n o z q f w same
+    on-close (placing s m fs n (symbolBlock o) i) z along q = placing-close K spool first p ns out e l c st′ ns′ out′ d size many s m fs n o i z q f w same
+    on-close (placing s m fs n (wireBlock u) i) z along q =
+        wire-close K spool first p ns out e l c st′ ns′ out′ d size many s m fs n u f body start from hs same i z (subst (λ (g : Form). Since spool body start from (g ∷ hs) (knownOf s) u i) f along) q w x
+    on-close (placing s m fs n wireUnread i) z along q = never q
+    on-close (skipping s m fs n o i) z along q = absurd (z .here)
+    on-close (ended s) z along q = never q
 
   -- ── EOF: at the top level alone ──
   module _ (f : l .form ≡ eof) (w : EofLine p out out′ d) (same : ns′ ≡ ns) where
@@ -105,7 +107,8 @@ module _ (K : Known) (spool : List ℕ) (first : Bool) (p : Pen) (ns out : List 
     on-eof (texts s h fs n o) z q = never (ap (onTexts s h fs n o) (sym f) ∙ q)
     on-eof (placing s m fs n (symbolBlock o) zero) z q = never (ap (onPlacing e s m fs n o 0) (sym f) ∙ q)
     on-eof (placing s m fs n (symbolBlock o) (suc i)) z q = never (ap (onPlacing e s m fs n o (suc i)) (sym f) ∙ q)
-    on-eof (placing s m fs n (wireBlock x) i) z q = never (ap (onWire e l s m fs n x) (sym f) ∙ q)
+    on-eof (placing s m fs n (wireBlock x) zero) z q = never (ap (onWireOwn e l s m fs n x) (sym f) ∙ q)
+    on-eof (placing s m fs n (wireBlock x) (suc i)) z q = never (ap (onWireText s m fs n x (suc i)) (sym f) ∙ q)
     on-eof (placing s m fs n wireUnread i) z q = never q
     on-eof (skipping s m fs n o i) z q = absurd (z .here)
     on-eof (ended s) z q = never q
@@ -125,7 +128,8 @@ module _ (K : Known) (spool : List ℕ) (first : Bool) (p : Pen) (ns out : List 
   on-wrong m f (texts s h fs n o) q = never (ap (onTexts s h fs n o) (sym f) ∙ q)
   on-wrong m f (placing s h fs n (symbolBlock o) zero) q = never (ap (onPlacing e s h fs n o 0) (sym f) ∙ q)
   on-wrong m f (placing s h fs n (symbolBlock o) (suc i)) q = never (ap (onPlacing e s h fs n o (suc i)) (sym f) ∙ q)
-  on-wrong m f (placing s h fs n (wireBlock x) i) q = never (ap (onWire e l s h fs n x) (sym f) ∙ q)
+  on-wrong m f (placing s h fs n (wireBlock x) zero) q = never (ap (onWireOwn e l s h fs n x) (sym f) ∙ q)
+  on-wrong m f (placing s h fs n (wireBlock x) (suc i)) q = never (ap (onWireText s h fs n x (suc i)) (sym f) ∙ q)
   on-wrong m f (placing s h fs n wireUnread i) q = never q
   on-wrong m f (skipping s h fs n b i) q = never (ap (onSkipping s h fs n b i) (sym f) ∙ q)
   on-wrong m f (ended s) q = never q
@@ -148,44 +152,44 @@ module _ (K : Known) (spool : List ℕ) (first : Bool) (p : Pen) (ns out : List 
   on-ignored f (texts s h fs n o) z q = stays (texts s h fs n o) (ap (onTexts s h fs n o) (sym f) ∙ q)
   on-ignored f (placing s m fs n (symbolBlock o) zero) z q = stays (placing s m fs n (symbolBlock o) 0) (ap (onPlacing e s m fs n o 0) (sym f) ∙ q)
   on-ignored f (placing s m fs n (symbolBlock o) (suc i)) z q = stays (placing s m fs n (symbolBlock o) (suc i)) (ap (onPlacing e s m fs n o (suc i)) (sym f) ∙ q)
-  on-ignored f (placing s m fs n (wireBlock x) zero) z q = stays (placing s m fs n (wireBlock x) 0) (ap (onWire e l s m fs n x) (sym f) ∙ q)
-  on-ignored f (placing s m fs n (wireBlock x) (suc i)) z q = absurd (omega (arith, z .here .1 .whole))
+  on-ignored f (placing s m fs n (wireBlock x) zero) z q = stays (placing s m fs n (wireBlock x) 0) (ap (onWireOwn e l s m fs n x) (sym f) ∙ q)
+  on-ignored f (placing s m fs n (wireBlock x) (suc i)) z q = stays (placing s m fs n (wireBlock x) (suc i)) (ap (onWireText s m fs n x (suc i)) (sym f) ∙ q)
   on-ignored f (placing s m fs n wireUnread i) z q = never q
   on-ignored f (skipping s m fs n b i) z q = stays (skipping s m fs n b i) (ap (onSkipping s m fs n b i) (sym f) ∙ q)
   on-ignored f (ended s) z q = never q
 
 -- ── by the code's form ──
 -- what the code does with a line of this form
-abbrev pub FormDone : List ℕ → Bool → LineForm → Pen → List ℕ → List ℕ → List ℕ → List ℕ → Drawn → Type 0
-FormDone spool first L.Ignored p ns₀ ns₁ before after d = (d ≡ D.Go p) × (ns₁ ≡ ns₀) × (after ≡ before)
-FormDone spool first L.Close p ns₀ ns₁ before after d = CloseDone spool first p ns₀ before after d × (ns₁ ≡ ns₀)
-FormDone spool first L.Eof p ns₀ ns₁ before after d = EofLine p before after d × (ns₁ ≡ ns₀)
-FormDone spool first (L.Opens o) p ns₀ ns₁ before after d = KeyOrName spool first (o .key) R.Brace p ns₀ ns₁ before after d
-FormDone spool first (L.Equals q) p ns₀ ns₁ before after d = KeyOrName spool first (q .key) (R.Equals (q .rest)) p ns₀ ns₁ before after d
-FormDone spool first (L.Refused r) p ns₀ ns₁ before after d = Unit {0}
+abbrev pub FormDone : List ℕ → List ℕ → ℕ → ℕ → Bool → LineForm → Pen → List ℕ → List ℕ → List ℕ → List ℕ → Drawn → Type 0
+FormDone spool body start from first L.Ignored p ns₀ ns₁ before after d = (d ≡ D.Go p) × (ns₁ ≡ ns₀) × (after ≡ before)
+FormDone spool body start from first L.Close p ns₀ ns₁ before after d = CloseDone spool first p ns₀ before after d × WireDone spool body start from p ns₀ before after d × (ns₁ ≡ ns₀)
+FormDone spool body start from first L.Eof p ns₀ ns₁ before after d = EofLine p before after d × (ns₁ ≡ ns₀)
+FormDone spool body start from first (L.Opens o) p ns₀ ns₁ before after d = KeyOrName spool first (o .key) R.Brace p ns₀ ns₁ before after d
+FormDone spool body start from first (L.Equals q) p ns₀ ns₁ before after d = KeyOrName spool first (q .key) (R.Equals (q .rest)) p ns₀ ns₁ before after d
+FormDone spool body start from first (L.Refused r) p ns₀ ns₁ before after d = Unit {0}
 
 -- is what a line is to write
-pub line-law : (spool : List ℕ) (first : Bool) (form : LineForm) (p : Pen) (ns₀ ns₁ before after : List ℕ) (d : Drawn)
-    → length after ≡ length before → length ns₁ ≡ 28 → FormDone spool first form p ns₀ ns₁ before after d → DrawPromise spool first form p ns₀ ns₁ before after d
-line-law spool first L.Ignored p ns₀ ns₁ before after d size many w K e l st st′ c f placed fits z q =
+pub line-law : (spool body : List ℕ) (start from : ℕ) (first : Bool) (form : LineForm) (p : Pen) (ns₀ ns₁ before after : List ℕ) (d : Drawn)
+    → length after ≡ length before → length ns₁ ≡ 28 → FormDone spool body start from first form p ns₀ ns₁ before after d → DrawPromise spool body start from first form p ns₀ ns₁ before after d
+line-law spool body start from first L.Ignored p ns₀ ns₁ before after d size many w K e l hs st st′ c f placed fits z y q =
     let (go, same, kept) = w in
     let here : st ≡ st′ = on-ignored K spool first p ns₀ before e l c st′ ns₁ after d size many f st z q in
     let z₁ : Pens K spool first p ns₁ before st = subst (λ (u : List ℕ). Pens K spool first p u before st) (sym same) z in
     let z₂ : Pens K spool first p ns₁ after st = subst (λ (u : List ℕ). Pens K spool first p ns₁ u st) (sym kept) z₁ in
     subst (LineOut K spool first st′ ns₁ after) (sym go) (subst (Pens K spool first p ns₁ after) here z₂)
-line-law spool first L.Close p ns₀ ns₁ before after d size many w K e l st st′ c f placed fits z q =
-    on-close K spool first p ns₀ before e l c st′ ns₁ after d size many f (w .0) (w .1) st z q
-line-law spool first L.Eof p ns₀ ns₁ before after d size many w K e l st st′ c f placed fits z q =
+line-law spool body start from first L.Close p ns₀ ns₁ before after d size many w K e l hs st st′ c f placed fits z y q =
+    on-close K spool first p ns₀ before e l c st′ ns₁ after d size many f (w .0) (w .2) body start from hs (w .1) st z y q
+line-law spool body start from first L.Eof p ns₀ ns₁ before after d size many w K e l hs st st′ c f placed fits z y q =
     on-eof K spool first p ns₀ before e l c st′ ns₁ after d size many f (w .0) (w .1) st z q
-line-law spool first (L.Opens o) p ns₀ ns₁ before after d size many w K e l st st′ c f placed fits z q =
+line-law spool body start from first (L.Opens o) p ns₀ ns₁ before after d size many w K e l hs st st′ c f placed fits z y q =
     on-key K spool first p ns₀ before e l c st′ ns₁ after d size many (o .key) R.Brace f tt fits w st z q
-line-law spool first (L.Equals r) p ns₀ ns₁ before after d size many w K e l st st′ c f placed fits z q =
+line-law spool body start from first (L.Equals r) p ns₀ ns₁ before after d size many w K e l hs st st′ c f placed fits z y q =
     on-key K spool first p ns₀ before e l c st′ ns₁ after d size many (r .key) (R.Equals (r .rest)) f placed fits w st z q
-line-law spool first (L.Refused r) p ns₀ ns₁ before after d size many w K e l st st′ c f placed fits z q =
+line-law spool body start from first (L.Refused r) p ns₀ ns₁ before after d size many w K e l hs st st′ c f placed fits z y q =
     on-wrong K spool first p ns₀ before e l c st′ ns₁ after d size many (r .number) f st q
 
 -- the form is one that is known
-pub line-same : (spool : List ℕ) (first : Bool) (form f : LineForm) (p : Pen) (ns₀ ns₁ before after : List ℕ) (d : Drawn)
-    → form ≡ f → length after ≡ length before → length ns₁ ≡ 28 → FormDone spool first f p ns₀ ns₁ before after d → DrawPromise spool first form p ns₀ ns₁ before after d
-line-same spool first form f p ns₀ ns₁ before after d e size many w =
-    subst (λ (x : LineForm). DrawPromise spool first x p ns₀ ns₁ before after d) (sym e) (line-law spool first f p ns₀ ns₁ before after d size many w)
+pub line-same : (spool body : List ℕ) (start from : ℕ) (first : Bool) (form f : LineForm) (p : Pen) (ns₀ ns₁ before after : List ℕ) (d : Drawn)
+    → form ≡ f → length after ≡ length before → length ns₁ ≡ 28 → FormDone spool body start from first f p ns₀ ns₁ before after d → DrawPromise spool body start from first form p ns₀ ns₁ before after d
+line-same spool body start from first form f p ns₀ ns₁ before after d e size many w =
+    subst (λ (x : LineForm). DrawPromise spool body start from first x p ns₀ ns₁ before after d) (sym e) (line-law spool body start from first f p ns₀ ns₁ before after d size many w)

@@ -7,7 +7,7 @@ use lib.ListN.{getD}
 use Rattle.rules.specs.declared.Digits.{Digits}
 use Rattle.rules.specs.RefusalNumbers.{got, bad, unless}
 use Rattle.rules.specs.Lines.{Form, ignored, wrong, close, eof, keyed, Shape, opener, noContent, content, opening, formless, hasForm, shapeOf}
-use Rattle.rules.specs.Values.{Value, empty, Known, Kind, values, text, word, volumeName, sheet, ratio, serials, nothing, opens, headed, either, readKind}
+use Rattle.rules.specs.Values.{Value, empty, Known, Kind, values, text, word, volumeName, sheet, ratio, serials, wireSerial, nothing, opens, headed, either, readKind}
 use Rattle.rules.specs.Rows.{Rule, Found, absent, found, find, fits, shapeFor, Act, stay, entry, begin, shut, refuse, orRefuse, innerOf, readShape, actFound, complete, act}
 use Rattle.rules.proofs.Chains.{and-false, by-cond, clash, map-got, never}
 use Rattle.rules.proofs.Rows.{Row, here, there, found-row, row-did}
@@ -20,6 +20,7 @@ opensKind volumeName = false
 opensKind sheet = false
 opensKind ratio = false
 opensKind serials = false
+opensKind wireSerial = false
 opensKind nothing = false
 opensKind (opens i) = true
 opensKind (headed i p) = true
@@ -34,6 +35,7 @@ opener-kind volumeName may e = clash e (and-false may)
 opener-kind sheet may e = clash e (and-false may)
 opener-kind ratio may e = clash e (and-false may)
 opener-kind serials may e = clash e (and-false may)
+opener-kind wireSerial may e = clash e (and-false may)
 opener-kind nothing may e = clash e refl
 opener-kind (opens i) may e = refl
 opener-kind (headed i p) may e = refl
@@ -47,6 +49,7 @@ opening-kind volumeName may at c e = clash e (and-false may)
 opening-kind sheet may at c e = clash e (and-false may)
 opening-kind ratio may at c e = clash e (and-false may)
 opening-kind serials may at c e = clash e (and-false may)
+opening-kind wireSerial may at c e = clash e (and-false may)
 opening-kind nothing may at c e = clash e refl
 opening-kind (opens i) may at c e = refl
 opening-kind (headed i p) may at c e = refl

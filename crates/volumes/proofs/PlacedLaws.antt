@@ -13,7 +13,7 @@ use Rattle.rules.specs.Base.{bytes, all, within}
 use Rattle.rules.specs.RefusalNumbers.{Got, got, bad, unless}
 use Rattle.rules.specs.Lines.{close, keyed, shapeOf, hasForm, bytesAt}
 use Rattle.rules.specs.RangeClass.{digits, digitsOf, reaches, exceeds, both}
-use Rattle.rules.specs.Values.{Value, Known, Kind, values, text, word, volumeName, sheet, ratio, serials, nothing, opens, headed, either, servedSymbols}
+use Rattle.rules.specs.Values.{Value, Known, Kind, values, text, word, volumeName, sheet, ratio, serials, wireSerial, nothing, opens, headed, either, servedSymbols}
 use Rattle.rules.specs.Rows.{Rule, Found, absent, found, find, Held, partOf, enter, rowsThere, orRefuse, innerOf, complete}
 use Rattle.rules.specs.Figures.{textTable, placedTable, placedTables}
 use Rattle.rules.specs.Sets.{Figure, placed, Set, symbolRange, rangeOf, knownOf}
@@ -44,7 +44,7 @@ use Rattle.pens.proofs.Laying.{bytes-append, on-draws}
 use Rattle.volumes.proofs.Acted.{acted, row-acted}
 use Rattle.volumes.proofs.HomeLaws.{shut-did, on-nothing, key-noted, notes-at, text-more}
 use Rattle.volumes.proofs.FigureLaws.{no-block}
-use Rattle.volumes.proofs.NotedLaws.{noted-line, placed-laid, set-parts}
+use Rattle.pens.proofs.NotedLaws.{noted-line, placed-laid, set-parts}
 use Rattle.pens.proofs.ShownLaws.{opensNothing, opens-not, held-more}
 
 -- ── class 15 knows every key, and no range that is served exceeds it ──
@@ -62,7 +62,7 @@ served-full n e = go (within 0 5 n) refl e
         few (omega (arith, lo, hi)) (omega (arith, lo, hi))
 
 -- `text` alone opens, and its own rows open nothing
-abbrev opensText : Kind → Bool
+abbrev pub opensText : Kind → Bool
 opensText (values p ps a) = true
 opensText (text n b) = true
 opensText (word n b) = true
@@ -70,6 +70,7 @@ opensText volumeName = true
 opensText sheet = true
 opensText ratio = true
 opensText serials = true
+opensText wireSerial = true
 opensText nothing = true
 opensText (opens i) = eqb i 1
 opensText (headed i p) = false
@@ -79,7 +80,7 @@ placed-rows : (all (λ r. reaches (fullClass .symbols) (r .least)) placedTable �
 unfolding placedTable textTable
 placed-rows = (refl, refl, refl)
 
-opens-text : (d : Kind) (v : Value) → opensText d ≡ true → opensBlock d v ≡ true → d ≡ opens 1
+pub opens-text : (d : Kind) (v : Value) → opensText d ≡ true → opensBlock d v ≡ true → d ≡ opens 1
 opens-text (values p ps a) v e o = clash o refl
 opens-text (text n b) v e o = clash o refl
 opens-text (word n b) v e o = clash o refl
@@ -87,6 +88,7 @@ opens-text volumeName v e o = clash o refl
 opens-text sheet v e o = clash o refl
 opens-text ratio v e o = clash o refl
 opens-text serials v e o = clash o refl
+opens-text wireSerial v e o = clash o refl
 opens-text nothing v e o = clash o refl
 opens-text (opens i) v e o = ap opens (eqb-true i 1 e)
 opens-text (headed i p) v e o = clash e refl
@@ -101,13 +103,13 @@ placed-table first p (suc zero) c h l m = (rw (h, l), rw (h, l))
 placed-table first p (suc (suc i)) c h l m = absurd (omega (arith, m))
 
 -- a key that is not known is refused
-unknown : {P : Type 0} (here : State) (en : ℕ → Value → Got State) (op : ℕ → ℕ → Value → Got State) (cl : Unit {0} → Got State) (b : Bool) (st : State)
+pub unknown : {P : Type 0} (here : State) (en : ℕ → Value → Got State) (op : ℕ → ℕ → Value → Got State) (cl : Unit {0} → Got State) (b : Bool) (st : State)
     → byAct here en op cl (orRefuse (unless b 5 (bad 6))) ≡ got st → P
 unknown here en op cl true st q = never q
 unknown here en op cl false st q = never q
 
 -- a part closes: nothing is written
-part-draws : (at : ℕ) (next : Pen) (out out′ : List ℕ) (d : Drawn) → at ≤ length out → d ≡ D.Go next → out′ ≡ out → Draws [] at next out out′ d
+pub part-draws : (at : ℕ) (next : Pen) (out out′ : List ℕ) (d : Drawn) → at ≤ length out → d ≡ D.Go next → out′ ≡ out → Draws [] at next out out′ d
 part-draws at next out out′ d fits go kept = record {
   drawn = λ _. (go, kept ∙ sym (take-append-drop at out) ∙ ap (λ (n : ℕ). take at out ++ drop n out) {x = at} {y = at + 0} (omega arith));
   full = λ f. absurd (omega (arith, f, fits));
@@ -162,7 +164,7 @@ module _ (K : Known) (spool : List ℕ) (first : Bool) (p : Pen) (ns out : List 
         → onPlacedKey e s m fs n o (bytesAt spool key) (restIn spool rest) g ≡ got st′ → LineOut K spool first st′ ns′ out′ d
     own-key z absent f q =
         unknown (placing s m fs n (symbolBlock o) 0) (λ j v. bad 6) (λ i j v. bad 6) (λ _. bad 6) (hasForm (shapeOf (restIn spool rest))) st′
-        (rw (c, served-full (symbolRange s) (z .here .1 .home .0 .served)) at q)
+        (rw (c, served-full (symbolRange s) (z .here .1 .home .0 .served .0)) at q)
     own-key z (found j r) f q =
         let (w, same-key) = found-row (bytesAt spool key) placedTable j r f in
         let knows : reaches (e .class .symbols) (r .least) ≡ true = ap (λ (x : Class). reaches (x .symbols) (r .least)) c ∙ row-all (λ r. reaches (fullClass .symbols) (r .least)) w (placed-rows .0) in

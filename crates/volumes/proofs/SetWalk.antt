@@ -26,7 +26,8 @@ use Rattle.lines.proofs.VolumePlaces.{volumes-laid}
 use Rattle.lines.proofs.LinesSeen.{lines-from-start}
 use Rattle.lines.proofs.VolumesSeen.{volume-in}
 use Rattle.pens.specs.Shown.{shown}
-use Rattle.volumes.specs.Volumes.{Fronts, LinesAt, Begins, ServedAfter, VolumeOut, VolumePromise}
+use Rattle.pens.specs.Passing.{LinesAt}
+use Rattle.volumes.specs.Volumes.{Fronts, Begins, ServedAfter, VolumeOut, VolumePromise}
 use Rattle.volumes.proofs.LentOutput.{lent, back, lent-long, back-is}
 use Rattle.volumes.proofs.VolumeEnd.{fronts-fit, fronts-none}
 use Rattle.volumes.proofs.Heads.{fronted, unfronted, take-after}

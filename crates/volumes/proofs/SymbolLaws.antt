@@ -42,7 +42,7 @@ use Rattle.pens.specs.Standing.{InSymbol, InElement, InHide, Pens}
 use Rattle.pens.specs.Drawing.{FormFits, LineOut}
 use Rattle.pens.proofs.Laying.{bytes-append, on-draws, on-inserts}
 use Rattle.volumes.proofs.Acted.{reads-any, acted}
-use Rattle.volumes.proofs.NotedLaws.{noted-line}
+use Rattle.pens.proofs.NotedLaws.{noted-line}
 use Rattle.pens.proofs.ShownLaws.{block-more, points-more, figures-more, symbols-last}
 use Rattle.volumes.proofs.FrontSteps.{closed, row-is, unread, still}
 

@@ -1,5 +1,5 @@
 -- A line in a figure's `text`.
-use Prim.Native.Nat.{ℕ, zero, suc, _+_, _<_}
+use Prim.Native.Nat.{ℕ, _+_, _<_}
 use mathlib.Core.Bool.{Bool, true, false, cond, _&&_}
 use mathlib.Core.List.{List, [], _∷_, _++_, append-assoc}
 use mathlib.Core.Option.{some}
@@ -8,18 +8,18 @@ use native.Mathlib.Omega.{arith}
 use lib.ListN.{length, getD, set}
 use lib.Seq.{getD-set-other}
 use Rattle.rules.specs.declared.Span.{Span}
-use Rattle.rules.specs.Base.{bytes, all}
+use Rattle.rules.specs.Base.{bytes}
 use Rattle.rules.specs.RefusalNumbers.{got}
 use Rattle.rules.specs.Lines.{close, keyed, bytesAt}
 use Rattle.rules.specs.RangeClass.{digits}
 use Rattle.rules.specs.Values.{Value, Known}
-use Rattle.rules.specs.Rows.{Rule, found, find, Slots, partOf, rowsThere, innerOf, complete}
+use Rattle.rules.specs.Rows.{Rule, found, find, Slots, rowsThere, innerOf, complete}
 use Rattle.rules.specs.Figures.{textTable}
 use Rattle.rules.specs.Sets.{Figure, lettering, Set, knownOf}
 use Rattle.rules.specs.Machine.{Line, Env, Home, State, figures, texts, isLayer, onTexts}
 use Rattle.rules.specs.LineByLine.{stepIn}
 use Rattle.rules.specs.Answers.{fullClass}
-use Rattle.rules.specs.FixedForm.{Text, openLine, opensBlock, showSlots, noInner}
+use Rattle.rules.specs.FixedForm.{openLine, opensBlock, showSlots, noInner}
 use Rattle.rules.proofs.Chains.{never, and-right}
 use Rattle.rules.proofs.Rows.{Row, row-all, row-at, row-below}
 use Rattle.promises.proofs.Forms.{keyOk, table-keys}
@@ -33,59 +33,23 @@ use Rattle.pens.specs.declared.Pen.{Pen}
 use Rattle.pens.specs.declared.Drawn.{Drawn}
 use Rattle.pens.specs.Texts.{lineBytes, Draws}
 use Rattle.pens.specs.Moves.{moved, tableFor}
-use Rattle.pens.specs.Noting.{noteOf, notesFrom, Noted, NotedRows, tablesOf, partTable, NotedParts, showDepth}
+use Rattle.pens.specs.Noting.{noteOf, notesFrom, Noted, NotedRows}
 use Rattle.pens.specs.Shown.{homeKnown, figuresText}
 use Rattle.pens.specs.Standing.{Pens}
 use Rattle.pens.specs.Keys.{isBrace, KeyLine, PlacedRest}
-use Rattle.pens.specs.Closing.{shutBytes, rowsBytes, ShutsRows, CloseDone}
+use Rattle.pens.specs.Closing.{ShutsRows, CloseDone}
 use Rattle.pens.specs.Drawing.{FormFits, LineOut}
-use Rattle.pens.proofs.Laying.{bytes-append, on-draws}
+use Rattle.pens.proofs.Laying.{on-draws}
 use Rattle.volumes.proofs.Acted.{acted, reads-any}
 use Rattle.volumes.proofs.HomeLaws.{shut-did, key-noted, notes-at, text-more, home-layered, home-at}
 use Rattle.volumes.proofs.FigureLaws.{text-rows}
-use Rattle.volumes.proofs.NotedLaws.{noted-line, set-rows}
-use Rattle.pens.proofs.ShownLaws.{opensNothing, slots-flat, slots-more, none-more}
+use Rattle.pens.proofs.NotedLaws.{noted-line, set-rows}
+use Rattle.pens.proofs.TextRows.{text-parts, text-bytes}
 
 text-table : (first : Bool) (p : Pen) (b c : Bool) → p .block ≡ 10 → p .layered ≡ b → (tableOf (tableFor first p c) ≡ textTable b 4 12) × (notesFrom (tableFor first p c) ≡ 4)
 unfolding tableOf
 text-table first p true c h l = (rw (h, l), rw (h, l))
 text-table first p false c h l = (rw (h, l), rw (h, l))
-
-text-flat : (b : Bool) → all opensNothing (textTable b 4 12) ≡ true
-unfolding textTable
-text-flat b = refl
-
--- a text has no parts but itself
-text-parts : (spool : List ℕ) (k : Known) (b : Bool) (ns : List ℕ) (o : Slots) → NotedRows spool k (textTable b 4 12) 4 ns o → NotedParts spool k (cond b 16 17) ns (o ∷ [])
-text-parts spool k true ns o z = record { parts = go }
-  where
-    go : (p : ℕ) → p < length (tablesOf 16) → NotedRows spool k (getD (tablesOf 16) p []) (notesFrom (partTable 16 p)) ns (partOf (o ∷ []) p)
-    go zero l = z
-    go (suc p) l = absurd (omega (arith, l))
-text-parts spool k false ns o z = record { parts = go }
-  where
-    go : (p : ℕ) → p < length (tablesOf 17) → NotedRows spool k (getD (tablesOf 17) p []) (notesFrom (partTable 17 p)) ns (partOf (o ∷ []) p)
-    go zero l = z
-    go (suc p) l = absurd (omega (arith, l))
-
--- its rows and its `}`
-text-bytes : (k : Known) (b : Bool) (o : Slots) → rowsBytes k (cond b 16 17) (o ∷ []) ≡ lineBytes (showSlots k (textTable b 4 12) o noInner (bytes "}" ∷ []))
-text-bytes k b o = go b (text-flat b)
-  where
-    shut : Text
-    shut = bytes "}" ∷ []
-
-    rows : (b : Bool) (inner : ℕ → Text → Text) → all opensNothing (textTable b 4 12) ≡ true
-        → lineBytes (showSlots k (textTable b 4 12) o inner []) ++ shutBytes ≡ lineBytes (showSlots k (textTable b 4 12) o noInner shut)
-    rows b inner f =
-        let t = textTable b 4 12 in
-        ap (λ (u : Text). lineBytes u ++ shutBytes) (slots-flat k inner t f o [])
-        ∙ sym (bytes-append (showSlots k t o noInner []) shut)
-        ∙ ap lineBytes (sym (slots-more k noInner (none-more k) t o shut))
-
-    go : (b : Bool) → all opensNothing (textTable b 4 12) ≡ true → rowsBytes k (cond b 16 17) (o ∷ []) ≡ lineBytes (showSlots k (textTable b 4 12) o noInner shut)
-    go true f = rows true (showDepth k (tablesOf 16) (o ∷ []) 2) f
-    go false f = rows false (showDepth k (tablesOf 17) (o ∷ []) 2) f
 
 module _ (K : Known) (spool : List ℕ) (first : Bool) (p : Pen) (ns out : List ℕ) (e : Env) (l : Line) (c : e .class ≡ fullClass)
     (st′ : State) (ns′ out′ : List ℕ) (d : Drawn) (size : length out′ ≡ length out) (many : length ns′ ≡ 28)

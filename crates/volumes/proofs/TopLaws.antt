@@ -1,6 +1,6 @@
 -- A line at the top level: the writing stands at the state behind it.
 use Prim.Native.Nat.{ℕ, zero, suc, _+_, _<_}
-use mathlib.Core.Bool.{Bool, true, false, cond, _&&_}
+use mathlib.Core.Bool.{Bool, true, false, cond, _&&_, _||_, not}
 use mathlib.Core.List.{List, [], _∷_, _++_, append-nil}
 use mathlib.Core.Option.{none}
 use mathlib.Core.Path.{_≡_, refl, sym, _∙_, ap, subst}
@@ -17,8 +17,8 @@ use Rattle.rules.specs.Values.{Value, Known}
 use Rattle.rules.specs.Rows.{Rule, found, find, blank, Held, rowsAtLimit}
 use Rattle.rules.specs.Blocks.{topTable, fileTables, drawingTable, blankHeld}
 use Rattle.rules.specs.Sets.{Drawing, Symbol, LayerBlock, Set, withRecords, isFirst, knownOf, layerTableOf}
-use Rattle.rules.specs.VolumesAndTotals.{countedAll, layersUsed}
-use Rattle.rules.specs.Machine.{Line, Env, State, top, file, drawing, defines, elements, ended, openTop, onTop, fileKinds}
+use Rattle.rules.specs.VolumesAndTotals.{countedAll, layersUsed, partnersExist}
+use Rattle.rules.specs.Machine.{Line, Env, State, top, file, drawing, defines, elements, ended, testsPartners, openTop, onTop, fileKinds}
 use Rattle.rules.specs.LineByLine.{stepIn}
 use Rattle.rules.specs.Answers.{fullClass}
 use Rattle.rules.specs.FixedForm.{Text, openLine, lineOf, showSymbols, showBlocks}
@@ -41,7 +41,7 @@ use Rattle.pens.specs.Keys.{isBrace, KeyDone, KeyLine, EofLine, PlacedRest}
 use Rattle.pens.specs.Drawing.{FormFits, LineOut}
 use Rattle.pens.proofs.Laying.{bytes-append, on-draws}
 use Rattle.volumes.proofs.Acted.{acted}
-use Rattle.volumes.proofs.NotedLaws.{blank-rows, blank-parts, file-tables-of}
+use Rattle.pens.proofs.NotedLaws.{blank-rows, blank-parts, file-tables-of}
 
 -- ── the keys of the top level ──
 abbrev topKey : ℕ → List ℕ
@@ -146,11 +146,14 @@ module _ (K : Known) (spool : List ℕ) (first : Bool) (p : Pen) (ns out : List 
   -- "The last line of the last volume is `EOF`"
   pub top-eof : l .form ≡ eof → EofLine p out out′ d → ns′ ≡ ns → LineOut K spool first st′ ns′ out′ d
   top-eof f line notes =
-      let counted : Got State = unless (countedAll s) 17 (got (ended s)) in
+      let met : Bool = not (testsPartners (e .class) s) || partnersExist s in
+      let partners : Got State = unless met 21 (got (ended s)) in
+      let counted : Got State = unless (countedAll s) 17 partners in
       let used : Got State = unless (layersUsed s) 14 counted in
       let (last, g) = unless-got (eqb k 4 && (isNil (l .next) && l .last)) 9 used st′ (ap (onTop e l s k) (sym f) ∙ q) in
       let (u, g2) = unless-got (layersUsed s) 14 counted st′ g in
-      let (n, g3) = unless-got (countedAll s) 17 (got (ended s)) st′ g2 in
+      let (n, g3) = unless-got (countedAll s) 17 partners st′ g2 in
+      let (m, g4) = unless-got met 21 (got (ended s)) st′ g3 in
       let is : ended s ≡ st′ = cc in
       let z4 : Pens K spool first p ns out (top s 4) = subst (λ (m : ℕ). Pens K spool first p ns out (top s m)) (eqb-true k 4 (and-left (eqb k 4) _ last)) z in
       subst (λ (x : State). LineOut K spool first x ns′ out′ d) is

@@ -53,7 +53,7 @@ served-here K spool first p ns (placing s m fs n o i) h = tt
 served-here K spool first p ns (skipping s m fs n o i) h = tt
 served-here K spool first p ns (ended s) h = tt
 
-module _ (spool body : List ℕ) (start : ℕ) (first : Bool) (before : List ℕ) (p : Pen) (at : ℕ) (going : Bool) (ns out : List ℕ) (w : Walk spool body start first before p at going ns out) (over : going ≡ false) (part : List ℕ) where
+module _ (spool body : List ℕ) (start : ℕ) (first : Bool) (before : List ℕ) (p : Pen) (at from : ℕ) (going : Bool) (ns out : List ℕ) (w : Walk spool body start first before p at from going ns out) (over : going ≡ false) (part : List ℕ) where
   -- the reading is where it ends
   ends-here : (x : Reading spool body start first) → Pens (x .known) spool first p ns out (x .ends)
   ends-here x =

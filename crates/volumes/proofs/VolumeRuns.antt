@@ -1,6 +1,6 @@
 -- The reading of an accepted set, volume by volume: where each volume ends, and what the volumes behind it leave as it was.
 use Prim.Native.Nat.{ℕ, suc, _+_}
-use mathlib.Core.Bool.{Bool, true, false, cond, _&&_, _||_}
+use mathlib.Core.Bool.{Bool, true, false, cond, _&&_, _||_, not}
 use mathlib.Core.List.{List, [], _∷_, _++_, append-assoc}
 use mathlib.Core.Option.{Option, none, some}
 use mathlib.Core.Path.{_≡_, refl, sym, _∙_, ap, subst}
@@ -15,8 +15,8 @@ use Rattle.rules.specs.Lines.{Form, ignored, wrong, close, eof, keyed, formOf}
 use Rattle.rules.specs.Blocks.{elementTable}
 use Rattle.rules.specs.Values.{Known}
 use Rattle.rules.specs.Sets.{Contents, Set, isFirst}
-use Rattle.rules.specs.VolumesAndTotals.{countedHere, countedAll, layersUsed}
-use Rattle.rules.specs.Machine.{Line, Env, State, top, file, drawing, layerNames, defines, symbol, hide, elements, figures, successive, texts, placing, skipping, ended, onTop, onElements}
+use Rattle.rules.specs.VolumesAndTotals.{countedHere, countedAll, layersUsed, partnersExist}
+use Rattle.rules.specs.Machine.{Line, Env, State, top, file, drawing, layerNames, defines, symbol, hide, elements, figures, successive, texts, placing, skipping, ended, testsPartners, onTop, onElements}
 use Rattle.rules.specs.LineByLine.{stepIn, isIgnored, isClose, isEof, completes, nextVolume, step, Outcome, accepted, thenRun, run}
 use Rattle.rules.specs.Answers.{numbered, linesOfVolume, nextName, Listed, listed, noLines, listVolume, listVolumes}
 use Rattle.rules.proofs.Chains.{On, on-unless, on-got, cond-same, clash, never, map-got, also-got, or-left, nil-snoc}
@@ -64,7 +64,8 @@ module _ (e : Env) (l : Line) where
   ends-top s k eof q h =
       on-unless Ends (eqb k 4 && (isNil (l .next) && l .last)) 9 _ λ _.
       on-unless Ends (layersUsed s) 14 _ λ _.
-      on-unless Ends (countedAll s) 17 _ λ _. tt
+      on-unless Ends (countedAll s) 17 _ λ _.
+      on-unless Ends (not (testsPartners (e .class) s) || partnersExist s) 21 _ λ _. tt
   ends-top s k (keyed key c) q h = clash h refl
 
   -- at the top level: EOF, or a line that is ignored

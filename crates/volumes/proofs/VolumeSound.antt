@@ -10,17 +10,17 @@ use lib.ListN.{length, getD, set, length-append}
 use Rattle.rules.specs.Base.{bytes, isNil, isSome}
 use Rattle.rules.specs.Values.{Value, Known, charsOf}
 use Rattle.rules.specs.Rows.{Rule, Slots}
-use Rattle.rules.specs.Figures.{figureTable}
+use Rattle.rules.specs.Figures.{figureTable, wireTable, firstGroupRow}
 use Rattle.rules.specs.Sets.{Point, Edge, Wire, Figure, chain, wired, Layer, Drawing, Symbol, LayerBlock, Contents, Set, withNow, withDrawing, withSymbol, withVolume, withRecords, withBlock, withLayer, withOwn, symbolOwn, symbolFigures, symbolHidden, symbolOrder, knownOf}
-use Rattle.rules.specs.FixedForm.{Text, openLine, block, showDrawing, showLayers, showPoints, showEdges, showFigure, showFigures, showSymbol, showSymbols, showDefines, showBlocks}
+use Rattle.rules.specs.FixedForm.{Text, openLine, block, showDrawing, showLayers, noInner, showSlots, showPoints, showEdges, showGroups, showWireTexts, showWire, showFigure, showFigures, showSymbol, showSymbols, showDefines, showBlocks}
 use Rattle.rules.specs.Machine.{Home, inElement, inLayer, State, top, file, drawing, layerNames, defines, symbol, hide, elements, figures, successive, texts, placing, skipping, ended, isLayer, wireBlock}
 use Rattle.rules.specs.Wires.{withElement}
 use Rattle.rules.specs.Sets.{layerTableOf}
 use Rattle.rules.proofs.Chains.{clash}
 use Rattle.pens.specs.Texts.{lineBytes}
-use Rattle.pens.specs.Shown.{fileText, drawingText, definesText, frontText, elementText, topText, drawingBegun, namesText, definesBegun, symbolBegun, shownPart, hiddenPart, partsText, elementsBegun, homeKnown, homeRows, figuresText, shown}
+use Rattle.pens.specs.Shown.{fileText, drawingText, definesText, frontText, elementText, topText, drawingBegun, namesText, definesBegun, symbolBegun, shownPart, hiddenPart, partsText, elementsBegun, homeKnown, homeRows, figuresText, ownedText, shown}
 use Rattle.pens.proofs.Laying.{bytes-append}
-use Rattle.pens.proofs.ShownLaws.{block-parts, layers-more, layers-last, points-more, points-last, edges-more, edges-last, figures-more, symbols-last, defines-more, blocks-more, blocks-last, blocks-one}
+use Rattle.pens.proofs.ShownLaws.{block-parts, layers-more, layers-last, points-more, points-last, edges-more, edges-last, wire-more as showing-more, figures-more, symbols-last, defines-more, blocks-more, blocks-last, blocks-one}
 use Rattle.volumes.proofs.DrawingLaws.{rowsText, drawing-text}
 use Rattle.volumes.proofs.SymbolLaws.{nameText, endText, symbol-text}
 use Rattle.volumes.proofs.HomeLaws.{block-table, volume-table, front-block, front-volume, known-records, text-records, text-more}
@@ -378,10 +378,25 @@ module _ (K : Known) (first : Bool) where
           size-append L (showEdges (knownOf s) (e ∷ []) []),
         )
 
+    -- the same elements, in the wire or in what is skipped in it
+    pub wire-same : (w′ : Wire) (i j : ℕ) → w′ .elements ≡ w .elements → size (figuresText K first s (inLayer m) fs ++ W) ≤ size (figuresText K first s (inLayer m) fs ++ ownedText K s (wireBlock w′))
+    wire-same w′ i j e =
+        omega (arith, ap (λ (es : List Edge). size (figuresText K first s (inLayer m) fs ++ (openLine (bytes "E_wire") ∷ showEdges (knownOf s) es []))) e)
+
     pub wire-shut : (i : ℕ) → weight (placing s m fs n (wireBlock w) i) ≤ weight (figures s (inLayer m) (fs ++ wired n w ∷ []))
     wire-shut i =
+        let k = knownOf s in
+        let rest : Text = showGroups k firstGroupRow (w .groups) (showWireTexts k (w .texts) (showSlots k wireTable (w .own) noInner [])) in
         figure-shut s (inLayer m) fs (wired n w) W
-        (omega (arith, ap size (block-parts (bytes "E_wire") (showEdges (knownOf s) (w .elements)) (edges-more (knownOf s) (w .elements))), size-append W (bytes "}" ∷ [])))
+        (omega (
+          arith,
+          ap size (block-parts (bytes "E_wire") (showWire k w) (showing-more k w)),
+          ap size (edges-more k (w .elements) rest),
+          size-append (openLine (bytes "E_wire") ∷ showWire k w []) (bytes "}" ∷ []),
+          size-append (openLine (bytes "E_wire") ∷ []) (showWire k w []),
+          size-append (openLine (bytes "E_wire") ∷ []) (showEdges k (w .elements) []),
+          size-append (showEdges k (w .elements) []) rest,
+        ))
 
   pub element-shut : (s : Set) (y : Symbol) (fs : List Figure) → isSome (getD (y .own) 1 none) ≡ true → weight (figures s (inElement y) fs) ≤ weight (symbol s (symbolFigures fs y))
   element-shut s y fs e =

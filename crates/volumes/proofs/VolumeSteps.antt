@@ -1,7 +1,7 @@
 -- One line of a volume, in any state: what it leaves as it was, and that no less is shown.
-use Prim.Native.Nat.{ℕ, zero, suc, _≤_, _<_, _+_}
+use Prim.Native.Nat.{ℕ, zero, suc, _≤_, _<_, _+_, _-_}
 use mathlib.Core.Bool.{Bool, true, false, cond, _&&_, _||_, not}
-use mathlib.Core.List.{List, [], _∷_, map}
+use mathlib.Core.List.{List, [], _∷_, _++_, map}
 use mathlib.Core.Option.{none, some}
 use mathlib.Core.Path.{_≡_, refl, sym, _∙_, ap, subst}
 use native.Mathlib.Omega.{arith}
@@ -17,12 +17,12 @@ use Rattle.rules.specs.RangeClass.{digits, digitsOf, exceeds, both, skipOf, mos
 use Rattle.rules.specs.Values.{Value, Known, numsOf, amountAt, isLayerId}
 use Rattle.rules.specs.Rows.{Rule, Found, absent, found, find, Slots, blank, Held, rowsThere, rowsAtLimit, Act, begin, act, actRow, actUnknown, partOf, enter, innerOf}
 use Rattle.rules.specs.Blocks.{topTable, fileTables, drawingTable, mostLayers, symbolTable, definesTable, elementTable}
-use Rattle.rules.specs.Figures.{pointTable, textTable, leastPoints, placedTable, placedTables, wireTable}
+use Rattle.rules.specs.Figures.{pointTable, textTable, leastPoints, placedTable, placedTables, wireTable, wireTextTable, firstGroupRow}
 use Rattle.rules.specs.Sets.{Point, Wire, Figure, plain, lettering, placed, passed, Drawing, Symbol, Set, withNow, withRecords, symbolOwn, isFirst, knownOf, arcOf, defineRange, rangeOf, joinDigit, wiresOf, usedIn}
-use Rattle.rules.specs.VolumesAndTotals.{chained, dated, countedHere, countedAll, layersUsed}
-use Rattle.rules.specs.Machine.{Line, Env, Home, inElement, inLayer, State, top, file, drawing, layerNames, defines, symbol, hide, elements, figures, successive, texts, placing, skipping, ended, openTop, onTop, closeFile, onFile, onDrawing, layerValue, onLayerNames, onDefines, newName, openSymbol, onSymbol, pointAt, onHide, onElements, isLayer, homeTable, closeFigures, openFigure, onFigures, onSuccessive, onTexts}
+use Rattle.rules.specs.VolumesAndTotals.{chained, dated, countedHere, countedAll, layersUsed, partnersExist}
+use Rattle.rules.specs.Machine.{Line, Env, Home, inElement, inLayer, State, top, file, drawing, layerNames, defines, symbol, hide, elements, figures, successive, texts, placing, skipping, ended, testsPartners, openTop, onTop, closeFile, onFile, onDrawing, layerValue, onLayerNames, onDefines, newName, openSymbol, onSymbol, pointAt, onHide, onElements, isLayer, homeTable, closeFigures, openFigure, onFigures, onSuccessive, onTexts}
 use Rattle.rules.specs.PlacedSymbol.{onUnknown, newSerial, onPlaced, onPlacedKey, onPlacedOwn, onPlacing, skipEnded, unreadShut, skipShut, onSkipping}
-use Rattle.rules.specs.Wires.{joinsEnds, lastEdge, joinOf, joined, onWire}
+use Rattle.rules.specs.Wires.{joinsEnds, lastEdge, joinOf, joined, pastElements, groupAt, withGroups, withOnce, withTexts, isGroupRow, withAttribute, wireFull, isElementRow, onElement, numsAlike, newNumber, onWireAct, onWireUnknown, onWireKey, onWireOwn, onWireText, onWire}
 use Rattle.rules.specs.LineByLine.{stepIn}
 use Rattle.rules.specs.Machine.{symbolBlock, wireBlock, wireUnread, beginWire, fileKinds, Owned, kindIn}
 use Rattle.rules.specs.RecordTable.{kindDrawing, kindSymbol, kindLayer, kindLine, kindSuccessive, kindText, kindPlaced, kindPoint, kindHidden, kindWire, kindWireMore, kindEdge}
@@ -33,7 +33,7 @@ use Rattle.promises.proofs.CountActs.{act-begin}
 use Rattle.volumes.specs.Volumes.{through}
 use Rattle.volumes.proofs.FrontSteps.{unread}
 use Rattle.volumes.proofs.Openings.{opensKind, act-opens, row-test}
-use Rattle.volumes.proofs.VolumeSound.{Sound, Same, same-records, same-now, same-drawing, same-symbol, same-closed, weight, front-grows, drawing-opens, drawing-row, names-open, names-more, names-shut, drawing-shut, defines-open, defines-non, symbol-opens, defines-shut, symbol-row, element-opens, hide-opens, hide-more, hide-shut, symbol-shut, figure-more, figure-opens, figure-shut, chain-more, chain-shut, wire-more, wire-shut, element-shut, elements-open, layer-opens, layer-shut, elements-shut, eof-grows}
+use Rattle.volumes.proofs.VolumeSound.{Sound, Same, same-records, same-now, same-drawing, same-symbol, same-closed, weight, front-grows, drawing-opens, drawing-row, names-open, names-more, names-shut, drawing-shut, defines-open, defines-non, symbol-opens, defines-shut, symbol-row, element-opens, hide-opens, hide-more, hide-shut, symbol-shut, figure-more, figure-opens, figure-shut, chain-more, chain-shut, wire-more, wire-same, wire-shut, element-shut, elements-open, layer-opens, layer-shut, elements-shut, eof-grows}
 
 -- ── rows by their numbers ──
 names-row : (j : ℕ) → getD (map (λ (r : Rule). opensKind (r .holds)) drawingTable) j false ≡ true → j ≡ 7
@@ -102,7 +102,8 @@ module _ (K : Known) (first : Bool) (s₀ : Set) (start : isFirst s₀ ≡ first
   top-goes s k eof z =
       on-unless (Goes (top s k)) (eqb k 4 && (isNil (l .next) && l .last)) 9 _ λ q.
       on-unless (Goes (top s k)) (layersUsed s) 14 _ λ _.
-      on-unless (Goes (top s k)) (countedAll s) 17 _ λ _. four k (eqb-true k 4 (and-left (eqb k 4) _ q)) z
+      on-unless (Goes (top s k)) (countedAll s) 17 _ λ _.
+      on-unless (Goes (top s k)) (not (testsPartners (e .class) s) || partnersExist s) 21 _ λ _. four k (eqb-true k 4 (and-left (eqb k 4) _ q)) z
     where
       four : (k : ℕ) → k ≡ 4 → Sound first s₀ (top s k) → Goes (top s k) (ended s)
       four k e z = subst (λ (m : ℕ). Goes (top s m) (ended s)) (sym e) (record { sound = subst (λ (m : ℕ). Sound first s₀ (top s m)) e z; grows = eof-grows K first s })
@@ -344,19 +345,72 @@ module _ (K : Known) (first : Bool) (s₀ : Set) (start : isFirst s₀ ≡ first
     placing-goes (suc p) f = placed-goes (suc p) (act (knownOf s) (getD placedTables (suc p) []) (digits 0 0) (rowsThere (partOf o (suc p))) f)
 
   -- ── a wire ──
-  wire-goes : (s : Set) (m : ℕ) (fs : List Figure) (n : ℕ) (w : Wire) (i : ℕ) (f : Form) → Same first s₀ s → On (Goes (placing s m fs n (wireBlock w) i)) (onWire e l s m fs n w f)
-  wire-goes s m fs n w i f z =
-      let P : State → Type 0 = Goes (placing s m fs n (wireBlock w) i) in
-      on-byAct P (placing s m fs n (wireBlock w) 0) _ _ _ (act (knownOf s) wireTable (wiresOf s) (rowsAtLimit 0 wireTable) f)
-      (record { sound = z; grows = le-refl (weight K first (placing s m fs n (wireBlock w) i)) })
-      (λ j v. on-unless P (joined (joinsEnds (joinDigit s)) (lastEdge (w .elements)) j (numsOf v)) 11 _ λ _.
-      on-taking P e 1 s _ λ _.
-      record {
-        sound = same-records first s₀ ((kindEdge + j) ∷ []) s z;
-        grows = wire-more K first s m fs n w i ((kindEdge + j) ∷ []) (record { line = l .line; row = j; values = numsOf v; join = joinOf (joinsEnds (joinDigit s)) (lastEdge (w .elements)) j });
-      })
-      (λ i j v a. tt)
-      (record { sound = (z, tt); grows = wire-shut K first s m fs n w i })
+  module _ (s : Set) (m : ℕ) (fs : List Figure) (n : ℕ) (w : Wire) (p : ℕ) (z : Same first s₀ s) where
+    abbrev P : State → Type 0
+    P = Goes (placing s m fs n (wireBlock w) p)
+
+    -- none of its elements changes
+    within : (w′ : Wire) → w′ .elements ≡ w .elements → (q : ℕ) → P (placing s m fs n (wireBlock w′) q)
+    within w′ e q = record { sound = z; grows = wire-same K first s m fs n w w′ p q e }
+
+    below : (w′ : Wire) → w′ .elements ≡ w .elements → (d : ℕ) → P (skipping s m fs n (wireBlock w′) d)
+    below w′ e d = record { sound = z; grows = wire-same K first s m fs n w w′ p d e }
+
+    kept-elements : (j : ℕ) (v : Value) → withAttribute w j v .elements ≡ w .elements
+    kept-elements j v = go (isGroupRow j)
+      where
+        go : (b : Bool) → cond b (withGroups (set (w .groups) (j - firstGroupRow) (groupAt w j ++ numsOf v ∷ [])) w) (withOnce (set (w .own) j (some v)) w) .elements ≡ w .elements
+        go true = refl
+        go false = refl
+
+    wire-acts : (a : Act) → On P (onWireAct e l s m fs n w a)
+    wire-acts a =
+        on-byAct P (placing s m fs n (wireBlock w) 0) _ _ _ a
+        (within w refl 0)
+        (λ j v. on-cond P (isElementRow j) _ _ (λ _. element j v)
+        (λ _. on-unless P (numsAlike w j (numsOf v)) 11 _ λ _. on-unless P (newNumber s fs j v) 15 _ λ _. within (withAttribute w j v) (kept-elements j v) 0))
+        (λ i j v q. within (withTexts (w .texts) (blank wireTextTable) w) refl 1)
+        (record { sound = (z, tt); grows = wire-shut K first s m fs n w p })
+      where
+        element : (j : ℕ) (v : Value) → On P (onElement e l s m fs n w j (numsOf v))
+        element j v =
+            on-unless P (joined (joinsEnds (joinDigit s)) (lastEdge (w .elements)) j (numsOf v)) 11 _ λ _.
+            on-taking P e 1 s _ λ _.
+            record {
+              sound = same-records first s₀ ((kindEdge + j) ∷ []) s z;
+              grows = wire-more K first s m fs n w p ((kindEdge + j) ∷ []) (record { line = l .line; row = j; values = numsOf v; join = joinOf (joinsEnds (joinDigit s)) (lastEdge (w .elements)) j });
+            }
+
+    wire-unknown : (k : List ℕ) (c : Rest) → On P (onWireUnknown e l s m fs n w k c)
+    wire-unknown k c =
+        on-cond P (exceeds (wiresOf s) (e .class .wires)) _ _
+        (λ _. on-skip P (skipOf k c) _ _ (within (pastElements w) refl 0) (below (pastElements w) refl 1))
+        (λ _. wire-acts (actUnknown c))
+
+    wire-keyed : (k : List ℕ) (c : Rest) (g : Found) → On P (onWireKey e l s m fs n w k c g)
+    wire-keyed k c absent = wire-unknown k c
+    wire-keyed k c (found j r) =
+        on-cond P (isElementRow j && w .past) _ _ (λ _. wire-acts (actUnknown c))
+        (λ _. on-cond P (reaches (e .class .wires) (r .least)) _ _ (λ _. wire-acts (actRow (knownOf s) (wiresOf s) (getD (wireFull w) j false) j r c)) (λ _. wire-unknown k c))
+
+    wire-owns : (f : Form) → On P (onWireOwn e l s m fs n w f)
+    wire-owns ignored = within w refl 0
+    wire-owns (wrong k) = tt
+    wire-owns close = wire-acts (act (knownOf s) wireTable (both (e .class .wires) (wiresOf s)) (rowsThere (w .own)) close)
+    wire-owns eof = tt
+    wire-owns (keyed k c) = wire-keyed k c (find k wireTable)
+
+    wire-texts : (i : ℕ) (f : Form) → On P (onWireText s m fs n w i f)
+    wire-texts i f =
+        on-byAct P (placing s m fs n (wireBlock w) i) _ _ _ (act (knownOf s) wireTextTable (digits 0 0) (rowsThere (w .writing)) f)
+        (within w refl i)
+        (λ j v. within (withTexts (w .texts) (set (w .writing) j (some v)) w) refl i)
+        (λ i j v q. tt)
+        (within (withTexts (w .texts ++ w .writing ∷ []) [] w) refl 0)
+
+    wire-goes : (i : ℕ) (f : Form) → On P (onWire e l s m fs n w i f)
+    wire-goes zero f = wire-owns f
+    wire-goes (suc i) f = wire-texts (suc i) f
 
   -- ── what is skipped ──
   module _ (s : Set) (m : ℕ) (fs : List Figure) (n : ℕ) (b : Owned) (z : Same first s₀ s) where
@@ -402,7 +456,7 @@ module _ (K : Known) (first : Bool) (s₀ : Set) (start : isFirst s₀ ≡ first
   steps (successive s h fs n ps) z = successive-goes s h fs n ps (l .form) z
   steps (texts s h fs n o) z = texts-go s h fs n o (l .form) z
   steps (placing s m fs n (symbolBlock o) p) z = placing-goes s m fs n o z p (l .form)
-  steps (placing s m fs n (wireBlock w) p) z = wire-goes s m fs n w p (l .form) z
+  steps (placing s m fs n (wireBlock w) p) z = wire-goes s m fs n w p z p (l .form)
   steps (placing s m fs n wireUnread p) z = tt
   steps (skipping s m fs n b d) z = skipping-goes s m fs n b z d (l .form)
   steps (ended s) z = tt

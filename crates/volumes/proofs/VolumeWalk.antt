@@ -1,101 +1,37 @@
 -- A volume's lines walked through: how far the writing has come, and what one more line makes of it.
-use Prim.Native.Nat.{ℕ, suc, _+_, _-_, _≤_, _<_}
+use Prim.Native.Nat.{ℕ, suc, _+_, _-_, _<_}
 use mathlib.Core.Bool.{Bool, true, false, cond, not}
 use mathlib.Core.List.{List, [], _∷_}
 use mathlib.Core.Path.{_≡_, refl, sym, _∙_, ap, subst}
 use native.Mathlib.Omega.{arith}
-use borrow.Author.Tests.{leb-true}
-use lib.Dec.{leb}
-use lib.ListN.{length, drop, length-drop}
-use lib.Seq.{length-take-le}
-use Rattle.rules.specs.declared.LineForm.{LineForm}
-use Rattle.rules.specs.declared.LineForm.the-variants as L
-use Rattle.rules.specs.Base.{all, isNil}
-use Rattle.rules.specs.Spool.{mostInLine}
+use lib.Dec.{eqb}
+use lib.ListN.{length}
+use Rattle.rules.specs.Base.{isNil}
 use Rattle.rules.specs.RefusalNumbers.{got}
-use Rattle.rules.specs.Lines.{brace, equals, Form, ignored, wrong, close, eof, keyed, formOf, formIn, bytesAt}
+use Rattle.rules.specs.Lines.{Form, formOf}
 use Rattle.rules.specs.Values.{Known}
 use Rattle.rules.specs.Sets.{Set}
 use Rattle.rules.specs.Machine.{Line, Env, State, top, drawing}
 use Rattle.rules.specs.LineByLine.{stepIn}
 use Rattle.rules.specs.Answers.{numbered, fullClass}
-use Rattle.rules.proofs.Chains.{and-left, and-right, by-cond, clash, then-got}
-use Rattle.promises.proofs.Forms.{Tells, form-tells}
+use Rattle.rules.proofs.Chains.{clash, then-got}
 use Rattle.lines.specs.LineLook.{lookIn}
 use Rattle.lines.specs.declared.Seen.{Seen}
 use Rattle.lines.specs.declared.Look.the-variants as S
-use Rattle.lines.proofs.LinesSeen.{look-line, look-end, look-equals, look-forward}
+use Rattle.lines.proofs.LinesSeen.{look-end}
 use Rattle.pens.specs.declared.Pen.{Pen}
 use Rattle.pens.specs.declared.Drawn.{Drawn}
 use Rattle.pens.specs.declared.Drawn.the-variants as D
 use Rattle.pens.specs.Texts.{lineBytes, Safe, SafeAfter}
 use Rattle.pens.specs.Shown.{shown}
-use Rattle.pens.specs.Keys.{PlacedCode}
-use Rattle.pens.specs.Standing.{Pens}
-use Rattle.pens.specs.Drawing.{FormFits, LineOut, DrawPromise}
-use Rattle.volumes.specs.Volumes.{through, LinesAt, Begins}
+use Rattle.pens.specs.Passing.{LinesAt, formsOf}
+use Rattle.pens.specs.Standing.{Pens, Along}
+use Rattle.pens.specs.Drawing.{LineOut, DrawPromise}
+use Rattle.volumes.specs.Volumes.{through, Begins}
 use Rattle.volumes.proofs.VolumeSound.{Sound}
 use Rattle.volumes.proofs.VolumeSteps.{step-goes, through-goes}
-
--- ── a line's form ──
--- no longer than a line may be
-fits-of : (n : ℕ) (f : Form) → Tells n f → n ≤ 512 → FormFits f
-fits-of n ignored t h = tt
-fits-of n (wrong m) t h = tt
-fits-of n close t h = tt
-fits-of n eof t h = tt
-fits-of n (keyed k brace) t h = omega (arith, t, h)
-fits-of n (keyed k (equals p c)) t h = (omega (arith, t .0, h), t .1)
-
-module _ (spool body : List ℕ) (start at : ℕ) (ls : List (List ℕ)) (a : LinesAt spool body start at ls) (f : Seen) (q : lookIn 1 1 start at body ≡ S.Line f) where
-  -- the line that was seen, and those behind it
-  pub record Next : Type 0 where
-    pub line : List ℕ
-    pub others : List (List ℕ)
-    pub lines : ls ≡ line ∷ others
-    pub form : formOf at line ≡ formIn spool (f .form)
-    pub next : at + length line + 2 ≡ f .next
-    pub last : f .last ≡ isNil others
-    pub left : LinesAt spool body start (f .next) others
-    pub fits : FormFits (formOf at line)
-    pub placed : PlacedCode (f .form)
-
-  pub line-next : Next
-  line-next =
-      let g = look-line 1 1 start at spool body ls (a .part) (a .short) (a .begun) (a .here) (a .lines) f q in
-      let w = g .follows in
-      let narrow : all (λ (l : List ℕ). leb (length l) mostInLine) (g .line ∷ g .others) ≡ true = ap (all (λ (l : List ℕ). leb (length l) mostInLine)) (sym (g .lines)) ∙ a .narrow in
-      let small : length (g .line) ≤ 512 = leb-true (length (g .line)) 512 (and-left (leb (length (g .line)) mostInLine) _ narrow) in
-      record {
-        line = g .line;
-        others = g .others;
-        lines = g .lines;
-        form = sym (w .form);
-        next = sym (w .next);
-        last = w .last;
-        left = record {
-          short = a .short;
-          part = a .part;
-          begun = omega (arith, a .begun, w .forward);
-          here = omega (arith, w .inside);
-          lines = w .after;
-          narrow = and-right (leb (length (g .line)) mostInLine) _ narrow;
-        };
-        fits = fits-of (length (g .line)) (formOf at (g .line)) (form-tells at (g .line)) small;
-        placed = places (f .form) refl (g .line) (w .form) (w .next);
-      }
-    where
-      places : (x : LineForm) → f .form ≡ x → (l : List ℕ) → formIn spool (f .form) ≡ formOf at l → f .next ≡ at + length l + 2 → PlacedCode x
-      places L.Ignored e l h n = tt
-      places L.Close e l h n = tt
-      places L.Eof e l h n = tt
-      places (L.Opens o) e l h n = tt
-      places (L.Equals r) e l h n =
-          let w = look-equals 1 1 start at body f q spool (a .part) r e in
-          let tells : Tells (length l) (formIn spool (L.Equals r)) = subst (Tells (length l)) (sym h ∙ ap (formIn spool) e) (form-tells at l) in
-          let long : length (bytesAt spool (r .rest)) ≡ r .rest .len = length-take-le (r .rest .len) (drop (r .rest .at) spool) (omega (arith, length-drop (r .rest .at) spool, w .rest-inside)) in
-          (omega (arith, tells .0, long, w .rest-end, n), omega (arith, w .rest-inside, a .short), omega (arith, w .rest-inside, a .short))
-      places (L.Refused r) e l h n = tt
+use Rattle.volumes.proofs.WireAlong.{along-step}
+use Rattle.pens.proofs.LinesLeft.{line-next}
 
 -- ── how far the writing has come ──
 -- a reading of the volume's lines
@@ -113,7 +49,7 @@ pub record Reading (spool body : List ℕ) (start : ℕ) (first : Bool) : Type 0
   pub goes : through env (top set 0) (numbered volume name 1 start lines) ≡ got ends
 
 -- and its lines that are left
-pub record Left (spool body : List ℕ) (start : ℕ) (first : Bool) (x : Reading spool body start first) (p : Pen) (at : ℕ) (going : Bool) (ns out : List ℕ) : Type 0 where
+pub record Left (spool body : List ℕ) (start : ℕ) (first : Bool) (x : Reading spool body start first) (p : Pen) (at from : ℕ) (going : Bool) (ns out : List ℕ) : Type 0 where
   pub state : State
   pub number : ℕ
   pub rest : List (List ℕ)
@@ -121,19 +57,20 @@ pub record Left (spool body : List ℕ) (start : ℕ) (first : Bool) (x : Readin
   pub over : going ≡ false → rest ≡ []
   pub sound : Sound first (x .set) state
   pub pens : Pens (x .known) spool first p ns out state
+  pub along : Along spool body start from (formsOf at rest) state
   pub goes : through (x .env) state (numbered (x .volume) (x .name) number at rest) ≡ got (x .ends)
 
-pub record Walk (spool body : List ℕ) (start : ℕ) (first : Bool) (before : List ℕ) (p : Pen) (at : ℕ) (going : Bool) (ns out : List ℕ) : Type 0 where
+pub record Walk (spool body : List ℕ) (start : ℕ) (first : Bool) (before : List ℕ) (p : Pen) (at from : ℕ) (going : Bool) (ns out : List ℕ) : Type 0 where
   pub long : length out ≡ length before
   pub many : length ns ≡ 28
   pub safe : Safe p out
-  pub left : (x : Reading spool body start first) → Left spool body start first x p at going ns out
+  pub left : (x : Reading spool body start first) → Left spool body start first x p at from going ns out
 
 module _ (spool body : List ℕ) (start : ℕ) (first : Bool) where
   abbrev pub begun : Pen
   begun = record { block = 0; part = 0; layered = false; start = 0; at = 0 }
 
-  pub walk-begins : (ns out : List ℕ) → length ns ≡ 28 → Walk spool body start first out begun start true ns out
+  pub walk-begins : (ns out : List ℕ) → length ns ≡ 28 → Walk spool body start first out begun start start true ns out
   walk-begins ns out many = record {
     long = refl;
     many = many;
@@ -153,13 +90,14 @@ module _ (spool body : List ℕ) (start : ℕ) (first : Bool) where
             many = many;
             here = (refl, (x .begins .volume, x .begins .bare, x .begins .served));
           };
+      along = tt;
       goes = x .goes;
     };
   }
 
-  module _ (before : List ℕ) (p : Pen) (at : ℕ) (going : Bool) (ns out : List ℕ) (w : Walk spool body start first before p at going ns out) where
+  module _ (before : List ℕ) (p : Pen) (at from : ℕ) (going : Bool) (ns out : List ℕ) (w : Walk spool body start first before p at from going ns out) where
     -- no line was seen
-    pub walk-ends : lookIn 1 1 start at body ≡ S.End → Walk spool body start first before p at false ns out
+    pub walk-ends : lookIn 1 1 start at body ≡ S.End → Walk spool body start first before p at from false ns out
     walk-ends q = record {
       long = w .long;
       many = w .many;
@@ -175,12 +113,13 @@ module _ (spool body : List ℕ) (start : ℕ) (first : Bool) where
             over = λ _. look-end 1 1 start at spool body (y .rest) (a .part) (a .short) (a .begun) (a .here) (a .lines) q;
             sound = y .sound;
             pens = y .pens;
+            along = y .along;
             goes = y .goes;
           };
     }
 
     -- a line was seen
-    module _ (f : Seen) (q : lookIn 1 1 start at body ≡ S.Line f) (ns′ out′ : List ℕ) (d : Drawn) (promise : DrawPromise spool first (f .form) p ns ns′ out out′ d) where
+    module _ (f : Seen) (q : lookIn 1 1 start at body ≡ S.Line f) (ns′ out′ : List ℕ) (d : Drawn) (promise : DrawPromise spool body start from first (f .form) p ns ns′ out out′ d) where
       -- it took the reading on
       pub record Went (x : Reading spool body start first) : Type 0 where
         pub state : State
@@ -190,6 +129,7 @@ module _ (spool body : List ℕ) (start : ℕ) (first : Bool) where
         pub last : f .last ≡ isNil others
         pub sound : Sound first (x .set) state
         pub out-is : LineOut (x .known) spool first state ns′ out′ d
+        pub along : Along spool body start (cond (eqb (p .block) 12) from (f .next)) (formsOf (f .next) others) state
         pub goes : through (x .env) state (numbered (x .volume) (x .name) number (f .next) others) ≡ got (x .ends)
 
       pub went : (x : Reading spool body start first) → Went x
@@ -200,6 +140,9 @@ module _ (spool body : List ℕ) (start : ℕ) (first : Bool) where
           let goes : through (x .env) (y .state) (l ∷ numbered (x .volume) (x .name) (suc (y .number)) (at + length (z .line) + 2) (z .others)) ≡ got (x .ends) =
           ap (λ (us : List (List ℕ)). through (x .env) (y .state) (numbered (x .volume) (x .name) (y .number) at us)) (sym (z .lines)) ∙ y .goes in
           let (st₁, step, on) = then-got (stepIn (x .env) l (y .state)) (λ st. through (x .env) st (numbered (x .volume) (x .name) (suc (y .number)) (at + length (z .line) + 2) (z .others))) (x .ends) goes in
+          let forms : formsOf at (y .rest) ≡ formOf at (z .line) ∷ formsOf (f .next) (z .others) =
+          ap (formsOf at) (z .lines) ∙ ap (λ (m : ℕ). formOf at (z .line) ∷ formsOf m (z .others)) (z .next) in
+          let along : Along spool body start from (l .form ∷ formsOf (f .next) (z .others)) (y .state) = subst (λ (gs : List Form). Along spool body start from gs (y .state)) forms (y .along) in
           record {
             state = st₁;
             number = suc (y .number);
@@ -207,7 +150,8 @@ module _ (spool body : List ℕ) (start : ℕ) (first : Bool) where
             left = z .left;
             last = z .last;
             sound = step-goes (x .known) first (x .set) (x .begins .volume) (x .env) l (y .state) st₁ (y .sound) step .sound;
-            out-is = promise (x .known) (x .env) l (y .state) st₁ (x .class-is) (z .form) (z .placed) (z .fits) (y .pens) step;
+            out-is = promise (x .known) (x .env) l (formsOf (f .next) (z .others)) (y .state) st₁ (x .class-is) (z .form) (z .placed) (z .fits) (y .pens) along step;
+            along = along-step spool body start (x .known) first p ns from (f .next) (z .others) (z .left) (x .env) l (x .class-is) (z .fits) st₁ (y .state) (y .pens .here) along step;
             goes = ap (λ (m : ℕ). through (x .env) st₁ (numbered (x .volume) (x .name) (suc (y .number)) m (z .others))) (sym (z .next)) ∙ on;
           }
 
@@ -220,8 +164,8 @@ module _ (spool body : List ℕ) (start : ℕ) (first : Bool) where
           through-goes (x .known) first (x .set) (x .begins .volume) (x .env) (numbered (x .volume) (x .name) (g .number) (f .next) (g .others)) (g .state) (x .ends) (g .sound) (g .goes) in
           omega (arith, full, more, size, w .long)
 
-      pub walk-on : (p′ : Pen) → d ≡ D.Go p′ → length out′ ≡ length out → length ns′ ≡ 28 → SafeAfter d out′ → Walk spool body start first before p′ (f .next) (not (f .last)) ns′ out′
-      walk-on p′ e size many safe = record {
+      pub walk-on : (p′ : Pen) → d ≡ D.Go p′ → length out′ ≡ length out → length ns′ ≡ 28 → SafeAfter d out′ → (from′ : ℕ) → from′ ≡ cond (eqb (p .block) 12) from (f .next) → Walk spool body start first before p′ (f .next) from′ (not (f .last)) ns′ out′
+      walk-on p′ e size many safe from′ place = record {
         long = size ∙ w .long;
         many = many;
         safe = subst (λ (u : Drawn). SafeAfter u out′) e safe;
@@ -235,6 +179,7 @@ module _ (spool body : List ℕ) (start : ℕ) (first : Bool) where
               over = λ h. none-left (g .others) (f .last) (g .last) h;
               sound = g .sound;
               pens = subst (LineOut (x .known) spool first (g .state) ns′ out′) e (g .out-is);
+              along = subst (λ (m : ℕ). Along spool body start m (formsOf (f .next) (g .others)) (g .state)) (sym place) (g .along);
               goes = g .goes;
             };
       }
@@ -242,15 +187,3 @@ module _ (spool body : List ℕ) (start : ℕ) (first : Bool) where
           none-left : (us : List (List ℕ)) (b : Bool) → b ≡ isNil us → not b ≡ false → us ≡ []
           none-left [] b e h = refl
           none-left (u ∷ us) b e h = clash (ap not e) h
-
--- ── the lines left grow fewer ──
-pub fewer-none : (end at : ℕ) (going : Bool) → going ≡ true → 0 < cond going (suc (end + 3 - at)) 0
-fewer-none end at true e = omega arith
-fewer-none end at false e = clash e refl
-
-pub fewer : (body : List ℕ) (start at : ℕ) (going : Bool) (f : Seen) → going ≡ true → lookIn 1 1 start at body ≡ S.Line f
-    → cond (not (f .last)) (suc (start + length body + 3 - f .next)) 0 < cond going (suc (start + length body + 3 - at)) 0
-fewer body start at going f e q =
-    let (on, most, few) = look-forward 1 1 start at body f q in
-    by-cond (λ (n : ℕ). n < cond going (suc (start + length body + 3 - at)) 0) (not (f .last))
-    (λ _. rw e (omega (arith, on, most))) (λ _. fewer-none (start + length body) at going e)

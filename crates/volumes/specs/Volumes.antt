@@ -3,11 +3,8 @@ use Prim.Native.Nat.{ℕ, zero, suc, _+_, _/_, _%_, _≤_}
 use mathlib.Core.Bool.{Bool, true, false}
 use mathlib.Core.Path.{_≡_}
 use mathlib.Core.List.{List, [], _∷_, _++_}
-use mathlib.Core.Option.{some}
-use lib.Dec.{leb}
 use lib.ListN.{length, take}
-use Rattle.rules.specs.Base.{all}
-use Rattle.rules.specs.Spool.{mostBytes, mostInLine, paddedName, unlines, volumeBytes}
+use Rattle.rules.specs.Spool.{paddedName, unlines, volumeBytes}
 use Rattle.rules.specs.RefusalNumbers.{Got, got, andThen}
 use Rattle.rules.specs.Values.{Known}
 use Rattle.rules.specs.Sets.{Set, isFirst}
@@ -18,10 +15,10 @@ use Rattle.rules.specs.Answers.{numbered, fullClass, rewriteOutcome, written}
 use Rattle.leaves.specs.declared.Wrote.{Wrote}
 use Rattle.leaves.specs.declared.Wrote.the-variants as W
 use Rattle.leaves.specs.Writing.{putAnswer}
-use Rattle.lines.specs.LineLook.{linesIn, PartOf}
 use Rattle.lines.specs.VolumeNames.{nameAt}
 use Rattle.pens.specs.Shown.{shown}
 use Rattle.pens.specs.Standing.{Served}
+use Rattle.pens.specs.Passing.{LinesAt}
 
 -- All of the text at the front, where it fits. What stands behind it, and all where it does not fit, is for who lent the output to clear.
 pub record Fronts (text before after : List ℕ) (r : Wrote) : Type 0 where
@@ -33,22 +30,13 @@ abbrev pub through : Env → State → List Line → Got State
 through e st [] = got st
 through e st (l ∷ ls) = andThen (stepIn e l st) λ st₁. through e st₁ ls
 
--- the lines left, from a place on, of the volume that is the part body of the spool from start on
-pub record LinesAt (s body : List ℕ) (start at : ℕ) (ls : List (List ℕ)) : Type 0 where
-  pub short : length s ≤ mostBytes
-  pub part : PartOf s start body
-  pub begun : start ≤ at
-  pub here : at ≤ start + length body
-  pub lines : linesIn start at body ≡ some ls
-  pub narrow : all (λ l. leb (length l) mostInLine) ls ≡ true
-
 -- the set before the first volume, or before another
 pub record Begins (first : Bool) (s : Set) : Type 0 where
   pub volume : isFirst s ≡ first
   pub bare : first ≡ true → s .symbols ≡ []
   pub served : first ≡ false → Served s
 
--- E_sym is served, where ELEMENT is closed
+-- E_sym and E_wire are served, where ELEMENT is closed
 abbrev pub ServedAfter : State → Type 0
 ServedAfter (top s zero) = Unit {0}
 ServedAfter (top s (suc zero)) = Unit {0}

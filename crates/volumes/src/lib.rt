@@ -1,5 +1,6 @@
 // An accepted set written in the fixed form, "no comments, blanks or empty lines": its volumes, each behind its head.
 use account::BLOCK_TOP;
+use account::BLOCK_WIRE;
 use account::MOST_ROWS;
 use entries::Rest;
 use entries::names::part;
@@ -18,6 +19,8 @@ use prints::rows::put_plain;
 use rules::LineForm;
 use rules::Span;
 ghost use mathlib.Core.Path.{_≡_};
+ghost use mathlib.Core.Bool.{cond};
+ghost use lib.Dec.{eqb};
 ghost use mathlib.Core.List.{_++_};
 ghost use Prim.Native.Nat.{_≤_};
 ghost use lib.ListN.{length, drop};
@@ -27,7 +30,7 @@ ghost use Rattle.pens.specs.Keys.{EofLine};
 ghost use Rattle.pens.specs.KeyWriting.{Kept};
 ghost use Rattle.pens.specs.Drawing.{DrawPromise};
 ghost use Rattle.volumes.specs.Volumes.{BodyPromise, headBytes, VolumePromise, SetPromise};
-ghost use Rattle.account.specs.Numbering.{mostRows};
+ghost use Rattle.account.specs.Numbering.{blockWire, mostRows};
 
 // "The last line of the last volume is `EOF`"
 fn on_eof(pen: Pen, out: &mut [u8]) -> Drawn
@@ -44,6 +47,9 @@ fn on_eof(pen: Pen, out: &mut [u8]) -> Drawn
 // What one line writes.
 fn on_line(
     s: &[u8],
+    body: &[u8],
+    start: u32,
+    from: u32,
     first: bool,
     form: LineForm,
     pen: Pen,
@@ -51,12 +57,12 @@ fn on_line(
     out: &mut [u8],
 ) -> Drawn
     requires { ⌜ Safe pen (now out) × (length (now notes) ≡ mostRows) ⌝ }
-    ensures { λ r. ⌜ Kept (now (out .entry)) (now (out .exit)) r × (length (now (notes .exit)) ≡ mostRows) × DrawPromise (now (s .entry)) first form pen (now (notes .entry)) (now (notes .exit)) (now (out .entry)) (now (out .exit)) r ⌝ }
+    ensures { λ r. ⌜ Kept (now (out .entry)) (now (out .exit)) r × (length (now (notes .exit)) ≡ mostRows) × DrawPromise (now (s .entry)) (now (body .entry)) start from first form pen (now (notes .entry)) (now (notes .exit)) (now (out .entry)) (now (out .exit)) r ⌝ }
 {
     match form {
         LineForm::Ignored => Drawn::Go(pen),
         LineForm::Refused(_) => Drawn::Go(pen),
-        LineForm::Close => on_close(s, first, pen, notes, out),
+        LineForm::Close => on_close(s, body, start, from, first, pen, notes, out),
         LineForm::Eof => on_eof(pen, out),
         LineForm::Opens(o) => {
             let key = o.key;
@@ -68,6 +74,16 @@ fn on_line(
             on_key(s, first, key, Rest::Equals(rest), pen, notes, out)
         }
     }
+}
+
+// The place of the line behind the opener of the wire that is open behind a line; where none was open before it, that of the next line.
+fn wire_from(pen: Pen, from: u32, next: u32) -> u32
+    ensures { λ r. ⌜ r ≡ cond (eqb (pen .block) blockWire) from next ⌝ }
+{
+    if pen.block == BLOCK_WIRE {
+        return from;
+    }
+    next
 }
 
 // The lines of a volume, which is the part `body` of the spool from `start` on, and the byte 1A behind them.
@@ -90,6 +106,7 @@ fn put_body(
         at: 0,
     };
     let mut at = start;
+    let mut from = start;
     let mut going = true;
     while going {
         match look(body, start, at, 1, 1) {
@@ -98,7 +115,8 @@ fn put_body(
             }
             Look::Line(seen) => {
                 let form = seen.form;
-                match on_line(s, first, form, pen, notes, out) {
+                let began = wire_from(pen, from, seen.next);
+                match on_line(s, body, start, from, first, form, pen, notes, out) {
                     Drawn::Go(p) => {
                         pen = p;
                     }
@@ -107,6 +125,7 @@ fn put_body(
                     }
                 }
                 at = seen.next;
+                from = began;
                 going = !seen.last;
             }
         }

@@ -37,10 +37,14 @@ on-key-requires-2 : tie.Need-on-key-requires-2
 on-key-requires-2 c κs = search needs
 
 returns : tie.Need-returns
-returns c = (record { safe = c .before .before .before .before .before .pre .0; long = refl }, c .before .before .before .before .before .pre .1, line-same (c .before .before .before .before .before .args .s .now) (c .before .before .before .before .before .args .first) (c .before .before .before .before .before .args .form) Ignored (c .before .before .before .before .before .args .pen) (c .before .before .before .before .before .args .notes .now) (c .before .before .before .before .before .args .notes .now) (c .before .before .before .before .before .args .out .now) (c .before .before .before .before .before .args .out .now) (Go (c .before .before .before .before .before .args .pen)) (c .enum-told .given .1) refl (c .before .before .before .before .before .pre .1) (refl, refl, refl))
+returns c =
+    let a = c .before .before .before .before .before .before .args in
+    (record { safe = c .before .before .before .before .before .before .pre .0; long = refl }, c .before .before .before .before .before .before .pre .1, line-same (a .s .now) (a .body .now) (a .start) (a .from) (a .first) (a .form) Ignored (a .pen) (a .notes .now) (a .notes .now) (a .out .now) (a .out .now) (Go (a .pen)) (c .enum-told .given .1) refl (c .before .before .before .before .before .before .pre .1) (refl, refl, refl))
 
 returns-2 : tie.Need-returns-2
-returns-2 c = (record { safe = c .before .before .before .before .before .pre .0; long = refl }, c .before .before .before .before .before .pre .1, line-same (c .before .before .before .before .before .args .s .now) (c .before .before .before .before .before .args .first) (c .before .before .before .before .before .args .form) (Refused _) (c .before .before .before .before .before .args .pen) (c .before .before .before .before .before .args .notes .now) (c .before .before .before .before .before .args .notes .now) (c .before .before .before .before .before .args .out .now) (c .before .before .before .before .before .args .out .now) (Go (c .before .before .before .before .before .args .pen)) (c .enum-told2 .given .1) refl (c .before .before .before .before .before .pre .1) tt)
+returns-2 c =
+    let a = c .before .before .before .before .before .before .args in
+    (record { safe = c .before .before .before .before .before .before .pre .0; long = refl }, c .before .before .before .before .before .before .pre .1, line-same (a .s .now) (a .body .now) (a .start) (a .from) (a .first) (a .form) (Refused _) (a .pen) (a .notes .now) (a .notes .now) (a .out .now) (a .out .now) (Go (a .pen)) (c .enum-told2 .given .1) refl (c .before .before .before .before .before .before .pre .1) tt)
 
 same-length : tie.Need-same-length
 same-length c = search needs
@@ -49,13 +53,17 @@ same-length-2 : tie.Need-same-length-2
 same-length-2 c = search needs
 
 returns-3 : tie.Need-returns-3
-returns-3 c = (c .before .before .on-close .ensures .0, c .before .before .before .before .before .before .before .before .before .before .pre .1, line-same (c .before .before .before .before .before .before .before .before .before .before .args .s .now) (c .before .before .before .before .before .before .before .before .before .before .args .first) (c .before .before .before .before .before .before .before .before .before .before .args .form) Close (c .before .before .before .before .before .before .before .before .before .before .args .pen) (c .before .before .before .before .before .before .before .before .before .before .args .notes .now) (c .before .before .before .before .before .before .before .before .before .before .args .notes .now) (c .before .before .before .before .before .before .before .before .before .before .args .out .now) _ (c .before .before .on-close .result) (c .before .before .before .before .before .enum-told3 .given .1) (c .before .before .on-close .ensures .0 .long) (c .before .before .before .before .before .before .before .before .before .before .pre .1) (c .before .before .on-close .ensures .1, refl))
+returns-3 c =
+    let a = c .before .before .before .before .before .before .before .before .before .before .before .args in
+    (c .before .before .on-close .ensures .0, c .before .before .before .before .before .before .before .before .before .before .before .pre .1, line-same (a .s .now) (a .body .now) (a .start) (a .from) (a .first) (a .form) Close (a .pen) (a .notes .now) (a .notes .now) (a .out .now) _ (c .before .before .on-close .result) (c .before .before .before .before .before .enum-told3 .given .1) (c .before .before .on-close .ensures .0 .long) (c .before .before .before .before .before .before .before .before .before .before .before .pre .1) (c .before .before .on-close .ensures .1, c .before .before .on-close .ensures .2, refl))
 
 same-length-3 : tie.Need-same-length-3
 same-length-3 c = search needs
 
 returns-4 : tie.Need-returns-4
-returns-4 c = (c .before .before .on-eof .ensures .0, c .before .before .before .before .before .before .before .before .before .pre .1, line-same (c .before .before .before .before .before .before .before .before .before .args .s .now) (c .before .before .before .before .before .before .before .before .before .args .first) (c .before .before .before .before .before .before .before .before .before .args .form) Eof (c .before .before .before .before .before .before .before .before .before .args .pen) (c .before .before .before .before .before .before .before .before .before .args .notes .now) (c .before .before .before .before .before .before .before .before .before .args .notes .now) (c .before .before .before .before .before .before .before .before .before .args .out .now) _ (c .before .before .on-eof .result) (c .before .before .before .before .enum-told4 .given .1) (c .before .before .on-eof .ensures .0 .long) (c .before .before .before .before .before .before .before .before .before .pre .1) (c .before .before .on-eof .ensures .1, refl))
+returns-4 c =
+    let a = c .before .before .before .before .before .before .before .before .before .before .args in
+    (c .before .before .on-eof .ensures .0, c .before .before .before .before .before .before .before .before .before .before .pre .1, line-same (a .s .now) (a .body .now) (a .start) (a .from) (a .first) (a .form) Eof (a .pen) (a .notes .now) (a .notes .now) (a .out .now) _ (c .before .before .on-eof .result) (c .before .before .before .before .enum-told4 .given .1) (c .before .before .on-eof .ensures .0 .long) (c .before .before .before .before .before .before .before .before .before .before .pre .1) (c .before .before .on-eof .ensures .1, refl))
 
 same-length-4 : tie.Need-same-length-4
 same-length-4 c = search needs
@@ -64,7 +72,9 @@ same-length-5 : tie.Need-same-length-5
 same-length-5 c = search needs
 
 returns-5 : tie.Need-returns-5
-returns-5 c = (c .before .before .before .before .on-key .ensures .0, c .before .before .before .before .on-key .ensures .1, line-same (c .before .before .before .before .before .before .before .before .before .before .before .before .before .before .args .s .now) (c .before .before .before .before .before .before .before .before .before .before .before .before .before .before .args .first) (c .before .before .before .before .before .before .before .before .before .before .before .before .before .before .args .form) (Opens _) (c .before .before .before .before .before .before .before .before .before .before .before .before .before .before .args .pen) (c .before .before .before .before .before .before .before .before .before .before .before .before .before .before .args .notes .now) _ (c .before .before .before .before .before .before .before .before .before .before .before .before .before .before .args .out .now) _ (c .before .before .before .before .on-key .result) (c .before .before .before .before .before .before .before .before .before .form .given .1) (c .before .before .before .before .on-key .ensures .0 .long) (c .before .before .before .before .on-key .ensures .1) (c .before .before .before .before .on-key .ensures .2))
+returns-5 c =
+    let a = c .before .before .before .before .before .before .before .before .before .before .before .before .before .before .before .args in
+    (c .before .before .before .before .on-key .ensures .0, c .before .before .before .before .on-key .ensures .1, line-same (a .s .now) (a .body .now) (a .start) (a .from) (a .first) (a .form) (Opens _) (a .pen) (a .notes .now) _ (a .out .now) _ (c .before .before .before .before .on-key .result) (c .before .before .before .before .before .before .before .before .before .form .given .1) (c .before .before .before .before .on-key .ensures .0 .long) (c .before .before .before .before .on-key .ensures .1) (c .before .before .before .before .on-key .ensures .2))
 
 same-length-6 : tie.Need-same-length-6
 same-length-6 c = search needs
@@ -73,32 +83,11 @@ same-length-7 : tie.Need-same-length-7
 same-length-7 c = search needs
 
 returns-6 : tie.Need-returns-6
-returns-6 c = (c .before .before .before .before .on-key2 .ensures .0, c .before .before .before .before .on-key2 .ensures .1, line-same (c .before .before .before .before .before .before .before .before .before .before .before .before .before .before .before .args .s .now) (c .before .before .before .before .before .before .before .before .before .before .before .before .before .before .before .args .first) (c .before .before .before .before .before .before .before .before .before .before .before .before .before .before .before .args .form) (Equals _) (c .before .before .before .before .before .before .before .before .before .before .before .before .before .before .before .args .pen) (c .before .before .before .before .before .before .before .before .before .before .before .before .before .before .before .args .notes .now) _ (c .before .before .before .before .before .before .before .before .before .before .before .before .before .before .before .args .out .now) _ (c .before .before .before .before .on-key2 .result) (c .before .before .before .before .before .before .before .before .before .before .form2 .given .1) (c .before .before .before .before .on-key2 .ensures .0 .long) (c .before .before .before .before .on-key2 .ensures .1) (c .before .before .before .before .on-key2 .ensures .2))
+returns-6 c =
+    let a = c .before .before .before .before .before .before .before .before .before .before .before .before .before .before .before .before .args in
+    (c .before .before .before .before .on-key2 .ensures .0, c .before .before .before .before .on-key2 .ensures .1, line-same (a .s .now) (a .body .now) (a .start) (a .from) (a .first) (a .form) (Equals _) (a .pen) (a .notes .now) _ (a .out .now) _ (c .before .before .before .before .on-key2 .result) (c .before .before .before .before .before .before .before .before .before .before .form2 .given .1) (c .before .before .before .before .on-key2 .ensures .0 .long) (c .before .before .before .before .on-key2 .ensures .1) (c .before .before .before .before .on-key2 .ensures .2))
 
 pub on-line-spec : {M : Type 1} → statement M
 on-line-spec =
     tie.close
-    (tie.spec
-    enum-told
-    enum-told-2
-    enum-told-3
-    on-close-requires
-    enum-told-4
-    on-eof-requires
-    enum-known-form
-    on-key-requires
-    enum-known-form-2
-    on-key-requires-2
-    returns
-    returns-2
-    same-length
-    same-length-2
-    returns-3
-    same-length-3
-    returns-4
-    same-length-4
-    same-length-5
-    returns-5
-    same-length-6
-    same-length-7
-    returns-6)
+    (tie.spec enum-told enum-told-2 enum-told-3 on-close-requires enum-told-4 on-eof-requires enum-known-form on-key-requires enum-known-form-2 on-key-requires-2 returns returns-2 same-length same-length-2 returns-3 same-length-3 returns-4 same-length-4 same-length-5 returns-5 same-length-6 same-length-7 returns-6)

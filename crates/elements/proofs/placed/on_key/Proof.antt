@@ -57,16 +57,19 @@ act-row-requires c κs =
     let a = c .before .before .before .before .before .before .before .before .before .before .before .before .before .before .before .before .before .before .args in
     let h = c .before .before .before .before .before .before .before .before .before .before .before .before .before .before .before .before .before .before .pre in
     let e = rw (c .before .before .before .before .before .before .before .row .given .1, c .before .before .before .before .before .before .before .before .before .before .part .ensures) at (c .before .before .before .before .before .before .before .before .before .row-of .ensures) in
-    (h .0, h .1, h .2, row-room (tableOf 18) (bytesAt (a .s .now) (a .key)) (c .before .before .before .before .before .before .before .row .given .0 .0) e 0 (length (a .rec .now)) (placed-room (length (a .rec .now)) (h .3 .rec)))
+    (h .0, h .1, h .2, row-room (tableOf 18) (bytesAt (a .s .now) (a .key)) (c .before .before .before .before .before .before .before .row .given .0 .0) e 0 (length (a .rec .now)) (placed-room (length (a .rec .now)) (h .4)))
+
+content-at-requires : tie.Need-content-at-requires
+content-at-requires c κs = search needs
 
 placed-done-requires : tie.Need-placed-done-requires
 placed-done-requires c κs =
-    let a = c .before .before .before .before .before .before .before .before .before .before .before .before .before .before .before .before .before .before .before .before .before .before .before .before .before .args in
-    let h = c .before .before .before .before .before .before .before .before .before .before .before .before .before .before .before .before .before .before .before .before .before .before .before .before .before .pre .3 in
+    let a = c .before .before .before .before .before .before .before .before .before .before .before .before .before .before .before .before .before .before .before .before .before .before .before .before .before .before .args in
+    let h = c .before .before .before .before .before .before .before .before .before .before .before .before .before .before .before .before .before .before .before .before .before .before .before .before .before .before .pre in
     let k = knownIn (a .s .now) (a .symbols .now) (a .layers .now) in
-    let e = rw (c .before .before .before .before .before .before .before .before .before .before .before .before .before .before .row .given .1, c .before .before .before .before .before .before .before .before .before .before .before .before .before .before .before .before .before .part .ensures) at (c .before .before .before .before .before .before .before .before .before .before .before .before .before .before .before .before .row-of .ensures) in
-    let w = row-acts (tableOf 18) (bytesAt (a .s .now) (a .key)) (c .before .before .before .before .before .before .before .before .before .before .before .before .before .before .row .given .0 .0) e k (a .range) (a .marks .now) (restIn (a .s .now) (a .rest)) 0 (a .rec .now) _ _ _ refl (c .before .before .before .before .before .before .act-row .ensures) in
-    (record { tally = h .tally; serials = h .serials; count = h .count; marks = h .marks; inner = h .inner; rec = c .before .before .before .before .before .before .act-row .kept .1 .1 .1 .1 .1 .1 .1 .1 .0 ∙ h .rec }, found-ready k (a .range) (a .marks .now) (bytesAt (a .s .now) (a .key)) (restIn (a .s .now) (a .rest)) (a .rec .now) _ (h .rec) _ w)
+    let e = rw (c .before .before .before .before .before .before .before .before .before .before .before .before .before .before .before .row .given .1, c .before .before .before .before .before .before .before .before .before .before .before .before .before .before .before .before .before .before .part .ensures) at (c .before .before .before .before .before .before .before .before .before .before .before .before .before .before .before .before .before .row-of .ensures) in
+    let w = row-acts (tableOf 18) (bytesAt (a .s .now) (a .key)) (c .before .before .before .before .before .before .before .before .before .before .before .before .before .before .before .row .given .0 .0) e k (a .range) (a .marks .now) (restIn (a .s .now) (a .rest)) 0 (a .rec .now) _ _ _ refl (c .before .before .before .before .before .before .before .act-row .ensures) in
+    (h .3, c .before .before .before .before .before .before .before .act-row .kept .1 .1 .1 .1 .1 .1 .1 .1 .0 ∙ h .4, found-ready k (a .range) (a .marks .now) (bytesAt (a .s .now) (a .key)) (restIn (a .s .now) (a .rest)) (a .rec .now) _ (h .4) _ w)
 
 returns-2 : tie.Need-returns-2
 returns-2 c =
@@ -91,12 +94,12 @@ same-length-5 c = search needs
 
 returns-3 : tie.Need-returns-3
 returns-3 c =
-    let a = c .before .before .before .before .before .before .before .before .before .before .before .before .before .before .before .before .before .before .before .before .before .before .before .before .before .before .before .before .before .before .before .before .before .before .args in
+    let a = c .before .before .before .before .before .before .before .before .before .before .before .before .before .before .before .before .before .before .before .before .before .before .before .before .before .before .before .before .before .before .before .before .before .before .before .args in
     let k = knownIn (a .s .now) (a .symbols .now) (a .layers .now) in
-    let e = rw (c .before .before .before .before .before .before .before .before .before .before .before .before .before .before .before .before .before .before .before .before .before .before .before .row .given .1, c .before .before .before .before .before .before .before .before .before .before .before .before .before .before .before .before .before .before .before .before .before .before .before .before .before .before .part .ensures) at (c .before .before .before .before .before .before .before .before .before .before .before .before .before .before .before .before .before .before .before .before .before .before .before .before .before .row-of .ensures) in
-    let w = row-acts (tableOf 18) (bytesAt (a .s .now) (a .key)) (c .before .before .before .before .before .before .before .before .before .before .before .before .before .before .before .before .before .before .before .before .before .before .before .row .given .0 .0) e k (a .range) (a .marks .now) (restIn (a .s .now) (a .rest)) 0 (a .rec .now) _ _ _ refl (c .before .before .before .before .before .before .before .before .before .before .before .before .before .before .before .act-row .ensures) in
-    let l = c .before .before .before .before .before .before .before .before .placed-done .last .1 .1 in
-    key-known (bytesAt (a .s .now) (a .key)) (c .before .before .before .before .before .before .before .before .before .before .before .before .before .before .before .before .before .before .before .before .before .before .before .row .given .0 .0) e k (a .class) (a .range) (a .here) (lent (a .tally .now) (a .serials .now) (a .marks .now) (a .inner .now)) (lent (l .0) (l .1 .0) (l .1 .1 .0) (l .1 .1 .1 .0)) (a .rec .now) (c .before .before .before .before .before .before .before .before .before .before .before .before .before .before .before .act-row .last .1 .1 .1 .1 .1 .1 .1 .1 .0) (c .before .before .before .before .before .before .before .before .placed-done .result) (skippedBy (formIn (a .s .now) (a .form))) (restIn (a .s .now) (a .rest)) (c .before .before .before .before .before .before .before .before .before .before .before .before .before .before .before .act-row .result) (sym (c .before .before .before .before .before .before .before .before .before .before .before .before .before .before .before .before .before .before .before .before .reaches .ensures) ∙ not-false _ (c .before .before .before .before .before .before .before .before .before .before .before .before .before .before .before .before .before .before .before .if1 .left)) w (c .before .before .before .before .before .before .before .before .placed-done .ensures)
+    let e = rw (c .before .before .before .before .before .before .before .before .before .before .before .before .before .before .before .before .before .before .before .before .before .before .before .before .row .given .1, c .before .before .before .before .before .before .before .before .before .before .before .before .before .before .before .before .before .before .before .before .before .before .before .before .before .before .before .part .ensures) at (c .before .before .before .before .before .before .before .before .before .before .before .before .before .before .before .before .before .before .before .before .before .before .before .before .before .before .row-of .ensures) in
+    let w = row-acts (tableOf 18) (bytesAt (a .s .now) (a .key)) (c .before .before .before .before .before .before .before .before .before .before .before .before .before .before .before .before .before .before .before .before .before .before .before .before .row .given .0 .0) e k (a .range) (a .marks .now) (restIn (a .s .now) (a .rest)) 0 (a .rec .now) _ _ _ refl (c .before .before .before .before .before .before .before .before .before .before .before .before .before .before .before .before .act-row .ensures) in
+    let l = c .before .before .before .before .before .before .before .before .placed-done .last .1 .1 .1 in
+    key-known (bytesAt (a .s .now) (a .key)) (c .before .before .before .before .before .before .before .before .before .before .before .before .before .before .before .before .before .before .before .before .before .before .before .before .row .given .0 .0) e k (a .class) (a .range) (a .here) (lent (a .tally .now) (a .serials .now) (a .marks .now) (a .inner .now)) (lent (l .0) (l .1 .0) (l .1 .1 .0) (l .1 .1 .1 .0)) (a .rec .now) (c .before .before .before .before .before .before .before .before .before .before .before .before .before .before .before .before .act-row .last .1 .1 .1 .1 .1 .1 .1 .1 .0) (c .before .before .before .before .before .before .before .before .placed-done .result) (skippedBy (formIn (a .s .now) (a .form))) (restIn (a .s .now) (a .rest)) (c .before .before .before .before .before .before .before .before .before .before .before .before .before .before .before .before .act-row .result) (sym (c .before .before .before .before .before .before .before .before .before .before .before .before .before .before .before .before .before .before .before .before .before .reaches .ensures) ∙ not-false _ (c .before .before .before .before .before .before .before .before .before .before .before .before .before .before .before .before .before .before .before .before .if1 .left)) w (rw (c .before .before .before .before .before .before .before .before .before .before .before .before .before .before .content-at .ensures) at (c .before .before .before .before .before .before .before .before .placed-done .ensures))
 
 pub on-key-spec : {M : Type 1} → statement M
 on-key-spec =
@@ -113,6 +116,7 @@ on-key-spec =
     cast-had
     slice-read-had
     act-row-requires
+    content-at-requires
     placed-done-requires
     returns-2
     same-length

@@ -1,13 +1,10 @@
-use Prim.Native.Nat.{ℕ}
-use mathlib.Core.Bool.{not}
+use mathlib.Core.Bool.{Bool, cond}
 use mathlib.Core.Path.{sym, _∙_, ap}
-use lib.Dec.{eqb}
-use borrow.Author.Tests.{eq-eqb, ne-eqb}
-use Rattle.rules.specs.Lines.{hasForm, formIn}
+use Rattle.rules.specs.Lines.{formIn}
 use Rattle.entries.specs.Shapes.{restIn}
-use Rattle.entries.proofs.ByShape.{form-by}
 use Rattle.account.specs.SkippedLines.{skippedBy}
-use Rattle.account.proofs.PlacedLaws.{unknown-skipped, unknown-refused}
+use Rattle.account.specs.PlacedLines.{skipStep, notHere}
+use Rattle.account.proofs.PlacedLaws.{unknown-skipped}
 use borrow.Author.Needs.{needs}
 use Rattle.elements.proofs.placed.on_unknown.Statement.{statement}
 use Rattle.elements.proofs.placed.on_unknown.Tie as tie
@@ -50,23 +47,13 @@ returns-4 c =
     let a = c .before .before .before .before .before .before .before .args in
     unknown-skipped (a .class) (a .range) (a .here) (skippedBy (formIn (a .s .now) (a .form))) (restIn (a .s .now) (a .rest)) _ (c .before .before .before .before .before .exceeds .ensures) _ _ (c .before .before .before .before .if1 .taken) (c .before .before .before .skip-line .ensures) (c .before .n .given .1)
 
-shape-for-requires : tie.Need-shape-for-requires
-shape-for-requires c κs = search needs
-
-sort-of-requires : tie.Need-sort-of-requires
-sort-of-requires c κs = search needs
+not-here-requires : tie.Need-not-here-requires
+not-here-requires c κs = search needs
 
 returns-5 : tie.Need-returns-5
 returns-5 c =
-    let a = c .before .before .before .before .before .before .args in
-    let f = ap hasForm (sym (c .before .before .shape-for .ensures)) ∙ form-by (a .s .now) (c .before .before .shape-for .result) ∙ ap (λ (n : ℕ). not (eqb n 4)) (sym (c .before .sort-of .ensures)) in
-    unknown-refused (a .class) (a .range) (a .here) (skippedBy (formIn (a .s .now) (a .form))) (restIn (a .s .now) (a .rest)) _ (c .before .before .before .before .exceeds .ensures) _ (c .before .before .before .if1 .left) (f ∙ ap not (eq-eqb (c .before .sort-of .result) 4 (c .if2 .taken)))
-
-returns-6 : tie.Need-returns-6
-returns-6 c =
-    let a = c .before .before .before .before .before .before .args in
-    let f = ap hasForm (sym (c .before .before .shape-for .ensures)) ∙ form-by (a .s .now) (c .before .before .shape-for .result) ∙ ap (λ (n : ℕ). not (eqb n 4)) (sym (c .before .sort-of .ensures)) in
-    unknown-refused (a .class) (a .range) (a .here) (skippedBy (formIn (a .s .now) (a .form))) (restIn (a .s .now) (a .rest)) _ (c .before .before .before .before .exceeds .ensures) _ (c .before .before .before .if1 .left) (f ∙ ap not (ne-eqb (c .before .sort-of .result) 4 (c .if2 .left)))
+    let a = c .before .before .before .before .args in
+    c .not-here .ensures ∙ ap (λ (b : Bool). cond b (skipStep (a .here) (skippedBy (formIn (a .s .now) (a .form)))) (notHere (restIn (a .s .now) (a .rest)))) (sym (c .before .if1 .left) ∙ c .before .before .exceeds .ensures)
 
 pub on-unknown-spec : {M : Type 1} → statement M
 on-unknown-spec =
@@ -82,7 +69,5 @@ on-unknown-spec =
     returns-2
     returns-3
     returns-4
-    shape-for-requires
-    sort-of-requires
-    returns-5
-    returns-6)
+    not-here-requires
+    returns-5)

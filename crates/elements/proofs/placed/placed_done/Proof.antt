@@ -19,8 +19,8 @@ enum-known-next c = search needs
 placed-entry-requires : tie.Need-placed-entry-requires
 placed-entry-requires c κs =
     let h = c .before .before .before .before .before .before .before .before .before .before .pre .0 in
-    let q = rw (c .before .before .before .before .next .given .1) at (c .before .before .before .before .before .before .before .before .before .before .pre .1) in
-    (h .tally, h .serials, h .count, h .rec, omega (arith, q .0, h .marks), q .1)
+    let q = rw (c .before .before .before .before .next .given .1) at (c .before .before .before .before .before .before .before .before .before .before .pre .2) in
+    (h .tally, h .serials, h .ordered, h .count, c .before .before .before .before .before .before .before .before .before .before .pre .1, omega (arith, q .0, h .marks), q .1)
 
 enum-known-next-2 : tie.Need-enum-known-next-2
 enum-known-next-2 c = search needs
@@ -31,7 +31,7 @@ cast-marks c = search needs
 slice-write-marks : tie.Need-slice-write-marks
 slice-write-marks c =
     let h = c .before .before .before .before .before .before .before .before .pre .0 in
-    let q = rw (c .before .before .next2 .given .1) at (c .before .before .before .before .before .before .before .before .pre .1) in
+    let q = rw (c .before .before .next2 .given .1) at (c .before .before .before .before .before .before .before .before .pre .2) in
     omega (arith, q, h .marks)
 
 unmark-requires : tie.Need-unmark-requires
@@ -59,7 +59,7 @@ same-length-3 : tie.Need-same-length-3
 same-length-3 c = search needs
 
 returns-2 : tie.Need-returns-2
-returns-2 c = entry-done (c .before .before .before .before .before .before .before .before .before .before .before .before .before .before .before .before .before .args .here) (c .before .before .before .before .before .before .before .before .before .before .before .next .given .0 .0) (ownNumber (c .before .before .before .before .before .before .before .before .before .before .before .before .before .before .before .before .before .args .rec .now)) (c .before .before .before .before .before .before .before .before .before .before .before .before .before .before .before .before .before .args .tally .now) _ (c .before .before .before .before .before .before .before .before .before .before .before .before .before .before .before .before .before .args .serials .now) _ (c .before .before .before .before .before .before .before .before .before .before .before .before .before .before .before .before .before .args .marks .now) _ (c .before .before .before .before .before .before .before .before .before .before .before .before .before .before .before .before .before .args .inner .now) (c .before .before .before .before .before .before .before .before .before .before .before .before .before .before .before .before .before .args .next) _ (c .before .before .before .before .before .before .before .before .before .before .before .next .given .1) (c .before .before .before .before .before .before .placed-entry .ensures)
+returns-2 c = entry-done (c .before .before .before .before .before .before .before .before .before .before .before .before .before .before .before .before .before .args .here) (c .before .before .before .before .before .before .before .before .before .before .before .next .given .0 .0) (ownNumber (c .before .before .before .before .before .before .before .before .before .before .before .before .before .before .before .before .before .args .rec .now)) (c .before .before .before .before .before .before .before .before .before .before .before .before .before .before .before .before .before .args .content) (c .before .before .before .before .before .before .before .before .before .before .before .before .before .before .before .before .before .args .tally .now) _ (c .before .before .before .before .before .before .before .before .before .before .before .before .before .before .before .before .before .args .serials .now) _ (c .before .before .before .before .before .before .before .before .before .before .before .before .before .before .before .before .before .args .marks .now) _ (c .before .before .before .before .before .before .before .before .before .before .before .before .before .before .before .before .before .args .inner .now) (c .before .before .before .before .before .before .before .before .before .before .before .before .before .before .before .before .before .args .next) _ (c .before .before .before .before .before .before .before .before .before .before .before .next .given .1) (c .before .before .before .before .before .before .placed-entry .ensures)
 
 same-length-4 : tie.Need-same-length-4
 same-length-4 c = search needs

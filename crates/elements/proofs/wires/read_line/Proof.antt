@@ -1,130 +1,98 @@
-use mathlib.Core.Path.{refl}
-use borrow.Author.Tests.{not-true, not-false}
-use Rattle.rules.specs.Lines.{formIn}
 use Rattle.entries.specs.Names.{knownIn}
-use Rattle.account.proofs.Lent.{lent-part}
-use Rattle.elements.proofs.WireActs.{wire-two, wire-room, wire-acts, element-row, wire-fails, wire-stay, wire-entry, wire-begin, wire-shut, wire-refuse}
+use Rattle.account.specs.PlacedLines.{lent}
+use Rattle.account.specs.WireLines.{rangeIn}
+use mathlib.Core.Path.{refl}
+use mathlib.Core.Logic.{⊎-elim}
+use Rattle.elements.proofs.WireKeys.{wire-opens, wire-equals}
 use borrow.Author.Needs.{needs}
 use Rattle.elements.proofs.wires.read_line.Statement.{statement}
 use Rattle.elements.proofs.wires.read_line.Tie as tie
 
-digits-of-requires : tie.Need-digits-of-requires
-digits-of-requires c κs = search needs
-
-slice-aggregate-act : tie.Need-slice-aggregate-act
-slice-aggregate-act c = search needs
-
-sub-act : tie.Need-sub-act
-sub-act c = search needs
-
-part-act-start : tie.Need-part-act-start
-part-act-start c = search needs
-
-part-act-end : tie.Need-part-act-end
-part-act-end c = search needs
-
-act-requires : tie.Need-act-requires
-act-requires c κs = (c .before .before .before .before .before .before .pre .0, c .before .before .before .before .before .before .pre .1, c .before .before .before .before .before .before .pre .2, wire-two, wire-room _ (search needs))
-
 enum-told : tie.Need-enum-told
 enum-told c = search needs
 
-enum-known-next : tie.Need-enum-known-next
-enum-known-next c = search needs
-
-joins-ends-requires : tie.Need-joins-ends-requires
-joins-ends-requires c κs = search needs
-
-join-holds-requires : tie.Need-join-holds-requires
-join-holds-requires c κs = search needs
-
-same-length : tie.Need-same-length
-same-length c = search needs
-
 returns : tie.Need-returns
-returns c = wire-fails (c .before .before .before .before .before .before .before .before .before .before .before .before .before .before .before .args .range) (c .before .before .before .before .before .before .before .before .before .before .before .before .before .before .before .args .here) (c .before .before .before .before .before .before .before .before .before .before .before .before .before .before .before .args .at) (c .before .before .before .before .before .before .before .before .before .before .before .before .before .before .before .args .t .now) (c .before .before .before .before .before .before .before .before .act .last .1 .1 .1 .1 .1 .1 .1 .1 .0) _ _ _ (wire-acts (knownIn (c .before .before .before .before .before .before .before .before .before .before .before .before .before .before .before .args .s .now) (c .before .before .before .before .before .before .before .before .before .before .before .before .before .before .before .args .symbols .now) (c .before .before .before .before .before .before .before .before .before .before .before .before .before .before .before .args .layers .now)) (c .before .before .before .before .before .before .before .before .before .before .before .before .before .before .before .args .range) _ (formIn (c .before .before .before .before .before .before .before .before .before .before .before .before .before .before .before .args .s .now) (c .before .before .before .before .before .before .before .before .before .before .before .before .before .before .before .args .form)) _ _ _ (c .before .before .before .before .before .before .before .before .before .before .before .digits-of .ensures) (c .before .before .before .before .before .before .before .before .act .ensures)) (lent-part 0 32 (c .before .before .before .before .before .before .before .before .before .before .before .before .before .before .before .args .t .now) (c .before .before .before .before .before .before .before .before .act .last .1 .1 .1 .1 .1 .1 .1 .1 .0) refl) _ (c .before .before .before .joins-ends .ensures) _ _ (c .before .join-holds .ensures) (c .before .before .before .before .before .next .given .1) (not-true _ (c .if1 .taken))
-
-put-element-requires : tie.Need-put-element-requires
-put-element-requires c κs = (element-row (knownIn (c .before .before .before .before .before .before .before .before .before .before .before .before .before .before .before .before .args .s .now) (c .before .before .before .before .before .before .before .before .before .before .before .before .before .before .before .before .args .symbols .now) (c .before .before .before .before .before .before .before .before .before .before .before .before .before .before .before .before .args .layers .now)) (c .before .before .before .before .before .before .before .before .before .before .before .before .before .before .before .before .args .range) (formIn (c .before .before .before .before .before .before .before .before .before .before .before .before .before .before .before .before .args .s .now) (c .before .before .before .before .before .before .before .before .before .before .before .before .before .before .before .before .args .form)) _ _ ((wire-acts (knownIn (c .before .before .before .before .before .before .before .before .before .before .before .before .before .before .before .before .args .s .now) (c .before .before .before .before .before .before .before .before .before .before .before .before .before .before .before .before .args .symbols .now) (c .before .before .before .before .before .before .before .before .before .before .before .before .before .before .before .before .args .layers .now)) (c .before .before .before .before .before .before .before .before .before .before .before .before .before .before .before .before .args .range) _ (formIn (c .before .before .before .before .before .before .before .before .before .before .before .before .before .before .before .before .args .s .now) (c .before .before .before .before .before .before .before .before .before .before .before .before .before .before .before .before .args .form)) _ _ _ (c .before .before .before .before .before .before .before .before .before .before .before .before .digits-of .ensures) (c .before .before .before .before .before .before .before .before .before .act .ensures)) .eq) (c .before .before .before .before .before .before .next .given .1), search needs)
-
-more-points-requires : tie.Need-more-points-requires
-more-points-requires c κs = search needs
+returns c = rw (c .enum-told .given .1) (refl, refl, refl)
 
 enum-told-2 : tie.Need-enum-told-2
 enum-told-2 c = search needs
 
-enum-told-3 : tie.Need-enum-told-3
-enum-told-3 c = search needs
+slice-read-close-wire : tie.Need-slice-read-close-wire
+slice-read-close-wire c = search needs
 
 close-wire-requires : tie.Need-close-wire-requires
-close-wire-requires c κs = search needs
+close-wire-requires c κs = let h = c .before .before .before .before .before .before .before .before .before .before .before .before .before .pre .3 in (h .open-wire, h .lent .marks, h .shelves .scratch)
 
-figure-done-requires : tie.Need-figure-done-requires
-figure-done-requires c κs = search needs
-
-enum-known-next-2 : tie.Need-enum-known-next-2
-enum-known-next-2 c = search needs
+same-length : tie.Need-same-length
+same-length c = search needs
 
 same-length-2 : tie.Need-same-length-2
 same-length-2 c = search needs
 
 returns-2 : tie.Need-returns-2
-returns-2 c = wire-stay (c .before .before .before .before .before .before .before .before .before .before .args .range) (c .before .before .before .before .before .before .before .before .before .before .args .here) (c .before .before .before .before .before .before .before .before .before .before .args .at) (c .before .before .before .before .before .before .before .before .before .before .args .t .now) (c .before .before .before .act .last .1 .1 .1 .1 .1 .1 .1 .1 .0) _ _ _ (wire-acts (knownIn (c .before .before .before .before .before .before .before .before .before .before .args .s .now) (c .before .before .before .before .before .before .before .before .before .before .args .symbols .now) (c .before .before .before .before .before .before .before .before .before .before .args .layers .now)) (c .before .before .before .before .before .before .before .before .before .before .args .range) _ (formIn (c .before .before .before .before .before .before .before .before .before .before .args .s .now) (c .before .before .before .before .before .before .before .before .before .before .args .form)) _ _ _ (c .before .before .before .before .before .before .digits-of .ensures) (c .before .before .before .act .ensures)) (lent-part 0 32 (c .before .before .before .before .before .before .before .before .before .before .args .t .now) (c .before .before .before .act .last .1 .1 .1 .1 .1 .1 .1 .1 .0) refl) (c .enum-told .given .1)
+returns-2 c = rw (c .before .before .before .before .before .enum-told2 .given .1) (c .before .close-wire .ensures, refl)
+
+enum-told-3 : tie.Need-enum-told-3
+enum-told-3 c = search needs
+
+returns-3 : tie.Need-returns-3
+returns-3 c = rw (c .enum-told3 .given .1) refl
+
+enum-told-4 : tie.Need-enum-told-4
+enum-told-4 c = search needs
+
+enum-told-5 : tie.Need-enum-told-5
+enum-told-5 c = search needs
+
+enum-known-form : tie.Need-enum-known-form
+enum-known-form c = search needs
+
+returns-4 : tie.Need-returns-4
+returns-4 c = rw (c .before .form .given .1) refl
+
+on-wire-key-requires : tie.Need-on-wire-key-requires
+on-wire-key-requires c κs = search needs
 
 same-length-3 : tie.Need-same-length-3
 same-length-3 c = search needs
 
-returns-3 : tie.Need-returns-3
-returns-3 c = wire-entry (c .before .before .before .before .before .before .before .before .before .before .before .before .before .before .before .before .before .before .before .args .range) (c .before .before .before .before .before .before .before .before .before .before .before .before .before .before .before .before .before .before .before .args .here) (c .before .before .before .before .before .before .before .before .before .before .before .before .before .before .before .before .before .before .before .args .at) (c .before .before .before .before .before .before .before .before .before .before .before .before .before .before .before .before .before .before .before .args .t .now) (c .before .before .before .before .before .before .before .before .before .before .before .before .act .last .1 .1 .1 .1 .1 .1 .1 .1 .0) _ _ _ (wire-acts (knownIn (c .before .before .before .before .before .before .before .before .before .before .before .before .before .before .before .before .before .before .before .args .s .now) (c .before .before .before .before .before .before .before .before .before .before .before .before .before .before .before .before .before .before .before .args .symbols .now) (c .before .before .before .before .before .before .before .before .before .before .before .before .before .before .before .before .before .before .before .args .layers .now)) (c .before .before .before .before .before .before .before .before .before .before .before .before .before .before .before .before .before .before .before .args .range) _ (formIn (c .before .before .before .before .before .before .before .before .before .before .before .before .before .before .before .before .before .before .before .args .s .now) (c .before .before .before .before .before .before .before .before .before .before .before .before .before .before .before .before .before .before .before .args .form)) _ _ _ (c .before .before .before .before .before .before .before .before .before .before .before .before .before .before .before .digits-of .ensures) (c .before .before .before .before .before .before .before .before .before .before .before .before .act .ensures)) (lent-part 0 32 (c .before .before .before .before .before .before .before .before .before .before .before .before .before .before .before .before .before .before .before .args .t .now) (c .before .before .before .before .before .before .before .before .before .before .before .before .act .last .1 .1 .1 .1 .1 .1 .1 .1 .0) refl) _ (c .before .before .before .before .before .before .before .joins-ends .ensures) _ _ (c .before .before .before .before .before .join-holds .ensures) (c .before .before .before .before .before .before .before .before .before .next .given .1) _ _ (not-false _ (c .before .before .before .before .if1 .left)) (c .before .before .put-element .ensures) (c .more-points .ensures)
-
 same-length-4 : tie.Need-same-length-4
 same-length-4 c = search needs
-
-returns-4 : tie.Need-returns-4
-returns-4 c = wire-begin (c .before .before .before .before .before .before .before .before .before .before .args .range) (c .before .before .before .before .before .before .before .before .before .before .args .here) (c .before .before .before .before .before .before .before .before .before .before .args .at) (c .before .before .before .before .before .before .before .before .before .before .args .t .now) (c .before .before .before .act .last .1 .1 .1 .1 .1 .1 .1 .1 .0) _ _ _ (wire-acts (knownIn (c .before .before .before .before .before .before .before .before .before .before .args .s .now) (c .before .before .before .before .before .before .before .before .before .before .args .symbols .now) (c .before .before .before .before .before .before .before .before .before .before .args .layers .now)) (c .before .before .before .before .before .before .before .before .before .before .args .range) _ (formIn (c .before .before .before .before .before .before .before .before .before .before .args .s .now) (c .before .before .before .before .before .before .before .before .before .before .args .form)) _ _ _ (c .before .before .before .before .before .before .digits-of .ensures) (c .before .before .before .act .ensures)) (lent-part 0 32 (c .before .before .before .before .before .before .before .before .before .before .args .t .now) (c .before .before .before .act .last .1 .1 .1 .1 .1 .1 .1 .1 .0) refl) _ _ (c .enum-told2 .given .1)
 
 same-length-5 : tie.Need-same-length-5
 same-length-5 c = search needs
 
-returns-5 : tie.Need-returns-5
-returns-5 c = wire-shut (c .before .before .before .before .before .before .before .before .before .before .before .before .before .before .args .range) (c .before .before .before .before .before .before .before .before .before .before .before .before .before .before .args .here) (c .before .before .before .before .before .before .before .before .before .before .before .before .before .before .args .at) (c .before .before .before .before .before .before .before .before .before .before .before .before .before .before .args .t .now) (c .before .before .before .before .before .before .before .act .last .1 .1 .1 .1 .1 .1 .1 .1 .0) _ _ _ (wire-acts (knownIn (c .before .before .before .before .before .before .before .before .before .before .before .before .before .before .args .s .now) (c .before .before .before .before .before .before .before .before .before .before .before .before .before .before .args .symbols .now) (c .before .before .before .before .before .before .before .before .before .before .before .before .before .before .args .layers .now)) (c .before .before .before .before .before .before .before .before .before .before .before .before .before .before .args .range) _ (formIn (c .before .before .before .before .before .before .before .before .before .before .before .before .before .before .args .s .now) (c .before .before .before .before .before .before .before .before .before .before .before .before .before .before .args .form)) _ _ _ (c .before .before .before .before .before .before .before .before .before .before .digits-of .ensures) (c .before .before .before .before .before .before .before .act .ensures)) (lent-part 0 32 (c .before .before .before .before .before .before .before .before .before .before .before .before .before .before .args .t .now) (c .before .before .before .before .before .before .before .act .last .1 .1 .1 .1 .1 .1 .1 .1 .0) refl) _ _ (c .before .before .close-wire .ensures) (c .figure-done .ensures) (c .before .before .before .before .enum-told3 .given .1)
-
 same-length-6 : tie.Need-same-length-6
 same-length-6 c = search needs
 
-returns-6 : tie.Need-returns-6
-returns-6 c = wire-refuse (c .before .before .before .before .before .before .before .before .before .before .before .args .range) (c .before .before .before .before .before .before .before .before .before .before .before .args .here) (c .before .before .before .before .before .before .before .before .before .before .before .args .at) (c .before .before .before .before .before .before .before .before .before .before .before .args .t .now) (c .before .before .before .before .act .last .1 .1 .1 .1 .1 .1 .1 .1 .0) _ _ _ (wire-acts (knownIn (c .before .before .before .before .before .before .before .before .before .before .before .args .s .now) (c .before .before .before .before .before .before .before .before .before .before .before .args .symbols .now) (c .before .before .before .before .before .before .before .before .before .before .before .args .layers .now)) (c .before .before .before .before .before .before .before .before .before .before .before .args .range) _ (formIn (c .before .before .before .before .before .before .before .before .before .before .before .args .s .now) (c .before .before .before .before .before .before .before .before .before .before .before .args .form)) _ _ _ (c .before .before .before .before .before .before .before .digits-of .ensures) (c .before .before .before .before .act .ensures)) (lent-part 0 32 (c .before .before .before .before .before .before .before .before .before .before .before .args .t .now) (c .before .before .before .before .act .last .1 .1 .1 .1 .1 .1 .1 .1 .0) refl) _ _ (c .before .next2 .given .1)
+same-length-7 : tie.Need-same-length-7
+same-length-7 c = search needs
+
+returns-5 : tie.Need-returns-5
+returns-5 c = ⊎-elim (λ w. wire-opens (knownIn (c .before .before .before .before .before .before .before .before .before .before .before .before .before .before .before .before .before .before .before .before .before .before .before .before .args .s .now) (c .before .before .before .before .before .before .before .before .before .before .before .before .before .before .before .before .before .before .before .before .before .before .before .before .args .symbols .now) (c .before .before .before .before .before .before .before .before .before .before .before .before .before .before .before .before .before .before .before .before .before .before .before .before .args .layers .now)) (c .before .before .before .before .before .before .before .before .before .before .before .before .before .before .before .before .before .before .before .before .before .before .before .before .args .x .class) (rangeIn (c .before .before .before .before .before .before .before .before .before .before .before .before .before .before .before .before .before .before .before .before .before .before .before .before .args .tally .now)) (c .before .before .before .before .before .before .before .before .before .before .before .before .before .before .before .before .before .before .before .before .before .before .before .before .args .x .here) (c .before .before .before .before .before .before .before .before .before .before .before .before .before .before .before .before .before .before .before .before .before .before .before .before .args .x .at) (lent (c .before .before .before .before .before .before .before .before .before .before .before .before .before .before .before .before .before .before .before .before .before .before .before .before .args .tally .now) (c .before .before .before .before .before .before .before .before .before .before .before .before .before .before .before .before .before .before .before .before .before .before .before .before .args .serials .now) (c .before .before .before .before .before .before .before .before .before .before .before .before .before .before .before .before .before .before .before .before .before .before .before .before .args .marks .now) (c .before .before .before .before .before .before .before .before .before .before .before .before .before .before .before .before .before .before .before .before .before .before .before .before .args .inner .now)) _ (c .before .before .before .before .before .before .before .before .before .before .before .before .before .before .before .before .before .before .before .before .before .before .before .before .args .t .now) _ _ (c .before .before .before .before .before .before .before .before .before .before .before .before .before .before .before .before .before .before .before .before .before .before .before .before .args .s .now) (c .before .before .before .before .before .before .before .before .before .before .before .before .before .before .before .before .before .before .before .before .before .before .before .before .args .x .form) (c .before .before .before .before .before .before .before .before .before .on-wire-key .ensures) _ (w .1 .given .1)) (λ w. wire-equals (knownIn (c .before .before .before .before .before .before .before .before .before .before .before .before .before .before .before .before .before .before .before .before .before .before .before .before .args .s .now) (c .before .before .before .before .before .before .before .before .before .before .before .before .before .before .before .before .before .before .before .before .before .before .before .before .args .symbols .now) (c .before .before .before .before .before .before .before .before .before .before .before .before .before .before .before .before .before .before .before .before .before .before .before .before .args .layers .now)) (c .before .before .before .before .before .before .before .before .before .before .before .before .before .before .before .before .before .before .before .before .before .before .before .before .args .x .class) (rangeIn (c .before .before .before .before .before .before .before .before .before .before .before .before .before .before .before .before .before .before .before .before .before .before .before .before .args .tally .now)) (c .before .before .before .before .before .before .before .before .before .before .before .before .before .before .before .before .before .before .before .before .before .before .before .before .args .x .here) (c .before .before .before .before .before .before .before .before .before .before .before .before .before .before .before .before .before .before .before .before .before .before .before .before .args .x .at) (lent (c .before .before .before .before .before .before .before .before .before .before .before .before .before .before .before .before .before .before .before .before .before .before .before .before .args .tally .now) (c .before .before .before .before .before .before .before .before .before .before .before .before .before .before .before .before .before .before .before .before .before .before .before .before .args .serials .now) (c .before .before .before .before .before .before .before .before .before .before .before .before .before .before .before .before .before .before .before .before .before .before .before .before .args .marks .now) (c .before .before .before .before .before .before .before .before .before .before .before .before .before .before .before .before .before .before .before .before .before .before .before .before .args .inner .now)) _ (c .before .before .before .before .before .before .before .before .before .before .before .before .before .before .before .before .before .before .before .before .before .before .before .before .args .t .now) _ _ (c .before .before .before .before .before .before .before .before .before .before .before .before .before .before .before .before .before .before .before .before .before .before .before .before .args .s .now) (c .before .before .before .before .before .before .before .before .before .before .before .before .before .before .before .before .before .before .before .before .before .before .before .before .args .x .form) (c .before .before .before .before .before .before .before .before .before .on-wire-key .ensures) _ (w .1 .given .1)) (c .before .before .before .before .before .before .before .before .before .before .before .before .before .before .before .match .came)
 
 pub read-line-spec : {M : Type 1} → statement M
 read-line-spec =
     tie.close
     (tie.spec
-    digits-of-requires
-    slice-aggregate-act
-    sub-act
-    part-act-start
-    part-act-end
-    act-requires
     enum-told
-    enum-known-next
-    joins-ends-requires
-    join-holds-requires
-    same-length
     returns
-    put-element-requires
-    more-points-requires
     enum-told-2
-    enum-told-3
+    slice-read-close-wire
     close-wire-requires
-    figure-done-requires
-    enum-known-next-2
+    same-length
     same-length-2
     returns-2
-    same-length-3
+    enum-told-3
     returns-3
-    same-length-4
+    enum-told-4
+    enum-told-5
+    enum-known-form
     returns-4
+    on-wire-key-requires
+    same-length-3
+    same-length-4
     same-length-5
-    returns-5
     same-length-6
-    returns-6)
+    same-length-7
+    returns-5)

@@ -1,6 +1,6 @@
 use mathlib.Core.Path.{sym, _∙_}
 use Rattle.rules.specs.Blocks.{rangeTable, drawingTable, symbolTable}
-use Rattle.rules.specs.Figures.{placedTable}
+use Rattle.rules.specs.Figures.{placedTable, wireTable}
 use Rattle.tables.specs.Tables.{tableOf}
 use Rattle.entries.proofs.TableActs.{none-wanted, plain-wanted}
 use borrow.Author.Needs.{needs}
@@ -41,8 +41,15 @@ symbol-wants-requires c κs = rw (c .if5 .taken) at (c .before .before .before .
 returns-5 : tie.Need-returns-5
 returns-5 c = rw (c .before .if5 .taken) (c .symbol-wants .ensures)
 
+wire-wants-requires : tie.Need-wire-wants-requires
+unfolding tableOf wireTable
+wire-wants-requires c κs = rw (c .if6 .taken) at (c .before .before .before .before .before .before .before .pre)
+
 returns-6 : tie.Need-returns-6
-returns-6 c = plain-wanted (c .before .before .before .before .before .before .args .d) (c .before .before .before .before .before .before .args .row) (c .before .before .before .before .before .before .args .table) (sym (c .before .before .before .before .before .needs-none .ensures) ∙ c .before .before .before .before .if1 .left) (c .before .before .before .if2 .left) (c .before .before .if3 .left) (c .before .if4 .left) (c .if5 .left) (c .before .before .before .before .before .before .pre)
+returns-6 c = rw (c .before .if6 .taken) (c .wire-wants .ensures)
+
+returns-7 : tie.Need-returns-7
+returns-7 c = plain-wanted (c .before .before .before .before .before .before .before .args .d) (c .before .before .before .before .before .before .before .args .row) (c .before .before .before .before .before .before .before .args .table) (sym (c .before .before .before .before .before .before .needs-none .ensures) ∙ c .before .before .before .before .before .if1 .left) (c .before .before .before .before .if2 .left) (c .before .before .before .if3 .left) (c .before .before .if4 .left) (c .before .if5 .left) (c .if6 .left) (c .before .before .before .before .before .before .before .pre)
 
 pub wants-spec : {M : Type 1} → statement M
 wants-spec =
@@ -58,4 +65,6 @@ wants-spec =
     returns-4
     symbol-wants-requires
     returns-5
-    returns-6)
+    wire-wants-requires
+    returns-6
+    returns-7)

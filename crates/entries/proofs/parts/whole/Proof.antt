@@ -132,9 +132,27 @@ limited-requires-10 : tie.Need-limited-requires-10
 limited-requires-10 c κs = omega arith
 
 returns-14 : tie.Need-returns-14
-returns-14 c =
-    let d = c .before .before .before .before .before .before .before .before .before .before .before .before .before .before .before .before .before .before .before .args .code in
-    rw (ne-eqb d 5 (c .before .before .before .before .before .before .before .before .before .before .before .before .before .before .if1 .left), ne-eqb d 6 (c .before .before .before .before .before .before .before .before .before .before .before .before .before .if2 .left), ne-eqb d 7 (c .before .before .before .before .before .before .before .before .before .before .before .before .if3 .left), ne-eqb d 8 (c .before .before .before .before .before .before .before .before .before .before .before .if4 .left), ne-eqb d 9 (c .before .before .before .before .before .before .before .before .before .before .if5 .left), ne-eqb d 10 (c .before .before .before .before .before .before .before .before .before .if6 .left), ne-eqb d 11 (c .before .before .before .before .before .before .before .before .if7 .left), ne-eqb d 12 (c .before .before .before .before .before .before .before .if8 .left), ne-eqb d 13 (c .before .before .before .before .before .before .if9 .left), ne-eqb d 14 (c .before .before .before .before .before .if10 .left), ne-eqb d 15 (c .before .before .before .before .if11 .left), ne-eqb d 16 (c .before .before .before .if12 .left), ne-eqb d 18 (c .before .before .if13 .left)) (c .limited10 .ensures ∙ ap (countVal (inRange 0 9999) 10) (c .before .fixed9 .ensures) ∙ kind-val (c .before .before .before .before .before .before .before .before .before .before .before .before .before .before .before .before .before .before .before .args .c .now))
+returns-14 c = rw (c .before .before .if14 .taken) (c .limited10 .ensures ∙ ap (countVal (inRange 0 4) 11) (c .before .fixed9 .ensures) ∙ kept-val (inRange 0 4) 11 (readFixed 1 (c .before .before .before .before .before .before .before .before .before .before .before .before .before .before .before .before .before .before .before .before .args .c .now)))
+
+fixed-requires-10 : tie.Need-fixed-requires-10
+fixed-requires-10 c κs = search needs
+
+limited-requires-11 : tie.Need-limited-requires-11
+limited-requires-11 c κs = omega arith
+
+returns-15 : tie.Need-returns-15
+returns-15 c = rw (c .before .before .if15 .taken) (c .limited11 .ensures ∙ ap (countVal (inRange 0 9) 11) (c .before .fixed10 .ensures) ∙ kept-val (inRange 0 9) 11 (readFixed 1 (c .before .before .before .before .before .before .before .before .before .before .before .before .before .before .before .before .before .before .before .before .before .args .c .now)))
+
+fixed-requires-11 : tie.Need-fixed-requires-11
+fixed-requires-11 c κs = search needs
+
+limited-requires-12 : tie.Need-limited-requires-12
+limited-requires-12 c κs = omega arith
+
+returns-16 : tie.Need-returns-16
+returns-16 c =
+    let d = c .before .before .before .before .before .before .before .before .before .before .before .before .before .before .before .before .before .before .before .before .before .args .code in
+    rw (ne-eqb d 5 (c .before .before .before .before .before .before .before .before .before .before .before .before .before .before .before .before .if1 .left), ne-eqb d 6 (c .before .before .before .before .before .before .before .before .before .before .before .before .before .before .before .if2 .left), ne-eqb d 7 (c .before .before .before .before .before .before .before .before .before .before .before .before .before .before .if3 .left), ne-eqb d 8 (c .before .before .before .before .before .before .before .before .before .before .before .before .before .if4 .left), ne-eqb d 9 (c .before .before .before .before .before .before .before .before .before .before .before .before .if5 .left), ne-eqb d 10 (c .before .before .before .before .before .before .before .before .before .before .before .if6 .left), ne-eqb d 11 (c .before .before .before .before .before .before .before .before .before .before .if7 .left), ne-eqb d 12 (c .before .before .before .before .before .before .before .before .before .if8 .left), ne-eqb d 13 (c .before .before .before .before .before .before .before .before .if9 .left), ne-eqb d 14 (c .before .before .before .before .before .before .before .if10 .left), ne-eqb d 15 (c .before .before .before .before .before .before .if11 .left), ne-eqb d 16 (c .before .before .before .before .before .if12 .left), ne-eqb d 18 (c .before .before .before .before .if13 .left), ne-eqb d 2 (c .before .before .before .if14 .left), ne-eqb d 3 (c .before .before .if15 .left)) (c .limited12 .ensures ∙ ap (countVal (inRange 0 9999) 10) (c .before .fixed11 .ensures) ∙ kind-val (c .before .before .before .before .before .before .before .before .before .before .before .before .before .before .before .before .before .before .before .before .before .args .c .now))
 
 pub whole-spec : {M : Type 1} → statement M
 whole-spec =
@@ -180,4 +198,10 @@ whole-spec =
     returns-13
     fixed-requires-9
     limited-requires-10
-    returns-14)
+    returns-14
+    fixed-requires-10
+    limited-requires-11
+    returns-15
+    fixed-requires-11
+    limited-requires-12
+    returns-16)

@@ -1,4 +1,5 @@
-use mathlib.Core.Path.{sym, _∙_}
+use Prim.Native.Nat.{_+_}
+use mathlib.Core.Path.{_≡_, sym, _∙_}
 use native.Mathlib.Omega.{arith}
 use borrow.Author.Tests.{ne-eqb}
 use borrow.Author.Needs.{needs}
@@ -65,8 +66,32 @@ returns-4 c = rw (c .before .before .before .if4 .taken, sym (c .before .before 
 returns-5 : tie.Need-returns-5
 returns-5 c = rw (c .before .before .if4 .taken, sym (c .before .less-at .ensures) ∙ c .if5 .left)
 
+amount-at-requires : tie.Need-amount-at-requires
+amount-at-requires c κs = search needs
+
+add-amount-at : tie.Need-add-amount-at
+add-amount-at c = search needs
+
+amount-at-requires-2 : tie.Need-amount-at-requires-2
+amount-at-requires-2 c κs = let h = rw (c .before .if6 .taken) at (c .before .before .before .before .before .pre) in omega (arith, h)
+
+add-amount-at-2 : tie.Need-add-amount-at-2
+add-amount-at-2 c = search needs
+
+amount-at-requires-3 : tie.Need-amount-at-requires-3
+amount-at-requires-3 c κs = let h = rw (c .before .before .if6 .taken) at (c .before .before .before .before .before .before .pre) in omega (arith, h)
+
+served-power-requires : tie.Need-served-power-requires
+served-power-requires c κs = search needs
+
 returns-6 : tie.Need-returns-6
-returns-6 c = let n = c .before .before .before .args .across in rw (ne-eqb n 1 (c .before .before .if1 .left), ne-eqb n 2 (c .before .if3 .left), ne-eqb n 3 (c .if4 .left))
+returns-6 c =
+    let p = c .before .before .before .before .before .before .before .before .args .p in
+    let e : p + 0 ≡ p = omega arith in
+    rw (c .before .before .before .before .if6 .taken, e) (c .served-power .ensures ∙ rw (c .before .before .before .amount-at .ensures, c .before .before .amount-at2 .ensures, c .before .amount-at3 .ensures))
+
+returns-7 : tie.Need-returns-7
+returns-7 c = let a = c .before .before .before .before .args .across in rw (ne-eqb a 1 (c .before .before .before .if1 .left), ne-eqb a 2 (c .before .before .if3 .left), ne-eqb a 3 (c .before .if4 .left), ne-eqb a 4 (c .if6 .left))
 
 pub agree-spec : {M : Type 1} → statement M
 agree-spec =
@@ -92,4 +117,11 @@ agree-spec =
     equal-at-requires-4
     returns-4
     returns-5
-    returns-6)
+    amount-at-requires
+    add-amount-at
+    amount-at-requires-2
+    add-amount-at-2
+    amount-at-requires-3
+    served-power-requires
+    returns-6
+    returns-7)

@@ -1,10 +1,11 @@
 use Prim.Native.Nat.{_/_, _%_}
 use mathlib.Core.Path.{sym, _∙_}
 use mathlib.Core.Bool.{true, false}
+use native.Mathlib.Omega.{arith}
 use Rattle.rules.specs.Base.{split}
 use Rattle.tables.specs.Rows.{partOf, acrossOf}
 use Rattle.entries.specs.Names.{knownIn}
-use Rattle.entries.proofs.EachValue.{across-refused, across-told}
+use Rattle.entries.proofs.EachValue.{covered-last, across-refused, across-told}
 use borrow.Author.Needs.{needs}
 use Rattle.entries.proofs.values.values.Statement.{statement}
 use Rattle.entries.proofs.values.values.Tie as tie
@@ -27,7 +28,9 @@ returns c =
     across-refused (knownIn (a .s .now) (a .symbols .now) (a .layers .now)) (partOf (a .row .parts % 100)) (a .row .count) (a .row .parts / 100) (split 44 (a .c .now)) (acrossOf (a .row .across)) (a .rec .now) _ (a .p) _ (c .before .before .before .each .ensures) _ (c .enum-told2 .given .1)
 
 agree-requires : tie.Need-agree-requires
-agree-requires c κs = search needs
+agree-requires c κs =
+    let a = c .before .before .before .before .before .before .before .before .before .before .args in
+    omega (arith, covered-last (acrossOf (a .row .across)) (a .row .count) (c .before .before .before .before .before .before .before .before .before .before .pre .3), c .before .before .before .before .before .before .before .before .before .before .pre .2)
 
 same-length-2 : tie.Need-same-length-2
 same-length-2 c = search needs

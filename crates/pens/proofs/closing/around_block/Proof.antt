@@ -19,11 +19,9 @@ returns-4 : tie.Need-returns-4
 returns-4 c = rw (c .if4 .taken)
 
 returns-5 : tie.Need-returns-5
-returns-5 c = rw (c .if5 .taken)
-
-returns-6 : tie.Need-returns-6
-returns-6 c = rw (ne-eqb _ _ (c .before .before .before .before .before .before .before .before .if1 .left), ne-eqb _ _ (c .before .before .before .before .before .before .if2 .left), ne-eqb _ _ (c .before .before .before .before .if3 .left), ne-eqb _ _ (c .before .before .if4 .left), ne-eqb _ _ (c .if5 .left))
+returns-5 c = rw (ne-eqb _ _ (c .before .before .before .before .before .before .if1 .left), ne-eqb _ _ (c .before .before .before .before .if2 .left), ne-eqb _ _ (c .before .before .if3 .left), ne-eqb _ _ (c .if4 .left))
 
 pub around-block-spec : {M : Type 1} → statement M
 around-block-spec =
-    tie.close (tie.spec by-home-requires returns returns-2 returns-3 returns-4 returns-5 returns-6)
+    tie.close
+    (tie.spec by-home-requires returns returns-2 returns-3 returns-4 returns-5)

@@ -18,8 +18,15 @@ at-block-requires-2 : tie.Need-at-block-requires-2
 at-block-requires-2 c κs = search needs
 
 returns-2 : tie.Need-returns-2
-returns-2 c = c .at-block2 .ensures ∙ sym (rw (ne-eqb _ _ (c .before .if1 .left)))
+returns-2 c = c .at-block2 .ensures ∙ sym (rw (c .before .if2 .taken))
+
+at-block-requires-3 : tie.Need-at-block-requires-3
+at-block-requires-3 c κs = search needs
+
+returns-3 : tie.Need-returns-3
+returns-3 c = c .at-block3 .ensures ∙ sym (rw (ne-eqb _ _ (c .before .before .before .if1 .left), ne-eqb _ _ (c .before .if2 .left)))
 
 pub part-closed-spec : {M : Type 1} → statement M
 part-closed-spec =
-    tie.close (tie.spec around-requires at-block-requires returns at-block-requires-2 returns-2)
+    tie.close
+    (tie.spec around-requires at-block-requires returns at-block-requires-2 returns-2 at-block-requires-3 returns-3)

@@ -15,8 +15,11 @@ by-home-requires c κs = search needs
 returns-2 : tie.Need-returns-2
 returns-2 c = rw (c .before .if2 .taken) (c .by-home .ensures)
 
+wire-table-requires : tie.Need-wire-table-requires
+wire-table-requires c κs = search needs
+
 returns-3 : tie.Need-returns-3
-returns-3 c = rw (c .if3 .taken)
+returns-3 c = rw (c .before .if3 .taken) (c .wire-table .ensures)
 
 by-home-requires-2 : tie.Need-by-home-requires-2
 by-home-requires-2 c κs = search needs
@@ -52,34 +55,9 @@ returns-11 : tie.Need-returns-11
 returns-11 c = rw (c .if11 .taken)
 
 returns-12 : tie.Need-returns-12
-returns-12 c =
-    let the-if1 = c .before .before .before .before .before .before .before .before .before .before .before .before .before .before .before .before .before .before .before .before .if1 in
-    let the-if2 = c .before .before .before .before .before .before .before .before .before .before .before .before .before .before .before .before .before .before .if2 in
-    let the-if3 = c .before .before .before .before .before .before .before .before .before .before .before .before .before .before .before .before .if3 in
-    let the-if4 = c .before .before .before .before .before .before .before .before .before .before .before .before .before .before .if4 in
-    let the-if5 = c .before .before .before .before .before .before .before .before .before .before .before .before .if5 in
-    let the-if6 = c .before .before .before .before .before .before .before .before .before .before .if6 in
-    let the-if7 = c .before .before .before .before .before .before .before .before .if7 in
-    rw (ne-eqb _ _ (the-if1 .left), ne-eqb _ _ (the-if2 .left), ne-eqb _ _ (the-if3 .left), ne-eqb _ _ (the-if4 .left), ne-eqb _ _ (the-if5 .left), ne-eqb _ _ (the-if6 .left), ne-eqb _ _ (the-if7 .left), ne-eqb _ _ (c .before .before .before .before .before .before .if8 .left), ne-eqb _ _ (c .before .before .before .before .if9 .left), ne-eqb _ _ (c .before .before .if10 .left), ne-eqb _ _ (c .if11 .left))
+returns-12 c = rw (ne-eqb _ _ (c .before .before .before .before .before .before .before .before .before .before .before .before .before .before .before .before .before .before .before .before .if1 .left), ne-eqb _ _ (c .before .before .before .before .before .before .before .before .before .before .before .before .before .before .before .before .before .before .if2 .left), ne-eqb _ _ (c .before .before .before .before .before .before .before .before .before .before .before .before .before .before .before .before .if3 .left), ne-eqb _ _ (c .before .before .before .before .before .before .before .before .before .before .before .before .before .before .if4 .left), ne-eqb _ _ (c .before .before .before .before .before .before .before .before .before .before .before .before .if5 .left), ne-eqb _ _ (c .before .before .before .before .before .before .before .before .before .before .if6 .left), ne-eqb _ _ (c .before .before .before .before .before .before .before .before .if7 .left), ne-eqb _ _ (c .before .before .before .before .before .before .if8 .left), ne-eqb _ _ (c .before .before .before .before .if9 .left), ne-eqb _ _ (c .before .before .if10 .left), ne-eqb _ _ (c .if11 .left))
 
 pub table-of-spec : {M : Type 1} → statement M
 table-of-spec =
     tie.close
-    (tie.spec
-    figure-table-requires
-    returns
-    by-home-requires
-    returns-2
-    returns-3
-    by-home-requires-2
-    returns-4
-    placed-table-requires
-    returns-5
-    returns-6
-    file-table-requires
-    returns-7
-    returns-8
-    returns-9
-    returns-10
-    returns-11
-    returns-12)
+    (tie.spec figure-table-requires returns by-home-requires returns-2 wire-table-requires returns-3 by-home-requires-2 returns-4 placed-table-requires returns-5 returns-6 file-table-requires returns-7 returns-8 returns-9 returns-10 returns-11 returns-12)

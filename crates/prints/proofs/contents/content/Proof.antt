@@ -35,6 +35,9 @@ returns-3 : tie.Need-returns-3
 unfolding contentText
 returns-3 c = rw (c .before .before .before .before .if3 .taken) (c .before .before .scale .ensures)
 
+are-serials-requires : tie.Need-are-serials-requires
+are-serials-requires c κs = search needs
+
 pieces-requires : tie.Need-pieces-requires
 pieces-requires c κs = tt
 
@@ -43,7 +46,7 @@ same-length-4 c = search needs
 
 returns-4 : tie.Need-returns-4
 unfolding contentText
-returns-4 c = rw (c .before .before .before .before .if4 .taken) (c .before .before .pieces .ensures)
+returns-4 c = let d = c .before .before .before .before .before .before .before .before .before .before .before .before .before .before .args .row .kind in rw (ne-eqb d 3 (c .before .before .before .before .before .before .before .before .before .before .if1 .left), ne-eqb d 4 (c .before .before .before .before .before .before .before .before .if2 .left), ne-eqb d 5 (c .before .before .before .before .before .before .if3 .left), sym (c .before .before .before .before .before .are-serials .ensures) ∙ c .before .before .before .before .if4 .taken) (c .before .before .pieces .ensures)
 
 piece-requires : tie.Need-piece-requires
 piece-requires c κs = tt
@@ -66,7 +69,9 @@ same-length-6 c = search needs
 
 returns-6 : tie.Need-returns-6
 unfolding contentText
-returns-6 c = rw (ne-eqb (c .before .before .before .before .before .before .before .before .before .before .before .before .before .before .before .before .before .before .args .row .kind) 3 (c .before .before .before .before .before .before .before .before .before .before .before .before .before .before .if1 .left), ne-eqb (c .before .before .before .before .before .before .before .before .before .before .before .before .before .before .before .before .before .before .args .row .kind) 4 (c .before .before .before .before .before .before .before .before .before .before .before .before .if2 .left), ne-eqb (c .before .before .before .before .before .before .before .before .before .before .before .before .before .before .before .before .before .before .args .row .kind) 5 (c .before .before .before .before .before .before .before .before .before .before .if3 .left), ne-eqb (c .before .before .before .before .before .before .before .before .before .before .before .before .before .before .before .before .before .before .args .row .kind) 6 (c .before .before .before .before .before .before .before .before .if4 .left), ne-eqb (c .before .before .before .before .before .before .before .before .before .before .before .before .before .before .before .before .before .before .args .row .kind) 9 (c .before .before .before .before .before .before .if5 .left), sym (c .before .before .before .before .before .stands .ensures) ∙ c .before .before .before .before .if6 .taken) (c .before .before .text .ensures)
+returns-6 c =
+    let d = c .before .before .before .before .before .before .before .before .before .before .before .before .before .before .before .before .before .before .args .row .kind in
+    rw (ne-eqb d 3 (c .before .before .before .before .before .before .before .before .before .before .before .before .before .before .if1 .left), ne-eqb d 4 (c .before .before .before .before .before .before .before .before .before .before .before .before .if2 .left), ne-eqb d 5 (c .before .before .before .before .before .before .before .before .before .before .if3 .left), sym (c .before .before .before .before .before .before .before .before .before .are-serials .ensures) ∙ c .before .before .before .before .before .before .before .before .if4 .left, ne-eqb d 9 (c .before .before .before .before .before .before .if5 .left), sym (c .before .before .before .before .before .stands .ensures) ∙ c .before .before .before .before .if6 .taken) (c .before .before .text .ensures)
 
 pieces-requires-2 : tie.Need-pieces-requires-2
 pieces-requires-2 c κs = tt
@@ -76,7 +81,9 @@ same-length-7 c = search needs
 
 returns-7 : tie.Need-returns-7
 unfolding contentText
-returns-7 c = rw (ne-eqb (c .before .before .before .before .before .before .before .before .before .before .before .before .before .before .before .before .before .before .args .row .kind) 3 (c .before .before .before .before .before .before .before .before .before .before .before .before .before .before .if1 .left), ne-eqb (c .before .before .before .before .before .before .before .before .before .before .before .before .before .before .before .before .before .before .args .row .kind) 4 (c .before .before .before .before .before .before .before .before .before .before .before .before .if2 .left), ne-eqb (c .before .before .before .before .before .before .before .before .before .before .before .before .before .before .before .before .before .before .args .row .kind) 5 (c .before .before .before .before .before .before .before .before .before .before .if3 .left), ne-eqb (c .before .before .before .before .before .before .before .before .before .before .before .before .before .before .before .before .before .before .args .row .kind) 6 (c .before .before .before .before .before .before .before .before .if4 .left), ne-eqb (c .before .before .before .before .before .before .before .before .before .before .before .before .before .before .before .before .before .before .args .row .kind) 9 (c .before .before .before .before .before .before .if5 .left), sym (c .before .before .before .before .before .stands .ensures) ∙ c .before .before .before .before .if6 .left) (c .before .before .pieces2 .ensures)
+returns-7 c =
+    let d = c .before .before .before .before .before .before .before .before .before .before .before .before .before .before .before .before .before .before .args .row .kind in
+    rw (ne-eqb d 3 (c .before .before .before .before .before .before .before .before .before .before .before .before .before .before .if1 .left), ne-eqb d 4 (c .before .before .before .before .before .before .before .before .before .before .before .before .if2 .left), ne-eqb d 5 (c .before .before .before .before .before .before .before .before .before .before .if3 .left), sym (c .before .before .before .before .before .before .before .before .before .are-serials .ensures) ∙ c .before .before .before .before .before .before .before .before .if4 .left, ne-eqb d 9 (c .before .before .before .before .before .before .if5 .left), sym (c .before .before .before .before .before .stands .ensures) ∙ c .before .before .before .before .if6 .left) (c .before .before .pieces2 .ensures)
 
 pub content-spec : {M : Type 1} → statement M
 content-spec =
@@ -91,6 +98,7 @@ content-spec =
     scale-requires
     same-length-3
     returns-3
+    are-serials-requires
     pieces-requires
     same-length-4
     returns-4

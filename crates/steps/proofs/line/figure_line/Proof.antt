@@ -73,7 +73,7 @@ returns-4 : tie.Need-returns-4
 returns-4 c = λ following used usedAll header. placed (c .before .before .before .before .before .before .before .before .before .before .before .before .before .before .before .if4 .taken) (c .before .before .before .before .before .before .before .before .before .in-placed .ensures) refl
 
 in-wire-requires : tie.Need-in-wire-requires
-in-wire-requires c κs = (c .before .before .before .before .before .before .before .before .before .before .before .before .before .before .before .before .before .before .before .pre .0 .3 .short, c .before .before .before .before .before .before .before .before .before .before .before .before .before .before .before .before .before .before .before .pre .0 .3 .named, c .before .before .before .before .before .before .before .before .before .before .before .before .before .before .before .before .before .before .before .pre .0 .3 .wire (c .before .before .if5 .taken) .0, c .before .before .before .before .before .before .before .before .before .before .before .before .before .before .before .before .before .before .before .pre .0 .3 .wire (c .before .before .if5 .taken) .1, c .before .before .before .before .before .before .before .before .before .before .before .before .before .before .before .before .before .before .before .pre .0 .3 .lengths .scratch, omega (arith, c .before .before .before .before .before .before .before .before .before .before .before .before .before .before .before .before .before .before .before .pre .0 .3 .countable))
+in-wire-requires c κs = (c .before .before .before .before .before .before .before .before .before .before .before .before .before .before .before .before .before .before .before .before .before .before .pre .0 .3 .short, c .before .before .before .before .before .before .before .before .before .before .before .before .before .before .before .before .before .before .before .before .before .before .pre .0 .3 .named, c .before .before .before .before .before .before .before .before .before .before .before .before .before .before .before .before .before .before .before .before .before .before .pre .0 .3 .wire (c .before .before .before .before .before .if5 .taken))
 
 same-length-15 : tie.Need-same-length-15
 same-length-15 c = search needs
@@ -82,10 +82,19 @@ same-length-16 : tie.Need-same-length-16
 same-length-16 c = search needs
 
 returns-5 : tie.Need-returns-5
-returns-5 c = λ following used usedAll header. wire (c .before .before .before .before .if5 .taken) (c .before .in-wire .ensures) refl
+returns-5 c = λ following used usedAll header. wire (c .before .before .before .before .before .before .before .before .before .before .before .before .before .before .before .if5 .taken) (c .before .before .before .before .before .before .before .before .before .in-wire .ensures) refl
 
 returns-6 : tie.Need-returns-6
 returns-6 c = λ following used usedAll header. other (thirteen-left _ (c .before .before .before .before .before .before .before .before .before .before .before .before .before .before .before .before .before .pre .1) (c .before .before .before .before .before .before .before .before .if1 .left) (c .before .before .before .before .before .before .if2 .left) (c .before .before .before .before .if3 .left) (c .before .before .if4 .left) (c .if5 .left)) refl refl
+
+same-length-17 : tie.Need-same-length-17
+same-length-17 c = search needs
+
+same-length-18 : tie.Need-same-length-18
+same-length-18 c = search needs
+
+same-length-19 : tie.Need-same-length-19
+same-length-19 c = search needs
 
 pub figure-line-spec : {M : Type 1} → statement M
 figure-line-spec =
@@ -116,5 +125,8 @@ figure-line-spec =
     in-wire-requires
     same-length-15
     same-length-16
+    same-length-17
+    same-length-18
+    same-length-19
     returns-5
     returns-6)

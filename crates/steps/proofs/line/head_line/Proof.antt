@@ -7,7 +7,7 @@ use Rattle.steps.proofs.line.head_line.Statement.{statement}
 use Rattle.steps.proofs.line.head_line.Tie as tie
 
 at-top-requires : tie.Need-at-top-requires
-at-top-requires c κs = (c .before .before .before .before .before .before .before .before .before .before .before .before .before .before .before .pre .0 .2 .short, c .before .before .before .before .before .before .before .before .before .before .before .before .before .before .before .pre .0 .2 .named, omega (arith, c .before .before .before .before .before .before .before .before .before .before .before .before .before .before .before .pre .0 .2 .named .ids, c .before .before .before .before .before .before .before .before .before .before .before .before .before .before .before .pre .0 .2 .lengths .layers, c .before .before .before .before .before .before .before .before .before .before .before .before .before .before .before .pre .0 .2 .lengths .usedAll), c .before .before .before .before .before .before .before .before .before .before .before .before .before .before .before .pre .0 .2 .lengths .header, c .before .before .before .before .before .before .before .before .before .before .before .before .before .before .before .pre .0 .2 .lengths .scratch, c .before .before .before .before .before .before .before .before .before .before .before .before .before .before .before .pre .0 .2 .countable)
+at-top-requires c κs = (c .before .before .before .before .before .before .before .before .before .before .before .before .before .before .before .before .pre .0 .1 .short, c .before .before .before .before .before .before .before .before .before .before .before .before .before .before .before .before .pre .0 .1 .named, omega (arith, c .before .before .before .before .before .before .before .before .before .before .before .before .before .before .before .before .pre .0 .1 .named .ids, c .before .before .before .before .before .before .before .before .before .before .before .before .before .before .before .before .pre .0 .1 .lengths .layers, c .before .before .before .before .before .before .before .before .before .before .before .before .before .before .before .before .pre .0 .1 .lengths .usedAll), c .before .before .before .before .before .before .before .before .before .before .before .before .before .before .before .before .pre .0 .1 .lengths .header, c .before .before .before .before .before .before .before .before .before .before .before .before .before .before .before .before .pre .0 .1 .lengths .scratch, c .before .before .before .before .before .before .before .before .before .before .before .before .before .before .before .before .pre .0 .1 .countable, c .before .before .before .before .before .before .before .before .before .before .before .before .before .before .before .before .pre .0 .1 .numbers)
 
 same-length : tie.Need-same-length
 same-length c = search needs
@@ -25,10 +25,10 @@ same-length-5 : tie.Need-same-length-5
 same-length-5 c = search needs
 
 returns : tie.Need-returns
-returns c = λ class serials inner. top (c .before .before .before .before .before .before .before .before .before .before .before .before .if1 .taken) (c .before .before .before .before .before .before .at-top .ensures) refl
+returns c = λ inner. top (c .before .before .before .before .before .before .before .before .before .before .before .before .if1 .taken) (c .before .before .before .before .before .before .at-top .ensures) refl
 
 in-file-requires : tie.Need-in-file-requires
-in-file-requires c κs = (c .before .before .before .before .before .before .before .before .before .before .before .before .before .pre .0 .2 .short, c .before .before .before .before .before .before .before .before .before .before .before .before .before .pre .0 .2 .named, c .before .before .before .before .before .before .before .before .before .before .before .before .before .pre .0 .2 .file (one-left _ (c .before .before .before .before .before .before .before .before .before .before .before .before .before .pre .1) (c .before .before .before .if1 .left)))
+in-file-requires c κs = (c .before .before .before .before .before .before .before .before .before .before .before .before .before .before .pre .0 .1 .short, c .before .before .before .before .before .before .before .before .before .before .before .before .before .before .pre .0 .1 .named, c .before .before .before .before .before .before .before .before .before .before .before .before .before .before .pre .0 .1 .file (one-left _ (c .before .before .before .before .before .before .before .before .before .before .before .before .before .before .pre .1) (c .before .before .before .if1 .left)))
 
 same-length-6 : tie.Need-same-length-6
 same-length-6 c = search needs
@@ -40,7 +40,7 @@ same-length-8 : tie.Need-same-length-8
 same-length-8 c = search needs
 
 returns-2 : tie.Need-returns-2
-returns-2 c = λ class serials inner. file (one-left _ (c .before .before .before .before .before .before .before .before .before .before .before .before .before .before .before .before .before .before .before .pre .1) (c .before .before .before .before .before .before .before .before .before .if1 .left)) (c .before .before .before .before .before .in-file .ensures) refl
+returns-2 c = λ inner. file (one-left _ (c .before .before .before .before .before .before .before .before .before .before .before .before .before .before .before .before .before .before .before .before .pre .1) (c .before .before .before .before .before .before .before .before .before .if1 .left)) (c .before .before .before .before .before .in-file .ensures) refl
 
 pub head-line-spec : {M : Type 1} → statement M
 head-line-spec =

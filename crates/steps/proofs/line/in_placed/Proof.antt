@@ -1,5 +1,5 @@
 use native.Mathlib.Omega.{arith}
-use Rattle.standing.proofs.StepParts.{tally-1, tally-9, tally-10, names-fit, ids-fit, names-count, ids-count, names-most, ids-most, lends}
+use Rattle.standing.proofs.StepParts.{tally-1, tally-9, tally-10, names-fit, ids-fit, names-count, ids-count, names-most, ids-most, lends, lent-long}
 use borrow.Author.Needs.{needs}
 use Rattle.steps.proofs.line.in_placed.Statement.{statement}
 use Rattle.steps.proofs.line.in_placed.Tie as tie
@@ -35,7 +35,7 @@ part-on-placed-end : tie.Need-part-on-placed-end
 part-on-placed-end c = omega (arith, c .before .before .before .before .before .before .before .before .before .before .before .before .before .before .before .before .pre .4)
 
 on-placed-requires : tie.Need-on-placed-requires
-on-placed-requires c κs = (c .before .before .before .before .before .before .before .before .before .before .before .before .before .before .before .before .before .pre .0, names-most (c .before .before .before .before .before .before .before .before .before .before .before .before .before .before .before .before .before .pre .1), ids-most (c .before .before .before .before .before .before .before .before .before .before .before .before .before .before .before .before .before .pre .1), c .before .before .before .before .before .before .before .before .before .before .before .before .before .before .before .before .before .pre .2, c .before .before .before .before .before .before .before .before .before .before .before .before .before .before .before .before .before .pre .3)
+on-placed-requires c κs = (c .before .before .before .before .before .before .before .before .before .before .before .before .before .before .before .before .before .pre .0, names-most (c .before .before .before .before .before .before .before .before .before .before .before .before .before .before .before .before .before .pre .1), ids-most (c .before .before .before .before .before .before .before .before .before .before .before .before .before .before .before .before .before .pre .1), c .before .before .before .before .before .before .before .before .before .before .before .before .before .before .before .before .before .pre .2, lent-long 32 32 (c .before .before .before .before .before .before .before .before .before .before .before .before .before .before .before .before .before .args .t .now) (omega arith) (c .before .before .before .before .before .before .before .before .before .before .before .before .before .before .before .before .before .pre .4), c .before .before .before .before .before .before .before .before .before .before .before .before .before .before .before .before .before .pre .3)
 
 same-length : tie.Need-same-length
 same-length c = search needs

@@ -57,7 +57,7 @@ returns-2 : tie.Need-returns-2
 returns-2 c = done-promise _ _ _ _ _ _ _ _ (c .before .before .before .before .before .before .before .before .before .before .before .before .before .before .before .before .before .before .before .before .before .before .before .before .before .before .before .before .before .before .before .pre .short) (omega (arith, c .before .before .before .before .before .before .before .before .before .before .before .before .before .before .before .before .before .before .before .before .before .before .before .before .before .before .before .before .before .before .before .good .1 .1 .0)) (omega (arith, c .before .before .before .before .before .before .before .before .before .before .before .before .before .before .before .before .before .before .before .before .before .before .before .before .before .before .before .before .before .before .before .good .1 .1 .0)) (c .before .before .before .before .before .before .before .before .before .figure-line .ensures _ _ _ _)
 
 head-line-requires : tie.Need-head-line-requires
-head-line-requires c κs = ((_, _, line-fits _ _ _ _ _ _ _ (c .before .before .before .before .before .before .before .before .before .before .before .before .before .before .before .before .before .before .before .before .before .before .before .before .pre) refl), c .before .before .before .before .before .before .before .before .if3 .taken)
+head-line-requires c κs = ((_, line-fits _ _ _ _ _ _ _ (c .before .before .before .before .before .before .before .before .before .before .before .before .before .before .before .before .before .before .before .before .before .before .before .before .before .pre) refl), c .before .before .before .before .before .before .before .before .before .if3 .taken)
 
 same-length-13 : tie.Need-same-length-13
 same-length-13 c = search needs
@@ -84,7 +84,7 @@ same-length-20 : tie.Need-same-length-20
 same-length-20 c = search needs
 
 returns-3 : tie.Need-returns-3
-returns-3 c = done-promise _ _ _ _ _ _ _ _ (c .before .before .before .before .before .before .before .before .before .before .before .before .before .before .before .before .before .before .before .before .before .before .before .before .before .before .before .before .before .before .before .before .before .pre .short) (omega (arith, c .before .before .before .before .before .before .before .before .before .before .before .before .before .before .before .before .before .before .before .before .before .before .before .before .before .before .before .before .before .before .before .before .before .good .1 .1 .0)) (omega (arith, c .before .before .before .before .before .before .before .before .before .before .before .before .before .before .before .before .before .before .before .before .before .before .before .before .before .before .before .before .before .before .before .before .before .good .1 .1 .0)) (c .before .before .before .before .before .before .before .before .head-line .ensures _ _ _)
+returns-3 c = done-promise _ _ _ _ _ _ _ _ (c .before .before .before .before .before .before .before .before .before .before .before .before .before .before .before .before .before .before .before .before .before .before .before .before .before .before .before .before .before .before .before .before .before .before .pre .short) (omega (arith, c .before .before .before .before .before .before .before .before .before .before .before .before .before .before .before .before .before .before .before .before .before .before .before .before .before .before .before .before .before .before .before .before .before .before .good .1 .1 .0)) (omega (arith, c .before .before .before .before .before .before .before .before .before .before .before .before .before .before .before .before .before .before .before .before .before .before .before .before .before .before .before .before .before .before .before .before .before .before .good .1 .1 .0)) (c .before .before .before .before .before .before .before .before .head-line .ensures _)
 
 sheet-line-requires : tie.Need-sheet-line-requires
 sheet-line-requires c κs = ((_, _, _, _, _, line-fits _ _ _ _ _ _ _ (c .before .before .before .before .before .before .before .before .before .before .before .before .before .before .before .before .before .before .before .before .before .pre) refl), omega (arith, c .before .before .before .before .before .if3 .left), at-most _ (c .before .before .before .before .before .before .before .before .before .if1 .left) (c .before .before .before .before .before .before .before .if2 .left))
@@ -106,6 +106,9 @@ same-length-25 c = search needs
 
 returns-4 : tie.Need-returns-4
 returns-4 c = done-promise _ _ _ _ _ _ _ _ (c .before .before .before .before .before .before .before .before .before .before .before .before .before .before .before .before .before .before .before .before .before .before .before .before .before .before .before .before .before .before .before .pre .short) (omega (arith, c .before .before .before .before .before .before .before .before .before .before .before .before .before .before .before .before .before .before .before .before .before .before .before .before .before .before .before .before .before .before .before .good .1 .1 .0)) (omega (arith, c .before .before .before .before .before .before .before .before .before .before .before .before .before .before .before .before .before .before .before .before .before .before .before .before .before .before .before .before .before .before .before .good .1 .1 .0)) (c .before .before .before .before .before .before .before .before .before .sheet-line .ensures _ _ _ _ _ _ _)
+
+same-length-26 : tie.Need-same-length-26
+same-length-26 c = search needs
 
 pub step-spec : {M : Type 1} → statement M
 step-spec =
@@ -136,11 +139,12 @@ step-spec =
     same-length-18
     same-length-19
     same-length-20
+    same-length-21
     returns-3
     sheet-line-requires
-    same-length-21
     same-length-22
     same-length-23
     same-length-24
     same-length-25
+    same-length-26
     returns-4)
