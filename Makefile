@@ -25,8 +25,8 @@
 	bench-spools native-bench stack compare sanitize
 
 # The spools that the reader is timed on; the first is the mixed floor that the others are compared with.
-TIMED = floor-60k floor-8k lines mixed-figures placed-symbols only-symbols only-long-names only-serials only-partners only-wires \
-	only-layers only-comments only-long-comments only-empty-lines
+TIMED = floor-60k floor-8k lines mixed-figures placed-symbols only-symbols only-long-names only-serials only-partners only-found \
+	only-wires only-wire-serials only-layers only-comments only-long-comments only-empty-lines
 TIMED_SPOOLS = $(TIMED:%=target/bench/%.spool)
 
 rules:

@@ -1,13 +1,15 @@
 /* The reader as one would write it in C: careful with its bounds, checking what document 01 asks of a drawing at class 15, and document 02 of
- * its wires of lines and arcs, and plain.
+ * its wires, and plain.
  * One pass over the lines, a function for each block, no reason given where it refuses. It is here to be timed, not to be used. */
 #include "plain.h"
+#include <stdlib.h>
 #include <string.h>
 
 #define MOST_SPOOL 61440
 #define MOST_VOLUMES 12
 #define MOST_NAMES 2048
 #define MOST_SERIALS 2560
+#define MOST_PARTNERS (MOST_SPOOL / 2) /* a digit and a comma each */
 #define MOST_LAYERS 64
 #define RECORD 32
 
@@ -29,8 +31,8 @@ typedef struct {
     size_t room, count;
     int arc, e_sym, e_wire, s_elec, in_symbol;
     bytes names[MOST_NAMES];
-    uint64_t serials[MOST_SERIALS];
-    size_t symbols, serial_count, layers;
+    uint64_t serials[MOST_SERIALS], partners[MOST_PARTNERS];
+    size_t symbols, serial_count, partner_count, layers;
     uint16_t layer_id[MOST_LAYERS];
     uint8_t layer_used[MOST_LAYERS]; /* the last volume that has it */
     int64_t date, time, all_ele, this_ele, here, whole;
@@ -322,16 +324,41 @@ static int placement(reader *r, bytes t, int64_t *rec) {
     return 0;
 }
 
-/* own number, partners */
+/* An item of a serial: at most ten digits, and how many they are. */
+static int serial_item(const uint8_t **at, const uint8_t *end, uint64_t *out) {
+    const uint8_t *p = *at;
+    uint64_t v = 0;
+    for (; p < end && p - *at <= 10 && digit(*p); p++) v = v * 10 + (uint64_t)(*p - '0');
+    int digits = (int)(p - *at);
+    *out = v;
+    *at = p;
+    return digits;
+}
+
+/* Partners must be there by the end of the set where symbols and wires both have serials. */
+static int tests_partners(reader *r) { return r->e_sym / 10 == 1 && r->e_wire / 10 % 10 == 1; }
+
+static void keep_partner(reader *r, uint64_t v) {
+    if (tests_partners(r)) r->partners[r->partner_count++] = v;
+}
+
+static int keep_own(reader *r, uint64_t own) {
+    for (size_t i = 0; i < r->serial_count; i++) REFUSE_UNLESS(r->serials[i] != own);
+    REFUSE_UNLESS(r->serial_count < MOST_SERIALS);
+    r->serials[r->serial_count++] = own;
+    return 1;
+}
+
+/* A symbol's: own number, partners. */
 static int serial(reader *r, bytes t, int64_t *rec) {
     const uint8_t *p = t.at, *end = t.at + t.len;
     uint64_t own = 0;
     for (int n = 0;; n++) {
-        uint64_t v = 0;
-        int digits = 0;
-        for (; p < end && digit(*p); p++, digits++) v = v * 10 + (uint64_t)(*p - '0');
+        uint64_t v;
+        int digits = serial_item(&p, end, &v);
         REFUSE_UNLESS(digits >= 1 && digits <= 10 && n <= 100);
         if (n == 0) own = v;
+        else keep_partner(r, v);
         if (p == end) {
             rec[14] = (int64_t)own;
             rec[15] = n;
@@ -339,9 +366,37 @@ static int serial(reader *r, bytes t, int64_t *rec) {
         }
         REFUSE_UNLESS(*p++ == ',');
     }
-    for (size_t i = 0; i < r->serial_count; i++) REFUSE_UNLESS(r->serials[i] != own);
-    REFUSE_UNLESS(r->serial_count < MOST_SERIALS);
-    r->serials[r->serial_count++] = own;
+    return keep_own(r, own);
+}
+
+/* A wire's: own number, and two partners, each of which may be empty. */
+static int wire_serial(reader *r, bytes t, int64_t *rec) {
+    const uint8_t *p = t.at, *end = t.at + t.len;
+    uint64_t own, v;
+    int digits = serial_item(&p, end, &own);
+    REFUSE_UNLESS(digits >= 1 && digits <= 10);
+    rec[21] = (int64_t)own;
+    for (int n = 0; n < 2; n++) {
+        REFUSE_UNLESS(p < end && *p++ == ',');
+        digits = serial_item(&p, end, &v);
+        REFUSE_UNLESS(digits <= 10);
+        rec[22 + 2 * n] = digits ? 2 : 1;
+        rec[23 + 2 * n] = (int64_t)v;
+        if (digits) keep_partner(r, v);
+    }
+    return p == end && keep_own(r, own);
+}
+
+static int compared(const void *a, const void *b) {
+    uint64_t x = *(const uint64_t *)a, y = *(const uint64_t *)b;
+    return (x > y) - (x < y);
+}
+
+static int partners_there(reader *r) {
+    if (r->partner_count == 0) return 1;
+    qsort(r->serials, r->serial_count, sizeof *r->serials, compared);
+    for (size_t i = 0; i < r->partner_count; i++)
+        REFUSE_UNLESS(bsearch(&r->partners[i], r->serials, r->serial_count, sizeof *r->serials, compared));
     return 1;
 }
 
@@ -396,14 +451,118 @@ static int joined(const int64_t *former, int64_t *rec) {
     return former[7] == rec[5] && former[8] == rec[6];
 }
 
+/* One digit and a comma. */
+static int digit_first(bytes *t, int64_t most, int64_t *out) {
+    REFUSE_UNLESS(t->len > 2 && digit(t->at[0]) && t->at[1] == ',' && t->at[0] - '0' <= most);
+    *out = t->at[0] - '0';
+    t->at += 2;
+    t->len -= 2;
+    return 1;
+}
+
+/* x,y,angle to the end: a place and an angle up to so many degrees. */
+static int site(bytes t, int64_t most, int64_t *v) {
+    return values(t.at, t.at + t.len, 3, 0, v) && v[0] >= 0 && v[1] >= 0 && v[2] >= 0 && v[2] <= most;
+}
+
+static int wire_direc(bytes t, int64_t *own) {
+    int64_t *to = own + 7 + 4 * own[6];
+    REFUSE_UNLESS(own[6] < 2 && digit_first(&t, 4, to) && site(t, 3600000, to + 1));
+    own[6]++;
+    own[26] = 2;
+    return 1;
+}
+
+static int wire_piend(bytes t, int64_t *own) {
+    int64_t later[3];
+    REFUSE_UNLESS(site(t, 3600000, own[15] ? later : own + 16));
+    own[15]++;
+    own[27] = 2;
+    return 1;
+}
+
+/* earth,power wires,x,y,angle: all of one wire with the first one's two counts */
+static int wire_num(bytes t, int64_t *own) {
+    int64_t later[5], *v = own[19] ? later : own + 20;
+    REFUSE_UNLESS(digit_first(&t, 1, v));
+    const uint8_t *comma = memchr(t.at, ',', t.len);
+    REFUSE_UNLESS(comma);
+    bytes count = {t.at, (size_t)(comma - t.at)}, rest = {comma + 1, t.len - (size_t)(comma - t.at) - 1};
+    REFUSE_UNLESS(number(count, 9, v + 1) && site(rest, 1800000, v + 2) && v[0] == own[20] && v[1] == own[21]);
+    own[19]++;
+    own[28] = 2;
+    return 1;
+}
+
+static const struct {
+    int64_t phase, wires, volts;
+} powers[13] = {{1, 2, 100}, {1, 2, 200}, {1, 2, 231}, {1, 3, 200}, {3, 3, 200}, {3, 3, 400}, {3, 3, 3300}, {3, 3, 6600}, {3, 3, 22000}, {3, 3, 33000}, {3, 3, 66000}, {3, 4, 173}, {3, 4, 400}};
+
+static int wire_power(bytes t, int64_t *v) {
+    REFUSE_UNLESS(digit_first(&t, 9, v) && digit_first(&t, 9, v + 1) && number(t, 9, v + 2));
+    for (int k = 0; k < 13; k++)
+        if (v[0] == powers[k].phase && v[1] == powers[k].wires && v[2] == powers[k].volts) return 1;
+    return 0;
+}
+
+static int wire_text(reader *r, int64_t *more) {
+    int64_t later[10];
+    REFUSE_UNLESS(text_block(r, more[5] ? later : more + 6));
+    more[5]++;
+    more[26] = 2;
+    return 1;
+}
+
+/* What stands behind a wire's lines and arcs; own and more are its two records. */
+static int wire_attribute(reader *r, line l, int64_t *own, int64_t *more) {
+    int last = r->e_wire % 10, middle = r->e_wire / 10 % 10, state;
+    if (IS(l, "text")) return last >= 5 && opens(l) && wire_text(r, more);
+    REFUSE_UNLESS(holds(l));
+    state = l.rest.len ? 2 : 1;
+    if (IS(l, "direc")) return last >= 2 && wire_direc(l.rest, own);
+    if (IS(l, "piend")) return last >= 3 && wire_piend(l.rest, own);
+    if (IS(l, "num")) return last >= 4 && wire_num(l.rest, own);
+    if (IS(l, "length")) {
+        REFUSE_UNLESS(last >= 6 && !own[29] && (state == 1 || (values(l.rest.at, l.rest.at + l.rest.len, 1, 0, own + 25) && own[25] >= 0)));
+        own[29] = state;
+        return 1;
+    }
+    if (IS(l, "circuit")) {
+        REFUSE_UNLESS(last >= 7 && !more[27] && circuit_ok(l.rest));
+        put_text(r, more + 16, l.rest);
+        more[27] = state;
+        return 1;
+    }
+    if (IS(l, "power")) {
+        REFUSE_UNLESS(last >= 8 && !more[28] && (state == 1 || wire_power(l.rest, more + 18)));
+        more[28] = state;
+        return 1;
+    }
+    REFUSE_UNLESS(IS(l, "serial") && middle == 1 && !more[29] && wire_serial(r, l.rest, more));
+    more[29] = 2;
+    return 1;
+}
+
+static int wire_complete(reader *r, const int64_t *own, const int64_t *more) {
+    int last = r->e_wire % 10, middle = r->e_wire / 10 % 10;
+    return (last < 6 || own[29]) && (last < 7 || more[27]) && (last < 8 || more[28]) && (middle < 1 || more[29]);
+}
+
 static int wire(reader *r, line l, int64_t owner) {
-    int64_t *own, *former = NULL, *rec;
-    REFUSE_UNLESS(r->e_wire && opens(l) && (own = take(r, 18, owner)) && take(r, 19, owner));
+    int64_t *own, *more, *former = NULL, *rec;
+    int past = 0; /* something else than a line or an arc has stood there */
+    REFUSE_UNLESS(r->e_wire && opens(l) && (own = take(r, 18, owner)) && (more = take(r, 19, owner)));
     own[30] = r->e_wire / 100;
     for (;;) {
         REFUSE_UNLESS(next(r, &l));
-        if (l.kind == CLOSE) return 1;
-        REFUSE_UNLESS(l.kind == KEY && (IS(l, "line") || IS(l, "circle")) && figure(r, l, owner) == 1);
+        if (l.kind == CLOSE) return wire_complete(r, own, more);
+        REFUSE_UNLESS(l.kind == KEY);
+        if (!IS(l, "line") && !IS(l, "circle")) {
+            REFUSE_UNLESS(wire_attribute(r, l, own, more));
+            past = 1;
+            continue;
+        }
+        REFUSE_UNLESS(!past && figure(r, l, owner) == 1);
         rec = r->table + RECORD * (r->count - 1);
         rec[0] += 10;
         REFUSE_UNLESS(!former || r->e_wire / 100 != 4 || joined(former, rec));
@@ -437,7 +596,7 @@ static int range_part(reader *r, line l, int64_t *rec, int which) {
             REFUSE_UNLESS(zero_or_one(l, &a, 15, rec + 8) && (rec[8] <= 5 || rec[8] >= 11));
             r->e_sym = (int)rec[8];
         } else if (which == 1 && IS(l, "E_wire")) {
-            REFUSE_UNLESS(zero_or_one(l, &b, 401, &v) && (v == 0 || v % 100 == 1));
+            REFUSE_UNLESS(zero_or_one(l, &b, 418, &v) && (v == 0 || (v / 10 % 10 <= 1 && v % 10 >= 1 && v % 10 <= 8)));
             r->e_wire = (int)v;
         } else if (which == 1 && IS(l, "E_cirno")) {
             REFUSE_UNLESS(zero_or_one(l, &c, 0, &v));
@@ -717,6 +876,7 @@ static int ends(reader *r) {
     if (r->volume == r->last_volume) {
         REFUSE_UNLESS(next(r, &l) && l.kind == END_OF_FILE && *r->at == 0x1A && r->whole == r->all_ele);
         for (size_t i = 0; i < r->layers; i++) REFUSE_UNLESS(r->layer_used[i]);
+        REFUSE_UNLESS(partners_there(r));
     }
     return next(r, &l) && l.kind == END_OF_VOLUME;
 }

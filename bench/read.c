@@ -12,11 +12,12 @@
 #define MOST_MULTIPLE 5.0
 #define SMALL_TABLE 256
 #define LARGE_TABLE 4096
+#define LARGEST_TABLE 10240 /* no spool has more records: two for every wire with nothing in it */
 #define FULL_CLASS 15 /* this class with this wire part skips nothing */
 #define FULL_WIRE 18
 
 static uint8_t spool[61441], fixed[61441], again[61441];
-static int64_t table[LARGE_TABLE * PLOVERDELL_RECORD], other[LARGE_TABLE * PLOVERDELL_RECORD];
+static int64_t table[LARGEST_TABLE * PLOVERDELL_RECORD], other[LARGEST_TABLE * PLOVERDELL_RECORD];
 
 static double now(void) {
     struct timespec t;
@@ -44,8 +45,10 @@ static size_t load(const char *path) {
 
 /* A table that the records fit, so that a short drawing isn't charged for the zeros of a long table. */
 static size_t table_for(size_t len, uint64_t *count) {
-    if (ploverdell_read(spool, len, FULL_CLASS, FULL_WIRE, table, SMALL_TABLE * PLOVERDELL_RECORD, count) == 0) return SMALL_TABLE;
-    return LARGE_TABLE;
+    static const size_t rooms[] = {SMALL_TABLE, LARGE_TABLE};
+    for (size_t k = 0; k < sizeof rooms / sizeof *rooms; k++)
+        if (ploverdell_read(spool, len, FULL_CLASS, FULL_WIRE, table, rooms[k] * PLOVERDELL_RECORD, count) == 0) return rooms[k];
+    return LARGEST_TABLE;
 }
 
 static const char *short_name(const char *path) {

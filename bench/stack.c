@@ -20,7 +20,7 @@ static size_t spool_len;
 static struct front {
     uint64_t cls, wire;
 } front;
-static int64_t table[4096 * PLOVERDELL_RECORD];
+static int64_t table[10240 * PLOVERDELL_RECORD]; /* no spool has more records */
 static uint8_t *top; /* where the thread stands when it makes the call */
 
 static void *do_check(void *unused) {

@@ -2,8 +2,9 @@
  *
  * A spool is one job as document 01 describes it, at most 61,440 bytes; a class is 1 to 5 or 11 to 15, and its wire part 0, 1 to 8 or
  * 11 to 18: any other class or wire part is refused with 1, before the spool is looked at.
- * Of wires, lines and arcs are read, in files whose E_wire is 001, 101, 201, 301 or 401; any other E_wire but 000 is refused with 12. Wire
- * part 0 skips wires whole and leaves two records of each, marked unread (docs/RECORDS.md).
+ * A file's E_wire is 000, or its first digit is 0 to 4, its middle 0 or 1 and its last 1 to 8; any other is refused with 12. Wire part 0 skips
+ * wires whole and leaves two records of each, marked unread; any other reads their lines and arcs, and of their attributes those that its
+ * digits reach (docs/RECORDS.md).
  * docs/REFUSALS.md tells what each refusal number means. Every call answers, whatever the bytes are.
  *
  * The answer is one number: the refusal's number (0: accepted) + 100 * volume + 10,000 * line. It is taken apart by
@@ -15,8 +16,8 @@
  * - What is lent to be written (table, out, *count) overlaps nothing else that the same call is lent, the spool among it.
  * - A table, and *count, is aligned to 8 bytes, as C aligns an int64_t.
  * - Nobody else writes what is lent, and nobody reads the table, the output or *count, till the call returns.
- * - The stack has room. Measured (bench/FIGURES.md): 85,996 bytes for ploverdell_check, 65,536 of them its table; 20,540 for
- *   ploverdell_read and 21,040 for ploverdell_rewrite beside what is lent. A thread of 96 KB holds each.
+ * - The stack has room. Measured (bench/FIGURES.md): 92,604 bytes for ploverdell_check, 65,536 of them its table;
+ *   27,148 for ploverdell_read and 27,968 for ploverdell_rewrite beside what is lent. A thread of 96 KB holds each.
  * Calls share nothing and keep nothing, so any number of them may run at once, in as many threads. */
 #ifndef PLOVERDELL_H
 #define PLOVERDELL_H

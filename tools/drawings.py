@@ -267,26 +267,80 @@ def joined(d, former, record):
     return TESTED
 
 
-def wire(*elements, more=()):
-    """A wire of these lines and circles (arcs); more are lines that only a wire part of 0 skips."""
+def wire(*elements, direc=(), piend=(), num=(), texts=(), length=None, circuit=None, power=None, serial=None, more=()):
+    """A wire of these lines and circles (arcs), then its attributes: direc, piend and num are any number of contents, texts of figures' texts
+    (type, values, characters); one that is None isn't written. more are lines behind them that only a lower wire part skips."""
 
     def write(d, owner):
         d.put("E_wire:{")
-        own = d.take(WIRE, owner)
-        own += [len(elements)] + [0] * (FIRST_DIGIT - ELEMENTS - 1) + [d.e_wire // 100]
-        d.take(WIRE_MORE, owner)
-        former = None
-        for element in elements:
-            element(d, owner)
-            record = d.records[-1]
-            record[0] = {LINE: WIRE_LINE, CIRCLE: WIRE_ARC}[record[0]]
-            record += [0] * (JOIN - len(record))
-            record.append(joined(d, former, record))
-            former = record
+        own, other = d.take(WIRE, owner), d.take(WIRE_MORE, owner)
+        for record in own, other:
+            record += [0] * (RECORD - len(record))
+        own[ELEMENTS], own[FIRST_DIGIT] = len(elements), d.e_wire // 100
+        write_elements(d, owner, elements)
+        write_repeated(d, own, direc, piend, num)
+        write_texts(d, other, texts)
+        if length is not None:
+            d.put(f"length={length}")
+            own[25], own[29] = (tenthousandths(length), GIVEN) if length else (0, EMPTY)
+        if circuit is not None:
+            other[16:18], other[27] = d.text("circuit", circuit), GIVEN if circuit else EMPTY
+        if power is not None:
+            d.put(f"power={power}")
+            other[18:21], other[28] = ([int(n) for n in power.split(",")], GIVEN) if power else ([0, 0, 0], EMPTY)
+        if serial is not None:
+            d.put(f"serial={serial}")
+            number, *partners = serial.split(",")
+            other[21:26], other[29] = [int(number)] + [n for partner in partners for n in partner_numbers(partner)], GIVEN
         d.put_all(*more)
         d.put("}")
 
     return write
+
+
+def write_elements(d, owner, elements):
+    former = None
+    for element in elements:
+        element(d, owner)
+        record = d.records[-1]
+        record[0] = {LINE: WIRE_LINE, CIRCLE: WIRE_ARC}[record[0]]
+        record += [0] * (JOIN - len(record))
+        record.append(joined(d, former, record))
+        former = record
+
+
+def write_repeated(d, own, *contents):
+    """Each content of direc, piend and num: their number, the first of them (of direc two), their state."""
+    for key, (place, shown, plain_first, state), lines in zip(("direc", "piend", "num"), WIRE_SHELVES, contents):
+        for content in lines:
+            d.put(f"{key}={content}")
+        own[place], own[state] = len(lines), GIVEN if lines else ABSENT
+        at = place + 1
+        for content in lines[:shown]:
+            values = content.split(",")
+            numbers = [int(v) for v in values[:plain_first]] + [tenthousandths(v) for v in values[plain_first:]]
+            own[at : at + len(numbers)] = numbers
+            at += len(numbers)
+
+
+# direc, piend and num in a wire's first record: the place of their number, how many are shown behind it, how many of a line's first values are
+# no decimals, the place of their state.
+WIRE_SHELVES = (6, 2, 1, 26), (15, 1, 0, 27), (19, 1, 2, 28)
+
+
+def write_texts(d, other, texts):
+    for number, (type, values, characters) in enumerate(texts):
+        d.put("text:{")
+        numbers = text_lines(d, type, values.split(","), characters)
+        if number == 0:
+            other[6:16] = numbers
+        d.put("}")
+    other[5], other[26] = len(texts), GIVEN if texts else ABSENT
+
+
+def partner_numbers(partner):
+    """Of a wire's start or end: its state and its number."""
+    return (GIVEN, int(partner)) if partner else (EMPTY, 0)
 
 
 # ── blocks ──

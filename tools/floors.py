@@ -1,4 +1,4 @@
-"""A lab floor: walls, outlets, lamps and switches, with their symbols, serials and texts."""
+"""A lab floor: walls, outlets, lamps and switches, with their symbols, serials and texts; and its wiring."""
 from drawings import *
 
 LAMP = ("LAMP", [circle("1307", "0", "0", "150", "0", "360", "0"), line("1307", "-106", "-106", "106", "106"), line("1307", "-106", "106", "106", "-106")], [], "")
@@ -42,10 +42,53 @@ def room(number, name):
     return walls, outlets, lamps + switch
 
 
-def floor(count=len(ROOMS)):
-    """A floor of so many rooms, in one volume; 8 KB where nothing is said."""
-    rooms = [room(n, ROOMS[n % len(ROOMS)]) for n in range(count)]
-    sheet = Sheet(
+def wiring(number):
+    """The wires of a room, at E_wire 418: from the switch to a lamp, round a corner; from that lamp to the other, partly hidden; along the outlets,
+    from every second room's on to the board, which is not on the sheet."""
+    left, middle, own = 6000 * number, 6000 * number + 2950, 10 * number
+    mark = f"{middle - 400},{{}},120,120,10,0,1"
+    to_lamp = wire(
+        line("5307", f"{left}", "6900.0001", f"{middle - 900}", "6900.0001"),
+        circle("5307", f"{middle - 900}", "6000.0001", "900", "90", "0", "1"),
+        line("5307", f"{middle}", "6000.0001", f"{middle}", "5400"),
+        num=[f"0,2,{middle - 450},6900.0001,0", f"0,2,{middle},5700,90.0"],
+        length="4350.5",
+        circuit=f"L{number + 1}.s",
+        power="1,2,100",
+        serial=f"{own + 6},{own + 9},{own + 5}",
+    )
+    between_lamps = wire(
+        line("5307", f"{middle}", "5400.0", f"{middle}", "3700"),
+        line("0000", f"{middle}", "3700.00", f"{middle}", "3500"),
+        line("5307", f"{middle}", "03500", f"{middle}", "1800"),
+        texts=[("1307", mark.format(4400), "VVF1.6-2C"), ("1307", mark.format(2600), "天井内:{")],
+        length="",
+        circuit="",
+        power="",
+        serial=f"{own + 7:04},{own + 5},{own + 4}",
+    )
+    to_board = number % 2 == 1
+    along_outlets = wire(
+        line("5310", f"{middle}", "0", f"{middle}", "3600"),
+        direc=[f"1,{middle},3600,90"] if to_board else [],
+        piend=[f"{middle},0,270", f"{middle},1200,90"],
+        num=[f"1,3,{middle},600,180"],
+        texts=[("1307", mark.format(600), f"E5.5 ×{number}")],
+        length="3600",
+        circuit=f"L{number + 1}-0",
+        power="3,3,200" if to_board else "1,3,200",
+        serial=f"{own + 8},{own}," + ("" if to_board else f"{own + 3}"),
+    )
+    return [to_lamp, between_lamps, along_outlets]
+
+
+LAYERS = [("A_001", "壁"), ("E_151", "コンセント"), ("E_152", "電灯")]
+WIRING = "E_153", "配線"
+UNUSED = "E_900", ""
+
+
+def sheet_of(**given):
+    return Sheet(
         arc="001",
         s_elec="002",
         size="4A1",
@@ -57,9 +100,25 @@ def floor(count=len(ROOMS)):
         all_line="640",
         this_line="640",
         about=["ACC-W", "Windows 95", "PC-9821", "2.1", "帝都電設", "施設部", "03-0000(0000)", "2号館"],
-        layers=[("A_001", "壁"), ("E_151", "コンセント"), ("E_152", "電灯"), ("E_900", "")],
         symbols=[LAMP, OUTLET, SWITCH],
         remarks=["# 1997-04-01 first issue", "", "#}"],
+        **given,
     )
-    walls, outlets, lamps = ([f for r in rooms for f in r[k]] for k in range(3))
-    return drawing(sheet, [("FLOOR2", [("A_001", walls), ("E_151", outlets), ("E_152", lamps), ("E_900", [])])])
+
+
+def placed_in_rooms(count):
+    """The figures of so many rooms, layer by layer."""
+    rooms = [room(n, ROOMS[n % len(ROOMS)]) for n in range(count)]
+    return [(id, [figure for figures in rooms for figure in figures[k]]) for k, (id, _) in enumerate(LAYERS)]
+
+
+def floor(count=len(ROOMS)):
+    """A floor of so many rooms without its wiring, in one volume; 8 KB where nothing is said."""
+    return drawing(sheet_of(layers=[*LAYERS, UNUSED]), [("FLOOR2", [*placed_in_rooms(count), (UNUSED[0], [])])])
+
+
+def wired_floor(count=len(ROOMS)):
+    """The same with its wiring."""
+    wires = [figure for n in range(count) for figure in wiring(n)]
+    layers = [*placed_in_rooms(count), (WIRING[0], wires), (UNUSED[0], [])]
+    return drawing(sheet_of(e_wire="418", layers=[*LAYERS, WIRING, UNUSED]), [("FLOOR2", layers)])

@@ -44,8 +44,8 @@ pub struct ServedWires {
     pub last: i64,
 }
 
-/// What the product serves at the moment: the one place to change when it reads more wires. Questions and answers go by it.
-pub const SERVED: ServedWires = ServedWires { first: 4, middle: 0, last: 1 };
+/// What the product serves: the one place to change where another is asked. Questions and answers go by it.
+pub const SERVED: ServedWires = ServedWires::ALL;
 
 impl ServedWires {
     /// 000 alone: no last digit is from 1 to 0.

@@ -105,8 +105,8 @@ fn index_of(folder: &Path) -> String {
     fs::read_to_string(folder.join("index.tsv")).unwrap_or_else(|error| panic!("{}: {error}", folder.join("index.tsv").display()))
 }
 
-/// Sets without wires, as document 01 alone answers them: every wire part reads the same, where the one listed is a wire part. What isn't
-/// refused for a range that isn't served is answered the same where every wire is.
+/// Sets without wires, as document 01 alone answers them: every wire part reads the same, where the one listed is a wire part, whether wires are
+/// served or not.
 #[test]
 fn every_vector_agrees_at_every_wire_part() {
     let folder = folder();
@@ -117,9 +117,6 @@ fn every_vector_agrees_at_every_wire_part() {
         let unit = if what == "read" { NUMBERS } else { 1 };
         let length = length.parse::<usize>().unwrap() * unit;
         for served in [ServedWires::NONE, ServedWires::ALL] {
-            if served == ServedWires::ALL && answer == "12" {
-                continue;
-            }
             let row = Row { text, folder: &folder, name, length, expected: format!("{answer} {volume} {line} {count}"), served };
             if what != "read" {
                 row.rewrite(&mut tally);
