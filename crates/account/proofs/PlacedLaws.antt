@@ -1,5 +1,5 @@
 -- A line in a placed symbol: the laws that the proofs of its functions use.
-use Prim.Native.Nat.{ℕ, zero, suc, _+_, _<_}
+use Prim.Native.Nat.{ℕ, suc, _+_, _<_}
 use mathlib.Core.Bool.{Bool, true, false, cond, _&&_}
 use mathlib.Core.List.{List, [], _∷_, map}
 use mathlib.Core.Option.{some}
@@ -8,7 +8,7 @@ use native.Mathlib.Omega.{arith}
 use lib.Dec.{T, leb}
 use lib.IntN.{ℤ, pos, negsuc, natAbs}
 use lib.ListN.{length, getD, set, take, drop}
-use lib.Seq.{sets, getD-set-same, getD-set-other}
+use lib.Seq.{sets, getD-set-same, getD-set-other, set-getD}
 use lib.Signed.{nonNeg}
 use mir.Syntax.{w64}
 use mir.Val.{SFits, Fits, toZ, ofZ}
@@ -23,7 +23,7 @@ use Rattle.rules.specs.RangeClass.{digits, reaches, exceeds, both, hides}
 use Rattle.rules.specs.Numbers.{readCount}
 use Rattle.rules.specs.Values.{Num, num, natural, Known, Value, nums, linked, serials, wireSerial, mostPartners, readSerials, linkedOf, readPartner, readWireSerial, readKind}
 use Rattle.rules.specs.Rows.{Rule, Found, absent, found, find, Act, stay, entry, begin, shut, refuse, orRefuse, innerOf, fits, readShape, shapeFor, actFound, act, complete}
-use Rattle.rules.specs.RecordTable.{numbers, given, ruleAt, markUnread}
+use Rattle.rules.specs.RecordTable.{numbers, given, ruleAt, unreadState, markUnread}
 use Rattle.rules.specs.Figures.{placedTable, textTable}
 use Rattle.rules.proofs.Rows.{found-row, row-at, row-below, row-did}
 use Rattle.rules.proofs.Chains.{clash, never, map-got, keep-got, or-got, cons-got}
@@ -66,34 +66,33 @@ unfolding tableOf textTable
 text-room n e = rw e
 
 -- ── what the class doesn't know ──
--- a number put where it stands already
-set-same : (t : List ℤ) (q : ℕ) → set t q (getD t q (pos 0)) ≡ t
-set-same [] q = refl
-set-same (z ∷ t) zero = refl
-set-same (z ∷ t) (suc q) = ap (λ (u : List ℤ). z ∷ u) (set-same t q)
-
 hidden-set : (q : ℕ) (h : Bool) (t : List ℤ) → hiddenAt q h t ≡ set t q (cond h (pos 3) (getD t q (pos 0)))
 hidden-set q true t = refl
-hidden-set q false t = sym (set-same t q)
+hidden-set q false t = sym (set-getD t q (pos 0))
 
 module _ (c d : Digits) where
+  -- a row's state behind those of the rows after it
+  pub one-marked : (r : Rule) (rs : List Rule) (q : ℕ) (t₀ t u : List ℤ) → r .state ≡ suc q → u ≡ markUnread c d rs t₀ → t ≡ hiddenAt (suc q) (hides c d (r .least)) u
+      → t ≡ markUnread c d (r ∷ rs) t₀
+  one-marked r rs q t₀ t u e f g =
+      g ∙ hidden-set (suc q) (hides c d (r .least)) u
+      ∙ ap (unreadState (suc q) (hides c d (r .least))) f
+      ∙ ap (λ (s : ℕ). unreadState s (hides c d (r .least)) (markUnread c d rs t₀)) (sym e)
+
   abbrev at : ℕ → ℕ → ℕ → List ℤ → List ℤ
   at m l q t = hiddenAt q (hides c d (digits m l)) t
 
-  abbrev put : ℕ → ℕ → ℕ → List ℤ → List ℤ
-  put m l q t = set t q (cond (hides c d (digits m l)) (pos 3) (getD t q (pos 0)))
-
-  at-put : (m l q : ℕ) (t u : List ℤ) → t ≡ u → at m l q t ≡ put m l q u
-  at-put m l q t u e = hidden-set q (hides c d (digits m l)) t ∙ ap (put m l q) e
+  abbrev from : ℕ → List ℤ → List ℤ
+  from i t = markUnread c d (drop i placedTable) t
 
   pub hidden-all : (t₀ t₁ t₂ t₃ t₄ t₅ : List ℤ) → t₁ ≡ at 1 0 30 t₀ → t₂ ≡ at 0 5 29 t₁ → t₃ ≡ at 0 4 28 t₂ → t₄ ≡ at 0 3 27 t₃ → t₅ ≡ at 0 2 26 t₄ → t₅ ≡ markUnread c d placedTable t₀
   unfolding placedTable
   hidden-all t₀ t₁ t₂ t₃ t₄ t₅ e₁ e₂ e₃ e₄ e₅ =
-      let f₁ : t₁ ≡ put 1 0 30 t₀ = e₁ ∙ at-put 1 0 30 t₀ t₀ refl in
-      let f₂ = e₂ ∙ at-put 0 5 29 t₁ (put 1 0 30 t₀) f₁ in
-      let f₃ = e₃ ∙ at-put 0 4 28 t₂ (put 0 5 29 (put 1 0 30 t₀)) f₂ in
-      let f₄ = e₄ ∙ at-put 0 3 27 t₃ (put 0 4 28 (put 0 5 29 (put 1 0 30 t₀))) f₃ in
-      e₅ ∙ at-put 0 2 26 t₄ (put 0 3 27 (put 0 4 28 (put 0 5 29 (put 1 0 30 t₀)))) f₄
+      let f₁ : t₁ ≡ from 5 t₀ = one-marked (ruleAt placedTable 5) [] 29 t₀ t₁ t₀ refl refl e₁ in
+      let f₂ : t₂ ≡ from 4 t₀ = one-marked (ruleAt placedTable 4) (drop 5 placedTable) 28 t₀ t₂ t₁ refl f₁ e₂ in
+      let f₃ : t₃ ≡ from 3 t₀ = one-marked (ruleAt placedTable 3) (drop 4 placedTable) 27 t₀ t₃ t₂ refl f₂ e₃ in
+      let f₄ : t₄ ≡ from 2 t₀ = one-marked (ruleAt placedTable 2) (drop 3 placedTable) 26 t₀ t₄ t₃ refl f₃ e₄ in
+      one-marked (ruleAt placedTable 1) (drop 2 placedTable) 25 t₀ t₅ t₄ refl f₄ e₅
 
 -- ── own numbers ──
 -- as the machine reads a signed number back

@@ -7,7 +7,7 @@ use native.Mathlib.Omega.{arith}
 use lib.Dec.{eqb, leb}
 use lib.IntN.{ℤ, pos, negsuc}
 use lib.ListN.{length, getD, set, take, drop, length-set, length-drop}
-use lib.Seq.{length-sets, getD-set-other, set-getD, take-all, drop-length}
+use lib.Seq.{length-sets, getD-set-other, take-all, drop-length}
 use mir.Syntax.{w64}
 use mir.Val.{toZ, ofZ, SFits}
 use mir.Facts.{toZ-ofZ}
@@ -17,8 +17,8 @@ use Rattle.rules.specs.declared.Digits.{Digits}
 use Rattle.rules.specs.Lines.{Form}
 use Rattle.rules.specs.RangeClass.{digits, digitsOf, both, hides, knowsWires, mostDepth}
 use Rattle.rules.specs.Values.{Known, equalZ}
-use Rattle.rules.specs.Rows.{Rule, complete}
-use Rattle.rules.specs.RecordTable.{ruleAt, unreadState, markUnread}
+use Rattle.rules.specs.Rows.{complete}
+use Rattle.rules.specs.RecordTable.{ruleAt, markUnread}
 use Rattle.rules.specs.Figures.{wireTable}
 use Rattle.rules.proofs.Chains.{clash}
 use Rattle.tables.specs.Tables.{tableOf}
@@ -34,6 +34,7 @@ use Rattle.account.specs.SkippedLines.{skippedBy}
 use Rattle.account.specs.PlacedLines.{Lent, hiddenAt, withInner}
 use Rattle.account.specs.WireLines.{wireBegun, begunStep, begunPut, bothLines, meetsFormer, joinHolds, joinNumber, formerKept, elementPut, wireWhole, wireCounted, statesMarked, WireShut, ReadLine, textAct, TextInWire}
 use Rattle.account.specs.WireLines.{openSkipped, markedUnread, SkippedLine, WireLine}
+use Rattle.account.proofs.PlacedLaws.{one-marked}
 
 -- ── how it begins ──
 pub begun-read : (c : Class) (n : Now) (b : Bool) → b ≡ knowsWires c → b ≡ true → n ≡ wireBegun c n
@@ -211,17 +212,6 @@ counted-long range n t u e h =
 
 -- the states, from the last row on: those of the first rows have none
 module _ (c d : Digits) where
-  hidden-state : (q : ℕ) (h : Bool) (t : List ℤ) → hiddenAt q h t ≡ set t q (cond h (pos 3) (getD t q (pos 0)))
-  hidden-state q true t = refl
-  hidden-state q false t = sym (set-getD t q (pos 0))
-
-  one-marked : (r : Rule) (rs : List Rule) (q : ℕ) (t₀ t u : List ℤ) → r .state ≡ suc q → u ≡ markUnread c d rs t₀ → t ≡ hiddenAt (suc q) (hides c d (r .least)) u
-      → t ≡ markUnread c d (r ∷ rs) t₀
-  one-marked r rs q t₀ t u e f g =
-      g ∙ hidden-state (suc q) (hides c d (r .least)) u
-      ∙ ap (unreadState (suc q) (hides c d (r .least))) f
-      ∙ ap (λ (s : ℕ). unreadState s (hides c d (r .least)) (markUnread c d rs t₀)) (sym e)
-
   abbrev at : ℕ → ℕ → ℕ → List ℤ → List ℤ
   at m l q t = hiddenAt q (hides c d (digits m l)) t
 
@@ -232,14 +222,14 @@ module _ (c d : Digits) where
       → t₇ ≡ at 0 3 27 t₆ → t₈ ≡ at 0 2 26 t₇ → t₈ ≡ markUnread c d wireTable t₀
   unfolding wireTable
   states-marked t₀ t₁ t₂ t₃ t₄ t₅ t₆ t₇ t₈ e₁ e₂ e₃ e₄ e₅ e₆ e₇ e₈ =
-      let f₁ : t₁ ≡ from 9 t₀ = one-marked (ruleAt wireTable 9) [] 60 t₀ t₁ t₀ refl refl e₁ in
-      let f₂ : t₂ ≡ from 8 t₀ = one-marked (ruleAt wireTable 8) (drop 9 wireTable) 59 t₀ t₂ t₁ refl f₁ e₂ in
-      let f₃ : t₃ ≡ from 7 t₀ = one-marked (ruleAt wireTable 7) (drop 8 wireTable) 58 t₀ t₃ t₂ refl f₂ e₃ in
-      let f₄ : t₄ ≡ from 6 t₀ = one-marked (ruleAt wireTable 6) (drop 7 wireTable) 28 t₀ t₄ t₃ refl f₃ e₄ in
-      let f₅ : t₅ ≡ from 5 t₀ = one-marked (ruleAt wireTable 5) (drop 6 wireTable) 57 t₀ t₅ t₄ refl f₄ e₅ in
-      let f₆ : t₆ ≡ from 4 t₀ = one-marked (ruleAt wireTable 4) (drop 5 wireTable) 27 t₀ t₆ t₅ refl f₅ e₆ in
-      let f₇ : t₇ ≡ from 3 t₀ = one-marked (ruleAt wireTable 3) (drop 4 wireTable) 26 t₀ t₇ t₆ refl f₆ e₇ in
-      one-marked (ruleAt wireTable 2) (drop 3 wireTable) 25 t₀ t₈ t₇ refl f₇ e₈
+      let f₁ : t₁ ≡ from 9 t₀ = one-marked c d (ruleAt wireTable 9) [] 60 t₀ t₁ t₀ refl refl e₁ in
+      let f₂ : t₂ ≡ from 8 t₀ = one-marked c d (ruleAt wireTable 8) (drop 9 wireTable) 59 t₀ t₂ t₁ refl f₁ e₂ in
+      let f₃ : t₃ ≡ from 7 t₀ = one-marked c d (ruleAt wireTable 7) (drop 8 wireTable) 58 t₀ t₃ t₂ refl f₂ e₃ in
+      let f₄ : t₄ ≡ from 6 t₀ = one-marked c d (ruleAt wireTable 6) (drop 7 wireTable) 28 t₀ t₄ t₃ refl f₃ e₄ in
+      let f₅ : t₅ ≡ from 5 t₀ = one-marked c d (ruleAt wireTable 5) (drop 6 wireTable) 57 t₀ t₅ t₄ refl f₄ e₅ in
+      let f₆ : t₆ ≡ from 4 t₀ = one-marked c d (ruleAt wireTable 4) (drop 5 wireTable) 27 t₀ t₆ t₅ refl f₅ e₆ in
+      let f₇ : t₇ ≡ from 3 t₀ = one-marked c d (ruleAt wireTable 3) (drop 4 wireTable) 26 t₀ t₇ t₆ refl f₆ e₇ in
+      one-marked c d (ruleAt wireTable 2) (drop 3 wireTable) 25 t₀ t₈ t₇ refl f₇ e₈
 
 -- the wire's two records as they are lent: all behind the front
 module _ (t : List ℤ) (k : ℕ) (e : k ≡ 64) (h : length t ≡ 96) where

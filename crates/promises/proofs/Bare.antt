@@ -17,6 +17,7 @@ use Rattle.rules.specs.Figures.{placedTable, wireSerialRow}
 use Rattle.rules.specs.Sets.{Figure, plain, chain, lettering, placed, Layer, Symbol, Contents, Set, headOr, firstContents, isFirst, arcOf, symbolRange, defineRange, rangeOf, isSingle, symbolNameOf, knownOf, ownSerial, figureSerial, serialsOfBlock, serialsOfVolume, serialsIn, elementsOf, usedIn, wired, passed, wireRange, isWired, ownNumber, wirePartners, figurePartners, partnersOfVolume}
 use Rattle.rules.specs.VolumesAndTotals.{chained, dated, countedHere, countedAll, layersUsed, ownTable, partnersExist}
 use Rattle.rules.specs.Machine.{testsPartners}
+use Rattle.rules.specs.RecordTable.{firstText}
 use Rattle.rules.proofs.Chains.{nil-map, map-compose, map-agree, map-same, map-set, total-same}
 use Rattle.promises.specs.PlacesApart.{bareValue, bareSlots, bareHeld, bareFigure, bareLayer, bareSymbol, bareBlock, bareContents, bareSet}
 
@@ -76,6 +77,11 @@ blank-bare (r ∷ t) = ap (λ s. none ∷ s) (blank-bare t)
 
 pub part-bare : (h : Held) (p : ℕ) → partOf (bareHeld h) p ≡ bareSlots (partOf h p)
 part-bare h p = List·getD-map bareSlots h p []
+
+-- the first of a wire's texts
+pub first-text-bare : (ss : List Slots) → firstText (map bareSlots ss) ≡ bareSlots (firstText ss)
+first-text-bare [] = refl
+first-text-bare (s ∷ ss) = refl
 
 pub part-marks : (h : Held) (p : ℕ) → rowsThere (partOf (bareHeld h) p) ≡ rowsThere (partOf h p)
 part-marks h p = rw (part-bare h p) (marks-bare (partOf h p))

@@ -19,8 +19,8 @@ use Rattle.rules.specs.Rows.{Found, absent, found, find, Slots, Held, partOf, r
 use Rattle.rules.specs.Blocks.{topTable, fileTables, drawingTable, mostLayers, definesTable, symbolTable, elementTable}
 use Rattle.rules.specs.Figures.{pointTable, textTable, placedTable, placedTables, leastPoints}
 use Rattle.rules.specs.Sets.{Point, Edge, Wire, Figure, plain, chain, lettering, placed, wired, passed, joinDigit, withRecords, Layer, Drawing, Symbol, LayerBlock, Contents, Set, nothingYet, withNow, withVolume, symbolOwn, isFirst, arcOf, rangeOf, defineRange, knownOf, usedIn}
-use Rattle.rules.specs.VolumesAndTotals.{chained, dated, countedHere, countedAll, layersUsed, partnersExist}
-use Rattle.rules.specs.Machine.{Line, Env, Home, inElement, inLayer, State, top, file, drawing, layerNames, defines, symbol, hide, elements, figures, successive, texts, placing, skipping, ended, byAct, roomFor, openTop, testsPartners, atEof, onTop, closeFile, onFile, onDrawing, layerValue, onLayerNames, newName, openSymbol, onSymbol, onDefines, pointAt, onHide, onElements, isLayer, homeTable, closeFigures, openPlaced, openFigure, onFigures, onSuccessive, onTexts}
+use Rattle.rules.specs.VolumesAndTotals.{chained, dated, countedHere}
+use Rattle.rules.specs.Machine.{Line, Env, Home, inElement, inLayer, State, top, file, drawing, layerNames, defines, symbol, hide, elements, figures, successive, texts, placing, skipping, ended, byAct, roomFor, openTop, onTop, closeFile, onFile, onDrawing, layerValue, onLayerNames, newName, openSymbol, onSymbol, onDefines, pointAt, onHide, onElements, isLayer, homeTable, closeFigures, openPlaced, openFigure, onFigures, onSuccessive, onTexts}
 use Rattle.rules.specs.PlacedSymbol.{onUnknown, newSerial, onPlaced, onPlacedKey, onPlacedOwn, onPlacing, skipEnded, unreadShut, skipShut, onSkipping}
 use Rattle.rules.specs.LineByLine.{stepIn, isIgnored, isClose, isEof, completes, nextVolume, step, accepted, thenRun, run}
 use Rattle.rules.specs.RecordTable.{kindWire, kindWireMore, recordsOf}
@@ -32,6 +32,7 @@ use Rattle.rules.proofs.Rows.{row-below}
 use Rattle.promises.specs.Acceptance.{Place, place, placeOf}
 use Rattle.promises.proofs.RecordLines.{pointPlaces, edgePlaces, figurePlaces, figuresPlaces, symbolPlaces, symbolsPlaces, drawnPlaces, headPlaces, blockPlaces, bodyPlaces, laterPlaces, frontPlaces, setPlaces, records-at}
 use Rattle.rules.proofs.OnActs.{on-byAct, on-taking, on-shut, on-skip}
+use Rattle.promises.proofs.OnEof.{on-eof}
 use Rattle.promises.proofs.OnWires.{on-wire}
 use Rattle.promises.proofs.CountActs.{Begun, act-begin}
 use Rattle.promises.proofs.CountState.{number, volumeOf, filePlaces, openPlaces, within, front, homePlaces, inFigures, shown, Inv, Adds, still, took, slotted-set, slotted-figs, slotted-dots, slotted-blank, SymbolOpens, symbol-begun}
@@ -124,6 +125,11 @@ pub both-left : (b t x y : Bool) → cond b (t && x) (t && y) ≡ true → t ≡
 both-left true t x y e = and-left t x e
 both-left false t x y e = and-left t y e
 
+-- a volume that is not the last ends with the close of ELEMENT
+pub closing : (b c : Bool) → cond b false (c || false) ≡ true → c ≡ true
+closing true c q = clash q refl
+closing false c q = or-left c false refl q
+
 -- a line that closes a block, or is refused
 pub on-close : (P : State → Type 0) (st : State) (en : ℕ → Value → Got State) (op : ℕ → ℕ → Value → Got State) (cl : Unit {0} → Got State) (b : Bool)
     → On P (cl tt) → On P (byAct st en op cl (cond b shut (refuse 8)))
@@ -158,19 +164,11 @@ module _ (e : Env) (l : Line) where
   inv-ends : (s : Set) (k : ℕ) → eqb k 4 ≡ true → Inv e (top s k) → Ends (top s k) (ended s)
   inv-ends s k q i = subst (λ (m : ℕ). Inv e (top s m) → Ends (top s m) (ended s)) (sym (eqb-true k 4 q)) (λ i. still i refl tt tt) i
 
-  -- EOF ends the set behind ELEMENT, where the partners that are tested are there
-  pub on-eof : (P : State → Type 0) (s : Set) (k : ℕ) → (eqb k 4 ≡ true → (not (testsPartners (e .class) s) || partnersExist s) ≡ true → P (ended s)) → On P (atEof e l s k)
-  on-eof P s k h =
-      on-unless P (eqb k 4 && (isNil (l .next) && l .last)) 9 _ λ q.
-      on-unless P (layersUsed s) 14 _ λ _.
-      on-unless P (countedAll s) 17 _ λ _.
-      on-unless P (not (testsPartners (e .class) s) || partnersExist s) 21 _ λ t. h (and-left (eqb k 4) _ q) t
-
   inv-top : (s : Set) (k : ℕ) (f : Form) → Inv e (top s k) → On (Does (top s k)) (onTop e l s k f)
   inv-top s k ignored i = still i refl (i .kept) refl
   inv-top s k (wrong n) i = tt
   inv-top s k close i = tt
-  inv-top s k eof i = on-eof (Does (top s k)) s k λ q _. inv-ended s k q i
+  inv-top s k eof i = on-eof (Does (top s k)) e l s k λ m. inv-ended s k (m .behind) i
   inv-top s k (keyed key c) i =
       on-byAct (Does (top s k)) _ _ _ _ (act (knownOf s) topTable (digits 0 0) (rowsAtLimit 0 topTable) (keyed key c)) (still i refl (i .kept) refl) (λ j v. tt)
       (λ m j v b. on-unless (Does (top s k)) (eqb j k) 9 _ λ q.
@@ -441,7 +439,7 @@ module _ (e : Env) (l : Line) where
   inv-last s k ignored q i = inv-anew s k (both-left (isNil (l .next)) (eqb k 4) false true q) i
   inv-last s k (wrong n) q i = tt
   inv-last s k close q i = tt
-  inv-last s k eof q i = on-eof (Ends (top s k)) s k λ q _. inv-ends s k q i
+  inv-last s k eof q i = on-eof (Ends (top s k)) e l s k λ m. inv-ends s k (m .behind) i
   inv-last s k (keyed key c) q i = clash q (rw (and-false (eqb k 4)) (cond-same (isNil (l .next)) false))
 
   -- in ELEMENT, at its end
@@ -464,10 +462,6 @@ module _ (e : Env) (l : Line) where
   inv-next (symbol s y) q i = clash q (cond-same (isNil (l .next)) false)
   inv-next (hide s y ps) q i = clash q (cond-same (isNil (l .next)) false)
   inv-next (elements s) q i = inv-last-element s (l .form) (closing (isNil (l .next)) (isClose (l .form)) q) i
-    where
-      closing : (b c : Bool) → cond b false (c || false) ≡ true → c ≡ true
-      closing true c q = clash q refl
-      closing false c q = or-left c false refl q
   inv-next (figures s h fs) q i = clash q (cond-same (isNil (l .next)) false)
   inv-next (successive s h fs n ps) q i = clash q (cond-same (isNil (l .next)) false)
   inv-next (texts s h fs n o) q i = clash q (cond-same (isNil (l .next)) false)

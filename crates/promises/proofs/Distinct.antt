@@ -1,12 +1,12 @@
 -- Lists of numbers of which no two are the same.
 use Prim.Native.Nat.{ℕ}
 use mathlib.Core.Bool.{Bool, true, false, _||_}
-use mathlib.Core.List.{List, [], _∷_, _++_}
+use mathlib.Core.List.{List, [], _∷_, _++_, map, append-nil}
 use mathlib.Core.Path.{_≡_, refl, sym}
 use lib.Dec.{eqb}
 use borrow.Author.Tests.{eqb-false, ne-eqb}
-use Rattle.rules.specs.Base.{hasNumber}
-use Rattle.rules.proofs.Chains.{clash}
+use Rattle.rules.specs.Base.{flat, hasNumber}
+use Rattle.rules.proofs.Chains.{clash, map-append, flat-append}
 
 abbrev pub Differ : List ℕ → Type 0
 Differ [] = Unit {0}
@@ -47,3 +47,7 @@ differ-more (m ∷ s) n g e =
     let w = or-false (eqb n m) (hasNumber n s) e in
     let other : eqb m n ≡ false = ne-eqb m n (λ z. eqb-false n m (w .0) (sym z)) in
     (append-lacks m s (n ∷ []) (g .0) (rw other), differ-more s n (g .1) (w .1))
+
+-- the numbers of a list with one more behind it
+pub flat-more : {A : Type 0} (f : A → List ℕ) (s : List A) (a : A) → flat (map f (s ++ a ∷ [])) ≡ flat (map f s) ++ f a
+flat-more f s a = rw (map-append f s (a ∷ []), flat-append (map f s) (f a ∷ []), append-nil (f a))

@@ -17,17 +17,14 @@ use Rattle.rules.specs.Sets.{Edge, Wire, Figure, plain, chain, lettering, place
 use Rattle.rules.specs.VolumesAndTotals.{partnersExist}
 use Rattle.rules.specs.Machine.{Home, inElement, inLayer, Owned, symbolBlock, wireBlock, wireUnread, State, top, file, drawing, layerNames, defines, symbol, hide, elements, figures, successive, texts, placing, skipping, ended, setOf, testsPartners}
 use Rattle.rules.specs.PlacedSymbol.{noneOf, numbersSoFar}
-use Rattle.rules.proofs.Chains.{and-left, map-append, flat-append}
+use Rattle.rules.proofs.Chains.{and-left}
 use Rattle.rules.proofs.Runs.{head-snoc, head-file}
 use borrow.Author.Tests.{not-true}
 use Rattle.promises.proofs.Edges.{Behind, Joins}
 use Rattle.promises.proofs.FitRows.{each-more}
 use Rattle.promises.proofs.FitSets.{Each}
-use Rattle.promises.proofs.Distinct.{Differ, differ-first, differ-more}
+use Rattle.promises.proofs.Distinct.{Differ, differ-first, differ-more, flat-more}
 use Rattle.promises.proofs.OnWires.{IsNums}
-
-flat-more : {A : Type 0} (f : A → List ℕ) (s : List A) (a : A) → flat (map f (s ++ a ∷ [])) ≡ flat (map f s) ++ f a
-flat-more f s a = rw (map-append f s (a ∷ []), flat-append (map f s) (f a ∷ []), append-nil (f a))
 
 abbrev pub figureSerials : List Figure → List ℕ
 figureSerials fs = flat (map figureSerial fs)

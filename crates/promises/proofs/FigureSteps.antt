@@ -28,13 +28,13 @@ use Rattle.rules.proofs.Chains.{On, on-unless, on-cond, on-map, on-then, on-als
 use Rattle.rules.proofs.OnActs.{on-byAct, on-taking, on-shut, on-skip}
 use Rattle.rules.proofs.Rows.{Row, found-row, row-below}
 use Rattle.rules.proofs.Runs.{not-accepted, finish-ended}
-use Rattle.promises.proofs.Count.{on-eof}
 use Rattle.promises.proofs.CountActs.{act-begin}
 use Rattle.promises.proofs.Distinct.{Differ}
 use Rattle.promises.proofs.Edges.{Joins, behind-more}
 use Rattle.promises.proofs.FitRows.{each-more}
 use Rattle.promises.proofs.FitSets.{Each}
 use Rattle.promises.proofs.FigureState.{closedSerials, IsSerial, serialSlot, wireSlot, KnownSlot, EdgeRow, SoundWire, SoundContents, SoundState, layer-more, home-more, file-closed, volume-closed, layer-closed, top-closed}
+use Rattle.promises.proofs.OnEof.{on-eof}
 use Rattle.promises.proofs.OnWires.{SerialRead, IsNums, on-wire}
 use Rattle.promises.proofs.SerialRows.{at-row, OneRow, RowAct, row-act}
 
@@ -120,7 +120,7 @@ module _ (e : Env) (l : Line) where
   in-top s k ignored i = i
   in-top s k (wrong n) i = tt
   in-top s k close i = tt
-  in-top s k eof i = on-eof e l J s k λ _ q. (top-closed (e .class) k s (i .0), i .1, asked (testsPartners (e .class) s) (partnersExist s) q)
+  in-top s k eof i = on-eof J e l s k λ m. (top-closed (e .class) k s (i .0), i .1, asked (testsPartners (e .class) s) (partnersExist s) (m .partners))
   in-top s k (keyed key c) i =
       on-byAct J _ _ _ _ (act (knownOf s) topTable (digits 0 0) (rowsAtLimit 0 topTable) (keyed key c)) i (λ j v. tt)
       (λ m j v b. on-unless J (eqb j k) 9 _ λ q.

@@ -20,8 +20,8 @@ use Rattle.rules.specs.Rows.{Rule, Found, absent, found, find, Slots, Held, par
 use Rattle.rules.specs.Blocks.{topTable, fileTables, drawingTable, definesTable, symbolTable, elementTable, mostLayers, layerNameKind, around}
 use Rattle.rules.specs.Figures.{layerTable, figureTable, pointTable, textTable, placedTable, placedTables, leastPoints, wireTable, wireTextTable, firstGroupRow}
 use Rattle.rules.specs.Sets.{Point, Figure, plain, chain, lettering, placed, Drawing, Symbol, Set, nothingYet, isFirst, arcOf, defineRange, rangeOf, knownOf, usedIn, symbolOwn, Wire, wired, passed, isSingle, isWired, joinDigit, wiresOf}
-use Rattle.rules.specs.VolumesAndTotals.{chained, dated, countedHere, countedAll, layersUsed, partnersExist}
-use Rattle.rules.specs.Machine.{testsPartners, Line, Env, Home, inElement, inLayer, State, top, file, drawing, layerNames, defines, symbol, hide, elements, figures, successive, texts, placing, skipping, ended, byAct, roomFor, openTop, onTop, closeFile, shutPart, onFile, onDrawing, layerValue, onLayerNames, onDefines, newName, openSymbol, onSymbol, onHide, onElements, isLayer, homeTable, closeFigures, openFigure, onFigures, onSuccessive, onTexts, wireBlock, wireUnread, beginWire}
+use Rattle.rules.specs.VolumesAndTotals.{chained, dated, countedHere}
+use Rattle.rules.specs.Machine.{Line, Env, Home, inElement, inLayer, State, top, file, drawing, layerNames, defines, symbol, hide, elements, figures, successive, texts, placing, skipping, ended, byAct, roomFor, openTop, onTop, closeFile, shutPart, onFile, onDrawing, layerValue, onLayerNames, onDefines, newName, openSymbol, onSymbol, onHide, onElements, isLayer, homeTable, closeFigures, openFigure, onFigures, onSuccessive, onTexts, wireBlock, wireUnread, beginWire}
 use Rattle.rules.specs.PlacedSymbol.{bySkip, skipDeeper, onUnknown, newSerial, onPlaced, onPlacedKey, onPlacedOwn, onPlacing, onSkipping, skipEnded, unreadShut}
 use Rattle.rules.specs.LineByLine.{stepIn, completes, nextVolume, step, Outcome, refused, accepted, thenRun, finish, run}
 use Rattle.rules.specs.RecordTable.{recordsOf}
@@ -29,6 +29,7 @@ use Rattle.rules.specs.Machine.{symbolBlock, Owned, fileKinds}
 use Rattle.rules.proofs.Chains.{by-cond, On, on-unless, on-cond, on-then, on-also, on-got}
 use Rattle.rules.proofs.Rows.{Row, found-row, row-below}
 use Rattle.promises.specs.PlacesApart.{bareSet, placesApart}
+use Rattle.promises.proofs.OnEof.{on-eof}
 use Rattle.promises.proofs.RecordPlaces.{records-bare}
 use Rattle.promises.proofs.FitSets.{anyText, FitValue, FitSlots, FitHeld, Each, FitPlain, FitFigure, FitLayer, FitDrawing, FitSymbol, FitBlock, FitContents, FitSet, FitEdge, FitWire}
 use Rattle.promises.proofs.FitRows.{each-more, volume-more, fit-nil, fit-blank, fit-set, fit-blanks, fit-enter, FitForm, layer-fit, FitRow, FitAct, row-fit, unknown-fit, act-fit}
@@ -104,10 +105,7 @@ module _ (S : ℕ → List ℕ → Type 0) where
   onTop-fit e l s k ignored x h = h
   onTop-fit e l s k (wrong n) x h = tt
   onTop-fit e l s k close x h = tt
-  onTop-fit e l s k eof x h =
-      on-unless FitState (eqb k 4 && (isNil (l .next) && l .last)) 9 _ λ _.
-      on-unless FitState (layersUsed s) 14 _ λ _. on-unless FitState (countedAll s) 17 _ λ _.
-      on-unless FitState (not (testsPartners (e .class) s) || partnersExist s) 21 (got (ended s)) λ _. h .0
+  onTop-fit e l s k eof x h = on-eof FitState e l s k λ _. h .0
   onTop-fit e l s k (keyed key c) x h =
       by-line (knownOf s) topTable (digits 0 0) (rowsAtLimit 0 topTable) (keyed key c) x (top s k) _ _ _ h (λ j v w. tt)
       (λ i j v w. on-unless FitState (eqb j k) 9 _ λ e′. let q = eqb-true j k e′ in rw q (openTop-fit e l s k h (rw q at (top-rows j v w)))) tt

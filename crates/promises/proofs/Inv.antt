@@ -1,6 +1,6 @@
 -- Every set that was read at class 15 is a good set.
 use Prim.Native.Nat.{ℕ, _≤_}
-use mathlib.Core.Bool.{Bool, true, false, cond, _&&_, _||_, not, true≢false}
+use mathlib.Core.Bool.{Bool, true, false, cond, _&&_, _||_, true≢false}
 use mathlib.Core.List.{List, [], _∷_, _++_, append-nil, append-assoc}
 use mathlib.Core.Path.{_≡_, refl, ap, subst}
 use lib.Dec.{eqb}
@@ -10,8 +10,8 @@ use Rattle.rules.specs.RefusalNumbers.{Got, got, bad, mapG, also}
 use Rattle.rules.specs.Lines.{Form, ignored, wrong, close, eof, keyed}
 use Rattle.rules.specs.Blocks.{elementTable}
 use Rattle.rules.specs.Sets.{Contents, Set, nothingYet}
-use Rattle.rules.specs.VolumesAndTotals.{countedHere, countedAll, layersUsed, partnersExist}
-use Rattle.rules.specs.Machine.{testsPartners, unlimited, Line, State, top, file, drawing, layerNames, defines, symbol, hide, elements, figures, successive, texts, placing, skipping, ended, onTop, onElements, wireBlock, wireUnread}
+use Rattle.rules.specs.VolumesAndTotals.{countedHere}
+use Rattle.rules.specs.Machine.{unlimited, Line, State, top, file, drawing, layerNames, defines, symbol, hide, elements, figures, successive, texts, placing, skipping, ended, onTop, onElements, wireBlock, wireUnread}
 use Rattle.rules.specs.LineByLine.{stepIn, isIgnored, isClose, isEof, completes, nextVolume, Outcome, refused, accepted, thenRun, finish, run}
 use Rattle.rules.specs.Answers.{fullClass}
 use Rattle.rules.specs.Machine.{symbolBlock}
@@ -23,6 +23,7 @@ use Rattle.promises.proofs.InvState.{untaken, TopInv, Over, fileOf, Sta
 use Rattle.promises.proofs.InvHead.{fullEnv, on-top, on-file, on-drawing, on-layers, on-defines, on-symbol, on-hide}
 use Rattle.promises.proofs.InvBody.{on-elements, on-figures, on-successive, on-texts, on-placing, on-skipping}
 use Rattle.promises.proofs.InvWires.{on-wire}
+use Rattle.promises.proofs.OnEof.{on-eof}
 
 -- ── the lines ──
 -- the names that follow the volumes, one for each last line
@@ -86,11 +87,7 @@ ends-top : (l : Line) (s : Set) (k : ℕ) (f : Form) → eqb k 4 ≡ true → (i
 ends-top l s k ignored q e = eqb-true k 4 q
 ends-top l s k (wrong n) q e = clash e refl
 ends-top l s k close q e = clash e refl
-ends-top l s k eof q e =
-    on-unless Ends (eqb k 4 && (isNil (l .next) && l .last)) 9 _ λ _.
-    on-unless Ends (layersUsed s) 14 _ λ _.
-    on-unless Ends (countedAll s) 17 _ λ _.
-    on-unless Ends (not (testsPartners (fullEnv .class) s) || partnersExist s) 21 _ λ _. tt
+ends-top l s k eof q e = on-eof Ends fullEnv l s k λ _. tt
 ends-top l s k (keyed key c) q e = clash e refl
 
 -- one of two tests, whichever the condition asks

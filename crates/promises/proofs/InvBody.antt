@@ -36,7 +36,8 @@ use Rattle.promises.proofs.Good.{Always, none0, GoodChain, GoodText, Go
 use Rattle.promises.proofs.InvRows.{Took, ActTold, read-begin, on-byAct, row-told, on-act, row-all-at, onlyNumbers, entry-numbers, level-by}
 use Rattle.promises.proofs.InvParts.{allNameless, took-set}
 use Rattle.promises.proofs.InvPlaced.{placed-start, placed-enter, placed-begin, text-enter, text-keys, text-opens, text-shut, placed-good}
-use Rattle.promises.proofs.InvState.{WireInv, fileOf, untaken, Working, Over, LayerOpen, figureSerials, FiguresInv, Inv, figures-more, shapes-more, blocks-more, volumes-more, number-more, serial-more, flat-more}
+use Rattle.promises.proofs.InvState.{WireInv, fileOf, untaken, Working, Over, LayerOpen, figureSerials, FiguresInv, Inv, figures-more, shapes-more, blocks-more, volumes-more, number-more, serial-more}
+use Rattle.promises.proofs.Distinct.{flat-more}
 use Rattle.promises.proofs.InvHead.{fullEnv, points-enter}
 use Rattle.promises.proofs.Nameless.{nameless}
 

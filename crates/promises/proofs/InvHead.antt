@@ -34,6 +34,7 @@ use Rattle.promises.proofs.InvParts.{allNameless, took-set, other-kept,
 use Rattle.promises.proofs.InvFile.{FileInv, FileGood, partTable, file-start, file-keys, file-enter, file-begin, file-shut-in, file-shut}
 use Rattle.promises.proofs.InvState.{fileOf, datedIn, Laters, Volumes, untaken, Working, Over, Start, TopInv, DrawingInv, Defining, Making, nameIn, NewName, Points, Inv, points-more, layers-more, symbols-more, fresh-more}
 use Rattle.promises.proofs.Nameless.{nameless}
+use Rattle.promises.proofs.OnEof.{on-eof}
 
 -- the reading at class 15, with no limit of records
 abbrev pub fullEnv : Env
@@ -180,12 +181,9 @@ module _ (done fin : List (List ℕ)) (l : Line) (n : ℕ) (fit : n ≤ 512) (fi
 
   at-eof : (s : Set) (k : ℕ) → TopInv done (l .next) k (untaken s) → On J (atEof fullEnv l s k)
   at-eof s k i =
-      on-unless J (eqb k 4 && (isNil (l .next) && l .last)) 9 _ λ e.
-      on-unless J (layersUsed s) 14 _ λ used.
-      on-unless J (countedAll s) 17 _ λ counted.
-      on-unless J (not (testsPartners fullClass s) || partnersExist s) 21 _ λ partners.
-      let o : Over (done ++ l .next ∷ []) (fileOf s) (untaken s) = subst (λ (k : ℕ). TopInv done (l .next) k (untaken s)) (eqb-true k 4 (and-left (eqb k 4) _ e)) i in
-      rw (fin-is (and-right (isNil (l .next)) _ (and-right (eqb k 4) _ e))) (set-good (done ++ l .next ∷ []) s o used counted partners)
+      on-eof J fullEnv l s k λ m.
+      let o : Over (done ++ l .next ∷ []) (fileOf s) (untaken s) = subst (λ (k : ℕ). TopInv done (l .next) k (untaken s)) (eqb-true k 4 (m .behind)) i in
+      rw (fin-is (and-right (isNil (l .next)) _ (m .last))) (set-good (done ++ l .next ∷ []) s o (m .used) (m .counted) (m .partners))
 
   top-key : (s : Set) (k : ℕ) (key : List ℕ) (c : Rest) → Tells n (keyed key c) → TopInv done (l .next) k (untaken s)
       → On J (byAct (top s k) (λ j v. bad 5) (λ i j v. unless (eqb j k) 9 (openTop fullEnv l s j)) (λ _. bad 9) (act (knownOf s) topTable none0 (rowsAtLimit 0 topTable) (keyed key c)))

@@ -5,6 +5,7 @@ use mathlib.Core.List.{List, [], _∷_}
 use mathlib.Core.Option.{Option, none, some}
 use mathlib.Core.Path.{_≡_, refl, sym, _∙_, ap, subst}
 use native.Mathlib.Omega.{arith}
+use lib.Dec.{ltb}
 use lib.ListN.{length, getD, set, List·getD-map}
 use borrow.Author.Tests.{not-true}
 use Rattle.rules.specs.declared.Digits.{Digits}
@@ -14,6 +15,7 @@ use Rattle.rules.specs.Lines.{Rest, Form, ignored, wrong, close, eof, keyed, Sh
 use Rattle.rules.specs.RangeClass.{reaches}
 use Rattle.rules.specs.Values.{Value, nums, Known, Kind, values, text, word, volumeName, sheet, ratio, serials, wireSerial, nothing, opens, headed, either, readKind, readAll, agree, numsOf}
 use Rattle.rules.specs.Rows.{Rule, Found, absent, found, find, Slots, rowsThere, fits, shapeFor, Act, stay, entry, begin, shut, refuse, orRefuse, innerOf, readShape, actRow, actUnknown, actFound, present, complete, act}
+use Rattle.rules.specs.Figures.{wireTable, wireTextRow}
 use Rattle.rules.specs.Machine.{State, byAct}
 use Rattle.rules.specs.FixedForm.{opensBlock}
 use Rattle.rules.specs.RecordTable.{ruleAt}
@@ -264,6 +266,17 @@ entry-numbers k d full j r x m v o e =
     let kind = and-left (numbersOnly (r .holds)) _ o in
     let (at, c, q) = read-entry k j r (shapeFor r x) m v (w .read) (not-empty (r .holds) (r .may) kind (not-true (r .may) (and-right (numbersOnly (r .holds)) _ o))) (w .fit) in
     read-numbers k (r .holds) at c v kind q
+
+-- a wire's rows before its text, those of elements and those that repeat, are such rows
+abbrev ofNumbers : ℕ → Rule → Bool
+ofNumbers j r = not (ltb j wireTextRow) || onlyNumbers r
+
+wire-numbers : allAt ofNumbers wireTable ≡ true
+unfolding wireTable
+wire-numbers = refl
+
+pub numbers-row : {j : ℕ} {r : Rule} → Row wireTable j r → ltb j wireTextRow ≡ true → onlyNumbers r ≡ true
+numbers-row at low = rw low at (row-all-at ofNumbers at wire-numbers)
 
 -- ── the row that took a value, by its number ──
 pub opened-at : {k : Known} {d : Digits} {t : List Rule} {full : List Bool} {j : ℕ} {v : Value} {o : Bool} {a : Act} → Took k d t full j v o a → opensBlock (ruleAt t j .holds) v ≡ o

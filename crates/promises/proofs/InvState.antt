@@ -257,7 +257,3 @@ number-more s n f e = fresh-number [] s n f e
 pub serial-more : (s ps : List ℕ) → freshNumbers [] s ≡ true → noneOf (ownSerial ps) s ≡ true → freshNumbers [] (s ++ ownSerial ps) ≡ true
 serial-more s [] f e = rw (append-nil s) f
 serial-more s (n ∷ ps) f e = number-more s n f (not-true (hasNumber n s) (and-left (not (hasNumber n s)) _ e))
-
-pub flat-more : {A : Type 0} (f : A → List ℕ) (s : List A) (a : A) → flat (map f (s ++ a ∷ [])) ≡ flat (map f s) ++ f a
-flat-more f [] a = append-nil (f a)
-flat-more f (b ∷ s) a = ap (λ l. f b ++ l) (flat-more f s a) ∙ sym (append-assoc (f b) (flat (map f s)) (f a))

@@ -28,7 +28,7 @@ use Rattle.rules.proofs.Chains.{On, on-unless, on-cond, clash, and-left, and-ri
 use Rattle.rules.proofs.Rows.{Row, here, there, row-all, found-row}
 use Rattle.promises.proofs.Forms.{table-keys, Tells}
 use Rattle.promises.proofs.Good.{Always, none0, GoodSlots, GoodText, GoodLine, GoodEdge, GoodNext, groupFull, GoodGroup, GoodTexts, noneBelow, onceRows, anyLine, anySlot, GoodWire, good-blank}
-use Rattle.promises.proofs.InvRows.{Took, ActTold, isShut, row-shuts, row-told, on-act, onlyNumbers, entry-numbers, allAt, row-all-at, open-at, opened-at, level-by, good-set, slot-set}
+use Rattle.promises.proofs.InvRows.{Took, ActTold, isShut, row-shuts, row-told, on-act, entry-numbers, numbers-row, open-at, opened-at, level-by, good-set, slot-set}
 use Rattle.promises.proofs.InvParts.{allNameless, took-set}
 use Rattle.promises.proofs.InvState.{Inv, WireInv, figureSerials}
 use Rattle.promises.proofs.InvHead.{fullEnv}
@@ -38,26 +38,15 @@ use Rattle.promises.proofs.Edges.{behind-more, once-alone, element-firs
 use Rattle.promises.proofs.ServedWires.{wires-known}
 
 -- ── the line of an element, or of a row that repeats: numbers alone ──
-abbrev ofNumbers : ℕ → Rule → Bool
-ofNumbers j r = not (ltb j wireTextRow) || onlyNumbers r
-
-wire-rows : (allAt ofNumbers wireTable ≡ true) × (allNameless wireTable ≡ true)
+wire-nameless : allNameless wireTable ≡ true
 unfolding wireTable
-wire-rows = (refl, refl)
-
-numbers-row : (j : ℕ) (r : Rule) → ofNumbers j r ≡ true → ltb j wireTextRow ≡ true → onlyNumbers r ≡ true
-numbers-row j r e q = go (ltb j wireTextRow) q e
-  where
-    go : (b : Bool) → b ≡ true → (not b || onlyNumbers r) ≡ true → onlyNumbers r ≡ true
-    go true q e = e
-    go false q e = clash q refl
+wire-nameless = refl
 
 numbers-line : (s : Set) (w : Wire) (j : ℕ) (v : Value) → Took (knownOf s) (wiresOf s) wireTable (wireFull w) j v false (entry j v) → ltb j wireTextRow ≡ true
     → GoodLine (Always (wiresOf s)) wireTable j (numsOf v)
 numbers-line s w j v t low =
-    let only = numbers-row j (t .rule) (row-all-at ofNumbers (t .row) (wire-rows .0)) low in
-    let e = entry-numbers (knownOf s) (wiresOf s) (getD (wireFull w) j false) j (t .rule) (t .rest) j v only (t .from) in
-    record { rule = t .rule; row = t .row; good = rw e (t .always (row-all (λ r. nameless (r .holds)) (t .row) (wire-rows .1))); alone = rw e (t .opened-is) }
+    let e = entry-numbers (knownOf s) (wiresOf s) (getD (wireFull w) j false) j (t .rule) (t .rest) j v (numbers-row (t .row) low) (t .from) in
+    record { rule = t .rule; row = t .row; good = rw e (t .always (row-all (λ r. nameless (r .holds)) (t .row) wire-nameless)); alone = rw e (t .opened-is) }
 
 -- ── one more of what a wire has ──
 group-more : (d : Digits) (j : ℕ) (before vs : List (List Num)) (v : List Num) → GoodGroup d j before vs → GoodNext d j (before ++ vs) v
@@ -152,7 +141,7 @@ module _ (s : Set) (fs : List Figure) (w : Wire) (i : WireInv (wireRange s) (ser
               elements = i .holds .elements;
               groups = i .holds .groups;
               texts = i .holds .texts;
-              own = good-set (Always d) (t .row) (w .own) v (i .holds .own) (t .always (row-all (λ r. nameless (r .holds)) (t .row) (wire-rows .1)));
+              own = good-set (Always d) (t .row) (w .own) v (i .holds .own) (t .always (row-all (λ r. nameless (r .holds)) (t .row) wire-nameless));
               once = none-set onceRows j (w .own) v l (i .holds .once);
             };
         writing = (i .writing .0, sym (rw (any-set (Always d) (t .row) (w .own) v (i .holds .own)) (or-true (anyLine (w .groups) || not (isNil (w .texts))))));

@@ -20,8 +20,8 @@ use Rattle.rules.specs.Rows.{Rule, row, blank, Held, partOf, rowsThere, rowsAtL
 use Rattle.rules.specs.Blocks.{topTable, fileTable, rangeTable, baseTable, elecTable, symTable, laterTable, fileTables, drawingTable, mostLayers, definesTable, symbolTable, blankHeld}
 use Rattle.rules.specs.Figures.{figureTable, pointTable, textTable}
 use Rattle.rules.specs.Sets.{Point, Layer, Drawing, Symbol, Set, withNow, withDrawing, withRecords, withLayer, symbolOwn, isFirst, arcOf, defineRange, knownOf}
-use Rattle.rules.specs.VolumesAndTotals.{chained, dated, countedAll, layersUsed, partnersExist}
-use Rattle.rules.specs.Machine.{testsPartners, Line, Env, inElement, State, top, file, drawing, layerNames, defines, symbol, hide, figures, ended, byAct, roomFor, taking, openTop, onTop, closeFile, shutPart, onFile, onDrawing, layerValue, onLayerNames, onDefines, newName, openSymbol, onSymbol, pointAt, onHide}
+use Rattle.rules.specs.VolumesAndTotals.{chained, dated}
+use Rattle.rules.specs.Machine.{Line, Env, inElement, State, top, file, drawing, layerNames, defines, symbol, hide, figures, byAct, roomFor, taking, openTop, onTop, closeFile, shutPart, onFile, onDrawing, layerValue, onLayerNames, onDefines, newName, openSymbol, onSymbol, pointAt, onHide}
 use Rattle.rules.specs.Sets.{layerTableOf}
 use Rattle.rules.specs.Machine.{fileKinds}
 use Rattle.rules.proofs.Chains.{On, on-unless, on-then, clash, and-left, and-right, all-weaken, total-more}
@@ -32,6 +32,7 @@ use Rattle.promises.proofs.Costs.{depth, First, closed-least, closed-fi
 use Rattle.promises.proofs.RowGood.{layer-good}
 use Rattle.promises.proofs.LengthRows.{open-line, Took, slots-took, held-took, heads, head-took, nums-took, on-act}
 use Rattle.promises.proofs.Nameless.{nameless, line-any}
+use Rattle.promises.proofs.OnEof.{on-eof}
 
 -- ── tables whose rows name nothing ──
 abbrev plainRule : Rule → Bool
@@ -168,14 +169,7 @@ module _ (K : Known) (n : ℕ) where
   top-next e l s k ignored ok tells = (ok, omega arith)
   top-next e l s k (wrong m) ok tells = tt
   top-next e l s k close ok tells = tt
-  top-next e l s k eof ok tells =
-      let P : State → Type 0 = Next K (top s k) n in
-      let met = not (testsPartners (e .class) s) || partnersExist s in
-      let end : Got State = unless met 21 (got (ended s)) in
-      on-unless P (eqb k 4 && (isNil (l .next) && l .last)) 9 (unless (layersUsed s) 14 (unless (countedAll s) 17 end)) λ _.
-      on-unless P (layersUsed s) 14 (unless (countedAll s) 17 end) λ _.
-      on-unless P (countedAll s) 17 end λ _.
-      on-unless P met 21 (got (ended s)) λ _. (tt, omega (arith, closed-least K s k))
+  top-next e l s k eof ok tells = on-eof (Next K (top s k) n) e l s k λ _. (tt, omega (arith, closed-least K s k))
   top-next e l s k (keyed key c) ok tells =
       on-plain (Next K (top s k) n) _ _ _ _ (knownOf s) (digits 0 0) topTable (rowsAtLimit 0 topTable) (keyed key c) (plain-tables true 0 0 .0) tells
       (ok, omega arith)

@@ -1,6 +1,6 @@
 -- One line in a wire: what there is to write grows by no more than the line.
 use Prim.Native.Nat.{ℕ, zero, suc, _+_, _-_, _≤_}
-use mathlib.Core.Bool.{Bool, true, false, cond, _&&_, _||_, not}
+use mathlib.Core.Bool.{Bool, true, false, cond, _&&_}
 use mathlib.Core.List.{List, [], _∷_, _++_}
 use mathlib.Core.Option.{some}
 use mathlib.Core.Path.{_≡_, refl, sym, subst}
@@ -19,32 +19,29 @@ use Rattle.rules.specs.RecordTable.{kindEdge, ruleAt}
 use Rattle.rules.specs.FixedForm.{lineOf}
 use Rattle.rules.specs.PlacedSymbol.{bySkip, skipDeeper}
 use Rattle.rules.specs.Wires.{joinsEnds, lastEdge, joinOf, joined, withElement, pastElements, groupAt, withGroups, withOnce, withTexts, withAttribute, wireFull, isElementRow, numsAlike, newNumber, onElement, onAttribute, onWireAct, onWireUnknown, onWireKey, onWireOwn, onWireText, onWire}
-use Rattle.rules.proofs.Chains.{On, on-unless, on-cond, clash, same-eq, total-more}
+use Rattle.rules.proofs.Chains.{On, on-unless, on-cond, clash, and-left, same-eq, total-more}
 use Rattle.rules.proofs.Rows.{Row, found-row, row-all}
 use Rattle.promises.proofs.Forms.{Told, keyOk, table-keys}
 use Rattle.promises.proofs.RowGood.{numbersOnly}
 use Rattle.promises.proofs.Weights.{edgeCost, textCost, onward, groups-more, blank-cost}
 use Rattle.promises.proofs.Costs.{Next}
-use Rattle.promises.proofs.InvRows.{allAt, row-all-at}
+use Rattle.promises.proofs.InvRows.{numbers-row}
 use Rattle.promises.proofs.LengthRows.{Took, row-took, slots-took, heads, head-took, on-row, on-unknown}
 use Rattle.promises.proofs.LengthBlocks.{plain-tables, on-taking, on-plain}
 use Rattle.promises.proofs.LengthFigures.{figure-more}
 use Rattle.promises.proofs.Edges.{full-once, once-alone, element-first}
 
--- the rows of elements and those that repeat hold numbers alone
-abbrev ofNumbers : ℕ → Rule → Bool
-ofNumbers j r = not (ltb j wireTextRow) || numbersOnly (r .holds)
-
 -- the opening line of a text
 abbrev textHead : ℕ → ℕ
 textHead i = 6
 
-wire-rows : (allAt ofNumbers wireTable ≡ true) × (heads textHead wireTable ≡ true)
+wire-heads : heads textHead wireTable ≡ true
 unfolding wireTable
-wire-rows = (refl, refl)
+wire-heads = refl
 
-numbers-row : {j : ℕ} {r : Rule} → Row wireTable j r → ltb j wireTextRow ≡ true → numbersOnly (r .holds) ≡ true
-numbers-row {j} {r} at low = rw low at (row-all-at ofNumbers at (wire-rows .0))
+-- the rows of elements and those that repeat hold numbers alone
+of-numbers : {j : ℕ} {r : Rule} → Row wireTable j r → ltb j wireTextRow ≡ true → numbersOnly (r .holds) ≡ true
+of-numbers {j} {r} at low = and-left (numbersOnly (r .holds)) _ (numbers-row at low)
 
 module _ (K : Known) (n : ℕ) (e : Env) (l : Line) (s : Set) (h : ℕ) (fs : List Figure) (m : ℕ) (w : Wire) where
   abbrev P : State → Type 0
@@ -59,7 +56,7 @@ module _ (K : Known) (n : ℕ) (e : Env) (l : Line) (s : Set) (h : ℕ) (fs : Li
       let former = lastEdge (w .elements) in
       let ends = joinsEnds (joinDigit s) in
       let new : Edge = record { line = l .line; row = j; values = numsOf v; join = joinOf ends former j } in
-      let numbers = numbers-row at (element-first j low) in
+      let numbers = of-numbers at (element-first j low) in
       on-unless P (joined ends former j (numsOf v)) 11 _ λ _.
       on-taking P e ((kindEdge + j) ∷ []) s (λ s′. placing s′ h fs m (wireBlock (withElement w new)) 0)
       (tt, omega (arith, total-more (edgeCost (knownOf s)) (w .elements) new, row-took at numbers (knownOf s) _ v n false u))
@@ -68,7 +65,7 @@ module _ (K : Known) (n : ℕ) (e : Env) (l : Line) (s : Set) (h : ℕ) (fs : Li
   group-next : (j i : ℕ) (r : Rule) (v : Value) → Row wireTable j r → ltb j wireTextRow ≡ true → onward firstGroupRow i ≡ j → TookRow j r v false
       → P (placing s h fs m (wireBlock (withGroups (set (w .groups) i (getD (w .groups) i [] ++ numsOf v ∷ [])) w)) 0)
   group-next j i r v at low q u =
-      let line : length (lineOf (knownOf s) (ruleAt wireTable (onward firstGroupRow i)) (nums (numsOf v))) ≤ n = rw q (row-took at (numbers-row at low) (knownOf s) _ v n false u) in
+      let line : length (lineOf (knownOf s) (ruleAt wireTable (onward firstGroupRow i)) (nums (numsOf v))) ≤ n = rw q (row-took at (of-numbers at low) (knownOf s) _ v n false u) in
       (tt, omega (arith, groups-more (knownOf s) (w .groups) firstGroupRow i (numsOf v), line))
 
   once-next : (j : ℕ) (r : Rule) (v : Value) → Row wireTable j r → wireTextRow ≤ j → TookRow j r v false
@@ -97,7 +94,7 @@ module _ (K : Known) (n : ℕ) (e : Env) (l : Line) (s : Set) (h : ℕ) (fs : Li
   -- ── its text opens, the wire closes ──
   text-opens : (j : ℕ) (r : Rule) (v : Value) → Row wireTable j r → TookRow j r v true
       → P (placing s h fs m (wireBlock (withTexts (w .texts) (blank wireTextTable) w)) 1)
-  text-opens j r v at u = (tt, omega (arith, head-took textHead at (wire-rows .1) (knownOf s) _ v n u, blank-cost (knownOf s) wireTextTable))
+  text-opens j r v at u = (tt, omega (arith, head-took textHead at wire-heads (knownOf s) _ v n u, blank-cost (knownOf s) wireTextTable))
 
   wire-shuts : 1 ≤ n → P (figures s (inLayer h) (fs ++ wired m w ∷ []))
   wire-shuts one = (tt, omega (arith, figure-more K n s (inLayer h) fs (wired m w)))

@@ -68,6 +68,7 @@ pub mod LowerWires
 pub mod LowerWitness
 pub mod Nameless
 pub mod Numbers
+pub mod OnEof
 pub mod OnWires
 pub mod OneCall
 pub mod OwnNumbers

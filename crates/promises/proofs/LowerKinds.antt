@@ -19,14 +19,15 @@ use Rattle.rules.specs.Rows.{Rule, Found, absent, found, find, Slots, Held, par
 use Rattle.rules.specs.Blocks.{topTable, fileTables, drawingTable, mostLayers, definesTable, symbolTable, elementTable}
 use Rattle.rules.specs.Figures.{layerTable, pointTable, textTable, placedTable, placedTables, wireTable, wireTextTable, firstGroupRow, leastPoints}
 use Rattle.rules.specs.Sets.{Point, Edge, Wire, Figure, plain, chain, lettering, placed, wired, passed, Drawing, Symbol, Contents, Set, symbolOwn, isFirst, isSingle, isWired, arcOf, rangeOf, defineRange, joinDigit, wiresOf, knownOf, usedIn}
-use Rattle.rules.specs.VolumesAndTotals.{chained, dated, countedHere, countedAll, layersUsed, partnersExist}
-use Rattle.rules.specs.Machine.{Line, Env, Home, inElement, inLayer, State, top, file, drawing, layerNames, defines, symbol, hide, elements, figures, successive, texts, placing, skipping, ended, symbolBlock, wireBlock, wireUnread, Owned, byAct, beginWire, testsPartners, openTop, onTop, onFile, onDrawing, layerValue, onLayerNames, newName, openSymbol, onSymbol, onDefines, onHide, onElements, isLayer, homeTable, closeFigures, openFigure, onFigures, onSuccessive, onTexts, fileKinds}
+use Rattle.rules.specs.VolumesAndTotals.{chained, dated, countedHere}
+use Rattle.rules.specs.Machine.{Line, Env, Home, inElement, inLayer, State, top, file, drawing, layerNames, defines, symbol, hide, elements, figures, successive, texts, placing, skipping, ended, symbolBlock, wireBlock, wireUnread, Owned, byAct, beginWire, openTop, onTop, onFile, onDrawing, layerValue, onLayerNames, newName, openSymbol, onSymbol, onDefines, onHide, onElements, isLayer, homeTable, closeFigures, openFigure, onFigures, onSuccessive, onTexts, fileKinds}
 use Rattle.rules.specs.PlacedSymbol.{onUnknown, newSerial, onPlaced, onPlacedKey, onPlacedOwn, onPlacing, skipShut, onSkipping}
 use Rattle.rules.specs.Wires.{joined, joinsEnds, lastEdge, groupAt, isGroupRow, wireFull, isElementRow, onElement, numsAlike, newNumber, onAttribute, onWireAct, onWireUnknown, onWireKey, onWire}
 use Rattle.rules.specs.LineByLine.{stepIn, completes, nextVolume, step}
 use Rattle.rules.proofs.Chains.{and-left, and-right, and-true, by-cond, On, on-unless, on-cond, on-map, on-then, on-also, on-weaken, all-append}
 use Rattle.rules.proofs.Rows.{found-row, row-below}
 use Rattle.rules.proofs.OnActs.{on-byAct, on-taking, on-shut, on-skip}
+use Rattle.promises.proofs.OnEof.{on-eof}
 use Rattle.promises.proofs.LowerRows.{RowAct, row-act, entered, opened, refused}
 
 -- ── what stands where ──
@@ -154,11 +155,7 @@ module _ (e : Env) (l : Line) where
   rows-top s k ignored i = i
   rows-top s k (wrong n) i = tt
   rows-top s k close i = tt
-  rows-top s k eof i =
-      on-unless Kinds (eqb k 4 && (isNil (l .next) && l .last)) 9 _ λ _.
-      on-unless Kinds (layersUsed s) 14 _ λ _.
-      on-unless Kinds (countedAll s) 17 _ λ _.
-      on-unless Kinds (not (testsPartners (e .class) s) || partnersExist s) 21 _ λ _. i
+  rows-top s k eof i = on-eof Kinds e l s k λ _. i
   rows-top s k (keyed key c) i =
       on-byAct Kinds _ _ _ _ (act (knownOf s) topTable (digits 0 0) (rowsAtLimit 0 topTable) (keyed key c)) i (λ j v. tt)
       (λ m j v b. on-unless Kinds (eqb j k) 9 _ λ _. rows-open s j i) tt

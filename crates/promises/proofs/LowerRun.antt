@@ -2,7 +2,7 @@
 -- One line goes without a limit first, where the count is not looked at. With the limit it goes too, since the lower class shows no more
 -- records than the higher, and each has taken what it shows.
 use Prim.Native.Nat.{ℕ, zero, suc, _≤_}
-use mathlib.Core.Bool.{Bool, true, false, cond, _&&_, _||_, not}
+use mathlib.Core.Bool.{Bool, true, false, cond, _&&_, _||_}
 use mathlib.Core.List.{List, [], _∷_}
 use mathlib.Core.Path.{_≡_, refl, sym, _∙_, ap, subst}
 use native.Mathlib.Omega.{arith}
@@ -14,13 +14,12 @@ use Rattle.rules.specs.RefusalNumbers.{Got, got, bad, mapG, also}
 use Rattle.rules.specs.Lines.{Form, ignored, wrong, close, eof, keyed}
 use Rattle.rules.specs.RangeClass.{hides, knowsWires, knowsSerials}
 use Rattle.rules.specs.Sets.{Wire, Figure, Set, nothingYet, rangeOf, wiresOf}
-use Rattle.rules.specs.VolumesAndTotals.{countedAll, layersUsed, partnersExist}
-use Rattle.rules.specs.Machine.{Line, inLastVolume, Env, unlimited, limitedTo, State, top, file, drawing, layerNames, defines, symbol, hide, elements, figures, successive, texts, placing, skipping, ended, setOf, testsPartners, atEof, onTop}
+use Rattle.rules.specs.Machine.{Line, inLastVolume, Env, unlimited, limitedTo, State, top, file, drawing, layerNames, defines, symbol, hide, elements, figures, successive, texts, placing, skipping, ended, setOf, atEof, onTop}
 use Rattle.rules.specs.LineByLine.{stepIn, Stage, between, withinElement, withinOther, atEnd, stageOf, isWithinElement, isAfterElement, inElements, afterElements, isIgnored, isClose, isEof, completes, begunAnew, nextVolume, step, refused, accepted, thenRun, finish, run}
 use Rattle.rules.specs.Machine.{symbolBlock, wireBlock, wireUnread}
 use Rattle.rules.specs.Wires.{pastElements, onWireText, onWire}
 use Rattle.rules.proofs.Runs.{not-accepted, finish-ended}
-use Rattle.rules.proofs.Chains.{and-left, and-right, or-true, clash, by-cond, never, unless-got, map-got, also-got, cond-true, on-got}
+use Rattle.rules.proofs.Chains.{and-left, and-right, or-true, clash, by-cond, never, map-got, also-got, cond-true, on-got}
 use Rattle.promises.specs.DemandThree.{ClassNotAbove}
 use Rattle.promises.proofs.Lower.{knows-up, textLeast, wireTextLeast, lowerRead, rangesOf, lowerFigures, lowerSet, lowerText, readOn, skipsOn, lowerPlacing, lower, Goes, via, count-via}
 use Rattle.promises.proofs.LowerSteps.{sim-top, sim-file, sim-drawing, sim-layerNames, sim-defines, sim-symbol, sim-hide, sim-elements, sim-figures, sim-successive, sim-texts, sim-skipping}
@@ -31,6 +30,7 @@ use Rattle.promises.proofs.LowerCount.{fewer}
 use Rattle.promises.proofs.LowerKinds.{Rows, Kinds, rows-step}
 use Rattle.promises.proofs.CountState.{Inv}
 use Rattle.promises.proofs.Count.{inv-start, inv-step}
+use Rattle.promises.proofs.OnEof.{on-eof}
 use Rattle.promises.proofs.Limits.{alike-step, goes-unlimited, goes-limited}
 
 -- ── one line ──
@@ -171,22 +171,17 @@ last-ends e l s s′ p q h =
     let (t, z) = ends s u (cond-true (isNil (l .next)) (afterElements s && isEof (l .form)) ((inElements s && isClose (l .form)) || (afterElements s && isIgnored (l .form))) true q c) d in
     (t, sym b ∙ ap nextVolume z)
   where
-    at-eof : (s : Set) (k : ℕ) (u : State) → atEof e l s k ≡ got u → (t : Set) × (u ≡ ended t)
-    at-eof s k u h =
-        let a = unless-got (eqb k 4 && (isNil (l .next) && l .last)) 9 _ u h in
-        let b = unless-got (layersUsed s) 14 _ u (a .1) in
-        let c = unless-got (countedAll s) 17 _ u (b .1) in
-        let f = unless-got (not (testsPartners (e .class) s) || partnersExist s) 21 _ u (c .1) in
-        (s, let z : ended s ≡ u = cc in sym z)
+    Over : State → Type 0
+    Over u = (t : Set) × (u ≡ ended t)
 
-    at-top : (s : Set) (k : ℕ) (u : State) (f : Form) → (eqb k 4 && isEof f) ≡ true → onTop e l s k f ≡ got u → (t : Set) × (u ≡ ended t)
+    at-top : (s : Set) (k : ℕ) (u : State) (f : Form) → (eqb k 4 && isEof f) ≡ true → onTop e l s k f ≡ got u → Over u
     at-top s k u ignored c d = clash (and-right (eqb k 4) _ c) refl
     at-top s k u (wrong n) c d = clash (and-right (eqb k 4) _ c) refl
     at-top s k u close c d = clash (and-right (eqb k 4) _ c) refl
-    at-top s k u eof c d = at-eof s k u d
+    at-top s k u eof c d = on-got Over (atEof e l s k) u (on-eof Over e l s k λ _. (s, refl)) d
     at-top s k u (keyed y x) c d = clash (and-right (eqb k 4) _ c) refl
 
-    ends : (s u : State) → (afterElements s && isEof (l .form)) ≡ true → stepIn e l s ≡ got u → (t : Set) × (u ≡ ended t)
+    ends : (s u : State) → (afterElements s && isEof (l .form)) ≡ true → stepIn e l s ≡ got u → Over u
     ends (top s k) u c d = at-top s k u (l .form) c d
     ends (file s n h p) u c d = clash c refl
     ends (drawing s v) u c d = clash c refl

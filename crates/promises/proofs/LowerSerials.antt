@@ -10,19 +10,20 @@ use borrow.Author.Tests.{not-true}
 use Rattle.rules.specs.declared.Digits.{Digits}
 use Rattle.rules.specs.declared.Class.{Class}
 use Rattle.rules.specs.Base.{all, flat, hasNumber}
-use Rattle.rules.specs.RefusalNumbers.{got, mapG}
+use Rattle.rules.specs.RefusalNumbers.{got}
 use Rattle.rules.specs.RangeClass.{digits, hides, knowsWires, knowsSerials}
 use Rattle.rules.specs.Values.{Value, serialsOf}
 use Rattle.rules.specs.Rows.{Held, partOf, slotValue, held}
 use Rattle.rules.specs.Figures.{placedTable, wireTable, wireSerialRow}
 use Rattle.rules.specs.Sets.{Wire, Figure, plain, chain, lettering, placed, wired, passed, LayerBlock, Contents, Set, rangeOf, wiresOf, ownSerial, ownNumber, figureSerial, figurePartners, wirePartners, serialsOfBlock, serialsOfVolume, serialsIn}
 use Rattle.rules.specs.VolumesAndTotals.{countedAll, layersUsed, partnersExist}
-use Rattle.rules.specs.Machine.{Line, inLastVolume, unlimited, State, pastElement, testsPartners, atEof}
+use Rattle.rules.specs.Machine.{Line, unlimited, State, testsPartners, atEof}
 use Rattle.rules.specs.PlacedSymbol.{noneOf, numbersSoFar, newSerial}
 use Rattle.rules.specs.Wires.{newNumber}
-use Rattle.rules.proofs.Chains.{and-left, and-right, and-true, or-true, clash, unless-got, map-compose, map-same}
+use Rattle.rules.proofs.Chains.{and-left, and-right, and-true, or-true, clash, on-got, map-compose, map-same}
 use Rattle.rules.proofs.Rows.{here, there}
 use Rattle.promises.specs.DemandThree.{ClassNotAbove}
+use Rattle.promises.proofs.OnEof.{on-eof}
 use Rattle.promises.proofs.Lower.{reaches-up, known-shows, lowerHeld, lowerRead, rangesOf, lowerFigure, lowerFigures, lowerBlock, lowerContents, lowerIn, lowerSet, lower, mask-at, part-own, file-same, totals-same, all-used-same}
 
 -- ── own serial numbers: the lower class has read no other ones ──
@@ -188,12 +189,12 @@ module _ (low high : Class) (le : ClassNotAbove low high) (reads : knowsSerials 
 
   pub sim-eof : (l : Line) (s : Set) (k : ℕ) (s′ : State) → atEof (unlimited high) l s k ≡ got s′ → atEof (unlimited low) l (lowerSet took low s) k ≡ got (lower took low s′)
   sim-eof l s k s′ e =
-      let a = unless-got (eqb k pastElement && (inLastVolume l && l .last)) 9 _ s′ e in
-      let b = unless-got (layersUsed s) 14 _ s′ (a .1) in
-      let c = unless-got (countedAll s) 17 _ s′ (b .1) in
-      let f = unless-got (not (testsPartners high s) || partnersExist s) 21 _ s′ (c .1) in
-      rw (a .0, used ∙ b .0, counted ∙ c .0, found-too s (f .0)) (ap (mapG (lower took low)) (f .1))
+      on-got Sim (atEof (unlimited high) l s k) s′
+      (on-eof Sim (unlimited high) l s k λ m. rw (m .behind, m .last, used ∙ m .used, counted ∙ m .counted, found-too s (m .partners))) e
     where
+      Sim : State → Type 0
+      Sim u = atEof (unlimited low) l (lowerSet took low s) k ≡ got (lower took low u)
+
       used : layersUsed (lowerSet took low s) ≡ layersUsed s
       used = simp all-used-same
 

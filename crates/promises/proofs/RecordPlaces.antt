@@ -22,7 +22,7 @@ use Rattle.rules.specs.RecordTable.{numbers, numbersOf, stateOf, columns, first
 use Rattle.rules.specs.RecordTable.{View, viewOf, plainView, width, twoOf, wireStart, placeElements, placeJoinDigit, Shelf, shelves, stateOfMany, shownLines, putGroup, putGroups, placeTexts, placeTextState, firstText, textShown, textNumbers, putTexts, wireValues}
 use Rattle.rules.proofs.Chains.{and-left, and-right, clash, cond-same, map-append}
 use Rattle.promises.specs.PlacesApart.{bareValue, bareSlots, bareHeld, barePoint, bareFigure, bareLayer, bareDrawing, bareSymbol, bareBlock, bareContents, bareSet, textPlaces, kindOf, without, placesApart, bareEdge, bareWire}
-use Rattle.promises.proofs.Bare.{part-bare, range-bare, single-bare, wire-bare, wired-bare}
+use Rattle.promises.proofs.Bare.{part-bare, first-text-bare, range-bare, single-bare, wire-bare, wired-bare}
 use Rattle.promises.proofs.FitSets.{isText, isShown, anyText, FitSlot, FitSlots, FitHeld, Each, FitFigure, FitSymbol, FitBlock, FitContents, FitVolumes, FitSet, FitWire}
 use Rattle.promises.proofs.FitRows.{fit-nil}
 use Rattle.promises.proofs.Weights.{onward}
@@ -377,10 +377,6 @@ second-of t l e =
     ap (λ k. without (isPlace k) (drop 32 t)) e
     ∙ without-agree 32 (isPlace 19) (shifted 32 isTwo) (drop 32 t) (omega (arith, length-drop 32 t)) refl ∙ sym (drop-without 32 isTwo t)
 
-first-text : (ss : List Slots) → firstText (map bareSlots ss) ≡ bareSlots (firstText ss)
-first-text [] = refl
-first-text (s ∷ ss) = refl
-
 first-fits : (ss : List Slots) → Each (FitSlots anyText wireTextTable) ss → FitSlots anyText wireTextTable (firstText ss)
 first-fits [] g = fit-nil anyText wireTextTable
 first-fits (s ∷ ss) g = g .0
@@ -396,7 +392,7 @@ texts-apart : (ss : List Slots) (t u : List ℤ) → Each (FitSlots anyText wire
     → without isTwo (putTexts ss t) ≡ without isTwo (putTexts (map bareSlots ss) u)
 texts-apart ss t u f e =
     let n = pos (length ss) in
-    rw (length-map ss bareSlots, first-text ss)
+    rw (length-map ss bareSlots, first-text-bare ss)
     (set-same isTwo (sets t placeTexts (n ∷ textNumbers (firstText ss))) (sets u placeTexts (n ∷ textNumbers (bareSlots (firstText ss)))) placeTextState (stateOfMany (length ss))
     (sets-apart isTwo (n ∷ textNumbers (firstText ss)) (n ∷ textNumbers (bareSlots (firstText ss))) t u placeTexts
     (ap (λ zs. n ∷ zs) (text-numbers (firstText ss) (first-fits ss f))) e))

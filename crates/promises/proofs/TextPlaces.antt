@@ -13,7 +13,7 @@ use Rattle.rules.specs.RecordTable.{firstText}
 use Rattle.rules.proofs.Chains.{map-same}
 use Rattle.promises.specs.PlacesApart.{bareSlots, barePoint, bareFigure, bareLayer, bareDrawing, bareSymbol, bareBlock, bareContents, bareSet, bareEdge, bareWire}
 use Rattle.promises.specs.TextsKept.{Kept, keptAt, headerKept, fileKept, drawingKept, layerKept, pointKept, figureKept, symbolKept, blockKept, bodyKept, laterKept, keptFrom, textsKept, edgeKept, wireKept, figureTexts, blockTexts, volumeTexts, textsOfWires}
-use Rattle.promises.proofs.Bare.{chars-bare, held-bare, part-bare, name-bare}
+use Rattle.promises.proofs.Bare.{chars-bare, held-bare, part-bare, first-text-bare, name-bare}
 
 text-bare : (k : S.String) (t : List Rule) (s : Slots) → keptAt k t (bareSlots s) ≡ keptAt k t s
 text-bare k t s = ap charsOf (held-bare k t s) ∙ chars-bare (slotValue (held k t s))
@@ -24,12 +24,8 @@ flat-same g f e s = ap flat (map-same g f e s)
 points-bare : (ps : List Point) → map pointKept (map barePoint ps) ≡ map pointKept ps
 points-bare ps = map-same pointKept barePoint (λ p. refl) ps
 
-first-bare : (ss : List Slots) → firstText (map bareSlots ss) ≡ bareSlots (firstText ss)
-first-bare [] = refl
-first-bare (s ∷ ss) = refl
-
 wire-bare : (w : Wire) → wireKept (bareWire w) ≡ wireKept w
-wire-bare w = rw (first-bare (w .texts), text-bare "character" wireTextTable (firstText (w .texts)), text-bare "circuit" wireTable (w .own))
+wire-bare w = rw (first-text-bare (w .texts), text-bare "character" wireTextTable (firstText (w .texts)), text-bare "circuit" wireTable (w .own))
 
 figure-bare : (more : ℕ) (f : Figure) → figureKept more (bareFigure f) ≡ figureKept more f
 figure-bare more (plain n j v) = refl

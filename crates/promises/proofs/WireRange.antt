@@ -22,11 +22,12 @@ use Rattle.rules.specs.Machine.{Line, Env, Home, inElement, inLayer, State, top
 use Rattle.rules.specs.PlacedSymbol.{onUnknown, newSerial, onPlaced, onPlacedKey, onPlacing, skipShut, onSkipping}
 use Rattle.rules.specs.Wires.{joined, joinsEnds, lastEdge, onWire}
 use Rattle.rules.specs.LineByLine.{stepIn, isIgnored, isClose, isEof, completes, nextVolume, step, accepted, thenRun, run}
-use Rattle.rules.proofs.Chains.{and-false, or-left, clash, by-cond, cond-same, On, on-unless, on-cond, on-map, on-then, on-also, on-got, nil-snoc}
+use Rattle.rules.proofs.Chains.{and-false, clash, by-cond, cond-same, On, on-unless, on-cond, on-map, on-then, on-also, on-got, nil-snoc}
 use Rattle.rules.proofs.OnActs.{on-byAct, on-taking, on-shut, on-skip}
 use Rattle.rules.proofs.Runs.{not-accepted, finish-ended, head-snoc, head-file}
 use Rattle.promises.specs.WireParts.{goOn, readUpTo}
-use Rattle.promises.proofs.Count.{both-left, on-close, on-eof}
+use Rattle.promises.proofs.Count.{both-left, closing, on-close}
+use Rattle.promises.proofs.OnEof.{on-eof}
 use Rattle.promises.proofs.OnWires.{on-wire}
 
 -- E_wire of a FILE_FORMAT isn't 000
@@ -102,7 +103,7 @@ module _ (e : Env) (l : Line) (s : Set) where
   range-top k ignored i = (i, as-before)
   range-top k (wrong n) i = tt
   range-top k close i = tt
-  range-top k eof i = on-eof e l P s k (λ _ _. (tt, as-before))
+  range-top k eof i = on-eof P e l s k (λ _. (tt, as-before))
   range-top k (keyed key c) i =
       on-byAct P _ _ _ _ (act (knownOf s) topTable (digits 0 0) (rowsAtLimit 0 topTable) (keyed key c)) (i, as-before) (λ j v. tt)
       (λ m j v b. on-unless P (eqb j k) 9 _ λ q. rw (eqb-true j k q) (range-open k i)) tt
@@ -259,7 +260,7 @@ module _ (e : Env) (l : Line) (s : Set) where
   last-top k ignored q i = (λ f. clash f (past-first s k (both-left (isNil (l .next)) (eqb k 4) false true q) i), as-before)
   last-top k (wrong n) q i = tt
   last-top k close q i = tt
-  last-top k eof q i = on-eof e l Anew s k (λ _ _. (tt, as-before))
+  last-top k eof q i = on-eof Anew e l s k (λ _. (tt, as-before))
   last-top k (keyed key c) q i = clash q (rw (and-false (eqb k 4)) (cond-same (isNil (l .next)) false))
 
   last-element : (f : Form) → isClose f ≡ true → On Anew (onElements s f)
@@ -299,10 +300,6 @@ module _ (e : Env) (l : Line) where
   range-last (symbol s y) q i = clash q (cond-same (isNil (l .next)) false)
   range-last (hide s y ps) q i = clash q (cond-same (isNil (l .next)) false)
   range-last (elements s) q i = last-element e l s (l .form) (closing (isNil (l .next)) (isClose (l .form)) q)
-    where
-      closing : (b c : Bool) → cond b false (c || false) ≡ true → c ≡ true
-      closing true c q = clash q refl
-      closing false c q = or-left c false refl q
   range-last (figures s h fs) q i = clash q (cond-same (isNil (l .next)) false)
   range-last (successive s h fs n ps) q i = clash q (cond-same (isNil (l .next)) false)
   range-last (texts s h fs n o) q i = clash q (cond-same (isNil (l .next)) false)

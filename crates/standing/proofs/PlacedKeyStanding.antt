@@ -1,7 +1,7 @@
 -- A line of a key that the class knows, directly in a placed symbol: from the code's answer to the step that the definitions make.
 use Prim.Native.Nat.{ℕ, _≤_, _<_}
 use mathlib.Core.Bool.{Bool, true, false, cond, _&&_, not}
-use mathlib.Core.List.{List, [], _∷_}
+use mathlib.Core.List.{List, []}
 use mathlib.Core.Option.{Option, none, some}
 use mathlib.Core.Path.{_≡_, refl, sym, _∙_, ap, subst}
 use native.Mathlib.Omega.{arith}
@@ -53,20 +53,12 @@ use Rattle.standing.proofs.Standings.{known}
 use Rattle.standing.proofs.HomeFacts.{home-stays}
 use Rattle.account.proofs.PlacedLaws.{own-is}
 use Rattle.standing.proofs.PlacedFacts.{isSerials, placed-rows, placed-rows-six, serial-rule, other-rule, entry-plain, begin-inner, blank-marks, figure-serial, opening-row}
-use Rattle.standing.proofs.SerialKept.{SerialTaken, number-used, serial-stands}
+use Rattle.standing.proofs.SerialKept.{SerialTaken, number-used, one-of, serial-stands}
 use Rattle.standing.proofs.SerialContents.{LineContent, line-content, SymbolSerial, symbol-content}
 use Rattle.standing.proofs.PlacedTables.{lentOf, lentDesk, record-kept, record-entered, range-is, placing-on}
 use Rattle.standing.proofs.OwnLines.{was-none}
 use Rattle.standing.proofs.HeldParts.{shaped-enter, enter-own, enter-other}
 use Rattle.standing.proofs.RowOpeners.{begin-row}
-
--- a number is the only one of its kind, or one of those in use
-one-of : (n : ℕ) (used : List ℕ) → noneOf (n ∷ []) used ≡ not (hasNumber n used)
-one-of n used = go (hasNumber n used)
-  where
-    go : (b : Bool) → (not b && true) ≡ not b
-    go true = refl
-    go false = refl
 
 module _ (c : Class) (spool : List ℕ) (k : ℕ) (FileHere : Desk → Set → ℕ → Held → ℕ → Type 0) (d : Desk) (at to own : ℕ) (l : Line) (w : Where) (form : LineForm)
     (x : LineHere spool k at to form w l) (s : Set) (m : ℕ) (fs : List Figure) (n : ℕ) (o : Held) (z : Stands c spool k d (FileHere d) at (placing s m fs n (symbolBlock o) 0)) where

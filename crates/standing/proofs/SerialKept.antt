@@ -6,7 +6,7 @@
 -- marks, its scratch, how much of it counts, and that it is open. For a wire `extra` is 2 (its commas), `opener` 10, `none-yet` and `one` come
 -- from `wireLinks` of the slot `wireSerialRow` before and behind the line, `due` and `spent` from `dueOf 10` of it.
 use Prim.Native.Nat.{ℕ, suc, _+_, _*_, _≤_, _<_}
-use mathlib.Core.Bool.{Bool, true, false, cond, _&&_, _||_}
+use mathlib.Core.Bool.{Bool, true, false, cond, _&&_, _||_, not}
 use mathlib.Core.List.{List, [], _∷_, _++_, append-nil}
 use mathlib.Core.Path.{_≡_, refl, sym, _∙_, ap, subst}
 use native.Mathlib.Omega.{arith}
@@ -21,7 +21,7 @@ use Rattle.rules.specs.Lines.{span, bytesAt}
 use Rattle.rules.specs.Rows.{Held}
 use Rattle.rules.specs.Sets.{Figure, Set, ownSerial}
 use Rattle.rules.specs.Machine.{State, Owned, placing}
-use Rattle.rules.specs.PlacedSymbol.{numbersSoFar}
+use Rattle.rules.specs.PlacedSymbol.{noneOf, numbersSoFar}
 use Rattle.rules.proofs.Chains.{all-append}
 use Rattle.account.specs.declared.Now.{Now}
 use Rattle.account.specs.Numbering.{tallySerials, mostRows, rowsText}
@@ -32,6 +32,14 @@ use Rattle.standing.specs.Standing.{Desk, linksWith, linksOf, ownedLinks
 use Rattle.standing.proofs.MoreRecords.{flat-map-more}
 use Rattle.standing.proofs.ScratchKept.{scratch-long}
 use Rattle.standing.proofs.LinkLaws.{links-own}
+
+-- a number is the only one of its kind, or one of those in use
+pub one-of : (n : ℕ) (used : List ℕ) → noneOf (n ∷ []) used ≡ not (hasNumber n used)
+one-of n used = go (hasNumber n used)
+  where
+    go : (b : Bool) → (not b && true) ≡ not b
+    go true = refl
+    go false = refl
 
 -- ── what was read ──
 -- the content c at a place of the spool: an own number and its partners. extra: how many of its bytes are no own number's

@@ -53,7 +53,7 @@ use Rattle.standing.proofs.WireCells.{spelled, onceSlots, onceOf, Fill,
 use Rattle.standing.proofs.WireParts.{direcsOf, piendsOf, numsIn, slotOf, own-slots, cellsOf, so-far-cells}
 use Rattle.standing.proofs.WireScratch.{wireScratch, scratch-wire}
 use Rattle.standing.proofs.WireRows.{lentBy, wireDesk, begin-at, cells, before, still, did, rowAct, below, row-act, whole}
-use Rattle.standing.proofs.SerialKept.{SerialRead, SerialTaken, number-used, serial-stands}
+use Rattle.standing.proofs.SerialKept.{SerialRead, SerialTaken, number-used, one-of, serial-stands}
 use Rattle.standing.proofs.SerialContents.{LineContent, line-content, wire-serial-content, wire-content}
 use Rattle.standing.proofs.Standings.{sight, stands-on, stands-still}
 use Rattle.standing.proofs.HomeFacts.{home-stays}
@@ -154,14 +154,6 @@ opener-row (suc zero) h g e = absurd (omega (arith, h))
 opener-row (suc (suc zero)) h g e = absurd (omega (arith, h))
 opener-row (suc (suc (suc zero))) h g e = absurd (omega (arith, h))
 opener-row (suc (suc (suc (suc zero)))) h g e = absurd (omega (arith, h))
-
--- a number is the only one of its kind, or one of those in use
-one-of : (n : ℕ) (used : List ℕ) → noneOf (n ∷ []) used ≡ not (hasNumber n used)
-one-of n used = go (hasNumber n used)
-  where
-    go : (b : Bool) → (not b && true) ≡ not b
-    go true = refl
-    go false = refl
 
 -- a serial's first value is its own number
 serial-first : (k : Known) (at : ℕ) (c : List ℕ) (v : Value) → readKind k wireSerial at c ≡ got v → (n : ℕ) × (ns : List Num) × (v ≡ nums (num (pos n) ∷ ns))
