@@ -1,4 +1,5 @@
-// What the reading of a set remembers between two lines, and, in specs/, what one line of each block does to it, as the code says it.
+// The account: what the reading of a set remembers between two lines (types and constants here, no steps). specs/ says, as the code does it,
+// what one line of each block does to it and which record it completes; the code itself is in groundwork, drawing and elements.
 use rules::Class;
 use rules::LineForm;
 use rules::Refusal;

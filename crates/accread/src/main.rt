@@ -1,27 +1,16 @@
 // Reads a spool from standard input at class 15 with wire part 18 into a table of 256 records, and prints one line `answer volume line
 // records`, then, if accepted, one line of 32 numbers for each record. A read or a write that fails is told on standard error; a failed read
 // has no answer.
-use rules::Answer;
 use sets::read;
 use shows::input::MOST_READ;
+use shows::listing;
 
 // The class and the wire part that skip nothing.
 const FULL_CLASS: u64 = 15;
 
 const FULL_WIRE: u64 = 18;
 
-// What is written is `printed` of the spool (rules, Answers): the line of the answer, then the lines of the table's records one after the
-// other, each as it was laid (shows: `put_answer`, `put_line`). False where not all of it was.
-fn print(answer: Answer, table: &[i64]) -> bool {
-    if !shows::answer_line(1, answer) {
-        return false;
-    }
-    match answer {
-        Answer::Accepted(count) => shows::records(count as u64, table),
-        Answer::Refused(_f) => true,
-    }
-}
-
+// What is written is `printed` of the spool (rules, Answers): proofs, Printed.
 fn main() {
     let mut spool = [0u8; MOST_READ];
     let input = shows::input::read_all(&mut spool);
@@ -32,7 +21,7 @@ fn main() {
     let n = input.bytes;
     let mut table = [0i64; 8192];
     let answer = read(&spool[..n], FULL_CLASS, FULL_WIRE, &mut table);
-    if !print(answer, &table) {
+    if !listing(answer, &table) {
         os::fail(b"accread: standard output");
     }
 }

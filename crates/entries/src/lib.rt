@@ -1,4 +1,5 @@
-// What one line enters into its block and its record.
+// What one line enters: its values between commas, its text or its serials, read from the spool by the row of its key and put into the numbers of
+// the record, or the refusal where one of them breaks its rule.
 pub mod acts;
 mod contents;
 pub mod names;

@@ -1,4 +1,4 @@
-// The keys of document 01, written: each from the byte string that it is compared with.
+// The keys as the rewriter writes them: each from the byte string that the reader compares it with (tables).
 // Made by tools/make-keys from the definitions' rows: change those, or the script.
 use leaves::Wrote;
 use leaves::write::put;

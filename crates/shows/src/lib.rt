@@ -9,7 +9,8 @@ use rules::Answer;
 use text::put_answer;
 use text::put_line;
 
-const MOST_RECORDS: usize = 256;
+// As many as the largest table that a program lends.
+const MOST_RECORDS: usize = 8192;
 
 // 21 bytes for each number hold any line (proofs, LineLengths).
 const ANSWER_LINE: usize = 84;
@@ -65,7 +66,7 @@ fn record(rec: &[i64]) -> bool {
     write_laid(1, &line, laid)
 }
 
-// A table's records, so many, to standard output; of more than 256 the first 256.
+// A table's records, so many, to standard output; of more than 8,192 the first 8,192.
 pub fn records(count: u64, table: &[i64]) -> bool {
     let mut i = 0;
     while i < MOST_RECORDS {
@@ -82,4 +83,16 @@ pub fn records(count: u64, table: &[i64]) -> bool {
         i += 1;
     }
     count <= MOST_RECORDS as u64
+}
+
+// A reading: the line of its answer, then the lines of the table's records one after the other, each as it was laid (`put_answer`, `put_line`).
+// False where not all of it was written.
+pub fn listing(answer: Answer, table: &[i64]) -> bool {
+    if !answer_line(1, answer) {
+        return false;
+    }
+    match answer {
+        Answer::Accepted(count) => records(count as u64, table),
+        Answer::Refused(_f) => true,
+    }
 }
