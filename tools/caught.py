@@ -2,9 +2,19 @@
 import os, pathlib, shutil, subprocess, sys, time
 
 TOP = pathlib.Path(__file__).resolve().parent.parent
-KIT = pathlib.Path(shutil.which("rt")).resolve().parent.parent
-OWN = KIT / "on" / os.uname().machine
-TOOLS = OWN / "toolchain"
+
+
+def kit():
+    """The folder of the kit, as rt itself finds it. Ends this program where there is none."""
+    missing = subprocess.run([TOP / "tools" / "need", "rt"]).returncode
+    if missing:
+        sys.exit(missing)
+    return pathlib.Path(os.environ.get("RATTLE_HOME") or pathlib.Path(shutil.which("rt")).resolve().parent.parent)
+
+
+def own():
+    """What the kit has for this machine."""
+    return kit() / "on" / os.uname().machine
 
 
 def module(words, room):
@@ -29,8 +39,24 @@ def module(words, room):
     return kept
 
 
+def done(words):
+    """Runs one of the kit's tools, which is quiet where it succeeds."""
+    ran = subprocess.run(words, capture_output=True, text=True)
+    if ran.returncode != 0:
+        sys.exit(ran.stdout + ran.stderr)
+
+
 def compiled(machine, words, source, to):
     target = f"--target={machine}-unknown-linux-gnu"
-    done = subprocess.run([TOOLS / "bin" / "clang", target, "-Wno-override-module", *words, "-x", "ir", source, "-o", to], capture_output=True, text=True)
-    if done.returncode != 0:
-        sys.exit(done.stderr)
+    done([own() / "toolchain" / "bin" / "clang", target, "-Wno-override-module", *words, "-x", "ir", source, "-o", to])
+
+
+def program(name, room):
+    """A program of crates/, compiled and linked without proof in a folder; rt has by then compared what it prints with its own stdout."""
+    folder = room / name
+    folder.mkdir()
+    thing, linked = folder / "module.o", folder / name
+    compiled("x86_64", ["-O3", "-fPIC", "-c"], module(["try", name], folder), thing)
+    words = ["--target", "x86_64-unknown-linux-gnu", "--toolchain", own() / "toolchain", "-o", linked, thing, kit() / "lib" / "libos_c.a"]
+    done([own() / "bin" / "rattle-link", *words])
+    return linked
