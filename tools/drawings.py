@@ -6,6 +6,8 @@ figures; a figure is a function that writes itself into a Drawing and takes its 
 import re
 from decimal import Decimal
 
+from spools import BLANKS
+
 RECORD = 32
 HEADER, VOLUME, DRAWING, SYMBOL, LAYER = 1, 2, 3, 4, 5
 LINE, CIRCLE, ELLIPSE, POINT, SUCCESSIVE, TEXT, PLACED, SUCCESSIVE_POINT = 10, 11, 12, 13, 14, 15, 16, 17
@@ -475,7 +477,6 @@ def volumes_of(spool):
     return out
 
 
-BLANKS = re.compile(rb"(?: |\t|\x81\x40)*")
 E_WIRE = b"E_wire="
 
 

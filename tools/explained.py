@@ -14,7 +14,7 @@ def place(spool, volume, line):
     if volume > len(found):
         return f"volume {volume} (not in this spool)" + (f", line {line}" if line else "")
     name, body = found[volume - 1]
-    text = f"volume {volume} ({shown(name) or 'without a name'})"
+    text = spools.called(volume, name)
     if line == 0:
         return text + (", which has no line" if body == FINAL else "")
     if line > len(spools.lines(body)):

@@ -190,7 +190,8 @@ def layer_id(layer):
 class Set:
     """What the records hold: header, drawing, layers and symbols by number, volumes, and the figures of layers with what belongs to them."""
 
-    def __init__(self, all_records, spool):
+    def __init__(self, all_records, spool, note=""):
+        self.note = note
         found = [named(record, spool) for record in all_records]
         by_kind = collections.defaultdict(list)
         for record in found:
@@ -388,6 +389,8 @@ def panel_rows(sheet, drawn):
         yield Row("wires unread, not drawn", unread)
     if outside:
         yield Row("figures beyond the paper's edge", outside)
+    if sheet.note:
+        yield Row(sheet.note, heading=True)
 
 
 def date(digits):
@@ -439,9 +442,9 @@ def panel(sheet, drawn):
 AROUND = 0.02  # what is left free on all sides, of the paper's height
 
 
-def picture(all_records, spool):
-    """The SVG of an accepted spool's records."""
-    sheet = Set(all_records, spool)
+def picture(all_records, spool, note=""):
+    """The SVG of an accepted spool's records; note: what must be said of how they were read."""
+    sheet = Set(all_records, spool, note)
     width, height = sheet.paper()
     around = AROUND * height
     whole = width + PANEL * height + 2 * around, height + 2 * around

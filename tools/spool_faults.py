@@ -1,9 +1,9 @@
 """What is wrong with a spool's bytes (2), with a volume's lines (3), and which byte of a line may not stand there (4)."""
 import re
 
-from spools import CODES, FINAL, HEAD, LENGTH, LINE_END, MARK, NAME, quoted, shown, unindented
+from spools import CODES, FINAL, HEAD, LENGTH, LINE_END, MARK, MOST_BYTES, NAME, called, quoted, shown, unindented
 
-MOST_BYTES, MOST_VOLUMES, MOST_IN_LINE = 61440, 12, 512
+MOST_VOLUMES, MOST_IN_LINE = 12, 512
 # Files that are sent in a spool's place, by their first bytes.
 FIRST_BYTES = {b"%PDF": "a PDF file", b"PK\x03\x04": "a zip file"}
 FIRST_BLOCK = b"FILE_FORMAT"
@@ -31,7 +31,8 @@ def other_file(spool):
 
 
 def too_long(spool):
-    return f"the spool has {len(spool):,} bytes, and {MOST_BYTES:,} is the most" if len(spool) > MOST_BYTES else None
+    """How long it is is not said: who reads a file need not read on."""
+    return f"the spool has over {MOST_BYTES:,} bytes, the most that it may have" if len(spool) > MOST_BYTES else None
 
 
 def volume_fault(spool):
@@ -80,7 +81,7 @@ def length_fault(head, left, number):
     if length <= len(left):
         return None
     changed = ": its lines end by LF alone, as a program leaves them that changes line ends" if b"\n" in left and LINE_END not in left else ""
-    return f"volume {number} ({shown(head[NAME].rstrip(b' '))}) has the length {length:,} in its head, and {len(left):,} bytes follow it{changed}"
+    return f"{called(number, head[NAME].rstrip(b' '))} has the length {length:,} in its head, and {len(left):,} bytes follow it{changed}"
 
 
 # ── 3: a volume's lines ──

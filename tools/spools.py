@@ -1,6 +1,7 @@
 """A spool as far as it can be told: its volumes, their lines, what a line is made of, and its letters."""
-import collections, re
+import collections, os, re
 
+MOST_BYTES = 61440
 MARK, HEAD, FINAL = b"VP", 12, b"\x1a"
 NAME, LENGTH = slice(2, 10), slice(10, HEAD)  # of a head
 LINE_END = b"\r\n"
@@ -16,6 +17,21 @@ KEY = re.compile(rb"(.*?)(=|:\{)(.*)", re.DOTALL)
 OPENER = b":{"
 
 
+# ── files ──
+
+STANDARD_INPUT = "-"
+
+
+def contents(file):
+    """A file's bytes, at most one more than a spool may have: what stands behind changes no answer."""
+    given = file == STANDARD_INPUT
+    with open(0 if given else file, "rb", buffering=0, closefd=not given) as source:
+        raw = b""
+        while more := os.read(source.fileno(), MOST_BYTES + 1 - len(raw)):
+            raw += more
+        return raw
+
+
 # ── volumes and lines ──
 
 
@@ -28,6 +44,11 @@ def volumes(spool):
         found.append((head[NAME].rstrip(b" "), spool[at + HEAD : at + HEAD + length]))
         at += HEAD + length
     return found
+
+
+def called(number, name):
+    """A volume as people are told of it."""
+    return f"volume {number} ({shown(name) or 'without a name'})"
 
 
 def lines(body):

@@ -3,10 +3,11 @@ open; which line opens, and what a front end skips, goes by the keys' table."""
 import collections
 
 import spools
+from reader import FULL_CLASS, FULL_WIRE
 from rulebook import FIRST_FILE, LATER_FILE, TOP_LEVEL, asks, range_of, rulebook
 from spools import CLOSE, EOF, FORMLESS, OPENING, OPENS
 
-FULLEST = 15, 18  # the class and wire part that know everything
+FULLEST = FULL_CLASS, FULL_WIRE
 # The blocks whose keys go by a part of the front end too: their range, and that part's number.
 BY_FRONT = {"E_symbol (placed)": ("E_sym", 0), "E_wire": ("E_wire", 1)}
 WIRE = "E_wire"
@@ -123,7 +124,7 @@ class Case:
 
     def name(self, volume):
         """A volume's number and name."""
-        return f"volume {volume} ({spools.shown(self.volumes[volume - 1][0]) or 'without a name'})"
+        return spools.called(volume, self.volumes[volume - 1][0])
 
     def at(self, thing):
         """Where an entry or a block stands, seen from the refused line."""

@@ -13,10 +13,11 @@ const WORDS: usize = 4;
 // A count has nine digits at most; what is longer is no count.
 const LONGEST: usize = 10;
 
-// A table of so many records has so many numbers. No spool has more records: a wire of one line, in 32 bytes, gives three.
-const MOST_RECORDS: u64 = 8192;
+// A table of so many records has so many numbers. No spool has more records: a wire with nothing in it, which a front end without a wire part
+// takes, gives two in 13 bytes.
+const MOST_RECORDS: u64 = 10240;
 
-const MOST_NUMBERS: usize = 262144;
+const MOST_NUMBERS: usize = 327680;
 
 const WIDTH: u64 = 32;
 
@@ -26,7 +27,8 @@ fn number(word: usize) -> Count {
     count(&digits[..n])
 }
 
-// Reads the spool into the table's front, so many numbers, and prints it; false where not all of it was written.
+// Reads the spool into the table's front, so many numbers, and prints what `ListingPrints` says (promises, Printing); false where not all of it
+// was written.
 fn answer(spool: &[u8], cls: u64, wire: u64, numbers: usize, table: &mut [i64]) -> bool {
     if table.len() < numbers {
         return false;
@@ -53,7 +55,7 @@ fn read_and_answer(cls: u64, wire: u64, numbers: usize) {
 fn usage() {
     io::write_all(
         2,
-        b"accclass: usage: accclass CLASS WIRE RECORDS < spool, with at most 8192 records\n",
+        b"accclass: usage: accclass CLASS WIRE RECORDS < spool, with at most 10240 records\n",
     );
 }
 

@@ -10,7 +10,7 @@ const FULL_CLASS: u64 = 15;
 
 const FULL_WIRE: u64 = 18;
 
-// What is written is `printed` of the spool (rules, Answers): proofs, Printed.
+// What is written is `printed` of the spool (rules, Answers): promises, Printing, `ProgramPrints`.
 fn main() {
     let mut spool = [0u8; MOST_READ];
     let input = shows::input::read_all(&mut spool);

@@ -76,6 +76,7 @@ pub mod Packing
 pub mod Parsed
 pub mod PartnersFound
 pub mod Places
+pub mod Printed
 pub mod ReadSound
 pub mod RecordLines
 pub mod RecordPlaces

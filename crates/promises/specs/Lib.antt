@@ -8,6 +8,7 @@ pub mod LowerWitnesses
 pub mod OwnNumbers
 pub mod Partners
 pub mod PlacesApart
+pub mod Printing
 pub mod ReaderCalls
 pub mod RewriterCalls
 pub mod SingleCalls

@@ -10,7 +10,7 @@ use text::put_answer;
 use text::put_line;
 
 // As many as the largest table that a program lends.
-const MOST_RECORDS: usize = 8192;
+const MOST_RECORDS: usize = 10240;
 
 // 21 bytes for each number hold any line (proofs, LineLengths).
 const ANSWER_LINE: usize = 84;
@@ -66,7 +66,7 @@ fn record(rec: &[i64]) -> bool {
     write_laid(1, &line, laid)
 }
 
-// A table's records, so many, to standard output; of more than 8,192 the first 8,192.
+// A table's records, so many, to standard output; of more than 10,240 the first 10,240.
 pub fn records(count: u64, table: &[i64]) -> bool {
     let mut i = 0;
     while i < MOST_RECORDS {

@@ -4,10 +4,10 @@ use Rattle.shows.proofs.records.Statement.{statement}
 use Rattle.shows.proofs.records.Tie as tie
 
 abbrev Inv-loop : tie.InvT-loop
-Inv-loop count table i₀ i = i ≤ 8192
+Inv-loop count table i₀ i = i ≤ 10240
 
 abbrev μ-loop : tie.MeasureT-loop
-μ-loop count table i₀ i = 8192 - i
+μ-loop count table i₀ i = 10240 - i
 
 loop-holds : tie.Need-loop-holds Inv-loop μ-loop
 loop-holds c = search needs

@@ -1,4 +1,4 @@
--- What main writes, line by line from the reader's answer and table, is `printed` of the spool.
+-- What a program writes, line by line from the reader's answer and table, is what the rules say it prints.
 use Prim.Native.Nat.{ℕ, _*_}
 use mathlib.Core.List.{List, [], _++_, map}
 use mathlib.Core.Path.{_≡_, refl, ap, sym}
@@ -14,8 +14,8 @@ use Rattle.rules.specs.LineByLine.{Outcome, refused, accepted}
 use Rattle.rules.specs.RangeClass.{classOf}
 use Rattle.rules.specs.RecordTable.{width}
 use Rattle.rules.specs.Answers.{classOr, answerCount, answerWith, recordsIn, readOutcome, readRecords, readAnswer, readTable, fullNumber, fullWire, ownRecords, printLine, firstLine, printed}
+use Rattle.promises.specs.Printing.{recordLines, ListingPrints, ProgramPrints, SamplesPrint}
 use Rattle.promises.proofs.Calls.{table-records}
-use Rattle.accread.specs.Printing.{recordLines}
 
 -- a refusal has no records
 no-records : (c : Class) (o : Outcome) (r : Refusal) → answerWith (length (recordsIn c o)) o ≡ Refused r → recordsIn c o ≡ []
@@ -31,10 +31,14 @@ module _ (class wire len : ℕ) (spool : List ℕ) where
   lines (Accepted n) e = ap (λ (rs : List (List ℤ)). flat (map printLine rs)) (table-records class wire len spool n e)
   lines (Refused r) e = sym (ap (λ (rs : List (List ℤ)). flat (map printLine rs)) (refused-none r e))
 
--- the table of main has 256 records
-pub main-prints : (spool : List ℕ) → let len = ownRecords * width in
-    printLine (firstLine (readAnswer fullNumber fullWire len spool)) ++ recordLines (answerCount (readAnswer fullNumber fullWire len spool)) (readTable fullNumber fullWire len spool) ≡ printed spool
+pub listing-prints : ListingPrints
+listing-prints class wire len spool =
+    ap (λ (s : List ℕ). printLine (firstLine (readAnswer class wire len spool)) ++ s) (lines class wire len spool (readAnswer class wire len spool) refl)
+
+pub program-prints : ProgramPrints
 unfolding printed
-main-prints spool =
-    let len = ownRecords * width in
-    ap (λ (s : List ℕ). printLine (firstLine (readAnswer fullNumber fullWire len spool)) ++ s) (lines fullNumber fullWire len spool (readAnswer fullNumber fullWire len spool) refl)
+program-prints spool = listing-prints fullNumber fullWire (ownRecords * width) spool
+
+pub samples-print : SamplesPrint
+unfolding printed readAnswer readRecords
+samples-print = record { empty = refl; refused = refl; accepted = refl; numbers = refl }
