@@ -6,10 +6,11 @@ use account::Volume;
 use entries::names::part;
 use groundwork::classes::less;
 use groundwork::walk::next_line;
-use leaves::bytes::same;
+use leaves::bytes::spells;
 use rules::Equation;
 use rules::LineForm;
 use rules::Refusal;
+use tables::keys::CHARACTER;
 ghost use mathlib.Core.Path.{_≡_};
 ghost use Rattle.rules.specs.Base.{isSome};
 ghost use Rattle.rules.specs.Lines.{stem, equals, bytesAt, formIn};
@@ -24,7 +25,7 @@ fn ends_open(c: &[u8]) -> bool
     if n < 2 {
         return false;
     }
-    same(&c[n - 2..], b":{")
+    spells(&c[n - 2..], b":{")
 }
 
 // "nor is content [empty], so `key=:{` is no form"
@@ -44,7 +45,7 @@ fn skip_content(c: &[u8]) -> Skipped
 fn skip_equation(s: &[u8], q: Equation) -> Skipped
     ensures { λ r. ⌜ r ≡ skippedAs (skipOf (bytesAt (now (s .entry)) (q .key)) (equals (q .rest .at) (bytesAt (now (s .entry)) (q .rest)))) ⌝ }
 {
-    if same(part(s, q.key), b"character") {
+    if spells(part(s, q.key), &CHARACTER) {
         return Skipped::Passes;
     }
     skip_content(part(s, q.rest))

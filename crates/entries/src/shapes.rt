@@ -7,7 +7,7 @@ use crate::SORT_OPENER;
 use crate::SORT_OPENING;
 use crate::Shape;
 use crate::names::part;
-use leaves::bytes::same;
+use leaves::bytes::spells;
 use rules::LineForm;
 use rules::Span;
 use tables::HOLDS_BLOCK;
@@ -140,8 +140,8 @@ fn is_either(s: &[u8], shape: Shape) -> bool
     match shape {
         Shape::Opener => false,
         Shape::NoContent => false,
-        Shape::Content(p) => !same(part(s, p), b"001"),
-        Shape::Opening(p) => !same(part(s, p), b"000"),
+        Shape::Content(p) => !spells(part(s, p), b"001"),
+        Shape::Opening(p) => !spells(part(s, p), b"000"),
         Shape::Formless => false,
     }
 }

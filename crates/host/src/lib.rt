@@ -1,5 +1,6 @@
 // The reader and the rewriter for the plot server's host, written in C: include/ploverdell.h.
 use rules::Answer;
+use sets::check;
 use sets::read;
 use sets::rewrite;
 ghost use mathlib.Core.Path.{_≡_};
@@ -25,13 +26,16 @@ fn count_of(a: Answer) -> u64
     }
 }
 
-// The check: "takes spool and class, uses a table of 256 records of its own"; "whatever takes a class takes its wire part".
+// The room of the check: "a table of 256 records of its own".
+const OWN_RECORDS: u32 = 256;
+
+// The check: "takes spool and class, uses a table of 256 records of its own"; "whatever takes a class takes its wire part". Nobody sees that
+// table, so its records are counted and none is laid out, 64 KB of the host's small stack.
 #[no_mangle]
 pub extern "C" fn ploverdell_check(spool: &[u8], cls: u64, wire: u64) -> u64
     ensures { λ r. ⌜ r ≡ checkAnswer cls wire (now (spool .entry)) ⌝ }
 {
-    let mut table = [0i64; 8192];
-    pack(read(spool, cls, wire, &mut table))
+    pack(check(spool, cls, wire, OWN_RECORDS))
 }
 
 // The reader: the packed number, the records in the lent table, and how many they are.

@@ -33,6 +33,7 @@ use Rattle.leaves.specs.declared.Wrote.{Wrote}
 use Rattle.leaves.proofs.truth.both as both′
 use Rattle.leaves.proofs.truth.either as either′
 use Rattle.leaves.proofs.bytes.same as same′
+use Rattle.leaves.proofs.bytes.spells as spells′
 use Rattle.leaves.proofs.bytes.find as find′
 use Rattle.leaves.proofs.bytes.within as within′
 use Rattle.leaves.proofs.bytes.allowed as allowed′
@@ -74,6 +75,12 @@ same-unique a b r₁ r₂ c₁ c₂ = c₁ ∙ sym c₂
 
 same-code : One same′.Kinds.ps same′.Kinds.r same′.Reads.Learnt (λ κs r e. r)
 same-code κs x r₁ r₂ e₁ e₂ = same-unique (now (x .0)) (now (x .1 .0)) r₁ r₂
+
+pub spells-unique : (part fixed : List ℕ) (r₁ r₂ : Bool) → r₁ ≡ same part fixed → r₂ ≡ same part fixed → r₁ ≡ r₂
+spells-unique part fixed r₁ r₂ c₁ c₂ = c₁ ∙ sym c₂
+
+spells-code : One spells′.Kinds.ps spells′.Kinds.r spells′.Reads.Learnt (λ κs r e. r)
+spells-code κs x r₁ r₂ e₁ e₂ = spells-unique (now (x .0)) (now (x .1 .0)) r₁ r₂
 
 pub find-unique : (s : List ℕ) (b : ℕ) (r₁ r₂ : ℕ) → r₁ ≡ length (upTo b s) → r₂ ≡ length (upTo b s) → r₁ ≡ r₂
 find-unique s b r₁ r₂ c₁ c₂ = c₁ ∙ sym c₂

@@ -1,17 +1,17 @@
 -- Bytes compared four and eight at once: equal numbers are equal bytes, and two parts that cover two lists make them equal.
-use Prim.Native.Nat.{ℕ, _+_, _<_, _≤_}
+use Prim.Native.Nat.{ℕ, _+_, _-_, _<_, _≤_}
 use mathlib.Core.Path.{_≡_, refl, sym, _∙_, ap, ap₂}
 use mathlib.Core.List.{List, [], _∷_, _++_}
 use mathlib.Core.Bool.{Bool, true, false}
 use native.Mathlib.Omega.{arith}
 use lib.Dec.{eqb}
-use lib.ListN.{length, getD, drop, take}
+use lib.ListN.{length, getD, drop, take, take-append-drop}
 use lib.Seq.{take-all, take-take, take-add, drop-drop}
 use borrow.Author.Tests.{eqb-true, eqb-false}
 use Rattle.rules.specs.Base.{same}
 use Rattle.rules.proofs.Chains.{same-refl, same-eq}
 use Rattle.leaves.specs.Bytes.{half, word}
-use Rattle.leaves.proofs.Scan.{at}
+use Rattle.leaves.proofs.Scan.{at, rest-all}
 
 -- every number of the list is a byte
 abbrev pub Fit : List ℕ → Type 0
@@ -64,6 +64,15 @@ same-no a b f h = go (same a b) refl
     go : (t : Bool) → same a b ≡ t → false ≡ same a b
     go true p = absurd (h (ap f (same-eq a b p)))
     go false p = sym p
+
+-- where the first n agree, the lists are the same if the rests are
+pub same-behind : (a b : List ℕ) (n : ℕ) → take n a ≡ take n b → same (take (length a - n) (drop n a)) (take (length b - n) (drop n b)) ≡ same a b
+same-behind a b n p = ap₂ same (rest-all n a) (rest-all n b) ∙ go (same (drop n a) (drop n b)) refl (same a b) refl
+  where
+    go : (t : Bool) → same (drop n a) (drop n b) ≡ t → (u : Bool) → same a b ≡ u → t ≡ same a b
+    go true q u w = same-yes a b (sym (take-append-drop n a) ∙ ap₂ _++_ p (same-eq (drop n a) (drop n b) q) ∙ take-append-drop n b)
+    go false q true w = sym q ∙ ap (λ (s : List ℕ). same (drop n a) (drop n s)) (sym (same-eq a b w)) ∙ same-refl (drop n a) ∙ sym w
+    go false q false w = sym w
 
 -- a number of each list that is equal only if the lists are
 pub same-by : (a b : List ℕ) (f : List ℕ → ℕ) → (f a ≡ f b → a ≡ b) → eqb (f a) (f b) ≡ same a b

@@ -24,7 +24,7 @@ fn word(s: &[u8], i: usize) -> u64
     half(s, i) + 4294967296 * half(s, i + 4)
 }
 
-// Byte by byte, for what is too short for more.
+// Byte by byte.
 fn same_bytes(a: &[u8], b: &[u8]) -> bool
     requires { ⌜ length (now a) ≡ length (now b) ⌝ }
     ensures { λ r. ⌜ r ≡ same (now (a .entry)) (now (b .entry)) ⌝ }
@@ -73,7 +73,7 @@ fn same_words(a: &[u8], b: &[u8]) -> bool
     true
 }
 
-// The two byte strings are the same.
+// Two parts of the spool are the same: names.
 pub fn same(a: &[u8], b: &[u8]) -> bool
     ensures { λ r. ⌜ r ≡ same (now (a .entry)) (now (b .entry)) ⌝ }
 {
@@ -87,6 +87,23 @@ pub fn same(a: &[u8], b: &[u8]) -> bool
         return same_halves(a, b);
     }
     same_words(a, b)
+}
+
+// A part of the spool is this byte string of the code: how every key is recognised. No byte of it is looked at twice, as the code then
+// compares with the bytes themselves; with words that reach over each other, as in `same`, it first lays the byte string out on the stack.
+pub fn spells(part: &[u8], fixed: &[u8]) -> bool
+    ensures { λ r. ⌜ r ≡ same (now (part .entry)) (now (fixed .entry)) ⌝ }
+{
+    if part.len() != fixed.len() {
+        return false;
+    }
+    if part.len() < 8 {
+        return same_bytes(part, fixed);
+    }
+    if word(part, 0) != word(fixed, 0) {
+        return false;
+    }
+    same_bytes(&part[8..], &fixed[8..])
 }
 
 // Where the first b stands, or the length.

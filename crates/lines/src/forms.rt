@@ -7,7 +7,7 @@ use crate::runs::clean_run;
 use crate::runs::indent;
 use crate::runs::key_run;
 use crate::runs::opens_at;
-use leaves::bytes::same;
+use leaves::bytes::spells;
 use rules::Equation;
 use rules::LineForm;
 use rules::Opener;
@@ -66,10 +66,10 @@ fn bare_kind(s: &[u8]) -> u32
     if s.len() == 0 {
         return SKETCH_IGNORED;
     }
-    if same(s, b"}") {
+    if spells(s, b"}") {
         return SKETCH_CLOSE;
     }
-    if same(s, b"EOF") {
+    if spells(s, b"EOF") {
         return SKETCH_EOF;
     }
     SKETCH_NO_FORM

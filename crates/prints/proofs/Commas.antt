@@ -7,7 +7,8 @@ use mathlib.Core.Option.{Option, none, some}
 use native.Mathlib.Omega.{arith}
 use lib.Dec.{eqb}
 use lib.IntN.{ℤ}
-use lib.ListN.{length, take, drop}
+use lib.ListN.{length, take, drop, length-drop}
+use lib.Seq.{drop-drop}
 use Rattle.rules.specs.Base.{split, headOnto, join}
 use Rattle.leaves.specs.Bytes.{upTo}
 use Rattle.leaves.specs.Readings.{countOf, readingOf}
@@ -95,3 +96,42 @@ module _ (forms : ℕ) (alike : Bool) (c before : List ℕ) (at : Wrote) (e : �
       ∙ ap (λ (ps : List (List ℕ)). join 44 (pieceTexts forms alike ps)) (sym (piece-more 44 c e f h)) in
       subst (λ (t : List ℕ). Writes t at before after w) all
       (then (first ++ 44 ∷ []) (join 44 texts) before d after at q w (then first (44 ∷ []) before b d at p q x y) behind)
+
+-- ── piece by piece ──
+-- from i on: whatever writes the pieces that are left, from where those before them ended, has written all
+pub record Goes (forms : ℕ) (alike : Bool) (c : List ℕ) (at : Wrote) (before out : List ℕ) (left : ℕ) (there : Wrote) (i : ℕ) : Type 0 where
+  pub within : i ≤ length c
+  pub long : length out ≡ length before
+  pub ends : (after : List ℕ) (w : Wrote) → Writes (piecesText left alike (take (length c - i) (drop i c))) there out after w → Writes (piecesText forms alike c) at before after w
+
+module _ (forms : ℕ) (alike : Bool) (c before : List ℕ) (at : Wrote) where
+  pub none-yet : Goes forms alike c at before before forms at 0
+  none-yet = record { within = omega arith; long = refl; ends = λ after w z. rw (rest-all 0 c) at z }
+
+  module _ (out : List ℕ) (left : ℕ) (there : Wrote) (i : ℕ) (g : Goes forms alike c at before out left there i) where
+    abbrev rest : List ℕ
+    rest = take (length c - i) (drop i c)
+
+    rest-long : length rest ≡ length c - i
+    rest-long = ap length (rest-all i c) ∙ length-drop i c
+
+    behind : (k : ℕ) → take (length rest - k) (drop k rest) ≡ take (length c - (i + k)) (drop (i + k) c)
+    behind k = rest-all k rest ∙ ap (drop k) (rest-all i c) ∙ drop-drop k i c ∙ sym (rest-all (i + k) c)
+
+    module _ (e : ℕ) (f : e ≡ length (upTo 44 rest)) where
+      pub all-written : (after : List ℕ) (w : Wrote) → length rest ≤ e → Writes (pieceText (left % 100) rest) there out after w → Writes (piecesText forms alike c) at before after w
+      all-written after w h p = g .ends after w (last-piece left alike rest out there e f after w h p)
+
+      pub room-behind : e < length rest → i + (e + 1) ≤ length c
+      room-behind h = omega (arith, h, rest-long, g .within)
+
+      pub one-more : e < length rest → (next : ℕ) → next ≡ nextForms left alike → (b d : List ℕ) (p q : Wrote)
+          → Writes (pieceText (left % 100) (take e rest)) there out b p → Writes (44 ∷ []) p b d q → Goes forms alike c at before d next q (i + (e + 1))
+      one-more h next r b d p q x y =
+          record {
+            within = room-behind h;
+            long = y .long ∙ x .long ∙ g .long;
+            ends = λ after w z.
+                let left-over = subst (λ (t : List ℕ). Writes (piecesText next alike t) q d after w) (sym (behind (e + 1))) z in
+                g .ends after w (more-pieces left alike rest out there e f h next r b d after p q w x y left-over);
+          }

@@ -58,17 +58,23 @@ fn behind_first(forms: u64, alike: bool) -> u64
     forms / 100
 }
 
-// All pieces of c by their forms, two decimal digits each, the first one last.
+// All pieces of c by their forms, two decimal digits each, the first one last. By a loop: a serial has up to 101
+// of them, and a call for each would take 22 KB of stack.
 pub(crate) fn pieces(forms: u64, alike: bool, c: &[u8], at: Wrote, out: &mut [u8]) -> Wrote
     ensures { λ r. ⌜ Writes (piecesText forms alike (now (c .entry))) at (now (out .entry)) (now (out .exit)) r ⌝ }
 {
-    let e = find(c, b',');
-    if c.len() <= e {
-        return piece(forms % 100, c, at, out);
+    let mut left = forms;
+    let mut there = at;
+    let mut i = 0;
+    loop {
+        let rest = &c[i..];
+        let e = find(rest, b',');
+        if rest.len() <= e {
+            return piece(left % 100, rest, there, out);
+        }
+        let first = piece(left % 100, &rest[..e], there, out);
+        there = text(b",", first, out);
+        left = behind_first(left, alike);
+        i += e + 1;
     }
-    let first = piece(forms % 100, &c[..e], at, out);
-    let comma = text(b",", first, out);
-    let next = e + 1;
-    let rest = behind_first(forms, alike);
-    pieces(rest, alike, &c[next..], comma, out)
 }

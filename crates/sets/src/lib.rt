@@ -2,5 +2,6 @@
 mod reader;
 mod rewriter;
 
+pub use reader::check;
 pub use reader::read;
 pub use rewriter::rewrite;

@@ -22,10 +22,11 @@ use rules::Span;
 use rules::WIDTH;
 use steps::read_volume;
 ghost use mathlib.Core.Path.{_≡_};
-ghost use Prim.Native.Nat.{_+_, _≤_, _<_};
+ghost use Prim.Native.Nat.{_+_, _*_, _≤_, _<_};
 ghost use lib.IntN.{pos};
 ghost use lib.ListN.{length, replicate};
 ghost use Rattle.rules.specs.Answers.{readAnswer, readTable};
+ghost use Rattle.rules.specs.RecordTable.{width};
 ghost use Rattle.sets.specs.SetReading.{nothingNow, nameBehind, SetOut, Judged};
 
 fn nothing_yet() -> Now
@@ -149,6 +150,24 @@ pub fn read(s: &[u8], class: u64, wire: u64, t: &mut [i64]) -> Answer
                     Answer::Refused(f)
                 }
             }
+        }
+    }
+}
+
+// A spool, a range class with its wire part, and a number of records: the answer of a reader that is lent a table for so many. They are counted
+// and not kept, so that whoever asks only for the answer needs no room for a table.
+pub fn check(s: &[u8], class: u64, wire: u64, records: u32) -> Answer
+    ensures { λ r. ⌜ r ≡ readAnswer class wire (records * width) (now (s .entry)) ⌝ }
+{
+    match class_of(class, wire) {
+        MaybeClass::Not => Answer::Refused(Refusal {
+            number: 1,
+            volume: 0,
+            line: 0,
+        }),
+        MaybeClass::Is(c) => {
+            let mut nothing = [0i64; 1];
+            read_set(s, c, records as usize, &mut nothing)
         }
     }
 }

@@ -1,6 +1,6 @@
 // The keys of document 01: fixed byte strings, each compared with its part of the spool. (What is written of them is written from the same.)
 // Made by tools/make-keys from the definitions' rows: change those, or the script.
-use leaves::bytes::same;
+use leaves::bytes::spells;
 ghost use mathlib.Core.Path.{_≡_};
 ghost use Rattle.rules.specs.Base.{bytes, same as sameBytes};
 
@@ -133,377 +133,377 @@ pub const POWER: [u8; 5] = *b"power";
 pub(crate) fn is_file_format(k: &[u8]) -> bool
     ensures { λ r. ⌜ r ≡ sameBytes (now (k .entry)) (bytes "FILE_FORMAT") ⌝ }
 {
-    same(k, &FILE_FORMAT)
+    spells(k, &FILE_FORMAT)
 }
 
 pub(crate) fn is_drawing_format(k: &[u8]) -> bool
     ensures { λ r. ⌜ r ≡ sameBytes (now (k .entry)) (bytes "DRAWING_FORMAT") ⌝ }
 {
-    same(k, &DRAWING_FORMAT)
+    spells(k, &DRAWING_FORMAT)
 }
 
 pub(crate) fn is_symbol_define(k: &[u8]) -> bool
     ensures { λ r. ⌜ r ≡ sameBytes (now (k .entry)) (bytes "SYMBOL_DEFINE") ⌝ }
 {
-    same(k, &SYMBOL_DEFINE)
+    spells(k, &SYMBOL_DEFINE)
 }
 
 pub(crate) fn is_element_block(k: &[u8]) -> bool
     ensures { λ r. ⌜ r ≡ sameBytes (now (k .entry)) (bytes "ELEMENT") ⌝ }
 {
-    same(k, &ELEMENT_BLOCK)
+    spells(k, &ELEMENT_BLOCK)
 }
 
 pub(crate) fn is_range(k: &[u8]) -> bool
     ensures { λ r. ⌜ r ≡ sameBytes (now (k .entry)) (bytes "range") ⌝ }
 {
-    same(k, &RANGE)
+    spells(k, &RANGE)
 }
 
 pub(crate) fn is_all_line(k: &[u8]) -> bool
     ensures { λ r. ⌜ r ≡ sameBytes (now (k .entry)) (bytes "all_line") ⌝ }
 {
-    same(k, &ALL_LINE)
+    spells(k, &ALL_LINE)
 }
 
 pub(crate) fn is_this_line(k: &[u8]) -> bool
     ensures { λ r. ⌜ r ≡ sameBytes (now (k .entry)) (bytes "this_line") ⌝ }
 {
-    same(k, &THIS_LINE)
+    spells(k, &THIS_LINE)
 }
 
 pub(crate) fn is_all_ele(k: &[u8]) -> bool
     ensures { λ r. ⌜ r ≡ sameBytes (now (k .entry)) (bytes "all_ele") ⌝ }
 {
-    same(k, &ALL_ELE)
+    spells(k, &ALL_ELE)
 }
 
 pub(crate) fn is_this_ele(k: &[u8]) -> bool
     ensures { λ r. ⌜ r ≡ sameBytes (now (k .entry)) (bytes "this_ele") ⌝ }
 {
-    same(k, &THIS_ELE)
+    spells(k, &THIS_ELE)
 }
 
 pub(crate) fn is_next_file(k: &[u8]) -> bool
     ensures { λ r. ⌜ r ≡ sameBytes (now (k .entry)) (bytes "next_file") ⌝ }
 {
-    same(k, &NEXT_FILE)
+    spells(k, &NEXT_FILE)
 }
 
 pub(crate) fn is_date(k: &[u8]) -> bool
     ensures { λ r. ⌜ r ≡ sameBytes (now (k .entry)) (bytes "date") ⌝ }
 {
-    same(k, &DATE)
+    spells(k, &DATE)
 }
 
 pub(crate) fn is_time(k: &[u8]) -> bool
     ensures { λ r. ⌜ r ≡ sameBytes (now (k .entry)) (bytes "time") ⌝ }
 {
-    same(k, &TIME)
+    spells(k, &TIME)
 }
 
 pub(crate) fn is_cad(k: &[u8]) -> bool
     ensures { λ r. ⌜ r ≡ sameBytes (now (k .entry)) (bytes "cad") ⌝ }
 {
-    same(k, &CAD)
+    spells(k, &CAD)
 }
 
 pub(crate) fn is_os(k: &[u8]) -> bool
     ensures { λ r. ⌜ r ≡ sameBytes (now (k .entry)) (bytes "os") ⌝ }
 {
-    same(k, &OS)
+    spells(k, &OS)
 }
 
 pub(crate) fn is_hard(k: &[u8]) -> bool
     ensures { λ r. ⌜ r ≡ sameBytes (now (k .entry)) (bytes "hard") ⌝ }
 {
-    same(k, &HARD)
+    spells(k, &HARD)
 }
 
 pub(crate) fn is_ver(k: &[u8]) -> bool
     ensures { λ r. ⌜ r ≡ sameBytes (now (k .entry)) (bytes "ver") ⌝ }
 {
-    same(k, &VER)
+    spells(k, &VER)
 }
 
 pub(crate) fn is_corp(k: &[u8]) -> bool
     ensures { λ r. ⌜ r ≡ sameBytes (now (k .entry)) (bytes "corp") ⌝ }
 {
-    same(k, &CORP)
+    spells(k, &CORP)
 }
 
 pub(crate) fn is_make(k: &[u8]) -> bool
     ensures { λ r. ⌜ r ≡ sameBytes (now (k .entry)) (bytes "make") ⌝ }
 {
-    same(k, &MAKE)
+    spells(k, &MAKE)
 }
 
 pub(crate) fn is_tel(k: &[u8]) -> bool
     ensures { λ r. ⌜ r ≡ sameBytes (now (k .entry)) (bytes "tel") ⌝ }
 {
-    same(k, &TEL)
+    spells(k, &TEL)
 }
 
 pub(crate) fn is_name(k: &[u8]) -> bool
     ensures { λ r. ⌜ r ≡ sameBytes (now (k .entry)) (bytes "name") ⌝ }
 {
-    same(k, &NAME)
+    spells(k, &NAME)
 }
 
 pub(crate) fn is_base(k: &[u8]) -> bool
     ensures { λ r. ⌜ r ≡ sameBytes (now (k .entry)) (bytes "base") ⌝ }
 {
-    same(k, &BASE)
+    spells(k, &BASE)
 }
 
 pub(crate) fn is_arc(k: &[u8]) -> bool
     ensures { λ r. ⌜ r ≡ sameBytes (now (k .entry)) (bytes "arc") ⌝ }
 {
-    same(k, &ARC)
+    spells(k, &ARC)
 }
 
 pub(crate) fn is_elec(k: &[u8]) -> bool
     ensures { λ r. ⌜ r ≡ sameBytes (now (k .entry)) (bytes "elec") ⌝ }
 {
-    same(k, &ELEC)
+    spells(k, &ELEC)
 }
 
 pub(crate) fn is_air(k: &[u8]) -> bool
     ensures { λ r. ⌜ r ≡ sameBytes (now (k .entry)) (bytes "air") ⌝ }
 {
-    same(k, &AIR)
+    spells(k, &AIR)
 }
 
 pub(crate) fn is_pipe(k: &[u8]) -> bool
     ensures { λ r. ⌜ r ≡ sameBytes (now (k .entry)) (bytes "pipe") ⌝ }
 {
-    same(k, &PIPE)
+    spells(k, &PIPE)
 }
 
 pub(crate) fn is_sym(k: &[u8]) -> bool
     ensures { λ r. ⌜ r ≡ sameBytes (now (k .entry)) (bytes "sym") ⌝ }
 {
-    same(k, &SYM)
+    spells(k, &SYM)
 }
 
 pub(crate) fn is_b_sym(k: &[u8]) -> bool
     ensures { λ r. ⌜ r ≡ sameBytes (now (k .entry)) (bytes "B_sym") ⌝ }
 {
-    same(k, &B_SYM)
+    spells(k, &B_SYM)
 }
 
 pub(crate) fn is_e_sym(k: &[u8]) -> bool
     ensures { λ r. ⌜ r ≡ sameBytes (now (k .entry)) (bytes "E_sym") ⌝ }
 {
-    same(k, &E_SYM)
+    spells(k, &E_SYM)
 }
 
 pub(crate) fn is_e_wire(k: &[u8]) -> bool
     ensures { λ r. ⌜ r ≡ sameBytes (now (k .entry)) (bytes "E_wire") ⌝ }
 {
-    same(k, &E_WIRE)
+    spells(k, &E_WIRE)
 }
 
 pub(crate) fn is_e_cirno(k: &[u8]) -> bool
     ensures { λ r. ⌜ r ≡ sameBytes (now (k .entry)) (bytes "E_cirno") ⌝ }
 {
-    same(k, &E_CIRNO)
+    spells(k, &E_CIRNO)
 }
 
 pub(crate) fn is_s_base(k: &[u8]) -> bool
     ensures { λ r. ⌜ r ≡ sameBytes (now (k .entry)) (bytes "S_base") ⌝ }
 {
-    same(k, &S_BASE)
+    spells(k, &S_BASE)
 }
 
 pub(crate) fn is_s_elec(k: &[u8]) -> bool
     ensures { λ r. ⌜ r ≡ sameBytes (now (k .entry)) (bytes "S_elec") ⌝ }
 {
-    same(k, &S_ELEC)
+    spells(k, &S_ELEC)
 }
 
 pub(crate) fn is_size(k: &[u8]) -> bool
     ensures { λ r. ⌜ r ≡ sameBytes (now (k .entry)) (bytes "size") ⌝ }
 {
-    same(k, &SIZE)
+    spells(k, &SIZE)
 }
 
 pub(crate) fn is_scale(k: &[u8]) -> bool
     ensures { λ r. ⌜ r ≡ sameBytes (now (k .entry)) (bytes "scale") ⌝ }
 {
-    same(k, &SCALE)
+    spells(k, &SCALE)
 }
 
 pub(crate) fn is_project(k: &[u8]) -> bool
     ensures { λ r. ⌜ r ≡ sameBytes (now (k .entry)) (bytes "project") ⌝ }
 {
-    same(k, &PROJECT)
+    spells(k, &PROJECT)
 }
 
 pub(crate) fn is_drawname(k: &[u8]) -> bool
     ensures { λ r. ⌜ r ≡ sameBytes (now (k .entry)) (bytes "drawname") ⌝ }
 {
-    same(k, &DRAWNAME)
+    spells(k, &DRAWNAME)
 }
 
 pub(crate) fn is_drawer(k: &[u8]) -> bool
     ensures { λ r. ⌜ r ≡ sameBytes (now (k .entry)) (bytes "drawer") ⌝ }
 {
-    same(k, &DRAWER)
+    spells(k, &DRAWER)
 }
 
 pub(crate) fn is_floor_height(k: &[u8]) -> bool
     ensures { λ r. ⌜ r ≡ sameBytes (now (k .entry)) (bytes "floor_height") ⌝ }
 {
-    same(k, &FLOOR_HEIGHT)
+    spells(k, &FLOOR_HEIGHT)
 }
 
 pub(crate) fn is_layer_name(k: &[u8]) -> bool
     ensures { λ r. ⌜ r ≡ sameBytes (now (k .entry)) (bytes "layer_name") ⌝ }
 {
-    same(k, &LAYER_NAME)
+    spells(k, &LAYER_NAME)
 }
 
 pub(crate) fn is_non(k: &[u8]) -> bool
     ensures { λ r. ⌜ r ≡ sameBytes (now (k .entry)) (bytes "NON") ⌝ }
 {
-    same(k, &NON)
+    spells(k, &NON)
 }
 
 pub(crate) fn is_e_symbol(k: &[u8]) -> bool
     ensures { λ r. ⌜ r ≡ sameBytes (now (k .entry)) (bytes "E_symbol") ⌝ }
 {
-    same(k, &E_SYMBOL)
+    spells(k, &E_SYMBOL)
 }
 
 pub(crate) fn is_element(k: &[u8]) -> bool
     ensures { λ r. ⌜ r ≡ sameBytes (now (k .entry)) (bytes "element") ⌝ }
 {
-    same(k, &ELEMENT)
+    spells(k, &ELEMENT)
 }
 
 pub(crate) fn is_hide(k: &[u8]) -> bool
     ensures { λ r. ⌜ r ≡ sameBytes (now (k .entry)) (bytes "hide") ⌝ }
 {
-    same(k, &HIDE)
+    spells(k, &HIDE)
 }
 
 pub(crate) fn is_wall(k: &[u8]) -> bool
     ensures { λ r. ⌜ r ≡ sameBytes (now (k .entry)) (bytes "wall") ⌝ }
 {
-    same(k, &WALL)
+    spells(k, &WALL)
 }
 
 pub(crate) fn is_layer(k: &[u8]) -> bool
     ensures { λ r. ⌜ r ≡ sameBytes (now (k .entry)) (bytes "LAYER") ⌝ }
 {
-    same(k, &LAYER)
+    spells(k, &LAYER)
 }
 
 pub(crate) fn is_line(k: &[u8]) -> bool
     ensures { λ r. ⌜ r ≡ sameBytes (now (k .entry)) (bytes "line") ⌝ }
 {
-    same(k, &LINE)
+    spells(k, &LINE)
 }
 
 pub(crate) fn is_circle(k: &[u8]) -> bool
     ensures { λ r. ⌜ r ≡ sameBytes (now (k .entry)) (bytes "circle") ⌝ }
 {
-    same(k, &CIRCLE)
+    spells(k, &CIRCLE)
 }
 
 pub(crate) fn is_ellipse(k: &[u8]) -> bool
     ensures { λ r. ⌜ r ≡ sameBytes (now (k .entry)) (bytes "ellipse") ⌝ }
 {
-    same(k, &ELLIPSE)
+    spells(k, &ELLIPSE)
 }
 
 pub(crate) fn is_point(k: &[u8]) -> bool
     ensures { λ r. ⌜ r ≡ sameBytes (now (k .entry)) (bytes "point") ⌝ }
 {
-    same(k, &POINT)
+    spells(k, &POINT)
 }
 
 pub(crate) fn is_successive(k: &[u8]) -> bool
     ensures { λ r. ⌜ r ≡ sameBytes (now (k .entry)) (bytes "successive") ⌝ }
 {
-    same(k, &SUCCESSIVE)
+    spells(k, &SUCCESSIVE)
 }
 
 pub(crate) fn is_text(k: &[u8]) -> bool
     ensures { λ r. ⌜ r ≡ sameBytes (now (k .entry)) (bytes "text") ⌝ }
 {
-    same(k, &TEXT)
+    spells(k, &TEXT)
 }
 
 pub(crate) fn is_type(k: &[u8]) -> bool
     ensures { λ r. ⌜ r ≡ sameBytes (now (k .entry)) (bytes "type") ⌝ }
 {
-    same(k, &TYPE)
+    spells(k, &TYPE)
 }
 
 pub(crate) fn is_character(k: &[u8]) -> bool
     ensures { λ r. ⌜ r ≡ sameBytes (now (k .entry)) (bytes "character") ⌝ }
 {
-    same(k, &CHARACTER)
+    spells(k, &CHARACTER)
 }
 
 pub(crate) fn is_symbol(k: &[u8]) -> bool
     ensures { λ r. ⌜ r ≡ sameBytes (now (k .entry)) (bytes "symbol") ⌝ }
 {
-    same(k, &SYMBOL)
+    spells(k, &SYMBOL)
 }
 
 pub(crate) fn is_hight(k: &[u8]) -> bool
     ensures { λ r. ⌜ r ≡ sameBytes (now (k .entry)) (bytes "hight") ⌝ }
 {
-    same(k, &HIGHT)
+    spells(k, &HIGHT)
 }
 
 pub(crate) fn is_pos(k: &[u8]) -> bool
     ensures { λ r. ⌜ r ≡ sameBytes (now (k .entry)) (bytes "pos") ⌝ }
 {
-    same(k, &POS)
+    spells(k, &POS)
 }
 
 pub(crate) fn is_circuit(k: &[u8]) -> bool
     ensures { λ r. ⌜ r ≡ sameBytes (now (k .entry)) (bytes "circuit") ⌝ }
 {
-    same(k, &CIRCUIT)
+    spells(k, &CIRCUIT)
 }
 
 pub(crate) fn is_serial(k: &[u8]) -> bool
     ensures { λ r. ⌜ r ≡ sameBytes (now (k .entry)) (bytes "serial") ⌝ }
 {
-    same(k, &SERIAL)
+    spells(k, &SERIAL)
 }
 
 pub(crate) fn is_direc(k: &[u8]) -> bool
     ensures { λ r. ⌜ r ≡ sameBytes (now (k .entry)) (bytes "direc") ⌝ }
 {
-    same(k, &DIREC)
+    spells(k, &DIREC)
 }
 
 pub(crate) fn is_piend(k: &[u8]) -> bool
     ensures { λ r. ⌜ r ≡ sameBytes (now (k .entry)) (bytes "piend") ⌝ }
 {
-    same(k, &PIEND)
+    spells(k, &PIEND)
 }
 
 pub(crate) fn is_num(k: &[u8]) -> bool
     ensures { λ r. ⌜ r ≡ sameBytes (now (k .entry)) (bytes "num") ⌝ }
 {
-    same(k, &NUM)
+    spells(k, &NUM)
 }
 
 pub(crate) fn is_length(k: &[u8]) -> bool
     ensures { λ r. ⌜ r ≡ sameBytes (now (k .entry)) (bytes "length") ⌝ }
 {
-    same(k, &LENGTH)
+    spells(k, &LENGTH)
 }
 
 pub(crate) fn is_power(k: &[u8]) -> bool
     ensures { λ r. ⌜ r ≡ sameBytes (now (k .entry)) (bytes "power") ⌝ }
 {
-    same(k, &POWER)
+    spells(k, &POWER)
 }

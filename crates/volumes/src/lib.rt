@@ -177,18 +177,16 @@ pub fn put_set(s: &[u8], out: &mut [u8]) -> Wrote
 {
     let l = volumes(s);
     let count = l.count as usize;
-    let places = l.places;
-    let lengths = l.lengths;
     let mut notes = [0u32; MOST_ROWS];
     let mut at = 0;
     let mut i = 0;
     while i < count {
-        let start = places[i];
+        let start = l.places[i];
         let body = part(
             s,
             Span {
                 at: start,
-                len: lengths[i],
+                len: l.lengths[i],
             },
         );
         let wrote = put_volume(s, body, start, i == 0, &mut notes, &mut out[at..]);

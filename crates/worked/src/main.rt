@@ -10,7 +10,7 @@ use leaves::Wrote;
 use leaves::bytes::all_in;
 use leaves::bytes::allowed;
 use leaves::bytes::is_layer_id;
-use leaves::bytes::same;
+use leaves::bytes::spells;
 use leaves::numbers::clock;
 use leaves::numbers::count;
 use leaves::numbers::day;
@@ -133,7 +133,7 @@ fn texts() {
     show_bool(b"A:{", all_in(b"A:{", 4));
     show_bool(b"a\tb", allowed(b"a\tb"));
     show_bool(b"a b", allowed(b"a b"));
-    show_bool(b"next_file next_fil", same(b"next_file", b"next_fil"));
+    show_bool(b"next_file next_fil", spells(b"next_file", b"next_fil"));
 }
 
 // The decimal before the first comma has this value, in ten-thousandths, and ends here.

@@ -8,10 +8,10 @@ use Rattle.volumes.proofs.put_set.Statement.{statement}
 use Rattle.volumes.proofs.put_set.Tie as tie
 
 abbrev Inv-loop : tie.InvT-loop
-Inv-loop s out₀ count places lengths notes₀ at₀ i₀ out notes at i = Going s out₀ out notes at i
+Inv-loop s out₀ l count notes₀ at₀ i₀ out notes at i = Going s out₀ out notes at i
 
 abbrev μ-loop : tie.MeasureT-loop
-μ-loop s out₀ count places lengths notes₀ at₀ i₀ out notes at i = count - i
+μ-loop s out₀ l count notes₀ at₀ i₀ out notes at i = count - i
 
 volumes-requires : tie.Need-volumes-requires Inv-loop μ-loop
 volumes-requires c κs = tt
@@ -23,16 +23,16 @@ loop-holds : tie.Need-loop-holds Inv-loop μ-loop
 loop-holds c = begins _ _ _ refl
 
 mul-start : tie.Need-mul-start Inv-loop μ-loop
-mul-start c = omega (arith, c .before .loop .inv .fits, few _ _ _ (c .before .before .before .before .before .volumes .ensures) (c .loop-test .taken))
+mul-start c = omega (arith, c .before .loop .inv .fits, few _ _ _ (c .before .before .volumes .ensures) (c .loop-test .taken))
 
-array-read-start : tie.Need-array-read-start Inv-loop μ-loop
-array-read-start c = few _ _ _ (c .before .before .before .before .before .volumes .ensures) (c .loop-test .taken)
+element-copy-out-start : tie.Need-element-copy-out-start Inv-loop μ-loop
+element-copy-out-start c = few _ _ _ (c .before .before .volumes .ensures) (c .loop-test .taken)
 
 mul-t15 : tie.Need-mul-t15 Inv-loop μ-loop
-mul-t15 c = omega (arith, few _ _ _ (c .before .before .before .before .before .volumes .ensures) (c .loop-test .taken))
+mul-t15 c = omega (arith, few _ _ _ (c .before .before .before .volumes .ensures) (c .before .loop-test .taken))
 
-array-read-t18 : tie.Need-array-read-t18 Inv-loop μ-loop
-array-read-t18 c = few _ _ _ (c .before .before .before .before .before .volumes .ensures) (c .loop-test .taken)
+element-copy-out-t18 : tie.Need-element-copy-out-t18 Inv-loop μ-loop
+element-copy-out-t18 c = few _ _ _ (c .before .before .before .volumes .ensures) (c .before .loop-test .taken)
 
 part-requires : tie.Need-part-requires Inv-loop μ-loop
 part-requires c κs = search needs
@@ -41,7 +41,7 @@ slice-aggregate-put-volume : tie.Need-slice-aggregate-put-volume Inv-loop μ-loo
 slice-aggregate-put-volume c = search needs
 
 sub-put-volume : tie.Need-sub-put-volume Inv-loop μ-loop
-sub-put-volume c = c .before .before .before .loop .inv .fits
+sub-put-volume c = c .before .before .before .before .before .loop .inv .fits
 
 part-put-volume-start : tie.Need-part-put-volume-start Inv-loop μ-loop
 part-put-volume-start c = search needs
@@ -50,7 +50,7 @@ part-put-volume-end : tie.Need-part-put-volume-end Inv-loop μ-loop
 part-put-volume-end c = search needs
 
 put-volume-requires : tie.Need-put-volume-requires Inv-loop μ-loop
-put-volume-requires c κs = c .before .before .before .before .loop .inv .many
+put-volume-requires c κs = c .before .before .before .before .before .before .loop .inv .many
 
 enum-known-wrote : tie.Need-enum-known-wrote Inv-loop μ-loop
 enum-known-wrote c = search needs
@@ -59,28 +59,28 @@ enum-told : tie.Need-enum-told Inv-loop μ-loop
 enum-told c = search needs
 
 same-length : tie.Need-same-length Inv-loop μ-loop
-same-length c = within-long _ _ (c .before .before .before .before .before .before .before .before .before .before .loop .inv .fits) _ _ (c .before .before .before .before .before .put-volume .ensures .0) ∙ c .before .before .before .before .before .before .before .before .before .before .loop .inv .long
+same-length c = within-long _ _ (c .before .before .before .before .before .before .before .before .before .before .before .before .loop .inv .fits) _ _ (c .before .before .before .before .before .put-volume .ensures .0) ∙ c .before .before .before .before .before .before .before .before .before .before .before .before .loop .inv .long
 
 returns : tie.Need-returns Inv-loop μ-loop
-returns c = no-room _ _ _ _ _ _ (c .before .before .before .before .before .before .before .before .before .before .loop .inv) _ (c .before .before .before .before .before .before .before .before .before .before .before .before .before .before .volumes .ensures) (c .before .before .before .before .before .before .before .before .before .loop-test .taken) (c .before .before .before .before .before .before .before .before .before .before .loop .inv .fits) (c .before .before .before .before .before .before .before .before .part .result .now) (c .before .before .before .before .before .before .before .before .part .ensures) _ _ (c .before .before .before .before .before .put-volume .ensures .0) (c .before .before .before .before .before .put-volume .ensures .2) (c .enum-told .given .1)
+returns c = no-room _ _ _ _ _ _ (c .before .before .before .before .before .before .before .before .before .before .before .before .loop .inv) _ (c .before .before .before .before .before .before .before .before .before .before .before .before .before .volumes .ensures) (c .before .before .before .before .before .before .before .before .before .before .before .loop-test .taken) (c .before .before .before .before .before .before .before .before .before .before .before .before .loop .inv .fits) (c .before .before .before .before .before .before .before .before .part .result .now) (c .before .before .before .before .before .before .before .before .part .ensures) _ _ (c .before .before .before .before .before .put-volume .ensures .0) (c .before .before .before .before .before .put-volume .ensures .2) (c .enum-told .given .1)
 
 add-at : tie.Need-add-at Inv-loop μ-loop
-add-at c = omega (arith, lent-room (c .before .before .before .before .before .before .before .before .before .before .before .loop .at) (c .before .before .before .before .before .before .before .before .before .before .before .loop .out) (c .before .before .before .before .before .before .before .before .before .before .before .loop .inv .fits) _ _ _ (c .before .before .before .before .before .before .put-volume .ensures .0) (c .before .wrote .given .1))
+add-at c = omega (arith, lent-room (c .before .before .before .before .before .before .before .before .before .before .before .before .before .loop .at) (c .before .before .before .before .before .before .before .before .before .before .before .before .before .loop .out) (c .before .before .before .before .before .before .before .before .before .before .before .before .before .loop .inv .fits) _ _ _ (c .before .before .before .before .before .before .put-volume .ensures .0) (c .before .wrote .given .1))
 
 add-i : tie.Need-add-i Inv-loop μ-loop
-add-i c = omega (arith, few _ _ _ (c .before .before .before .before .before .before .before .before .before .before .before .before .before .before .before .volumes .ensures) (c .before .before .before .before .before .before .before .before .before .before .loop-test .taken))
+add-i c = omega (arith, few _ _ _ (c .before .before .before .before .before .before .before .before .before .before .before .before .before .before .volumes .ensures) (c .before .before .before .before .before .before .before .before .before .before .before .before .loop-test .taken))
 
 loop-less : tie.Need-loop-less Inv-loop μ-loop
-loop-less c = omega (arith, c .before .before .before .before .before .before .before .before .before .before .loop-test .taken)
+loop-less c = omega (arith, c .before .before .before .before .before .before .before .before .before .before .before .before .loop-test .taken)
 
 loop-again : tie.Need-loop-again Inv-loop μ-loop
-loop-again c = goes-on _ _ _ _ _ _ (c .before .before .before .before .before .before .before .before .before .before .before .loop .inv) _ (c .before .before .before .before .before .before .before .before .before .before .before .before .before .before .before .volumes .ensures) (c .before .before .before .before .before .before .before .before .before .before .loop-test .taken) (c .before .before .before .before .before .before .before .before .before .before .before .loop .inv .fits) (c .before .before .before .before .before .before .before .before .before .part .result .now) (c .before .before .before .before .before .before .before .before .before .part .ensures) _ _ (c .before .before .before .before .before .before .put-volume .ensures .0) (c .before .before .before .before .before .before .put-volume .ensures .2) _ (c .before .before .before .before .before .before .put-volume .ensures .1) _ (c .before .wrote .given .1)
+loop-again c = goes-on _ _ _ _ _ _ (c .before .before .before .before .before .before .before .before .before .before .before .before .before .loop .inv) _ (c .before .before .before .before .before .before .before .before .before .before .before .before .before .before .volumes .ensures) (c .before .before .before .before .before .before .before .before .before .before .before .before .loop-test .taken) (c .before .before .before .before .before .before .before .before .before .before .before .before .before .loop .inv .fits) (c .before .before .before .before .before .before .before .before .before .part .result .now) (c .before .before .before .before .before .before .before .before .before .part .ensures) _ _ (c .before .before .before .before .before .before .put-volume .ensures .0) (c .before .before .before .before .before .before .put-volume .ensures .2) _ (c .before .before .before .before .before .before .put-volume .ensures .1) _ (c .before .wrote .given .1)
 
 same-length-2 : tie.Need-same-length-2 Inv-loop μ-loop
 same-length-2 c = c .before .loop .inv .long
 
 returns-2 : tie.Need-returns-2 Inv-loop μ-loop
-returns-2 c = ends _ _ _ _ _ _ (c .before .loop .inv) _ (c .before .before .before .before .before .volumes .ensures) (omega (arith, c .loop-test .left))
+returns-2 c = ends _ _ _ _ _ _ (c .before .loop .inv) _ (c .before .before .volumes .ensures) (omega (arith, c .loop-test .left))
 
 pub put-set-spec : {M : Type 1} → statement M
 put-set-spec =
@@ -92,9 +92,9 @@ put-set-spec =
     cast-count
     loop-holds
     mul-start
-    array-read-start
+    element-copy-out-start
     mul-t15
-    array-read-t18
+    element-copy-out-t18
     part-requires
     slice-aggregate-put-volume
     sub-put-volume

@@ -8,32 +8,32 @@ use Rattle.elements.proofs.skip.ends_open.Tie as tie
 returns : tie.Need-returns
 returns c = sym (too-short (c .before .before .args .c .now) (c .if1 .taken))
 
-sub-same : tie.Need-sub-same
-sub-same c = search needs
+sub-spells : tie.Need-sub-spells
+sub-spells c = search needs
 
-part-same-start : tie.Need-part-same-start
-part-same-start c = search needs
+part-spells-start : tie.Need-part-spells-start
+part-spells-start c = search needs
 
-part-same-end : tie.Need-part-same-end
-part-same-end c = search needs
+part-spells-end : tie.Need-part-spells-end
+part-spells-end c = search needs
 
-slice-aggregate-same : tie.Need-slice-aggregate-same
-slice-aggregate-same c = search needs
+slice-aggregate-spells : tie.Need-slice-aggregate-spells
+slice-aggregate-spells c = search needs
 
-same-requires : tie.Need-same-requires
-same-requires c κs = search needs
+spells-requires : tie.Need-spells-requires
+spells-requires c κs = search needs
 
 returns-2 : tie.Need-returns-2
-returns-2 c = c .same .ensures ∙ sym (last-two (c .before .before .before .before .before .args .c .now) (omega (arith, c .before .before .before .if1 .left)))
+returns-2 c = c .spells .ensures ∙ sym (last-two (c .before .before .before .before .before .args .c .now) (omega (arith, c .before .before .before .if1 .left)))
 
 pub ends-open-spec : {M : Type 1} → statement M
 ends-open-spec =
     tie.close
     (tie.spec
     returns
-    sub-same
-    part-same-start
-    part-same-end
-    slice-aggregate-same
-    same-requires
+    sub-spells
+    part-spells-start
+    part-spells-end
+    slice-aggregate-spells
+    spells-requires
     returns-2)

@@ -11,14 +11,14 @@ use Rattle.elements.proofs.skip.skip_equation.Tie as tie
 part-requires : tie.Need-part-requires
 part-requires c κs = search needs
 
-slice-aggregate-same : tie.Need-slice-aggregate-same
-slice-aggregate-same c = search needs
+slice-aggregate-spells : tie.Need-slice-aggregate-spells
+slice-aggregate-spells c = search needs
 
-same-requires : tie.Need-same-requires
-same-requires c κs = search needs
+spells-requires : tie.Need-spells-requires
+spells-requires c κs = search needs
 
 returns : tie.Need-returns
-returns c = sym (free (c .before .before .before .before .before .args .s .now) (c .before .before .before .before .before .args .q) (ap (λ (k : List ℕ). same k (bytes "character")) (sym (c .before .before .before .part .ensures)) ∙ sym (c .before .same .ensures) ∙ c .if1 .taken))
+returns c = sym (free (c .before .before .before .before .before .args .s .now) (c .before .before .before .before .before .args .q) (ap (λ (k : List ℕ). same k (bytes "character")) (sym (c .before .before .before .part .ensures)) ∙ sym (c .before .spells .ensures) ∙ c .if1 .taken))
 
 part-requires-2 : tie.Need-part-requires-2
 part-requires-2 c κs = search needs
@@ -27,15 +27,15 @@ skip-content-requires : tie.Need-skip-content-requires
 skip-content-requires c κs = search needs
 
 returns-2 : tie.Need-returns-2
-returns-2 c = c .skip-content .ensures ∙ ap skipContent (c .before .part2 .ensures) ∙ sym (not-free (c .before .before .before .before .before .before .before .args .s .now) (c .before .before .before .before .before .before .before .args .q) (ap (λ (k : List ℕ). same k (bytes "character")) (sym (c .before .before .before .before .before .part .ensures)) ∙ sym (c .before .before .before .same .ensures) ∙ c .before .before .if1 .left))
+returns-2 c = c .skip-content .ensures ∙ ap skipContent (c .before .part2 .ensures) ∙ sym (not-free (c .before .before .before .before .before .before .before .args .s .now) (c .before .before .before .before .before .before .before .args .q) (ap (λ (k : List ℕ). same k (bytes "character")) (sym (c .before .before .before .before .before .part .ensures)) ∙ sym (c .before .before .before .spells .ensures) ∙ c .before .before .if1 .left))
 
 pub skip-equation-spec : {M : Type 1} → statement M
 skip-equation-spec =
     tie.close
     (tie.spec
     part-requires
-    slice-aggregate-same
-    same-requires
+    slice-aggregate-spells
+    spells-requires
     returns
     part-requires-2
     skip-content-requires
