@@ -1,7 +1,7 @@
 # The lines that begin with ## are what `make help` prints; every target that people call has one.
 
 .PHONY: help try answer preview rules accread accfix accclass library host build install dist test gate-steps needs layout samples keys \
-	sentences pictures programs commands c-side reference compared edits-found broken-rules edits bench bench-spools native-bench stack compare sanitize
+	sentences pictures programs commands c-side reference compared edits-found broken-rules edits bench bench-spools native-bench stack stack-kept stack-bound compare sanitize
 
 ## make help                  this list; bare `make` is the same
 help:
@@ -100,7 +100,7 @@ test:
 	@tools/gate $(MAKE) --no-print-directory gate-steps
 
 # rt proves in batches that wait for their slowest: four at a time keep two processors busy.
-gate-steps: needs layout samples keys sentences pictures c-side reference programs commands compared edits-found broken-rules
+gate-steps: needs layout samples keys sentences pictures c-side stack-bound reference programs commands compared edits-found broken-rules
 	RT_JOBS=4 rt ci
 
 # Before anything is tried: what the gate calls is there.
@@ -142,6 +142,11 @@ commands:
 ## make c-side                header, example host and drivers compile without a warning, and the header's prototypes are the code's: seconds
 c-side:
 	tools/c-side
+
+## make stack-bound           none of the three functions for C takes 1 KB of stack more than bench/STACK says, whatever the spool; no key is laid
+##                            out in an array to be compared: the code is built without proof, in under half a minute
+stack-bound: bench-spools
+	tools/stack --check $(STACK_SPOOLS)
 
 ## make reference             the tests of tests/reference, which answers the samples and vectors as they are listed: seconds
 reference:
@@ -194,12 +199,20 @@ native-bench: bench-spools
 	cc -O2 -Iinclude -o target/read-native bench/read.c bench/plain.c target/host.o
 	target/read-native $(TIMED_SPOOLS)
 
-## make stack                 the bytes of stack that the check, the reader and the rewriter take
+# What the stack is measured on.
+STACK_SPOOLS = examples/*.spool $(TIMED_SPOOLS)
+
+## make stack                 the stack of the check, the reader and the rewriter: the most it can be, what is measured, every function and array
 stack: bench-spools
-	@tools/x86 need cc run
+	@tools/x86 need run
 	@$(MAKE) --no-print-directory library
-	tools/x86 cc -O2 -Iinclude -pthread -o target/stack bench/stack.c target/libploverdell.a
-	tools/x86 run target/stack examples/*.spool $(TIMED_SPOOLS)
+	tools/stack $(STACK_SPOOLS)
+
+## make stack-kept            the same, and bench/STACK written, which the gate goes by
+stack-kept: bench-spools
+	@tools/x86 need run
+	@$(MAKE) --no-print-directory library
+	tools/stack --write $(STACK_SPOOLS)
 
 N = 100000
 SEED = 1

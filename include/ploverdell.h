@@ -15,8 +15,8 @@
  * - What is lent to be written (table, out, *count) overlaps nothing else that the same call is lent, the spool among it.
  * - A table, and *count, is aligned to 8 bytes, as C aligns an int64_t.
  * - Nobody else writes what is lent, and nobody reads the table, the output or *count, till the call returns.
- * - The stack has room. Measured (bench/FIGURES.md): 92,604 bytes for ploverdell_check, 65,536 of them its table;
- *   27,148 for ploverdell_read and 27,968 for ploverdell_rewrite beside what is lent. A thread of 96 KB holds each.
+ * - The stack has room: at most 27,021 bytes for ploverdell_check, 27,069 for ploverdell_read and 27,917 for ploverdell_rewrite, whatever
+ *   the spool, by the compiled code (bench/FIGURES.md). A thread of 40 KB holds each.
  * Calls share nothing and keep nothing, so any number of them may run at once, in as many threads. */
 #ifndef PLOVERDELL_H
 #define PLOVERDELL_H
@@ -31,8 +31,8 @@ extern "C" {
 /* The version: the first number changes with a prototype or with the places of a record, the second where more is served, the third else. */
 #define PLOVERDELL_VERSION_MAJOR 1
 #define PLOVERDELL_VERSION_MINOR 1
-#define PLOVERDELL_VERSION_PATCH 0
-#define PLOVERDELL_VERSION "1.1.0"
+#define PLOVERDELL_VERSION_PATCH 1
+#define PLOVERDELL_VERSION "1.1.1"
 
 /* An answer taken apart. */
 #define PLOVERDELL_NUMBER(answer) ((answer) % 100)
@@ -363,7 +363,7 @@ enum ploverdell_hide_point_place {
 
 /* ── end of what is made ── */
 
-/* Judges a spool with a table of 256 records of its own (64 KB of stack, and what the reader needs beside it). */
+/* Judges a spool as ploverdell_read does with a table of 256 records (19 where there are more). It is lent none and lays none out. */
 uint64_t ploverdell_check(const uint8_t *spool, size_t spool_len, uint64_t cls, uint64_t wire);
 
 /* Reads a spool into a table of table_len numbers, 32 to a record. Accepted: the records stand at its front, *count of them, and zeros

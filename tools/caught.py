@@ -17,13 +17,13 @@ def own():
     return kit() / "on" / os.uname().machine
 
 
-def module(words, room):
-    """The first module that `rt WORDS` compiles: rt puts it into the folder for temporary files while it works."""
+def module(words, room, top=TOP):
+    """The first module that `rt WORDS` compiles in the repository `top`: rt puts it into the folder for temporary files while it works."""
     work = room / "work"
     work.mkdir()
     said = room / "said"
     with open(said, "wb") as to:
-        rt = subprocess.Popen(["rt", *words], cwd=TOP, env={**os.environ, "TMPDIR": str(work)}, stdout=to, stderr=subprocess.STDOUT)
+        rt = subprocess.Popen(["rt", *words], cwd=top, env={**os.environ, "TMPDIR": str(work)}, stdout=to, stderr=subprocess.STDOUT)
     seen = {}
     while rt.poll() is None:
         for found in work.glob("*/module.bc"):
