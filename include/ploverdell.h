@@ -16,7 +16,7 @@
  * - A table, and *count, is aligned to 8 bytes, as C aligns an int64_t.
  * - Nobody else writes what is lent, and nobody reads the table, the output or *count, till the call returns.
  * - The stack has room: at most 27,021 bytes for ploverdell_check, 27,069 for ploverdell_read and 27,917 for ploverdell_rewrite, whatever
- *   the spool, by the compiled code (bench/FIGURES.md). A thread of 40 KB holds each.
+ *   the spool, by the compiled code, what the C library's memcpy and memset take not counted (bench/FIGURES.md). A thread of 40 KB holds each.
  * Calls share nothing and keep nothing, so any number of them may run at once, in as many threads. */
 #ifndef PLOVERDELL_H
 #define PLOVERDELL_H
