@@ -176,7 +176,7 @@ edits:
 
 # The spools that the reader is timed on; the first is the mixed floor that the others are compared with.
 TIMED = floor-60k floor-8k lines mixed-figures placed-symbols only-symbols only-long-names only-serials only-partners only-found \
-	only-wires only-wire-serials only-layers only-comments only-long-comments only-empty-lines
+	only-wires only-wire-serials only-circles only-turnless-circles only-layers only-comments only-long-comments only-empty-lines
 TIMED_SPOOLS = $(TIMED:%=target/bench/%.spool)
 
 bench-spools:

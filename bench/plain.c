@@ -214,7 +214,10 @@ static int typed(line l, int decimals, int plain, int64_t *type, int64_t *out) {
     return fixed(t, 4, type) && values(l.rest.at + 5, l.rest.at + l.rest.len, decimals, plain, out);
 }
 
-static int angle(int64_t v) { return v >= 0 && v <= 3600000; }
+/* ten-thousandths of a degree */
+enum { WHOLE_TURN = 3600000 };
+
+static int angle(int64_t v) { return v >= 0 && v <= WHOLE_TURN; }
 
 static int date(bytes t, int64_t *out) {
     REFUSE_UNLESS(fixed(t, 8, out));
@@ -266,6 +269,14 @@ static int text_block(reader *r, int64_t *to) {
     }
 }
 
+/* An arc's seven values, or in a symbol the six of a whole circle, whose turn is then -1. */
+static int circle_values(reader *r, line l, int64_t *type, int64_t *v) {
+    if (typed(l, 5, 1, type, v)) return v[2] > 0 && angle(v[3]) && angle(v[4]) && v[3] != v[4] && v[5] <= 1;
+    REFUSE_UNLESS(r->in_symbol && typed(l, 5, 0, type, v));
+    v[5] = -1;
+    return v[2] > 0 && v[3] == 0 && v[4] == WHOLE_TURN;
+}
+
 /* A figure that symbols and layers have: 1, or 0 where it is refused, or -1 where the key is another. */
 static int figure(reader *r, line l, int64_t owner) {
     int plus = r->in_symbol ? 20 : 0;
@@ -284,8 +295,7 @@ static int figure(reader *r, line l, int64_t owner) {
         return 1;
     }
     if (IS(l, "circle")) {
-        REFUSE_UNLESS(typed(l, 5, 1, &type, v) && v[2] > 0 && angle(v[3]) && angle(v[4]) && v[3] != v[4] && v[5] <= 1);
-        REFUSE_UNLESS(rec = take(r, 11 + plus, owner));
+        REFUSE_UNLESS(circle_values(r, l, &type, v) && (rec = take(r, 11 + plus, owner)));
         rec[4] = type;
         memcpy(rec + 5, v, 6 * sizeof *v);
         return 1;
@@ -467,7 +477,7 @@ static int site(bytes t, int64_t most, int64_t *v) {
 
 static int wire_direc(bytes t, int64_t *own) {
     int64_t *to = own + 7 + 4 * own[6];
-    REFUSE_UNLESS(own[6] < 2 && digit_first(&t, 4, to) && site(t, 3600000, to + 1));
+    REFUSE_UNLESS(own[6] < 2 && digit_first(&t, 4, to) && site(t, WHOLE_TURN, to + 1));
     own[6]++;
     own[26] = 2;
     return 1;
@@ -475,7 +485,7 @@ static int wire_direc(bytes t, int64_t *own) {
 
 static int wire_piend(bytes t, int64_t *own) {
     int64_t later[3];
-    REFUSE_UNLESS(site(t, 3600000, own[15] ? later : own + 16));
+    REFUSE_UNLESS(site(t, WHOLE_TURN, own[15] ? later : own + 16));
     own[15]++;
     own[27] = 2;
     return 1;

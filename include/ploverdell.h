@@ -30,9 +30,9 @@ extern "C" {
 
 /* The version: the first number changes with a prototype or with the places of a record, the second where more is served, the third else. */
 #define PLOVERDELL_VERSION_MAJOR 1
-#define PLOVERDELL_VERSION_MINOR 1
-#define PLOVERDELL_VERSION_PATCH 1
-#define PLOVERDELL_VERSION "1.1.1"
+#define PLOVERDELL_VERSION_MINOR 2
+#define PLOVERDELL_VERSION_PATCH 0
+#define PLOVERDELL_VERSION "1.2.0"
 
 /* An answer taken apart. */
 #define PLOVERDELL_NUMBER(answer) ((answer) % 100)
@@ -118,6 +118,13 @@ enum ploverdell_join {
     PLOVERDELL_JOIN_NONE = 0,
     PLOVERDELL_JOIN_TESTED = 1,
     PLOVERDELL_JOIN_UNTESTED = 2
+};
+
+/* Which way an arc goes from start to end; none where a whole circle, in a symbol, was written without a turn. */
+enum ploverdell_turn {
+    PLOVERDELL_TURN_NONE = -1,
+    PLOVERDELL_TURN_COUNTERCLOCKWISE = 0,
+    PLOVERDELL_TURN_CLOCKWISE = 1
 };
 
 /* The places that every record has. */

@@ -2,7 +2,7 @@
 bytes are changed. The first two digits of a name are the refusal number that is meant; the answer itself is the reference's."""
 import collections
 
-from drawings import Sheet, drawing, encoded, line, placed, placed_plain, point, spool_of, successive, text, volumes_of, wire
+from drawings import Sheet, circle, drawing, encoded, line, placed, placed_plain, point, spool_of, successive, text, volumes_of, whole_circle, wire
 
 # A spool, the class and wire part that read it, the records that there is room for, and whether the rewriter is asked.
 Damaged = collections.namedtuple("Damaged", "spool front room rewrite", defaults=((15, 18), 256, False))
@@ -31,6 +31,10 @@ PARTS = bytes(drawing(sheet(), THREE_VOLUMES).bytes)
 # E_sym 001, where a placed symbol is one line; and one without symbols, wires and layers.
 SINGLE = bytes(drawing(sheet(e_sym="001", e_wire="000"), [("SINGLE", [("E_151", [placed_plain("LAMP", "4,2,0,1")]), ("E_152", [])])]).bytes)
 BARE = bytes(drawing(Sheet(symbols=[], layers=[], s_elec="000", e_sym="000"), [("BARE", [])]).bytes)
+# Circles without a turn and with one, and an arc.
+WHOLE = whole_circle("1307", "0", "0", "2"), whole_circle("1307", "-1", "0", "0.5", "-0.0", "0360.00")
+TURNED = circle("1307", "0", "0", "2", "0", "360", "0"), circle("1307", "0", "0", "2", "360", "0", "1")
+ROUND = bytes(drawing(Sheet(symbols=[("LAMP", [*WHOLE, *TURNED], [], None)]), [("ROUND", [("E_151", [*TURNED])])]).bytes)
 
 
 # ── damage ──
@@ -80,6 +84,7 @@ def point_lines(count):
 # Lines of SMALL that close blocks, by their numbers, and the last one of PART1.
 ELEC_CLOSES, FILE_CLOSES, DEFINES_CLOSES, LAST_LAYER_CLOSES = 11, 32, 70, 102
 PART1_CLOSES = 85
+FIGURE_IN_SYMBOL = "line=1307,-5,0,5,0"
 PLACED_TEXT = "text:{", "type=1307,1,1,2,2,0,0,0", "character=x", "}"
 SKIPPED = "a:{", "b=1:{", "c:{", "d:{", "e:{", "}", "}", "}", "}", "}"
 
@@ -155,6 +160,8 @@ SPOOLS = {
     "06-hatching": changed(SMALL, ("successive:{", "hacchi:{")),
     "06-basic-symbol": changed(SMALL, ("line=1307,0,0,10,0", "B_symbol=House,5100,5700,270,0.5")),
     "06-circuit-number": changed(SMALL, ("line=1307,0,0,10,0", "E_cirno:{", "}")),
+    "06-cirllce": changed(SMALL, (FIGURE_IN_SYMBOL, "cirllce=1307,0,0,2,0,360")),
+    "06-circle-in-hide": changed(SMALL, ("point=1307,0,0", "circle=1307,0,0,2,0,360")),
     "06-layer-id": changed(SMALL, ("E_152=", "E_15=")),
     "06-point-in-wire": changed(SMALL, ("length=5", "point=1307,1,1")),
     "07-date": changed(SMALL, (22, "date=19970401", "date=19970401")),
@@ -185,6 +192,7 @@ SPOOLS = {
     "09-eof-in-first-volume": changed(PARTS, (PART1_CLOSES, "}", "EOF")),
     "09-behind-eof": changed(SMALL, ("EOF", "EOF", "# sent by mail")),
     "09-ends-in-block": cut_behind(SMALL, "character=照明:{"),
+    "09-ends-in-symbol": cut_behind(changed(SMALL, (FIGURE_IN_SYMBOL, "circle=1307,0,0,2,0,360")), "circle=1307,0,0,2,0,360"),
     "09-ends-in-layer": cut_behind(SMALL, "serial=2,1,"),
     "09-block-never-came": changed(SMALL, *((number,) for number in range(46, 105))),
     "09-no-eof": changed(SMALL, ("EOF",)),
@@ -196,7 +204,19 @@ SPOOLS = {
     "10-type": changed(SMALL, ("line=1307,0,0,10,0", "line=137,0,0,10,0")),
     "10-too-few": changed(SMALL, ("line=1307,0,0,10,0", "line=1307,0,0,10")),
     "10-too-many": changed(SMALL, ("line=1307,0,0,10,0", "line=1307,0,0,10,0,0")),
-    "10-circle-of-six": changed(SMALL, ("line=1307,-5,0,5,0", "circle=1307,0,0,2,0,360")),
+    "10-arc-of-six": changed(SMALL, (FIGURE_IN_SYMBOL, "circle=1307,0,0,2,0,90")),
+    "10-circle-backwards": changed(SMALL, (FIGURE_IN_SYMBOL, "circle=1307,0,0,2,360.0,-0")),
+    "10-arc-of-six-no-radius": changed(SMALL, (FIGURE_IN_SYMBOL, "circle=1307,0,0,0,0,90")),
+    "10-circle-of-six-malformed": changed(SMALL, (FIGURE_IN_SYMBOL, "circle=1307,0,0,2,0,36O")),
+    "10-circle-of-five": changed(SMALL, (FIGURE_IN_SYMBOL, "circle=1307,0,0,2,0")),
+    "10-circle-of-eight": changed(SMALL, (FIGURE_IN_SYMBOL, "circle=1307,0,0,2,0,360,0,0")),
+    "10-circle-turn": changed(SMALL, (FIGURE_IN_SYMBOL, "circle=1307,0,0,2,0,360,-1")),
+    "10-circle-empty-turn": changed(SMALL, (FIGURE_IN_SYMBOL, "circle=1307,0,0,2,0,360,")),
+    "10-arc-turn": changed(SMALL, (FIGURE_IN_SYMBOL, "circle=1307,0,0,2,0,90,-1")),
+    "10-circle-of-six-in-layer": changed(SMALL, ("line=1307,0,0,10,0", "circle=1307,0,0,2,0,360")),
+    "10-circle-of-six-in-wire": changed(SMALL, ("line=1307,100,50,200,50", "circle=1307,100,50,2,0,360")),
+    "10-circle-of-five-in-layer": changed(SMALL, ("line=1307,0,0,10,0", "circle=1307,0,0,2,0")),
+    "10-ellipse-without-turn": changed(SMALL, (FIGURE_IN_SYMBOL, "ellipse=1307,0,0,2,1,0,360,0")),
     "10-date": changed(SMALL, (22, "date=19971301")),
     "10-date-blank": changed(SMALL, (22, "date=19970401 ")),
     "10-time": changed(SMALL, ("time=120000", "time=240000")),
@@ -213,6 +233,9 @@ SPOOLS = {
     "11-axes": changed(SMALL, ("line=1307,0,0,10,0", "ellipse=1307,5,5,900,900,0,360,0,0")),
     "11-ellipse-arc": changed(SMALL, ("line=1307,0,0,10,0", "ellipse=1307,5,5,900,90,10,10,0,0")),
     "11-radius": changed(SMALL, ("line=1307,0,0,10,0", "circle=1307,0,0,0,0,360,0")),
+    "11-radius-of-six": changed(SMALL, (FIGURE_IN_SYMBOL, "circle=1307,0,0,0,0,360")),
+    "11-turn-in-symbol": changed(SMALL, (FIGURE_IN_SYMBOL, "circle=1307,0,0,2,0,360,2")),
+    "11-arc-in-symbol": changed(SMALL, (FIGURE_IN_SYMBOL, "circle=1307,0,0,2,360,360,0")),
     "11-turn": changed(SMALL, ("line=1307,0,0,10,0", "circle=1307,0,0,5,0,360,2")),
     "11-angle": changed(SMALL, ("symbol=LAMP,4,2,0,1", "symbol=LAMP,4,2,360.5,1")),
     "11-pos": changed(SMALL, ("pos=1", "pos=6")),

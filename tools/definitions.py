@@ -1,5 +1,5 @@
-"""The rows of the definitions' tables, read from their files: enough of the notation for crates/rules/specs/Blocks.antt and Figures.antt,
-and for the lists of numbers in crates/tables/specs. What is not understood ends the script."""
+"""The rows of the definitions' tables, read from their files: enough of the notation for crates/rules/specs/Blocks.antt and Figures.antt, for
+the values of Values.antt that they name, and for the lists of numbers in crates/tables/specs. What is not understood ends the script."""
 import collections, re, sys
 
 TOKEN = re.compile(r'"[^"]*"|[()]|\[\]|∷|\+\+|[^\s()"]+')

@@ -14,6 +14,7 @@ LINE, CIRCLE, ELLIPSE, POINT, SUCCESSIVE, TEXT, PLACED, SUCCESSIVE_POINT = 10, 1
 WIRE, WIRE_MORE, WIRE_LINE, WIRE_ARC = 18, 19, 20, 21
 SYMBOL_TEXT, HIDE_POINT = 35, 43
 ABSENT, EMPTY, GIVEN, UNREAD = 0, 1, 2, 3
+NO_TURN = -1  # the turn of a circle that was written without one
 
 # A placed symbol's attributes: which digit of a range asks for it and from which value on, its places in the record, its state's place.
 ATTRIBUTES = [
@@ -179,6 +180,18 @@ def point(type, *values):
 
 def circle(type, *values):
     return plain("circle", CIRCLE, type, *values, plain_last=1)
+
+
+def whole_circle(type, x, y, radius, start="0", end="360"):
+    """A circle of six values, which has no turn: in a symbol's `element` alone."""
+    without = plain("circle", CIRCLE, type, x, y, radius, start, end)
+
+    def write(d, owner):
+        assert d.in_symbol and (tenthousandths(start), tenthousandths(end)) == (0, 3600000), (start, end)
+        without(d, owner)
+        d.records[-1].append(NO_TURN)
+
+    return write
 
 
 def ellipse(type, *values):

@@ -87,7 +87,8 @@ def point(figure, spot):
 
 
 def sweep(start, end, turn):
-    """Degrees from start to end, counterclockwise where turn is 0; all round where both are one direction."""
+    """Degrees from start to end, counterclockwise where turn is 0; all round where both are one direction, so of a circle without a turn (-1)
+    too, which goes from 0 to 360."""
     return (-1 if turn else 1) * (((start - end) if turn else (end - start)) % 360 or 360)
 
 

@@ -152,13 +152,16 @@ def matches(pattern, raw):
 
 
 def named_values(case):
-    """(what it is called, its sort, its bytes) of each value, None where their count is wrong. One value alone is not cut at its commas."""
+    """(what it is called, its sort, its bytes) of each value, None where their count is wrong. One value alone is not cut at its commas; the last
+    may be left out where the row says so."""
     values, content = case.row.values, case.form.content
     if len(values) == 1:
         return [(shown(case.form.key), values[0].sort, content)]
     parts = content.split(b",")
     if values[-1].most:
         values = values[:-1] + [values[-1]] * (len(parts) - len(values) + 1)
+    if left_out(case.row, len(parts)):
+        values = values[:-1]
     if len(parts) != len(values):
         return None
     return [(f"value {n} ({value.name})", value.sort, part) for n, (value, part) in enumerate(zip(values, parts), 1)]
@@ -173,9 +176,62 @@ def writing_fault(case):
         return None
     found = named_values(case)
     if found is None:
-        names, given = [value.name for value in case.row.values], case.form.content.count(b",") + 1
-        return f"it has {given} value{'s' if given > 1 else ''}, and {shown(case.form.key)} takes {len(names)}: {', '.join(names)}"
-    return next((f"{name} is {quoted(raw)} and must be {sort.written}" for name, sort, raw in found if not matches(sort.pattern, raw)), None)
+        return wrong_count(case)
+    for name, sort, raw in found:
+        if not matches(sort.pattern, raw):
+            return f"{name} is {quoted(raw)} and must be {sort.written}" + or_left_out(case.row, found, name)
+    return without_turn(case.row, found)
+
+
+def wrong_count(case):
+    """Where the last value may be left out, in this row or in that of another block, this is told too."""
+    row, given = case.row, case.form.content.count(b",") + 1
+    names = [value.name for value in row.values]
+    told = f"it has {given} value{'s' if given > 1 else ''}, and {shown(case.form.key)} takes {len(names)}"
+    if row.without:
+        return f"{told}: {', '.join(names)}; a whole circle, from {whole(row)}, may leave out the {names[-1]}"
+    for heading in case.walk.book.blocks:
+        other = next((row for row in case.walk.book.rows(heading, case.key) if left_out(row, given)), None)
+        if other:
+            return f"{told} here: {', '.join(names)}; only in a symbol's {heading} may a whole circle, from {whole(other)}, leave out the {names[-1]}"
+    return f"{told}: {', '.join(names)}"
+
+
+# Of a row whose last value may be left out: a circle in a symbol.
+
+
+def left_out(row, count):
+    """Whether so many values are the row's without the last."""
+    return bool(row.without) and count == len(row.values) - 1
+
+
+def whole(row):
+    """`0 to 360`: what is given where the last value is left out."""
+    return " to ".join(map(str, row.without.values()))
+
+
+def angles(row, found):
+    """The same values of a line, by their bytes."""
+    own = {value.name: raw for value, (_, _, raw) in zip(row.values, found)}
+    return [own[name] for name in row.without]
+
+
+def is_whole(row, found):
+    return [number_of(raw) for raw in angles(row, found)] == [*row.without.values()]
+
+
+def or_left_out(row, found, name):
+    """Behind what is told of a last value that need not be there."""
+    needless = row.without and len(found) == len(row.values) and name == found[-1][0] and is_whole(row, found)
+    return ", or be left out with the comma before it" if needless else ""
+
+
+def without_turn(row, found):
+    """An arc that leaves out its turn."""
+    if not left_out(row, len(found)) or is_whole(row, found):
+        return None
+    own, last = " to ".join(map(shown, angles(row, found))), f"its {row.values[-1].name} as value {len(row.values)}"
+    return f"a circle of {len(found)} values must go from {whole(row)}, and this one goes from {own}: an arc needs {last} (0 counterclockwise, 1 clockwise)"
 
 
 # ── 11 and 12: limits ──

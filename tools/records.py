@@ -22,6 +22,8 @@ COMMON = ("kind", "owner", "volume", "line", "type")
 FIRST_VALUE = len(COMMON)
 STATES = ("absent", "empty", "given", "unread")
 JOINS = ("none", "tested", "untested")
+# A turn that was not written is that of a whole circle of six values, in a symbol.
+TURNS = {-1: "none", 0: "counterclockwise", 1: "clockwise"}
 
 # Refusal numbers, in order from 0.
 REFUSALS = (

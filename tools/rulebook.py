@@ -9,9 +9,12 @@ SORTS, SETS, NOT_READ = "Sorts of values", "Sets of bytes", "Not read"
 Sort = collections.namedtuple("Sort", "written pattern limits within number")
 # A value of a key: its name, its sort, and how often it may stand where it is the last and repeats.
 Value = collections.namedtuple("Value", "name sort most")
+# What the page says of a last value that may be left out: behind its name, and before what others must be then.
+OR_NONE, WITHOUT = "(or none)", "without"
 # A text or a word: whether it runs to the line's end, its bytes at most, their set in words and as a pattern.
 Text = collections.namedtuple("Text", "free most letters pattern")
-Row = collections.namedtuple("Row", "key forms times where values text opens across")
+# without: of a row whose last value may be left out, what others must be then: {name: number}; empty elsewhere.
+Row = collections.namedtuple("Row", "key forms times where values text opens across without")
 Block = collections.namedtuple("Block", "heading least rows")
 
 
@@ -101,11 +104,15 @@ class Rulebook:
         parts = [part.partition(": ")[::2] for part in holds.split("; ")]
         opens = next((sort for name, sort in parts if name == "block"), None)
         values = [self.value(name, sort) for name, sort in parts if sort in self.sorts]
-        return Row(key, forms, times, where, values, self.text(holds), opens, across)
+        across, _, without = across.partition(f"; {WITHOUT} ")
+        others = {name: Decimal(number) for name, number in re.findall(r"(\w+) must be (\d+)", without)}
+        return Row(key, forms, times, where, values, self.text(holds), opens, across, others)
 
     def value(self, name, sort):
         repeated = re.fullmatch(r"(.+) \(0 to (\d+)\)", name)
-        return Value(repeated[1], self.sorts[sort], int(repeated[2])) if repeated else Value(name, self.sorts[sort], None)
+        if repeated:
+            return Value(repeated[1], self.sorts[sort], int(repeated[2]))
+        return Value(name.removesuffix(f" {OR_NONE}"), self.sorts[sort], None)
 
     def text(self, holds):
         given = re.fullmatch(r".+: (text|word), \d+ to (\d+) bytes of (.+)", holds)

@@ -12,13 +12,14 @@ use Rattle.rules.specs.declared.Digits.{Digits}
 use Rattle.rules.specs.Base.{all, same, split, cut}
 use Rattle.rules.specs.RefusalNumbers.{Got, got, bad, unless, mapG, keep, orBad}
 use Rattle.rules.specs.Lines.{Rest, Form, ignored, wrong, close, eof, keyed, Shape, opener, noContent, content, opening, formless, hasForm, shapeOf}
-use Rattle.rules.specs.Values.{Num, Value, empty, nums, chars, Known, byteIn, lettersAndDigits, capital, Part, range, readPart, readAll, agree, Kind, values, text, word, volumeName, sheet, ratio, serials, wireSerial, nothing, opens, headed, either, sheets, twoNums, findSheet, goodRatio, withOne, ratioParts, readCounts, readRatio, mostPartners, readSerials, linkedOf, readWireSerial, readKind}
+use Rattle.rules.specs.Values.{Num, Value, empty, nums, chars, Known, byteIn, lettersAndDigits, capital, Part, range, readPart, readAll, agree, Kind, values, text, word, volumeName, sheet, ratio, serials, wireSerial, symbolCircle, nothing, opens, headed, either, sheets, twoNums, findSheet, goodRatio, withOne, ratioParts, readCounts, readRatio, mostPartners, readSerials, linkedOf, readWireSerial, readCircle, readKind}
 use Rattle.rules.specs.Rows.{Rule, Found, absent, found, find, shapeFor, Act, stay, entry, begin, shut, refuse, orRefuse, innerOf, readShape, actRow, actFound, complete, act}
 use Rattle.rules.specs.RecordTable.{numbers, columns, ruleAt}
 use Rattle.rules.proofs.Chains.{clash, never, none-some, unless-got, map-got, keep-got, or-got, cons-got, by-cond}
 use Rattle.rules.proofs.Rows.{Row, found-row, row-at, row-below, isRefusal, row-did}
 use Rattle.entries.specs.Entering.{On}
 use Rattle.entries.proofs.WireSerials.{wire-long}
+use Rattle.entries.proofs.Widths.{circle-long}
 use Rattle.account.specs.Placing.{fills}
 
 -- what holds of all that is read
@@ -95,6 +96,8 @@ kind-fills k serials at c v e =
     subst (λ (v : Value). fills serials (numbers v) ≡ true) q (serials-fill ns)
 kind-fills k wireSerial at c v e =
     nums-fills wireSerial (readWireSerial (split 44 c)) v (λ w h. on-got (λ u. length u ≡ 5) (readWireSerial (split 44 c)) w (wire-long (split 44 c)) h) e
+kind-fills k symbolCircle at c v e =
+    nums-fills symbolCircle (readCircle k (split 44 c)) v (λ w h. on-got (λ u. length u ≡ 7) (readCircle k (split 44 c)) w (circle-long k (split 44 c)) h) e
 kind-fills k nothing at c v e = never e
 kind-fills k (opens i) at c v e = never e
 kind-fills k (headed i p) at c v e = one-fills (headed i p) (readPart k p c) v refl e

@@ -1,12 +1,12 @@
 -- A content by what its row holds: texts, sheets, scales, serial numbers, one value.
-use Prim.Native.Nat.{ℕ, suc, _+_, _-_, _/_, _%_, _<_, _≤_}
+use Prim.Native.Nat.{ℕ, suc, _+_, _-_, _<_, _≤_}
 use mathlib.Core.Path.{_≡_, refl, ap, sym, subst, _∙_}
 use mathlib.Core.Bool.{Bool, true, false, cond}
 use mathlib.Core.List.{List, [], _∷_, map}
 use mathlib.Core.Option.{Option, none, some}
 use native.Mathlib.Omega.{arith}
 use native.Mathlib.Numerals.{add-one}
-use lib.Dec.{leb}
+use lib.Dec.{eqb, leb}
 use lib.IntN.{ℤ, pos}
 use lib.ListN.{length, take, drop, set, length-drop}
 use lib.Seq.{sets, drop-drop}
@@ -16,8 +16,9 @@ use borrow.Author.Tests.{leb-true, leb-false, le-leb, lt-leb, ne-eqb}
 use Rattle.rules.specs.Base.{same, Cut, whole, parts, cut, split}
 use Rattle.rules.specs.RefusalNumbers.{Got, got, bad, unless, mapG, orBad, keep, consG}
 use Rattle.rules.specs.Numbers.{readCount}
-use Rattle.rules.specs.Values.{Num, num, natural, twoNums, Known, Kind, values, readKind, Value, nums, chars, linked, linkedOf, capital, findSheet, goodRatio, withOne, ratioParts, readCounts, readRatio, readSerials, mostPartners}
+use Rattle.rules.specs.Values.{Num, num, natural, twoNums, Known, Kind, readKind, Value, nums, chars, linked, linkedOf, capital, findSheet, goodRatio, withOne, ratioParts, readCounts, readRatio, readSerials, mostPartners}
 use Rattle.rules.specs.RecordTable.{numbers, columns}
+use Rattle.rules.proofs.Chains.{by-cond}
 use Rattle.leaves.specs.Bytes.{upTo, past}
 use Rattle.leaves.specs.Readings.{countOf}
 use Rattle.leaves.specs.Drawing.{numberAt, sheetOf, ratioOf}
@@ -30,11 +31,10 @@ use Rattle.leaves.specs.declared.Ratio.the-variants as R
 use Rattle.leaves.proofs.Ints.{pos-back}
 use Rattle.leaves.proofs.Scan.{rest-all}
 use Rattle.leaves.proofs.Cuts.{upTo-none, upTo-take, past-drop, split-last, split-more}
-use Rattle.tables.specs.Rows.{partOf, partsOf, acrossOf, kindOf}
+use Rattle.tables.specs.Rows.{valuesOf, kindOf}
 use Rattle.tables.specs.declared.Row.{Row}
-use Rattle.entries.proofs.EachValue.{parts-long}
 use Rattle.entries.specs.Parts.{valOf}
-use Rattle.entries.specs.Entering.{On, Puts, doneOf, putVal, covered, settled, longOf, serialsIn}
+use Rattle.entries.specs.Entering.{On, Puts, doneOf, putVal, settled, longOf, serialsIn}
 use Rattle.entries.specs.declared.Val.{Val}
 use Rattle.entries.specs.declared.Put.{Put}
 use Rattle.entries.specs.declared.Put.the-variants.{Done, Refused}
@@ -288,19 +288,22 @@ module _ (Q : Value → Type 0) (every : (n : ℕ) (ns : List ℕ) → Q (linked
 -- ── a row that holds values ──
 module _ (r : Row) (h1 : r .kind ≡ 1 → ⊥) (h2 : r .kind ≡ 2 → ⊥) (h3 : r .kind ≡ 3 → ⊥) (h4 : r .kind ≡ 4 → ⊥) (h5 : r .kind ≡ 5 → ⊥) (h6 : r .kind ≡ 6 → ⊥) (h7 : r .kind ≡ 7 → ⊥)
     (h8 : r .kind ≡ 8 → ⊥) (h9 : r .kind ≡ 9 → ⊥) (h10 : r .kind ≡ 10 → ⊥) (h11 : r .kind ≡ 11 → ⊥) where
-  pub kind-values : kindOf r ≡ values (partOf (r .parts % 100)) (partsOf (r .count) (r .parts / 100)) (acrossOf (r .across))
+  pub kind-values : kindOf r ≡ valuesOf r
   kind-values =
       let k = r .kind in
       rw (ne-eqb k 1 h1, ne-eqb k 2 h2, ne-eqb k 3 h3, ne-eqb k 4 h4, ne-eqb k 5 h5, ne-eqb k 6 h6, ne-eqb k 7 h7, ne-eqb k 8 h8, ne-eqb k 9 h9, ne-eqb k 10 h10, ne-eqb k 11 h11)
 
-  pub room-values : (p n : ℕ) → p + columns (kindOf r) ≤ n → p + r .count < n
-  room-values p n h = omega (arith, h, ap columns kind-values, parts-long (r .count) (r .parts / 100))
+  pub room-values : (p n : ℕ) → p + columns (kindOf r) ≤ n → p + columns (valuesOf r) ≤ n
+  room-values p n h = omega (arith, h, ap columns kind-values)
 
-  pub settled-values : settled (kindOf r) ≡ true → covered (acrossOf (r .across)) (r .count) ≡ true
-  settled-values e =
-      ap (covered (acrossOf (r .across))) (sym (parts-long (r .count) (r .parts / 100))) ∙ sym (ap settled kind-values) ∙ e
+  pub settled-values : settled (kindOf r) ≡ true → settled (valuesOf r) ≡ true
+  settled-values e = sym (ap settled kind-values) ∙ e
 
-  pub puts-values : (k : Known) (at : ℕ) (c : List ℕ) (t t₁ : List ℤ) (p : ℕ) (a : Put)
-      → Puts (readKind k (values (partOf (r .parts % 100)) (partsOf (r .count) (r .parts / 100)) (acrossOf (r .across))) 0 c) (λ v. sets t p (numbers v)) t₁ a
+  -- numbers are read alike wherever they stand
+  values-anywhere : (k : Known) (at : ℕ) (c : List ℕ) → readKind k (valuesOf r) 0 c ≡ readKind k (valuesOf r) at c
+  values-anywhere k at c = by-cond (λ d. readKind k d 0 c ≡ readKind k d at c) (eqb (r .kind) 12) (λ _. refl) (λ _. refl)
+
+  pub puts-values : (k : Known) (at : ℕ) (c : List ℕ) (t t₁ : List ℤ) (p : ℕ) (a : Put) → Puts (readKind k (valuesOf r) 0 c) (λ v. sets t p (numbers v)) t₁ a
       → Puts (readKind k (kindOf r) at c) (λ v. sets t p (numbers v)) t₁ a
-  puts-values k at c t t₁ p a h = subst (λ (d : Kind). Puts (readKind k d at c) (λ v. sets t p (numbers v)) t₁ a) (sym kind-values) h
+  puts-values k at c t t₁ p a h =
+      subst (λ (g : Got Value). Puts g (λ v. sets t p (numbers v)) t₁ a) (values-anywhere k at c ∙ ap (λ (d : Kind). readKind k d at c) (sym kind-values)) h

@@ -11,13 +11,13 @@ use lib.Seq.{take-take}
 use borrow.Author.Tests.{eqb-true, ne-eqb, le-leb, lt-leb, leb-true}
 use Rattle.rules.specs.Base.{bytes, mapO, same}
 use Rattle.rules.specs.Lines.{equals, Shape, noContent, content, opening, formless, byStem, stem, bytesAt, hasForm}
-use Rattle.rules.specs.Values.{Kind, values, text, word, volumeName, sheet, ratio, serials, wireSerial, nothing, opens, headed, either, isFree}
+use Rattle.rules.specs.Values.{Kind, values, text, word, volumeName, sheet, ratio, serials, wireSerial, symbolCircle, nothing, opens, headed, either, isFree}
 use Rattle.rules.specs.Rows.{isContent, isEmpty, isOpener, isOpening, fits, innerOf}
 use Rattle.rules.specs.declared.Span.{Span}
 use Rattle.rules.proofs.Chains.{and-left, and-false, by-cond}
 use Rattle.leaves.specs.Bytes.{bytesOf}
 use Rattle.leaves.proofs.Scan.{and-truth}
-use Rattle.tables.specs.Rows.{kindOf, partOf, partsOf, acrossOf}
+use Rattle.tables.specs.Rows.{kindOf, valuesOf, partOf, partsOf, acrossOf}
 use Rattle.tables.specs.declared.Row.{Row}
 use Rattle.entries.specs.Shapes.{shapeIn, shapeBy, sortOf, endsOpen}
 use Rattle.entries.specs.declared.Shape.{Shape as Placed}
@@ -153,12 +153,12 @@ restOf r =
     (cond (eqb (r .kind) 9) (headed (r .inner) (partOf (r .parts)))
     (cond (eqb (r .kind) 10) (either (r .inner))
     (cond (eqb (r .kind) 11) wireSerial
-    (values (partOf (r .parts % 100)) (partsOf (r .count) (r .parts / 100)) (acrossOf (r .across))))))))))))
+    (valuesOf r))))))))))
 
 by-rest : (P : Kind → Type 0) (r : Row) → P (word (r .most) (bytesOf (r .set))) → P volumeName → P sheet → P ratio → P serials → (eqb (r .kind) 7 ≡ true → P nothing)
     → (eqb (r .kind) 8 ≡ true → P (opens (r .inner))) → (eqb (r .kind) 9 ≡ true → P (headed (r .inner) (partOf (r .parts)))) → (eqb (r .kind) 10 ≡ true → P (either (r .inner)))
-    → P wireSerial → P (values (partOf (r .parts % 100)) (partsOf (r .count) (r .parts / 100)) (acrossOf (r .across))) → P (restOf r)
-by-rest P r w v s q l n o h e x z =
+    → P wireSerial → P symbolCircle → P (values (partOf (r .parts % 100)) (partsOf (r .count) (r .parts / 100)) (acrossOf (r .across))) → P (restOf r)
+by-rest P r w v s q l n o h e x y z =
     by-cond P (eqb (r .kind) 2) (λ _. w) λ _.
     by-cond P (eqb (r .kind) 3) (λ _. v) λ _.
     by-cond P (eqb (r .kind) 4) (λ _. s) λ _.
@@ -168,7 +168,8 @@ by-rest P r w v s q l n o h e x z =
     by-cond P (eqb (r .kind) 8) o λ _.
     by-cond P (eqb (r .kind) 9) h λ _.
     by-cond P (eqb (r .kind) 10) e λ _.
-    by-cond P (eqb (r .kind) 11) (λ _. x) λ _. z
+    by-cond P (eqb (r .kind) 11) (λ _. x) λ _.
+    by-cond P (eqb (r .kind) 12) (λ _. y) λ _. z
 
 never : {P : Type 0} (a b : ℕ) → (a ≡ b → ⊥) → eqb a b ≡ true → P
 never a b h e = absurd (h (eqb-true a b e))
@@ -179,16 +180,16 @@ pub fits-plain : (r : Row) (s : Shape) → (r .kind ≡ 7 → ⊥) → (r .kind 
 fits-plain r s h7 h8 h9 h10 =
     let Q : Kind → Type 0 = λ k. fits k (r .may) s ≡ (isContent s || (r .may && isEmpty s)) in
     by-cond Q (eqb (r .kind) 1) (λ _. refl) λ _.
-    by-rest Q r refl refl refl refl refl (never (r .kind) 7 h7) (never (r .kind) 8 h8) (never (r .kind) 9 h9) (never (r .kind) 10 h10) refl refl
+    by-rest Q r refl refl refl refl refl (never (r .kind) 7 h7) (never (r .kind) 8 h8) (never (r .kind) 9 h9) (never (r .kind) 10 h10) refl refl refl
 
 pub inner-none : (r : Row) → (r .kind ≡ 8 → ⊥) → (r .kind ≡ 9 → ⊥) → (r .kind ≡ 10 → ⊥) → 0 ≡ innerOf (kindOf r)
 inner-none r h8 h9 h10 =
     let Q : Kind → Type 0 = λ k. 0 ≡ innerOf k in
     by-cond Q (eqb (r .kind) 1) (λ _. refl) λ _.
-    by-rest Q r refl refl refl refl refl (λ _. refl) (never (r .kind) 8 h8) (never (r .kind) 9 h9) (never (r .kind) 10 h10) refl refl
+    by-rest Q r refl refl refl refl refl (λ _. refl) (never (r .kind) 8 h8) (never (r .kind) 9 h9) (never (r .kind) 10 h10) refl refl refl
 
 rest-free : (r : Row) → isFree (restOf r) ≡ false
-rest-free r = by-rest (λ k. isFree k ≡ false) r refl refl refl refl refl (λ _. refl) (λ _. refl) (λ _. refl) (λ _. refl) refl refl
+rest-free r = by-rest (λ k. isFree k ≡ false) r refl refl refl refl refl (λ _. refl) (λ _. refl) (λ _. refl) (λ _. refl) refl refl refl
 
 pub free-is : (r : Row) → eqb (r .kind) 1 ≡ isFree (kindOf r)
 free-is r = go (eqb (r .kind) 1) (restOf r) (rest-free r)

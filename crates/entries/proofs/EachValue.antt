@@ -13,8 +13,8 @@ use lib.Seq.{sets, getD-set-same, getD-set-other, drop-drop}
 use borrow.Author.Tests.{eqb-true, leb-true}
 use Rattle.rules.specs.Base.{split, headOnto, isNil, within, indexOf}
 use Rattle.rules.specs.Numbers.{readCount, readFixed, isDay, isClock, readDecimal}
-use Rattle.rules.specs.RefusalNumbers.{Got, got, bad, unless, mapG, orBad, keep, consG, andThen}
-use Rattle.rules.specs.Values.{Num, num, amount, natural, Known, Part, count, digit, typeDigits, range, rangeOfSymbols, rangeOfWires, day, clock, decimal, symbolName, layerId, readPart, readAll, nums, Value, Across, nothingMore, endsDiffer, arcOfCircle, axesOfEllipse, servedPower, valueAt, agree, isLayerId, servedSymbols, servedWires, inBound}
+use Rattle.rules.specs.RefusalNumbers.{Got, got, bad, unless, mapG, orBad, keep, consG}
+use Rattle.rules.specs.Values.{Num, num, amount, natural, Known, Part, count, digit, typeDigits, range, rangeOfSymbols, rangeOfWires, day, clock, decimal, exactly, symbolName, layerId, readPart, readAll, nums, Across, nothingMore, endsDiffer, arcOfCircle, axesOfEllipse, servedPower, valueAt, agree, isLayerId, servedSymbols, servedWires, equalZ, inBound}
 use Rattle.rules.specs.RecordTable.{numbers}
 use Rattle.leaves.specs.Bytes.{upTo, past}
 use Rattle.leaves.proofs.Scan.{rest-all}
@@ -110,13 +110,13 @@ ten-kept n p (some a) h = go (p a)
     go true = tt
     go false = h
 
-ten-decimal : (p : ℤ → Bool) (o : Option ℤ) → TenUp (mapG num (keep 11 p (orBad 10 o)))
-ten-decimal p none = omega arith
-ten-decimal p (some a) = go (p a)
+ten-decimal : (n : ℕ) (p : ℤ → Bool) (o : Option ℤ) → 10 ≤ n → TenUp (mapG num (keep n p (orBad 10 o)))
+ten-decimal n p none h = omega arith
+ten-decimal n p (some a) h = go (p a)
   where
-    go : (t : Bool) → TenUp (mapG num (unless t 11 (got a)))
+    go : (t : Bool) → TenUp (mapG num (unless t n (got a)))
     go true = tt
-    go false = omega arith
+    go false = h
 
 ten-part : (k : Known) (p : Part) (s : List ℕ) → TenUp (readPart k p s)
 ten-part k count s = ten-or 10 (readCount 9 s) (omega arith)
@@ -127,7 +127,8 @@ ten-part k rangeOfSymbols s = ten-kept 12 servedSymbols (readFixed 3 s) (omega a
 ten-part k rangeOfWires s = ten-kept 12 servedWires (readFixed 3 s) (omega arith)
 ten-part k day s = ten-kept 10 isDay (readFixed 8 s) (omega arith)
 ten-part k clock s = ten-kept 10 isClock (readFixed 6 s) (omega arith)
-ten-part k (decimal b) s = ten-decimal (inBound b) (readDecimal s)
+ten-part k (decimal b) s = ten-decimal 11 (inBound b) (readDecimal s) (omega arith)
+ten-part k (exactly n) s = ten-decimal 10 (equalZ (pos n)) (readDecimal s) (omega arith)
 ten-part k symbolName s = ten-or 13 (indexOf s (k .symbols)) (omega arith)
 ten-part k layerId s = ten-unless (isLayerId s) 11 (natural (orBad 14 (indexOf s (k .layers)))) (omega arith) (ten-or 14 (indexOf s (k .layers)) (omega arith))
 
@@ -277,17 +278,8 @@ parts-long (suc n) c = ap suc (parts-long n (c / 100))
 pub done-not : {P : Type 0} (n : ℕ) → Done ≡ Refused n → P
 done-not n e = absurd (let z : _≡_ {A = ℕ} 0 1 = cc in omega arith)
 
--- a refusal on the way is the answer
-pub put-bad : {A B : Type 0} (g : Got A) (f : A → Got B) (w : A → List ℤ) (w′ : B → List ℤ) (t t′ : List ℤ) (a : Put) (n : ℕ) → a ≡ Refused n → Puts g w t a → Puts (andThen g f) w′ t′ a
-put-bad (got v) f w w′ t t′ a n e h = done-not n (sym (h .eq) ∙ e)
-put-bad (bad m) f w w′ t t′ a n e h = record { eq = h .eq; filled = tt }
-
-keep-then : {A B : Type 0} (m : ℕ) (q : A → Bool) (f : A → B) (g : Got A) → mapG f (keep m q g) ≡ andThen g (λ a. mapG f (unless (q a) m (got a)))
-keep-then m q f (got a) = refl
-keep-then m q f (bad n) = refl
-
 module _ (ac : Across) (t t₁ : List ℤ) (p n : ℕ) (a : Put) where
-  across-by : (g : Got (List Num)) (b : Bool) → On (λ v. length v ≡ n) g → Puts g (λ v. sets t p (plainly v)) t₁ a → a ≡ Done → (m : ℕ) → n ≡ suc m → covered ac m ≡ true → p + n ≤ length t → agreeFrom ac p t₁ ≡ b
+  pub across-by : (g : Got (List Num)) (b : Bool) → On (λ v. length v ≡ n) g → Puts g (λ v. sets t p (plainly v)) t₁ a → a ≡ Done → (m : ℕ) → n ≡ suc m → covered ac m ≡ true → p + n ≤ length t → agreeFrom ac p t₁ ≡ b
       → Puts (mapG nums (keep 11 (agree ac) g)) (λ v. sets t p (numbers v)) t₁ (cond b Done (Refused 11))
   across-by (bad k) b s h d m z l r e = done-not k (sym d ∙ h .eq)
   across-by (got v) b s h d m z l r e = go b (sym (agree-is v t p (omega (arith, s, r)) ac m (s ∙ z) l) ∙ ap (agreeFrom ac p) (sym (h .filled)) ∙ e)
@@ -295,18 +287,3 @@ module _ (ac : Across) (t t₁ : List ℤ) (p n : ℕ) (a : Put) where
       go : (b : Bool) → agree ac v ≡ b → Puts (mapG nums (keep 11 (agree ac) (got v))) (λ v. sets t p (numbers v)) t₁ (cond b Done (Refused 11))
       go true q = rw q (record { eq = refl; filled = h .filled })
       go false q = rw q (record { eq = refl; filled = tt })
-
-module _ (k : Known) (q : Part) (more rest : ℕ) (ss : List (List ℕ)) (ac : Across) (t t₁ : List ℤ) (p : ℕ) (a : Put)
-    (h : Puts (readAll k (q ∷ partsOf more rest) ss) (λ v. sets t p (plainly v)) t₁ a) where
-  abbrev pub across : Got Value
-  across = mapG nums (keep 11 (agree ac) (readAll k (q ∷ partsOf more rest) ss))
-
-  pub across-refused : (n : ℕ) → a ≡ Refused n → Puts across (λ v. sets t p (numbers v)) t₁ a
-  across-refused n e =
-      rw (keep-then 11 (agree ac) nums (readAll k (q ∷ partsOf more rest) ss))
-      (put-bad (readAll k (q ∷ partsOf more rest) ss) (λ (v : List Num). mapG nums (unless (agree ac v) 11 (got v))) (λ v. sets t p (plainly v)) (λ v. sets t p (numbers v)) t₁ t₁ a n e h)
-
-  pub across-told : (b : Bool) → a ≡ Done → covered ac more ≡ true → p + more < length t → agreeFrom ac p t₁ ≡ b → Puts across (λ v. sets t p (numbers v)) t₁ (cond b Done (Refused 11))
-  across-told b d l r e =
-      let s : On (λ v. length v ≡ suc (length (partsOf more rest))) (readAll k (q ∷ partsOf more rest) ss) = long-all k (q ∷ partsOf more rest) ss in
-      across-by ac t t₁ p (suc more) a (readAll k (q ∷ partsOf more rest) ss) b (rw (parts-long more rest) at s) h d more refl l (omega arith) e

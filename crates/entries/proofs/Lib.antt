@@ -1,6 +1,7 @@
 pub mod NameScan
 pub mod OneValue
 pub mod EachValue
+pub mod FormsRead
 pub mod PowerRows
 pub mod ByKind
 pub mod WireSerials

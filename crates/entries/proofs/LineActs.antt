@@ -12,7 +12,7 @@ use borrow.Author.Tests.{leb-true, ltb-true, ne-eqb}
 use Rattle.rules.specs.Base.{all, split}
 use Rattle.rules.specs.RefusalNumbers.{Got, got, bad, unless, mapG, orBad, keep, andThen}
 use Rattle.rules.specs.Lines.{bytesAt}
-use Rattle.rules.specs.Values.{Num, Known, Value, empty, nums, chars, Kind, values, text, word, volumeName, sheet, ratio, serials, wireSerial, nothing, opens, headed, either, readKind, readPart, range, readAll, readWireSerial, readRatio, findSheet, sheets, agree, byteIn, lettersAndDigits}
+use Rattle.rules.specs.Values.{Num, Known, Value, empty, nums, chars, Kind, values, text, word, volumeName, sheet, ratio, serials, wireSerial, symbolCircle, nothing, opens, headed, either, readKind, readPart, range, readAll, readWireSerial, readCircle, readRatio, findSheet, sheets, agree, byteIn, lettersAndDigits}
 use Rattle.rules.specs.RecordTable.{numbers, given, columns, putState}
 use Rattle.rules.specs.Rows.{Rule, Act, entry, begin, orRefuse, readShape, innerOf, notTwice, anyNumber, upTo}
 use Rattle.rules.proofs.Chains.{and-left, and-right}
@@ -72,6 +72,7 @@ given-kind k sheet at c = given-map nums (λ _. refl) (orBad 11 (findSheet c she
 given-kind k ratio at c = given-map nums (λ _. refl) (readRatio c)
 given-kind k serials at c = on-linked-in (λ v. given v ≡ pos 2) (λ _ _. refl) c
 given-kind k wireSerial at c = given-map nums (λ _. refl) (readWireSerial (split 44 c))
+given-kind k symbolCircle at c = given-map nums (λ _. refl) (readCircle k (split 44 c))
 given-kind k nothing at c = tt
 given-kind k (opens i) at c = tt
 given-kind k (headed i p) at c = given-map (λ (n : Num). nums (n ∷ [])) (λ _. refl) (readPart k p c)

@@ -14,7 +14,7 @@ use borrow.Author.Tests.{eqb-true, le-leb, leb-true, lt-ltb, le-ltb}
 use Rattle.rules.specs.Base.{same, mapO, indexOf, within}
 use Rattle.rules.specs.RefusalNumbers.{Got, got, unless, mapG, orBad, keep}
 use Rattle.rules.specs.Numbers.{readCount, readFixed, isDay, isClock, readDecimal}
-use Rattle.rules.specs.Values.{num, natural, inBound, Known, readPart, mostJoinDigit, mostWireMiddle, mostWireLast, servedWires}
+use Rattle.rules.specs.Values.{num, natural, equalZ, inBound, wholeTurn, Known, Part, readPart, mostJoinDigit, mostWireMiddle, mostWireLast, servedWires}
 use Rattle.rules.proofs.Chains.{and-left, and-right}
 use Rattle.leaves.specs.Readings.{countOf, readingOf, kept, readUpToEight, readDay, readClock}
 use Rattle.leaves.specs.declared.Count.{Count}
@@ -26,10 +26,10 @@ use Rattle.leaves.specs.Pieces.{decimalPiece}
 use Rattle.leaves.specs.declared.DecimalPiece.{DecimalPiece}
 use Rattle.leaves.proofs.Cuts.{upTo-take}
 use Rattle.leaves.proofs.Ints.{pos-back}
-use Rattle.tables.specs.Rows.{boundOf, wholeOf}
+use Rattle.tables.specs.Rows.{boundOf, wholeOf, decimalOf}
 use Rattle.leaves.proofs.Bounds.{count-below, fixed-below, day-below, clock-below}
 use Rattle.entries.specs.Names.{indexFrom}
-use Rattle.entries.specs.Parts.{valOf, countVal, readingVal, indexVal, PieceIs}
+use Rattle.entries.specs.Parts.{valOf, countVal, readingVal, decimalVal, indexVal, PieceIs}
 use Rattle.entries.specs.declared.Val.{Val}
 use Rattle.entries.specs.declared.Val.the-variants as Vs
 use Rattle.entries.specs.declared.Index.{Index}
@@ -57,11 +57,12 @@ module _ (p : ℕ → Bool) (m n : ℕ) (k : Count) (e : k ≡ C.Is n) where
   pub count-bad : p n ≡ false → Vs.Bad m ≡ countVal p m k
   count-bad t = rw (e, t)
 
-pub reading-is : (p : ℤ → Bool) (z : ℤ) (k : Reading) → k ≡ R.Is (record { value = z }) → p z ≡ true → Vs.Is z ≡ readingVal p k
-reading-is p z k e t = rw (e, t)
+module _ (p : ℤ → Bool) (m : ℕ) (z : ℤ) (k : Reading) (e : k ≡ R.Is (record { value = z })) where
+  pub reading-is : p z ≡ true → Vs.Is z ≡ readingVal p m k
+  reading-is t = rw (e, t)
 
-pub reading-bad : (p : ℤ → Bool) (z : ℤ) (k : Reading) → k ≡ R.Is (record { value = z }) → p z ≡ false → Vs.Bad 11 ≡ readingVal p k
-reading-bad p z k e t = rw (e, t)
+  pub reading-bad : p z ≡ false → Vs.Bad m ≡ readingVal p m k
+  reading-bad t = rw (e, t)
 
 pub either-left : (a b : Bool) → a ≡ true → (a || b) ≡ true
 either-left a b h = rw h
@@ -111,13 +112,24 @@ module _ (s : List ℕ) where
       free-val 999999 10 (readClock s) (λ (n : ℕ) (e : countOf (readClock s) ≡ C.Is n). let h = clock-below s n e in omega (arith, h))
       ∙ ap (λ (g : Got ℕ). valOf (natural g)) (or-kept isClock (readFixed 6 s))
 
-pub reading-val : (p : ℤ → Bool) (o : Option ℤ) → readingVal p (readingOf o) ≡ valOf (mapG num (keep 11 p (orBad 10 o)))
-reading-val p none = refl
-reading-val p (some z) = go (p z)
+reading-val : (p : ℤ → Bool) (m : ℕ) (o : Option ℤ) → readingVal p m (readingOf o) ≡ valOf (mapG num (keep m p (orBad 10 o)))
+reading-val p m none = refl
+reading-val p m (some z) = go (p z)
   where
-    go : (t : Bool) → cond t (Vs.Is z) (Vs.Bad 11) ≡ valOf (mapG num (unless t 11 (got z)))
+    go : (t : Bool) → cond t (Vs.Is z) (Vs.Bad m) ≡ valOf (mapG num (unless t m (got z)))
     go true = refl
     go false = refl
+
+-- a decimal by its form
+pub decimal-val : (k : Known) (code : ℕ) (s : List ℕ) → decimalVal code (readingOf (readDecimal s)) ≡ valOf (readPart k (decimalOf code) s)
+decimal-val k code s =
+    let P : Val → Part → Type 0 = λ v d. v ≡ valOf (readPart k d s) in
+    by-both P (eqb code 25) (reading-val (equalZ (pos 0)) 10 (readDecimal s))
+    (by-both P (eqb code 26) (reading-val (equalZ (pos wholeTurn)) 10 (readDecimal s)) (reading-val (inBound (boundOf code)) 11 (readDecimal s)))
+  where
+    by-both : (P : Val → Part → Type 0) (t : Bool) {v w : Val} {d e : Part} → P v d → P w e → P (cond t v w) (cond t d e)
+    by-both P true h k = h
+    by-both P false h k = k
 
 -- ── names ──
 abbrev indexIs : ℕ → Option ℕ → Index
@@ -152,10 +164,10 @@ numbered-is m n i e h = rw (e, pos-back n (omega arith))
 
 -- ── the piece in front ──
 module _ (k : Known) (code : ℕ) (c : List ℕ) (v : Val) where
-  pub decimal-told : (d : DecimalPiece) → 20 ≤ code → d ≡ decimalPiece c → v ≡ readingVal (inBound (boundOf code)) (d .reading) → PieceIs k code c (record { val = v; end = d .end })
+  pub decimal-told : (d : DecimalPiece) → 20 ≤ code → d ≡ decimalPiece c → v ≡ decimalVal code (d .reading) → PieceIs k code c (record { val = v; end = d .end })
   unfolding decimalPiece
   decimal-told d h e r = record {
-    val = r ∙ ap (λ (d : DecimalPiece). readingVal (inBound (boundOf code)) (d .reading)) e ∙ rw (le-ltb code 20 h) (reading-val (inBound (boundOf code)) (readDecimal (upTo 44 c)));
+    val = r ∙ ap (λ (d : DecimalPiece). decimalVal code (d .reading)) e ∙ rw (le-ltb code 20 h) (decimal-val k code (upTo 44 c));
     end = ap (λ (d : DecimalPiece). d .end) e;
   }
 

@@ -2,18 +2,19 @@
 use Prim.Native.Nat.{ℕ, zero, suc}
 use mathlib.Core.Path.{_≡_, refl, ap, sym, _∙_}
 use mathlib.Core.Bool.{Bool, true, false, _&&_}
-use mathlib.Core.List.{List, [], _∷_, map}
+use mathlib.Core.List.{List, [], _∷_, _++_, map}
 use mathlib.Core.Option.{Option, none, some}
 use native.Mathlib.Omega.{arith}
-use lib.Dec.{leb}
+use lib.Dec.{eqb, leb}
 use lib.IntN.{ℤ}
-use lib.ListN.{length}
+use lib.ListN.{length, length-append}
 use lib.Seq.{sets}
 use Rattle.rules.specs.Base.{all, split}
 use Rattle.rules.specs.RefusalNumbers.{Got, got, bad, unless, mapG, orBad, keep}
-use Rattle.rules.specs.Values.{Num, Known, Value, nums, chars, Kind, values, text, word, volumeName, sheet, ratio, serials, wireSerial, nothing, opens, headed, either, readKind, readPart, range, readAll, readWireSerial, readRatio, findSheet, sheets, agree, byteIn, lettersAndDigits, capital}
+use Rattle.rules.specs.Values.{Num, Known, Value, nums, chars, Kind, values, text, word, volumeName, sheet, ratio, serials, wireSerial, symbolCircle, nothing, opens, headed, either, readKind, readPart, range, readAll, readWireSerial, arcOfCircle, arcParts, wholeParts, noTurn, readCircle, readRatio, findSheet, sheets, agree, byteIn, lettersAndDigits, capital}
 use Rattle.rules.specs.RecordTable.{numbers, given, columns, padded, putNumbers, putState, putSlot}
 use Rattle.rules.specs.Rows.{Rule}
+use Rattle.rules.proofs.Chains.{by-cond}
 use Rattle.entries.specs.Entering.{On, plainly}
 use Rattle.entries.specs.Acts.{placeOf, putLine}
 use Rattle.entries.proofs.EachValue.{long-all, map-long}
@@ -56,9 +57,27 @@ ratio-fill : (g : Got (List Num)) → On Two g → On (Fills 2) (mapG nums g)
 ratio-fill (got v) h = two-fill v h
 ratio-fill (bad n) h = tt
 
-wire-fill : (g : Got (List Num)) → On (λ v. length v ≡ 5) g → On (Fills 5) (mapG nums g)
-wire-fill (got v) h = nums-fill 5 v h
-wire-fill (bad n) h = tt
+all-fill : (n : ℕ) (g : Got (List Num)) → On (λ v. length v ≡ n) g → On (Fills n) (mapG nums g)
+all-fill n (got v) h = nums-fill n v h
+all-fill n (bad m) h = tt
+
+-- seven numbers, or six and the turn that was not written
+pub circle-long : (k : Known) (ss : List (List ℕ)) → On (λ v. length v ≡ 7) (readCircle k ss)
+circle-long k ss =
+    by-cond (On (λ v. length v ≡ 7)) (eqb (length ss) 6) (λ _. turned (readAll k wholeParts ss) (long-all k wholeParts ss))
+    (λ _. kept (readAll k arcParts ss) (long-all k arcParts ss))
+  where
+    turned : (g : Got (List Num)) → On (λ v. length v ≡ 6) g → On (λ v. length v ≡ 7) (mapG (λ v. v ++ noTurn ∷ []) g)
+    turned (got v) h = length-append v (noTurn ∷ []) ∙ omega (arith, h)
+    turned (bad n) h = tt
+
+    kept : (g : Got (List Num)) → On (λ v. length v ≡ 7) g → On (λ v. length v ≡ 7) (keep 11 (agree arcOfCircle) g)
+    kept (got v) h = on-unless (agree arcOfCircle v)
+      where
+        on-unless : (t : Bool) → On (λ w. length w ≡ 7) (unless t 11 (got v))
+        on-unless true = h
+        on-unless false = tt
+    kept (bad n) h = tt
 
 one-fill : (g : Got Num) → On (Fills 1) (mapG (λ n. nums (n ∷ [])) g)
 one-fill (got n) = refl
@@ -72,7 +91,8 @@ kind-fills k volumeName at c = unless-fill (all (byteIn lettersAndDigits) c) 2 1
 kind-fills k sheet at c = sheet-fill (findSheet c sheets) (sheets-two c sheets)
 kind-fills k ratio at c = ratio-fill (readRatio c) (ratio-two c)
 kind-fills k serials at c = on-linked-in (Fills 2) (λ _ _. refl) c
-kind-fills k wireSerial at c = wire-fill (readWireSerial (split 44 c)) (wire-long (split 44 c))
+kind-fills k wireSerial at c = all-fill 5 (readWireSerial (split 44 c)) (wire-long (split 44 c))
+kind-fills k symbolCircle at c = all-fill 7 (readCircle k (split 44 c)) (circle-long k (split 44 c))
 kind-fills k nothing at c = tt
 kind-fills k (opens i) at c = tt
 kind-fills k (headed i p) at c = one-fill (readPart k p c)

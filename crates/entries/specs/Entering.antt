@@ -10,7 +10,7 @@ use lib.ListN.{length, getD, set}
 use Rattle.rules.specs.RefusalNumbers.{Got, got, bad, mapG, consG}
 use Rattle.rules.specs.Base.{flat, among, split}
 use Rattle.rules.specs.Values.{Num, num, amount, Across, nothingMore, endsDiffer, arcOfCircle, axesOfEllipse, servedPower, equalZ, powers, Kind, values, text, word}
-use Rattle.rules.specs.Values.{volumeName, sheet, ratio, serials, wireSerial, nothing, opens, headed, either, readSerials, readPartner}
+use Rattle.rules.specs.Values.{volumeName, sheet, ratio, serials, wireSerial, symbolCircle, nothing, opens, headed, either, readSerials, readPartner}
 use Rattle.leaves.specs.declared.Count.{Count}
 use Rattle.leaves.specs.declared.Count.the-variants as C
 use Rattle.entries.specs.declared.Val.{Val}
@@ -92,6 +92,7 @@ settled sheet = true
 settled ratio = true
 settled serials = true
 settled wireSerial = true
+settled symbolCircle = true
 settled nothing = true
 settled (opens i) = true
 settled (headed i p) = true

@@ -3,16 +3,18 @@ use Prim.Native.Nat.{ℕ}
 use mathlib.Core.Path.{_≡_}
 use mathlib.Core.Bool.{Bool, cond}
 use mathlib.Core.List.{List}
+use lib.Dec.{eqb}
 use lib.IntN.{ℤ, pos}
 use lib.ListN.{length}
 use Rattle.rules.specs.RefusalNumbers.{Got, got, bad}
-use Rattle.rules.specs.Values.{Num, Known, readPart}
+use Rattle.rules.specs.Values.{Num, Known, inBound, equalZ, wholeTurn, readPart}
 use Rattle.leaves.specs.Bytes.{upTo}
 use Rattle.leaves.specs.declared.Count.{Count}
 use Rattle.leaves.specs.declared.Count.the-variants as C
 use Rattle.leaves.specs.declared.Reading.{Reading}
 use Rattle.leaves.specs.declared.Reading.the-variants as R
-use Rattle.tables.specs.Rows.{partOf}
+use Rattle.tables.specs.Numbering.{partNoAngle, partWholeTurn}
+use Rattle.tables.specs.Rows.{boundOf, partOf}
 use Rattle.entries.specs.declared.Val.{Val}
 use Rattle.entries.specs.declared.Val.the-variants as Vs
 use Rattle.entries.specs.declared.Piece.{Piece}
@@ -28,9 +30,16 @@ abbrev pub countVal : (ℕ → Bool) → ℕ → Count → Val
 countVal p m C.Not = Vs.Bad 10
 countVal p m (C.Is n) = cond (p n) (Vs.Is (pos n)) (Vs.Bad m)
 
-abbrev pub readingVal : (ℤ → Bool) → Reading → Val
-readingVal p R.Not = Vs.Bad 10
-readingVal p (R.Is d) = cond (p (d .value)) (Vs.Is (d .value)) (Vs.Bad 11)
+-- the same of a decimal
+abbrev pub readingVal : (ℤ → Bool) → ℕ → Reading → Val
+readingVal p m R.Not = Vs.Bad 10
+readingVal p m (R.Is d) = cond (p (d .value)) (Vs.Is (d .value)) (Vs.Bad m)
+
+-- by its form's number
+abbrev pub decimalVal : ℕ → Reading → Val
+decimalVal n r =
+    cond (eqb n partNoAngle) (readingVal (equalZ (pos 0)) 10 r)
+    (cond (eqb n partWholeTurn) (readingVal (equalZ (pos wholeTurn)) 10 r) (readingVal (inBound (boundOf n)) 11 r))
 
 abbrev pub indexVal : ℕ → Index → Val
 indexVal m I.None = Vs.Bad m

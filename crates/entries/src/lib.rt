@@ -1,6 +1,7 @@
 // What one line enters: its values between commas, its text or its serials, read from the spool by the row of its key and put into the numbers of
 // the record, or the refusal where one of them breaks its rule.
 pub mod acts;
+mod by_forms;
 mod contents;
 pub mod names;
 mod parts;
@@ -23,6 +24,15 @@ pub(crate) enum Val {
 pub(crate) struct Piece {
     val: Val,
     end: usize,
+}
+
+// The forms of values, two decimal digits each, the first one last; how many stand behind the first; the rule across them; and whether a turn
+// that was not written is recorded behind them.
+pub(crate) struct Forms {
+    parts: u64,
+    more: u8,
+    across: u8,
+    turnless: bool,
 }
 
 // The number of a name among others, from 0.

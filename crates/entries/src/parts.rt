@@ -23,6 +23,7 @@ use tables::PART_DIGIT;
 use tables::PART_FLAG;
 use tables::PART_HALF_TURN;
 use tables::PART_LAYER_ID;
+use tables::PART_NO_ANGLE;
 use tables::PART_NOT_NEGATIVE;
 use tables::PART_POSITION;
 use tables::PART_RANGE_0;
@@ -32,6 +33,7 @@ use tables::PART_RANGE_1;
 use tables::PART_SIGN;
 use tables::PART_SYMBOL_NAME;
 use tables::PART_SYMBOL_RANGE;
+use tables::PART_WHOLE_TURN;
 use tables::PART_WIRE_RANGE;
 ghost use mathlib.Core.Path.{_≡_};
 ghost use mathlib.Core.List.{[]};
@@ -41,10 +43,10 @@ ghost use lib.IntN.{pos};
 ghost use lib.Signed.{leZ};
 ghost use lib.ListN.{length};
 ghost use Rattle.rules.specs.Base.{within as inRange};
-ghost use Rattle.rules.specs.Values.{servedSymbols, servedWires, inBound, layerId, readPart};
+ghost use Rattle.rules.specs.Values.{servedSymbols, servedWires, equalZ, inBound, layerId, readPart};
 ghost use Rattle.tables.specs.Rows.{boundOf, wholeOf, partOf};
 ghost use Rattle.entries.specs.Names.{knownIn};
-ghost use Rattle.entries.specs.Parts.{valOf, countVal, readingVal, indexVal, PieceIs};
+ghost use Rattle.entries.specs.Parts.{valOf, countVal, readingVal, decimalVal, indexVal, PieceIs};
 
 // The most that the first, the middle and the last digit of E_wire may be. (They have the same names in the definitions' Values.)
 const MOST_JOIN_DIGIT: u64 = 4;
@@ -146,7 +148,7 @@ fn in_bound(bound: u64, z: i64) -> bool
 }
 
 fn bounded(bound: u64, r: Reading) -> Val
-    ensures { λ v. ⌜ v ≡ readingVal (inBound (boundOf bound)) r ⌝ }
+    ensures { λ v. ⌜ v ≡ readingVal (inBound (boundOf bound)) 11 r ⌝ }
 {
     let Reading::Is(d) = r else {
         return Val::Bad(10);
@@ -156,6 +158,45 @@ fn bounded(bound: u64, r: Reading) -> Val
         return Val::Is(z);
     }
     Val::Bad(11)
+}
+
+pub(crate) fn equal(a: i64, b: i64) -> bool
+    ensures { λ r. ⌜ r ≡ equalZ a b ⌝ }
+{
+    if a <= b {
+        return b <= a;
+    }
+    false
+}
+
+// A decimal of one value alone: any other is 10.
+fn exactly(n: i64, r: Reading) -> Val
+    ensures { λ v. ⌜ v ≡ readingVal (equalZ n) 10 r ⌝ }
+{
+    let Reading::Is(d) = r else {
+        return Val::Bad(10);
+    };
+    let z = d.value;
+    if equal(n, z) {
+        return Val::Is(z);
+    }
+    Val::Bad(10)
+}
+
+// A decimal by its form.
+fn measured(code: u64, r: Reading) -> Val
+    ensures { λ v. ⌜ v ≡ decimalVal code r ⌝ }
+{
+    if code < PART_NO_ANGLE {
+        return bounded(code, r);
+    }
+    if code == PART_NO_ANGLE {
+        return exactly(0, r);
+    }
+    if code == PART_WHOLE_TURN {
+        return exactly(FULL_TURN, r);
+    }
+    bounded(code, r)
 }
 
 fn numbered(i: Index, otherwise: u8) -> Val
@@ -236,7 +277,7 @@ pub(crate) fn single(code: u64, s: &[u8], symbols: &[u32], layers: &[u32], c: &[
     ensures { λ r. ⌜ r ≡ valOf (readPart (knownIn (now (s .entry)) (now (symbols .entry)) (now (layers .entry))) (partOf code) (now (c .entry))) ⌝ }
 {
     if PART_ANY_SIGN <= code {
-        return bounded(code, decimal(c));
+        return measured(code, decimal(c));
     }
     whole(code, s, symbols, layers, c)
 }
@@ -250,7 +291,7 @@ pub(crate) fn piece(code: u64, s: &[u8], symbols: &[u32], layers: &[u32], c: &[u
         let d = decimal_piece(c);
         let reading = d.reading;
         return Piece {
-            val: bounded(code, reading),
+            val: measured(code, reading),
             end: d.end,
         };
     }

@@ -1,6 +1,8 @@
 // All values of a line.
 use crate::Put;
 use crate::Val;
+use crate::by_forms::forms_for;
+use crate::parts::equal;
 use crate::parts::piece;
 use crate::powers::amount_at;
 use crate::powers::served_power;
@@ -18,11 +20,11 @@ ghost use lib.Signed.{ltZ};
 ghost use lib.ListN.{length, getD};
 ghost use lib.Seq.{sets};
 ghost use Rattle.rules.specs.Base.{split};
-ghost use Rattle.rules.specs.Values.{readAll, readKind, values, equalZ};
-ghost use Rattle.rules.specs.RecordTable.{numbers};
-ghost use Rattle.tables.specs.Rows.{partOf, partsOf, acrossOf};
+ghost use Rattle.rules.specs.Values.{readAll, readKind, equalZ};
+ghost use Rattle.rules.specs.RecordTable.{numbers, columns};
+ghost use Rattle.tables.specs.Rows.{partOf, partsOf, acrossOf, valuesOf};
 ghost use Rattle.entries.specs.Names.{knownIn};
-ghost use Rattle.entries.specs.Entering.{Puts, doneOf, putVal, leastOf, plainly, lastOf, covered, agreeFrom};
+ghost use Rattle.entries.specs.Entering.{Puts, doneOf, putVal, leastOf, plainly, lastOf, settled, agreeFrom};
 
 // A value to its place, where it is one.
 pub(crate) fn put_value(v: Val, p: usize, rec: &mut [i64]) -> Put
@@ -100,12 +102,7 @@ fn equal_at(rec: &[i64], i: usize, j: usize) -> bool
     requires { ⌜ (i < length (now rec)) × (j < length (now rec)) ⌝ }
     ensures { λ r. ⌜ r ≡ equalZ (getD (now (rec .entry)) i (pos 0)) (getD (now (rec .entry)) j (pos 0)) ⌝ }
 {
-    let a = rec[i];
-    let b = rec[j];
-    if a <= b {
-        return b <= a;
-    }
-    false
+    equal(rec[i], rec[j])
 }
 
 fn less_at(rec: &[i64], i: usize, j: usize) -> bool
@@ -114,6 +111,11 @@ fn less_at(rec: &[i64], i: usize, j: usize) -> bool
 {
     rec[i] < rec[j]
 }
+
+// The turn of a circle that was written without one, behind its six values.
+const TURN: usize = 6;
+
+const NO_TURN: i64 = -1;
 
 // The rules across the values of a line.
 fn agree(across: u8, rec: &[i64], p: usize) -> bool
@@ -145,7 +147,7 @@ fn agree(across: u8, rec: &[i64], p: usize) -> bool
     true
 }
 
-// A row's values; the rules across them are 11.
+// A row's values, or those of a circle in a symbol; the rules across them are 11.
 pub(crate) fn values(
     row: Row,
     s: &[u8],
@@ -155,14 +157,19 @@ pub(crate) fn values(
     p: usize,
     rec: &mut [i64],
 ) -> Put
-    requires { ⌜ (length (now symbols) ≤ 65536) × (length (now layers) ≤ 65536) × (p + row .count < length (now rec)) × (covered (acrossOf (row .across)) (row .count) ≡ true) ⌝ }
-    ensures { λ r. ⌜ Puts (readKind (knownIn (now (s .entry)) (now (symbols .entry)) (now (layers .entry))) (values (partOf (row .parts % 100)) (partsOf (row .count) (row .parts / 100)) (acrossOf (row .across))) 0 (now (c .entry))) (λ v. sets (now (rec .entry)) p (numbers v)) (now (rec .exit)) r ⌝ }
+    requires { ⌜ (length (now symbols) ≤ 65536) × (length (now layers) ≤ 65536) × (length (now c) ≤ 61440) × (p + columns (valuesOf row) ≤ length (now rec)) × (settled (valuesOf row) ≡ true) ⌝ }
+    ensures { λ r. ⌜ Puts (readKind (knownIn (now (s .entry)) (now (symbols .entry)) (now (layers .entry))) (valuesOf row) 0 (now (c .entry))) (λ v. sets (now (rec .entry)) p (numbers v)) (now (rec .exit)) r ⌝ }
 {
-    let a = each(row.parts, row.count, s, symbols, layers, c, p, rec);
+    let f = forms_for(row, c);
+    let a = each(f.parts, f.more, s, symbols, layers, c, p, rec);
     let Put::Done = a else {
         return a;
     };
-    if agree(row.across, rec, p) {
+    if f.turnless {
+        rec[p + TURN] = NO_TURN;
+        return Put::Done;
+    }
+    if agree(f.across, rec, p) {
         return Put::Done;
     }
     Put::Refused(11)

@@ -4,14 +4,14 @@ use mathlib.Core.Bool.{Bool, true, false, cond, not, _||_}
 use mathlib.Core.List.{List, [], _∷_}
 use mathlib.Core.Path.{_≡_, refl, sym, _∙_, ap, subst}
 use native.Mathlib.Omega.{arith}
-use borrow.Author.Tests.{ne-eqb, not-true, eqb-false, eqb-true}
+use borrow.Author.Tests.{not-true, eqb-false, eqb-true}
 use lib.Dec.{eqb}
 use lib.ListN.{length, set, length-set, length-replicate, List·getD-map}
 use Rattle.rules.specs.Values.{Value, Known, Kind, opens}
 use Rattle.rules.specs.Rows.{Rule, innerOf, absent, found, find, row as plain}
 use Rattle.rules.specs.Blocks.{around}
 use Rattle.rules.specs.FixedForm.{opensBlock, lineOf}
-use Rattle.rules.proofs.Chains.{and-left, clash}
+use Rattle.rules.proofs.Chains.{and-left}
 use Rattle.rules.proofs.Rows.{found-row, row-at}
 use Rattle.tables.specs.declared.Row.{Row}
 use Rattle.tables.specs.declared.Found.{Found as Finding}
@@ -24,12 +24,13 @@ use Rattle.pens.specs.declared.Pen.{Pen}
 use Rattle.pens.specs.declared.Drawn.{Drawn}
 use Rattle.pens.specs.declared.Drawn.the-variants as D
 use Rattle.pens.specs.Texts.{ended, Draws}
-use Rattle.pens.specs.Moves.{moved, isOpener, atOnce, figureBlock, keyPen, filePen, placedPen, isElement, wirePen, tableFor}
+use Rattle.pens.specs.Moves.{moved, atOnce, figureBlock, keyPen, filePen, placedPen, isElement, wirePen, tableFor}
 use Rattle.pens.specs.Noting.{noteOf, notesFrom, forgotten, textForgotten, figureNotes, keyNotes}
 use Rattle.pens.specs.Keys.{KeyDone}
 use Rattle.pens.specs.KeyWriting.{plainTableOf}
 use Rattle.pens.specs.Writing.{IsRow}
 use Rattle.pens.specs.Closing.{inPart}
+use Rattle.pens.proofs.RowsNoted.{kind-closed, inner-is}
 use Rattle.pens.proofs.Writers.{drawn-nothing}
 
 -- ── notes ──
@@ -83,34 +84,12 @@ part-open p e =
     some (suc n) h = omega arith
 
 -- ── what a row holds ──
-either-way : (P : Kind → Type 0) (b : Bool) (x y : Kind) → P x → P y → P (cond b x y)
-either-way P true x y h k = h
-either-way P false x y h k = k
-
--- a row of another kind opens no block with `:{` alone
-pub line-kind : (row : Row) → (row .kind ≡ 8 → ⊥) → isOpener (kindOf row) ≡ false
-line-kind row h =
-    either-way P (eqb (row .kind) 1) _ _ refl
-    (either-way P (eqb (row .kind) 2) _ _ refl
-    (either-way P (eqb (row .kind) 3) _ _ refl
-    (either-way P (eqb (row .kind) 4) _ _ refl
-    (either-way P (eqb (row .kind) 5) _ _ refl
-    (either-way P (eqb (row .kind) 6) _ _ refl
-    (either-way P (eqb (row .kind) 7) _ _ refl
-    (rw (ne-eqb (row .kind) 8 h)
-    (either-way P (eqb (row .kind) 9) _ _ refl
-    (either-way P (eqb (row .kind) 10) _ _ refl
-    (either-way P (eqb (row .kind) 11) _ _ refl refl))))))))))
-  where
-    P : Kind → Type 0
-    P d = isOpener d ≡ false
-
 -- the block that a figure opens
 abbrev openedBlock : ℕ → ℕ
 openedBlock i = cond (eqb i 1) 9 (cond (eqb i 2) 10 (cond (eqb i 4) 12 11))
 
 pub line-block : (row : Row) → (row .kind ≡ 8 → ⊥) → _≡_ {A = ℕ} 8 (figureBlock (kindOf row) (innerOf (kindOf row)))
-line-block row h = sym (ap (λ (b : Bool). cond b (openedBlock (innerOf (kindOf row))) 8) (line-kind row h))
+line-block row h = sym (ap (λ (b : Bool). cond b (openedBlock (innerOf (kindOf row))) 8) (kind-closed row h))
 
 pub holds-is : (t n : ℕ) (q : Rule) (row : Row) → IsRow t n q row → kindOf row ≡ q .holds
 holds-is t n q row i = ap (λ (r : Rule). r .holds) (i .rule)
@@ -169,24 +148,10 @@ wire-written p t j d i n ns e f = rw (e, f)
 
 -- a row that opens a block says which
 pub opened-inner : (row : Row) (q : Rule) (v : Value) → ruleOf row ≡ forLine q → opensBlock (q .holds) v ≡ true → innerOf (q .holds) ≡ row .inner
-opened-inner row q v e = subst P (ap (λ (r : Rule). r .holds) e) all
+opened-inner row q v e = subst P (ap (λ (r : Rule). r .holds) e) (inner-is row v)
   where
     P : Kind → Type 0
     P d = opensBlock d v ≡ true → innerOf d ≡ row .inner
-
-    all : P (kindOf row)
-    all =
-        either-way P (eqb (row .kind) 1) _ _ (λ h. clash h refl)
-        (either-way P (eqb (row .kind) 2) _ _ (λ h. clash h refl)
-        (either-way P (eqb (row .kind) 3) _ _ (λ h. clash h refl)
-        (either-way P (eqb (row .kind) 4) _ _ (λ h. clash h refl)
-        (either-way P (eqb (row .kind) 5) _ _ (λ h. clash h refl)
-        (either-way P (eqb (row .kind) 6) _ _ (λ h. clash h refl)
-        (either-way P (eqb (row .kind) 7) _ _ (λ h. clash h refl)
-        (either-way P (eqb (row .kind) 8) _ _ (λ h. refl)
-        (either-way P (eqb (row .kind) 9) _ _ (λ h. refl)
-        (either-way P (eqb (row .kind) 10) _ _ (λ h. refl)
-        (either-way P (eqb (row .kind) 11) _ _ (λ h. clash h refl) (λ h. clash h refl)))))))))))
 
 -- ── the row that was found ──
 abbrev blank : Rule

@@ -10,7 +10,7 @@ use lib.Dec.{eqb, leb, ltb}
 use lib.ListN.{length, getD, set, replicate, length-set, List·getD-map}
 use lib.Seq.{getD-set-same, getD-set-other}
 use Rattle.rules.specs.Lines.{Rest, brace, equals, bytesAt, Shape, opener, byStem, stem, shapeOf, freeShapeOf}
-use Rattle.rules.specs.Values.{Value, Known, Kind, values, text, word, volumeName, sheet, ratio, serials, wireSerial, nothing, opens, headed, either, isFree}
+use Rattle.rules.specs.Values.{Value, Known, Kind, values, text, word, volumeName, sheet, ratio, serials, wireSerial, symbolCircle, nothing, opens, headed, either, isFree}
 use Rattle.rules.specs.Rows.{Rule, Slots, blank, Held, partOf, enter, isOpener as isOpenerShape, fits, shapeFor}
 use Rattle.rules.specs.Blocks.{fileTable, rangeTable, baseTable, elecTable, symTable, laterTable, fileTables, blankHeld}
 use Rattle.rules.specs.Figures.{textTable, placedTable}
@@ -40,6 +40,7 @@ opens-alone sheet may e = and-right may false e
 opens-alone ratio may e = and-right may false e
 opens-alone serials may e = and-right may false e
 opens-alone wireSerial may e = and-right may false e
+opens-alone symbolCircle may e = and-right may false e
 opens-alone nothing may e = e
 opens-alone (opens i) may e = refl
 opens-alone (headed i p) may e = e
@@ -54,6 +55,7 @@ holds-more sheet may s n e = refl
 holds-more ratio may s n e = refl
 holds-more serials may s n e = refl
 holds-more wireSerial may s n e = refl
+holds-more symbolCircle may s n e = refl
 holds-more nothing may s n e = refl
 holds-more (opens i) may s n e = clash e n
 holds-more (headed i p) may s n e = refl

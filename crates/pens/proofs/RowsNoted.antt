@@ -58,7 +58,8 @@ pub kind-closed : (r : CodeRow) → (r .kind ≡ 8 → ⊥) → isOpener (kindOf
 kind-closed r h =
     step (eqb (r .kind) 1) _ _ refl (step (eqb (r .kind) 2) _ _ refl (step (eqb (r .kind) 3) _ _ refl (step (eqb (r .kind) 4) _ _ refl
     (step (eqb (r .kind) 5) _ _ refl (step (eqb (r .kind) 6) _ _ refl (step (eqb (r .kind) 7) _ _ refl
-    (rw (ne-eqb (r .kind) 8 h) (step (eqb (r .kind) 9) _ _ refl (step (eqb (r .kind) 10) _ _ refl (step (eqb (r .kind) 11) _ _ refl refl))))))))))
+    (rw (ne-eqb (r .kind) 8 h) (step (eqb (r .kind) 9) _ _ refl (step (eqb (r .kind) 10) _ _ refl (step (eqb (r .kind) 11) _ _ refl
+    (step (eqb (r .kind) 12) _ _ refl refl)))))))))))
   where
     step : (t : Bool) (a b : Kind) → isOpener a ≡ false → isOpener b ≡ false → isOpener (cond t a b) ≡ false
     step true a b p q = p
@@ -170,11 +171,12 @@ line-spared k q v before after e =
     subst (λ (u : List ℕ). Spared u before after) (sym (append-assoc (q .key) more (13 ∷ 10 ∷ []))) (key-spared (q .key) (more ++ 13 ∷ 10 ∷ []) before after e)
 
 -- the inner block of a row that opens one
-inner-is : (r : CodeRow) (v : Value) → opensBlock (kindOf r) v ≡ true → innerOf (kindOf r) ≡ r .inner
+pub inner-is : (r : CodeRow) (v : Value) → opensBlock (kindOf r) v ≡ true → innerOf (kindOf r) ≡ r .inner
 inner-is r v =
     step (eqb (r .kind) 1) _ _ shut (step (eqb (r .kind) 2) _ _ shut (step (eqb (r .kind) 3) _ _ shut (step (eqb (r .kind) 4) _ _ shut
     (step (eqb (r .kind) 5) _ _ shut (step (eqb (r .kind) 6) _ _ shut (step (eqb (r .kind) 7) _ _ shut
-    (step (eqb (r .kind) 8) _ _ (λ _. refl) (step (eqb (r .kind) 9) _ _ (λ _. refl) (step (eqb (r .kind) 10) _ _ (λ _. refl) (step (eqb (r .kind) 11) _ _ shut shut))))))))))
+    (step (eqb (r .kind) 8) _ _ (λ _. refl) (step (eqb (r .kind) 9) _ _ (λ _. refl) (step (eqb (r .kind) 10) _ _ (λ _. refl) (step (eqb (r .kind) 11) _ _ shut
+    (step (eqb (r .kind) 12) _ _ shut shut)))))))))))
   where
     shut : {P : Type 0} → false ≡ true → P
     shut e = clash e refl

@@ -2,7 +2,7 @@
 use Prim.Native.Nat.{ℕ, _+_}
 use mathlib.Core.Bool.{Bool, true, false, cond, _&&_, _||_, not}
 use lib.Dec.{eqb, ltb}
-use Rattle.rules.specs.Values.{Kind, values, text, word, volumeName, sheet, ratio, serials, wireSerial, nothing, opens, headed, either}
+use Rattle.rules.specs.Values.{Kind, values, text, word, volumeName, sheet, ratio, serials, wireSerial, symbolCircle, nothing, opens, headed, either}
 use Rattle.rules.specs.Figures.{firstGroupRow}
 use Rattle.pens.specs.declared.Pen.{Pen}
 use Rattle.tables.specs.Numbering.{tableTop, tableFile, tableRange, tableBase, tableElec, tableSym, tableLater, tableDrawing, tableDefines, tableSymbol}
@@ -32,6 +32,7 @@ isOpener sheet = false
 isOpener ratio = false
 isOpener serials = false
 isOpener wireSerial = false
+isOpener symbolCircle = false
 isOpener nothing = false
 isOpener (opens i) = true
 isOpener (headed i p) = false

@@ -13,20 +13,22 @@ use Rattle.rules.specs.Base.{bytes, all, flat, same, within, indexOf, split, jo
 use Rattle.rules.specs.RefusalNumbers.{Got, got, bad, unless, mapG, andThen, orBad, keep, consG}
 use Rattle.rules.specs.Numbers.{isDigit, digitRun, value, readCount, readFixed, isDay, isClock, readDecimal, fixedOnto, fixed, trim, showCount, showDecimal}
 use Rattle.rules.specs.Lines.{Rest, Shape, opener, noContent, content, opening, formless}
-use Rattle.rules.specs.Values.{Num, num, Value, empty, nums, chars, Known, byteIn, lettersAndDigits, capital, isLayerId, inBound, Part, count, digit, typeDigits, range, rangeOfSymbols, rangeOfWires, day, clock, decimal, symbolName, layerId, servedSymbols, servedWires, natural, readPart, amount, showPart, readAll, showAll, agree, Kind, values, text, word, volumeName, sheet, ratio, serials, wireSerial, nothing, opens, headed, either, sheets, findSheet, readRatio, mostPartners, readSerials, linkedOf, showSerials, twoNums, readPartner, readWireSerial, showPartner, readKind, amountAt, showContent}
+use Rattle.rules.specs.Values.{Num, num, Value, empty, nums, chars, Known, byteIn, lettersAndDigits, capital, isLayerId, Part, count, digit, typeDigits, range, rangeOfSymbols, rangeOfWires, day, clock, decimal, exactly, symbolName, layerId, servedSymbols, servedWires, natural, readPart, amount, showPart, readAll, showAll, agree, arcOfCircle, arcParts, wholeTurn, wholeParts, noTurn, readCircle, showCircle, Kind, values, text, word, volumeName, sheet, ratio, serials, wireSerial, symbolCircle, nothing, opens, headed, either, sheets, findSheet, readRatio, mostPartners, readSerials, linkedOf, showSerials, twoNums, readPartner, readWireSerial, showPartner, readKind, amountAt, showContent}
 use Rattle.rules.specs.Rows.{Rule, Act, entry, begin, refuse, orRefuse, readShape, fits, innerOf, notTwice, shapeFor, actRow}
 use Rattle.rules.specs.RangeClass.{reaches}
 use Rattle.rules.specs.Lines.{hasForm}
 use Rattle.rules.specs.declared.Digits.{Digits}
 use Rattle.rules.specs.FixedForm.{behind}
 use Rattle.rules.proofs.Chains.{and-true, and-false, by-cond, clash, never, cond-some, unless-got, map-got, then-got, keep-got, or-got, cons-got}
+use Rattle.promises.proofs.Circles.{all-lengths, show-first, arc-turns, whole-turnless, decimal-read, circle-whole, circle-arc}
 use Rattle.promises.proofs.Numbers.{within-both, both-within, run-parts, fixed-same}
 use Rattle.promises.proofs.Values.{name-same}
-use Rattle.tables.specs.Rows.{boundOf, wholeOf, partOf, partsOf, acrossOf, kindOf, ruleOf, forLine}
+use Rattle.tables.specs.Rows.{boundOf, wholeOf, decimalOf, partOf, partsOf, acrossOf, valuesOf, kindOf, ruleOf, forLine}
+use Rattle.tables.specs.Numbering.{arcForms, wholeForms}
 use Rattle.tables.specs.declared.Row.{Row}
 use Rattle.leaves.specs.Bytes.{bytesOf}
 use Rattle.entries.specs.Acts.{valueOf}
-use Rattle.prints.specs.Texts.{anew, pieceText, pieceTexts, piecesText, sheetText, ratioText, contentText, behindText}
+use Rattle.prints.specs.Texts.{anew, pieceText, pieceTexts, piecesText, sheetText, ratioText, formsOf, contentText, behindText}
 use Rattle.prints.specs.Reading.{Reads}
 
 -- ── counts: without needless zeros, whatever the width ──
@@ -79,6 +81,7 @@ stands rangeOfWires = true
 stands day = true
 stands clock = true
 stands (decimal b) = false
+stands (exactly m) = false
 stands symbolName = true
 stands layerId = true
 
@@ -105,6 +108,7 @@ part-stands k rangeOfWires s a t e = digits-stand 3 12 servedWires s a e
 part-stands k day s a t e = digits-stand 8 10 isDay s a e
 part-stands k clock s a t e = digits-stand 6 10 isClock s a e
 part-stands k (decimal b) s a t e = clash t refl
+part-stands k (exactly m) s a t e = clash t refl
 part-stands k symbolName s a t e = name-stands 13 s (k .symbols) a e
 part-stands k layerId s a t e =
     let (i, f) = unless-got (isLayerId s) 11 (natural (orBad 14 (indexOf s (k .layers)))) a e in
@@ -135,11 +139,13 @@ whole-stands n e =
 abbrev Shown : Known → Part → List ℕ → List ℕ → Type 0
 Shown k p c t = (a : Num) → readPart k p c ≡ got a → t ≡ showPart k p a
 
-decimal-shown : (k : Known) (n : ℕ) (c : List ℕ) → Shown k (decimal (boundOf n)) c (anew c showDecimal (readDecimal c))
-decimal-shown k n c a e =
-    let (z, g, q) = map-got num (keep 11 (inBound (boundOf n)) (orBad 10 (readDecimal c))) a e in
-    let (o, t) = keep-got 11 (inBound (boundOf n)) (orBad 10 (readDecimal c)) z g in
-    rw (or-got 10 (readDecimal c) z o) (ap (λ (b : Num). showDecimal (b .value)) q)
+decimal-shown : (k : Known) (n : ℕ) (c : List ℕ) → Shown k (decimalOf n) c (anew c showDecimal (readDecimal c))
+decimal-shown k n c =
+    by-cond S (eqb n 25) (λ _ a e. rw (decimal-read k (exactly 0) c a refl e)) λ _.
+    by-cond S (eqb n 26) (λ _ a e. rw (decimal-read k (exactly wholeTurn) c a refl e)) (λ _ a e. rw (decimal-read k (decimal (boundOf n)) c a refl e))
+  where
+    S : Part → Type 0
+    S p = Shown k p c (anew c showDecimal (readDecimal c))
 
 count-shown : (k : Known) (c : List ℕ) → Shown k count c (anew c (showCount 20) (readCount 10 c))
 count-shown k c a e =
@@ -156,7 +162,7 @@ whole-shown k n c = go (eqb n 7) refl
 pub part-shown : (k : Known) (n : ℕ) (c : List ℕ) → Shown k (partOf n) c (pieceText n c)
 part-shown k n c = go (ltb n 20) refl
   where
-    go : (t : Bool) → ltb n 20 ≡ t → Shown k (cond t (wholeOf n) (decimal (boundOf n))) c (pieceText n c)
+    go : (t : Bool) → ltb n 20 ≡ t → Shown k (cond t (wholeOf n) (decimalOf n)) c (pieceText n c)
     go true q = rw (lt-leb 20 n (ltb-true n 20 q)) (whole-shown k n c)
     go false q = rw (le-leb 20 n (ltb-false n 20 q)) (decimal-shown k n c)
 
@@ -169,6 +175,30 @@ all-shown k (suc m) forms [] v e = never e
 all-shown k (suc m) forms (p ∷ ps) v e =
     let (a, s, g, h, q) = cons-got (readPart k (partOf (forms % 100)) p) (readAll k (partsOf m (forms / 100)) ps) v e in
     rw (← q, part-shown k (forms % 100) p a g, all-shown k m (forms / 100) ps s h)
+
+-- six values are written alike as a whole circle's and as an arc's
+six-texts : (ss : List (List ℕ)) → length ss ≡ 6 → pieceTexts arcForms false ss ≡ pieceTexts wholeForms false ss
+six-texts [] l = absurd (omega arith)
+six-texts (a ∷ []) l = absurd (omega arith)
+six-texts (a ∷ b ∷ []) l = absurd (omega arith)
+six-texts (a ∷ b ∷ c ∷ []) l = absurd (omega arith)
+six-texts (a ∷ b ∷ c ∷ d ∷ []) l = absurd (omega arith)
+six-texts (a ∷ b ∷ c ∷ d ∷ e ∷ []) l = absurd (omega arith)
+six-texts (a ∷ b ∷ c ∷ d ∷ e ∷ f ∷ []) l = refl
+six-texts (a ∷ b ∷ c ∷ d ∷ e ∷ f ∷ g ∷ ss) l = absurd (omega arith)
+
+circle-shown : (k : Known) (ss : List (List ℕ)) (v : List Num) → readCircle k ss ≡ got v → pieceTexts arcForms false ss ≡ showCircle k v
+unfolding partsOf
+circle-shown k ss v e = go (eqb (length ss) 6) refl
+  where
+    go : (t : Bool) → eqb (length ss) 6 ≡ t → pieceTexts arcForms false ss ≡ showCircle k v
+    go true z =
+        let (u, g, q) = map-got (λ v. v ++ noTurn ∷ []) (readAll k wholeParts ss) v (sym (circle-whole k ss z) ∙ e) in
+        let (l, m) = all-lengths k wholeParts ss u g in
+        rw (← q, whole-turnless u m) (six-texts ss l ∙ all-shown k 6 wholeForms ss u g ∙ sym (show-first k wholeParts u (noTurn ∷ []) m))
+    go false z =
+        let (o, t) = keep-got 11 (agree arcOfCircle) (readAll k arcParts ss) v (sym (circle-arc k ss z) ∙ e) in
+        rw (arc-turns k ss v o) (all-shown k 7 arcForms ss v o)
 
 serials-shown : (ps : List (List ℕ)) (ns : List ℕ) → readSerials ps ≡ got ns → pieceTexts 7 true ps ≡ showSerials ns
 serials-shown [] ns e = let q : [] ≡ ns = cc in rw (← q)
@@ -244,6 +274,12 @@ module _ (c : List ℕ) where
       let (u, g, q) = map-got nums (readWireSerial (split 44 c)) v e in
       rw (← q) (ap (join 44) (wire-shown (split 44 c) u g))
 
+  circle-kept : (k : Known) (at : ℕ) (v : Value) → readKind k symbolCircle at c ≡ got v → piecesText arcForms false c ≡ showContent k symbolCircle v
+  unfolding piecesText
+  circle-kept k at v e =
+      let (u, g, q) = map-got nums (readCircle k (split 44 c)) v e in
+      rw (← q) (ap (join 44) (circle-shown k (split 44 c) u g))
+
   single-kept : (k : Known) (p : Part) (d : Kind) (t : List ℕ) (v : Value) → ((a : Num) → showContent k d (nums (a ∷ [])) ≡ showPart k p a) → Shown k p c t
       → mapG (λ n. nums (n ∷ [])) (readPart k p c) ≡ got v → t ≡ showContent k d v
   single-kept k p d t v s h e = let (a, g, q) = map-got (λ n. nums (n ∷ [])) (readPart k p c) v e in rw (← q) (h a g ∙ sym (s a))
@@ -255,6 +291,18 @@ module _ (c : List ℕ) where
       let (u, g, q) = map-got nums (keep 11 (agree (acrossOf a)) (readAll k (partsOf (suc m) forms) (split 44 c))) v e in
       let (o, t) = keep-got 11 (agree (acrossOf a)) (readAll k (partsOf (suc m) forms) (split 44 c)) u g in
       rw (← q) (ap (join 44) (all-shown k (suc m) forms (split 44 c) u o))
+
+  -- values, or a circle's in a symbol
+  row-kept : (row : Row) (k : Known) (at : ℕ) (v : Value) → readKind k (valuesOf row) at c ≡ got v → piecesText (formsOf row) false c ≡ showContent k (valuesOf row) v
+  row-kept row k at v = go (eqb (row .kind) 12)
+    where
+      ofValues : Kind
+      ofValues = values (partOf (row .parts % 100)) (partsOf (row .count) (row .parts / 100)) (acrossOf (row .across))
+
+      go : (t : Bool) → readKind k (cond t symbolCircle ofValues) at c ≡ got v
+          → piecesText (cond t arcForms (row .parts)) false c ≡ showContent k (cond t symbolCircle ofValues) v
+      go true = circle-kept k at v
+      go false = values-kept k (row .count) (row .parts) (row .across) at v
 
 -- a number that is none of those of the first ten kinds
 other-kind : (n : ℕ) → eqb n 1 ≡ false → eqb n 2 ≡ false → eqb n 3 ≡ false → eqb n 4 ≡ false → eqb n 5 ≡ false → eqb n 6 ≡ false → eqb n 7 ≡ false → eqb n 8 ≡ false → eqb n 9 ≡ false → eqb n 10 ≡ false
@@ -278,7 +326,7 @@ module _ (row : Row) (c : List ℕ) where
 
   of-values : eqb code 1 ≡ false → eqb code 2 ≡ false → eqb code 3 ≡ false → eqb code 4 ≡ false → eqb code 5 ≡ false → eqb code 6 ≡ false → eqb code 7 ≡ false → eqb code 8 ≡ false → eqb code 9 ≡ false → eqb code 10 ≡ false → eqb code 11 ≡ false → Kept row (kindOf row) c
   unfolding contentText
-  of-values q1 q2 q3 q4 q5 q6 q7 q8 q9 q10 q11 = rw (q1, q2, q3, q4, q5, q6, q7, q8, q9, q10, q11, other-kind code q1 q2 q3 q4 q5 q6 q7 q8 q9 q10) (λ k at v. values-kept c k (row .count) (row .parts) (row .across) at v)
+  of-values q1 q2 q3 q4 q5 q6 q7 q8 q9 q10 q11 = rw (q1, q2, q3, q4, q5, q6, q7, q8, q9, q10, q11, other-kind code q1 q2 q3 q4 q5 q6 q7 q8 q9 q10) (row-kept c row)
 
   kind11 : (t : Bool) → eqb code 11 ≡ t → eqb code 1 ≡ false → eqb code 2 ≡ false → eqb code 3 ≡ false → eqb code 4 ≡ false → eqb code 5 ≡ false → eqb code 6 ≡ false → eqb code 7 ≡ false → eqb code 8 ≡ false → eqb code 9 ≡ false → eqb code 10 ≡ false → Kept row (kindOf row) c
   unfolding contentText
@@ -382,6 +430,7 @@ module _ (row : Row) (k : Known) (j : ℕ) (r : Rule) (act : Act) where
   opener-shown ratio x y e h = none-fits (r .may) h
   opener-shown serials x y e h = none-fits (r .may) h
   opener-shown wireSerial x y e h = none-fits (r .may) h
+  opener-shown symbolCircle x y e h = none-fits (r .may) h
   opener-shown nothing x y e h = clash h refl
   opener-shown (opens i) x y e h = refl
   opener-shown (headed i p) x y e h = clash h refl
@@ -397,6 +446,7 @@ module _ (row : Row) (k : Known) (j : ℕ) (r : Rule) (act : Act) where
   noContent-shown ratio x y e h = let q : entry j empty ≡ act = cc in rw (← q)
   noContent-shown serials x y e h = let q : entry j empty ≡ act = cc in rw (← q)
   noContent-shown wireSerial x y e h = let q : entry j empty ≡ act = cc in rw (← q)
+  noContent-shown symbolCircle x y e h = let q : entry j empty ≡ act = cc in rw (← q)
   noContent-shown nothing x y e h = refl
   noContent-shown (opens i) x y e h = clash h refl
   noContent-shown (headed i p) x y e h = clash h refl
@@ -416,6 +466,7 @@ module _ (row : Row) (k : Known) (j : ℕ) (r : Rule) (act : Act) where
   content-shown ratio at c x y e h = let (v, g, q) = map-got (entry j) (readKind k (r .holds) at c) act e in rw (← q) (ap (λ (s : List ℕ). 61 ∷ s) (read-shown ratio at c v x y g))
   content-shown serials at c x y e h = let (v, g, q) = map-got (entry j) (readKind k (r .holds) at c) act e in rw (← q) (ap (λ (s : List ℕ). 61 ∷ s) (read-shown serials at c v x y g))
   content-shown wireSerial at c x y e h = let (v, g, q) = map-got (entry j) (readKind k (r .holds) at c) act e in rw (← q) (ap (λ (s : List ℕ). 61 ∷ s) (read-shown wireSerial at c v x y g))
+  content-shown symbolCircle at c x y e h = let (v, g, q) = map-got (entry j) (readKind k (r .holds) at c) act e in rw (← q) (ap (λ (s : List ℕ). 61 ∷ s) (read-shown symbolCircle at c v x y g))
   content-shown nothing at c x y e h = clash h refl
   content-shown (opens i) at c x y e h = clash h refl
   content-shown (headed i p) at c x y e h = clash h refl
@@ -433,6 +484,7 @@ module _ (row : Row) (k : Known) (j : ℕ) (r : Rule) (act : Act) where
   opening-shown ratio at c x y e h = none-fits (r .may) h
   opening-shown serials at c x y e h = none-fits (r .may) h
   opening-shown wireSerial at c x y e h = none-fits (r .may) h
+  opening-shown symbolCircle at c x y e h = none-fits (r .may) h
   opening-shown nothing at c x y e h = clash h refl
   opening-shown (opens i) at c x y e h = clash h refl
   opening-shown (headed i p) at c x y e h =

@@ -12,7 +12,7 @@ use Rattle.rules.specs.Values.{Num, capital, sheets, findSheet, showSheet, read
 use Rattle.leaves.specs.Drawing.{numberAt}
 use Rattle.tables.specs.declared.Row.{Row}
 use Rattle.tables.specs.Numbering.{holdsValues, holdsVolumeName, holdsSheet, holdsRatio, holdsSerials, holdsHeaded, holdsEither}
-use Rattle.tables.specs.Numbering.{holdsWireSerial, partCount, partAnySign}
+use Rattle.tables.specs.Numbering.{holdsWireSerial, holdsCircle, partCount, partAnySign, arcForms}
 
 -- what was read is written anew, what was not stands as it is
 abbrev pub anew : {A : Type 0} → List ℕ → (A → List ℕ) → Option A → List ℕ
@@ -42,6 +42,10 @@ abbrev pub ratioText : List ℕ → Got (List Num) → List ℕ
 ratioText c (bad n) = c
 ratioText c (got v) = showRatio (numberAt v 0) (numberAt v 1)
 
+-- the forms of a row's values: of a circle in a symbol those of an arc, whose first six are written as a whole circle's
+abbrev pub formsOf : Row → ℕ
+formsOf row = cond (eqb (row .kind) holdsCircle) arcForms (row .parts)
+
 -- a content that is not empty, by its row; texts and words stand as they are, and so does an empty partner of a wire
 unfoldable pub contentText : Row → List ℕ → List ℕ
 contentText row c =
@@ -51,7 +55,7 @@ contentText row c =
     (cond (eqb (row .kind) holdsSerials || eqb (row .kind) holdsWireSerial) (piecesText partCount true c)
     (cond (eqb (row .kind) holdsHeaded) (pieceText (row .parts) c)
     (cond (ltb holdsValues (row .kind) && leb (row .kind) holdsEither) c
-    (piecesText (row .parts) false c))))))
+    (piecesText (formsOf row) false c))))))
 
 unfoldable pub behindText : Row → Shape → List ℕ
 behindText row opener = bytes ":{"

@@ -10,6 +10,8 @@ use leaves::Wrote;
 use leaves::bytes::capital;
 use leaves::sheets::ratio;
 use leaves::sheets::sheet;
+use tables::ARC_FORMS;
+use tables::HOLDS_CIRCLE;
 use tables::HOLDS_EITHER;
 use tables::HOLDS_HEADED;
 use tables::HOLDS_RATIO;
@@ -26,7 +28,7 @@ ghost use mathlib.Core.List.{map};
 ghost use lib.Dec.{eqb, leb, ltb};
 ghost use Rattle.rules.specs.Values.{capital, findSheet, sheets, readRatio};
 ghost use Rattle.prints.specs.Printing.{Writes};
-ghost use Rattle.prints.specs.Texts.{sheetText, ratioText, contentText};
+ghost use Rattle.prints.specs.Texts.{sheetText, ratioText, formsOf, contentText};
 ghost use Rattle.tables.specs.Numbering.{holdsValues, holdsSerials, holdsEither, holdsWireSerial};
 
 // The name of the next volume, in capitals, byte by byte.
@@ -82,6 +84,16 @@ fn stands(kind: u8) -> bool
     false
 }
 
+// The forms of a row's values; a whole circle's six are written as the first six of an arc's are.
+fn forms_of(row: Row) -> u64
+    ensures { λ r. ⌜ r ≡ formsOf row ⌝ }
+{
+    if row.kind == HOLDS_CIRCLE {
+        return ARC_FORMS;
+    }
+    row.parts
+}
+
 // A content that is not empty.
 pub(crate) fn content(row: Row, c: &[u8], at: Wrote, out: &mut [u8]) -> Wrote
     ensures { λ r. ⌜ Writes (contentText row (now (c .entry))) at (now (out .entry)) (now (out .exit)) r ⌝ }
@@ -104,5 +116,5 @@ pub(crate) fn content(row: Row, c: &[u8], at: Wrote, out: &mut [u8]) -> Wrote
     if stands(row.kind) {
         return text(c, at, out);
     }
-    pieces(row.parts, false, c, at, out)
+    pieces(forms_of(row), false, c, at, out)
 }

@@ -12,7 +12,7 @@ use Rattle.rules.specs.Base.{bytes, all, isSome, flat, hasNumber, split}
 use Rattle.rules.specs.RefusalNumbers.{Got, got, bad, unless, mapG, andThen, orBad, keep}
 use Rattle.rules.specs.Lines.{Rest, formOf, Shape, opener, noContent, content, opening, formless, hasForm}
 use Rattle.rules.specs.RangeClass.{digits, reaches, both}
-use Rattle.rules.specs.Values.{Num, Value, nums, chars, Known, Kind, values, text, word, volumeName, sheet, ratio, serials, wireSerial, nothing, opens, headed, either, lettersAndDigits, byteIn, capital, agree, range, readPart, readAll, readRatio, findSheet, sheets, readKind, serialsOf, readWireSerial}
+use Rattle.rules.specs.Values.{Num, Value, nums, chars, Known, Kind, values, text, word, volumeName, sheet, ratio, serials, wireSerial, symbolCircle, nothing, opens, headed, either, lettersAndDigits, byteIn, capital, agree, range, readPart, readAll, readRatio, findSheet, sheets, readKind, serialsOf, readWireSerial, readCircle}
 use Rattle.rules.specs.Rows.{Rule, Slots, blank, Held, partOf, rowsThere, slotValue, held, fits, shapeFor, Act, stay, entry, begin, shut, refuse, orRefuse, innerOf, readShape, notTwice, actRow}
 use Rattle.rules.specs.Blocks.{blankHeld}
 use Rattle.rules.specs.Figures.{layerTable, textTable, placedTable, placedTables, wireSerialRow}
@@ -43,6 +43,7 @@ isSerials sheet = false
 isSerials ratio = false
 isSerials serials = true
 isSerials wireSerial = false
+isSerials symbolCircle = false
 isSerials nothing = false
 isSerials (opens i) = false
 isSerials (headed i p) = false
@@ -79,6 +80,7 @@ read-serialless k sheet at c e = nums-serialless (orBad 11 (findSheet c sheets))
 read-serialless k ratio at c e = nums-serialless (readRatio c)
 read-serialless k serials at c e = clash refl e
 read-serialless k wireSerial at c e = nums-serialless (readWireSerial (split 44 c))
+read-serialless k symbolCircle at c e = nums-serialless (readCircle k (split 44 c))
 read-serialless k nothing at c e = tt
 read-serialless k (opens i) at c e = tt
 read-serialless k (headed i p) at c e = one-serialless (readPart k p c)

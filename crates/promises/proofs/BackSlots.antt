@@ -11,7 +11,7 @@ use Rattle.rules.specs.Base.{bytes, all, isNil, isSome}
 use Rattle.rules.specs.RefusalNumbers.{got}
 use Rattle.rules.specs.Lines.{close, formOf}
 use Rattle.rules.specs.RangeClass.{reaches}
-use Rattle.rules.specs.Values.{Value, empty, nums, chars, linked, Known, Kind, values, text, word, volumeName, sheet, ratio, serials, wireSerial, nothing, opens, headed, either}
+use Rattle.rules.specs.Values.{Value, empty, nums, chars, linked, Known, Kind, values, text, word, volumeName, sheet, ratio, serials, wireSerial, symbolCircle, nothing, opens, headed, either}
 use Rattle.rules.specs.Rows.{Rule, Slots, blank, rowsThere, entry, begin, innerOf, act, present, complete}
 use Rattle.rules.specs.Sets.{Set}
 use Rattle.rules.specs.Machine.{unlimited, Line, Env, State}
@@ -137,6 +137,7 @@ opens-bare sheet v = refl
 opens-bare ratio v = refl
 opens-bare serials v = refl
 opens-bare wireSerial v = refl
+opens-bare symbolCircle v = refl
 opens-bare nothing v = refl
 opens-bare (opens i) v = refl
 opens-bare (headed i p) v = refl
@@ -197,6 +198,7 @@ mayOpen sheet = false
 mayOpen ratio = false
 mayOpen serials = false
 mayOpen wireSerial = false
+mayOpen symbolCircle = false
 mayOpen nothing = false
 mayOpen (opens i) = true
 mayOpen (headed i p) = true
@@ -211,6 +213,7 @@ calm-kind sheet v e = refl
 calm-kind ratio v e = refl
 calm-kind serials v e = refl
 calm-kind wireSerial v e = refl
+calm-kind symbolCircle v e = refl
 calm-kind nothing v e = refl
 calm-kind (opens i) v e = clash refl e
 calm-kind (headed i p) v e = clash refl e

@@ -10,7 +10,7 @@ use Rattle.rules.specs.Base.{bytes, same}
 use Rattle.rules.specs.RefusalNumbers.{Got, got, bad, mapG}
 use Rattle.rules.specs.Lines.{Rest, brace, equals, Form, ignored, wrong, close, eof, keyed, Shape, opener, noContent, content, opening, formless, byStem, shapeOf, freeShapeOf, hasForm, stem}
 use Rattle.rules.specs.RangeClass.{passes, skipOf, skipShape}
-use Rattle.rules.specs.Values.{Value, Known, Kind, values, text, word, volumeName, sheet, ratio, serials, wireSerial, nothing, opens, headed, either, isFree, readKind, linkedOf}
+use Rattle.rules.specs.Values.{Value, Known, Kind, values, text, word, volumeName, sheet, ratio, serials, wireSerial, symbolCircle, nothing, opens, headed, either, isFree, readKind, linkedOf}
 use Rattle.rules.specs.Rows.{Rule, Found, absent, found, find, isContent, isEmpty, isOpener, isOpening, isEither, fits, shapeFor, Act, stay, entry, begin, shut, refuse, orRefuse, readShape, actRow, actUnknown, actFound, complete, act}
 use Rattle.rules.specs.Machine.{State, byAct}
 use Rattle.rules.proofs.Chains.{through, ap-cond}
@@ -60,6 +60,7 @@ fits-same sheet may s u a1 a2 a3 a4 a5 = rw (a1, a2)
 fits-same ratio may s u a1 a2 a3 a4 a5 = rw (a1, a2)
 fits-same serials may s u a1 a2 a3 a4 a5 = rw (a1, a2)
 fits-same wireSerial may s u a1 a2 a3 a4 a5 = rw (a1, a2)
+fits-same symbolCircle may s u a1 a2 a3 a4 a5 = rw (a1, a2)
 fits-same nothing may s u a1 a2 a3 a4 a5 = a2
 fits-same (opens i) may s u a1 a2 a3 a4 a5 = a3
 fits-same (headed i p) may s u a1 a2 a3 a4 a5 = a4
@@ -97,6 +98,7 @@ kind-bare k sheet at c = simp through
 kind-bare k ratio at c = simp through
 kind-bare k serials at c = simp (through, linked-bare)
 kind-bare k wireSerial at c = simp through
+kind-bare k symbolCircle at c = simp through
 kind-bare k nothing at c = refl
 kind-bare k (opens i) at c = refl
 kind-bare k (headed i p) at c = simp through

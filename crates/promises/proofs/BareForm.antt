@@ -6,7 +6,7 @@ use mathlib.Core.Option.{none, some}
 use mathlib.Core.Path.{_≡_, refl, _∙_, ap, ap₂}
 use lib.ListN.{getD}
 use Rattle.rules.specs.Base.{bytes, mapO}
-use Rattle.rules.specs.Values.{Value, empty, nums, chars, linked, Known, Kind, values, text, word, volumeName, sheet, ratio, serials, wireSerial, nothing, opens, headed, either}
+use Rattle.rules.specs.Values.{Value, empty, nums, chars, linked, Known, Kind, values, text, word, volumeName, sheet, ratio, serials, wireSerial, symbolCircle, nothing, opens, headed, either}
 use Rattle.rules.specs.Rows.{Rule, Slots, Held, partOf, innerOf}
 use Rattle.rules.specs.Blocks.{fileTables, drawingTable, symbolTable}
 use Rattle.rules.specs.Figures.{figureTable, textTable, placedTables, wireTable, wireTextTable, firstGroupRow}
@@ -43,6 +43,7 @@ module _ (k : Known) where
   text-line ratio at c = (refl, refl)
   text-line serials at c = (refl, refl)
   text-line wireSerial at c = (refl, refl)
+  text-line symbolCircle at c = (refl, refl)
   text-line nothing at c = (refl, refl)
   text-line (opens i) at c = (refl, refl)
   text-line (headed i p) at c = (refl, refl)

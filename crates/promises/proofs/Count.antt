@@ -10,28 +10,28 @@ use lib.Dec.{eqb, leb, ltb, leb·zero}
 use lib.ListN.{length, getD, set, replicate, length-append, length-replicate, length-map}
 use borrow.Author.Tests.{eqb-true}
 use Rattle.rules.specs.declared.Class.{Class}
-use Rattle.rules.specs.Base.{isNone, isNil, flat, among, hasNumber}
+use Rattle.rules.specs.Base.{isNone, isNil, flat, hasNumber}
 use Rattle.rules.specs.RefusalNumbers.{Got, got, bad, mapG, also}
-use Rattle.rules.specs.Lines.{Rest, Form, ignored, wrong, close, eof, keyed, freeShapeOf}
+use Rattle.rules.specs.Lines.{Rest, Form, ignored, wrong, close, eof, keyed}
 use Rattle.rules.specs.RangeClass.{digits, digitsOf, reaches, exceeds, both, knowsWires, skipOf, mostDepth}
-use Rattle.rules.specs.Values.{Num, Value, amountAt, numsOf, isLayerId}
+use Rattle.rules.specs.Values.{Num, Value, amountAt, numsOf}
 use Rattle.rules.specs.Rows.{Found, absent, found, find, Slots, Held, partOf, rowsThere, rowsAtLimit, Act, shut, refuse, actRow, actUnknown, act, complete}
-use Rattle.rules.specs.Blocks.{topTable, fileTables, drawingTable, mostLayers, definesTable, symbolTable, elementTable}
+use Rattle.rules.specs.Blocks.{topTable, fileTables, drawingTable, definesTable, symbolTable, elementTable}
 use Rattle.rules.specs.Figures.{pointTable, textTable, placedTable, placedTables, leastPoints}
 use Rattle.rules.specs.Sets.{Point, Edge, Wire, Figure, plain, chain, lettering, placed, wired, passed, joinDigit, withRecords, Layer, Drawing, Symbol, LayerBlock, Contents, Set, nothingYet, withNow, withVolume, symbolOwn, isFirst, arcOf, rangeOf, defineRange, knownOf, usedIn}
 use Rattle.rules.specs.VolumesAndTotals.{chained, dated, countedHere}
-use Rattle.rules.specs.Machine.{Line, Env, Home, inElement, inLayer, State, top, file, drawing, layerNames, defines, symbol, hide, elements, figures, successive, texts, placing, skipping, ended, byAct, roomFor, openTop, onTop, closeFile, onFile, onDrawing, layerValue, onLayerNames, newName, openSymbol, onSymbol, onDefines, pointAt, onHide, onElements, isLayer, homeTable, closeFigures, openPlaced, openFigure, onFigures, onSuccessive, onTexts}
+use Rattle.rules.specs.Machine.{Line, Env, Home, inElement, inLayer, State, top, file, drawing, layerNames, defines, symbol, hide, elements, figures, successive, texts, placing, skipping, ended, byAct, roomFor, openTop, onTop, closeFile, onFile, onDrawing, onLayerNames, newName, openSymbol, onSymbol, onDefines, pointAt, onHide, onElements, isLayer, homeTable, closeFigures, openPlaced, openFigure, onFigures, onSuccessive, onTexts}
 use Rattle.rules.specs.PlacedSymbol.{onUnknown, newSerial, onPlaced, onPlacedKey, onPlacedOwn, onPlacing, skipEnded, unreadShut, skipShut, onSkipping}
 use Rattle.rules.specs.LineByLine.{stepIn, isIgnored, isClose, isEof, completes, nextVolume, step, accepted, thenRun, run}
 use Rattle.rules.specs.RecordTable.{kindWire, kindWireMore, recordsOf}
 use Rattle.rules.specs.Wires.{joinsEnds, lastEdge, joinOf, joined, onElement, onWire}
 use Rattle.rules.specs.Machine.{symbolBlock, wireBlock, wireUnread, Owned, fileKinds, beginWire, openWire}
-use Rattle.rules.proofs.Chains.{and-left, and-false, or-left, clash, by-cond, cond-same, On, on-unless, on-cond, on-map, on-then, on-also, on-weaken, nil-snoc, map-append, flat-append}
+use Rattle.rules.proofs.Chains.{and-left, and-false, or-left, clash, by-cond, cond-same, On, on-unless, on-cond, on-map, on-also, on-weaken, nil-snoc, map-append, flat-append}
 use Rattle.rules.proofs.Runs.{not-accepted, finish-ended}
 use Rattle.rules.proofs.Rows.{row-below}
 use Rattle.promises.specs.Acceptance.{Place, place, placeOf}
 use Rattle.promises.proofs.RecordLines.{pointPlaces, edgePlaces, figurePlaces, figuresPlaces, symbolPlaces, symbolsPlaces, drawnPlaces, headPlaces, blockPlaces, bodyPlaces, laterPlaces, frontPlaces, setPlaces, records-at}
-use Rattle.rules.proofs.OnActs.{on-byAct, on-taking, on-shut, on-skip}
+use Rattle.rules.proofs.OnActs.{on-byAct, on-layers, on-taking, on-shut, on-skip}
 use Rattle.promises.proofs.OnEof.{on-eof}
 use Rattle.promises.proofs.OnWires.{on-wire}
 use Rattle.promises.proofs.CountActs.{Begun, act-begin}
@@ -197,17 +197,9 @@ module _ (e : Env) (l : Line) where
       (λ j v. still i refl (i .kept) refl) (λ m j v b. still i refl (i .kept) refl) (still i refl (i .kept) refl)
 
   inv-layers : (s : Set) (d : Drawing) (f : Form) → Inv e (layerNames s d) → On (Does (layerNames s d)) (onLayerNames e l s d f)
-  inv-layers s d ignored i = still i refl (i .kept) refl
-  inv-layers s d (wrong n) i = tt
-  inv-layers s d close i = still i refl (i .kept) refl
-  inv-layers s d eof i = tt
-  inv-layers s d (keyed k c) i =
-      on-unless (Does (layerNames s d)) (isLayerId k) 6 _ λ _.
-      on-then (Does (layerNames s d)) (layerValue k (freeShapeOf c)) _ λ v _.
-      on-unless (Does (layerNames s d)) (ltb (length (d .layers)) mostLayers) 11 _ λ _.
-      on-unless (Does (layerNames s d)) (not (among k (map (λ y. y .id) (d .layers)))) 14 _ λ _.
-      on-taking (Does (layerNames s d)) e 1 s _ λ r.
+  inv-layers s d f i =
       let at : Layer → Place = λ y. place (number s) (y .line) in
+      on-layers (Does (layerNames s d)) e l s d f (still i refl (i .kept) refl) (still i refl (i .kept) refl) λ k v r.
       let new : Layer = record { line = l .line; id = k; name = v } in
       took 1 r i (snoc-behind (headPlaces (number s) (s .now)) (place (number s) (d .line)) (map at (d .layers)) (at new ∷ []) _ (map-append at (d .layers) (new ∷ []))) (i .kept) refl
 

@@ -1,7 +1,7 @@
 -- Every line keeps what is kept of the figures.
 use Prim.Native.Nat.{ℕ, zero, suc, _+_, _<_}
 use mathlib.Core.Bool.{Bool, true, false, _&&_, _||_, not}
-use mathlib.Core.List.{List, [], _∷_, map, append-nil}
+use mathlib.Core.List.{List, [], _∷_, append-nil}
 use mathlib.Core.Option.{Option, none, some}
 use mathlib.Core.Path.{_≡_, refl, sym, ap, subst}
 use native.Mathlib.Omega.{arith}
@@ -9,23 +9,23 @@ use lib.Dec.{eqb, leb, ltb}
 use lib.ListN.{length, getD, set}
 use borrow.Author.Tests.{eqb-true, eq-eqb, ltb-true}
 use Rattle.rules.specs.declared.Digits.{Digits}
-use Rattle.rules.specs.Base.{isNil, among, hasNumber, split}
+use Rattle.rules.specs.Base.{isNil, hasNumber, split}
 use Rattle.rules.specs.RefusalNumbers.{Got, got, bad, keep, also}
-use Rattle.rules.specs.Lines.{Rest, Form, ignored, wrong, close, eof, keyed, freeShapeOf}
+use Rattle.rules.specs.Lines.{Rest, Form, ignored, wrong, close, eof, keyed}
 use Rattle.rules.specs.RangeClass.{digits, digitsOf, reaches, exceeds, both, knowsWires, knowsSerials, skipOf, mostDepth}
-use Rattle.rules.specs.Values.{Num, Value, serials, numsOf, amountAt, isLayerId, mostPartners, readSerials, linkedOf, serialsOf}
+use Rattle.rules.specs.Values.{Num, Value, serials, numsOf, amountAt, mostPartners, readSerials, linkedOf, serialsOf}
 use Rattle.rules.specs.Rows.{Rule, Found, absent, found, find, Slots, Held, partOf, slotValue, enter, rowsThere, rowsAtLimit, Act, stay, entry, begin, shut, refuse, complete, actRow, actUnknown, act}
-use Rattle.rules.specs.Blocks.{topTable, fileTables, blankHeld, drawingTable, mostLayers, definesTable, symbolTable, elementTable}
+use Rattle.rules.specs.Blocks.{topTable, fileTables, blankHeld, drawingTable, definesTable, symbolTable, elementTable}
 use Rattle.rules.specs.Figures.{pointTable, textTable, placedTable, placedTables, wireTable, wireSerialRow, leastPoints}
 use Rattle.rules.specs.Sets.{Point, Edge, Wire, Figure, plain, chain, lettering, placed, wired, passed, Drawing, Symbol, Set, nothingYet, withRecords, isFirst, arcOf, rangeOf, defineRange, joinDigit, wireRange, knownOf, usedIn, symbolOwn, serialsIn, ownSerial, ownNumber}
 use Rattle.rules.specs.VolumesAndTotals.{chained, dated, countedHere, partnersExist}
-use Rattle.rules.specs.Machine.{Line, Env, Home, inElement, inLayer, Owned, symbolBlock, wireBlock, wireUnread, State, top, file, drawing, layerNames, defines, symbol, hide, elements, figures, successive, texts, placing, skipping, ended, testsPartners, openTop, onTop, closeFile, onFile, onDrawing, layerValue, onLayerNames, onDefines, newName, openSymbol, onSymbol, onHide, onElements, isLayer, homeTable, closeFigures, noWire, beginWire, openFigure, onFigures, onSuccessive, onTexts, fileKinds}
+use Rattle.rules.specs.Machine.{Line, Env, Home, inElement, inLayer, Owned, symbolBlock, wireBlock, wireUnread, State, top, file, drawing, layerNames, defines, symbol, hide, elements, figures, successive, texts, placing, skipping, ended, testsPartners, openTop, onTop, closeFile, onFile, onDrawing, onLayerNames, onDefines, newName, openSymbol, onSymbol, onHide, onElements, isLayer, homeTable, closeFigures, noWire, beginWire, openFigure, onFigures, onSuccessive, onTexts, fileKinds}
 use Rattle.rules.specs.PlacedSymbol.{noneOf, numbersSoFar, onUnknown, newSerial, onPlaced, onPlacedKey, onPlacing, skipEnded, unreadShut, skipShut, onSkipping}
 use Rattle.rules.specs.RecordTable.{kindWire, kindWireMore}
 use Rattle.rules.specs.Wires.{joinsEnds, lastEdge, joinOf, joined, newNumber, withElement, withOnce, isElementRow, onElement, onWire}
 use Rattle.rules.specs.LineByLine.{stepIn, completes, nextVolume, step, accepted, thenRun, run}
-use Rattle.rules.proofs.Chains.{On, on-unless, on-cond, on-map, on-then, on-also, on-all, on-weaken, by-cond, clash}
-use Rattle.rules.proofs.OnActs.{on-byAct, on-taking, on-shut, on-skip}
+use Rattle.rules.proofs.Chains.{On, on-unless, on-cond, on-map, on-also, on-all, on-weaken, by-cond, clash}
+use Rattle.rules.proofs.OnActs.{on-byAct, on-layers, on-taking, on-shut, on-skip}
 use Rattle.rules.proofs.Rows.{Row, found-row, row-below}
 use Rattle.rules.proofs.Runs.{not-accepted, finish-ended}
 use Rattle.promises.proofs.CountActs.{act-begin}
@@ -135,16 +135,7 @@ module _ (e : Env) (l : Line) where
   in-drawing s d f i = on-byAct J _ _ _ _ (act (knownOf s) drawingTable (digitsOf (arcOf s)) (rowsThere (d .own)) f) i (λ j v. i) (λ m j v b. i) i
 
   in-layers : (s : Set) (d : Drawing) (f : Form) → J (layerNames s d) → On J (onLayerNames e l s d f)
-  in-layers s d ignored i = i
-  in-layers s d (wrong n) i = tt
-  in-layers s d close i = i
-  in-layers s d eof i = tt
-  in-layers s d (keyed k c) i =
-      on-unless J (isLayerId k) 6 _ λ _.
-      on-then J (layerValue k (freeShapeOf c)) _ λ v _.
-      on-unless J (ltb (length (d .layers)) mostLayers) 11 _ λ _.
-      on-unless J (not (among k (map (λ y. y .id) (d .layers)))) 14 _ λ _.
-      on-taking J e 1 s _ λ _. i
+  in-layers s d f i = on-layers J e l s d f i i λ k v _. i
 
   in-defines : (s : Set) (b : Bool) (f : Form) → J (defines s b) → On J (onDefines e l s b f)
   in-defines s b f i =

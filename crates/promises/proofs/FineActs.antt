@@ -13,7 +13,7 @@ use Rattle.rules.specs.Base.{within, split}
 use Rattle.rules.specs.RefusalNumbers.{Got, got, bad, unless, mapG, andThen, orBad, keep, consG, also}
 use Rattle.rules.specs.Lines.{Rest, Form, ignored, wrong, close, eof, keyed, Shape, opener, noContent, content, opening, formless, hasForm, shapeOf}
 use Rattle.rules.specs.RangeClass.{reaches}
-use Rattle.rules.specs.Values.{Value, Known, Part, count, digit, typeDigits, range, rangeOfSymbols, rangeOfWires, day, clock, decimal, symbolName, layerId, readPart, readAll, Kind, values, text, word, volumeName, sheet, ratio, serials, wireSerial, nothing, opens, headed, either, readCounts, readSerials, readPartner, readWireSerial, readKind}
+use Rattle.rules.specs.Values.{Value, Known, Part, count, digit, typeDigits, range, rangeOfSymbols, rangeOfWires, day, clock, decimal, exactly, symbolName, layerId, readPart, readAll, Kind, values, text, word, volumeName, sheet, ratio, serials, wireSerial, symbolCircle, nothing, opens, headed, either, readCounts, readSerials, readPartner, readWireSerial, readKind, arcParts, wholeParts, readCircle}
 use Rattle.rules.specs.Rows.{Rule, Found, absent, found, find, Act, stay, entry, begin, shut, refuse, orRefuse, innerOf, fits, shapeFor, readShape, notTwice, actRow, actUnknown, actFound, complete, act}
 use Rattle.rules.specs.Machine.{State, byAct}
 use Rattle.rules.proofs.Chains.{by-cond, On, on-unless, on-map, on-then, on-got, on-all}
@@ -98,6 +98,7 @@ fine-part k rangeOfWires s = search fines
 fine-part k day s = search fines
 fine-part k clock s = search fines
 fine-part k (decimal b) s = search fines
+fine-part k (exactly n) s = search fines
 fine-part k symbolName s = search fines
 fine-part k layerId s = search fines
 
@@ -106,6 +107,12 @@ fine-parts k [] [] = answers
 fine-parts k [] (s ∷ ss) = refuses 10 tt
 fine-parts k (p ∷ ps) [] = refuses 10 tt
 fine-parts k (p ∷ ps) (s ∷ ss) = fine-cons (readPart k p s) (readAll k ps ss) (fine-part k p s) (fine-parts k ps ss)
+
+fine-circle : (k : Known) (ss : List (List ℕ)) → Fine (readCircle k ss)
+fine-circle k ss =
+    let six = fine-parts k wholeParts ss in
+    let seven = fine-parts k arcParts ss in
+    search fines
 
 fine-counts : (ss : List (List ℕ)) → Fine (readCounts ss)
 fine-counts [] = answers
@@ -135,6 +142,7 @@ fine-kind k sheet at c = search fines
 fine-kind k ratio at c = search (fines, fine-counts)
 fine-kind k serials at c = search (fines, fine-serials)
 fine-kind k wireSerial at c = search (fines, fine-wire-serial)
+fine-kind k symbolCircle at c = search (fines, fine-circle)
 fine-kind k nothing at c = search fines
 fine-kind k (opens i) at c = search fines
 fine-kind k (headed i p) at c = search (fines, fine-part)

@@ -11,7 +11,7 @@ use Rattle.rules.specs.Base.{isNil, all, split}
 use Rattle.rules.specs.RefusalNumbers.{Got, got, bad, unless, mapG, andThen, orBad, keep}
 use Rattle.rules.specs.Lines.{Rest, brace, equals, Form, ignored, wrong, close, eof, keyed, stem, Shape, opener, noContent, content, opening, formless, byStem, shapeOf, freeShapeOf, hasForm}
 use Rattle.rules.specs.RangeClass.{reaches}
-use Rattle.rules.specs.Values.{Value, nums, chars, Known, Kind, values, text, word, volumeName, sheet, ratio, serials, wireSerial, nothing, opens, headed, either, isFree, byteIn, lettersAndDigits, capital, readAll, agree, readPart, range, findSheet, sheets, readRatio, mostPartners, readSerials, readKind, linkedOf, readWireSerial}
+use Rattle.rules.specs.Values.{Value, nums, chars, Known, Kind, values, text, word, volumeName, sheet, ratio, serials, wireSerial, symbolCircle, nothing, opens, headed, either, isFree, byteIn, lettersAndDigits, capital, readAll, agree, readPart, range, findSheet, sheets, readRatio, mostPartners, readSerials, readKind, linkedOf, readWireSerial, readCircle}
 use Rattle.rules.specs.Rows.{Rule, Found, absent, found, find, Slots, blank, Held, partOf, enter, isContent, isEmpty, fits, shapeFor, Act, stay, entry, begin, shut, refuse, orRefuse, innerOf, readShape, notTwice, actRow, actUnknown, actFound, complete, act}
 use Rattle.rules.specs.Blocks.{blankHeld, layerNameKind}
 use Rattle.rules.specs.Sets.{Contents}
@@ -34,6 +34,7 @@ no-text sheet may s x y e = refl
 no-text ratio may s x y e = refl
 no-text serials may s x y e = refl
 no-text wireSerial may s x y e = refl
+no-text symbolCircle may s x y e = refl
 no-text nothing may s x y e = refl
 no-text (opens i) may s x y e = refl
 no-text (headed i p) may s x y e = refl
@@ -128,6 +129,7 @@ module _ (S : ℕ → List ℕ → Type 0) where
       linked-fit [] = tt
       linked-fit (n ∷ ps) = refl
   kind-fit k wireSerial at c h = numbers-fit wireSerial nums (λ v. refl) (readWireSerial (split 44 c))
+  kind-fit k symbolCircle at c h = numbers-fit symbolCircle nums (λ v. refl) (readCircle k (split 44 c))
   kind-fit k nothing at c h = tt
   kind-fit k (opens i) at c h = tt
   kind-fit k (headed i p) at c h = numbers-fit (headed i p) (λ n. nums (n ∷ [])) (λ v. refl) (readPart k p c)

@@ -6,7 +6,7 @@ use mathlib.Core.List.{List, [], _∷_}
 use mathlib.Core.Option.{Option, none, some}
 use mathlib.Core.Path.{_≡_}
 use lib.ListN.{getD}
-use Rattle.rules.specs.Values.{Value, empty, nums, chars, linked, Kind, values, text, word, volumeName, sheet, ratio, serials, wireSerial, nothing, opens, headed, either}
+use Rattle.rules.specs.Values.{Value, empty, nums, chars, linked, Kind, values, text, word, volumeName, sheet, ratio, serials, wireSerial, symbolCircle, nothing, opens, headed, either}
 use Rattle.rules.specs.Rows.{Rule, Slots, Held, partOf}
 use Rattle.rules.specs.Blocks.{fileTables, drawingTable, symbolTable, layerNameKind}
 use Rattle.rules.specs.Figures.{textTable, placedTables, wireTable, wireTextTable}
@@ -23,6 +23,7 @@ isText sheet = false
 isText ratio = false
 isText serials = false
 isText wireSerial = false
+isText symbolCircle = false
 isText nothing = false
 isText (opens i) = false
 isText (headed i p) = false
@@ -38,6 +39,7 @@ isShown sheet = false
 isShown ratio = false
 isShown serials = false
 isShown wireSerial = false
+isShown symbolCircle = false
 isShown nothing = false
 isShown (opens i) = false
 isShown (headed i p) = false

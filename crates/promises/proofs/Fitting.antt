@@ -112,7 +112,7 @@ taken-before c (l ∷ x ∷ ls) st p o k v n e = go (step (unlimited c) l st) (�
 
 -- ── of an accepted set they are the lines of its records ──
 -- a state that a line leads on from is in the volume of that line
-in-volume : (e : Env) (l : Line) (k : ℕ) (st st′ : State) → Tied k st → step e l st ≡ got st′ → volumeOf st ≡ k
+pub in-volume : (e : Env) (l : Line) (k : ℕ) (st st′ : State) → Tied k st → step e l st ≡ got st′ → volumeOf st ≡ k
 in-volume e l k (top s j) st′ t q = t
 in-volume e l k (file s n h p) st′ t q = t
 in-volume e l k (drawing s d) st′ t q = t

@@ -13,7 +13,7 @@ use Rattle.rules.specs.Base.{isSome, same, split}
 use Rattle.rules.specs.RefusalNumbers.{Got, got, bad, unless, keep}
 use Rattle.rules.specs.Lines.{Rest, Form, ignored, wrong, close, eof, keyed, Shape, opener, noContent, content, opening, formless, shapeOf, hasForm}
 use Rattle.rules.specs.RangeClass.{reaches}
-use Rattle.rules.specs.Values.{Value, nums, Known, Kind, values, text, word, volumeName, sheet, ratio, serials, wireSerial, nothing, opens, headed, either, readKind, readAll, agree, numsOf}
+use Rattle.rules.specs.Values.{Value, nums, Known, Kind, values, text, word, volumeName, sheet, ratio, serials, wireSerial, symbolCircle, nothing, opens, headed, either, readKind, readAll, agree, numsOf, readCircle}
 use Rattle.rules.specs.Rows.{Rule, Found, absent, found, find, Slots, rowsThere, fits, shapeFor, Act, stay, entry, begin, shut, refuse, orRefuse, innerOf, readShape, actRow, actUnknown, actFound, present, complete, act}
 use Rattle.rules.specs.Figures.{wireTable, wireTextRow}
 use Rattle.rules.specs.Machine.{State, byAct}
@@ -231,7 +231,7 @@ complete-at P d (r ∷ t) (suc j) (some u ∷ s) l g e = complete-at P d t j s (
 abbrev pub onlyNumbers : Rule → Bool
 onlyNumbers r = numbersOnly (r .holds) && not (r .may)
 
-not-empty : (d : Kind) (may : Bool) → numbersOnly d ≡ true → may ≡ false → fits d may noContent ≡ false
+pub not-empty : (d : Kind) (may : Bool) → numbersOnly d ≡ true → may ≡ false → fits d may noContent ≡ false
 not-empty (values p ps a) may e q = rw q
 not-empty (text n b) may e q = clash e refl
 not-empty (word n b) may e q = clash e refl
@@ -240,6 +240,7 @@ not-empty sheet may e q = clash e refl
 not-empty ratio may e q = clash e refl
 not-empty serials may e q = clash e refl
 not-empty wireSerial may e q = clash e refl
+not-empty symbolCircle may e q = rw q
 not-empty nothing may e q = clash e refl
 not-empty (opens i) may e q = refl
 not-empty (headed i p) may e q = clash e refl
@@ -254,6 +255,7 @@ read-numbers k sheet at c v o e = clash o refl
 read-numbers k ratio at c v o e = clash o refl
 read-numbers k serials at c v o e = clash o refl
 read-numbers k wireSerial at c v o e = clash o refl
+read-numbers k symbolCircle at c v o e = let (u, g, q) = map-got nums (readCircle k (split 44 c)) v e in subst (λ (v : Value). nums (numsOf v) ≡ v) q refl
 read-numbers k nothing at c v o e = clash o refl
 read-numbers k (opens i) at c v o e = never e
 read-numbers k (headed i p) at c v o e = clash o refl

@@ -12,7 +12,7 @@ use Rattle.rules.specs.declared.Digits.{Digits}
 use Rattle.rules.specs.Base.{bytes, all, same}
 use Rattle.rules.specs.RefusalNumbers.{Got, bad, unless}
 use Rattle.rules.specs.Lines.{Rest, brace, equals, Form, ignored, wrong, close, eof, keyed, Shape, opener, noContent, content, opening, formless, shapeOf, hasForm}
-use Rattle.rules.specs.Values.{Value, empty, nums, chars, linked, Known, Part, Kind, values, text, word, volumeName, sheet, ratio, serials, wireSerial, nothing, opens, headed, either, readPart, readKind, numsOf, showContent}
+use Rattle.rules.specs.Values.{Value, empty, nums, chars, linked, Known, Part, Kind, values, text, word, volumeName, sheet, ratio, serials, wireSerial, symbolCircle, nothing, opens, headed, either, readPart, readKind, numsOf, showContent}
 use Rattle.rules.specs.Rows.{Rule, row, Found, absent, found, find, Slots, Held, partOf, enter, rowsThere, shapeFor, Act, stay, entry, begin, shut, refuse, orRefuse, innerOf, readShape, actRow, actUnknown, actFound, act, complete}
 use Rattle.rules.specs.Machine.{State, byAct}
 use Rattle.rules.specs.RecordTable.{ruleAt}
@@ -59,7 +59,7 @@ head-took w {r = r} at e k full v n (f, o, l, m) =
     omega (arith, leb-true (innerCost w (r .holds)) (length (r .key) + 2) (row-all (λ r. leb (innerCost w (r .holds)) (length (r .key) + 2)) at e), inner-open w (r .holds) v o, open-line k r v o, l)
 
 -- figures and points: their values are kept as numbers
-behind-nums : (k : Known) (d : Kind) (v : Value) → numbersOnly d ≡ true → behind k d (nums (numsOf v)) ≡ behind k d v
+pub behind-nums : (k : Known) (d : Kind) (v : Value) → numbersOnly d ≡ true → behind k d (nums (numsOf v)) ≡ behind k d v
 behind-nums k (values p ps a) empty e = refl
 behind-nums k (values p ps a) (nums v) e = refl
 behind-nums k (values p ps a) (chars at c) e = refl
@@ -71,6 +71,10 @@ behind-nums k sheet v e = clash e refl
 behind-nums k ratio v e = clash e refl
 behind-nums k serials v e = clash e refl
 behind-nums k wireSerial v e = clash e refl
+behind-nums k symbolCircle empty e = refl
+behind-nums k symbolCircle (nums v) e = refl
+behind-nums k symbolCircle (chars at c) e = refl
+behind-nums k symbolCircle (linked n ns) e = refl
 behind-nums k nothing v e = clash e refl
 behind-nums k (opens i) v e = refl
 behind-nums k (headed i p) v e = clash e refl

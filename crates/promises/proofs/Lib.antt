@@ -15,6 +15,8 @@ pub mod Bare
 pub mod BareActs
 pub mod BareForm
 pub mod Calls
+pub mod Came
+pub mod Circles
 pub mod Costs
 pub mod Count
 pub mod CountActs
@@ -71,6 +73,7 @@ pub mod Numbers
 pub mod OnEof
 pub mod OnWires
 pub mod OneCall
+pub mod OwnLines
 pub mod OwnNumbers
 pub mod Packing
 pub mod Parsed
@@ -93,6 +96,7 @@ pub mod ShownTexts
 pub mod Sizes
 pub mod Stands
 pub mod TextPlaces
+pub mod Turns
 pub mod TwoClasses
 pub mod Values
 pub mod VolumeLists

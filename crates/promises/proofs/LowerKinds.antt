@@ -2,7 +2,7 @@
 -- kinds of a wire's records are of nothing else.
 use Prim.Native.Nat.{ℕ, zero, suc, _-_, _≤_, _<_}
 use mathlib.Core.Bool.{Bool, true, false, _&&_, _||_, not}
-use mathlib.Core.List.{List, [], _∷_, _++_, map}
+use mathlib.Core.List.{List, [], _∷_, _++_}
 use mathlib.Core.Option.{some}
 use mathlib.Core.Path.{_≡_, refl}
 use native.Mathlib.Omega.{arith}
@@ -10,23 +10,23 @@ use lib.Dec.{eqb, leb, ltb}
 use lib.ListN.{length, getD, set, length-set}
 use borrow.Author.Tests.{lt-ltb}
 use Rattle.rules.specs.declared.Digits.{Digits}
-use Rattle.rules.specs.Base.{isNil, all, among, hasNumber}
+use Rattle.rules.specs.Base.{isNil, all, hasNumber}
 use Rattle.rules.specs.RefusalNumbers.{Got, bad, unless, also}
-use Rattle.rules.specs.Lines.{Rest, Form, ignored, wrong, close, eof, keyed, freeShapeOf, shapeOf, hasForm}
+use Rattle.rules.specs.Lines.{Rest, Form, ignored, wrong, close, eof, keyed, shapeOf, hasForm}
 use Rattle.rules.specs.RangeClass.{digits, digitsOf, reaches, exceeds, both, knowsWires, skipOf, mostDepth}
-use Rattle.rules.specs.Values.{Num, Value, Known, amountAt, numsOf, isLayerId}
+use Rattle.rules.specs.Values.{Num, Value, Known, amountAt, numsOf}
 use Rattle.rules.specs.Rows.{Rule, Found, absent, found, find, Slots, Held, partOf, rowsThere, rowsAtLimit, Act, stay, entry, begin, shut, refuse, orRefuse, actRow, actUnknown, actFound, act, complete}
-use Rattle.rules.specs.Blocks.{topTable, fileTables, drawingTable, mostLayers, definesTable, symbolTable, elementTable}
+use Rattle.rules.specs.Blocks.{topTable, fileTables, drawingTable, definesTable, symbolTable, elementTable}
 use Rattle.rules.specs.Figures.{layerTable, pointTable, textTable, placedTable, placedTables, wireTable, wireTextTable, firstGroupRow, leastPoints}
 use Rattle.rules.specs.Sets.{Point, Edge, Wire, Figure, plain, chain, lettering, placed, wired, passed, Drawing, Symbol, Contents, Set, symbolOwn, isFirst, isSingle, isWired, arcOf, rangeOf, defineRange, joinDigit, wiresOf, knownOf, usedIn}
 use Rattle.rules.specs.VolumesAndTotals.{chained, dated, countedHere}
-use Rattle.rules.specs.Machine.{Line, Env, Home, inElement, inLayer, State, top, file, drawing, layerNames, defines, symbol, hide, elements, figures, successive, texts, placing, skipping, ended, symbolBlock, wireBlock, wireUnread, Owned, byAct, beginWire, openTop, onTop, onFile, onDrawing, layerValue, onLayerNames, newName, openSymbol, onSymbol, onDefines, onHide, onElements, isLayer, homeTable, closeFigures, openFigure, onFigures, onSuccessive, onTexts, fileKinds}
+use Rattle.rules.specs.Machine.{Line, Env, Home, inElement, inLayer, State, top, file, drawing, layerNames, defines, symbol, hide, elements, figures, successive, texts, placing, skipping, ended, symbolBlock, wireBlock, wireUnread, Owned, byAct, beginWire, openTop, onTop, onFile, onDrawing, onLayerNames, newName, openSymbol, onSymbol, onDefines, onHide, onElements, isLayer, homeTable, closeFigures, openFigure, onFigures, onSuccessive, onTexts, fileKinds}
 use Rattle.rules.specs.PlacedSymbol.{onUnknown, newSerial, onPlaced, onPlacedKey, onPlacedOwn, onPlacing, skipShut, onSkipping}
 use Rattle.rules.specs.Wires.{joined, joinsEnds, lastEdge, groupAt, isGroupRow, wireFull, isElementRow, onElement, numsAlike, newNumber, onAttribute, onWireAct, onWireUnknown, onWireKey, onWire}
 use Rattle.rules.specs.LineByLine.{stepIn, completes, nextVolume, step}
-use Rattle.rules.proofs.Chains.{and-left, and-right, and-true, by-cond, On, on-unless, on-cond, on-map, on-then, on-also, on-weaken, all-append}
+use Rattle.rules.proofs.Chains.{and-left, and-right, and-true, by-cond, On, on-unless, on-cond, on-map, on-also, on-weaken, all-append}
 use Rattle.rules.proofs.Rows.{found-row, row-below}
-use Rattle.rules.proofs.OnActs.{on-byAct, on-taking, on-shut, on-skip}
+use Rattle.rules.proofs.OnActs.{on-byAct, on-layers, on-taking, on-shut, on-skip}
 use Rattle.promises.proofs.OnEof.{on-eof}
 use Rattle.promises.proofs.LowerRows.{RowAct, row-act, entered, opened, refused}
 
@@ -169,16 +169,7 @@ module _ (e : Env) (l : Line) where
   rows-drawing s d f i = on-byAct Kinds _ _ _ _ (act (knownOf s) drawingTable (digitsOf (arcOf s)) (rowsThere (d .own)) f) i (λ j v. i) (λ m j v b. i) i
 
   rows-layers : (s : Set) (d : Drawing) (f : Form) → Rows s → On Kinds (onLayerNames e l s d f)
-  rows-layers s d ignored i = i
-  rows-layers s d (wrong n) i = tt
-  rows-layers s d close i = i
-  rows-layers s d eof i = tt
-  rows-layers s d (keyed k c) i =
-      on-unless Kinds (isLayerId k) 6 _ λ _.
-      on-then Kinds (layerValue k (freeShapeOf c)) _ λ v _.
-      on-unless Kinds (ltb (length (d .layers)) mostLayers) 11 _ λ _.
-      on-unless Kinds (not (among k (map (λ y. y .id) (d .layers)))) 14 _ λ _.
-      on-taking Kinds e 1 s _ λ _. i
+  rows-layers s d f i = on-layers Kinds e l s d f i i λ k v _. i
 
   rows-defines : (s : Set) (non : Bool) (f : Form) → Rows s → On Kinds (onDefines e l s non f)
   rows-defines s non f i =

@@ -11,7 +11,7 @@ use Rattle.rules.specs.Base.{bytes, same, all}
 use Rattle.rules.specs.RefusalNumbers.{got}
 use Rattle.rules.specs.Lines.{Rest, brace, equals, Shape, opener, noContent, content, opening, formless, stem, byStem, shapeOf, freeShapeOf}
 use Rattle.rules.specs.RangeClass.{digits, reaches, passes, deeper, skipShape, skipOf}
-use Rattle.rules.specs.Values.{Value, empty, nums, Known, Kind, values, text, word, volumeName, sheet, ratio, serials, wireSerial, nothing, opens, headed, either, isFree, readKind}
+use Rattle.rules.specs.Values.{Value, empty, nums, Known, Kind, values, text, word, volumeName, sheet, ratio, serials, wireSerial, symbolCircle, nothing, opens, headed, either, isFree, readKind}
 use Rattle.rules.specs.Rows.{Rule, isContent, isEmpty, isOpener, fits, shapeFor, Act, stay, entry, begin, shut, refuse, innerOf, readShape, actRow}
 use Rattle.rules.specs.Figures.{placedTable, textTable, wireTable}
 use Rattle.rules.proofs.Chains.{and-left, and-right, and-false, clash, cond-same, same-eq, never, map-got}
@@ -75,6 +75,7 @@ opensText t sheet l = true
 opensText t ratio l = true
 opensText t serials l = true
 opensText t wireSerial l = true
+opensText t symbolCircle l = true
 opensText t nothing l = true
 opensText t (opens i) l = eqb i 1 && (eqb (l .middle) (t .middle) && eqb (l .last) (t .last))
 opensText t (headed i p) l = false
@@ -89,6 +90,7 @@ flatKind sheet = true
 flatKind ratio = true
 flatKind serials = true
 flatKind wireSerial = true
+flatKind symbolCircle = true
 flatKind nothing = true
 flatKind (opens i) = false
 flatKind (headed i p) = false
@@ -157,6 +159,7 @@ opens-text l key r x t o f = go (r .holds) refl t f
     go ratio q t f = clash f (no-content (shapeFor r x) (r .may) o)
     go serials q t f = clash f (no-content (shapeFor r x) (r .may) o)
     go wireSerial q t f = clash f (no-content (shapeFor r x) (r .may) o)
+    go symbolCircle q t f = clash f (no-content (shapeFor r x) (r .may) o)
     go nothing q t f = clash f (no-empty (shapeFor r x) o)
     go (opens i) q t f =
         let one = eqb-true i 1 (and-left (eqb i 1) _ t) in
@@ -175,6 +178,7 @@ flat-opens sheet may sh t o f = clash f (no-content sh may o)
 flat-opens ratio may sh t o f = clash f (no-content sh may o)
 flat-opens serials may sh t o f = clash f (no-content sh may o)
 flat-opens wireSerial may sh t o f = clash f (no-content sh may o)
+flat-opens symbolCircle may sh t o f = clash f (no-content sh may o)
 flat-opens nothing may sh t o f = clash f (no-empty sh o)
 flat-opens (opens i) may sh t o f = clash t refl
 flat-opens (headed i p) may sh t o f = clash t refl

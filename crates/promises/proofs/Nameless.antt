@@ -1,18 +1,19 @@
 -- Kinds that name neither symbols nor layers are read and written alike whatever is known.
 use Prim.Native.Nat.{ℕ}
-use mathlib.Core.Bool.{Bool, true, false, _&&_}
+use mathlib.Core.Bool.{Bool, true, false, cond, _&&_}
 use mathlib.Core.List.{List, [], _∷_, _++_}
-use mathlib.Core.Path.{_≡_, refl, ap}
+use mathlib.Core.Path.{_≡_, refl, ap, ap₂}
+use lib.Dec.{eqb}
 use lib.IntN.{pos}
-use lib.ListN.{getD}
+use lib.ListN.{length, getD}
 use Rattle.rules.specs.Base.{all, split, join}
 use Rattle.rules.specs.RefusalNumbers.{mapG, keep}
-use Rattle.rules.specs.Values.{Num, num, Value, empty, nums, chars, linked, Known, Part, count, digit, typeDigits, range, rangeOfSymbols, rangeOfWires, day, clock, decimal, symbolName, layerId, readPart, showPart, readAll, showAll, agree, Kind, values, text, word, volumeName, sheet, ratio, serials, wireSerial, nothing, opens, headed, either, readKind, numsOf, showKind, showContent}
+use Rattle.rules.specs.Values.{Num, num, Value, empty, nums, chars, linked, Known, Part, count, digit, typeDigits, range, rangeOfSymbols, rangeOfWires, day, clock, decimal, exactly, symbolName, layerId, readPart, showPart, readAll, showAll, agree, Kind, values, text, word, volumeName, sheet, ratio, serials, wireSerial, symbolCircle, nothing, opens, headed, either, readKind, numsOf, showKind, showContent, arcOfCircle, arcParts, wholeParts, noTurn, readCircle, isTurnless, showCircle}
 use Rattle.rules.specs.declared.Digits.{Digits}
 use Rattle.rules.specs.Lines.{Rest, Shape, opener, noContent, content, opening, formless}
 use Rattle.rules.specs.Rows.{Rule, shapeFor, readShape, actRow}
 use Rattle.rules.specs.FixedForm.{behind, lineOf}
-use Rattle.rules.proofs.Chains.{and-left, and-right, clash}
+use Rattle.rules.proofs.Chains.{and-left, and-right, by-cond, clash}
 
 -- ── what is known ──
 -- parts and kinds that name neither symbols nor layers do not look at what is known
@@ -26,6 +27,7 @@ namelessPart rangeOfWires = true
 namelessPart day = true
 namelessPart clock = true
 namelessPart (decimal b) = true
+namelessPart (exactly n) = true
 namelessPart symbolName = false
 namelessPart layerId = false
 
@@ -38,6 +40,7 @@ nameless sheet = true
 nameless ratio = true
 nameless serials = true
 nameless wireSerial = true
+nameless symbolCircle = true
 nameless nothing = true
 nameless (opens i) = true
 nameless (headed i p) = namelessPart p
@@ -53,6 +56,7 @@ part-nameless rangeOfWires e k k′ = (λ s. refl, λ a. refl)
 part-nameless day e k k′ = (λ s. refl, λ a. refl)
 part-nameless clock e k k′ = (λ s. refl, λ a. refl)
 part-nameless (decimal b) e k k′ = (λ s. refl, λ a. refl)
+part-nameless (exactly n) e k k′ = (λ s. refl, λ a. refl)
 part-nameless symbolName e k k′ = clash e refl
 part-nameless layerId e k k′ = clash e refl
 
@@ -69,6 +73,16 @@ show-all-nameless (p ∷ ps) e k k′ [] = refl
 show-all-nameless (p ∷ ps) e k k′ (a ∷ v) =
     rw (part-nameless p (and-left (namelessPart p) _ e) k k′ .1 a, show-all-nameless ps (and-right (namelessPart p) _ e) k k′ v)
 
+-- a circle's parts name nothing, six or seven
+circle-nameless : (k k′ : Known) (ss : List (List ℕ)) → readCircle k ss ≡ readCircle k′ ss
+circle-nameless k k′ ss =
+    ap₂ (λ a b. cond (eqb (length ss) 6) (mapG (λ v. v ++ noTurn ∷ []) a) (keep 11 (agree arcOfCircle) b)) (read-all-nameless wholeParts refl k k′ ss)
+    (read-all-nameless arcParts refl k k′ ss)
+
+show-circle-nameless : (k k′ : Known) (v : List Num) → showCircle k v ≡ showCircle k′ v
+show-circle-nameless k k′ v =
+    show-all-nameless (cond (isTurnless v) wholeParts arcParts) (by-cond (λ (ps : List Part). all namelessPart ps ≡ true) (isTurnless v) (λ _. refl) (λ _. refl)) k k′ v
+
 pub read-nameless : (d : Kind) → nameless d ≡ true → (k k′ : Known) (at : ℕ) (c : List ℕ) → readKind k d at c ≡ readKind k′ d at c
 read-nameless (values p ps a) e k k′ at c = ap (λ g. mapG nums (keep 11 (agree a) g)) (read-all-nameless (p ∷ ps) e k k′ (split 44 c))
 read-nameless (text n b) e k k′ at c = refl
@@ -78,6 +92,7 @@ read-nameless sheet e k k′ at c = refl
 read-nameless ratio e k k′ at c = refl
 read-nameless serials e k k′ at c = refl
 read-nameless wireSerial e k k′ at c = refl
+read-nameless symbolCircle e k k′ at c = ap (mapG nums) (circle-nameless k k′ (split 44 c))
 read-nameless nothing e k k′ at c = refl
 read-nameless (opens i) e k k′ at c = refl
 read-nameless (headed i p) e k k′ at c = ap (mapG (λ n. nums (n ∷ []))) (part-nameless p e k k′ .0 c)
@@ -92,6 +107,7 @@ show-kind-nameless sheet e k k′ v = refl
 show-kind-nameless ratio e k k′ v = refl
 show-kind-nameless serials e k k′ v = refl
 show-kind-nameless wireSerial e k k′ v = refl
+show-kind-nameless symbolCircle e k k′ v = ap (join 44) (show-circle-nameless k k′ (numsOf v))
 show-kind-nameless nothing e k k′ v = refl
 show-kind-nameless (opens i) e k k′ v = refl
 show-kind-nameless (headed i p) e k k′ v = part-nameless p e k k′ .1 (getD (numsOf v) 0 (num (pos 0)))
@@ -126,6 +142,7 @@ line-any r e k k′ v = ap (λ c. r .key ++ c) (go (r .holds) e)
     go ratio e = rw (show-nameless ratio e k k′ v)
     go serials e = rw (show-nameless serials e k k′ v)
     go wireSerial e = rw (show-nameless wireSerial e k k′ v)
+    go symbolCircle e = rw (show-nameless symbolCircle e k k′ v)
     go nothing e = refl
     go (opens i) e = refl
     go (headed i p) e = rw (show-nameless (headed i p) e k k′ v)

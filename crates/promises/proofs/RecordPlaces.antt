@@ -13,7 +13,7 @@ use Rattle.rules.specs.declared.Digits.{Digits}
 use Rattle.rules.specs.declared.Class.{Class}
 use Rattle.rules.specs.Base.{mapO, isNil, all, flat, hasNumber}
 use Rattle.rules.specs.RangeClass.{digitsOf, hides}
-use Rattle.rules.specs.Values.{Num, Value, empty, nums, chars, linked, Kind, values, text, word, volumeName, sheet, ratio, serials, wireSerial, nothing, opens, headed, either}
+use Rattle.rules.specs.Values.{Num, Value, empty, nums, chars, linked, Kind, values, text, word, volumeName, sheet, ratio, serials, wireSerial, symbolCircle, nothing, opens, headed, either}
 use Rattle.rules.specs.Rows.{Rule, Slots, Held, partOf}
 use Rattle.rules.specs.Blocks.{fileTable, rangeTable, baseTable, elecTable, symTable, laterTable, fileTables, drawingTable, symbolTable}
 use Rattle.rules.specs.Figures.{pointTable, textTable, placedTable, placedTables, wireTable, wireTextTable}
@@ -67,6 +67,7 @@ text-columns sheet e = refl
 text-columns ratio e = refl
 text-columns serials e = refl
 text-columns wireSerial e = cc
+text-columns symbolCircle e = cc
 text-columns nothing e = cc
 text-columns (opens i) e = cc
 text-columns (headed i p) e = cc

@@ -15,7 +15,7 @@ use Rattle.rules.specs.RefusalNumbers.{got, orBad, keep}
 use Rattle.rules.specs.Numbers.{readFixed, fixedOnto, fixed}
 use Rattle.rules.specs.Lines.{allowed, Rest, brace, equals, keyed, formOf, stem, Shape, opener, noContent, content, opening, formless, byStem, shapeOf, freeShapeOf, hasForm}
 use Rattle.rules.specs.RangeClass.{reaches}
-use Rattle.rules.specs.Values.{Num, num, Value, empty, nums, chars, Known, anyBytes, byteIn, isLayerId, Part, range, readPart, Kind, values, text, word, volumeName, sheet, ratio, serials, wireSerial, nothing, opens, headed, either, isFree, readKind, charsOf, showContent}
+use Rattle.rules.specs.Values.{Num, num, Value, empty, nums, chars, Known, anyBytes, byteIn, isLayerId, Part, range, readPart, Kind, values, text, word, volumeName, sheet, ratio, serials, wireSerial, symbolCircle, nothing, opens, headed, either, isFree, readKind, charsOf, showContent}
 use Rattle.rules.specs.Rows.{Times, once, upTo, anyNumber, Rule, isContent, isEmpty, fits, shapeFor, Act, entry, begin, innerOf, readShape, notTwice, actRow}
 use Rattle.rules.specs.Machine.{layerValue}
 use Rattle.rules.specs.FixedForm.{opensBlock, behind, lineOf}
@@ -63,14 +63,14 @@ stem-open (b ∷ t) = rw (longer t, stem-open t)
     longer (c ∷ u ∷ t) = rw (and-false (eqb c 123), and-false (eqb b 58))
 
 -- a rest and its shape; free text opens nothing
-data Seen (free : Bool) : Rest → Shape → Type 0 where
+pub data Seen (free : Bool) : Rest → Shape → Type 0 where
   opened : Seen free brace opener
   hollow : {at : ℕ} → Seen free (equals at []) noContent
   filled : {at : ℕ} {c : List ℕ} → isNil c ≡ false → (free ≡ false → stem c ≡ none) → Seen free (equals at c) (content at c)
   heading : {at : ℕ} {t : List ℕ} → isNil t ≡ false → Seen free (equals at (t ++ bytes ":{")) (opening at t)
   unformed : {x : Rest} → Seen free x formless
 
-seen : (free : Bool) (x : Rest) → Seen free x (cond free (freeShapeOf x) (shapeOf x))
+pub seen : (free : Bool) (x : Rest) → Seen free x (cond free (freeShapeOf x) (shapeOf x))
 seen true brace = opened
 seen true (equals at []) = hollow
 seen true (equals at (b ∷ c)) = filled refl (λ e. clash refl e)
@@ -112,6 +112,7 @@ sort sheet = plain (λ m s. refl) (λ k v. refl) (λ v. refl)
 sort ratio = plain (λ m s. refl) (λ k v. refl) (λ v. refl)
 sort serials = plain (λ m s. refl) (λ k v. refl) (λ v. refl)
 sort wireSerial = plain (λ m s. refl) (λ k v. refl) (λ v. refl)
+sort symbolCircle = plain (λ m s. refl) (λ k v. refl) (λ v. refl)
 sort nothing = emptyOnly
 sort (opens i) = braceOnly
 sort (headed i p) = heads
@@ -127,6 +128,7 @@ numbersOnly sheet = false
 numbersOnly ratio = false
 numbersOnly serials = false
 numbersOnly wireSerial = false
+numbersOnly symbolCircle = true
 numbersOnly nothing = false
 numbersOnly (opens i) = true
 numbersOnly (headed i p) = false

@@ -10,12 +10,13 @@ use lib.IntN.{pos}
 use lib.ListN.{length, getD, length-append, length-map}
 use borrow.Author.Tests.{lt-leb, ltb-true, eqb-true, eq-eqb, ne-eqb}
 use Rattle.rules.specs.Base.{mapO, isNil, all, flat, same, indexOf, within, Cut, whole, parts, cut, headOnto, split, join}
-use Rattle.rules.specs.RefusalNumbers.{got, mapG, orBad, keep, consG}
+use Rattle.rules.specs.RefusalNumbers.{got, unless, mapG, orBad, keep, consG}
 use Rattle.rules.specs.Numbers.{isDigit, readCount, readFixed, isDay, isClock, readDecimal, fixedOnto, fixed, showCount}
 use Rattle.rules.specs.Lines.{allowed, stem}
-use Rattle.rules.specs.Values.{Num, num, Value, nums, chars, linked, Known, isLetter, lettersAndDigits, byteIn, capital, isLayerId, inBound, Part, count, digit, typeDigits, range, rangeOfSymbols, rangeOfWires, day, clock, decimal, symbolName, layerId, servedSymbols, servedWires, natural, readPart, amount, showPart, readAll, showAll, agree, Kind, values, text, word, volumeName, sheet, ratio, serials, wireSerial, nothing, opens, headed, either, sheets, twoNums, findSheet, showSheet, goodRatio, withOne, ratioParts, readCounts, readRatio, showRatio, mostPartners, readSerials, linkedOf, showSerials, readKind, showContent, readWireSerial, readPartner, showPartner, amountAt}
+use Rattle.rules.specs.Values.{Num, num, Value, nums, chars, linked, Known, isLetter, lettersAndDigits, byteIn, capital, isLayerId, inBound, Part, count, digit, typeDigits, range, rangeOfSymbols, rangeOfWires, day, clock, decimal, exactly, symbolName, layerId, servedSymbols, servedWires, natural, readPart, amount, showPart, readAll, showAll, agree, Kind, values, text, word, volumeName, sheet, ratio, serials, wireSerial, symbolCircle, nothing, opens, headed, either, sheets, twoNums, findSheet, showSheet, goodRatio, withOne, ratioParts, readCounts, readRatio, showRatio, mostPartners, readSerials, linkedOf, showSerials, readKind, showContent, readWireSerial, readPartner, showPartner, amountAt, equalZ, arcOfCircle, arcParts, wholeParts, noTurn, readCircle, showCircle}
 use Rattle.rules.proofs.Chains.{map-some, and-left, and-right, and-true, by-cond, clash, same-eq, never, none-some, unless-got, map-got, keep-got, or-got, cons-got, all-weaken, all-append}
 use Rattle.promises.specs.PlacesApart.{bareValue}
+use Rattle.promises.proofs.Circles.{all-lengths, show-first, circle-whole, circle-arc, arc-turns, whole-turnless}
 use Rattle.promises.proofs.Numbers.{within-both, both-within, numeric, free, all-free, free-head, free-tail, cut-none, cut-at, cut-parts, some-full, Again, count-back, fixed-same, decimal-back}
 use Rattle.promises.proofs.Stands.{allowed-seam, stem-tail, stem-end, stem-comma, Stands, stands-same, plain, or-cases, plain-bounds, stands-plain, numeric-plain, again-stands}
 
@@ -71,6 +72,11 @@ part-back k (decimal b) s a e =
     let (o, t) = keep-got 11 (inBound b) (orBad 10 (readDecimal s)) z g in
     let w = decimal-back s z (or-got 10 (readDecimal s) z o) in
     subst (λ (a : Num). Written k (decimal b) s a) q (written-again k (decimal b) s (num z) readDecimal z (rw (w .back, t)) w)
+part-back k (exactly n) s a e =
+    let (z, g, q) = map-got num (keep 10 (equalZ (pos n)) (orBad 10 (readDecimal s))) a e in
+    let (o, t) = keep-got 10 (equalZ (pos n)) (orBad 10 (readDecimal s)) z g in
+    let w = decimal-back s z (or-got 10 (readDecimal s) z o) in
+    subst (λ (a : Num). Written k (exactly n) s a) q (written-again k (exactly n) s (num z) readDecimal z (rw (w .back, t)) w)
 part-back k symbolName s a e =
     let (n, g, q) = map-got (λ n. num (pos n)) (orBad 13 (indexOf s (k .symbols))) a e in
     written-same k symbolName s a (rw (← q) (name-same s (k .symbols) n (or-got 13 (indexOf s (k .symbols)) n g))) e
@@ -160,6 +166,42 @@ all-back k (p ∷ ps) (s ∷ ss) v e =
     let (b, r) = all-back k ps ss u y in
     subst (λ (v : List Num). (readAll k (p ∷ ps) (showAll k (p ∷ ps) v) ≡ got v) × Pieces (s ∷ ss) (showAll k (p ∷ ps) v)) q
     (rw (w .back, b), piece (w .stands) (w .apart) r)
+
+-- ── a circle of a symbol ──
+pieces-length : {ss ts : List (List ℕ)} → Pieces ss ts → length ts ≡ length ss
+pieces-length done = refl
+pieces-length (piece w f r) = ap suc (pieces-length r)
+
+abbrev CircleBack : Known → List (List ℕ) → List Num → Type 0
+CircleBack k ss v = (readCircle k (showCircle k v) ≡ got v) × Pieces ss (showCircle k v)
+
+-- six values are written as six, and read again as a circle whose turn was not written; seven as seven
+whole-back : (k : Known) (ss : List (List ℕ)) (u : List Num) → eqb (length ss) 6 ≡ true → readAll k wholeParts ss ≡ got u → CircleBack k ss (u ++ noTurn ∷ [])
+whole-back k ss u t e =
+    let (b, r) = all-back k wholeParts ss u e in
+    let six : length u ≡ 6 = all-lengths k wholeParts ss u e .1 in
+    let z : showCircle k (u ++ noTurn ∷ []) ≡ showAll k wholeParts u =
+    ap (λ (t : Bool). showAll k (cond t wholeParts arcParts) (u ++ noTurn ∷ [])) (whole-turnless u six) ∙ show-first k wholeParts u (noTurn ∷ []) six in
+    let n : eqb (length (showAll k wholeParts u)) 6 ≡ true = ap (λ (n : ℕ). eqb n 6) (pieces-length r) ∙ t in
+    (ap (readCircle k) z ∙ circle-whole k (showAll k wholeParts u) n ∙ ap (mapG (λ v. v ++ noTurn ∷ [])) b, subst (λ (ts : List (List ℕ)). Pieces ss ts) (sym z) r)
+
+arc-back : (k : Known) (ss : List (List ℕ)) (v : List Num) → eqb (length ss) 6 ≡ false → readAll k arcParts ss ≡ got v → agree arcOfCircle v ≡ true → CircleBack k ss v
+arc-back k ss v t e a =
+    let (b, r) = all-back k arcParts ss v e in
+    let z : showCircle k v ≡ showAll k arcParts v = ap (λ (t : Bool). showAll k (cond t wholeParts arcParts) v) (arc-turns k ss v e) in
+    let n : eqb (length (showAll k arcParts v)) 6 ≡ false = ap (λ (n : ℕ). eqb n 6) (pieces-length r) ∙ t in
+    (ap (readCircle k) z ∙ circle-arc k (showAll k arcParts v) n ∙ ap (keep 11 (agree arcOfCircle)) b ∙ ap (λ (t : Bool). unless t 11 (got v)) a, subst (λ (ts : List (List ℕ)). Pieces ss ts) (sym z) r)
+
+circle-back : (k : Known) (ss : List (List ℕ)) (v : List Num) → readCircle k ss ≡ got v → CircleBack k ss v
+circle-back k ss v e = go (eqb (length ss) 6) refl
+  where
+    go : (t : Bool) → eqb (length ss) 6 ≡ t → CircleBack k ss v
+    go true t =
+        let (u, g, q) = map-got (λ v. v ++ noTurn ∷ []) (readAll k wholeParts ss) v (sym (circle-whole k ss t) ∙ e) in
+        subst (λ (v : List Num). CircleBack k ss v) q (whole-back k ss u t g)
+    go false t =
+        let (o, a) = keep-got 11 (agree arcOfCircle) (readAll k arcParts ss) v (sym (circle-arc k ss t) ∙ e) in
+        arc-back k ss v t o a
 
 serials-back : (ss : List (List ℕ)) (ns : List ℕ) → readSerials ss ≡ got ns → (readSerials (showSerials ns) ≡ got ns) × Pieces ss (showSerials ns)
 serials-back [] ns e = let q : [] ≡ ns = cc in subst (λ (ns : List ℕ). (readSerials (showSerials ns) ≡ got ns) × Pieces [] (showSerials ns)) q (refl, done)
@@ -416,6 +458,11 @@ kind-back k wireSerial at c v n e =
     let (b, r) = wire-serial-back (split 44 c) u g in
     let (w, z) = content-stands c (threeParts u) r in
     subst (λ (v : Value). Kept k wireSerial c v) q (kept k wireSerial c (nums u) n w (rw (z, b)))
+kind-back k symbolCircle at c v n e =
+    let (u, g, q) = map-got nums (readCircle k (split 44 c)) v e in
+    let (b, r) = circle-back k (split 44 c) u g in
+    let (w, z) = content-stands c (showCircle k u) r in
+    subst (λ (v : Value). Kept k symbolCircle c v) q (kept k symbolCircle c (nums u) n w (ap (λ ss. mapG nums (readCircle k ss)) z ∙ ap (mapG nums) b))
 kind-back k nothing at c v n e = never e
 kind-back k (opens i) at c v n e = never e
 kind-back k (headed i p) at c v n e = part-kept k (headed i p) p c v n (λ s. refl) (λ a. refl) e

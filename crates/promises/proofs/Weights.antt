@@ -7,7 +7,7 @@ use mathlib.Core.Path.{_≡_, refl}
 use native.Mathlib.Omega.{arith}
 use lib.ListN.{length, getD, set}
 use Rattle.rules.specs.Base.{bytes, isNil, total}
-use Rattle.rules.specs.Values.{Num, Value, nums, Known, Part, Kind, values, text, word, volumeName, sheet, ratio, serials, wireSerial, nothing, opens, headed, either, charsOf}
+use Rattle.rules.specs.Values.{Num, Value, nums, Known, Part, Kind, values, text, word, volumeName, sheet, ratio, serials, wireSerial, symbolCircle, nothing, opens, headed, either, charsOf}
 use Rattle.rules.specs.Rows.{Rule, Slots, blank, Held, partOf, rowsThere}
 use Rattle.rules.specs.Blocks.{fileTable, rangeTable, baseTable, elecTable, symTable, laterTable, fileTables, drawingTable, symbolTable, blankHeld}
 use Rattle.rules.specs.Figures.{figureTable, pointTable, textTable, placedTable, placedTables, wireTable, wireTextTable, firstGroupRow}
@@ -33,6 +33,7 @@ open-kind P f g h sheet v e = clash e refl
 open-kind P f g h ratio v e = clash e refl
 open-kind P f g h serials v e = clash e refl
 open-kind P f g h wireSerial v e = clash e refl
+open-kind P f g h symbolCircle v e = clash e refl
 open-kind P f g h nothing v e = clash e refl
 open-kind P f g h (opens i) v e = f i
 open-kind P f g h (headed i p) v e = g i p
@@ -48,6 +49,7 @@ innerCost w sheet = 0
 innerCost w ratio = 0
 innerCost w serials = 0
 innerCost w wireSerial = 0
+innerCost w symbolCircle = 0
 innerCost w nothing = 0
 innerCost w (opens i) = w i
 innerCost w (headed i p) = w i

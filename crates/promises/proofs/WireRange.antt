@@ -2,28 +2,28 @@
 -- before.
 use Prim.Native.Nat.{ℕ, zero, suc}
 use mathlib.Core.Bool.{Bool, true, false, cond, _&&_, _||_, not}
-use mathlib.Core.List.{List, [], _∷_, _++_, map}
+use mathlib.Core.List.{List, [], _∷_, _++_}
 use mathlib.Core.Option.{some}
 use mathlib.Core.Path.{_≡_, refl, sym, ap, subst}
 use lib.Dec.{eqb, leb, ltb}
 use lib.ListN.{length, getD, set}
 use borrow.Author.Tests.{eqb-true}
-use Rattle.rules.specs.Base.{isNil, among, hasNumber}
+use Rattle.rules.specs.Base.{isNil, hasNumber}
 use Rattle.rules.specs.RefusalNumbers.{Got, got, bad, also}
-use Rattle.rules.specs.Lines.{Rest, Form, ignored, wrong, close, eof, keyed, freeShapeOf}
+use Rattle.rules.specs.Lines.{Rest, Form, ignored, wrong, close, eof, keyed}
 use Rattle.rules.specs.RangeClass.{digits, digitsOf, reaches, exceeds, both, knowsWires, skipOf, mostDepth}
-use Rattle.rules.specs.Values.{amountAt, isLayerId}
+use Rattle.rules.specs.Values.{amountAt}
 use Rattle.rules.specs.Rows.{Found, absent, found, find, Slots, Held, partOf, numberOf, rowsThere, rowsAtLimit, Act, shut, actRow, actUnknown, act, complete}
-use Rattle.rules.specs.Blocks.{topTable, fileTables, elecTable, drawingTable, mostLayers, definesTable, symbolTable, elementTable}
+use Rattle.rules.specs.Blocks.{topTable, fileTables, elecTable, drawingTable, definesTable, symbolTable, elementTable}
 use Rattle.rules.specs.Figures.{pointTable, textTable, placedTable, placedTables, leastPoints}
 use Rattle.rules.specs.Sets.{Point, Wire, Figure, Drawing, Symbol, Contents, Set, headOr, symbolOwn, isFirst, isWired, arcOf, rangeOf, defineRange, joinDigit, knownOf, usedIn}
 use Rattle.rules.specs.VolumesAndTotals.{chained, dated, countedHere}
-use Rattle.rules.specs.Machine.{Line, Env, Home, inElement, inLayer, State, top, file, drawing, layerNames, defines, symbol, hide, elements, figures, successive, texts, placing, skipping, ended, setOf, symbolBlock, wireBlock, wireUnread, Owned, beginWire, openTop, onTop, closeFile, onFile, onDrawing, layerValue, onLayerNames, newName, openSymbol, onSymbol, onDefines, onHide, onElements, isLayer, homeTable, closeFigures, openFigure, onFigures, onSuccessive, onTexts, fileKinds}
+use Rattle.rules.specs.Machine.{Line, Env, Home, inElement, inLayer, State, top, file, drawing, layerNames, defines, symbol, hide, elements, figures, successive, texts, placing, skipping, ended, setOf, symbolBlock, wireBlock, wireUnread, Owned, beginWire, openTop, onTop, closeFile, onFile, onDrawing, onLayerNames, newName, openSymbol, onSymbol, onDefines, onHide, onElements, isLayer, homeTable, closeFigures, openFigure, onFigures, onSuccessive, onTexts, fileKinds}
 use Rattle.rules.specs.PlacedSymbol.{onUnknown, newSerial, onPlaced, onPlacedKey, onPlacing, skipShut, onSkipping}
 use Rattle.rules.specs.Wires.{joined, joinsEnds, lastEdge, onWire}
 use Rattle.rules.specs.LineByLine.{stepIn, isIgnored, isClose, isEof, completes, nextVolume, step, accepted, thenRun, run}
-use Rattle.rules.proofs.Chains.{and-false, clash, by-cond, cond-same, On, on-unless, on-cond, on-map, on-then, on-also, on-got, nil-snoc}
-use Rattle.rules.proofs.OnActs.{on-byAct, on-taking, on-shut, on-skip}
+use Rattle.rules.proofs.Chains.{and-false, clash, by-cond, cond-same, On, on-unless, on-cond, on-map, on-also, on-got, nil-snoc}
+use Rattle.rules.proofs.OnActs.{on-byAct, on-layers, on-taking, on-shut, on-skip}
 use Rattle.rules.proofs.Runs.{not-accepted, finish-ended, head-snoc, head-file}
 use Rattle.promises.specs.WireParts.{goOn, readUpTo}
 use Rattle.promises.proofs.Count.{both-left, closing, on-close}
@@ -125,16 +125,7 @@ module _ (e : Env) (l : Line) (s : Set) where
   range-drawing d f = on-byAct P _ _ _ _ (act (knownOf s) drawingTable (digitsOf (arcOf s)) (rowsThere (d .own)) f) (tt, as-before) (λ j v. (tt, as-before)) (λ m j v b. (tt, as-before)) (tt, as-before)
 
   range-layers : (d : Drawing) (f : Form) → On P (onLayerNames e l s d f)
-  range-layers d ignored = (tt, as-before)
-  range-layers d (wrong n) = tt
-  range-layers d close = (tt, as-before)
-  range-layers d eof = tt
-  range-layers d (keyed k c) =
-      on-unless P (isLayerId k) 6 _ λ _.
-      on-then P (layerValue k (freeShapeOf c)) _ λ v _.
-      on-unless P (ltb (length (d .layers)) mostLayers) 11 _ λ _.
-      on-unless P (not (among k (map (λ y. y .id) (d .layers)))) 14 _ λ _.
-      on-taking P e 1 s _ λ _. (tt, as-before)
+  range-layers d f = on-layers P e l s d f (tt, as-before) (tt, as-before) λ k v _. (tt, as-before)
 
   range-defines : (non : Bool) (f : Form) → On P (onDefines e l s non f)
   range-defines non f =

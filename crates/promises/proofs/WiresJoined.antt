@@ -34,7 +34,7 @@ use Rattle.promises.proofs.ShownNumbers.{isOther, Shown, ofFigure, set-
 use Rattle.promises.proofs.WireRecords.{value-at, both, wire-shows, skip-shows}
 
 -- ── numbers ──
-equal-is : (a b : ℤ) → equalZ a b ≡ true → a ≡ b
+pub equal-is : (a b : ℤ) → equalZ a b ≡ true → a ≡ b
 equal-is (pos a) (pos b) e =
     let same : a ≡ b = omega (arith, leb-true a b (and-left (leb a b) _ e), leb-true b a (and-right (leb a b) _ e)) in ap pos same
 equal-is (pos a) (negsuc b) e = clash e refl

@@ -1,10 +1,10 @@
 -- The small set and what it is answered, computed.
 use mathlib.Core.Path.{refl}
 use Rattle.rules.specs.Answers.{readOutcome, readAnswer, written, rewriteAnswer, checkAnswer, readRecords}
-use Rattle.promises.specs.Witnesses.{small, cut, wiredOf, serialsWith, linkedWith, Witnesses}
+use Rattle.promises.specs.Witnesses.{small, cut, wiredOf, serialsWith, linkedWith, circlesOf, Witnesses}
 
 pub witnesses : Witnesses
-unfolding small cut wiredOf serialsWith linkedWith readOutcome readAnswer readRecords written rewriteAnswer checkAnswer
+unfolding small cut wiredOf serialsWith linkedWith circlesOf readOutcome readAnswer readRecords written rewriteAnswer checkAnswer
 witnesses = record {
   accepted = refl;
   checked = refl;
@@ -35,4 +35,7 @@ witnesses = record {
   startAlone = refl;
   endAlone = refl;
   edges = refl;
+  turns = refl;
+  turnsFixed = refl;
+  arcTurns = refl;
 }

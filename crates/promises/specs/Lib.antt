@@ -15,6 +15,7 @@ pub mod SingleCalls
 pub mod TableTexts
 pub mod TakenApart
 pub mod TextsKept
+pub mod Turns
 pub mod WireParts
 pub mod WiresJoined
 pub mod Witnesses

@@ -102,6 +102,18 @@ serialsWith second =
 abbrev pub ownAt : ℕ → List ℕ → List ℕ
 ownAt class spool = ownNumbers (readRecords class fullWire (8 * width) spool)
 
+-- a symbol of two circles, the first at line 46
+unfoldable pub circlesOf : S.String → S.String → List ℕ
+circlesOf first second =
+    oneVolume
+    (fileLines ("elec=001:{" ∷ "E_sym=001" ∷ "E_wire=000" ∷ "E_cirno=000" ∷ "}" ∷ "sym=001:{" ∷ "S_base=000" ∷ "S_elec=001" ∷ "}" ∷ [])
+    ("all_line=55" ∷ "this_line=55" ∷ "all_ele=0" ∷ "this_ele=0" ∷ [])
+    ++ linesWith ("E_symbol:{" ∷ "name=LAMP" ∷ "element:{" ∷ first ∷ second ∷ "}" ∷ "hide:{" ∷ "}" ∷ "}" ∷ []) [] [] ++ "EOF" ∷ [])
+
+-- whole, without a turn; and with one
+abbrev pub circles : List ℕ
+circles = circlesOf "circle=1307,0,0,2,0,360" "circle=1307,0,0,1,0,360,1"
+
 -- a placed symbol and a wire of one line, in a file of E_sym 011 and E_wire 011, with these serials, the wire's at line 61
 unfoldable pub linkedWith : S.String → S.String → List ℕ
 linkedWith symbol wire =
@@ -183,3 +195,9 @@ pub record Witnesses : Type 0 where
   pub edges : flat (map elementIn (readRecords fullNumber fullWire (9 * width) (wiredWith joinedLine)))
       ≡ map (map pos) ((20 ∷ 1307 ∷ 0 ∷ 0 ∷ 100000 ∷ 50000 ∷ []) ∷ (20 ∷ 1307 ∷ 100000 ∷ 50000 ∷ 100000 ∷ 90000 ∷ []) ∷ [])
       ++ (pos 21 ∷ pos 1307 ∷ minus 50000 ∷ map pos (50000 ∷ 30000 ∷ 0 ∷ 900000 ∷ 1 ∷ [])) ∷ []
+  -- a circle's turn at place 10: -1 where six values stand, and the seventh where seven do, at the least class too; each is written back with as many
+  pub turns : map (λ class. map (λ r. numberAt r 10) (drop 4 (readRecords class 0 (6 * width) circles))) (15 ∷ 1 ∷ [])
+      ≡ (minus 1 ∷ pos 1 ∷ []) ∷ (minus 1 ∷ pos 1 ∷ []) ∷ []
+  pub turnsFixed : written circles ≡ circles
+  -- an arc needs its turn
+  pub arcTurns : readAnswer fullNumber fullWire (6 * width) (circlesOf "circle=1307,0,0,2,0,90" "circle=1307,0,0,1,0,360") ≡ refusal 10 1 46

@@ -2,8 +2,8 @@
 use Prim.Native.Nat.{ℕ, _+_}
 use mathlib.Core.Bool.{Bool, true, false}
 use mathlib.Core.List.{List, [], _∷_, _++_}
-use Rattle.rules.specs.Values.{Part, count, digit, typeDigits, decimal, anySign, notNegative, aboveZero, angle, halfTurn, symbolName, Kind, values, text, word, serials}
-use Rattle.rules.specs.Values.{wireSerial, servedPower}
+use Rattle.rules.specs.Values.{Part, count, digit, typeDigits, decimal, anySign, notNegative, halfTurn, symbolName, Kind, values, text, word, serials}
+use Rattle.rules.specs.Values.{centre, measure, degrees, flag, arcRest, wireSerial, symbolCircle, servedPower}
 use Rattle.rules.specs.Values.{opens, anyBytes, circuitBytes, nothingMore, endsDiffer, arcOfCircle, axesOfEllipse}
 use Rattle.rules.specs.Rows.{Rule, row, mayBeEmpty, from, optional, repeated, stateAt, upTo, anyNumber}
 
@@ -11,20 +11,6 @@ use Rattle.rules.specs.Rows.{Rule, row, mayBeEmpty, from, optional, repe
 abbrev pub coordinate : Bool → Part
 coordinate true = decimal notNegative
 coordinate false = decimal anySign
-
--- a centre's x or y; "Radius, axes, width, height above zero", a factor too; "Angles are 0 to 360 inclusive"
-abbrev pub centre : Part
-centre = decimal anySign
-
-abbrev pub measure : Part
-measure = decimal aboveZero
-
-abbrev pub degrees : Part
-degrees = decimal angle
-
--- "Turn and upright are 0 or 1"
-abbrev pub flag : Part
-flag = digit 0 1
 
 -- the values of a point: type,x,y
 abbrev pub pointKind : Bool → Kind
@@ -34,13 +20,18 @@ pointKind inLayer = values typeDigits (coordinate inLayer ∷ coordinate inLayer
 abbrev pub lineRow : Bool → Rule
 lineRow inLayer = row "line" (values typeDigits (coordinate inLayer ∷ coordinate inLayer ∷ coordinate inLayer ∷ coordinate inLayer ∷ []) endsDiffer) 4
 
-abbrev pub circleRow : Rule
-circleRow = row "circle" (values typeDigits (centre ∷ centre ∷ measure ∷ degrees ∷ degrees ∷ flag ∷ []) arcOfCircle) 4
+-- "Inside a symbol's `element`, a circle from 0 to 360 may have six values"
+abbrev pub circleKind : Bool → Kind
+circleKind true = values typeDigits arcRest arcOfCircle
+circleKind false = symbolCircle
+
+abbrev pub circleRow : Bool → Rule
+circleRow inLayer = row "circle" (circleKind inLayer) 4
 
 abbrev pub plainRows : Bool → List Rule
 plainRows inLayer =
     lineRow inLayer
-    ∷ circleRow
+    ∷ circleRow inLayer
     ∷ row "ellipse" (values typeDigits (centre ∷ centre ∷ measure ∷ measure ∷ degrees ∷ degrees ∷ degrees ∷ flag ∷ []) axesOfEllipse) 4
     ∷ row "point" (pointKind inLayer) 4 ∷ []
 
@@ -116,7 +107,7 @@ site = decimal notNegative
 unfoldable pub wireTable : List Rule
 wireTable =
     repeated anyNumber (lineRow true)
-    ∷ repeated anyNumber circleRow
+    ∷ repeated anyNumber (circleRow true)
     ∷ stateAt 26 (from 0 2 (repeated (upTo mostDirecs) (row "direc" (values (digit 0 4) (site ∷ site ∷ degrees ∷ []) nothingMore) 0)))
     ∷ stateAt 27 (from 0 3 (repeated anyNumber (row "piend" (values site (site ∷ degrees ∷ []) nothingMore) 0)))
     ∷ stateAt 28 (from 0 4 (repeated anyNumber (row "num" (values flag (count ∷ site ∷ site ∷ decimal halfTurn ∷ []) nothingMore) 0)))

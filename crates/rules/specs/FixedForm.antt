@@ -8,7 +8,7 @@ use lib.Dec.{eqb}
 use lib.ListN.{getD}
 use Rattle.rules.specs.Base.{bytes, isNil}
 use Rattle.rules.specs.Spool.{unlines, volumeBytes}
-use Rattle.rules.specs.Values.{Num, Value, nums, Known, Kind, values, text, word, volumeName, sheet, ratio, serials, wireSerial, nothing, opens, headed, either}
+use Rattle.rules.specs.Values.{Num, Value, nums, Known, Kind, values, text, word, volumeName, sheet, ratio, serials, wireSerial, symbolCircle, nothing, opens, headed, either}
 use Rattle.rules.specs.Values.{showContent, charsOf, amountAt}
 use Rattle.rules.specs.Rows.{Rule, Slots, Held, partOf}
 use Rattle.rules.specs.Blocks.{fileTables, drawingTable, symbolTable}
@@ -34,6 +34,7 @@ opensBlock sheet v = false
 opensBlock ratio v = false
 opensBlock serials v = false
 opensBlock wireSerial v = false
+opensBlock symbolCircle v = false
 opensBlock nothing v = false
 opensBlock (opens i) v = true
 opensBlock (headed i p) v = true
@@ -52,6 +53,7 @@ behind k sheet v = 61 ∷ showContent k sheet v
 behind k ratio v = 61 ∷ showContent k ratio v
 behind k serials v = 61 ∷ showContent k serials v
 behind k wireSerial v = 61 ∷ showContent k wireSerial v
+behind k symbolCircle v = 61 ∷ showContent k symbolCircle v
 behind k nothing v = 61 ∷ []
 behind k (opens i) v = bytes ":{"
 behind k (headed i p) v = 61 ∷ openLine (showContent k (headed i p) v)

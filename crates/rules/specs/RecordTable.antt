@@ -12,7 +12,7 @@ use Rattle.rules.specs.declared.Class.{Class}
 use Rattle.rules.specs.Base.{flat}
 use Rattle.rules.specs.RangeClass.{digits, digitsOf, hides}
 use Rattle.rules.specs.Numbers.{value}
-use Rattle.rules.specs.Values.{Num, Value, empty, nums, chars, linked, valueAt, Kind, values, text, word, volumeName, sheet, ratio, serials, wireSerial, nothing}
+use Rattle.rules.specs.Values.{Num, Value, empty, nums, chars, linked, valueAt, Kind, values, text, word, volumeName, sheet, ratio, serials, wireSerial, symbolCircle, nothing}
 use Rattle.rules.specs.Values.{opens, headed, either}
 use Rattle.rules.specs.Rows.{Rule, row, Slots, Held, partOf}
 use Rattle.rules.specs.Blocks.{fileTables, drawingTable, symbolTable}
@@ -53,6 +53,7 @@ columns sheet = 2
 columns ratio = 2
 columns serials = 2
 columns wireSerial = 5
+columns symbolCircle = 7
 columns nothing = 0
 columns (opens i) = 0
 columns (headed i p) = 1

@@ -13,7 +13,7 @@ use Rattle.rules.specs.RefusalNumbers.{Got, got, bad, unless, mapG, andT
 use Rattle.rules.specs.Lines.{Rest, Form, ignored, wrong, close, eof, keyed, Shape, opener, noContent, content, opening, formless, shapeOf, freeShapeOf}
 use Rattle.rules.specs.Lines.{hasForm}
 use Rattle.rules.specs.RangeClass.{digits, reaches}
-use Rattle.rules.specs.Values.{Value, empty, nums, Known, Kind, values, text, word, volumeName, sheet, ratio, serials, wireSerial, nothing, opens, headed, either}
+use Rattle.rules.specs.Values.{Value, empty, nums, Known, Kind, values, text, word, volumeName, sheet, ratio, serials, wireSerial, symbolCircle, nothing, opens, headed, either}
 use Rattle.rules.specs.Values.{isFree, readKind, amountAt}
 
 -- ── a row ──
@@ -166,6 +166,7 @@ fits sheet may s = isContent s || (may && isEmpty s)
 fits ratio may s = isContent s || (may && isEmpty s)
 fits serials may s = isContent s || (may && isEmpty s)
 fits wireSerial may s = isContent s || (may && isEmpty s)
+fits symbolCircle may s = isContent s || (may && isEmpty s)
 fits nothing may s = isEmpty s
 fits (opens i) may s = isOpener s
 fits (headed i p) may s = isOpening s
@@ -196,6 +197,7 @@ innerOf sheet = 0
 innerOf ratio = 0
 innerOf serials = 0
 innerOf wireSerial = 0
+innerOf symbolCircle = 0
 innerOf nothing = 0
 innerOf (opens i) = i
 innerOf (headed i p) = i

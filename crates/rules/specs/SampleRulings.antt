@@ -34,12 +34,15 @@ fileLinesWith esym ewire allLine allEle thisEle next =
 abbrev pub fileLines : S.String → S.String → S.String → S.String → Lines
 fileLines esym allEle thisEle next = fileLinesWith esym "E_wire=000" "all_line=0070" allEle thisEle next
 
--- DRAWING_FORMAT and SYMBOL_DEFINE: size
-abbrev pub drawingLines : S.String → Lines
-drawingLines size =
+-- DRAWING_FORMAT and SYMBOL_DEFINE: size, and the first figure of the one symbol (at line 47)
+abbrev pub drawingWith : S.String → S.String → Lines
+drawingWith size figure =
     "DRAWING_FORMAT:{" ∷ size ∷ "scale=1/100" ∷ "project=LAB" ∷ "drawname=FLOOR" ∷ "date=19970331" ∷ "drawer="
     ∷ "layer_name:{" ∷ "E_151=POWER" ∷ "}" ∷ "}"
-    ∷ "SYMBOL_DEFINE:{" ∷ "E_symbol:{" ∷ "name=LAMP" ∷ "element:{" ∷ "circle=1307,-1,0,2,0,360,0" ∷ "}" ∷ "hide:{" ∷ "}" ∷ "}" ∷ "}" ∷ []
+    ∷ "SYMBOL_DEFINE:{" ∷ "E_symbol:{" ∷ "name=LAMP" ∷ "element:{" ∷ figure ∷ "}" ∷ "hide:{" ∷ "}" ∷ "}" ∷ "}" ∷ []
+
+abbrev pub drawingLines : S.String → Lines
+drawingLines size = drawingWith size "circle=1307,-1,0,2,0,360,0"
 
 -- ELEMENT with one layer
 abbrev pub elementLines : Lines → Lines
@@ -98,6 +101,31 @@ secondOfTwo =
     volume "TEST10"
     (("FILE_FORMAT:{" ∷ "this_line=9" ∷ "this_ele=1" ∷ "next_file=" ∷ "date=19970401" ∷ "time=235959" ∷ "}" ∷ [])
     ++ elementLines ("point=1307,2,2" ∷ []) ++ ending)
+
+-- ── document 02, wish 3: circles with six values ──
+-- a drawing of no element, in whose symbol this figure stands; .. as it is written in the fixed form
+abbrev pub symbolWith : S.String → S.String → List ℕ
+symbolWith allLine figure =
+    volume "TEST"
+    (fileLinesWith "E_sym=015" "E_wire=000" allLine "all_ele=0" "this_ele=0" "next_file=" ++ drawingWith "size=A1" figure ++ elementLines [] ++ ending)
+
+abbrev pub symbolOf : S.String → List ℕ
+symbolOf figure = symbolWith "all_line=0070" figure
+
+abbrev pub writtenSymbol : S.String → List ℕ
+writtenSymbol figure = symbolWith "all_line=70" figure
+
+-- its lines up to this figure alone
+abbrev pub endsAt : S.String → List ℕ
+endsAt figure =
+    volume "TEST" (fileLines "E_sym=015" "all_ele=0" "this_ele=0" "next_file=" ++ take 16 (drawingWith "size=A1" figure))
+
+-- a wire that holds this line
+abbrev pub wireWith : S.String → List ℕ
+wireWith line =
+    volume "TEST"
+    (fileLinesWith "E_sym=015" "E_wire=001" "all_line=0070" "all_ele=1" "this_ele=1" "next_file=" ++ drawingLines "size=A1"
+    ++ elementLines ("E_wire:{" ∷ line ∷ "}" ∷ []) ++ ending)
 
 -- ── a set written carelessly, and its fixed form ──
 -- comments, blanks and an empty line, keys in another order, `hide` before `element`, `-0`, needless zeros, small letters in next_file
@@ -183,14 +211,23 @@ layerEntry more = entry (from 5 0 1 40 0 ∷ whole (69 ∷ 151 ∷ []) ∷ text 
 abbrev pub symbolEntry : ℕ → List ℤ
 symbolEntry more = entry (from 4 0 1 44 0 ∷ text (482 + more) 4 ∷ [])
 
+-- its seventh number is its turn
+abbrev pub circleTurned : ℤ → List ℤ
+circleTurned turn = entry (from 31 0 1 47 1307 ∷ (minus 10000 ∷ pos 0 ∷ []) ∷ whole (20000 ∷ []) ∷ whole (0 ∷ 3600000 ∷ []) ∷ (turn ∷ []) ∷ [])
+
 abbrev pub circleEntry : List ℤ
-circleEntry = entry (from 31 0 1 47 1307 ∷ (minus 10000 ∷ pos 0 ∷ []) ∷ whole (20000 ∷ []) ∷ whole (0 ∷ 3600000 ∷ []) ∷ whole (0 ∷ []) ∷ [])
+circleEntry = circleTurned (pos 0)
 
 -- the six records before the elements: E_sym, all_ele, this_ele, n of the sheet, and how many bytes more than in the sound set stand before
 -- the header's texts and before the drawing's
 abbrev pub sixEntries : ℕ → ℕ → ℕ → ℕ → ℕ → ℕ → List (List ℤ)
 sixEntries esym allEle thisEle n before more =
     headerEntry esym allEle before ∷ volumeEntry 1 70 thisEle ∷ drawingEntry n more ∷ layerEntry more ∷ symbolEntry more ∷ circleEntry ∷ []
+
+-- of a drawing of no element, whose symbol has this circle
+abbrev pub turnedEntries : ℤ → List (List ℤ)
+turnedEntries turn =
+    headerEntry 15 0 0 ∷ volumeEntry 1 70 0 ∷ drawingEntry 1 0 ∷ layerEntry 0 ∷ symbolEntry 0 ∷ circleTurned turn ∷ []
 
 -- a point of a layer: volume, line, x and y alike
 abbrev pub pointEntry : ℕ → ℕ → ℕ → List ℤ
@@ -305,6 +342,42 @@ cases =
     ∷ ruled (spool 15 18 rangeThirteen) (accepted 7 thirteenEntries)
     -- to keep out: "A skipped text whose `character` ends in `:{` swallowing the rest"
     ∷ ruled (spool 1 0 endsInBrace) (accepted 8 unreadEntries)
+    -- document 02, wish 3: "Inside a symbol's `element`, a circle from 0 to 360 may have six values. Its turn is recorded as -1": at the
+    -- newer plotter's class and at the older's, 0 and 360 by value; with seven values the turn is the one written
+    ∷ ruled (spool 15 18 (symbolOf "circle=1307,-1,0,2,0,360")) (accepted 6 (turnedEntries (minus 1)))
+    ∷ ruled (spool 3 0 (symbolOf "circle=1307,-1,0,2,0,360")) (accepted 6 (turnedEntries (minus 1)))
+    ∷ ruled (spool 15 18 (symbolOf "circle=1307,-1.0,0,02,-0.0,0360.00")) (accepted 6 (turnedEntries (minus 1)))
+    ∷ ruled (spool 15 18 (symbolOf "circle=1307,-1,0,2,0,360,0")) (accepted 6 (turnedEntries (pos 0)))
+    ∷ ruled (spool 15 18 (symbolOf "circle=1307,-1,0,2,0,360,1")) (accepted 6 (turnedEntries (pos 1)))
+    -- "six values for an arc are 10"; 10 is the smaller where the radius is 0 too
+    ∷ ruled (spool 15 18 (symbolOf "circle=1307,-1,0,2,0,90")) (refused 10 1 47)
+    ∷ ruled (spool 15 18 (symbolOf "circle=1307,-1,0,2,1,360")) (refused 10 1 47)
+    ∷ ruled (spool 15 18 (symbolOf "circle=1307,-1,0,2,360,0")) (refused 10 1 47)
+    ∷ ruled (spool 15 18 (symbolOf "circle=1307,-1,0,2,0,361")) (refused 10 1 47)
+    ∷ ruled (spool 15 18 (symbolOf "circle=1307,-1,0,0,0,90")) (refused 10 1 47)
+    -- "Rules of the six": the type has four digits, decimals are such, the radius is above zero
+    ∷ ruled (spool 15 18 (symbolOf "circle=137,-1,0,2,0,360")) (refused 10 1 47)
+    ∷ ruled (spool 15 18 (symbolOf "circle=1307,-1,,2,0,360")) (refused 10 1 47)
+    ∷ ruled (spool 15 18 (symbolOf "circle=1307,-1,0,2,0,36O")) (refused 10 1 47)
+    ∷ ruled (spool 15 18 (symbolOf "circle=1307,-1,0,0,0,360")) (refused 11 1 47)
+    ∷ ruled (spool 15 18 (symbolOf "circle=1307,-1,0,-2,0,360")) (refused 11 1 47)
+    ∷ ruled (spool 15 18 (endsAt "circle=1307,-1,0,2,0,360")) (refused 9 1 47)
+    ∷ ruled (spool 15 18 (endsAt "circle=1307,-1,0,0,0,360")) (refused 9 1 47)
+    -- five, seven and eight values: a seventh is one digit, 0 or 1
+    ∷ ruled (spool 15 18 (symbolOf "circle=1307,-1,0,2,0")) (refused 10 1 47)
+    ∷ ruled (spool 15 18 (symbolOf "circle=1307,-1,0,2,0,360,")) (refused 10 1 47)
+    ∷ ruled (spool 15 18 (symbolOf "circle=1307,-1,0,2,0,360,-1")) (refused 10 1 47)
+    ∷ ruled (spool 15 18 (symbolOf "circle=1307,-1,0,2,0,360,2")) (refused 11 1 47)
+    ∷ ruled (spool 15 18 (symbolOf "circle=1307,-1,0,2,0,360,0,0")) (refused 10 1 47)
+    ∷ ruled (spool 15 18 (symbolOf "circle=1307,-1,0,2,360,360,0")) (refused 11 1 47)
+    -- "`cirllce` in the printed examples stays an unknown key"; an ellipse keeps its nine values; layers and wires keep seven
+    ∷ ruled (spool 15 18 (symbolOf "cirllce=1307,-1,0,2,0,360")) (refused 6 1 47)
+    ∷ ruled (spool 15 18 (symbolOf "ellipse=1307,-1,0,2,1,0,360,0")) (refused 10 1 47)
+    ∷ ruled (spool 15 18 (drawn "circle=1307,-1,0,2,0,360")) (refused 10 1 55)
+    ∷ ruled (spool 15 18 (wireWith "circle=1307,-1,0,2,0,360")) (refused 10 1 56)
+    -- "it is written back with six"; seven stay seven
+    ∷ ruled (fixed (symbolOf "circle=1307,-1.0,0,02,-0,360.0")) (writes (writtenSymbol "circle=1307,-1,0,2,0,360"))
+    ∷ ruled (fixed (symbolOf "circle=1307,-1.0,0,02,0,360.0,0")) (writes (writtenSymbol "circle=1307,-1,0,2,0,360,0"))
     -- "no comments, blanks or empty lines; keys in the order above; .. no needless zeros .. `-0` as `0`; next_file in capitals"
     ∷ ruled (fixed careless) (writes careful)
     ∷ []

@@ -77,6 +77,7 @@ pub data Part : Type 0 where
   rangeOfWires : Part  -- E_wire: three digits, 000 or those of `servedWires` (else 12)
   day clock : Part  -- a date, a time
   decimal : Bound → Part  -- a decimal, within the bound (else 11)
+  exactly : ℕ → Part  -- a decimal of this value, in ten-thousandths (else 10): the angles of a whole circle
   symbolName : Part  -- a defined symbol's name (else 13): its number
   layerId : Part  -- a layer's id (else 11) that is declared (else 14): its number
 
@@ -97,6 +98,9 @@ mostWireLast = 8
 abbrev pub servedWires : ℕ → Bool
 servedWires n = eqb n 0 || (leb (n / 100) mostJoinDigit && (leb (n / 10 % 10) mostWireMiddle && within 1 mostWireLast (n % 10)))
 
+abbrev pub equalZ : ℤ → ℤ → Bool
+equalZ a b = leZ a b && leZ b a
+
 abbrev pub natural : Got ℕ → Got Num
 natural g = mapG (λ n. num (pos n)) g
 
@@ -110,6 +114,7 @@ readPart k rangeOfWires s = natural (keep 12 servedWires (orBad 10 (readFixed 3 
 readPart k day s = natural (keep 10 isDay (orBad 10 (readFixed 8 s)))
 readPart k clock s = natural (keep 10 isClock (orBad 10 (readFixed 6 s)))
 readPart k (decimal b) s = mapG num (keep 11 (inBound b) (orBad 10 (readDecimal s)))
+readPart k (exactly n) s = mapG num (keep 10 (equalZ (pos n)) (orBad 10 (readDecimal s)))
 readPart k symbolName s = natural (orBad 13 (indexOf s (k .symbols)))
 readPart k layerId s = unless (isLayerId s) 11 (natural (orBad 14 (indexOf s (k .layers))))
 
@@ -131,6 +136,7 @@ showPart k rangeOfWires n = fixed 3 (amount n)
 showPart k day n = fixed 8 (amount n)
 showPart k clock n = fixed 6 (amount n)
 showPart k (decimal b) n = showDecimal (n .value)
+showPart k (exactly m) n = showDecimal (n .value)
 showPart k symbolName n = getD (k .symbols) (amount n) []
 showPart k layerId n = getD (k .layers) (amount n) []
 
@@ -157,9 +163,6 @@ pub data Across : Type 0 where
 abbrev pub valueAt : List Num → ℕ → ℤ
 valueAt v i = getD v i (num (pos 0)) .value
 
-abbrev pub equalZ : ℤ → ℤ → Bool
-equalZ a b = leZ a b && leZ b a
-
 -- document 000, table 5: phase, wires, volts
 abbrev pub powers : List (List ℕ)
 powers =
@@ -174,6 +177,51 @@ agree arcOfCircle v = not (equalZ (valueAt v 4) (valueAt v 5))
 agree axesOfEllipse v = ltZ (valueAt v 4) (valueAt v 3) && not (equalZ (valueAt v 5) (valueAt v 6))
 agree servedPower v = among (map amount v) powers
 
+-- ── circles ──
+-- a centre's x or y; "Radius, axes, width, height above zero", a factor too; "Angles are 0 to 360 inclusive"; "Turn and upright are 0 or 1"
+abbrev pub centre : Part
+centre = decimal anySign
+
+abbrev pub measure : Part
+measure = decimal aboveZero
+
+abbrev pub degrees : Part
+degrees = decimal angle
+
+abbrev pub flag : Part
+flag = digit 0 1
+
+-- type,cx,cy,radius,start,end,turn: those behind the type, and all
+abbrev pub arcRest : List Part
+arcRest = centre ∷ centre ∷ measure ∷ degrees ∷ degrees ∷ flag ∷ []
+
+abbrev pub arcParts : List Part
+arcParts = typeDigits ∷ arcRest
+
+-- Document 02, wish 3: "Inside a symbol's `element`, a circle from 0 to 360 may have six values. Its turn is recorded as -1 and it is written
+-- back with six. Arcs still need seven .. six values for an arc are 10."
+abbrev pub wholeTurn : ℕ
+wholeTurn = 3600000
+
+abbrev pub wholeParts : List Part
+wholeParts = typeDigits ∷ centre ∷ centre ∷ measure ∷ exactly 0 ∷ exactly wholeTurn ∷ []
+
+abbrev pub noTurn : Num
+noTurn = num (negsuc 0)
+
+abbrev pub readCircle : Known → List (List ℕ) → Got (List Num)
+readCircle k ss =
+    cond (eqb (length ss) 6)
+    (mapG (λ v. v ++ noTurn ∷ []) (readAll k wholeParts ss))
+    (keep 11 (agree arcOfCircle) (readAll k arcParts ss))
+
+-- no turn was written: nothing that is written reads as a turn below 0
+abbrev pub isTurnless : List Num → Bool
+isTurnless v = ltZ (valueAt v 6) (pos 0)
+
+abbrev pub showCircle : Known → List Num → List (List ℕ)
+showCircle k v = showAll k (cond (isTurnless v) wholeParts arcParts) v
+
 -- ── a key's content ──
 pub data Kind : Type 0 where
   values : Part → List Part → Across → Kind  -- one value or more, between commas
@@ -184,6 +232,7 @@ pub data Kind : Type 0 where
   ratio : Kind  -- scale
   serials : Kind  -- serial: own number and partners
   wireSerial : Kind  -- a wire's serial: own number, and the start's and the end's partner, each of which may be empty
+  symbolCircle : Kind  -- a circle in a symbol: the seven values of an arc, or the six of a whole circle
   nothing : Kind  -- `NON=`
   opens : ℕ → Kind  -- `key:{`; the number of the inner block
   headed : ℕ → Part → Kind  -- `key=content:{`
@@ -198,6 +247,7 @@ isFree sheet = false
 isFree ratio = false
 isFree serials = false
 isFree wireSerial = false
+isFree symbolCircle = false
 isFree nothing = false
 isFree (opens i) = false
 isFree (headed i p) = false
@@ -301,6 +351,7 @@ readKind k sheet at c = mapG nums (orBad 11 (findSheet c sheets))
 readKind k ratio at c = mapG nums (readRatio c)
 readKind k serials at c = mapG linkedOf (keep 11 (λ ns. leb (length ns) (mostPartners + 1)) (readSerials (split 44 c)))
 readKind k wireSerial at c = mapG nums (readWireSerial (split 44 c))
+readKind k symbolCircle at c = mapG nums (readCircle k (split 44 c))
 readKind k nothing at c = bad 5
 readKind k (opens i) at c = bad 5
 readKind k (headed i p) at c = mapG (λ n. nums (n ∷ [])) (readPart k p c)
@@ -339,6 +390,7 @@ showKind k ratio v = showRatio (amountAt v 0) (amountAt v 1)
 showKind k serials v = join 44 (showSerials (serialsOf v))
 showKind k wireSerial v =
     join 44 (showCount 10 (amountAt v 0) ∷ showPartner (amountAt v 1) (amountAt v 2) ∷ showPartner (amountAt v 3) (amountAt v 4) ∷ [])
+showKind k symbolCircle v = join 44 (showCircle k (numsOf v))
 showKind k nothing v = []
 showKind k (opens i) v = []
 showKind k (headed i p) v = showPart k p (getD (numsOf v) 0 (num (pos 0)))

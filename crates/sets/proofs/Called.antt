@@ -18,10 +18,12 @@ use Rattle.promises.specs.TextsKept.{Points}
 use Rattle.promises.specs.TableTexts.{firstRecords}
 use Rattle.promises.specs.OwnNumbers.{NoneTwice}
 use Rattle.promises.specs.Partners.{CallFound}
+use Rattle.promises.specs.Turns.{AtTheirLines}
 use Rattle.promises.proofs.OneCall.{read-calls, rewrite-calls}
 use Rattle.promises.proofs.Calls.{lower-call-accepts, higher-call-refuses}
 use Rattle.promises.proofs.OwnNumbers.{call-numbers-differ}
 use Rattle.promises.proofs.PartnersFound.{call-partners-found}
+use Rattle.promises.proofs.Turns.{call-turns}
 use Rattle.promises.proofs.RewriterBack.{call-texts, rewriter-calls, accepted-rewrites}
 use Rattle.sets.proofs.reader.read as read′
 use Rattle.sets.proofs.rewriter.rewrite as rewrite′
@@ -87,6 +89,11 @@ read-numbers κs x r e c n = call-numbers-differ (read-call κs x r e c) n
 pub read-partners : (κs : Lfts 2) (x : Dens κs read′.Kinds.ps) (r : resT read′.Kinds.r κs .Denot) (e : AtExit (endedOf 2 read′.Kinds.ps read′.Kinds.r) κs)
     (c : read′.Reads.Learnt κs x r e) (n : ℕ) → r ≡ Accepted n → CallFound (read-call κs x r e c) n
 read-partners κs x r e c n = call-partners-found (read-call κs x r e c) n
+
+-- each record of a figure that is one line shows its own line; a circle's turn is the one written there, or -1
+pub read-turns : (κs : Lfts 2) (x : Dens κs read′.Kinds.ps) (r : resT read′.Kinds.r κs .Denot) (e : AtExit (endedOf 2 read′.Kinds.ps read′.Kinds.r) κs)
+    (c : read′.Reads.Learnt κs x r e) (n : ℕ) → r ≡ Accepted n → AtTheirLines (read-call κs x r e c .spool) (firstRecords n (read-call κs x r e c .after))
+read-turns κs x r e c n = call-turns (read-call κs x r e c) n
 
 -- ── demand 3: two calls of `read` ──
 module _ (κs κs′ : Lfts 2) (x : Dens κs read′.Kinds.ps) (x′ : Dens κs′ read′.Kinds.ps) (r : resT read′.Kinds.r κs .Denot) (r′ : resT read′.Kinds.r κs′ .Denot)

@@ -12,7 +12,7 @@ use Rattle.rules.specs.declared.LineForm.{LineForm}
 use Rattle.rules.specs.Base.{all, split}
 use Rattle.rules.specs.RefusalNumbers.{got, keep}
 use Rattle.rules.specs.Lines.{Rest, brace, equals, Form, Shape, opener, noContent, content, opening, formless, stem, byStem, shapeOf, freeShapeOf, span, bytesAt, formIn}
-use Rattle.rules.specs.Values.{Num, num, Value, empty, nums, chars, linked, Known, byteIn, lettersAndDigits, capital, Part, range, Across, Kind, values, text, word, volumeName, sheet, ratio, serials, wireSerial, nothing, opens, headed, either, isFree, readPart, readAll, agree, readKind, amount, amountAt}
+use Rattle.rules.specs.Values.{Num, num, Value, empty, nums, chars, linked, Known, byteIn, lettersAndDigits, capital, Part, range, Across, Kind, values, text, word, volumeName, sheet, ratio, serials, wireSerial, symbolCircle, nothing, opens, headed, either, isFree, readPart, readAll, agree, readKind, amount, amountAt}
 use Rattle.rules.specs.Rows.{Rule, fits, shapeFor, Act, entry, begin, innerOf, readShape, slotValue}
 use Rattle.rules.specs.RecordTable.{numbersOf, columns, firstOr0}
 use Rattle.rules.proofs.Chains.{clash, never, map-got, keep-got, cons-got, unless-got}
@@ -93,6 +93,7 @@ one-kind k sheet at c v h e = absurd (omega (arith, h))
 one-kind k ratio at c v h e = absurd (omega (arith, h))
 one-kind k serials at c v h e = absurd (omega (arith, h))
 one-kind k wireSerial at c v h e = absurd (omega (arith, h))
+one-kind k symbolCircle at c v h e = absurd (omega (arith, h))
 one-kind k nothing at c v h e = absurd (omega (arith, h))
 one-kind k (opens i) at c v h e = absurd (omega (arith, h))
 one-kind k (headed i p) at c v h e = let (w, q, u) = map-got (λ n. nums (n ∷ [])) (readPart k p c) v e in subst (λ (x : Value). isNumbers (some x) ≡ true) u refl

@@ -14,7 +14,7 @@ use Rattle.rules.specs.Base.{bytes, mapO, all, same, split}
 use Rattle.rules.specs.RefusalNumbers.{got, bad, unless, mapG, orBad, keep}
 use Rattle.rules.specs.Numbers.{isDigit, digitRun, value, isDay, isClock}
 use Rattle.rules.specs.Lines.{Rest, brace, equals, Form, ignored, wrong, close, eof, keyed, Shape, opener, noContent, content, opening, formless, hasForm, stem, byStem, shapeOf, freeShapeOf}
-use Rattle.rules.specs.Values.{Num, Value, empty, nums, chars, Known, byteIn, lettersAndDigits, capital, Part, count, digit, typeDigits, range, rangeOfSymbols, rangeOfWires, day, clock, decimal, symbolName, layerId, servedSymbols, servedWires, natural, readPart, readAll, agree, Kind, values, text, word, volumeName, sheet, ratio, serials, wireSerial, nothing, opens, headed, either, isFree, readKind}
+use Rattle.rules.specs.Values.{Num, Value, empty, nums, chars, Known, byteIn, lettersAndDigits, capital, Part, count, digit, typeDigits, range, rangeOfSymbols, rangeOfWires, day, clock, decimal, exactly, symbolName, layerId, servedSymbols, servedWires, natural, readPart, readAll, agree, Kind, values, text, word, volumeName, sheet, ratio, serials, wireSerial, symbolCircle, nothing, opens, headed, either, isFree, readKind}
 use Rattle.rules.specs.Rows.{Rule, Found, absent, found, find, shapeFor, Act, stay, entry, begin, shut, refuse, orRefuse, innerOf, readShape, actRow, actFound, complete, act}
 use Rattle.rules.specs.RecordTable.{numbers}
 use Rattle.rules.specs.Blocks.{fileTable, rangeTable, baseTable, elecTable, symTable, laterTable}
@@ -36,6 +36,7 @@ countPart rangeOfWires = true
 countPart day = true
 countPart clock = true
 countPart (decimal b) = false
+countPart (exactly m) = false
 countPart symbolName = false
 countPart layerId = false
 
@@ -48,6 +49,7 @@ countKind sheet = false
 countKind ratio = false
 countKind serials = false
 countKind wireSerial = false
+countKind symbolCircle = false
 countKind nothing = true
 countKind (opens i) = true
 countKind (headed i p) = countPart p
@@ -83,6 +85,7 @@ part-count k rangeOfWires s n c e = kept-count _ 10 12 servedWires n (λ i. run-
 part-count k day s n c e = kept-count _ 10 10 isDay n (λ i. run-count 8 8 s i (omega arith)) e
 part-count k clock s n c e = kept-count _ 10 10 isClock n (λ i. run-count 6 6 s i (omega arith)) e
 part-count k (decimal b) s n c e = clash c refl
+part-count k (exactly m) s n c e = clash c refl
 part-count k symbolName s n c e = clash c refl
 part-count k layerId s n c e = clash c refl
 
@@ -124,6 +127,7 @@ kind-count k sheet at c v h a l e = clash h refl
 kind-count k ratio at c v h a l e = clash h refl
 kind-count k serials at c v h a l e = clash h refl
 kind-count k wireSerial at c v h a l e = clash h refl
+kind-count k symbolCircle at c v h a l e = clash h refl
 kind-count k nothing at c v h a l e = never e
 kind-count k (opens i) at c v h a l e = never e
 kind-count k (headed i p) at c v h a l e = one-count k p c v h e

@@ -10,7 +10,7 @@ use Rattle.rules.specs.declared.Digits.{Digits}
 use Rattle.rules.specs.Base.{split, isNil}
 use Rattle.rules.specs.RefusalNumbers.{got, bad, unless, keep}
 use Rattle.rules.specs.Lines.{Rest, Form, ignored, wrong, close, eof, keyed, Shape, opener, noContent, content, opening, formless, hasForm, shapeOf, equals, brace, stem, byStem, freeShapeOf}
-use Rattle.rules.specs.Values.{Value, empty, nums, Known, Part, Across, Kind, values, text, word, volumeName, sheet, ratio, serials, wireSerial, nothing, opens, headed, either, readAll, agree, readKind, numsOf, Bytes, isFree}
+use Rattle.rules.specs.Values.{Value, empty, nums, Known, Part, Across, Kind, values, text, word, volumeName, sheet, ratio, serials, wireSerial, symbolCircle, nothing, opens, headed, either, readAll, agree, readKind, numsOf, Bytes, isFree, readCircle}
 use Rattle.rules.specs.Rows.{Rule, Found, absent, found, find, shapeFor, fits, Act, stay, entry, begin, shut, refuse, orRefuse, innerOf, isContent, readShape, actRow, actUnknown, actFound, complete, act}
 use Rattle.rules.proofs.Chains.{clash, never, map-got, by-cond, or-left}
 use Rattle.rules.proofs.Rows.{Row, found-row, isRefusal, Did, row-did}
@@ -100,6 +100,9 @@ pub record ContentKind (h : Kind) : Type 0 where
 pub values-content : (p : Part) (ps : List Part) (a : Across) → ContentKind (values p ps a)
 values-content p ps a = record { plain = refl; filled = λ s e. or-left (isContent s) false refl e }
 
+circle-content : ContentKind symbolCircle
+circle-content = record { plain = refl; filled = λ s e. or-left (isContent s) false refl e }
+
 pub word-content : (n : ℕ) (b : Bytes) → ContentKind (word n b)
 word-content n b = record { plain = refl; filled = λ s e. or-left (isContent s) false refl e }
 
@@ -145,6 +148,7 @@ isValues sheet = false
 isValues ratio = false
 isValues serials = false
 isValues wireSerial = false
+isValues symbolCircle = true
 isValues nothing = false
 isValues (opens i) = false
 isValues (headed i p) = false
@@ -159,6 +163,7 @@ read-nums k sheet at c v i e = clash i refl
 read-nums k ratio at c v i e = clash i refl
 read-nums k serials at c v i e = clash i refl
 read-nums k wireSerial at c v i e = clash i refl
+read-nums k symbolCircle at c v i e = let (w, x, q) = map-got nums (readCircle k (split 44 c)) v e in subst (λ (y : Value). y ≡ nums (numsOf y)) q refl
 read-nums k nothing at c v i e = clash i refl
 read-nums k (opens n) at c v i e = clash i refl
 read-nums k (headed n p) at c v i e = clash i refl
@@ -173,6 +178,7 @@ content-of-values sheet i = clash i refl
 content-of-values ratio i = clash i refl
 content-of-values serials i = clash i refl
 content-of-values wireSerial i = clash i refl
+content-of-values symbolCircle i = circle-content
 content-of-values nothing i = clash i refl
 content-of-values (opens n) i = clash i refl
 content-of-values (headed n p) i = clash i refl

@@ -8,7 +8,7 @@ use Rattle.rules.specs.declared.Digits.{Digits}
 use Rattle.rules.specs.Base.{all}
 use Rattle.rules.specs.RefusalNumbers.{got, bad, unless}
 use Rattle.rules.specs.Lines.{Rest, Form, ignored, wrong, close, eof, keyed, Shape, opener, noContent, content, opening, formless, hasForm, shapeOf}
-use Rattle.rules.specs.Values.{Known, empty, nums, Kind, values, text, word, volumeName, sheet, ratio, serials, wireSerial, nothing, opens, headed, either, readKind}
+use Rattle.rules.specs.Values.{Known, empty, nums, Kind, values, text, word, volumeName, sheet, ratio, serials, wireSerial, symbolCircle, nothing, opens, headed, either, readKind}
 use Rattle.rules.specs.Rows.{Rule, Found, absent, found, find, isContent, isEmpty, isOpener, isOpening, fits, shapeFor, Act, stay, entry, begin, shut, refuse, orRefuse, innerOf, readShape, actRow, actUnknown, actFound, complete, act}
 use Rattle.rules.proofs.Chains.{clash, map-got, never, or-true, by-cond}
 use Rattle.rules.proofs.Rows.{found-row, row-all, isRefusal, Did, row-did}
@@ -37,6 +37,7 @@ plainKind sheet = true
 plainKind ratio = true
 plainKind serials = true
 plainKind wireSerial = true
+plainKind symbolCircle = true
 plainKind nothing = true
 plainKind (opens i) = false
 plainKind (headed i p) = false
@@ -51,6 +52,7 @@ openingKind sheet = false
 openingKind ratio = false
 openingKind serials = false
 openingKind wireSerial = false
+openingKind symbolCircle = false
 openingKind nothing = false
 openingKind (opens i) = true
 openingKind (headed i p) = true
@@ -85,6 +87,7 @@ plain-fits sheet may s h e = plain-shape may s e
 plain-fits ratio may s h e = plain-shape may s e
 plain-fits serials may s h e = plain-shape may s e
 plain-fits wireSerial may s h e = plain-shape may s e
+plain-fits symbolCircle may s h e = plain-shape may s e
 plain-fits nothing may s h e = empty-shape s e
 plain-fits (opens i) may s h e = clash h refl
 plain-fits (headed i p) may s h e = clash h refl
@@ -99,6 +102,7 @@ opening-fits sheet may s h e = clash h refl
 opening-fits ratio may s h e = clash h refl
 opening-fits serials may s h e = clash h refl
 opening-fits wireSerial may s h e = clash h refl
+opening-fits symbolCircle may s h e = clash h refl
 opening-fits nothing may s h e = clash h refl
 opening-fits (opens i) may s h e = rw e
 opening-fits (headed i p) may s h e = rw e (or-true (isOpener s))

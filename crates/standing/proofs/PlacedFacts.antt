@@ -10,7 +10,7 @@ use lib.ListN.{length, getD, replicate}
 use Rattle.rules.specs.Base.{all, split}
 use Rattle.rules.specs.RefusalNumbers.{Got, got, unless, mapG, keep, orBad}
 use Rattle.rules.specs.Lines.{Shape, opener, noContent, content, opening, formless}
-use Rattle.rules.specs.Values.{Num, Value, empty, nums, chars, Known, byteIn, lettersAndDigits, capital, Kind, values, text, word, volumeName, sheet, ratio, serials, wireSerial, nothing, opens, headed, either, range, readPart, readAll, readRatio, readWireSerial, findSheet, sheets, agree, readKind, serialsOf}
+use Rattle.rules.specs.Values.{Num, Value, empty, nums, chars, Known, byteIn, lettersAndDigits, capital, Kind, values, text, word, volumeName, sheet, ratio, serials, wireSerial, symbolCircle, nothing, opens, headed, either, range, readPart, readAll, readRatio, readWireSerial, findSheet, sheets, agree, readKind, serialsOf, readCircle}
 use Rattle.rules.specs.Rows.{Rule, blank, Held, partOf, rowsThere, slotValue, entry, begin, innerOf, readShape}
 use Rattle.rules.specs.Figures.{placedTable, textTable, placedTables}
 use Rattle.rules.specs.RecordTable.{ruleAt}
@@ -62,6 +62,7 @@ isSerials sheet = false
 isSerials ratio = false
 isSerials serials = true
 isSerials wireSerial = false
+isSerials symbolCircle = false
 isSerials nothing = false
 isSerials (opens i) = false
 isSerials (headed i p) = false
@@ -85,6 +86,7 @@ read-plain k sheet at c v i e = nums-plain (orBad 11 (findSheet c sheets)) v e
 read-plain k ratio at c v i e = nums-plain (readRatio c) v e
 read-plain k serials at c v i e = clash refl i
 read-plain k wireSerial at c v i e = nums-plain (readWireSerial (split 44 c)) v e
+read-plain k symbolCircle at c v i e = nums-plain (readCircle k (split 44 c)) v e
 read-plain k nothing at c v i e = never e
 read-plain k (opens n) at c v i e = never e
 read-plain k (headed n p) at c v i e = one-plain (readPart k p c) v e

@@ -7,7 +7,7 @@ use mathlib.Core.Path.{_≡_, refl, sym, _∙_, ap}
 use Rattle.rules.specs.declared.Digits.{Digits}
 use Rattle.rules.specs.RefusalNumbers.{got}
 use Rattle.rules.specs.Lines.{Rest, brace, equals, Form, Shape, opener, noContent, content, opening, formless, shapeOf, freeShapeOf, stem, byStem}
-use Rattle.rules.specs.Values.{Value, nums, Known, Kind, values, text, word, volumeName, sheet, ratio, serials, wireSerial, nothing, opens, headed, either, isFree, readKind}
+use Rattle.rules.specs.Values.{Value, nums, Known, Kind, values, text, word, volumeName, sheet, ratio, serials, wireSerial, symbolCircle, nothing, opens, headed, either, isFree, readKind}
 use Rattle.rules.specs.Rows.{Rule, isOpener, fits, shapeFor, entry, begin, innerOf, readShape}
 use Rattle.rules.specs.RecordTable.{ruleAt}
 use Rattle.rules.proofs.Chains.{clash, never, map-got}
@@ -25,6 +25,7 @@ isOpens sheet = false
 isOpens ratio = false
 isOpens serials = false
 isOpens wireSerial = false
+isOpens symbolCircle = false
 isOpens nothing = false
 isOpens (opens i) = true
 isOpens (headed i p) = false
@@ -40,6 +41,7 @@ opens-shape sheet may s i e = clash i refl
 opens-shape ratio may s i e = clash i refl
 opens-shape serials may s i e = clash i refl
 opens-shape wireSerial may s i e = clash i refl
+opens-shape symbolCircle may s i e = clash i refl
 opens-shape nothing may s i e = clash i refl
 opens-shape (opens n) may opener i e = refl
 opens-shape (opens n) may noContent i e = clash e refl
@@ -58,6 +60,7 @@ values-plain sheet e = refl
 values-plain ratio e = refl
 values-plain serials e = refl
 values-plain wireSerial e = refl
+values-plain symbolCircle e = refl
 values-plain nothing e = refl
 values-plain (opens i) e = clash e refl
 values-plain (headed i p) e = clash e refl
@@ -94,6 +97,7 @@ free-kind sheet e = refl
 free-kind ratio e = refl
 free-kind serials e = refl
 free-kind wireSerial e = refl
+free-kind symbolCircle e = refl
 free-kind nothing e = refl
 free-kind (opens i) e = refl
 free-kind (headed i p) e = refl

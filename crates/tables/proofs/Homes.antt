@@ -5,9 +5,9 @@ use mathlib.Core.List.{List, [], _∷_}
 use mathlib.Core.Path.{_≡_, refl}
 use Rattle.rules.specs.Base.{bytes, same}
 use Rattle.rules.specs.Rows.{found, row, repeated, anyNumber, upTo, find}
-use Rattle.rules.specs.Values.{values, typeDigits, endsDiffer, nothingMore, decimal, aboveZero, notNegative, angle}
-use Rattle.rules.specs.Figures.{coordinate, flag, pointKind, wireRows, anyOf, mostPoints}
-use Rattle.tables.specs.Rows.{partsOf, ruleOf, forLine, foundForLine, timesRow, severalRow, fromRow}
+use Rattle.rules.specs.Values.{values, typeDigits, endsDiffer, nothingMore, decimal, aboveZero, notNegative, angle, flag}
+use Rattle.rules.specs.Figures.{coordinate, pointKind, circleRow, wireRows, anyOf, mostPoints}
+use Rattle.tables.specs.Rows.{partsOf, ruleOf, forLine, foundForLine, timesRow, severalRow, fromRow, circleIn}
 use Rattle.tables.specs.Tables.{placedRows, behindSix, behindSeven}
 
 pub line-home : (b : Bool) →
@@ -16,6 +16,11 @@ pub line-home : (b : Bool) →
 unfolding partsOf
 line-home true = refl
 line-home false = refl
+
+pub circle-home : (b : Bool) → found 1 (forLine (repeated anyNumber (circleRow b))) ≡ found (circleIn b .number) (ruleOf (timesRow 255 (circleIn b)))
+unfolding partsOf
+circle-home true = refl
+circle-home false = refl
 
 pub point-home : (b : Bool) → forLine (repeated anyNumber (row "point" (pointKind b) 4)) ≡ ruleOf (timesRow 255 (severalRow 3 (cond b 212117 202017) 2 0 4))
 unfolding partsOf

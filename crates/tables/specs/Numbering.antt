@@ -111,6 +111,9 @@ holdsEither = 10
 abbrev pub holdsWireSerial : ℕ
 holdsWireSerial = 11
 
+abbrev pub holdsCircle : ℕ
+holdsCircle = 12
+
 -- ── the forms of values ──
 -- any other number below those of decimals is that of a type; a wire's `direc` has the sign of a direction, 0 to 4
 abbrev pub partSign : ℕ
@@ -170,6 +173,21 @@ partAboveZero = 22
 
 abbrev pub partHalfTurn : ℕ
 partHalfTurn = 24
+
+-- the two decimals of one value alone, a whole circle's start and end
+abbrev pub partNoAngle : ℕ
+partNoAngle = 25
+
+abbrev pub partWholeTurn : ℕ
+partWholeTurn = 26
+
+-- ── several forms, two digits each, the first one last ──
+-- type,cx,cy,radius,start,end,turn, and without a turn
+abbrev pub arcForms : ℕ
+arcForms = 5232322202017
+
+abbrev pub wholeForms : ℕ
+wholeForms = 262522202017
 
 -- ── the rules across values ──
 abbrev pub acrossEnds : ℕ

@@ -1,12 +1,12 @@
 -- What the numbers of a row in the code stand for.
 use Prim.Native.Nat.{ℕ, zero, suc, _/_, _%_}
-use mathlib.Core.Bool.{true, false, cond}
+use mathlib.Core.Bool.{Bool, true, false, cond}
 use mathlib.Core.List.{List, [], _∷_}
 use lib.Dec.{eqb, ltb}
 use Rattle.rules.specs.RangeClass.{digits}
-use Rattle.rules.specs.Values.{Part, count, digit, typeDigits, range, rangeOfSymbols, rangeOfWires, day, clock, decimal, Bound, anySign, notNegative, aboveZero, angle}
+use Rattle.rules.specs.Values.{Part, count, digit, typeDigits, range, rangeOfSymbols, rangeOfWires, day, clock, decimal, exactly, wholeTurn, Bound, anySign, notNegative, aboveZero, angle}
 use Rattle.rules.specs.Values.{halfTurn, symbolName, layerId, Across, nothingMore, endsDiffer, arcOfCircle, axesOfEllipse, servedPower, Kind, values, text, word}
-use Rattle.rules.specs.Values.{volumeName, sheet, ratio, serials, wireSerial, nothing, opens, headed, either}
+use Rattle.rules.specs.Values.{volumeName, sheet, ratio, serials, wireSerial, symbolCircle, nothing, opens, headed, either}
 use Rattle.rules.specs.Rows.{Times, once, upTo, anyNumber, Rule, Found, absent, found}
 use lib.ListN.{getD}
 use Rattle.leaves.specs.Bytes.{bytesOf}
@@ -16,6 +16,7 @@ use Rattle.tables.specs.declared.Found.{Found as Finding}
 use Rattle.tables.specs.declared.Found.the-variants as F
 use Rattle.tables.specs.Numbering.{partSign, partDigit, partFlag, partPosition, partCount, partDay, partClock, partRange0, partRange01, partRange02, partRange1}
 use Rattle.tables.specs.Numbering.{partSymbolRange, partSymbolName, partLayerId, partWireRange, partAnySign, partNotNegative, partAboveZero, partHalfTurn}
+use Rattle.tables.specs.Numbering.{partNoAngle, partWholeTurn, arcForms, holdsCircle}
 use Rattle.tables.specs.Numbering.{acrossEnds, acrossArc, acrossAxes, acrossPower, timesOnce, timesAny, holdsValues, holdsText, holdsWord, holdsVolumeName, holdsSheet, holdsRatio}
 use Rattle.tables.specs.Numbering.{holdsSerials, holdsNothing, holdsBlock, holdsHeaded, holdsEither, holdsWireSerial}
 
@@ -46,9 +47,13 @@ wholeOf n =
     (cond (eqb n partSign) (digit 0 4)
     (cond (eqb n partDigit) (digit 0 9) typeDigits))))))))))))))
 
+-- a decimal: of one value alone, or within its limit
+abbrev pub decimalOf : ℕ → Part
+decimalOf n = cond (eqb n partNoAngle) (exactly 0) (cond (eqb n partWholeTurn) (exactly wholeTurn) (decimal (boundOf n)))
+
 -- one value between commas, by its number
 abbrev pub partOf : ℕ → Part
-partOf n = cond (ltb n partAnySign) (wholeOf n) (decimal (boundOf n))
+partOf n = cond (ltb n partAnySign) (wholeOf n) (decimalOf n)
 
 -- n values, two decimal digits each, the first one last
 unfoldable pub partsOf : ℕ → ℕ → List Part
@@ -65,6 +70,12 @@ acrossOf n =
 abbrev pub timesOf : ℕ → Times
 timesOf n = cond (eqb n timesOnce) once (cond (eqb n timesAny) anyNumber (upTo n))
 
+-- a circle in a symbol, or values by their numbers
+abbrev pub valuesOf : Row → Kind
+valuesOf r =
+    cond (eqb (r .kind) holdsCircle) symbolCircle
+    (values (partOf (r .parts % 100)) (partsOf (r .count) (r .parts / 100)) (acrossOf (r .across)))
+
 -- a kind by its number; any other number is that of values
 abbrev pub kindOf : Row → Kind
 kindOf r =
@@ -79,7 +90,7 @@ kindOf r =
     (cond (eqb (r .kind) holdsHeaded) (headed (r .inner) (partOf (r .parts)))
     (cond (eqb (r .kind) holdsEither) (either (r .inner))
     (cond (eqb (r .kind) holdsWireSerial) wireSerial
-    (values (partOf (r .parts % 100)) (partsOf (r .count) (r .parts / 100)) (acrossOf (r .across)))))))))))))
+    (valuesOf r)))))))))))
 
 -- the rule that a row stands for, but for its key and whether it is required: a line does not go by these
 abbrev pub ruleOf : Row → Rule
@@ -174,6 +185,11 @@ innerRow number kind parts inner place =
       place = place;
       state = 0;
     }
+
+-- a circle, in a layer or in a symbol
+abbrev pub circleIn : Bool → Row
+circleIn true = severalRow 1 arcForms 6 acrossArc 4
+circleIn false = plainRow 1 holdsCircle 4
 
 -- rows that differ from that
 abbrev pub emptyRow : Row → Row

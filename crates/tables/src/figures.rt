@@ -2,8 +2,11 @@
 use crate::ACROSS_ARC;
 use crate::ACROSS_AXES;
 use crate::ACROSS_ENDS;
+use crate::ARC_FORMS;
 use crate::Found;
 use crate::HOLDS_BLOCK;
+use crate::HOLDS_CIRCLE;
+use crate::Row;
 use crate::TIMES_ANY;
 use crate::keys::is_character;
 use crate::keys::is_circle;
@@ -18,13 +21,14 @@ use crate::keys::is_type;
 use crate::rows::free_text;
 use crate::rows::from;
 use crate::rows::inner;
+use crate::rows::plain;
 use crate::rows::several;
 use crate::rows::times;
 ghost use mathlib.Core.Path.{_≡_};
 ghost use mathlib.Core.Bool.{cond};
 ghost use Rattle.rules.specs.Rows.{find};
 ghost use Rattle.rules.specs.Figures.{pointTable, textTable, wireRows, anyOf};
-ghost use Rattle.tables.specs.Rows.{foundOf, foundForLine};
+ghost use Rattle.tables.specs.Rows.{circleIn, foundOf, foundForLine};
 ghost use Rattle.tables.specs.Tables.{placedRows, figuresTable, behindSix, behindSeven};
 
 const MOST_POINTS: u8 = 100;
@@ -36,8 +40,6 @@ const CHARACTER: u8 = 11;
 const LINE_IN_LAYER: u64 = 21_21_21_21_17;
 
 const LINE_IN_SYMBOL: u64 = 20_20_20_20_17;
-
-const CIRCLE: u64 = 5_23_23_22_20_20_17;
 
 const ELLIPSE: u64 = 5_23_23_23_22_22_20_20_17;
 
@@ -59,6 +61,16 @@ fn by_home(in_layer: bool, layers: u64, symbols: u64) -> u64
         return layers;
     }
     symbols
+}
+
+// A circle: in a layer an arc's values, in a symbol those or a whole circle's.
+fn circle_in(in_layer: bool) -> Row
+    ensures { λ r. ⌜ r ≡ circleIn in_layer ⌝ }
+{
+    if in_layer {
+        return several(1, ARC_FORMS, 6, ACROSS_ARC, 4);
+    }
+    plain(1, HOLDS_CIRCLE, 4)
 }
 
 // A wire among the figures of a layer, where it may stand there.
@@ -107,7 +119,7 @@ pub(crate) fn figure_row(k: &[u8], in_layer: bool, placed: u8, wired: bool) -> F
         ));
     }
     if is_circle(k) {
-        return Found::Row(times(several(1, CIRCLE, 6, ACROSS_ARC, 4), TIMES_ANY));
+        return Found::Row(times(circle_in(in_layer), TIMES_ANY));
     }
     if is_ellipse(k) {
         return Found::Row(times(several(2, ELLIPSE, 8, ACROSS_AXES, 4), TIMES_ANY));

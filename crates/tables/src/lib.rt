@@ -79,7 +79,9 @@ pub const HOLDS_EITHER: u8 = 10;
 
 pub const HOLDS_WIRE_SERIAL: u8 = 11;
 
-// The forms of values; any other number below those of decimals is that of a type, any other above them that of an angle.
+pub const HOLDS_CIRCLE: u8 = 12;
+
+// The forms of values; any other number below those of decimals is that of a type, any other from there on that of an angle.
 pub const PART_SIGN: u64 = 2;
 
 pub const PART_DIGIT: u64 = 3;
@@ -118,6 +120,16 @@ pub const PART_NOT_NEGATIVE: u64 = 21;
 pub const PART_ABOVE_ZERO: u64 = 22;
 
 pub const PART_HALF_TURN: u64 = 24;
+
+// the two decimals of one value alone
+pub const PART_NO_ANGLE: u64 = 25;
+
+pub const PART_WHOLE_TURN: u64 = 26;
+
+// Several forms, two digits each, the first one last: type,cx,cy,radius,start,end,turn, and without a turn.
+pub const ARC_FORMS: u64 = 5_23_23_22_20_20_17;
+
+pub const WHOLE_FORMS: u64 = 26_25_22_20_20_17;
 
 // The rules across values; 0 for none.
 pub const ACROSS_ENDS: u8 = 1;

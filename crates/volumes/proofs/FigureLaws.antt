@@ -14,7 +14,7 @@ use Rattle.rules.specs.declared.Span.{Span}
 use Rattle.rules.specs.Base.{bytes, all, same, isNil, isSome}
 use Rattle.rules.specs.RefusalNumbers.{got}
 use Rattle.rules.specs.Lines.{Rest, brace, equals, close, keyed, stem, byStem, shapeOf, bytesAt}
-use Rattle.rules.specs.Values.{Value, empty, nums, chars, linked, Known, Kind, values, text, word, volumeName, sheet, ratio, serials, wireSerial, nothing, opens, headed, either, numsOf}
+use Rattle.rules.specs.Values.{Value, nums, Known, Kind, values, text, word, volumeName, sheet, ratio, serials, wireSerial, symbolCircle, nothing, opens, headed, either, numsOf}
 use Rattle.rules.specs.Rows.{Rule, row, repeated, anyNumber, found, find, blank, rowsAtLimit, fits, shapeFor, isOpener as opensShape, innerOf, complete}
 use Rattle.rules.specs.Blocks.{blankHeld}
 use Rattle.rules.specs.Figures.{plainRows, blockRows, placedRow, wireRows, anyOf, layerTable, figureTable, textTable, placedTables, wireTable}
@@ -32,7 +32,7 @@ use Rattle.rules.proofs.Rows.{Row, here, there, found-row, row-all, row-at, row
 use Rattle.promises.proofs.Forms.{keyOk, keysOk}
 use Rattle.promises.proofs.Nameless.{nameless}
 use Rattle.promises.proofs.RowGood.{numbersOnly}
-use Rattle.promises.proofs.LengthRows.{figureRows}
+use Rattle.promises.proofs.LengthRows.{behind-nums, figureRows}
 use Rattle.promises.proofs.LengthBlocks.{plain-tables}
 use Rattle.tables.specs.Tables.{tableOf}
 use Rattle.entries.specs.declared.Rest.{Rest as CodeRest}
@@ -127,6 +127,7 @@ opensAs key sheet = false
 opensAs key ratio = false
 opensAs key serials = false
 opensAs key wireSerial = false
+opensAs key symbolCircle = true
 opensAs key nothing = false
 opensAs key (opens i) = same key (figureKey i) && leb i 4
 opensAs key (headed i p) = false
@@ -153,6 +154,7 @@ opens-figure key sheet v e o f = clash o refl
 opens-figure key ratio v e o f = clash o refl
 opens-figure key serials v e o f = clash o refl
 opens-figure key wireSerial v e o f = clash o refl
+opens-figure key symbolCircle v e o f = clash o refl
 opens-figure key nothing v e o f = clash o refl
 opens-figure key (opens i) v e o f =
     f i refl (same-eq key (figureKey i) (and-left (same key (figureKey i)) _ e)) (leb-true i 4 (and-right (same key (figureKey i)) _ e))
@@ -169,29 +171,13 @@ no-block sheet v o = refl
 no-block ratio v o = refl
 no-block serials v o = refl
 no-block wireSerial v o = refl
+no-block symbolCircle v o = refl
 no-block nothing v o = refl
 no-block (opens i) v o = clash refl o
 no-block (headed i p) v o = refl
 no-block (either i) v o = refl
 
 -- its values are kept as numbers
-behind-nums : (k : Known) (d : Kind) (v : Value) → numbersOnly d ≡ true → behind k d (nums (numsOf v)) ≡ behind k d v
-behind-nums k (values p ps a) empty e = refl
-behind-nums k (values p ps a) (nums v) e = refl
-behind-nums k (values p ps a) (chars at c) e = refl
-behind-nums k (values p ps a) (linked n ns) e = refl
-behind-nums k (text n b) v e = clash e refl
-behind-nums k (word n b) v e = clash e refl
-behind-nums k volumeName v e = clash e refl
-behind-nums k sheet v e = clash e refl
-behind-nums k ratio v e = clash e refl
-behind-nums k serials v e = clash e refl
-behind-nums k wireSerial v e = clash e refl
-behind-nums k nothing v e = clash e refl
-behind-nums k (opens i) v e = refl
-behind-nums k (headed i p) v e = clash e refl
-behind-nums k (either i) v e = clash e refl
-
 pub row-nums : {t : List Rule} {j : ℕ} {r : Rule} → Row t j r → numbersOnly (r .holds) ≡ true → (k : Known) (v : Value) → lineOf k (ruleAt t j) (nums (numsOf v)) ≡ lineOf k r v
 row-nums {r = r} w e k v =
     ap (λ (q : Rule). lineOf k q (nums (numsOf v))) (row-at w (row "" (opens 0) 0)) ∙ ap (λ (u : List ℕ). r .key ++ u) (behind-nums k (r .holds) v e)

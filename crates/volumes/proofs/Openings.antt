@@ -7,7 +7,7 @@ use lib.ListN.{getD}
 use Rattle.rules.specs.declared.Digits.{Digits}
 use Rattle.rules.specs.RefusalNumbers.{got, bad, unless}
 use Rattle.rules.specs.Lines.{Form, ignored, wrong, close, eof, keyed, Shape, opener, noContent, content, opening, formless, hasForm, shapeOf}
-use Rattle.rules.specs.Values.{Value, empty, Known, Kind, values, text, word, volumeName, sheet, ratio, serials, wireSerial, nothing, opens, headed, either, readKind}
+use Rattle.rules.specs.Values.{Value, empty, Known, Kind, values, text, word, volumeName, sheet, ratio, serials, wireSerial, symbolCircle, nothing, opens, headed, either, readKind}
 use Rattle.rules.specs.Rows.{Rule, Found, absent, found, find, fits, shapeFor, Act, stay, entry, begin, shut, refuse, orRefuse, innerOf, readShape, actFound, complete, act}
 use Rattle.rules.proofs.Chains.{and-false, by-cond, clash, map-got, never}
 use Rattle.rules.proofs.Rows.{Row, here, there, found-row, row-did}
@@ -21,6 +21,7 @@ opensKind sheet = false
 opensKind ratio = false
 opensKind serials = false
 opensKind wireSerial = false
+opensKind symbolCircle = false
 opensKind nothing = false
 opensKind (opens i) = true
 opensKind (headed i p) = true
@@ -36,6 +37,7 @@ opener-kind sheet may e = clash e (and-false may)
 opener-kind ratio may e = clash e (and-false may)
 opener-kind serials may e = clash e (and-false may)
 opener-kind wireSerial may e = clash e (and-false may)
+opener-kind symbolCircle may e = clash e (and-false may)
 opener-kind nothing may e = clash e refl
 opener-kind (opens i) may e = refl
 opener-kind (headed i p) may e = refl
@@ -50,6 +52,7 @@ opening-kind sheet may at c e = clash e (and-false may)
 opening-kind ratio may at c e = clash e (and-false may)
 opening-kind serials may at c e = clash e (and-false may)
 opening-kind wireSerial may at c e = clash e (and-false may)
+opening-kind symbolCircle may at c e = clash e (and-false may)
 opening-kind nothing may at c e = clash e refl
 opening-kind (opens i) may at c e = refl
 opening-kind (headed i p) may at c e = refl

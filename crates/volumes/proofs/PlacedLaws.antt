@@ -13,7 +13,7 @@ use Rattle.rules.specs.Base.{bytes, all, within}
 use Rattle.rules.specs.RefusalNumbers.{Got, got, bad, unless}
 use Rattle.rules.specs.Lines.{close, keyed, shapeOf, hasForm, bytesAt}
 use Rattle.rules.specs.RangeClass.{digits, digitsOf, reaches, exceeds, both}
-use Rattle.rules.specs.Values.{Value, Known, Kind, values, text, word, volumeName, sheet, ratio, serials, wireSerial, nothing, opens, headed, either, servedSymbols}
+use Rattle.rules.specs.Values.{Value, Known, Kind, values, text, word, volumeName, sheet, ratio, serials, wireSerial, symbolCircle, nothing, opens, headed, either, servedSymbols}
 use Rattle.rules.specs.Rows.{Rule, Found, absent, found, find, Held, partOf, enter, rowsThere, orRefuse, innerOf, complete}
 use Rattle.rules.specs.Figures.{textTable, placedTable, placedTables}
 use Rattle.rules.specs.Sets.{Figure, placed, Set, symbolRange, rangeOf, knownOf}
@@ -71,6 +71,7 @@ opensText sheet = true
 opensText ratio = true
 opensText serials = true
 opensText wireSerial = true
+opensText symbolCircle = true
 opensText nothing = true
 opensText (opens i) = eqb i 1
 opensText (headed i p) = false
@@ -89,6 +90,7 @@ opens-text sheet v e o = clash o refl
 opens-text ratio v e o = clash o refl
 opens-text serials v e o = clash o refl
 opens-text wireSerial v e o = clash o refl
+opens-text symbolCircle v e o = clash o refl
 opens-text nothing v e o = clash o refl
 opens-text (opens i) v e o = ap opens (eqb-true i 1 e)
 opens-text (headed i p) v e o = clash e refl

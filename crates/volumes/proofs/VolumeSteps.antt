@@ -10,25 +10,25 @@ use borrow.Author.Tests.{eqb-true, eq-eqb, le-leb, not-true}
 use lib.Dec.{eqb, leb, ltb}
 use lib.ListN.{length, getD, set, length-set}
 use lib.Seq.{getD-set-same}
-use Rattle.rules.specs.Base.{isNil, isSome, isNone, among, hasNumber}
+use Rattle.rules.specs.Base.{isNil, isSome, isNone, hasNumber}
 use Rattle.rules.specs.RefusalNumbers.{got, bad, unless}
-use Rattle.rules.specs.Lines.{Rest, Form, ignored, wrong, close, eof, keyed, freeShapeOf}
+use Rattle.rules.specs.Lines.{Rest, Form, ignored, wrong, close, eof, keyed}
 use Rattle.rules.specs.RangeClass.{digits, digitsOf, exceeds, both, skipOf, mostDepth, reaches, knowsWires}
-use Rattle.rules.specs.Values.{Value, Known, numsOf, amountAt, isLayerId}
+use Rattle.rules.specs.Values.{Value, Known, numsOf, amountAt}
 use Rattle.rules.specs.Rows.{Rule, Found, absent, found, find, Slots, blank, Held, rowsThere, rowsAtLimit, Act, begin, act, actRow, actUnknown, partOf, enter, innerOf}
-use Rattle.rules.specs.Blocks.{topTable, fileTables, drawingTable, mostLayers, symbolTable, definesTable, elementTable}
+use Rattle.rules.specs.Blocks.{topTable, fileTables, drawingTable, symbolTable, definesTable, elementTable}
 use Rattle.rules.specs.Figures.{pointTable, textTable, leastPoints, placedTable, placedTables, wireTable, wireTextTable, firstGroupRow}
 use Rattle.rules.specs.Sets.{Point, Wire, Figure, plain, lettering, placed, passed, Drawing, Symbol, Set, withNow, withRecords, symbolOwn, isFirst, knownOf, arcOf, defineRange, rangeOf, joinDigit, wiresOf, usedIn}
 use Rattle.rules.specs.VolumesAndTotals.{chained, dated, countedHere, countedAll, layersUsed, partnersExist}
-use Rattle.rules.specs.Machine.{Line, Env, Home, inElement, inLayer, State, top, file, drawing, layerNames, defines, symbol, hide, elements, figures, successive, texts, placing, skipping, ended, testsPartners, openTop, onTop, closeFile, onFile, onDrawing, layerValue, onLayerNames, onDefines, newName, openSymbol, onSymbol, pointAt, onHide, onElements, isLayer, homeTable, closeFigures, openFigure, onFigures, onSuccessive, onTexts}
+use Rattle.rules.specs.Machine.{Line, Env, Home, inElement, inLayer, State, top, file, drawing, layerNames, defines, symbol, hide, elements, figures, successive, texts, placing, skipping, ended, testsPartners, openTop, onTop, closeFile, onFile, onDrawing, onLayerNames, onDefines, newName, openSymbol, onSymbol, pointAt, onHide, onElements, isLayer, homeTable, closeFigures, openFigure, onFigures, onSuccessive, onTexts}
 use Rattle.rules.specs.PlacedSymbol.{onUnknown, newSerial, onPlaced, onPlacedKey, onPlacedOwn, onPlacing, skipEnded, unreadShut, skipShut, onSkipping}
 use Rattle.rules.specs.Wires.{joinsEnds, lastEdge, joinOf, joined, pastElements, groupAt, withGroups, withOnce, withTexts, isGroupRow, withAttribute, wireFull, isElementRow, onElement, numsAlike, newNumber, onWireAct, onWireUnknown, onWireKey, onWireOwn, onWireText, onWire}
 use Rattle.rules.specs.LineByLine.{stepIn}
 use Rattle.rules.specs.Machine.{symbolBlock, wireBlock, wireUnread, beginWire, fileKinds, Owned, kindIn}
 use Rattle.rules.specs.RecordTable.{kindDrawing, kindSymbol, kindLayer, kindLine, kindSuccessive, kindText, kindPlaced, kindPoint, kindHidden, kindWire, kindWireMore, kindEdge}
-use Rattle.rules.proofs.Chains.{On, on-unless, on-cond, on-then, on-got, and-left, clash, then-got}
+use Rattle.rules.proofs.Chains.{On, on-unless, on-cond, on-got, and-left, clash, then-got}
 use Rattle.rules.proofs.Rows.{Row, row-below}
-use Rattle.rules.proofs.OnActs.{on-byAct, on-taking, on-shut, on-skip}
+use Rattle.rules.proofs.OnActs.{on-byAct, on-layers, on-taking, on-shut, on-skip}
 use Rattle.promises.proofs.CountActs.{act-begin}
 use Rattle.volumes.specs.Volumes.{through}
 use Rattle.volumes.proofs.FrontSteps.{unread}
@@ -159,16 +159,9 @@ module _ (K : Known) (first : Bool) (s₀ : Set) (start : isFirst s₀ ≡ first
       (record { sound = (same-drawing first s₀ d s (z .1) (z .0), z .1); grows = drawing-shut K first s d (z .2) })
 
   names-goes : (s : Set) (d : Drawing) (f : Form) → Sound first s₀ (layerNames s d) → On (Goes (layerNames s d)) (onLayerNames e l s d f)
-  names-goes s d ignored z = stays (layerNames s d) z
-  names-goes s d (wrong n) z = tt
-  names-goes s d close z = record { sound = (z .0, z .1, z .2); grows = names-shut K first s d (z .3) }
-  names-goes s d eof z = tt
-  names-goes s d (keyed k c) z =
-      on-unless (Goes (layerNames s d)) (isLayerId k) 6 _ λ _.
-      on-then (Goes (layerNames s d)) (layerValue k (freeShapeOf c)) _ λ v q.
-      on-unless (Goes (layerNames s d)) (ltb (length (d .layers)) mostLayers) 11 _ λ _.
-      on-unless (Goes (layerNames s d)) (not (among k (map (λ y. y .id) (d .layers)))) 14 _ λ _.
-      on-taking (Goes (layerNames s d)) e 1 s _ λ _.
+  names-goes s d f z =
+      on-layers (Goes (layerNames s d)) e l s d f (stays (layerNames s d) z)
+      (record { sound = (z .0, z .1, z .2); grows = names-shut K first s d (z .3) }) λ k v _.
       record { sound = (same-records first s₀ (kindLayer ∷ []) s (z .0), z .1, z .2, z .3); grows = names-more K first s d (kindLayer ∷ []) (record { line = l .line; id = k; name = v }) }
 
   -- ── SYMBOL_DEFINE ──

@@ -65,6 +65,8 @@ use Column::{AboveZero, Angle, AnySign, Coordinate, Count, Digit, Flag, HalfAngl
 const LINE: &[Column] = &[Coordinate, Coordinate, Coordinate, Coordinate];
 /// cx,cy,radius,start,end,turn
 const CIRCLE: &[Column] = &[AnySign, AnySign, AboveZero, Angle, Angle, Flag];
+/// cx,cy,radius, of a circle that goes from 0 to 360 and has no turn
+const ROUND: &[Column] = &[AnySign, AnySign, AboveZero];
 /// cx,cy,long,short,start,end,tilt,turn
 const ELLIPSE: &[Column] = &[AnySign, AnySign, AboveZero, AboveZero, Angle, Angle, Angle, Flag];
 /// x,y
@@ -132,8 +134,28 @@ fn read_typed(columns: &[Column], content: &[u8], in_symbol: bool) -> Result<Typ
     Ok(Typed { figure_type, values })
 }
 
+/// How many values a circle in a symbol's `element` may have in place of seven: type,cx,cy,radius,start,end.
+const WITHOUT_TURN: usize = 6;
+
+/// "Inside a symbol's `element`, a circle from 0 to 360 may have six values"; "six values for an arc are 10".
+fn without_turn(items: &[&[u8]]) -> Result<Typed, u8> {
+    let figure_type = figure_type(items[0]).ok_or(10)?;
+    let (start, end) = (decimal(items[4]).ok_or(10)?, decimal(items[5]).ok_or(10)?);
+    // From 0 to 360 as values are, however they are spelt. No other number is smaller than this one.
+    if (start, end) != (0, 360 * ONE) {
+        return Err(10);
+    }
+    let mut values = read_columns(ROUND, &items[1..4], true)?;
+    values.extend([Value::Decimal(start), Value::Decimal(end), Value::NoTurn]);
+    Ok(Typed { figure_type, values })
+}
+
 /// The values of `line`, `circle`, `ellipse`, `point`.
 pub fn one_line(figure: OneLine, content: &[u8], in_symbol: bool) -> Result<Typed, u8> {
+    let items = split(content);
+    if figure == OneLine::Circle && in_symbol && items.len() == WITHOUT_TURN {
+        return without_turn(&items);
+    }
     let columns = match figure {
         OneLine::Line => LINE,
         OneLine::Circle => CIRCLE,

@@ -44,15 +44,17 @@ pub fn decimal(number: i64) -> String {
     format!("{sign}{whole}.{}", digits.trim_end_matches('0'))
 }
 
-fn value(value: &Value) -> String {
+/// A value; none for a turn that wasn't written: "written back with six".
+fn value(value: &Value) -> Option<String> {
     match value {
-        Value::Decimal(number) => decimal(*number),
-        Value::Digit(number) | Value::Count(number) => number.to_string(),
+        Value::Decimal(number) => Some(decimal(*number)),
+        Value::Digit(number) | Value::Count(number) => Some(number.to_string()),
+        Value::NoTurn => None,
     }
 }
 
 fn values(values: &[Value]) -> String {
-    joined(values.iter().map(value))
+    joined(values.iter().filter_map(value))
 }
 
 /// A wire's own number and its two partners; an empty one stays empty.
@@ -71,7 +73,7 @@ fn joined(items: impl Iterator<Item = String>) -> String {
 
 /// A type, which keeps its digits, then the values.
 fn typed(typed: &Typed) -> String {
-    joined(std::iter::once(format!("{:04}", typed.figure_type)).chain(typed.values.iter().map(value)))
+    joined(std::iter::once(format!("{:04}", typed.figure_type)).chain(typed.values.iter().filter_map(value)))
 }
 
 struct Lines {
@@ -276,7 +278,7 @@ impl Lines {
 
     fn placed(&mut self, set: &Set<'_>, placed: &Placed<'_>) {
         let name = String::from_utf8_lossy(set.symbols[placed.symbol].name.bytes).into_owned();
-        let content = joined(std::iter::once(name).chain(placed.values.iter().map(value)));
+        let content = joined(std::iter::once(name).chain(placed.values.iter().filter_map(value)));
         if set.header.ranges.e_sym == 1 {
             return self.entry("E_symbol", content);
         }

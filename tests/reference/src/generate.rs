@@ -1,5 +1,5 @@
-//! Sound sets from a seed: every rule and option of document 01, and of the wires that are served, comes up sooner or later, limits reached
-//! exactly included.
+//! Sound sets from a seed: every rule and option of document 01, of the wires that are served and of circles in symbols comes up sooner or later,
+//! limits reached exactly included.
 
 mod wires;
 
@@ -657,6 +657,8 @@ fn point(random: &mut Random, in_symbol: bool) -> Line {
 fn figure(random: &mut Random, plan: &Plan, in_symbol: bool) -> Vec<Line> {
     match random.below(12) {
         0..=2 => vec![line(random, in_symbol)],
+        // "Inside a symbol's `element`, a circle from 0 to 360 may have six values."
+        3 | 4 if in_symbol && random.chance(1, 2) => vec![whole_circle(random)],
         3 | 4 => vec![circle(random)],
         5 | 6 => vec![ellipse(random)],
         7 | 8 => vec![point(random, in_symbol)],
@@ -689,6 +691,27 @@ fn circle(random: &mut Random) -> Line {
     let centre = [decimal(random, Wanted::AnySign), decimal(random, Wanted::AnySign)];
     let [x, y] = centre;
     entry("circle", join([figure_type(random), x, y, decimal(random, Wanted::AboveZero), start, end, flag(random)]))
+}
+
+/// Spellings of the angles that a circle without a turn has.
+pub const NOUGHTS: &[&str] = &["0", "0", "-0", "0.0", "0000000", "-0.0000", "00.00"];
+pub const WHOLE_TURNS: &[&str] = &["360", "360", "360.0", "360.0000", "0360", "0000360.00"];
+
+/// From 0 to 360, six values: type,cx,cy,radius,start,end.
+pub fn circle_without_turn(random: &mut Random) -> Line {
+    let [x, y] = [(); 2].map(|_| decimal(random, Wanted::AnySign));
+    let (start, end) = (random.pick(NOUGHTS).to_string(), random.pick(WHOLE_TURNS).to_string());
+    entry("circle", join([figure_type(random), x, y, decimal(random, Wanted::AboveZero), start, end]))
+}
+
+/// From 0 to 360, with a turn or, more often, without.
+fn whole_circle(random: &mut Random) -> Line {
+    let mut circle = circle_without_turn(random);
+    if random.chance(1, 4) {
+        circle.push(b',');
+        circle.extend(flag(random).into_bytes());
+    }
+    circle
 }
 
 fn ellipse(random: &mut Random) -> Line {

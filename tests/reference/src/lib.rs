@@ -1,4 +1,5 @@
-//! Document 01 and the wires of document 02 read a second time, as a plain program, so that the product can be compared with it.
+//! Document 01, and the wires and the circles with six values of document 02, read a second time, as a plain program, so that the product can be
+//! compared with it.
 //!
 //! A module for each section of the document; nothing is shared with the product's own sources.
 //!

@@ -1,5 +1,6 @@
 //! Damage: sets changed in one or a few places, in every way that some rule speaks of.
 
+mod circles;
 mod wires;
 
 use crate::generate::{blanks, ignored, sound_set, text_of, Draft, DraftVolume, Line};
@@ -83,6 +84,8 @@ const CHANGES: &[(usize, Change)] = &[
     (9, range_changed),
     (3, chain_changed),
     (3, wires::wire_inserted),
+    (16, circles::circle_changed),
+    (6, circles::circle_inserted),
 ];
 
 fn change(random: &mut Random, draft: &mut Draft) {
@@ -837,7 +840,13 @@ const IN_BLOCKS: &[(&str, &[&str])] = &[
     ),
     ("successive:{", &["line=0000,1,1,2,2", "point=", "point:{", "point=0000,-1,1", "type=", "point=0000,1,1", "text:{"]),
     ("hide:{", &["line=0000,1,1,2,2", "point=", "point:{", "point=0000,-1,1", "point=0000,1", "hide:{"]),
-    ("element:{", &["E_symbol=A,1,1,0,1", "E_symbol:{", "point=0000,-1,-1", "line=", "text=", "successive=", "LAYER=E_151:{", "circle:{"]),
+    (
+        "element:{",
+        &[
+            "E_symbol=A,1,1,0,1", "E_symbol:{", "point=0000,-1,-1", "line=", "text=", "successive=", "LAYER=E_151:{", "circle:{", "circle=",
+            "cirllce=1307,0,0,2,0,360",
+        ],
+    ),
     (
         "text:{",
         &[

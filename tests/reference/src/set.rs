@@ -15,18 +15,21 @@ pub enum State<T> {
     Given(T),
 }
 
-/// A value of a figure, as it is kept: a decimal in ten-thousandths, one digit, or a count.
+/// A value of a figure, as it is kept: a decimal in ten-thousandths, one digit, a count, or the turn of a circle that was written without one.
 #[derive(Clone, Copy, Debug, PartialEq, Eq)]
 pub enum Value {
     Decimal(i64),
     Digit(i64),
     Count(i64),
+    NoTurn,
 }
 
 impl Value {
     pub fn number(self) -> i64 {
         match self {
             Value::Decimal(number) | Value::Digit(number) | Value::Count(number) => number,
+            // "Its turn is recorded as -1."
+            Value::NoTurn => -1,
         }
     }
 }

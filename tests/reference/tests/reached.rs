@@ -1,4 +1,4 @@
-//! Every refusal that documents 01 and 02 speak of in wires comes up among the questions.
+//! Every refusal that documents 01 and 02 speak of in wires, and of circles in symbols, comes up among the questions.
 
 use std::collections::BTreeMap;
 
@@ -10,7 +10,7 @@ use reference::set::OneLine;
 use reference::spool;
 
 /// Enough that the rarest of them comes up several times.
-const QUESTIONS: u64 = 30_000;
+const QUESTIONS: u64 = 40_000;
 
 /// What a refused line is, where it stands, and its number.
 fn reason(question: &Question) -> Option<String> {
@@ -51,7 +51,7 @@ fn open_blocks<'l>(lines: &[&'l [u8]]) -> Vec<&'l [u8]> {
     open
 }
 
-/// Where a line stands, of the places that wires have to do with.
+/// Where a line stands, of the places that wires and circles have to do with.
 fn place_of(open: &[&[u8]], class: Asked) -> Option<&'static str> {
     let wire = open.iter().position(|opener| *opener == b"E_wire:{");
     match (wire, open) {
@@ -69,17 +69,23 @@ fn place_of(open: &[&[u8]], class: Asked) -> Option<&'static str> {
 
 /// The line's key if it is one of those that count; other keys are all alike.
 fn key_of(line: &[u8]) -> &'static str {
-    const KEYS: [&str; 15] =
-        ["line", "circle", "direc", "piend", "num", "text", "length", "circuit", "power", "serial", "E_wire", "type", "character", "EOF", "}"];
+    const KEYS: [&str; 16] = [
+        "line", "circle", "cirllce", "direc", "piend", "num", "text", "length", "circuit", "power", "serial", "E_wire", "type", "character", "EOF",
+        "}",
+    ];
     let end = (0..line.len()).find(|&at| line[at] == b'=' || line[at..].starts_with(b":{")).unwrap_or(line.len());
     KEYS.into_iter().find(|key| key.as_bytes() == &line[..end]).unwrap_or("other")
 }
 
-/// Which of two rules with the number 11 is broken, where a key has two.
+/// Which of two rules with one number is broken, where a key has two.
 fn detail(answer: u8, line: &[u8]) -> &'static str {
-    let Some(equals) = line.iter().position(|&b| b == b'=').filter(|_| answer == 11) else { return "" };
+    let Some(equals) = line.iter().position(|&b| b == b'=').filter(|_| answer == 10 || answer == 11) else { return "" };
     let content = &line[equals + 1..];
+    let values = content.split(|&b| b == b',').count();
     match key_of(line) {
+        "circle" if values == 6 => ", six values",
+        "circle" if answer == 10 && content.ends_with(b",-1") => ", turn -1",
+        _ if answer == 10 => "",
         "line" if figures::one_line(OneLine::Line, content, false).is_ok() => ", join",
         "direc" if figures::direc(content).is_ok() => ", third",
         "num" if figures::num(content).is_ok() => ", unequal",
@@ -96,6 +102,13 @@ const WANTED: &[(&[u8], &str, &str)] = &[
     (&[5, 6, 9, 10, 11, 19], "line", "in a wire"),
     (&[11], "line", "in a wire, join"),
     (&[5, 6, 9, 10, 11, 19], "circle", "in a wire"),
+    (&[10], "circle", "in a wire, six values"),
+    (&[5, 9, 10, 11, 19], "circle", "in a symbol"),
+    (&[10, 11], "circle", "in a symbol, six values"),
+    (&[10], "circle", "in a symbol, turn -1"),
+    (&[6], "cirllce", "in a symbol"),
+    (&[9, 10, 11, 19], "circle", "in a layer"),
+    (&[10], "circle", "in a layer, six values"),
     (&[5, 6, 9, 10, 11], "direc", "in a wire"),
     (&[11], "direc", "in a wire, third"),
     (&[5, 6, 9, 10, 11], "piend", "in a wire"),
@@ -123,7 +136,7 @@ const WANTED: &[(&[u8], &str, &str)] = &[
 ];
 
 #[test]
-fn every_refusal_of_wires_is_reached() {
+fn every_refusal_of_wires_and_circles_is_reached() {
     let mut times: BTreeMap<String, usize> = BTreeMap::new();
     for number in 0..QUESTIONS {
         if let Some(reason) = reason(&question(5, number, ServedWires::ALL)) {

@@ -1,6 +1,7 @@
 //! The vectors: spools with the answers, records and fixed forms that are expected of them.
 //!
-//! The folder is taken from VECTORS, and is ../vectors otherwise. Its folder wish01 has those of sets with wires.
+//! The folder is taken from VECTORS, and is ../vectors otherwise. Its folders wish01 and wish03 have those of sets with wires, and of circles
+//! with six values.
 
 use std::fs;
 use std::path::{Path, PathBuf};
@@ -135,7 +136,17 @@ fn every_vector_agrees_at_every_wire_part() {
 /// Sets with wires.
 #[test]
 fn every_vector_with_wires_agrees() {
-    let folder = folder().join("wish01");
+    wish_agrees("wish01");
+}
+
+/// Circles with six values, in symbols and elsewhere.
+#[test]
+fn every_vector_of_circles_agrees() {
+    wish_agrees("wish03");
+}
+
+fn wish_agrees(wish: &str) {
+    let folder = folder().join(wish);
     let mut tally = Tally::default();
     for text in index_of(&folder).lines().skip(1) {
         let cells: Vec<&str> = text.split('\t').collect();

@@ -1,67 +1,11 @@
 //! Wires: a ruling for each point of document 02's first wish, and the records and fixed form of a wire that has everything.
 
-use reference::generate::{Draft, DraftVolume};
+mod sheet;
+
 use reference::ranges::{asked, Asked, ServedWires, HIGHEST_ASKED};
 use reference::records::NUMBERS;
 use reference::{read, rewrite};
-
-/// Everything before the lines of the one layer; the range values, and how many keys stand in the layer.
-const HEAD: &str = "FILE_FORMAT:{
-range:{
-base=001:{
-B_sym=000
-}
-elec=001:{
-E_sym=SYM
-E_wire=WIRE
-E_cirno=000
-}
-sym=001:{
-S_base=000
-S_elec=001
-}
-}
-all_line=0
-this_line=0
-all_ele=KEYS
-this_ele=KEYS
-next_file=
-date=19970901
-time=173000
-cad=c
-os=o
-hard=h
-ver=1
-corp=
-make=
-tel=
-name=
-}
-DRAWING_FORMAT:{
-size=A1
-scale=1
-project=P
-drawname=D
-date=19970901
-drawer=
-layer_name:{
-E_151=
-}
-}
-SYMBOL_DEFINE:{
-E_symbol:{
-name=S
-element:{
-point=0000,0,0
-}
-hide:{
-}
-}
-}
-ELEMENT:{
-LAYER=E_151:{
-";
-const TAIL: &str = "}\n}\nEOF";
+use sheet::{one_volume, HEAD, TAIL};
 
 /// What the file says of its ranges, and at which class it is read.
 #[derive(Clone, Copy)]
@@ -92,7 +36,11 @@ impl At {
     /// A set whose layer has these lines, and which says how many keys stand directly in it.
     fn text(self, layer: &str) -> String {
         let keys = keys_in(layer).to_string();
-        let head = HEAD.replace("SYM\n", &format!("{}\n", self.e_sym)).replace("WIRE", self.e_wire).replace("KEYS", &keys);
+        let head = HEAD
+            .replace("SYM\n", &format!("{}\n", self.e_sym))
+            .replace("WIRE", self.e_wire)
+            .replace("KEYS", &keys)
+            .replace("IN_SYMBOL", "point=0000,0,0");
         [&head, layer, TAIL].concat()
     }
 
@@ -123,12 +71,6 @@ impl At {
         assert_eq!(got.answer, 0, "{layer}");
         got.lent[..got.count * NUMBERS].chunks(NUMBERS).skip_while(|record| record[0] != 18).map(<[i64]>::to_vec).collect()
     }
-}
-
-fn one_volume(text: &str) -> Vec<u8> {
-    let lines = text.lines().map(|line| line.as_bytes().to_vec()).collect();
-    let volumes = vec![DraftVolume { name: b"TEST".to_vec(), lines }];
-    Draft { class: HIGHEST_ASKED, served: ServedWires::ALL, volumes }.spool()
 }
 
 /// How many keys stand directly in a layer with these lines.

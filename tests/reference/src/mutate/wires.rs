@@ -60,7 +60,7 @@ const IN_WIRE: &[&str] = &[
     "length=1", "length:{", "length=-1", "length=1:{", "length=1,2", "circuit=", "circuit=A", "circuit:{", "circuit=A:{", "circuit=_", "power=",
     "power=1,2,100", "power=1,2,105", "power:{", "power=1,2,100:{", "power=1,2", "serial=77,,", "serial=", "serial:{", "serial=77,,:{", "serial=78",
     "seriarl=1,2,", "serial1=2,1,3", "character=:{", "character=a", "character=a:{", "character:{", "EOF", "EOF=", "}", "hight=", "pos=1",
-    "type=0000,1,1,1,1,0,0,0", "E_cirno:{", "=", "nothing", "#", "a=\u{1}",
+    "type=0000,1,1,1,1,0,0,0", "E_cirno:{", "=", "nothing", "#", "a=\u{1}", "a=\u{7f}", "a\u{7f}:{",
 ];
 
 /// A line put into a wire where something is said of it.
@@ -284,7 +284,7 @@ fn cut_in_wire(random: &mut Random, draft: &mut Draft) -> Option<()> {
 }
 
 /// this_ele of a volume and all_ele, one higher.
-fn count_one_more(draft: &mut Draft, volume: usize) {
+pub fn count_one_more(draft: &mut Draft, volume: usize) {
     for (key, volume) in [("this_ele", volume), ("all_ele", 0)] {
         for line in &mut draft.volumes[volume].lines {
             if key_of(line) != Some(key.as_bytes()) {

@@ -11,13 +11,13 @@ use Rattle.entries.proofs.parts.piece.Tie as tie
 decimal-piece-requires : tie.Need-decimal-piece-requires
 decimal-piece-requires c κs = search needs
 
-bounded-requires : tie.Need-bounded-requires
-bounded-requires c κs = search needs
+measured-requires : tie.Need-measured-requires
+measured-requires c κs = search needs
 
 returns : tie.Need-returns
 returns c =
     let a = c .before .before .before .before .before .before .before .args in
-    decimal-told (knownIn (a .s .now) (a .symbols .now) (a .layers .now)) (a .code) (a .c .now) _ (c .before .decimal-piece .result) (c .before .before .if1 .taken) (c .before .decimal-piece .ensures) (c .bounded .ensures)
+    decimal-told (knownIn (a .s .now) (a .symbols .now) (a .layers .now)) (a .code) (a .c .now) _ (c .before .decimal-piece .result) (c .before .before .if1 .taken) (c .before .decimal-piece .ensures) (c .measured .ensures)
 
 find-requires : tie.Need-find-requires
 find-requires c κs = search needs
@@ -38,7 +38,7 @@ piece-spec =
     tie.close
     (tie.spec
     decimal-piece-requires
-    bounded-requires
+    measured-requires
     returns
     find-requires
     slice-aggregate-whole

@@ -1,5 +1,6 @@
 use Rattle.pens.specs.Noting.{noteOf, notesFrom}
-use Rattle.pens.proofs.KeyRows.{noted-long, placed-pen, line-kind, held-back, holds-is}
+use Rattle.pens.proofs.RowsNoted.{kind-closed}
+use Rattle.pens.proofs.KeyRows.{noted-long, placed-pen, held-back, holds-is}
 use mathlib.Core.Bool.{Bool, cond}
 use Rattle.rules.specs.Values.{Kind}
 use Rattle.rules.specs.FixedForm.{opensBlock}
@@ -36,7 +37,7 @@ returns-2 c =
     let args = c .before .before .before .before .before .before .before .before .before .args in
     let pre = c .before .before .before .before .before .before .before .before .before .pre in
     let the-note = c .before .before .before .before .note in
-    (kept-still _ _ (pre .0), noted-long (args .notes .now) _ (notesFrom (args .table) + args .row .number) (noteOf (args .rest)) (the-note .ensures), λ k q v i g. held-back _ (args .pen) (args .rest) k (args .row .number) q v _ _ (args .pen) _ (pre .0 .within) (rw (pre .1)) (placed-pen (args .pen) (args .row .number) (q .holds) (opensBlock (q .holds) v) (innerOf (q .holds)) 0 (pre .1) ∙ ap (λ (d : Kind). placedPen (args .pen) d) (sym (holds-is _ _ q _ i)) ∙ ap (λ (b : Bool). cond b (moved (args .pen) 0 11 1) (args .pen)) (line-kind (args .row) (c .if1 .left))) (the-note .ensures ∙ sym (rw (pre .1))))
+    (kept-still _ _ (pre .0), noted-long (args .notes .now) _ (notesFrom (args .table) + args .row .number) (noteOf (args .rest)) (the-note .ensures), λ k q v i g. held-back _ (args .pen) (args .rest) k (args .row .number) q v _ _ (args .pen) _ (pre .0 .within) (rw (pre .1)) (placed-pen (args .pen) (args .row .number) (q .holds) (opensBlock (q .holds) v) (innerOf (q .holds)) 0 (pre .1) ∙ ap (λ (d : Kind). placedPen (args .pen) d) (sym (holds-is _ _ q _ i)) ∙ ap (λ (b : Bool). cond b (moved (args .pen) 0 11 1) (args .pen)) (kind-closed (args .row) (c .if1 .left))) (the-note .ensures ∙ sym (rw (pre .1))))
 
 pub key-placed-spec : {M : Type 1} → statement M
 key-placed-spec =

@@ -8,7 +8,8 @@ use lib.ListN.{length}
 use Rattle.pens.specs.Texts.{ended}
 use Rattle.pens.specs.Moves.{moved, wirePen}
 use Rattle.pens.specs.Noting.{noteOf, notesFrom}
-use Rattle.pens.proofs.KeyRows.{noted-long, line-kind, written, held-back, holds-is, wire-pen, wire-element-pen, wire-once, wire-noted, wire-written}
+use Rattle.pens.proofs.RowsNoted.{kind-closed}
+use Rattle.pens.proofs.KeyRows.{noted-long, written, held-back, holds-is, wire-pen, wire-element-pen, wire-once, wire-noted, wire-written}
 use Rattle.pens.proofs.Writers.{kept-still, kept-moved}
 use borrow.Author.Needs.{needs}
 use Rattle.pens.proofs.keys.key_wire.Statement.{statement}
@@ -51,7 +52,7 @@ returns-3 : tie.Need-returns-3
 returns-3 c =
     let args = c .before .before .before .before .before .before .before .before .before .before .before .args in
     let once = sym (c .before .before .before .before .before .before .before .at-once-in-wire .ensures) ∙ c .before .before .before .before .before .before .if1 .left in
-    (kept-still _ _ (c .before .before .before .before .before .before .before .before .before .before .before .pre .0), noted-long (args .notes .now) _ (notesFrom (args .table) + args .row .number) (noteOf (args .rest)) (c .before .before .before .before .note .ensures), λ k q v i g. held-back _ (args .pen) (args .rest) k (args .row .number) q v _ _ (args .pen) _ (c .before .before .before .before .before .before .before .before .before .before .before .pre .0 .within) (wire-once (args .pen) (args .row .number) _ (c .before .before .before .before .before .before .before .before .before .before .before .pre .1) once) (wire-pen (args .pen) (args .row .number) (q .holds) (opensBlock (q .holds) v) (innerOf (q .holds)) 0 (c .before .before .before .before .before .before .before .before .before .before .before .pre .1) ∙ ap (λ (d : Kind). wirePen (args .pen) (args .row .number) d 0) (sym (holds-is _ _ q _ i)) ∙ rw once (ap (λ (b : Bool). cond b (moved (args .pen) 0 12 1) (args .pen)) (line-kind (args .row) (c .if2 .left)))) (c .before .before .before .before .note .ensures ∙ sym (wire-noted (args .pen) (args .table) (args .row .number) (q .holds) (innerOf (q .holds)) (noteOf (args .rest)) (args .notes .now) (c .before .before .before .before .before .before .before .before .before .before .before .pre .1) once)))
+    (kept-still _ _ (c .before .before .before .before .before .before .before .before .before .before .before .pre .0), noted-long (args .notes .now) _ (notesFrom (args .table) + args .row .number) (noteOf (args .rest)) (c .before .before .before .before .note .ensures), λ k q v i g. held-back _ (args .pen) (args .rest) k (args .row .number) q v _ _ (args .pen) _ (c .before .before .before .before .before .before .before .before .before .before .before .pre .0 .within) (wire-once (args .pen) (args .row .number) _ (c .before .before .before .before .before .before .before .before .before .before .before .pre .1) once) (wire-pen (args .pen) (args .row .number) (q .holds) (opensBlock (q .holds) v) (innerOf (q .holds)) 0 (c .before .before .before .before .before .before .before .before .before .before .before .pre .1) ∙ ap (λ (d : Kind). wirePen (args .pen) (args .row .number) d 0) (sym (holds-is _ _ q _ i)) ∙ rw once (ap (λ (b : Bool). cond b (moved (args .pen) 0 12 1) (args .pen)) (kind-closed (args .row) (c .if2 .left)))) (c .before .before .before .before .note .ensures ∙ sym (wire-noted (args .pen) (args .table) (args .row .number) (q .holds) (innerOf (q .holds)) (noteOf (args .rest)) (args .notes .now) (c .before .before .before .before .before .before .before .before .before .before .before .pre .1) once)))
 
 pub key-wire-spec : {M : Type 1} → statement M
 key-wire-spec =

@@ -73,6 +73,9 @@ returns-6 c =
     let d = c .before .before .before .before .before .before .before .before .before .before .before .before .before .before .before .before .before .before .args .row .kind in
     rw (ne-eqb d 3 (c .before .before .before .before .before .before .before .before .before .before .before .before .before .before .if1 .left), ne-eqb d 4 (c .before .before .before .before .before .before .before .before .before .before .before .before .if2 .left), ne-eqb d 5 (c .before .before .before .before .before .before .before .before .before .before .if3 .left), sym (c .before .before .before .before .before .before .before .before .before .are-serials .ensures) ∙ c .before .before .before .before .before .before .before .before .if4 .left, ne-eqb d 9 (c .before .before .before .before .before .before .if5 .left), sym (c .before .before .before .before .before .stands .ensures) ∙ c .before .before .before .before .if6 .taken) (c .before .before .text .ensures)
 
+forms-of-requires : tie.Need-forms-of-requires
+forms-of-requires c κs = tt
+
 pieces-requires-2 : tie.Need-pieces-requires-2
 pieces-requires-2 c κs = tt
 
@@ -82,8 +85,8 @@ same-length-7 c = search needs
 returns-7 : tie.Need-returns-7
 unfolding contentText
 returns-7 c =
-    let d = c .before .before .before .before .before .before .before .before .before .before .before .before .before .before .before .before .before .before .args .row .kind in
-    rw (ne-eqb d 3 (c .before .before .before .before .before .before .before .before .before .before .before .before .before .before .if1 .left), ne-eqb d 4 (c .before .before .before .before .before .before .before .before .before .before .before .before .if2 .left), ne-eqb d 5 (c .before .before .before .before .before .before .before .before .before .before .if3 .left), sym (c .before .before .before .before .before .before .before .before .before .are-serials .ensures) ∙ c .before .before .before .before .before .before .before .before .if4 .left, ne-eqb d 9 (c .before .before .before .before .before .before .if5 .left), sym (c .before .before .before .before .before .stands .ensures) ∙ c .before .before .before .before .if6 .left) (c .before .before .pieces2 .ensures)
+    let d = c .before .before .before .before .before .before .before .before .before .before .before .before .before .before .before .before .before .before .before .args .row .kind in
+    rw (ne-eqb d 3 (c .before .before .before .before .before .before .before .before .before .before .before .before .before .before .before .if1 .left), ne-eqb d 4 (c .before .before .before .before .before .before .before .before .before .before .before .before .before .if2 .left), ne-eqb d 5 (c .before .before .before .before .before .before .before .before .before .before .before .if3 .left), sym (c .before .before .before .before .before .before .before .before .before .before .are-serials .ensures) ∙ c .before .before .before .before .before .before .before .before .before .if4 .left, ne-eqb d 9 (c .before .before .before .before .before .before .before .if5 .left), sym (c .before .before .before .before .before .before .stands .ensures) ∙ c .before .before .before .before .before .if6 .left, sym (c .before .before .before .before .forms-of .ensures)) (c .before .before .pieces2 .ensures)
 
 pub content-spec : {M : Type 1} → statement M
 content-spec =
@@ -109,6 +112,7 @@ content-spec =
     text-requires
     same-length-6
     returns-6
+    forms-of-requires
     pieces-requires-2
     same-length-7
     returns-7)

@@ -1,6 +1,6 @@
 use mathlib.Core.Path.{sym, _∙_, ap}
 use Rattle.tables.specs.Rows.{partsOf}
-use Rattle.tables.proofs.Homes.{line-home, point-home}
+use Rattle.tables.proofs.Homes.{line-home, circle-home, point-home}
 use Rattle.rules.specs.Rows.{found}
 use borrow.Author.Needs.{needs}
 use Rattle.tables.proofs.figures.figure_row.Statement.{statement}
@@ -25,28 +25,28 @@ returns c = rw (sym (c .before .before .before .before .is-line .ensures) ∙ c 
 is-circle-requires : tie.Need-is-circle-requires
 is-circle-requires c κs = search needs
 
-several-requires-2 : tie.Need-several-requires-2
-several-requires-2 c κs = search needs
+circle-in-requires : tie.Need-circle-in-requires
+circle-in-requires c κs = search needs
 
 times-requires-2 : tie.Need-times-requires-2
 times-requires-2 c κs = search needs
 
 returns-2 : tie.Need-returns-2
 unfolding partsOf
-returns-2 c = rw (sym (c .before .before .before .before .before .is-line .ensures) ∙ c .before .before .before .before .if1 .left, sym (c .before .before .before .is-circle .ensures) ∙ c .before .before .if2 .taken, c .times2 .ensures, c .before .several2 .ensures)
+returns-2 c = rw (sym (c .before .before .before .before .before .is-line .ensures) ∙ c .before .before .before .before .if1 .left, sym (c .before .before .before .is-circle .ensures) ∙ c .before .before .if2 .taken, c .times2 .ensures, c .before .circle-in .ensures) (circle-home (c .before .before .before .before .before .before .before .args .in-layer))
 
 is-ellipse-requires : tie.Need-is-ellipse-requires
 is-ellipse-requires c κs = search needs
 
-several-requires-3 : tie.Need-several-requires-3
-several-requires-3 c κs = search needs
+several-requires-2 : tie.Need-several-requires-2
+several-requires-2 c κs = search needs
 
 times-requires-3 : tie.Need-times-requires-3
 times-requires-3 c κs = search needs
 
 returns-3 : tie.Need-returns-3
 unfolding partsOf
-returns-3 c = rw (sym (c .before .before .before .before .before .before .before .is-line .ensures) ∙ c .before .before .before .before .before .before .if1 .left, sym (c .before .before .before .before .before .is-circle .ensures) ∙ c .before .before .before .before .if2 .left, sym (c .before .before .before .is-ellipse .ensures) ∙ c .before .before .if3 .taken, c .times3 .ensures, c .before .several3 .ensures)
+returns-3 c = rw (sym (c .before .before .before .before .before .before .before .is-line .ensures) ∙ c .before .before .before .before .before .before .if1 .left, sym (c .before .before .before .before .before .is-circle .ensures) ∙ c .before .before .before .before .if2 .left, sym (c .before .before .before .is-ellipse .ensures) ∙ c .before .before .if3 .taken, c .times3 .ensures, c .before .several2 .ensures)
 
 is-point-requires : tie.Need-is-point-requires
 is-point-requires c κs = search needs
@@ -54,15 +54,15 @@ is-point-requires c κs = search needs
 by-home-requires-2 : tie.Need-by-home-requires-2
 by-home-requires-2 c κs = search needs
 
-several-requires-4 : tie.Need-several-requires-4
-several-requires-4 c κs = search needs
+several-requires-3 : tie.Need-several-requires-3
+several-requires-3 c κs = search needs
 
 times-requires-4 : tie.Need-times-requires-4
 times-requires-4 c κs = search needs
 
 returns-4 : tie.Need-returns-4
 unfolding partsOf
-returns-4 c = rw (sym (c .before .before .before .before .before .before .before .before .before .before .is-line .ensures) ∙ c .before .before .before .before .before .before .before .before .before .if1 .left, sym (c .before .before .before .before .before .before .before .before .is-circle .ensures) ∙ c .before .before .before .before .before .before .before .if2 .left, sym (c .before .before .before .before .before .before .is-ellipse .ensures) ∙ c .before .before .before .before .before .if3 .left, sym (c .before .before .before .before .is-point .ensures) ∙ c .before .before .before .if4 .taken, c .times4 .ensures, c .before .several4 .ensures, c .before .before .by-home2 .ensures) (ap (found 3) (point-home (c .before .before .before .before .before .before .before .before .before .before .before .before .args .in-layer)))
+returns-4 c = rw (sym (c .before .before .before .before .before .before .before .before .before .before .is-line .ensures) ∙ c .before .before .before .before .before .before .before .before .before .if1 .left, sym (c .before .before .before .before .before .before .before .before .is-circle .ensures) ∙ c .before .before .before .before .before .before .before .if2 .left, sym (c .before .before .before .before .before .before .is-ellipse .ensures) ∙ c .before .before .before .before .before .if3 .left, sym (c .before .before .before .before .is-point .ensures) ∙ c .before .before .before .if4 .taken, c .times4 .ensures, c .before .several3 .ensures, c .before .before .by-home2 .ensures) (ap (found 3) (point-home (c .before .before .before .before .before .before .before .before .before .before .before .before .args .in-layer)))
 
 is-successive-requires : tie.Need-is-successive-requires
 is-successive-requires c κs = search needs
@@ -107,16 +107,16 @@ figure-row-spec =
     times-requires
     returns
     is-circle-requires
-    several-requires-2
+    circle-in-requires
     times-requires-2
     returns-2
     is-ellipse-requires
-    several-requires-3
+    several-requires-2
     times-requires-3
     returns-3
     is-point-requires
     by-home-requires-2
-    several-requires-4
+    several-requires-3
     times-requires-4
     returns-4
     is-successive-requires
