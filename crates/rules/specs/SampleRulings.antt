@@ -120,13 +120,6 @@ abbrev pub endsAt : S.String → List ℕ
 endsAt figure =
     volume "TEST" (fileLines "E_sym=015" "all_ele=0" "this_ele=0" "next_file=" ++ take 16 (drawingWith "size=A1" figure))
 
--- a wire that holds this line
-abbrev pub wireWith : S.String → List ℕ
-wireWith line =
-    volume "TEST"
-    (fileLinesWith "E_sym=015" "E_wire=001" "all_line=0070" "all_ele=1" "this_ele=1" "next_file=" ++ drawingLines "size=A1"
-    ++ elementLines ("E_wire:{" ∷ line ∷ "}" ∷ []) ++ ending)
-
 -- ── a set written carelessly, and its fixed form ──
 -- comments, blanks and an empty line, keys in another order, `hide` before `element`, `-0`, needless zeros, small letters in next_file
 abbrev pub careless : List ℕ
@@ -355,7 +348,7 @@ cases =
     ∷ ruled (spool 15 18 (symbolOf "circle=1307,-1,0,2,360,0")) (refused 10 1 47)
     ∷ ruled (spool 15 18 (symbolOf "circle=1307,-1,0,2,0,361")) (refused 10 1 47)
     ∷ ruled (spool 15 18 (symbolOf "circle=1307,-1,0,0,0,90")) (refused 10 1 47)
-    -- "Rules of the six": the type has four digits, decimals are such, the radius is above zero
+    -- what document 01 says of the first six values of a circle: the type has four digits, decimals are such, the radius is above zero
     ∷ ruled (spool 15 18 (symbolOf "circle=137,-1,0,2,0,360")) (refused 10 1 47)
     ∷ ruled (spool 15 18 (symbolOf "circle=1307,-1,,2,0,360")) (refused 10 1 47)
     ∷ ruled (spool 15 18 (symbolOf "circle=1307,-1,0,2,0,36O")) (refused 10 1 47)
@@ -370,11 +363,10 @@ cases =
     ∷ ruled (spool 15 18 (symbolOf "circle=1307,-1,0,2,0,360,2")) (refused 11 1 47)
     ∷ ruled (spool 15 18 (symbolOf "circle=1307,-1,0,2,0,360,0,0")) (refused 10 1 47)
     ∷ ruled (spool 15 18 (symbolOf "circle=1307,-1,0,2,360,360,0")) (refused 11 1 47)
-    -- "`cirllce` in the printed examples stays an unknown key"; an ellipse keeps its nine values; layers and wires keep seven
+    -- "`cirllce` in the printed examples stays an unknown key"; an ellipse keeps its nine values; layers keep seven (and wires: WireRulings)
     ∷ ruled (spool 15 18 (symbolOf "cirllce=1307,-1,0,2,0,360")) (refused 6 1 47)
     ∷ ruled (spool 15 18 (symbolOf "ellipse=1307,-1,0,2,1,0,360,0")) (refused 10 1 47)
     ∷ ruled (spool 15 18 (drawn "circle=1307,-1,0,2,0,360")) (refused 10 1 55)
-    ∷ ruled (spool 15 18 (wireWith "circle=1307,-1,0,2,0,360")) (refused 10 1 56)
     -- "it is written back with six"; seven stay seven
     ∷ ruled (fixed (symbolOf "circle=1307,-1.0,0,02,-0,360.0")) (writes (writtenSymbol "circle=1307,-1,0,2,0,360"))
     ∷ ruled (fixed (symbolOf "circle=1307,-1.0,0,02,0,360.0,0")) (writes (writtenSymbol "circle=1307,-1,0,2,0,360,0"))

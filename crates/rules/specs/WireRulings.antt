@@ -228,6 +228,8 @@ cases =
     ∷ ruled (spool 15 0 (wireOf "E_wire=000" [])) (refused 6 1 55)
     ∷ ruled (spool 15 0 (sheetOf "E_wire=001" "all_ele=1" "this_ele=1" ("E_wire=1" ∷ []))) (refused 5 1 55)
     ∷ ruled (spool 15 18 (wireOf "E_wire=001" ("E_wire:{" ∷ "}" ∷ []))) (refused 6 1 56)
+    -- wish 3: six values are for a circle in a symbol; in a wire a circle has seven
+    ∷ ruled (spool 15 18 (wireOf "E_wire=001" ("circle=1307,-1,0,2,0,360" ∷ []))) (refused 10 1 56)
     -- values as in figures; other keys are not allowed, and skipped in a wire that is skipped whole
     ∷ ruled (spool 15 18 (wireOf "E_wire=001" ("line=1307,0,0,0,0.0" ∷ []))) (refused 11 1 56)
     ∷ ruled (spool 15 18 (wireOf "E_wire=001" ("line=1307,-1,0,0,0.0" ∷ []))) (refused 11 1 56)
