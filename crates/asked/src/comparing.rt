@@ -4,24 +4,25 @@ use crate::Front;
 use crate::lent::{soil_output, soil_table};
 use host::ploverdell_check;
 use sets::{read, rewrite};
-use std::num::wrapping_add_u64;
+use std::io;
+use std::io::Write;
 
 // FNV-1a, 64 bits: the hash of no bytes.
 const NO_BYTES: u64 = 0xCBF29CE484222325;
 
-fn show(n: u64) {
-    io::print_decimal(1, n);
+fn show<W: Write>(to: &mut W, n: u64) -> io::Result<()> {
+    write!(to, "{n}")
 }
 
-fn show_hash(h: u64) {
-    io::print_hex(1, h, 16);
+fn show_hash<W: Write>(to: &mut W, h: u64) -> io::Result<()> {
+    write!(to, "{h:016x}")
 }
 
 // h * 0x100000001B3, modulo 2^64: h * 2^40 and h * 0x1B3, the latter by halves of h.
 fn times_prime(h: u64) -> u64 {
     let low = (h % 4294967296) * 435;
     let high = ((h / 4294967296) * 435) << 32;
-    wrapping_add_u64(h << 40, wrapping_add_u64(low, high))
+    (h << 40).wrapping_add(low.wrapping_add(high))
 }
 
 fn with_byte(h: u64, b: u64) -> u64 {
@@ -73,25 +74,36 @@ fn hash_bytes(bytes: &[u8]) -> u64 {
     h
 }
 
-fn show_reading(spool: &[u8], front: Front, table: &mut [i64]) {
+fn show_reading<W: Write>(
+    to: &mut W,
+    spool: &[u8],
+    front: Front,
+    table: &mut [i64],
+) -> io::Result<()> {
     soil_table(table);
-    shows::answer(1, read(spool, front.cls, front.wire, table));
-    shows::space(1);
-    show_hash(hash_table(table));
+    shows::answer(to, read(spool, front.cls, front.wire, table))?;
+    shows::space(to)?;
+    show_hash(to, hash_table(table))
 }
 
-fn show_rewriting(spool: &[u8], out: &mut [u8]) {
+fn show_rewriting<W: Write>(to: &mut W, spool: &[u8], out: &mut [u8]) -> io::Result<()> {
     soil_output(out);
-    shows::answer(1, rewrite(spool, out));
-    shows::space(1);
-    show_hash(hash_bytes(out));
+    shows::answer(to, rewrite(spool, out))?;
+    shows::space(to)?;
+    show_hash(to, hash_bytes(out))
 }
 
-pub fn compare(spool: &[u8], front: Front, table: &mut [i64], out: &mut [u8]) {
-    show_reading(spool, front, table);
-    shows::space(1);
-    show(ploverdell_check(spool, front.cls, front.wire));
-    shows::space(1);
-    show_rewriting(spool, out);
-    shows::newline(1);
+pub fn compare<W: Write>(
+    to: &mut W,
+    spool: &[u8],
+    front: Front,
+    table: &mut [i64],
+    out: &mut [u8],
+) -> io::Result<()> {
+    show_reading(to, spool, front, table)?;
+    shows::space(to)?;
+    show(to, ploverdell_check(spool, front.cls, front.wire))?;
+    shows::space(to)?;
+    show_rewriting(to, spool, out)?;
+    shows::newline(to)
 }

@@ -1,4 +1,6 @@
 // What is lent to reader and rewriter: it holds other numbers than zeros before a call, and zeros behind what was written after it.
+use std::io;
+use std::io::Write;
 
 pub fn soil_table(table: &mut [i64]) {
     let mut i = 0;
@@ -17,29 +19,29 @@ pub fn soil_output(out: &mut [u8]) {
 }
 
 // Says so where a number of the table from this place on is not 0.
-pub fn table_leavings(from: u64, table: &[i64]) {
+pub fn table_leavings<W: Write>(to: &mut W, from: u64, table: &[i64]) -> io::Result<()> {
     let mut i = 0;
     while i < table.len() {
         if from <= i as u64 {
             if table[i] != 0 {
-                io::write_all(1, b"the rest of the table is not zero\n");
-                return;
+                return to.write_all(b"the rest of the table is not zero\n");
             }
         }
         i += 1;
     }
+    Ok(())
 }
 
 // Says so where a byte of the output from this place on is not 0.
-pub fn output_leavings(from: usize, out: &[u8]) {
+pub fn output_leavings<W: Write>(to: &mut W, from: usize, out: &[u8]) -> io::Result<()> {
     let mut i = 0;
     while i < out.len() {
         if from <= i {
             if out[i] != 0 {
-                io::write_all(1, b"the rest of the output is not zero\n");
-                return;
+                return to.write_all(b"the rest of the output is not zero\n");
             }
         }
         i += 1;
     }
+    Ok(())
 }

@@ -3,16 +3,18 @@ use crate::Front;
 use crate::lent::{soil_table, table_leavings};
 use rules::Answer;
 use sets::read;
+use std::io;
+use std::io::Write;
 
-pub fn list(spool: &[u8], front: Front, table: &mut [i64]) {
+pub fn list<W: Write>(to: &mut W, spool: &[u8], front: Front, table: &mut [i64]) -> io::Result<()> {
     soil_table(table);
     let answer = read(spool, front.cls, front.wire, table);
-    shows::answer_line(1, answer);
+    shows::answer_line(to, answer)?;
     match answer {
         Answer::Accepted(count) => {
-            shows::records(count as u64, table);
-            table_leavings(32 * count as u64, table);
+            shows::records(to, count as u64, table)?;
+            table_leavings(to, 32 * count as u64, table)
         }
-        Answer::Refused(_f) => table_leavings(0, table),
+        Answer::Refused(_f) => table_leavings(to, 0, table),
     }
 }

@@ -1,12 +1,17 @@
 // Answers the questions on standard input, one after the other, and prints at the end how many they were. The byte in front of a question
 // says what is asked (a module for each); the rest of its frame is the same for all, that of tests/reference (README.md there): a class,
 // its wire part, the lengths of a table and of an output to be lent, the length of a spool, and the spool. tools/frames.py frames them.
+#![tactic(auto)]
+
 mod comparing;
 mod lent;
 mod listing;
 mod rewriting;
 
+use shows::input::read_all;
 use shows::questions::{END, MOST_QUESTIONS, next_spool, pair};
+use std::io;
+use std::io::{Read, Write};
 
 // What is asked: a spool's records, listed.
 const LIST: u8 = b'l';
@@ -57,9 +62,9 @@ struct Head {
 }
 
 // The next question's head; where there is none, one of a spool that is too long for any room.
-fn next_head() -> Head {
+fn next_head<R: Read>(from: &mut R) -> Head {
     let mut head = [0u8; HEAD];
-    if io::read_full(0, &mut head) < HEAD {
+    if read_all(from, &mut head).bytes < HEAD {
         return Head {
             what: 0,
             front: Front { cls: 0, wire: 0 },
@@ -81,75 +86,90 @@ fn next_head() -> Head {
 }
 
 // The length of the question's spool, which is read where it is not the one before; END where there is none.
-fn spool_length(len: usize, before: usize, spool: &mut [u8]) -> usize {
+fn spool_length<R: Read>(from: &mut R, len: usize, before: usize, spool: &mut [u8]) -> usize {
     if len == SAME_SPOOL {
         return before;
     }
-    next_spool(len, spool)
+    next_spool(from, len, spool)
 }
 
 // Prints the answer; false where the byte asks for nothing that is known.
-fn answered(what: u8, front: Front, spool: &[u8], table: &mut [i64], out: &mut [u8]) -> bool {
+fn answered<W: Write>(
+    to: &mut W,
+    what: u8,
+    front: Front,
+    spool: &[u8],
+    table: &mut [i64],
+    out: &mut [u8],
+) -> io::Result<bool> {
     if what == LIST {
-        listing::list(spool, front, table);
-        return true;
+        listing::list(to, spool, front, table)?;
+        return Ok(true);
     }
     if what == REWRITE {
-        rewriting::rewrite_twice(spool, out);
-        return true;
+        rewriting::rewrite_twice(to, spool, out)?;
+        return Ok(true);
     }
     if what == COMPARE {
-        comparing::compare(spool, front, table, out);
-        return true;
+        comparing::compare(to, spool, front, table, out)?;
+        return Ok(true);
     }
-    false
+    Ok(false)
 }
 
 // Reads a question, answers it, and gives the length of its spool; END where there is none, no room for it, or nothing known is asked.
-fn question(before: usize, spool: &mut [u8], table: &mut [i64], out: &mut [u8]) -> usize {
-    let head = next_head();
+fn question<R: Read, W: Write>(
+    from: &mut R,
+    to: &mut W,
+    before: usize,
+    spool: &mut [u8],
+    table: &mut [i64],
+    out: &mut [u8],
+) -> io::Result<usize> {
+    let head = next_head(from);
     let numbers = head.numbers;
     let bytes = head.bytes;
-    let len = spool_length(head.spool, before, spool);
+    let len = spool_length(from, head.spool, before, spool);
     if spool.len() < len {
-        return END;
+        return Ok(END);
     }
     if table.len() < numbers {
-        return END;
+        return Ok(END);
     }
     if out.len() < bytes {
-        return END;
+        return Ok(END);
     }
     if answered(
+        to,
         head.what,
         head.front,
         &spool[..len],
         &mut table[..numbers],
         &mut out[..bytes],
-    ) {
-        return len;
+    )? {
+        return Ok(len);
     }
-    END
+    Ok(END)
 }
 
-fn show_count(asked: usize) {
-    io::print_decimal(1, asked as u64);
-    io::write_all(1, b" questions\n");
+fn show_count<W: Write>(to: &mut W, asked: usize) -> io::Result<()> {
+    writeln!(to, "{asked} questions")
 }
 
-fn main() {
+fn main(rt: HostRuntime) -> io::Result<()> {
     let mut spool = [0u8; MOST_SPOOL];
     let mut table = [0i64; MOST_TABLE];
     let mut out = [0u8; MOST_OUT];
+    let mut from = rt.stdin();
+    let mut to = rt.stdout();
     let mut len = 0;
     let mut asked = 0;
     while asked < MOST_QUESTIONS {
-        len = question(len, &mut spool, &mut table, &mut out);
+        len = question(&mut from, &mut to, len, &mut spool, &mut table, &mut out)?;
         if len == END {
-            show_count(asked);
-            return;
+            return show_count(&mut to, asked);
         }
         asked += 1;
     }
-    show_count(asked);
+    show_count(&mut to, asked)
 }

@@ -3,6 +3,8 @@
 use crate::lent::{output_leavings, soil_output, soil_table};
 use rules::Answer;
 use sets::{read, rewrite};
+use std::io;
+use std::io::Write;
 
 const MOST_RECORDS: usize = 256;
 
@@ -75,60 +77,60 @@ fn places_apart(table: &mut [i64]) {
 }
 
 // Reads a fixed form back.
-fn read_back(written: &[u8]) {
+fn read_back<W: Write>(to: &mut W, written: &[u8]) -> io::Result<()> {
     let mut table = [0i64; MOST_NUMBERS];
     soil_table(&mut table);
     let answer = read(written, FULL_CLASS, FULL_WIRE, &mut table);
-    shows::answer_line(1, answer);
+    shows::answer_line(to, answer)?;
     let Answer::Accepted(count) = answer else {
-        return;
+        return Ok(());
     };
     places_apart(&mut table);
-    shows::records(count as u64, &table);
+    shows::records(to, count as u64, &table)
 }
 
 // Rewrites a spool and gives the count of bytes; 0 where it is refused.
-fn written_bytes(spool: &[u8], out: &mut [u8]) -> usize {
+fn written_bytes<W: Write>(to: &mut W, spool: &[u8], out: &mut [u8]) -> io::Result<usize> {
     soil_output(out);
     let answer = rewrite(spool, out);
-    shows::answer_line(1, answer);
+    shows::answer_line(to, answer)?;
     match answer {
         Answer::Accepted(count) => {
-            output_leavings(count as usize, out);
-            count as usize
+            output_leavings(to, count as usize, out)?;
+            Ok(count as usize)
         }
         Answer::Refused(_f) => {
-            output_leavings(0, out);
-            0
+            output_leavings(to, 0, out)?;
+            Ok(0)
         }
     }
 }
 
 // A fixed form, read back and rewritten.
-fn again(written: &[u8], out: &mut [u8]) {
-    io::write_all(1, written);
-    io::write_all(1, b"\n");
-    read_back(written);
-    let n = written_bytes(written, out);
+fn again<W: Write>(to: &mut W, written: &[u8], out: &mut [u8]) -> io::Result<()> {
+    to.write_all(written)?;
+    shows::newline(to)?;
+    read_back(to, written)?;
+    let n = written_bytes(to, written, out)?;
     if out.len() < n {
-        return;
+        return Ok(());
     }
-    io::write_all(1, &out[..n]);
-    io::write_all(1, b"\n");
+    to.write_all(&out[..n])?;
+    shows::newline(to)
 }
 
-fn rewrite_again(written: &[u8]) {
+fn rewrite_again<W: Write>(to: &mut W, written: &[u8]) -> io::Result<()> {
     let mut out = [0u8; MOST_WRITTEN];
-    again(written, &mut out);
+    again(to, written, &mut out)
 }
 
-pub fn rewrite_twice(spool: &[u8], out: &mut [u8]) {
-    let n = written_bytes(spool, out);
+pub fn rewrite_twice<W: Write>(to: &mut W, spool: &[u8], out: &mut [u8]) -> io::Result<()> {
+    let n = written_bytes(to, spool, out)?;
     if n == 0 {
-        return;
+        return Ok(());
     }
     if out.len() < n {
-        return;
+        return Ok(());
     }
-    rewrite_again(&out[..n]);
+    rewrite_again(to, &out[..n])
 }

@@ -1,11 +1,16 @@
 // What the programs print: "one line `answer volume line records` in decimal, single spaces, newline at the end; if accepted, one line of 32
-// numbers per record follows". Each line is laid first (text) and written by one call; a function answers whether all of it was written.
+// numbers per record follows". Each line is laid first (text) and written by one call; a function's `Ok` says that all of it was written.
+#![tactic(auto)]
+
+pub mod failure;
 pub mod input;
 pub mod questions;
 pub mod text;
 
 use leaves::Wrote;
 use rules::Answer;
+use std::io;
+use std::io::Write;
 use text::{put_answer, put_line};
 
 // As many as the largest table that a program lends.
@@ -16,82 +21,85 @@ const ANSWER_LINE: usize = 84;
 
 const RECORD_LINE: usize = 672;
 
-pub fn space(fd: i32) {
-    io::write_all(fd, b" ");
+pub fn space<W: Write>(out: &mut W) -> io::Result<()> {
+    out.write_all(b" ")
 }
 
-pub fn newline(fd: i32) {
-    io::write_all(fd, b"\n");
+pub fn newline<W: Write>(out: &mut W) -> io::Result<()> {
+    out.write_all(b"\n")
+}
+
+// There is less to write than was asked for.
+fn nothing_there() -> io::Error {
+    io::Error::from(io::ErrorKind::InvalidInput)
 }
 
 // The first n bytes.
-pub fn write_front(fd: i32, text: &[u8], n: usize) -> bool {
+pub fn write_front<W: Write>(out: &mut W, text: &[u8], n: usize) -> io::Result<()> {
     if text.len() < n {
-        return false;
+        return Err(nothing_there());
     }
-    io::write_all(fd, &text[..n])
+    out.write_all(&text[..n])
 }
 
-fn write_laid(fd: i32, text: &[u8], laid: Wrote) -> bool {
+fn write_laid<W: Write>(out: &mut W, text: &[u8], laid: Wrote) -> io::Result<()> {
     match laid {
-        Wrote::Bytes(n) => write_front(fd, text, n),
-        Wrote::Full => false,
+        Wrote::Bytes(n) => write_front(out, text, n),
+        Wrote::Full => Err(nothing_there()),
     }
 }
 
-// An answer's line, to standard output (1) or standard error (2).
-pub fn answer_line(fd: i32, a: Answer) -> bool {
+// An answer's line.
+pub fn answer_line<W: Write>(out: &mut W, a: Answer) -> io::Result<()> {
     let mut line = [0u8; ANSWER_LINE];
     let laid = put_answer(a, &mut line);
-    write_laid(fd, &line, laid)
+    write_laid(out, &line, laid)
 }
 
 // The same without its newline.
-pub fn answer(fd: i32, a: Answer) -> bool {
+pub fn answer<W: Write>(out: &mut W, a: Answer) -> io::Result<()> {
     let mut line = [0u8; ANSWER_LINE];
     let laid = put_answer(a, &mut line);
     let Wrote::Bytes(n) = laid else {
-        return false;
+        return Err(nothing_there());
     };
     if n == 0 {
-        return false;
+        return Err(nothing_there());
     }
-    write_front(fd, &line, n - 1)
+    write_front(out, &line, n - 1)
 }
 
-fn record(rec: &[i64]) -> bool {
+fn record<W: Write>(out: &mut W, rec: &[i64]) -> io::Result<()> {
     let mut line = [0u8; RECORD_LINE];
     let laid = put_line(rec, &mut line);
-    write_laid(1, &line, laid)
+    write_laid(out, &line, laid)
 }
 
-// A table's records, so many, to standard output; of more than 10,240 the first 10,240.
-pub fn records(count: u64, table: &[i64]) -> bool {
+// A table's records, so many; of more than 10,240 the first 10,240.
+pub fn records<W: Write>(out: &mut W, count: u64, table: &[i64]) -> io::Result<()> {
     let mut i = 0;
     while i < MOST_RECORDS {
         if count <= i as u64 {
-            return true;
+            return Ok(());
         }
         let from = 32 * i;
         if table.len() < from + 32 {
-            return false;
+            return Err(nothing_there());
         }
-        if !record(&table[from..from + 32]) {
-            return false;
-        }
+        record(out, &table[from..from + 32])?;
         i += 1;
     }
-    count <= MOST_RECORDS as u64
+    if count <= MOST_RECORDS as u64 {
+        return Ok(());
+    }
+    Err(nothing_there())
 }
 
 // A reading: the line of its answer, then the lines of the table's records one after the other, each as it was laid (`put_answer`, `put_line`).
-// False where not all of it was written.
-pub fn listing(answer: Answer, table: &[i64]) -> bool {
-    if !answer_line(1, answer) {
-        return false;
-    }
+pub fn listing<W: Write>(out: &mut W, answer: Answer, table: &[i64]) -> io::Result<()> {
+    answer_line(out, answer)?;
     match answer {
-        Answer::Accepted(count) => records(count as u64, table),
-        Answer::Refused(_f) => true,
+        Answer::Accepted(count) => records(out, count as u64, table),
+        Answer::Refused(_f) => Ok(()),
     }
 }

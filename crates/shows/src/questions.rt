@@ -1,6 +1,9 @@
 // Questions on standard input, answered one after the other: their numbers and their spools.
 ghost use Rattle.std.specs.Prelude.{◌≡◌, ◌+◌, ◌*◌};
 
+use crate::input::read_all;
+use std::io::Read;
+
 // More questions than this are not read. (A program that is proved to end must stop somewhere.)
 pub const MOST_QUESTIONS: usize = 1048576;
 
@@ -15,11 +18,11 @@ pub fn pair(high: u8, low: u8) -> usize
 }
 
 // Reads a question's spool and gives its length; END where it is too long or the input ends before it.
-pub fn next_spool(len: usize, spool: &mut [u8]) -> usize {
+pub fn next_spool<R: Read>(from: &mut R, len: usize, spool: &mut [u8]) -> usize {
     if spool.len() < len {
         return END;
     }
-    if io::read_full(0, &mut spool[..len]) < len {
+    if read_all(from, &mut spool[..len]).bytes < len {
         return END;
     }
     len
