@@ -1,6 +1,8 @@
 // accclass CLASS WIRE RECORDS: accread for any front end. Reads a spool from standard input at the class with the wire part, in decimal, into a
 // table of so many records, and prints what accread prints. Words that are no such numbers, or more records than the table has, are told on
 // standard error, and so is a read or a write that fails; there is then no answer. (A class or wire part that is none is refused with 1, as always.)
+#![tactic(auto)]
+
 use leaves::Count;
 use leaves::numbers::count;
 use sets::read;

@@ -1,5 +1,7 @@
 // A filter: a spool on standard input, its fixed form on standard output where it is accepted, nothing there where it is refused; then one
 // line `answer volume line bytes` on standard error. A read or a write that fails is told there instead of that line.
+#![tactic(auto)]
+
 use rules::Answer;
 use sets::rewrite;
 use shows::input::MOST_READ;

@@ -1,5 +1,7 @@
 // The account: what the reading of a set remembers between two lines (types and constants here, no steps). specs/ says, as the code does it,
 // what one line of each block does to it and which record it completes; the code itself is in groundwork, drawing and elements.
+#![tactic(auto)]
+
 use rules::{Class, LineForm, Refusal, Span};
 
 // A volume: its number, from 1, and the place of its first byte in the spool.

@@ -1,6 +1,8 @@
 // Reads a spool from standard input at class 15 with wire part 18 into a table of 256 records, and prints one line `answer volume line
 // records`, then, if accepted, one line of 32 numbers for each record. A read or a write that fails is told on standard error; a failed read
 // has no answer.
+#![tactic(auto)]
+
 use sets::read;
 use shows::input::MOST_READ;
 use shows::listing;

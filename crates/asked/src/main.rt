@@ -1,6 +1,8 @@
 // Answers the questions on standard input, one after the other, and prints at the end how many they were. The byte in front of a question
 // says what is asked (a module for each); the rest of its frame is the same for all, that of tests/reference (README.md there): a class,
 // its wire part, the lengths of a table and of an output to be lent, the length of a spool, and the spool. tools/frames.py frames them.
+#![tactic(auto)]
+
 mod comparing;
 mod lent;
 mod listing;

@@ -1,5 +1,7 @@
 // What one line enters: its values between commas, its text or its serials, read from the spool by the row of its key and put into the numbers of
 // the record, or the refusal where one of them breaks its rule.
+#![tactic(auto)]
+
 pub mod acts;
 mod by_forms;
 mod contents;

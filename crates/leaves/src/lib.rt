@@ -1,4 +1,6 @@
 // Bytes and numbers: the leaves of the reader and of the writer.
+#![tactic(auto)]
+
 pub mod bytes;
 pub mod numbers;
 pub mod pieces;

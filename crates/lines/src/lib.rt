@@ -1,4 +1,6 @@
 // The spool's volumes and the lines of a volume: document 01, "Spool (H)".
+#![tactic(auto)]
+
 use rules::LineForm;
 
 // What stands before a volume: a good head and how many bytes it says follow, or something else.

@@ -1,5 +1,7 @@
 // The pens, one for each block that can be open: what a line of an accepted set writes in the fixed form, "keys in the order above", at once (by
 // prints) or, noted till then, where its block closes.
+#![tactic(auto)]
+
 pub mod closing;
 mod groups;
 pub mod keys;

@@ -1,5 +1,7 @@
 // What the programs print: "one line `answer volume line records` in decimal, single spaces, newline at the end; if accepted, one line of 32
 // numbers per record follows". Each line is laid first (text) and written by one call; a function answers whether all of it was written.
+#![tactic(auto)]
+
 pub mod input;
 pub mod questions;
 pub mod text;

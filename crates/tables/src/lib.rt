@@ -1,4 +1,6 @@
 // Document 01's tables of keys, as the code asks for them: the row of a key, and which rows a block must have.
+#![tactic(auto)]
+
 mod blocks;
 mod figures;
 pub mod keys;

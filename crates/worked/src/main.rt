@@ -1,5 +1,7 @@
 // Document 01's worked values, read and written by the leaves and printed: what each text is worth, or `no`, and what is written of it;
 // and lines of a text's block, each with what it does there.
+#![tactic(auto)]
+
 ghost use Rattle.std.specs.Prelude.{◌≤◌, length};
 
 use entries::Next;
