@@ -31,7 +31,8 @@ use Rattle.rules.proofs.Runs.{not-accepted, finish-ended}
 use Rattle.rules.proofs.Rows.{row_below}
 use Rattle.promises.specs.Acceptance.{Place, place, place_of}
 use Rattle.promises.proofs.RecordLines.{point_places, edge_places, figure_places, figures_places, symbol_places, symbols_places, drawn_places, head_places, block_places, body_places, later_places, front_places, set_places, records-at}
-use Rattle.rules.proofs.OnActs.{on-by_act, on-layers, on-taking, on-shut, on_skip}
+use Rattle.promises.proofs.ClosedActs.{on-by_act}
+use Rattle.rules.proofs.OnActs.{on-layers, on-taking, on-shut, on_skip}
 use Rattle.promises.proofs.OnEof.{on-eof}
 use Rattle.promises.proofs.OnWires.{on-wire}
 use Rattle.promises.proofs.CountActs.{Begun, act-begin}
@@ -131,8 +132,8 @@ closing true c q = clash q refl
 closing false c q = or_left c false refl q
 
 -- a line that closes a block, or is refused
-pub on-close : (P : State → Type 0) (st : State) (en : ℕ → Value → Got State) (op : ℕ → ℕ → Value → Got State) (cl : Unit {0} → Got State) (b : Bool)
-    → On P (cl tt) → On P (by_act st en op cl (cond b shut (refuse 8)))
+pub on-close : (P : State → Type 0) (st : State) (en : ℕ → Value → Got State) (op : ℕ → ℕ → Value → Got State) (cl : Got State) (b : Bool)
+    → On P cl → On P (by_act st en op (λ _. cl) (cond b shut (refuse 8)))
 on-close P st en op cl true w = w
 on-close P st en op cl false w = tt
 

@@ -125,13 +125,13 @@ non-least false false e = omega arith
 
 module _ (K : Known) (n : ℕ) where
   -- such a table's lines weigh the same at K
-  pub on-plain : (P : State → Type 0) (here : State) (en : ℕ → Value → Got State) (op : ℕ → ℕ → Value → Got State) (cl : Unit {0} → Got State) (k : Known) (d : Digits)
+  pub on-plain : (P : State → Type 0) (here : State) (en : ℕ → Value → Got State) (op : ℕ → ℕ → Value → Got State) (cl : Got State) (k : Known) (d : Digits)
       (t : List Rule) (full : List Bool) (f : Form) → plain_table t ≡ true → Told n f
       → P here
       → ((j : ℕ) (r : Rule) (v : Value) → Row t j r → Took K r (get_or full j false) v n false → On P (en j v))
       → ((j : ℕ) (r : Rule) (v : Value) → Row t j r → Took K r (get_or full j false) v n true → On P (op (inner_of r.holds) j v))
-      → (1 ≤ n → On P (cl tt))
-      → On P (by_act here en op cl (act k t d full f))
+      → (1 ≤ n → On P cl)
+      → On P (by_act here en op (λ _. cl) (act k t d full f))
   on-plain P here en op cl k d t full f plain tells st ent beg clo =
       on-act P here en op cl k K d n t full f
       (all_weaken plain_rule (λ r. key_ok r.key) (λ r e. and_left (key_ok r.key) _ e) t plain)

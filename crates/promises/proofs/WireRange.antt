@@ -23,7 +23,8 @@ use Rattle.rules.specs.PlacedSymbol.{on_unknown, new_serial, on_placed, on_place
 use Rattle.rules.specs.Wires.{joined, joins_ends, last_edge, on_wire}
 use Rattle.rules.specs.LineByLine.{step_in, is_ignored, is_close, is_eof, completes, next_volume, step, accepted, then_run, run}
 use Rattle.rules.proofs.Chains.{and_false, clash, by_cond, cond_same, On, on-unless, on-cond, on-map, on-also, on-got, nil-snoc}
-use Rattle.rules.proofs.OnActs.{on-by_act, on-layers, on-taking, on-shut, on_skip}
+use Rattle.promises.proofs.ClosedActs.{on-by_act}
+use Rattle.rules.proofs.OnActs.{on-layers, on-taking, on-shut, on_skip}
 use Rattle.rules.proofs.Runs.{not-accepted, finish-ended, head-snoc, head-file}
 use Rattle.promises.specs.WireParts.{go_on, read_up_to}
 use Rattle.promises.proofs.Count.{both_left, closing, on-close}
