@@ -94,7 +94,8 @@ module _ (d : Drawing) (ys : List Symbol) where
 
   -- SYMBOL_DEFINE closes
   front-is : (vs : List Contents) (v : Contents) → vs ≡ [] → v.blocks ≡ [] → open_places d ys vs v ++ body_places (suc (length vs)) v ≡ front_places (suc (length vs)) d ys v
-  front-is vs v e f = rw (e, f) (append-nil (front_places 1 d ys v))
+  front-is vs v e f =
+      subst (λ (us : List Contents). open_places d ys us v ++ body_places (suc (length us)) v ≡ front_places (suc (length us)) d ys v) (sym e) (rw f (append-nil (front_places 1 d ys v)))
 
   -- ELEMENT closes
   later_more : (k : ℕ) (vs : List Contents) (v : Contents) → later_places k (vs ++ v ∷ []) ≡ later_places k vs ++ (place (k + length vs) v.line ∷ body_places (k + length vs) v)
