@@ -1,5 +1,7 @@
 // The theorems of the three demands over the definitions of `rules`: specs/ has their statements, proofs/ their proofs. No code runs here.
 
+#![tactic(auto)]
+
 // (A crate has an item of its own.)
 #[derive(Drop)]
 pub struct Promise {
