@@ -21,7 +21,7 @@ use Rattle.rules.specs.Blocks.{top_table, file_table, range_table, base_table, e
 use Rattle.rules.specs.Figures.{figure_table, point_table, text_table}
 use Rattle.rules.specs.Sets.{Point, Layer, Drawing, Symbol, Set, with_now, with_drawing, with_records, with_layer, symbol_own, is_first, arc_of, define_range, known_of}
 use Rattle.rules.specs.VolumesAndTotals.{chained, dated}
-use Rattle.rules.specs.Machine.{Line, Env, in_element, State, top, file, drawing, layer_names, defines, symbol, hide, figures, by_act, room_for, taking, open_top, on_top, close_file, shut_part, on_file, on_drawing, layer_value, on_layer_names, on_defines, new_name, open_symbol, on_symbol, point_at, on_hide}
+use Rattle.rules.specs.Machine.{Line, Env, in_element, State, top, file, drawing, layer_names, defines, symbol, hide, by_act, room_for, taking, open_top, on_top, close_file, shut_part, on_file, on_drawing, layer_value, on_layer_names, on_defines, new_name, open_symbol, on_symbol, point_at, on_hide}
 use Rattle.rules.specs.Sets.{layer_table_of}
 use Rattle.rules.specs.Machine.{file_kinds}
 use Rattle.rules.proofs.Chains.{On, on-unless, on_then, clash, and_left, and_right, all_weaken, total-more}

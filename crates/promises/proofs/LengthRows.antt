@@ -18,7 +18,7 @@ use Rattle.rules.specs.Machine.{State, by_act}
 use Rattle.rules.specs.RecordTable.{rule_at}
 use Rattle.rules.specs.FixedForm.{open_line, opens_block, behind, line_of}
 use Rattle.rules.proofs.Chains.{On, on-map, on-all, on-got, same-eq, clash}
-use Rattle.rules.proofs.Rows.{Row, here, found-row, row-all, row_at, row-did}
+use Rattle.rules.proofs.Rows.{Row, found-row, row-all, row_at, row-did}
 use Rattle.promises.proofs.Forms.{Told, key_ok, keys_ok}
 use Rattle.promises.proofs.RowGood.{entry-good, begin-good, numbers_only}
 use Rattle.promises.proofs.Weights.{open-kind, inner_cost, inner_open, slots_cost, set-cost, held_cost, set-held}

@@ -13,7 +13,7 @@ use Rattle.rules.specs.RefusalNumbers.{Got, got, bad, also}
 use Rattle.rules.specs.Lines.{Rest, Form, ignored, wrong, close, eof, keyed}
 use Rattle.rules.specs.RangeClass.{digits, digits_of, reaches, exceeds, both, knows_wires, skip_of, most_depth}
 use Rattle.rules.specs.Values.{amount_at}
-use Rattle.rules.specs.Rows.{Found, absent, found, find, Slots, Held, part_of, number_of, rows_there, rows_at_limit, Act, shut, act_row, act_unknown, act, complete}
+use Rattle.rules.specs.Rows.{Found, absent, found, find, Slots, Held, part_of, number_of, rows_there, rows_at_limit, Act, act_row, act_unknown, act, complete}
 use Rattle.rules.specs.Blocks.{top_table, file_tables, elec_table, drawing_table, defines_table, symbol_table, element_table}
 use Rattle.rules.specs.Figures.{point_table, text_table, placed_table, placed_tables, least_points}
 use Rattle.rules.specs.Sets.{Point, Wire, Figure, Drawing, Symbol, Contents, Set, head_or, symbol_own, is_first, is_wired, arc_of, range_of, define_range, join_digit, known_of, used_in}
