@@ -1,6 +1,8 @@
 // Document 01 as definitions (specs/), and the types and constant tables that the definitions and the code share.
 #![tactic(auto)]
 
+#![tactic(auto)]
+
 // A middle and a last digit of a three-digit range: of a class, of the file's E_sym, of what a key asks for. "Digits count one by one."
 #[derive(Drop)]
 pub struct Digits {
