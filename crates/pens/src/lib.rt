@@ -10,7 +10,7 @@ pub mod places;
 mod swap;
 
 // Which block is open, and how far the writing is.
-#[derive(Drop)]
+#[derive(Clone, Copy)]
 pub struct Pen {
     // the block
     pub block: u8,
@@ -25,7 +25,7 @@ pub struct Pen {
 }
 
 // A line was written, or there is no room for it.
-#[derive(Drop)]
+#[derive(Clone, Copy)]
 pub enum Drawn {
     Go(Pen),
     Full,

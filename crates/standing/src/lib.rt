@@ -3,7 +3,7 @@
 #![tactic(auto)]
 
 // (A crate has an item of its own.)
-#[derive(Drop)]
+#[derive(Clone, Copy)]
 pub struct Stand {
     pub block: u8,
 }
