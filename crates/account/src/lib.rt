@@ -1,23 +1,25 @@
 // The account: what the reading of a set remembers between two lines (types and constants here, no steps). specs/ says, as the code does it,
 // what one line of each block does to it and which record it completes; the code itself is in groundwork, drawing and elements.
+#![tactic(auto)]
+
 use rules::{Class, LineForm, Refusal, Span};
 
 // A volume: its number, from 1, and the place of its first byte in the spool.
-#[derive(Drop)]
+#[derive(Clone, Copy)]
 pub struct Volume {
     pub number: u8,
     pub at: u32,
 }
 
 // Where the reading stands in a volume: the place of the next line, and how many lines stand before it.
-#[derive(Drop)]
+#[derive(Clone, Copy)]
 pub struct Pos {
     pub at: u32,
     pub line: u32,
 }
 
 // A line: its volume and its number, and whether the set ends with it.
-#[derive(Drop)]
+#[derive(Clone, Copy)]
 pub struct Where {
     pub volume: u8,
     pub line: u32,
@@ -229,7 +231,7 @@ pub const FORMER_ROW: usize = 94;
 pub const KIND_BLOCKS: u8 = 13;
 
 // Which block is open, and how far it is. What its lines held is in the records.
-#[derive(Drop)]
+#[derive(Clone, Copy)]
 pub struct Now {
     // the block
     pub block: u8,
@@ -249,7 +251,7 @@ pub struct Now {
 }
 
 // A line as it is read: what is open, its form, its place, and the class.
-#[derive(Drop)]
+#[derive(Clone, Copy)]
 pub struct LineAt {
     pub here: Now,
     pub form: LineForm,
@@ -311,7 +313,7 @@ pub const MOST_SYMBOLS: usize = 1280;
 pub const MOST_SERIALS: usize = 2280;
 
 // What a line made of it, or its refusal; a line that opens a block to be skipped has that read first.
-#[derive(Drop)]
+#[derive(Clone, Copy)]
 pub enum Step {
     Go(Now),
     Skip(Now),
@@ -319,7 +321,7 @@ pub enum Step {
 }
 
 // What a line made complete: nothing, the record that stands on the scratch at this place, FILE_FORMAT's, or a wire's two.
-#[derive(Drop)]
+#[derive(Clone, Copy)]
 pub enum Complete {
     Nothing,
     Record(usize),
@@ -328,21 +330,21 @@ pub enum Complete {
 }
 
 // A block read to its end, or the refusal.
-#[derive(Drop)]
+#[derive(Clone, Copy)]
 pub enum Left {
     Go(Pos),
     Stop(Refusal),
 }
 
 // A range class, where its number and its wire part are those of one.
-#[derive(Drop)]
+#[derive(Clone, Copy)]
 pub enum MaybeClass {
     Is(Class),
     Not,
 }
 
 // What a skipped line does: nothing, it opens a block, it closes one; or its refusal.
-#[derive(Drop)]
+#[derive(Clone, Copy)]
 pub enum Skipped {
     Passes,
     Deeper,
@@ -351,14 +353,14 @@ pub enum Skipped {
 }
 
 // A layer's name, where it is one; the number of the refusal otherwise.
-#[derive(Drop)]
+#[derive(Clone, Copy)]
 pub enum LayerName {
     Is(Span),
     Bad(u8),
 }
 
 // A volume read to its end, or the refusal.
-#[derive(Drop)]
+#[derive(Clone, Copy)]
 pub enum Through {
     Go(Now),
     Stop(Refusal),

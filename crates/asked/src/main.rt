@@ -45,14 +45,14 @@ fn wide(b: u8) -> u64 {
 }
 
 // The front end that is asked for: its class, and the class's wire part.
-#[derive(Drop)]
+#[derive(Clone, Copy)]
 pub struct Front {
     pub cls: u64,
     pub wire: u64,
 }
 
 // What stands before a question's spool.
-#[derive(Drop)]
+#[derive(Clone, Copy)]
 struct Head {
     what: u8,
     front: Front,

@@ -1,4 +1,6 @@
 // One line of ELEMENT, of the figures of a layer or a symbol, and of the blocks among them, in code.
+#![tactic(auto)]
+
 pub mod element;
 pub mod figures;
 pub mod placed;

@@ -1,5 +1,7 @@
 // What one line enters: its values between commas, its text or its serials, read from the spool by the row of its key and put into the numbers of
 // the record, or the refusal where one of them breaks its rule.
+#![tactic(auto)]
+
 pub mod acts;
 mod by_forms;
 mod contents;
@@ -15,14 +17,14 @@ mod wire_serials;
 use rules::Span;
 
 // One value between commas, or its refusal.
-#[derive(Drop)]
+#[derive(Clone, Copy)]
 pub(crate) enum Val {
     Is(i64),
     Bad(u8),
 }
 
 // A value, and where its piece ends.
-#[derive(Drop)]
+#[derive(Clone, Copy)]
 pub(crate) struct Piece {
     val: Val,
     end: usize,
@@ -30,7 +32,7 @@ pub(crate) struct Piece {
 
 // The forms of values, two decimal digits each, the first one last; how many stand behind the first; the rule across them; and whether a turn
 // that was not written is recorded behind them.
-#[derive(Drop)]
+#[derive(Clone, Copy)]
 pub(crate) struct Forms {
     parts: u64,
     more: u8,
@@ -39,21 +41,21 @@ pub(crate) struct Forms {
 }
 
 // The number of a name among others, from 0.
-#[derive(Drop)]
+#[derive(Clone, Copy)]
 pub enum Index {
     At(u32),
     None,
 }
 
 // What a line holds was put into the lent numbers, or refused.
-#[derive(Drop)]
+#[derive(Clone, Copy)]
 pub(crate) enum Put {
     Done,
     Refused(u8),
 }
 
 // What follows a key: `:{`, or `=` and the rest of the line.
-#[derive(Drop)]
+#[derive(Clone, Copy)]
 pub enum Rest {
     Brace,
     Equals(Span),
@@ -71,7 +73,7 @@ pub const SORT_OPENING: u8 = 3;
 pub const SORT_FORMLESS: u8 = 4;
 
 // What a line with a key is, by the places of its content.
-#[derive(Drop)]
+#[derive(Clone, Copy)]
 pub enum Shape {
     Opener,
     NoContent,
@@ -81,14 +83,14 @@ pub enum Shape {
 }
 
 // The inner block that a line opens, and the line's row.
-#[derive(Drop)]
+#[derive(Clone, Copy)]
 pub struct Inner {
     pub block: u8,
     pub row: u8,
 }
 
 // What a line does in its block: nothing, a row's line entered, the same and an inner block opened, the block closed, a refusal.
-#[derive(Drop)]
+#[derive(Clone, Copy)]
 pub enum Next {
     Stay,
     Entry(u8),

@@ -1,4 +1,6 @@
 // The reader and the rewriter for the plot server's host, written in C: include/ploverdell.h.
+#![tactic(auto)]
+
 ghost use Rattle.std.specs.Prelude.{◌≡◌, length};
 ghost use Rattle.rules.specs.Answers.{answerCount, readAnswer, readTable, packed, checkAnswer, rewriteAnswer, rewriteOutput};
 

@@ -1,5 +1,7 @@
 // The keys as the rewriter writes them: each from the byte string that the reader compares it with (tables).
 // Made by tools/make-keys from the definitions' rows: change those, or the script.
+#![tactic(auto)]
+
 ghost use Rattle.std.specs.Prelude.{false, true};
 ghost use Rattle.rules.specs.Blocks.{top_table, file_table, range_table, base_table, elec_table, sym_table, later_table, drawing_table, defines_table, symbol_table, element_table};
 ghost use Rattle.rules.specs.Figures.{layer_table, figure_table, point_table, text_table, placed_table, wire_table};

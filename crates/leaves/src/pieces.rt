@@ -8,20 +8,20 @@ use crate::bytes::{digit, find};
 use crate::{Decimal, DecimalPiece, Reading};
 
 // A run of digits: the number, and where it ends.
-#[derive(Drop)]
+#[derive(Clone, Copy)]
 struct RunEnd {
     value: u64,
     end: usize,
 }
 
 // A decimal without its sign, in ten-thousandths, and where it ends.
-#[derive(Drop)]
+#[derive(Clone, Copy)]
 struct SizeEnd {
     value: u64,
     end: usize,
 }
 
-#[derive(Drop)]
+#[derive(Clone, Copy)]
 enum SizePiece {
     Is(SizeEnd),
     Not,

@@ -1,4 +1,6 @@
 // The splitting of a spool for callers from C, so that its speed can be measured beside plain C: bench/split.c.
+#![tactic(auto)]
+
 ghost use Rattle.std.specs.Prelude.{◌≡◌};
 ghost use Rattle.rules.specs.Spool.{volumes_of};
 ghost use Rattle.lines.specs.LineEnds.{first_unsound};

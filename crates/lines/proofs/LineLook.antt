@@ -395,7 +395,7 @@ module _ (volume line at : ℕ) (l : List ℕ) (n k : ℕ) (b : Blanks l n) (r :
       equal-form end = sketch_form volume line (equal_sketch (at + n) (k - n) end)
 
       equal_rest : rest_form volume line (at + n) (drop n l) ≡ cond (allowed (drop n l)) (equal-form (at + n + length (drop n l))) (refused_as 4 volume line)
-      equal_rest = forms.rest-equal volume line (at + n) (drop n l) (k - n) (later_equal n k (key_end_of (scan (drop n l))) (r.key ∙ equal-key))
+      equal_rest = forms.rest_equal volume line (at + n) (drop n l) (k - n) (later_equal n k (key_end_of (scan (drop n l))) (r.key ∙ equal-key))
 
       equal-clean : allowed (drop k l) ≡ allowed (drop (k + 1) l)
       equal-clean = ap allowed (by_place l k h) ∙ rw e

@@ -47,7 +47,7 @@ module _ (at : ℕ) (l : List ℕ) where
   sketch-empty h v n = ignored-form v n ∙ sym (laws.form-empty v n at l h)
 
   pub sketch_comment : (length l ≡ 0 → ⊥) → get_or l 0 0 ≡ 35 → Sketched at l (keyless_sketch sketch_ignored)
-  sketch_comment h e v n = ignored-form v n ∙ sym (forms.line-comment v n at l h e)
+  sketch_comment h e v n = ignored-form v n ∙ sym (forms.line_comment v n at l h e)
 
   module _ (n k : ℕ) (b : Blanks l n) (r : KeyRun l n k) (c : get_or l 0 0 ≡ 35 → ⊥) where
     pub sketch-bare : k ≡ length l → Sketched at l (keyless_sketch (bare_kind (drop n l)))
@@ -59,10 +59,10 @@ module _ (at : ℕ) (l : List ℕ) where
     module _ (j : ℕ) where
       module _ (h : k < length l) (e : get_or l k 0 ≡ 61) (w : CleanRun l (k + 1) j) where
         pub sketch_equal : j ≡ length l → Sketched at l (equal_sketch (at + n) (k - n) (at + length l))
-        sketch_equal q v i = sym (laws.form-equal v i at l n k b r c j h e w q)
+        sketch_equal q v i = sym (laws.form_equal v i at l n k b r c j h e w q)
 
         pub sketch_equal-wrong : (j ≡ length l → ⊥) → Sketched at l (keyless_sketch sketch_bad_bytes)
-        sketch_equal-wrong q v i = wrong-form v i ∙ sym (laws.form-equal-wrong v i at l n k b r c j h e w q)
+        sketch_equal-wrong q v i = wrong-form v i ∙ sym (laws.form_equal-wrong v i at l n k b r c j h e w q)
 
       module _ (f : opens_here (drop k l) ≡ true) (w : CleanRun l (k + 2) j) where
         pub sketch-brace : j ≡ length l → Sketched at l (brace_sketch (at + n) (k - n) (at + length l))

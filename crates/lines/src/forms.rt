@@ -28,7 +28,7 @@ const SKETCH_NO_FORM: u32 = 6;
 
 // A line in plain numbers: its kind, the place and the size of its key, the place and the length of what stands behind its `=`. Its form
 // is made of them once, as forms that are made in many branches are copied through memory.
-#[derive(Drop)]
+#[derive(Clone, Copy)]
 struct Sketch {
     kind: u32,
     first: u32,

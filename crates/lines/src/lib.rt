@@ -1,8 +1,10 @@
 // The spool's volumes and the lines of a volume: document 01, "Spool (H)".
+#![tactic(auto)]
+
 use rules::LineForm;
 
 // What stands before a volume: a good head and how many bytes it says follow, or something else.
-#[derive(Drop)]
+#[derive(Clone, Copy)]
 pub enum Head {
     Holds(u32),
     Bad,
@@ -18,14 +20,14 @@ pub struct Layout {
 }
 
 // A line of a volume: its form, the place of the next line's first byte, and whether it is the volume's last.
-#[derive(Drop)]
+#[derive(Clone, Copy)]
 pub struct Seen {
     pub form: LineForm,
     pub next: u32,
     pub last: bool,
 }
 
-#[derive(Drop)]
+#[derive(Clone, Copy)]
 pub enum Look {
     End,
     Line(Seen),

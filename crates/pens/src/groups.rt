@@ -24,7 +24,7 @@ pub(crate) const ROW_DIREC: u8 = 2;
 const ROW_TEXT: u8 = 5;
 
 // What is open where a pass over a wire's lines is: the wire alone, or a text in it, with the notes of that text's two rows.
-#[derive(Drop)]
+#[derive(Clone, Copy)]
 struct Opened {
     text: bool,
     first: u32,

@@ -1,5 +1,7 @@
 // The pens, one for each block that can be open: what a line of an accepted set writes in the fixed form, "keys in the order above", at once (by
 // prints) or, noted till then, where its block closes.
+#![tactic(auto)]
+
 pub mod closing;
 mod groups;
 pub mod keys;
@@ -8,7 +10,7 @@ pub mod places;
 mod swap;
 
 // Which block is open, and how far the writing is.
-#[derive(Drop)]
+#[derive(Clone, Copy)]
 pub struct Pen {
     // the block
     pub block: u8,
@@ -23,7 +25,7 @@ pub struct Pen {
 }
 
 // A line was written, or there is no room for it.
-#[derive(Drop)]
+#[derive(Clone, Copy)]
 pub enum Drawn {
     Go(Pen),
     Full,

@@ -21,7 +21,7 @@ use Rattle.rules.specs.Sets.{Set, nothing_yet}
 use Rattle.rules.specs.Machine.{limited_to, Line, Env, top}
 use Rattle.rules.specs.LineByLine.{Outcome, refused, accepted, run}
 use Rattle.rules.specs.RecordTable.{records_of, table_of, width}
-use Rattle.rules.specs.Answers.{Listed, listed, noLines, listVolumes, outcomeOfLines, outcomeOfVolumes, outcomeOf, outcomeAt, classOr, answerNumber, answerCount, refusal, readOutcome, recordsIn, answerWith, readRecords, readAnswer, readTable, names_in, writtenIn, rewriteOutcome, written, fitOutput, rewriteAnswer, rewriteBytes, rewriteOutput}
+use Rattle.rules.specs.Answers.{Listed, listed, noLines, listVolumes, outcomeOfLines, outcomeOfVolumes, outcomeOf, fullClass, outcomeAt, classOr, answerNumber, answerCount, refusal, readOutcome, recordsIn, answerWith, readRecords, readAnswer, readTable, names_in, writtenIn, rewriteOutcome, written, fitOutput, rewriteAnswer, rewriteBytes, rewriteOutput}
 use Rattle.rules.proofs.Chains.{clash, by_cond, cond_same}
 use Rattle.rules.proofs.Runs.{not-accepted}
 use Rattle.promises.specs.DemandOne.{by_reader, by_rewriter, Answered, accepted_with, refused_with, Filled, Reads, Written, Rewrites, DemandOne}
@@ -143,7 +143,7 @@ output_only len count (accepted s) r w e t = fit-short (leb count len) len count
 
 rewriter-told : (spool : List ℕ) → OutcomeTold (rewriteOutcome spool)
 unfolding rewriteOutcome
-rewriter-told spool = told-spool _ spool
+rewriter-told spool = told-spool (record { class = fullClass; limit = none }) spool
 
 rewrites : (len : ℕ) (spool : List ℕ) → Rewrites len spool
 unfolding written rewriteAnswer rewriteBytes rewriteOutput

@@ -173,8 +173,8 @@ module _ (symbols one other : Digits) (m : Option ℕ) where
       let inner = ltb-true (inner_of b.rule.holds) 4 (row-all (λ r. ltb (inner_of r.holds) 4) b.row (few-blocks (is_single s) (is_wired s) w)) in
       rw (← b.inner) inner
 
-  opened-same : (st : State) (en : ℕ → Value → Got State) (op op' : ℕ → ℕ → Value → Got State) (cl : Unit {0} → Got State) (a : Act)
-      → ((i j : ℕ) (v : Value) → a ≡ begin i j v → op i j v ≡ op' i j v) → by_act st en op cl a ≡ by_act st en op' cl a
+  opened-same : (st : State) (en : ℕ → Value → Got State) (op op' : ℕ → ℕ → Value → Got State) (cl : Got State) (a : Act)
+      → ((i j : ℕ) (v : Value) → a ≡ begin i j v → op i j v ≡ op' i j v) → by_act st en op (λ _. cl) a ≡ by_act st en op' (λ _. cl) a
   opened-same st en op op' cl stay h = refl
   opened-same st en op op' cl (entry j v) h = refl
   opened-same st en op op' cl (begin i j v) h = h i j v refl

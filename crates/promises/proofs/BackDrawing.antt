@@ -113,6 +113,7 @@ module _ (next : List ℕ) (k : Known) (S : Set) (n : ℕ) (d : Drawing) (g : Go
   takes-drawing i r v (there (there (there (there (there here))))) e h u f = enters-drawing i r v (there (there (there (there (there here))))) h u f refl
   takes-drawing i r v (there (there (there (there (there (there here)))))) e h u f = enters-drawing i r v (there (there (there (there (there (there here)))))) h u f refl
   takes-drawing i r v (there (there (there (there (there (there (there here))))))) e h u f = opens-layers r v (there (there (there (there (there (there (there here))))))) h u f refl
+  takes-drawing _ r v (there (there (there (there (there (there (there (there w)))))))) e h u f = elim w [ ]
 
   layers-read : opens_at drawing_table (bare_slots d.own) 7 ≡ true
   unfolding drawing_table

@@ -189,6 +189,7 @@ module _ (next : List ℕ) (k : Known) (S : Set) (first : is_first S ≡ true) (
         go : (b : Bool) → eqb (amount_at v 0) 1 ≡ b → Reads next (inside u) (show_value k r v in_range) (inside (set u 5 (some (bare_value v))))
         go true o = takes-sym r v h u o (there (there (there (there (there here))))) f refl (part-closed sym_table sym' (get_or range 5 none) v e o sym-good)
         go false o = enters-one i r v (there (there (there (there (there here))))) h u f o
+    takes-range _ r v (there (there (there (there (there (there w)))))) e h u f = elim w [ ]
 
     read-range : Reads next (file S 0 (a ∷ blank range_table ∷ blank base_table ∷ blank elec_table ∷ blank sym_table ∷ []) 1) (λ ls. show_slots k range_table range in_range (bytes "}" ∷ ls))
         (file S 0 (a ∷ bare_slots range ∷ bare_slots base ∷ bare_slots elec ∷ bare_slots sym' ∷ []) 0)

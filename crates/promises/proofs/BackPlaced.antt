@@ -183,6 +183,7 @@ module _ (next : List ℕ) (S : Set) (n m : ℕ) (fs : List Figure) (own inner :
   takes-placed i r v (there (there (there (there (there here))))) e g u f =
       enters-placed i r v (there (there (there (there (there here))))) g u f refl
       (ap (λ s. none_of (own_serial s) seen) (serials-bare v) ∙ ap (λ o. none_of (own_serial (serials_of (slot_value o))) seen) (sym e) ∙ new)
+  takes-placed _ r v (there (there (there (there (there (there w)))))) e g u f = elim w [ ]
 
   placed_end : with_text (bare_slots own) ≡ bare_slots own ∷ bare_slots inner ∷ []
   unfolding placed_table

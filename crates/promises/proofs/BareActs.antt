@@ -134,16 +134,16 @@ act-bare k t d full (keyed key c) = go (find key t)
     go (found j r) = row-bare k d (get_or full j false) j r c
 
 -- ── what an act does ──
-pub by-act : (here : State) (n n' : ℕ → Value → Got State) (o o' : ℕ → ℕ → Value → Got State) (c c' : Unit {0} → Got State) (a : Act)
-    → ((j : ℕ) (v : Value) → map_g bare_state (n j v) ≡ n' j (bare_value v)) → ((i j : ℕ) (v : Value) → map_g bare_state (o i j v) ≡ o' i j (bare_value v)) → map_g bare_state (c tt) ≡ c' tt
-    → map_g bare_state (by_act here n o c a) ≡ by_act (bare_state here) n' o' c' (bare_act a)
+pub by-act : (here : State) (n n' : ℕ → Value → Got State) (o o' : ℕ → ℕ → Value → Got State) (c c' : Got State) (a : Act)
+    → ((j : ℕ) (v : Value) → map_g bare_state (n j v) ≡ n' j (bare_value v)) → ((i j : ℕ) (v : Value) → map_g bare_state (o i j v) ≡ o' i j (bare_value v)) → map_g bare_state c ≡ c'
+    → map_g bare_state (by_act here n o (λ _. c) a) ≡ by_act (bare_state here) n' o' (λ _. c') (bare_act a)
 by-act here n n' o o' c c' stay en eo ec = refl
 by-act here n n' o o' c c' (entry j v) en eo ec = en j v
 by-act here n n' o o' c c' (begin i j v) en eo ec = eo i j v
 by-act here n n' o o' c c' shut en eo ec = ec
 by-act here n n' o o' c c' (refuse m) en eo ec = refl
 
-pub by-line : (k : Known) (t : List Rule) (d : Digits) (full : List Bool) (f : Form) (here : State) (n n' : ℕ → Value → Got State) (o o' : ℕ → ℕ → Value → Got State) (c c' : Unit {0} → Got State)
-    → ((j : ℕ) (v : Value) → map_g bare_state (n j v) ≡ n' j (bare_value v)) → ((i j : ℕ) (v : Value) → map_g bare_state (o i j v) ≡ o' i j (bare_value v)) → map_g bare_state (c tt) ≡ c' tt
-    → map_g bare_state (by_act here n o c (act k t d full f)) ≡ by_act (bare_state here) n' o' c' (act k t d full (bare_form f))
+pub by-line : (k : Known) (t : List Rule) (d : Digits) (full : List Bool) (f : Form) (here : State) (n n' : ℕ → Value → Got State) (o o' : ℕ → ℕ → Value → Got State) (c c' : Got State)
+    → ((j : ℕ) (v : Value) → map_g bare_state (n j v) ≡ n' j (bare_value v)) → ((i j : ℕ) (v : Value) → map_g bare_state (o i j v) ≡ o' i j (bare_value v)) → map_g bare_state c ≡ c'
+    → map_g bare_state (by_act here n o (λ _. c) (act k t d full f)) ≡ by_act (bare_state here) n' o' (λ _. c') (act k t d full (bare_form f))
 by-line k t d full f here n n' o o' c c' en eo ec = rw (act-bare k t d full f) (by-act here n n' o o' c c' (act k t d full f) en eo ec)

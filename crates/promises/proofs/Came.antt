@@ -25,7 +25,8 @@ use Rattle.rules.specs.PlacedSymbol.{on_unknown, new_serial, on_placed, on_place
 use Rattle.rules.specs.Wires.{joins_ends, last_edge, joined, on_wire}
 use Rattle.rules.specs.LineByLine.{step_in, completes, next_volume, step, accepted, then_run, run}
 use Rattle.rules.proofs.Chains.{On, on-unless, on-cond, on-map, on-also, on-got, on_weaken}
-use Rattle.rules.proofs.OnActs.{on-by_act, on-layers, on-taking, on-shut, on_skip}
+use Rattle.promises.proofs.ClosedActs.{on-by_act}
+use Rattle.rules.proofs.OnActs.{on-layers, on-taking, on-shut, on_skip}
 use Rattle.rules.proofs.Rows.{Row, row_below}
 use Rattle.rules.proofs.Runs.{not-accepted, finish-ended}
 use Rattle.promises.proofs.Count.{add_step, added, inv-start}
@@ -39,9 +40,9 @@ use Rattle.promises.proofs.OnEof.{on-eof}
 use Rattle.promises.proofs.OnWires.{by-line}
 
 -- an act, with what it entered
-on-entry : (P : State → Type 0) (now : State) (entered : ℕ → Value → Got State) (opened : ℕ → ℕ → Value → Got State) (closed : Unit {0} → Got State) (a : Act)
-    → P now → ((j : ℕ) (v : Value) → a ≡ entry j v → On P (entered j v)) → ((i j : ℕ) (v : Value) → On P (opened i j v)) → On P (closed tt)
-    → On P (by_act now entered opened closed a)
+on-entry : (P : State → Type 0) (now : State) (entered : ℕ → Value → Got State) (opened : ℕ → ℕ → Value → Got State) (closed : Got State) (a : Act)
+    → P now → ((j : ℕ) (v : Value) → a ≡ entry j v → On P (entered j v)) → ((i j : ℕ) (v : Value) → On P (opened i j v)) → On P closed
+    → On P (by_act now entered opened (λ _. closed) a)
 on-entry P now entered opened closed stay p q r s = p
 on-entry P now entered opened closed (entry j v) p q r s = q j v refl
 on-entry P now entered opened closed (begin i j v) p q r s = r i j v

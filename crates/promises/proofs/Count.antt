@@ -31,7 +31,8 @@ use Rattle.rules.proofs.Runs.{not-accepted, finish-ended}
 use Rattle.rules.proofs.Rows.{row_below}
 use Rattle.promises.specs.Acceptance.{Place, place, place_of}
 use Rattle.promises.proofs.RecordLines.{point_places, edge_places, figure_places, figures_places, symbol_places, symbols_places, drawn_places, head_places, block_places, body_places, later_places, front_places, set_places, records-at}
-use Rattle.rules.proofs.OnActs.{on-by_act, on-layers, on-taking, on-shut, on_skip}
+use Rattle.promises.proofs.ClosedActs.{on-by_act}
+use Rattle.rules.proofs.OnActs.{on-layers, on-taking, on-shut, on_skip}
 use Rattle.promises.proofs.OnEof.{on-eof}
 use Rattle.promises.proofs.OnWires.{on-wire}
 use Rattle.promises.proofs.CountActs.{Begun, act-begin}
@@ -93,7 +94,8 @@ module _ (d : Drawing) (ys : List Symbol) where
 
   -- SYMBOL_DEFINE closes
   front-is : (vs : List Contents) (v : Contents) → vs ≡ [] → v.blocks ≡ [] → open_places d ys vs v ++ body_places (suc (length vs)) v ≡ front_places (suc (length vs)) d ys v
-  front-is vs v e f = rw (e, f) (append-nil (front_places 1 d ys v))
+  front-is vs v e f =
+      subst (λ (us : List Contents). open_places d ys us v ++ body_places (suc (length us)) v ≡ front_places (suc (length us)) d ys v) (sym e) (rw f (append-nil (front_places 1 d ys v)))
 
   -- ELEMENT closes
   later_more : (k : ℕ) (vs : List Contents) (v : Contents) → later_places k (vs ++ v ∷ []) ≡ later_places k vs ++ (place (k + length vs) v.line ∷ body_places (k + length vs) v)
@@ -131,8 +133,8 @@ closing true c q = clash q refl
 closing false c q = or_left c false refl q
 
 -- a line that closes a block, or is refused
-pub on-close : (P : State → Type 0) (st : State) (en : ℕ → Value → Got State) (op : ℕ → ℕ → Value → Got State) (cl : Unit {0} → Got State) (b : Bool)
-    → On P (cl tt) → On P (by_act st en op cl (cond b shut (refuse 8)))
+pub on-close : (P : State → Type 0) (st : State) (en : ℕ → Value → Got State) (op : ℕ → ℕ → Value → Got State) (cl : Got State) (b : Bool)
+    → On P cl → On P (by_act st en op (λ _. cl) (cond b shut (refuse 8)))
 on-close P st en op cl true w = w
 on-close P st en op cl false w = tt
 

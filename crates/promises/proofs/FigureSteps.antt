@@ -25,7 +25,8 @@ use Rattle.rules.specs.RecordTable.{kind_wire, kind_wire_more}
 use Rattle.rules.specs.Wires.{joins_ends, last_edge, join_of, joined, new_number, with_element, with_once, is_element_row, on_element, on_wire}
 use Rattle.rules.specs.LineByLine.{step_in, completes, next_volume, step, accepted, then_run, run}
 use Rattle.rules.proofs.Chains.{On, on-unless, on-cond, on-map, on-also, on-all, on_weaken, by_cond, clash}
-use Rattle.rules.proofs.OnActs.{on-by_act, on-layers, on-taking, on-shut, on_skip}
+use Rattle.promises.proofs.ClosedActs.{on-by_act}
+use Rattle.rules.proofs.OnActs.{on-layers, on-taking, on-shut, on_skip}
 use Rattle.rules.proofs.Rows.{Row, found-row, row_below}
 use Rattle.rules.proofs.Runs.{not-accepted, finish-ended}
 use Rattle.promises.proofs.CountActs.{act-begin}

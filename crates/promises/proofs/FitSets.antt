@@ -1,6 +1,5 @@
 -- Sets in which only rows of text hold text, and what they hold of it is known: S says what of a text and its place.
 use Prim.Native.Nat.{ℕ, ◌<◌}
-use Prim.Native.String as S
 use mathlib.Core.Bool.{Bool, true, false}
 use mathlib.Core.List.{List, [], ◌∷◌}
 use mathlib.Core.Option.{Option, none, some}

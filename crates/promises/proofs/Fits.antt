@@ -73,18 +73,18 @@ module _ (S : ℕ → List ℕ → Type 0) where
   FitState (skipping s k fs n b d) = FitOwned s fs b
   FitState (ended s) = FitSet S s
 
-  by-act : {t : List Rule} (a : Act) (z : State) (n : ℕ → Value → Got State) (o : ℕ → ℕ → Value → Got State) (c : Unit {0} → Got State) → FitAct S t a → FitState z
-      → ((j : ℕ) (v : Value) → FitRow S t j v → On FitState (n j v)) → ((i j : ℕ) (v : Value) → FitRow S t j v → On FitState (o i j v)) → On FitState (c tt)
-      → On FitState (by_act z n o c a)
+  by-act : {t : List Rule} (a : Act) (z : State) (n : ℕ → Value → Got State) (o : ℕ → ℕ → Value → Got State) (c : Got State) → FitAct S t a → FitState z
+      → ((j : ℕ) (v : Value) → FitRow S t j v → On FitState (n j v)) → ((i j : ℕ) (v : Value) → FitRow S t j v → On FitState (o i j v)) → On FitState c
+      → On FitState (by_act z n o (λ _. c) a)
   by-act stay z n o c f h en eo ec = h
   by-act (entry j v) z n o c f h en eo ec = en j v f
   by-act (begin i j v) z n o c f h en eo ec = eo i j v f
   by-act shut z n o c f h en eo ec = ec
   by-act (refuse m) z n o c f h en eo ec = tt
 
-  by-line : (k : Known) (t : List Rule) (d : Digits) (full : List Bool) (f : Form) → FitForm S f → (z : State) (n : ℕ → Value → Got State) (o : ℕ → ℕ → Value → Got State) (c : Unit {0} → Got State)
-      → FitState z → ((j : ℕ) (v : Value) → FitRow S t j v → On FitState (n j v)) → ((i j : ℕ) (v : Value) → FitRow S t j v → On FitState (o i j v)) → On FitState (c tt)
-      → On FitState (by_act z n o c (act k t d full f))
+  by-line : (k : Known) (t : List Rule) (d : Digits) (full : List Bool) (f : Form) → FitForm S f → (z : State) (n : ℕ → Value → Got State) (o : ℕ → ℕ → Value → Got State) (c : Got State)
+      → FitState z → ((j : ℕ) (v : Value) → FitRow S t j v → On FitState (n j v)) → ((i j : ℕ) (v : Value) → FitRow S t j v → On FitState (o i j v)) → On FitState c
+      → On FitState (by_act z n o (λ _. c) (act k t d full f))
   by-line k t d full f x z n o c h en eo ec = by-act (act k t d full f) z n o c (act-fit S k t d full f x) h en eo ec
 
   abbrev room : Env → ℕ → Set → Bool

@@ -36,7 +36,7 @@ pub laid-texts : (at : ℕ) (names : List (List ℕ)) (ts : List Text) → lengt
 laid-texts at [] [] e a = tt
 laid-texts at [] (t ∷ ts) e a = absurd (let z : 0 ≡ suc (length ts) = e in omega arith)
 laid-texts at (n ∷ names) [] e a = absurd (let z : suc (length names) ≡ 0 = e in omega arith)
-laid-texts at (n ∷ names) (t ∷ ts) e a = (lines-back t (and_left (all fine t) _ a), laid-texts _ names ts (let z : suc (length names) ≡ suc (length ts) = e in omega arith) (and_right (all fine t) _ a))
+laid-texts at (n ∷ names) (t ∷ ts) e a = (lines-back t (and_left (all fine t) _ a), laid-texts (at + 12 + length (unlines t)) names ts (let z : suc (length names) ≡ suc (length ts) = e in omega arith) (and_right (all fine t) _ a))
 
 -- the name that follows goes by the names alone
 abbrev pub nexts_of_names : List (List ℕ) → List (List ℕ)

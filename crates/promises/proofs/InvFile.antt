@@ -8,7 +8,7 @@ use native.Mathlib.Omega.{arith}
 use lib.Dec.{eqb}
 use lib.ListN.{get_or, set}
 use borrow.Author.Tests.{eqb-true}
-use Rattle.rules.specs.Base.{all, is_some}
+use Rattle.rules.specs.Base.{is_some}
 use Rattle.rules.specs.Values.{Value, Known}
 use Rattle.rules.specs.Rows.{Rule, Slots, blank, Held, part_of, enter, rows_there, Act, begin, complete}
 use Rattle.rules.specs.Blocks.{file_table, range_table, base_table, elec_table, sym_table, later_table, file_tables, around, blank_held}

@@ -10,7 +10,7 @@ use lib.ListN.{length, get_or, set, length-append}
 use lib.Seq.{get_or-set_other}
 use borrow.Author.Tests.{not-true, eqb-true, leb-false, le-leb, ltb-true}
 use Rattle.rules.specs.declared.Digits.{Digits}
-use Rattle.rules.specs.Base.{all, is_nil, is_some, among, flat}
+use Rattle.rules.specs.Base.{is_nil, is_some, among, flat}
 use Rattle.rules.specs.RefusalNumbers.{bad, unless}
 use Rattle.rules.specs.Lines.{Rest, equals, Form, ignored, wrong, close, eof, keyed, shape_of, free_shape_of}
 use Rattle.rules.specs.RangeClass.{digits_of, reaches}

@@ -10,7 +10,7 @@ use lib.ListN.{get_or, set}
 use lib.Seq.{get_or-set_other}
 use borrow.Author.Tests.{eqb-true, eqb-false}
 use Rattle.rules.specs.declared.Digits.{Digits}
-use Rattle.rules.specs.Base.{all, is_some}
+use Rattle.rules.specs.Base.{is_some}
 use Rattle.rules.specs.RangeClass.{both}
 use Rattle.rules.specs.Values.{Value, Known, serials_of}
 use Rattle.rules.specs.Rows.{Rule, Slots, Held, part_of, enter, rows_there, slot_value, held, Act, begin, complete}

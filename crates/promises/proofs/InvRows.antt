@@ -116,8 +116,8 @@ unknown-told k d c t full x = go (has_form (shape_of x))
 
 -- what an act does, from what it says
 pub on-by_act : (P : State → Type 0) (k : Known) (d c : Digits) (t : List Rule) (full : List Bool) (stays : State) (en : ℕ → Value → Got State) (op : ℕ → ℕ → Value → Got State)
-    (cl : Unit {0} → Got State) (a : Act) → ActTold k d c t full a → P stays → ((j : ℕ) (v : Value) → Took k d t full j v false (entry j v) → On P (en j v))
-    → ((i j : ℕ) (v : Value) → Took k d t full j v true (begin i j v) → On P (op i j v)) → (complete c t full ≡ true → On P (cl tt)) → On P (by_act stays en op cl a)
+    (cl : Got State) (a : Act) → ActTold k d c t full a → P stays → ((j : ℕ) (v : Value) → Took k d t full j v false (entry j v) → On P (en j v))
+    → ((i j : ℕ) (v : Value) → Took k d t full j v true (begin i j v) → On P (op i j v)) → (complete c t full ≡ true → On P cl) → On P (by_act stays en op (λ _. cl) a)
 on-by_act P k d c t full stays en op cl stay w p x y z = p
 on-by_act P k d c t full stays en op cl (entry j v) w p x y z = x j v w
 on-by_act P k d c t full stays en op cl (begin i j v) w p x y z = y i j v w
@@ -184,8 +184,8 @@ act-told k d t full n (keyed key x) ok tells fit = go (find key t) refl
 
 -- a line in a block of the table t
 pub on-act : (P : State → Type 0) (k : Known) (d : Digits) (t : List Rule) (full : List Bool) (n : ℕ) (f : Form) → keys_ok t ≡ true → Tells n f → n ≤ 512 → (stays : State)
-    (en : ℕ → Value → Got State) (op : ℕ → ℕ → Value → Got State) (cl : Unit {0} → Got State) → P stays → ((j : ℕ) (v : Value) → Took k d t full j v false (entry j v) → On P (en j v))
-    → ((i j : ℕ) (v : Value) → Took k d t full j v true (begin i j v) → On P (op i j v)) → (complete d t full ≡ true → On P (cl tt)) → On P (by_act stays en op cl (act k t d full f))
+    (en : ℕ → Value → Got State) (op : ℕ → ℕ → Value → Got State) (cl : Got State) → P stays → ((j : ℕ) (v : Value) → Took k d t full j v false (entry j v) → On P (en j v))
+    → ((i j : ℕ) (v : Value) → Took k d t full j v true (begin i j v) → On P (op i j v)) → (complete d t full ≡ true → On P cl) → On P (by_act stays en op (λ _. cl) (act k t d full f))
 on-act P k d t full n f ok tells fit stays en op cl = on-by_act P k d d t full stays en op cl (act k t d full f) (act-told k d t full n f ok tells fit)
 
 -- ── a test over a table's rows, with their numbers ──

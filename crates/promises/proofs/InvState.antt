@@ -14,7 +14,7 @@ use Rattle.rules.specs.Values.{Known, nums, is_layer_id}
 use Rattle.rules.specs.Rows.{Slots, Held, part_of, number_of}
 use Rattle.rules.specs.Blocks.{file_table, range_table, sym_table, later_table, drawing_table, most_layers, symbol_table}
 use Rattle.rules.specs.Figures.{most_points, point_table, text_table, wire_table, wire_text_table, wire_text_row, wire_serial_row}
-use Rattle.rules.specs.Sets.{Point, Figure, chain, Layer, Drawing, Symbol, LayerBlock, Contents, Set, head_or, first_contents, is_first, arc_of, range_of, define_range, is_single, symbol_name_of, known_of, own_serial, figure_serial, serials_of_volume, serials_in, used_in, is_wired, wire_range, Wire, own_number}
+use Rattle.rules.specs.Sets.{Point, Figure, Layer, Drawing, Symbol, LayerBlock, Contents, Set, head_or, first_contents, is_first, arc_of, range_of, define_range, is_single, symbol_name_of, known_of, own_serial, figure_serial, serials_of_volume, serials_in, used_in, is_wired, wire_range, Wire, own_number}
 use Rattle.rules.specs.VolumesAndTotals.{chained}
 use Rattle.rules.specs.Machine.{Home, in_element, in_layer, State, top, file, drawing, layer_names, defines, symbol, hide, elements, figures, successive, texts, placing, skipping, ended, is_layer, wire_block, wire_unread}
 use Rattle.rules.specs.PlacedSymbol.{none_of}

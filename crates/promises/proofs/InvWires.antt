@@ -11,7 +11,7 @@ use lib.ListN.{length, get_or, set}
 use lib.Seq.{get_or-set_other}
 use borrow.Author.Tests.{eqb-true, eqb-false}
 use Rattle.rules.specs.declared.Digits.{Digits}
-use Rattle.rules.specs.Base.{all, is_none, is_nil}
+use Rattle.rules.specs.Base.{is_none, is_nil}
 use Rattle.rules.specs.RangeClass.{reaches, both}
 use Rattle.rules.specs.Lines.{Rest, Form, ignored, wrong, close, eof, keyed, shape_of, has_form}
 use Rattle.rules.specs.RefusalNumbers.{bad, unless}

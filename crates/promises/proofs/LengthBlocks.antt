@@ -21,7 +21,7 @@ use Rattle.rules.specs.Blocks.{top_table, file_table, range_table, base_table, e
 use Rattle.rules.specs.Figures.{figure_table, point_table, text_table}
 use Rattle.rules.specs.Sets.{Point, Layer, Drawing, Symbol, Set, with_now, with_drawing, with_records, with_layer, symbol_own, is_first, arc_of, define_range, known_of}
 use Rattle.rules.specs.VolumesAndTotals.{chained, dated}
-use Rattle.rules.specs.Machine.{Line, Env, in_element, State, top, file, drawing, layer_names, defines, symbol, hide, figures, by_act, room_for, taking, open_top, on_top, close_file, shut_part, on_file, on_drawing, layer_value, on_layer_names, on_defines, new_name, open_symbol, on_symbol, point_at, on_hide}
+use Rattle.rules.specs.Machine.{Line, Env, in_element, State, top, file, drawing, layer_names, defines, symbol, hide, by_act, room_for, taking, open_top, on_top, close_file, shut_part, on_file, on_drawing, layer_value, on_layer_names, on_defines, new_name, open_symbol, on_symbol, point_at, on_hide}
 use Rattle.rules.specs.Sets.{layer_table_of}
 use Rattle.rules.specs.Machine.{file_kinds}
 use Rattle.rules.proofs.Chains.{On, on-unless, on_then, clash, and_left, and_right, all_weaken, total-more}
@@ -125,13 +125,13 @@ non-least false false e = omega arith
 
 module _ (K : Known) (n : ℕ) where
   -- such a table's lines weigh the same at K
-  pub on-plain : (P : State → Type 0) (here : State) (en : ℕ → Value → Got State) (op : ℕ → ℕ → Value → Got State) (cl : Unit {0} → Got State) (k : Known) (d : Digits)
+  pub on-plain : (P : State → Type 0) (here : State) (en : ℕ → Value → Got State) (op : ℕ → ℕ → Value → Got State) (cl : Got State) (k : Known) (d : Digits)
       (t : List Rule) (full : List Bool) (f : Form) → plain_table t ≡ true → Told n f
       → P here
       → ((j : ℕ) (r : Rule) (v : Value) → Row t j r → Took K r (get_or full j false) v n false → On P (en j v))
       → ((j : ℕ) (r : Rule) (v : Value) → Row t j r → Took K r (get_or full j false) v n true → On P (op (inner_of r.holds) j v))
-      → (1 ≤ n → On P (cl tt))
-      → On P (by_act here en op cl (act k t d full f))
+      → (1 ≤ n → On P cl)
+      → On P (by_act here en op (λ _. cl) (act k t d full f))
   on-plain P here en op cl k d t full f plain tells st ent beg clo =
       on-act P here en op cl k K d n t full f
       (all_weaken plain_rule (λ r. key_ok r.key) (λ r e. and_left (key_ok r.key) _ e) t plain)

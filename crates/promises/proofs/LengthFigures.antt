@@ -205,7 +205,7 @@ module _ (K : Known) (n : ℕ) where
     unknown-next e k c =
         on-cond (Next K (placing s h fs m (symbol_block o) 0) n) (exceeds (range_of s) e.class.symbols) _ _
         (λ _. skips (skip_of k c))
-        (λ _. on-unknown (Next K (placing s h fs m (symbol_block o) 0) n) (placing s h fs m (symbol_block o) 0) (λ j v. bad 6) (λ i j v. bad 6) (λ _. bad 6) (known_of s) (known_of s) (digits 0 0) n c)
+        (λ _. on-unknown (Next K (placing s h fs m (symbol_block o) 0) n) (placing s h fs m (symbol_block o) 0) (λ j v. bad 6) (λ i j v. bad 6) (bad 6) (known_of s) (known_of s) (digits 0 0) n c)
       where
         skips : (z : Skip) → On (Next K (placing s h fs m (symbol_block o) 0) n) (by_skip z (got (placing s h fs m (symbol_block o) 0)) (skip_deeper 0 (skipping s h fs m (symbol_block o) 1)))
         skips passes = (tt, omega arith)

@@ -18,7 +18,7 @@ use Rattle.rules.specs.Machine.{State, by_act}
 use Rattle.rules.specs.RecordTable.{rule_at}
 use Rattle.rules.specs.FixedForm.{open_line, opens_block, behind, line_of}
 use Rattle.rules.proofs.Chains.{On, on-map, on-all, on-got, same-eq, clash}
-use Rattle.rules.proofs.Rows.{Row, here, found-row, row-all, row_at, row-did}
+use Rattle.rules.proofs.Rows.{Row, found-row, row-all, row_at, row-did}
 use Rattle.promises.proofs.Forms.{Told, key_ok, keys_ok}
 use Rattle.promises.proofs.RowGood.{entry-good, begin-good, numbers_only}
 use Rattle.promises.proofs.Weights.{open-kind, inner_cost, inner_open, slots_cost, set-cost, held_cost, set-held}
@@ -96,17 +96,17 @@ key-least : (n : ℕ) (k : List ℕ) (x : Rest) → Told n (keyed k x) → lengt
 key-least n k brace t = omega arith
 key-least n k (equals p c) t = omega (arith, t.0)
 
-module _ (P : State → Type 0) (here : State) (en : ℕ → Value → Got State) (op : ℕ → ℕ → Value → Got State) (cl : Unit {0} → Got State) (k k' : Known) (d : Digits) (n : ℕ) where
+module _ (P : State → Type 0) (here : State) (en : ℕ → Value → Got State) (op : ℕ → ℕ → Value → Got State) (cl : Got State) (k k' : Known) (d : Digits) (n : ℕ) where
   -- under a row that was found, read with k, weighed with k'
   pub on_row : (full : Bool) (j : ℕ) (r : Rule) (x : Rest) → key_ok r.key ≡ true → ((v : Value) → line_of k r v ≡ line_of k' r v) → Told n (keyed r.key x)
       → P here
       → ((v : Value) → Took k' r full v n false → On P (en j v))
       → ((v : Value) → Took k' r full v n true → act_row k d full j r x ≡ begin (inner_of r.holds) j v → On P (op (inner_of r.holds) j v))
-      → (1 ≤ n → On P (cl tt))
-      → On P (by_act here en op cl (act_row k d full j r x))
+      → (1 ≤ n → On P cl)
+      → On P (by_act here en op (λ _. cl) (act_row k d full j r x))
   on_row full j r x key same t st ent beg clo = go (act_row k d full j r x) refl
     where
-      go : (a : Act) → act_row k d full j r x ≡ a → On P (by_act here en op cl a)
+      go : (a : Act) → act_row k d full j r x ≡ a → On P (by_act here en op (λ _. cl) a)
       go stay e = st
       go (entry j' v) e =
           let (p, o, f, w) = entry-good k d full j r x n j' v key t.0 t.1 e in
@@ -120,10 +120,10 @@ module _ (P : State → Type 0) (here : State) (en : ℕ → Value → Got State
       go (refuse m) e = tt
 
   -- a key that is not known is refused
-  pub on-unknown : (x : Rest) → On P (by_act here en op cl (act_unknown x))
+  pub on-unknown : (x : Rest) → On P (by_act here en op (λ _. cl) (act_unknown x))
   on-unknown x = go (has_form (shape_of x))
     where
-      go : (b : Bool) → On P (by_act here en op cl (or_refuse (unless b 5 (bad 6))))
+      go : (b : Bool) → On P (by_act here en op (λ _. cl) (or_refuse (unless b 5 (bad 6))))
       go true = tt
       go false = tt
 
@@ -131,19 +131,19 @@ module _ (P : State → Type 0) (here : State) (en : ℕ → Value → Got State
       → P here
       → ((j : ℕ) (r : Rule) (v : Value) → Row t j r → Took k' r (get_or full j false) v n false → On P (en j v))
       → ((j : ℕ) (r : Rule) (v : Value) → Row t j r → Took k' r (get_or full j false) v n true → (x : Rest) → act_row k d (get_or full j false) j r x ≡ begin (inner_of r.holds) j v → On P (op (inner_of r.holds) j v))
-      → (1 ≤ n → On P (cl tt))
-      → On P (by_act here en op cl (act k t d full f))
+      → (1 ≤ n → On P cl)
+      → On P (by_act here en op (λ _. cl) (act k t d full f))
   on-act t full ignored keys same tells st ent beg clo = st
   on-act t full (wrong m) keys same tells st ent beg clo = tt
   on-act t full close keys same tells st ent beg clo = go (complete d t full)
     where
-      go : (b : Bool) → On P (by_act here en op cl (cond b shut (refuse 8)))
+      go : (b : Bool) → On P (by_act here en op (λ _. cl) (cond b shut (refuse 8)))
       go true = clo tells.0
       go false = tt
   on-act t full eof keys same tells st ent beg clo = tt
   on-act t full (keyed key x) keys same tells st ent beg clo = go (find key t) refl
     where
-      go : (g : Found) → find key t ≡ g → On P (by_act here en op cl (act_found k d full x g))
+      go : (g : Found) → find key t ≡ g → On P (by_act here en op (λ _. cl) (act_found k d full x g))
       go absent e = on-unknown x
       go (found j r) e =
           let (w, q) = found-row key t j r e in

@@ -17,6 +17,7 @@ pub mod BareForm
 pub mod Calls
 pub mod Came
 pub mod Circles
+pub mod ClosedActs
 pub mod Costs
 pub mod Count
 pub mod CountActs

@@ -13,7 +13,7 @@ use Rattle.rules.specs.Sets.{Wire, Figure, plain, chain, lettering, placed, wire
 use Rattle.rules.specs.Machine.{Home, in_element, in_layer, State, top, file, drawing, layer_names, defines, symbol, hide, elements, figures, successive, texts, placing, skipping, ended, symbol_block, wire_block, wire_unread, Owned}
 use Rattle.rules.proofs.Chains.{by_cond, nil-map}
 use Rattle.promises.specs.Acceptance.{Place, place}
-use Rattle.promises.proofs.RecordLines.{point_places, figure_places, figures_places, block_places, body_places, later_places, front_places, set_places}
+use Rattle.promises.proofs.RecordLines.{point_places, figure_places, figures_places, symbol_places, drawn_places, head_places, block_places, body_places, later_places, front_places, set_places}
 use Rattle.promises.proofs.CountState.{number, file_places, open_places, within, in_figures, owned_places, shown}
 use Rattle.promises.proofs.Lower.{text_least, wire_text_least, lower_read, ranges_of, lower_text, read_on, skips_on, lower_figure, lower_figures, lower_block, lower_contents, lower_set, lower_so_far, lower_owned, lower_wire, lower}
 
@@ -78,6 +78,10 @@ module _ (took : ℕ) (c : Class) where
   number_same : (s : Set) → number (lower_set took c s) ≡ number s
   number_same s = rw (length-map s.volumes (lower_contents c (ranges_of s)))
 
+  -- places that go by the volume's number
+  by-number : (at : ℕ → List Place) (s : Set) → Fewer (at (number (lower_set took c s))) (at (number s))
+  by-number at s = rw (number_same s) (le_refl (length (at (number s))))
+
   closed-fewer : (s : Set) → Fewer (set_places s.drawing s.symbols (lower_set took c s).volumes) (set_places s.drawing s.symbols s.volumes)
   closed-fewer s = set-fewer c (ranges_of s) s.drawing s.symbols s.volumes
 
@@ -89,7 +93,7 @@ module _ (took : ℕ) (c : Class) where
       (open-fewer c (ranges_of s) s.drawing s.symbols s.volumes s.now) (body-fewer c (ranges_of s) (number s) s.now))
 
   in-fewer : (s : Set) (h : Home) (fs : List Figure) → Fewer (in_figures (lower_set took c s) h (lower_so_far c (ranges_of s) h fs)) (in_figures s h fs)
-  in-fewer s (in_element y) fs = rw (number_same s) (le_refl (length (in_figures s (in_element y) fs)))
+  in-fewer s (in_element y) fs = by-number (λ k. (front_places k s.drawing s.symbols s.now ++ (place k y.line ∷ point_places k y.hidden)) ++ figures_places k fs) s
   in-fewer s (in_layer k) fs =
       fewer-append (within (lower_set took c s)) (figures_places (number (lower_set took c s)) (lower_figures c (ranges_of s) fs)) (within s) (figures_places (number s) fs)
       (within-fewer s) (rw (number_same s) (figures-fewer c (ranges_of s) (number s) fs))
@@ -127,22 +131,22 @@ module _ (took : ℕ) (c : Class) where
   pub fewer : (st : State) → Fewer (shown (lower took c st)) (shown st)
   fewer (top s zero) = closed-fewer s
   fewer (top s (suc zero)) = le_refl 2
-  fewer (top s (suc (suc zero))) = rw (number_same s) (le_refl (length (shown (top s 2))))
+  fewer (top s (suc (suc zero))) = by-number (λ k. head_places k s.now ++ drawn_places k s.drawing) s
   fewer (top s (suc (suc (suc zero)))) = within-fewer s
   fewer (top s (suc (suc (suc (suc k))))) = closed-fewer s
   fewer (file s n h p) =
       fewer-append (set_places s.drawing s.symbols (lower_set took c s).volumes) (file_places (lower_set took c s).volumes n) (set_places s.drawing s.symbols s.volumes) (file_places s.volumes n)
       (closed-fewer s) (rw (number_same s, nil-map (lower_contents c (ranges_of s)) s.volumes) (le_refl (length (file_places s.volumes n))))
-  fewer (drawing s d) = rw (number_same s) (le_refl (length (shown (drawing s d))))
-  fewer (layer_names s d) = rw (number_same s) (le_refl (length (shown (layer_names s d))))
-  fewer (defines s b) = rw (number_same s) (le_refl (length (shown (defines s b))))
-  fewer (symbol s y) = rw (number_same s) (le_refl (length (shown (symbol s y))))
-  fewer (hide s y ps) = rw (number_same s) (le_refl (length (shown (hide s y ps))))
+  fewer (drawing s d) = by-number (λ k. head_places k s.now ++ drawn_places k d) s
+  fewer (layer_names s d) = by-number (λ k. head_places k s.now ++ drawn_places k d) s
+  fewer (defines s b) = by-number (λ k. front_places k s.drawing s.symbols s.now) s
+  fewer (symbol s y) = by-number (λ k. front_places k s.drawing s.symbols s.now ++ symbol_places k y) s
+  fewer (hide s y ps) = by-number (λ k. front_places k s.drawing s.symbols s.now ++ (place k y.line ∷ (figures_places k y.figures ++ point_places k ps))) s
   fewer (elements s) = within-fewer s
   fewer (figures s h fs) = in-fewer s h fs
   fewer (successive s h fs n ps) =
       open-figure s h fs (place (number (lower_set took c s)) n ∷ point_places (number (lower_set took c s)) ps) (place (number s) n ∷ point_places (number s) ps)
-      (rw (number_same s) (le_refl (length (place (number s) n ∷ point_places (number s) ps))))
+      (by-number (λ k. place k n ∷ point_places k ps) s)
   fewer (texts s h fs n o) = open-figure s h fs (place (number (lower_set took c s)) n ∷ []) (place (number s) n ∷ []) (le_refl 1)
   fewer (placing s k fs n (symbol_block o) zero) = open_owned s k fs n (symbol_block o)
   fewer (placing s k fs n (symbol_block o) (suc p)) =

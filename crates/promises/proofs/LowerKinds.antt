@@ -26,7 +26,8 @@ use Rattle.rules.specs.Wires.{joined, joins_ends, last_edge, group_at, is_group_
 use Rattle.rules.specs.LineByLine.{step_in, completes, next_volume, step}
 use Rattle.rules.proofs.Chains.{and_left, and_right, and_true, by_cond, On, on-unless, on-cond, on-map, on-also, on_weaken, all_append}
 use Rattle.rules.proofs.Rows.{found-row, row_below}
-use Rattle.rules.proofs.OnActs.{on-by_act, on-layers, on-taking, on-shut, on_skip}
+use Rattle.promises.proofs.ClosedActs.{on-by_act}
+use Rattle.rules.proofs.OnActs.{on-layers, on-taking, on-shut, on_skip}
 use Rattle.promises.proofs.OnEof.{on-eof}
 use Rattle.promises.proofs.LowerRows.{RowAct, row-act, entered, opened, refused}
 
@@ -130,8 +131,8 @@ act-below k t d full close = by_cond (Below (length t)) (complete d t full) (λ 
 act-below k t d full eof = tt
 act-below k t d full (keyed key x) = found_below k t d full key x (find key t) refl
 
-on-entry : (P : State → Type 0) (now : State) (en : ℕ → Value → Got State) (op : ℕ → ℕ → Value → Got State) (cl : Unit {0} → Got State) (n : ℕ) (a : Act) → Below n a
-    → P now → ((j : ℕ) (v : Value) → j < n → On P (en j v)) → ((i j : ℕ) (v : Value) → On P (op i j v)) → On P (cl tt) → On P (by_act now en op cl a)
+on-entry : (P : State → Type 0) (now : State) (en : ℕ → Value → Got State) (op : ℕ → ℕ → Value → Got State) (cl : Got State) (n : ℕ) (a : Act) → Below n a
+    → P now → ((j : ℕ) (v : Value) → j < n → On P (en j v)) → ((i j : ℕ) (v : Value) → On P (op i j v)) → On P cl → On P (by_act now en op (λ _. cl) a)
 on-entry P now en op cl n stay h p q r s = p
 on-entry P now en op cl n (entry j v) h p q r s = q j v h
 on-entry P now en op cl n (begin i j v) h p q r s = r i j v

@@ -14,7 +14,7 @@ use Rattle.rules.specs.Base.{same, is_some}
 use Rattle.rules.specs.RefusalNumbers.{Got, got, bad, unless, map_g}
 use Rattle.rules.specs.Lines.{Rest, Form, ignored, wrong, close, eof, keyed, shape_of, has_form}
 use Rattle.rules.specs.RangeClass.{digits, reaches, exceeds, both, hides, Skip, passes, deeper, no_form, skip_of}
-use Rattle.rules.specs.Values.{Value, text}
+use Rattle.rules.specs.Values.{Value}
 use Rattle.rules.specs.Rows.{Rule, Found, absent, found, find, Slots, Held, part_of, enter, rows_there, shape_for, Act, stay, entry, begin, shut, refuse, or_refuse, act_row, act_unknown, act_found, present, complete, act}
 use Rattle.rules.specs.Figures.{placed_table, placed_tables, text_table}
 use Rattle.rules.specs.Sets.{Figure, placed, Set, first_contents, range_of, known_of}

@@ -12,7 +12,7 @@ use Rattle.rules.specs.Values.{Num}
 use Rattle.rules.specs.Rows.{Slots, Held}
 use Rattle.rules.specs.Sets.{Point, Figure, plain, chain, lettering, passed, Drawing, Symbol, Contents, Wire, Set, with_now, with_volume, with_block, with_records, wires_of}
 use Rattle.rules.specs.VolumesAndTotals.{dated}
-use Rattle.rules.specs.Machine.{unlimited, Line, Env, Home, in_element, in_layer, State, file, drawing, elements, figures, placing, skipping, open_top, at_eof, on_top, close_file, shut_part, on_file, on_drawing, on_layer_names, on_defines, open_symbol, on_symbol, on_hide, on_elements, home_table, close_figures, open_figure, on_figures, on_successive, on_texts}
+use Rattle.rules.specs.Machine.{unlimited, Line, Env, Home, in_element, in_layer, State, file, elements, figures, placing, skipping, open_top, at_eof, on_top, close_file, shut_part, on_file, on_drawing, on_layer_names, on_defines, open_symbol, on_symbol, on_hide, on_elements, home_table, close_figures, open_figure, on_figures, on_successive, on_texts}
 use Rattle.rules.specs.PlacedSymbol.{by_skip, skip_ended, skip_shut, on_skipping}
 use Rattle.rules.specs.Machine.{Owned, symbol_block, wire_block, wire_unread, begin_wire}
 use Rattle.rules.specs.RecordTable.{kind_wire, kind_wire_more}

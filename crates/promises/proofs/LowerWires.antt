@@ -100,11 +100,11 @@ full-same c d (suc (suc (suc (suc (suc i))))) at h w =
         get_or-drop wire_text_row (rows_there o) i false ∙ ap (λ (m : ℕ). get_or (rows_there o) m false) q ∙ get_or-map is_some o (suc (suc (suc (suc (suc i))))) none
 
 -- a key that is not known there is refused
-refused-key : {P : Type 0} (st : State) (en : ℕ → Value → Got State) (op : ℕ → ℕ → Value → Got State) (cl : Unit {0} → Got State) (x : Rest) (s' : State)
-    → by_act st en op cl (act_unknown x) ≡ got s' → P
+refused-key : {P : Type 0} (st : State) (en : ℕ → Value → Got State) (op : ℕ → ℕ → Value → Got State) (cl : Got State) (x : Rest) (s' : State)
+    → by_act st en op (λ _. cl) (act_unknown x) ≡ got s' → P
 refused-key st en op cl x s' e = go (has_form (shape_of x)) e
   where
-    go : {P : Type 0} (b : Bool) → by_act st en op cl (or_refuse (unless b 5 (bad 6))) ≡ got s' → P
+    go : {P : Type 0} (b : Bool) → by_act st en op (λ _. cl) (or_refuse (unless b 5 (bad 6))) ≡ got s' → P
     go true e = never e
     go false e = never e
 

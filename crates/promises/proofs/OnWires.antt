@@ -17,7 +17,8 @@ use Rattle.rules.specs.Sets.{Wire, Figure, wired, Set, wires_of, known_of}
 use Rattle.rules.specs.Machine.{Line, Env, State, in_layer, figures, wire_block, placing, skipping}
 use Rattle.rules.specs.Wires.{nums_alike, new_number, with_once, past_elements, is_group_row, is_element_row, wire_full, on_element, on_attribute, on_wire_act, on_wire_unknown, on_wire_key, on_wire_own, on_wire}
 use Rattle.rules.proofs.Chains.{On, on-unless, on-cond, on-map, on-all, by_cond}
-use Rattle.rules.proofs.OnActs.{on-by_act, on_skip}
+use Rattle.promises.proofs.ClosedActs.{on-by_act}
+use Rattle.rules.proofs.OnActs.{on_skip}
 use Rattle.rules.proofs.Rows.{Row, found-row}
 use Rattle.promises.proofs.SerialRows.{at_row, OneRow, RowAct, row-act}
 

@@ -1,5 +1,5 @@
 -- The records of an accepted spool point at the texts that its set keeps.
-use Prim.Native.Nat.{ℕ, ◌+◌}
+use Prim.Native.Nat.{ℕ, ◌+◌, ◌/◌}
 use mathlib.Core.List.{List, [], ◌∷◌, ◌++◌, map, append_assoc}
 use mathlib.Core.Option.{Option, none, some}
 use mathlib.Core.Path.{◌≡◌, refl, sym, ◌∙◌, ap, ap₂, subst}
@@ -10,9 +10,9 @@ use Rattle.rules.specs.declared.Class.{Class}
 use Rattle.rules.specs.Spool.{volumes_of}
 use Rattle.rules.specs.RangeClass.{class_of}
 use Rattle.rules.specs.Sets.{Set}
-use Rattle.rules.specs.Machine.{Env}
+use Rattle.rules.specs.Machine.{Env, limited_to}
 use Rattle.rules.specs.LineByLine.{refused, accepted}
-use Rattle.rules.specs.RecordTable.{records_of}
+use Rattle.rules.specs.RecordTable.{width, records_of}
 use Rattle.rules.specs.Answers.{outcomeOfVolumes, readOutcome, readRecords}
 use Rattle.rules.proofs.Runs.{not-accepted}
 use Rattle.promises.specs.PlacesApart.{text_places, kind_of}
@@ -73,11 +73,11 @@ texts-kept class wire len spool s e = go (class_of class wire) refl
     go none p = not-accepted (sym (no-class len spool class wire p) ∙ e)
     go (some c) p =
         subst (λ rs. ShowTexts spool rs (texts_kept s)) (sym (taken len spool class wire c s p e).0)
-        (read-shows _ c spool s (sym (outcome-at len spool class wire c p) ∙ e))
+        (read-shows (limited_to c (len / width)) c spool s (sym (outcome-at len spool class wire c p) ∙ e))
 
 pub wire-texts : WireTexts
 wire-texts class wire len spool s e = go (class_of class wire) refl
   where
     go : (o : Option Class) → class_of class wire ≡ o → WiresStand spool (texts_of_wires s)
     go none p = not-accepted (sym (no-class len spool class wire p) ∙ e)
-    go (some c) p = read-stands _ spool s (sym (outcome-at len spool class wire c p) ∙ e)
+    go (some c) p = read-stands (limited_to c (len / width)) spool s (sym (outcome-at len spool class wire c p) ∙ e)

@@ -1,5 +1,5 @@
 -- The records of an accepted set show each circle's turn as it is written in their own lines, and -1 where none is.
-use Prim.Native.Nat.{ℕ, zero, suc, ◌+◌, ◌≤◌, ◌<◌}
+use Prim.Native.Nat.{ℕ, zero, suc, ◌+◌, ◌/◌, ◌≤◌, ◌<◌}
 use mathlib.Core.Bool.{Bool, true, false, not}
 use mathlib.Core.List.{List, [], ◌∷◌, ◌++◌, map}
 use mathlib.Core.Option.{some}
@@ -21,8 +21,8 @@ use Rattle.rules.specs.Blocks.{file_table, range_table, base_table, elec_table, 
 use Rattle.rules.specs.Figures.{layer_table, figure_table, point_table, text_table, placed_table, wire_table}
 use Rattle.rules.specs.Sets.{Point, Edge, Figure, plain, chain, lettering, placed, wired, passed, Layer, Symbol, Contents, Set, is_single, is_wired}
 use Rattle.rules.specs.RangeClass.{digits, digits_of}
-use Rattle.rules.specs.RecordTable.{View, view_of, plain_view, padded, put_slot, start, file_records, drawing_record, layer_records, rule_at, line_record, point_records, mark_unread, wire_start, unread_numbers, edge_record, edge_records, figure_records, inner_records, symbol_records, block_records, body_records, later_records, records_from, records_of}
-use Rattle.rules.specs.Machine.{Env}
+use Rattle.rules.specs.RecordTable.{width, View, view_of, plain_view, padded, put_slot, start, file_records, drawing_record, layer_records, rule_at, line_record, point_records, mark_unread, wire_start, unread_numbers, edge_record, edge_records, figure_records, inner_records, symbol_records, block_records, body_records, later_records, records_from, records_of}
+use Rattle.rules.specs.Machine.{Env, limited_to}
 use Rattle.rules.specs.LineByLine.{accepted}
 use Rattle.rules.specs.Answers.{outcomeOfVolumes}
 use Rattle.rules.proofs.Chains.{by_cond, map-got, keep-got}
@@ -348,7 +348,7 @@ read_says e c spool s f h =
 pub turns : Turns
 turns class wire len spool s e =
     let r = read-sound class wire len spool s e in
-    subst (AtTheirLines spool) (sym r.records) (read_says _ r.at spool s r.fits (sym (outcome-at len spool class wire r.at r.listed) ∙ e))
+    subst (AtTheirLines spool) (sym r.records) (read_says (limited_to r.at (len / width)) r.at spool s r.fits (sym (outcome-at len spool class wire r.at r.listed) ∙ e))
 
 pub call-turns : CallTurns
 call-turns call n e =

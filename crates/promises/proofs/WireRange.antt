@@ -13,7 +13,7 @@ use Rattle.rules.specs.RefusalNumbers.{Got, got, bad, also}
 use Rattle.rules.specs.Lines.{Rest, Form, ignored, wrong, close, eof, keyed}
 use Rattle.rules.specs.RangeClass.{digits, digits_of, reaches, exceeds, both, knows_wires, skip_of, most_depth}
 use Rattle.rules.specs.Values.{amount_at}
-use Rattle.rules.specs.Rows.{Found, absent, found, find, Slots, Held, part_of, number_of, rows_there, rows_at_limit, Act, shut, act_row, act_unknown, act, complete}
+use Rattle.rules.specs.Rows.{Found, absent, found, find, Slots, Held, part_of, number_of, rows_there, rows_at_limit, Act, act_row, act_unknown, act, complete}
 use Rattle.rules.specs.Blocks.{top_table, file_tables, elec_table, drawing_table, defines_table, symbol_table, element_table}
 use Rattle.rules.specs.Figures.{point_table, text_table, placed_table, placed_tables, least_points}
 use Rattle.rules.specs.Sets.{Point, Wire, Figure, Drawing, Symbol, Contents, Set, head_or, symbol_own, is_first, is_wired, arc_of, range_of, define_range, join_digit, known_of, used_in}
@@ -23,7 +23,8 @@ use Rattle.rules.specs.PlacedSymbol.{on_unknown, new_serial, on_placed, on_place
 use Rattle.rules.specs.Wires.{joined, joins_ends, last_edge, on_wire}
 use Rattle.rules.specs.LineByLine.{step_in, is_ignored, is_close, is_eof, completes, next_volume, step, accepted, then_run, run}
 use Rattle.rules.proofs.Chains.{and_false, clash, by_cond, cond_same, On, on-unless, on-cond, on-map, on-also, on-got, nil-snoc}
-use Rattle.rules.proofs.OnActs.{on-by_act, on-layers, on-taking, on-shut, on_skip}
+use Rattle.promises.proofs.ClosedActs.{on-by_act}
+use Rattle.rules.proofs.OnActs.{on-layers, on-taking, on-shut, on_skip}
 use Rattle.rules.proofs.Runs.{not-accepted, finish-ended, head-snoc, head-file}
 use Rattle.promises.specs.WireParts.{go_on, read_up_to}
 use Rattle.promises.proofs.Count.{both_left, closing, on-close}

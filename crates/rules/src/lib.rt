@@ -1,21 +1,22 @@
 // Document 01 as definitions (specs/), and the types and constant tables that the definitions and the code share.
+#![tactic(auto)]
 
 // A middle and a last digit of a three-digit range: of a class, of the file's E_sym, of what a key asks for. "Digits count one by one."
-#[derive(Drop)]
+#[derive(Clone, Copy)]
 pub struct Digits {
     pub middle: u8,
     pub last: u8,
 }
 
 // A range class: what a front end knows of symbols, and of wires (its wire part).
-#[derive(Drop)]
+#[derive(Clone, Copy)]
 pub struct Class {
     pub symbols: Digits,
     pub wires: Digits,
 }
 
 // The first broken rule: its number in document 01, and where.
-#[derive(Drop)]
+#[derive(Clone, Copy)]
 pub struct Refusal {
     pub number: u8,
     pub volume: u8,
@@ -23,34 +24,34 @@ pub struct Refusal {
 }
 
 // What the reader and the rewriter answer: the count written (records, or bytes), or the refusal.
-#[derive(Drop)]
+#[derive(Clone, Copy)]
 pub enum Answer {
     Accepted(u32),
     Refused(Refusal),
 }
 
 // A part of the spool: the place of its first byte, from 0, and its length.
-#[derive(Drop)]
+#[derive(Clone, Copy)]
 pub struct Span {
     pub at: u32,
     pub len: u32,
 }
 
 // A line `key:{`.
-#[derive(Drop)]
+#[derive(Clone, Copy)]
 pub struct Opener {
     pub key: Span,
 }
 
 // A line `key=` with whatever stands behind it.
-#[derive(Drop)]
+#[derive(Clone, Copy)]
 pub struct Equation {
     pub key: Span,
     pub rest: Span,
 }
 
 // A line's form with the places of its parts, or the refusal (4 or 5) with volume and line.
-#[derive(Drop)]
+#[derive(Clone, Copy)]
 pub enum LineForm {
     Ignored,
     Close,

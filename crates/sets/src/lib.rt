@@ -1,4 +1,6 @@
 // The set: its volumes one after the other, read and written.
+#![tactic(auto)]
+
 mod reader;
 mod rewriter;
 

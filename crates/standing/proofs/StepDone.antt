@@ -78,20 +78,20 @@ module _ (c : Class) (spool following : List ℕ) (form : LineForm) (w : Where) 
   on-top fv fl b h e =
       let lends = h.lends in
       subst Promise (sym (e ∙ ap headed lends.back))
-      (promise.top-promise c spool k form w following d (top_lent d₁.marks d₁.used d₁.header lends.rec) fv fl refl h.did r b lends.did h.answer)
+      (promise.top_promise c spool k form w following d (top_lent d₁.marks d₁.used d₁.header lends.rec) fv fl refl h.did r b lends.did h.answer)
 
   on-drawing : d.now.block ≡ 2 → OnDrawing spool form d.now d.tally d.symbols d.layers d.marks d₁.marks d.scratch d₁.scratch r
       → d₁ ≡ marked d₁.scratch → Promise d₁
-  on-drawing b h e = subst Promise (sym (e ∙ ap marked h.back)) (promise.drawing-promise c spool k form w following d d₁.marks h.rec r b h.did)
+  on-drawing b h e = subst Promise (sym (e ∙ ap marked h.back)) (promise.drawing_promise c spool k form w following d d₁.marks h.rec r b h.did)
 
   on-names : d.now.block ≡ 3 → OnNames spool form d.now d.tally d.symbols d.layers w d₁.tally d₁.layers d.scratch d₁.scratch r
       → d₁ ≡ named d₁.scratch → Promise d₁
   on-names b h e =
-      subst Promise (sym (e ∙ ap named h.0.back)) (promise.names-promise c spool k form w following d d₁.tally d₁.layers h.0.rec h.1 r b h.0.did)
+      subst Promise (sym (e ∙ ap named h.0.back)) (promise.names_promise c spool k form w following d d₁.tally d₁.layers h.0.rec h.1 r b h.0.did)
 
   on-defines : d.now.block ≡ 4 → OnDefines spool form d.now d.tally d.symbols d.layers w d.marks d₁.marks d.scratch d₁.scratch r
       → d₁ ≡ marked d₁.scratch → Promise d₁
-  on-defines b h e = subst Promise (sym (e ∙ ap marked h.back)) (promise.defines-promise c spool k form w following d d₁.marks h.rec r b h.did)
+  on-defines b h e = subst Promise (sym (e ∙ ap marked h.back)) (promise.defines_promise c spool k form w following d d₁.marks h.rec r b h.did)
 
   on-symbol : length spool ≤ 61440 → d.now.block ≡ 5
       → OnSymbol spool form d.now d.tally d.symbols d.layers d₁.tally d₁.symbols d.marks d₁.marks d.scratch d₁.scratch r
@@ -105,10 +105,10 @@ module _ (c : Class) (spool following : List ℕ) (form : LineForm) (w : Where) 
       ∙ ap (defined (tally_named d.tally r) (symbols_named d.tally h.rec d.symbols r)) h.back
       ∙ sym (named-desk d d₁.marks h.rec r)
       ))
-      (promise.symbol-promise c spool k form w following d short d₁.marks h.rec r b h.did.0)
+      (promise.symbol_promise c spool k form w following d short d₁.marks h.rec r b h.did.0)
 
   on-hide : d.now.block ≡ 6 → OnHide spool form d.now d.tally d.symbols d.layers w d.scratch d₁.scratch r → d₁ ≡ unmarked d₁.scratch → Promise d₁
-  on-hide b h e = subst Promise (sym (e ∙ ap unmarked h.back)) (promise.hide-promise c spool k form w following d h.rec r b h.did)
+  on-hide b h e = subst Promise (sym (e ∙ ap unmarked h.back)) (promise.hide_promise c spool k form w following d h.rec r b h.did)
 
   on-figures : d.now.block ≡ 8
       → OnFigures spool form d.now d.tally d.symbols d.layers c w d₁.tally d.marks d₁.marks d.inner d₁.inner d.scratch d₁.scratch r
@@ -120,21 +120,21 @@ module _ (c : Class) (spool following : List ℕ) (form : LineForm) (w : Where) 
       e ∙ ap (λ (x : List ℕ). counted x d₁.scratch) (h.tallied ∙ ap (tally_after d.tally) h.answer) ∙ ap (counted after) (h.begun ∙ ap (begun_put w f) h.lends.back) in
       subst (λ (x : Step). LinePromise c spool k form w d d₁ following x) (sym h.answer)
       (subst (λ (x : Desk). LinePromise c spool k form w d x following (begun_step c f)) (sym is)
-      (promise.figures-promise c spool k form w following d d₁.marks d₁.inner h.lends.rec f b h.lends.did))
+      (promise.figures_promise c spool k form w following d d₁.marks d₁.inner h.lends.rec f b h.lends.did))
 
   on_chain : d.now.block ≡ 9 → OnChain spool form d.now d.tally d.symbols d.layers w d.scratch d₁.scratch r → d₁ ≡ unmarked d₁.scratch → Promise d₁
-  on_chain b h e = subst Promise (sym (e ∙ ap unmarked h.back)) (promise.chain-promise c spool k form w following d h.recs r b h.did)
+  on_chain b h e = subst Promise (sym (e ∙ ap unmarked h.back)) (promise.chain_promise c spool k form w following d h.recs r b h.did)
 
   on-text : d.now.block ≡ 10 → OnText spool form d.now d.tally d.symbols d.layers d.inner d₁.inner d.scratch d₁.scratch r
       → d₁ ≡ written d₁.scratch → Promise d₁
-  on-text b h e = subst Promise (sym (e ∙ ap written h.back)) (promise.text-promise c spool k form w following d d₁.inner h.rec r b h.did)
+  on-text b h e = subst Promise (sym (e ∙ ap written h.back)) (promise.text_promise c spool k form w following d d₁.inner h.rec r b h.did)
 
   on-placed : d.now.block ≡ 11
       → OnPlaced spool form d.now d.tally d.symbols d.layers c (lent d.tally d.serials d.marks d.inner) (lent d₁.tally d₁.serials d₁.marks d₁.inner) d.scratch d₁.scratch r
       → d₁ ≡ set-down d₁.scratch → Promise d₁
   on-placed b h e =
       subst Promise (sym (e ∙ ap set-down h.back))
-      (promise.placed-promise c spool k form w following d (lent d₁.tally d₁.serials d₁.marks d₁.inner) h.rec r b h.did)
+      (promise.placed_promise c spool k form w following d (lent d₁.tally d₁.serials d₁.marks d₁.inner) h.rec r b h.did)
 
   on-wire : d.now.block ≡ 12
       → OnWire spool form d.now d.tally d.symbols d.layers c w (lent d.tally d.serials d.marks d.inner) (lent d₁.tally d₁.serials d₁.marks d₁.inner) d.scratch d₁.scratch r
@@ -144,16 +144,16 @@ module _ (c : Class) (spool following : List ℕ) (form : LineForm) (w : Where) 
 
   pub done_promise : length spool ≤ 61440 → w.volume < 4294967296 → w.line < 4294967296 → Done c spool following form w d d₁ r → Promise d₁
   done_promise short fv fl (top b h e) = on-top fv fl b h e
-  done_promise short fv fl (file b h e) = subst Promise (sym e) (promise.file-promise c spool k form w following d d₁.tally d₁.marks d₁.header refl r b h)
+  done_promise short fv fl (file b h e) = subst Promise (sym e) (promise.file_promise c spool k form w following d d₁.tally d₁.marks d₁.header refl r b h)
   done_promise short fv fl (drawing b h e) = on-drawing b h e
   done_promise short fv fl (layer-names b h e) = on-names b h e
   done_promise short fv fl (defines b h e) = on-defines b h e
   done_promise short fv fl (symbol b h e) = on-symbol short b h e
   done_promise short fv fl (hide b h e) = on-hide b h e
-  done_promise short fv fl (elements b h e) = subst Promise (sym e) (promise.element-promise c spool k form w following d d₁.tally d₁.used d₁.used_all r b h)
+  done_promise short fv fl (elements b h e) = subst Promise (sym e) (promise.element_promise c spool k form w following d d₁.tally d₁.used d₁.used_all r b h)
   done_promise short fv fl (figures b h e) = on-figures b h e
   done_promise short fv fl (chain b h e) = on_chain b h e
   done_promise short fv fl (text b h e) = on-text b h e
   done_promise short fv fl (placed b h e) = on-placed b h e
   done_promise short fv fl (wire b h e) = on-wire b h e
-  done_promise short fv fl (other b q e) = subst (λ (x : Step). LinePromise c spool k form w d d₁ following x) (sym q) (promise.other-promise c spool k form w following d d₁ b)
+  done_promise short fv fl (other b q e) = subst (λ (x : Step). LinePromise c spool k form w d d₁ following x) (sym q) (promise.other_promise c spool k form w following d d₁ b)

@@ -169,7 +169,7 @@ module _ (c : Class) (spool : List ℕ) (k : ℕ) (form : LineForm) (w : Where) 
     };
     lengths = z.lengths;
     countable = y.countable;
-    file = λ b. subst (λ (i : ℕ). FileReady (eqb i 1) d.now d.tally d.marks d.header) (sym vk) (places.file-ready c spool k d at st z b);
+    file = λ b. subst (λ (i : ℕ). FileReady (eqb i 1) d.now d.tally d.marks d.header) (sym vk) (places.file_ready c spool k d at st z b);
     symbol = symbol_ready;
     hide = places.hide-points c spool k d at st z;
     elements = element-sum;

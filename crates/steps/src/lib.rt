@@ -1,4 +1,6 @@
 // A volume, line by line.
+#![tactic(auto)]
+
 mod line;
 mod volume;
 

@@ -1,4 +1,6 @@
 // Document 01's tables of keys, as the code asks for them: the row of a key, and which rows a block must have.
+#![tactic(auto)]
+
 mod blocks;
 mod figures;
 pub mod keys;
@@ -146,7 +148,7 @@ pub const TIMES_ONCE: u8 = 0;
 pub const TIMES_ANY: u8 = 255;
 
 // What a line needs to know of its key's row in the block's table. (That a row is required is asked at the block's end alone.)
-#[derive(Drop)]
+#[derive(Clone, Copy)]
 pub struct Row {
     // its number in the table, from 0
     pub number: u8,
@@ -169,7 +171,7 @@ pub struct Row {
     pub state: u8,
 }
 
-#[derive(Drop)]
+#[derive(Clone, Copy)]
 pub enum Found {
     Absent,
     Row(Row),

@@ -1,4 +1,6 @@
 // An accepted set written in the fixed form, "no comments, blanks or empty lines": its volumes, each behind its head.
+#![tactic(auto)]
+
 ghost use Rattle.std.specs.Prelude.{◌≡◌, cond, eqb, ◌++◌, ◌≤◌, length, drop};
 ghost use Rattle.prints.specs.Printing.{Within};
 ghost use Rattle.pens.specs.Texts.{Safe};

@@ -1,0 +1,20 @@
+use Prim.Native.Nat.{zero-le}
+use mathlib.Core.Path.{refl}
+use Rattle.rules.specs.Blocks.{element_table}
+use Rattle.keywords.proofs.KeyTexts.{past, key-none}
+use borrow.Author.Rules.{rules}
+use Rattle.keywords.proofs.element_key.Goals as goal
+
+pub put-requires : goal.put-requires
+put-requires c = tt
+
+pub shape_of-out-then-row-eq0 : goal.shape_of-out-then-row-eq0
+shape_of-out-then-row-eq0 c = search rules
+
+pub returns-then-row-eq0 : goal.returns-then-row-eq0
+unfolding element_table
+returns-then-row-eq0 c = rw c.if-row-eq0.true c.put.ensures
+
+pub returns : goal.returns
+unfolding element_table
+returns c = key-none element_table c.args.row c.args.out.now (past _ 0 zero-le c.if-row-eq0.false)

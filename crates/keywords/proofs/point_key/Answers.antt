@@ -1,0 +1,21 @@
+use Prim.Native.Nat.{zero-le}
+use mathlib.Core.Path.{refl}
+use Rattle.rules.specs.Figures.{point_table}
+use Rattle.keywords.proofs.KeyTexts.{past, key-none}
+use mathlib.Core.Bool.{true}
+use borrow.Author.Rules.{rules}
+use Rattle.keywords.proofs.point_key.Goals as goal
+
+pub put-requires : goal.put-requires
+put-requires c = tt
+
+pub shape_of-out-then-row-eq0 : goal.shape_of-out-then-row-eq0
+shape_of-out-then-row-eq0 c = search rules
+
+pub returns-then-row-eq0 : goal.returns-then-row-eq0
+unfolding point_table
+returns-then-row-eq0 c = rw c.if-row-eq0.true c.put.ensures
+
+pub returns : goal.returns
+unfolding point_table
+returns c = key-none (point_table true) c.args.row c.args.out.now (past _ 0 zero-le c.if-row-eq0.false)

@@ -1,0 +1,53 @@
+use Prim.Native.Nat.{◌<◌, ◌≤◌}
+use mathlib.Core.Path.{ap, sym, ◌∙◌}
+use native.Mathlib.Omega.{arith}
+use lib.ListN.{length}
+use lib.Seq.{length-take-le}
+use Rattle.leaves.specs.Bytes.{up_to}
+use Rattle.leaves.specs.Drawing.{one_count}
+use Rattle.leaves.proofs.Cuts.{up_to-le}
+use Rattle.leaves.proofs.Drawings.{ratio-one, ratio-two}
+use borrow.Author.Rules.{rules}
+use Rattle.leaves.proofs.sheets.ratio.Goals as goal
+
+pub find-e-requires : goal.find-e-requires
+find-e-requires c = search rules
+
+pub count-requires : goal.count-requires
+count-requires c = search rules
+
+pub one_count-requires : goal.one_count-requires
+one_count-requires c = search rules
+
+pub returns-then-e-s : goal.returns-then-e-s
+returns-then-e-s c =
+    let s = c.args.s.now in
+    let h : length s ≤ length (up_to 47 s) = omega (arith, c.find-e.ensures, c.if-e-s.true) in
+    c.one_count.ensures ∙ ap one_count c.count.ensures ∙ ratio-one s h
+
+pub overflow_add-n : goal.overflow_add-n
+overflow_add-n c = omega (arith, up_to-le 47 c.args.s.now, c.find-e.ensures)
+
+pub slice_bounds-count-end : goal.slice_bounds-count-end
+slice_bounds-count-end c = sym (length-take-le _ _ (omega (arith, up_to-le 47 c.args.s.now, c.find-e.ensures)))
+
+pub count-a-requires : goal.count-a-requires
+count-a-requires c = search rules
+
+pub slice_bounds-count-count : goal.slice_bounds-count-count
+slice_bounds-count-count c = omega (arith, up_to-le 47 c.args.s.now, c.find-e.ensures)
+
+pub slice_bounds-count-start : goal.slice_bounds-count-start
+slice_bounds-count-start c = omega (arith, up_to-le 47 c.args.s.now, c.find-e.ensures)
+
+pub count-b-requires : goal.count-b-requires
+count-b-requires c = search rules
+
+pub two_counts-requires : goal.two_counts-requires
+two_counts-requires c = search rules
+
+pub returns : goal.returns
+returns c =
+    let s = c.args.s.now in
+    let h : c.find-e.result < length s = omega (arith, up_to-le 47 s, c.find-e.ensures) in
+    c.two_counts.ensures ∙ rw (c.count-a.ensures, c.count-b.ensures) (ratio-two s c.find-e.result c.find-e.ensures h)

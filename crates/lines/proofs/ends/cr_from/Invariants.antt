@@ -1,0 +1,14 @@
+use mathlib.Core.Path.{◌≡◌, ap}
+use native.Mathlib.Omega.{arith}
+use Prim.Native.Nat.{◌-◌, ◌≤◌, ◌+◌}
+use lib.ListN.{length, drop}
+use Rattle.leaves.specs.Bytes.{up_to}
+use Rattle.leaves.proofs.Scan.{up_to_hit, up_to_miss, up_to-end}
+use Rattle.lines.proofs.SoundEnds as laws
+use Rattle.lines.proofs.ends.cr_from.Given as goal
+
+abbrev pub invariant-loop-i : goal.invariant-loop-i
+invariant-loop-i l = (l.i ≤ length l.s) × (l.from + length (up_to 13 (drop l.from l.s)) ≡ l.i + length (up_to 13 (drop l.i l.s)))
+
+abbrev pub decreases-loop-i : goal.decreases-loop-i
+decreases-loop-i l = length l.s - l.i

@@ -1,0 +1,13 @@
+use mathlib.Core.Path.{sym, ◌∙◌}
+use native.Mathlib.Omega.{arith}
+use Prim.Native.Nat.{◌-◌, ◌≤◌, ◌+◌}
+use lib.ListN.{length}
+use Rattle.lines.specs.LineForms.{KeyPassed}
+use Rattle.lines.proofs.LineLook as laws
+use Rattle.lines.proofs.runs.key_run.Given as goal
+
+abbrev pub invariant-loop-i : goal.invariant-loop-i
+invariant-loop-i l = (l.i ≤ length l.t) × KeyPassed l.t l.from l.i
+
+abbrev pub decreases-loop-i : goal.decreases-loop-i
+decreases-loop-i l = length l.t - l.i

@@ -1,0 +1,63 @@
+use mathlib.Core.Path.{sym, ◌∙◌}
+use Rattle.tables.specs.Rows.{parts_of}
+use Rattle.rules.specs.Blocks.{later_table}
+use borrow.Author.Rules.{rules}
+use Rattle.tables.proofs.blocks.later_row.Goals as goal
+
+-- Made by tools/make-keys from the definitions' rows: change those, or the script.
+pub is_this_line-requires : goal.is_this_line-requires
+is_this_line-requires c = search rules
+
+pub several-requires : goal.several-requires
+several-requires c = search rules
+
+pub returns-then-is_this_line : goal.returns-then-is_this_line
+unfolding later_table parts_of
+returns-then-is_this_line c = rw (sym c.is_this_line.ensures ∙ c.if-is_this_line.true, c.several.ensures)
+
+pub is_this_ele-requires : goal.is_this_ele-requires
+is_this_ele-requires c = search rules
+
+pub several-requires-then-is_this_ele : goal.several-requires-then-is_this_ele
+several-requires-then-is_this_ele c = search rules
+
+pub returns-then-is_this_ele : goal.returns-then-is_this_ele
+unfolding later_table parts_of
+returns-then-is_this_ele c = rw (sym c.is_this_line.ensures ∙ c.if-is_this_line.false, sym c.is_this_ele.ensures ∙ c.if-is_this_ele.true, c.several-then-is_this_ele.ensures)
+
+pub is_next_file-requires : goal.is_next_file-requires
+is_next_file-requires c = search rules
+
+pub plain-requires : goal.plain-requires
+plain-requires c = search rules
+
+pub may_be_empty-requires : goal.may_be_empty-requires
+may_be_empty-requires c = search rules
+
+pub returns-then-is_next_file : goal.returns-then-is_next_file
+unfolding later_table parts_of
+returns-then-is_next_file c = rw (sym c.is_this_line.ensures ∙ c.if-is_this_line.false, sym c.is_this_ele.ensures ∙ c.if-is_this_ele.false, sym c.is_next_file.ensures ∙ c.if-is_next_file.true, c.may_be_empty.ensures, c.plain.ensures)
+
+pub is_date-requires : goal.is_date-requires
+is_date-requires c = search rules
+
+pub several-requires-then-is_date : goal.several-requires-then-is_date
+several-requires-then-is_date c = search rules
+
+pub returns-then-is_date : goal.returns-then-is_date
+unfolding later_table parts_of
+returns-then-is_date c = rw (sym c.is_this_line.ensures ∙ c.if-is_this_line.false, sym c.is_this_ele.ensures ∙ c.if-is_this_ele.false, sym c.is_next_file.ensures ∙ c.if-is_next_file.false, sym c.is_date.ensures ∙ c.if-is_date.true, c.several-then-is_date.ensures)
+
+pub is_time-requires : goal.is_time-requires
+is_time-requires c = search rules
+
+pub several-requires-then-is_time : goal.several-requires-then-is_time
+several-requires-then-is_time c = search rules
+
+pub returns-then-is_time : goal.returns-then-is_time
+unfolding later_table parts_of
+returns-then-is_time c = rw (sym c.is_this_line.ensures ∙ c.if-is_this_line.false, sym c.is_this_ele.ensures ∙ c.if-is_this_ele.false, sym c.is_next_file.ensures ∙ c.if-is_next_file.false, sym c.is_date.ensures ∙ c.if-is_date.false, sym c.is_time.ensures ∙ c.if-is_time.true, c.several-then-is_time.ensures)
+
+pub returns : goal.returns
+unfolding later_table
+returns c = rw (sym c.is_this_line.ensures ∙ c.if-is_this_line.false, sym c.is_this_ele.ensures ∙ c.if-is_this_ele.false, sym c.is_next_file.ensures ∙ c.if-is_next_file.false, sym c.is_date.ensures ∙ c.if-is_date.false, sym c.is_time.ensures ∙ c.if-is_time.false)
