@@ -1,5 +1,6 @@
 // Standard input, read to its end.
-ghost use Rattle.std.specs.Prelude.{◌≤◌, length};
+ghost use Rattle.std.specs.Prelude.{◌<◌, ◌≤◌, length, take, IsNone};
+ghost use Rattle.std.specs.Io.KnownBytes.{Consumes, IsAtEnd};
 
 use std::io;
 use std::io::Read;
@@ -16,7 +17,9 @@ pub struct Input {
 
 // Reads till the input ends, a read fails or buf is full.
 pub fn read_all<R: Read>(from: &mut R, buf: &mut [u8]) -> Input
-    ensures { result.bytes ≤ length buf.new }
+    ensures bound { result.bytes ≤ length buf.new }
+    ensures bytes { Consumes (R.remaining from.old) (R.remaining from.new) (take result.bytes buf.new) }
+    ensures end { IsNone result.failed → result.bytes < length buf.new → IsAtEnd (R.remaining from.new) }
 {
     let mut n = 0;
     while n < buf.len() {

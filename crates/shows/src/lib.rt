@@ -2,6 +2,13 @@
 // numbers per record follows". Each line is laid first (text) and written by one call; a function's `Ok` says that all of it was written.
 #![tactic(auto)]
 
+ghost use Rattle.std.specs.Prelude.{◌≡◌, ◌≤◌, ◌*◌, ℕ, [], ◌∷◌, ◌++◌, map, length, take, OnOk};
+ghost use Rattle.std.specs.Io.KnownBytes.{Appends};
+ghost use Rattle.leaves.specs.declared.Wrote.TheVariants.{Bytes};
+ghost use Rattle.rules.specs.Base.{join};
+ghost use Rattle.rules.specs.Answers.{answerCount, showSigned, printLine, first_line};
+ghost use Rattle.promises.specs.Printing.{record_lines};
+
 pub mod failure;
 pub mod input;
 pub mod questions;
@@ -21,11 +28,15 @@ const ANSWER_LINE: usize = 84;
 
 const RECORD_LINE: usize = 672;
 
-pub fn space<W: Write>(out: &mut W) -> io::Result<()> {
+pub fn space<W: Write>(out: &mut W) -> io::Result<()>
+    ensures { OnOk result (Appends (W.contents out.old) (W.contents out.new) (32 ∷ [])) }
+{
     out.write_all(b" ")
 }
 
-pub fn newline<W: Write>(out: &mut W) -> io::Result<()> {
+pub fn newline<W: Write>(out: &mut W) -> io::Result<()>
+    ensures { OnOk result (Appends (W.contents out.old) (W.contents out.new) (10 ∷ [])) }
+{
     out.write_all(b"\n")
 }
 
@@ -35,14 +46,18 @@ fn nothing_there() -> io::Error {
 }
 
 // The first n bytes.
-pub fn write_front<W: Write>(out: &mut W, text: &[u8], n: usize) -> io::Result<()> {
+pub fn write_front<W: Write>(out: &mut W, text: &[u8], n: usize) -> io::Result<()>
+    ensures { OnOk result ((n ≤ length text.now) × Appends (W.contents out.old) (W.contents out.new) (take n text.now)) }
+{
     if text.len() < n {
         return Err(nothing_there());
     }
     out.write_all(&text[..n])
 }
 
-fn write_laid<W: Write>(out: &mut W, text: &[u8], laid: Wrote) -> io::Result<()> {
+fn write_laid<W: Write>(out: &mut W, text: &[u8], laid: Wrote) -> io::Result<()>
+    ensures { OnOk result ((n : ℕ) × (laid ≡ Bytes n) × Appends (W.contents out.old) (W.contents out.new) (take n text.now)) }
+{
     match laid {
         Wrote::Bytes(n) => write_front(out, text, n),
         Wrote::Full => Err(nothing_there()),
@@ -50,14 +65,18 @@ fn write_laid<W: Write>(out: &mut W, text: &[u8], laid: Wrote) -> io::Result<()>
 }
 
 // An answer's line.
-pub fn answer_line<W: Write>(out: &mut W, a: Answer) -> io::Result<()> {
+pub fn answer_line<W: Write>(out: &mut W, a: Answer) -> io::Result<()>
+    ensures { OnOk result (Appends (W.contents out.old) (W.contents out.new) (printLine (first_line a))) }
+{
     let mut line = [0u8; ANSWER_LINE];
     let laid = put_answer(a, &mut line);
     write_laid(out, &line, laid)
 }
 
 // The same without its newline.
-pub fn answer<W: Write>(out: &mut W, a: Answer) -> io::Result<()> {
+pub fn answer<W: Write>(out: &mut W, a: Answer) -> io::Result<()>
+    ensures { OnOk result (Appends (W.contents out.old) (W.contents out.new) (join 32 (map showSigned (first_line a)))) }
+{
     let mut line = [0u8; ANSWER_LINE];
     let laid = put_answer(a, &mut line);
     let Wrote::Bytes(n) = laid else {
@@ -69,14 +88,19 @@ pub fn answer<W: Write>(out: &mut W, a: Answer) -> io::Result<()> {
     write_front(out, &line, n - 1)
 }
 
-fn record<W: Write>(out: &mut W, rec: &[i64]) -> io::Result<()> {
+fn record<W: Write>(out: &mut W, rec: &[i64]) -> io::Result<()>
+    ensures { OnOk result (Appends (W.contents out.old) (W.contents out.new) (printLine rec.now)) }
+{
     let mut line = [0u8; RECORD_LINE];
     let laid = put_line(rec, &mut line);
     write_laid(out, &line, laid)
 }
 
 // A table's records, so many; of more than 10,240 the first 10,240.
-pub fn records<W: Write>(out: &mut W, count: u64, table: &[i64]) -> io::Result<()> {
+pub fn records<W: Write>(out: &mut W, count: u64, table: &[i64]) -> io::Result<()>
+    ensures enough { OnOk result (32 * count ≤ length table.now) }
+    ensures printed { OnOk result (Appends (W.contents out.old) (W.contents out.new) (record_lines count table.now)) }
+{
     let mut i = 0;
     while i < MOST_RECORDS {
         if count <= i as u64 {
@@ -96,7 +120,10 @@ pub fn records<W: Write>(out: &mut W, count: u64, table: &[i64]) -> io::Result<(
 }
 
 // A reading: the line of its answer, then the lines of the table's records one after the other, each as it was laid (`put_answer`, `put_line`).
-pub fn listing<W: Write>(out: &mut W, answer: Answer, table: &[i64]) -> io::Result<()> {
+pub fn listing<W: Write>(out: &mut W, answer: Answer, table: &[i64]) -> io::Result<()>
+    ensures { OnOk result (Appends (W.contents out.old) (W.contents out.new)
+        (printLine (first_line answer) ++ record_lines (answerCount answer) table.now)) }
+{
     answer_line(out, answer)?;
     match answer {
         Answer::Accepted(count) => records(out, count as u64, table),

@@ -1,5 +1,6 @@
 // Questions on standard input, answered one after the other: their numbers and their spools.
-ghost use Rattle.std.specs.Prelude.{◌≡◌, ◌+◌, ◌*◌};
+ghost use Rattle.std.specs.Prelude.{◌≡◌, ◌≢◌, ◌+◌, ◌*◌, ◌^◌, ◌≤◌, length, take};
+ghost use Rattle.std.specs.Io.KnownBytes.{Consumes};
 
 use crate::input::read_all;
 use std::io::Read;
@@ -18,7 +19,10 @@ pub fn pair(high: u8, low: u8) -> usize
 }
 
 // Reads a question's spool and gives its length; END where it is too long or the input ends before it.
-pub fn next_spool<R: Read>(from: &mut R, len: usize, spool: &mut [u8]) -> usize {
+pub fn next_spool<R: Read>(from: &mut R, len: usize, spool: &mut [u8]) -> usize
+    ensures length { result ≢ 2 ^ 32 → (result ≡ len) × (len ≤ length spool.new) }
+    ensures bytes { result ≢ 2 ^ 32 → Consumes (R.remaining from.old) (R.remaining from.new) (take len spool.new) }
+{
     if spool.len() < len {
         return END;
     }
