@@ -3,6 +3,10 @@
 // standard error, and so is a read or a write that fails; there is then no answer. (A class or wire part that is none is refused with 1, as always.)
 #![tactic(auto)]
 
+ghost use Rattle.std.specs.Prelude.{◌≤◌, length, OnOk};
+ghost use Rattle.std.specs.Io.KnownBytes.{Appends};
+ghost use Rattle.promises.specs.Printing.{listing};
+
 use leaves::Count;
 use leaves::numbers::count;
 use sets::read;
@@ -50,7 +54,10 @@ fn answer<W: Write>(
     wire: u64,
     numbers: usize,
     table: &mut [i64],
-) -> io::Result<()> {
+) -> io::Result<()>
+    ensures { OnOk result ((numbers ≤ length table.old)
+        × Appends (W.contents out.old) (W.contents out.new) (listing cls wire numbers spool.now)) }
+{
     if table.len() < numbers {
         return Err(io::Error::from(io::ErrorKind::InvalidInput));
     }

@@ -2,6 +2,10 @@
 // line `answer volume line bytes` on standard error. A read or a write that fails is told there instead of that line.
 #![tactic(auto)]
 
+ghost use Rattle.std.specs.Prelude.{take, OnOk};
+ghost use Rattle.std.specs.Io.KnownBytes.{Appends};
+ghost use Rattle.rules.specs.Answers.{answerCount};
+
 use rules::Answer;
 use sets::rewrite;
 use shows::failure::tell;
@@ -14,7 +18,9 @@ use std::io::Write;
 const MOST_WRITTEN: usize = 61440;
 
 // Writes the fixed form, if there is one.
-fn write<W: Write>(to: &mut W, answer: Answer, out: &[u8]) -> io::Result<()> {
+fn write<W: Write>(to: &mut W, answer: Answer, out: &[u8]) -> io::Result<()>
+    ensures { OnOk result (Appends (W.contents to.old) (W.contents to.new) (take (answerCount answer) out.now)) }
+{
     match answer {
         Answer::Accepted(count) => write_front(to, out, count as usize),
         Answer::Refused(_f) => Ok(()),

@@ -3,17 +3,31 @@
 // has no answer.
 #![tactic(auto)]
 
+ghost use Rattle.std.specs.Prelude.{OnOk};
+ghost use Rattle.std.specs.Io.KnownBytes.{Appends};
+ghost use Rattle.rules.specs.Answers.{printed};
+
 use sets::read;
 use shows::failure::tell;
 use shows::input::{MOST_READ, read_all};
 use shows::listing;
+use std::io;
+use std::io::Write;
 
 // The class and the wire part that skip nothing.
 const FULL_CLASS: u64 = 15;
 
 const FULL_WIRE: u64 = 18;
 
-// What is written is `printed` of the spool (rules, Answers): promises, Printing, `ProgramPrints`.
+// Reads the spool and prints it: promises, Printing, `ProgramPrints`.
+fn answer<W: Write>(to: &mut W, spool: &[u8]) -> io::Result<()>
+    ensures { OnOk result (Appends (W.contents to.old) (W.contents to.new) (printed spool.now)) }
+{
+    let mut table = [0i64; 8192];
+    let answer = read(spool, FULL_CLASS, FULL_WIRE, &mut table);
+    listing(to, answer, &table)
+}
+
 fn main(rt: HostRuntime) {
     let mut spool = [0u8; MOST_READ];
     let input = read_all(&mut rt.stdin(), &mut spool);
@@ -22,9 +36,7 @@ fn main(rt: HostRuntime) {
         return;
     }
     let n = input.bytes;
-    let mut table = [0i64; 8192];
-    let answer = read(&spool[..n], FULL_CLASS, FULL_WIRE, &mut table);
-    if let Err(e) = listing(&mut rt.stdout(), answer, &table) {
+    if let Err(e) = answer(&mut rt.stdout(), &spool[..n]) {
         tell(&rt, "accread: standard output", e);
     }
 }
