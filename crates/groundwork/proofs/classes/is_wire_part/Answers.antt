@@ -1,0 +1,16 @@
+use Rattle.groundwork.proofs.ClassDigits.{in-first, in-second}
+use mathlib.Core.Path.{sym, ◌∙◌}
+use borrow.Author.Rules.{rules}
+use Rattle.groundwork.proofs.classes.is_wire_part.Goals as goal
+
+pub within-requires : goal.within-requires
+within-requires c = search rules
+
+pub returns-then-within : goal.returns-then-within
+returns-then-within c = in-first 0 8 11 18 c.args.n (sym c.within.ensures ∙ c.if-within.true)
+
+pub within-requires-2 : goal.within-requires-2
+within-requires-2 c = search rules
+
+pub returns : goal.returns
+returns c = in-second 0 8 11 18 c.args.n c.within-2.result (sym c.within.ensures ∙ c.if-within.false) c.within-2.ensures
