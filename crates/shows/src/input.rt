@@ -1,5 +1,5 @@
 // Standard input, read to its end.
-ghost use Rattle.std.specs.Prelude.{◌<◌, ◌≤◌, length, take, IsNone};
+ghost use Rattle.std.specs.Prelude.{◌≡◌, ◌<◌, ◌≤◌, length, take, IsNone};
 ghost use Rattle.std.specs.Io.KnownBytes.{Consumes, IsAtEnd};
 
 use std::io;
@@ -15,6 +15,15 @@ pub struct Input {
     pub failed: Option<io::Error>,
 }
 
+fn ended(bytes: usize) -> Input
+    ensures { result.bytes ≡ bytes }
+{
+    Input {
+        bytes,
+        failed: None,
+    }
+}
+
 // Reads till the input ends, a read fails or buf is full.
 pub fn read_all<R: Read>(from: &mut R, buf: &mut [u8]) -> Input
     ensures bound { result.bytes ≤ length buf.new }
@@ -24,12 +33,7 @@ pub fn read_all<R: Read>(from: &mut R, buf: &mut [u8]) -> Input
     let mut n = 0;
     while n < buf.len() {
         match from.read(&mut buf[n..]) {
-            Ok(0) => {
-                return Input {
-                    bytes: n,
-                    failed: None,
-                };
-            }
+            Ok(0) => return ended(n),
             Ok(more) => n += more,
             Err(e) => {
                 return Input {
@@ -39,8 +43,5 @@ pub fn read_all<R: Read>(from: &mut R, buf: &mut [u8]) -> Input
             }
         }
     }
-    Input {
-        bytes: n,
-        failed: None,
-    }
+    ended(n)
 }

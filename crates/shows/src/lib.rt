@@ -78,8 +78,7 @@ pub fn answer<W: Write>(out: &mut W, a: Answer) -> io::Result<()>
     ensures { OnOk result (Appends (W.contents out.old) (W.contents out.new) (join 32 (map showSigned (first_line a)))) }
 {
     let mut line = [0u8; ANSWER_LINE];
-    let laid = put_answer(a, &mut line);
-    let Wrote::Bytes(n) = laid else {
+    let Wrote::Bytes(n) = put_answer(a, &mut line) else {
         return Err(nothing_there());
     };
     if n == 0 {

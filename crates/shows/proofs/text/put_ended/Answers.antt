@@ -10,32 +10,13 @@ use mir.Facts.{to_z-of_z}
 use Rattle.rules.specs.Answers.{showSigned}
 use Rattle.leaves.proofs.Written.{full}
 use Rattle.shows.proofs.Laying.{ended-full, ended-room, ended_write, ended-bytes}
-use borrow.Author.Rules.{rules}
 use Rattle.shows.proofs.text.put_ended.Goals as goal
 
 pub returns-then-out-eq0 : goal.returns-then-out-eq0
 returns-then-out-eq0 c = full (showSigned c.args.z ++ c.args.end ∷ []) c.args.out.now (length (showSigned c.args.z) + 1) (omega (arith, length-append (showSigned c.args.z) (c.args.end ∷ []))) (omega (arith, c.if-out-eq0.true))
 
-pub overflow_sub-room : goal.overflow_sub-room
-overflow_sub-room c = search rules
-
-pub slice_bounds-put_signed-end : goal.slice_bounds-put_signed-end
-slice_bounds-put_signed-end c = search rules
-
 pub slice_bounds-put_signed-end-2 : goal.slice_bounds-put_signed-end-2
 slice_bounds-put_signed-end-2 c = sym (length-take-le _ _ (omega arith))
-
-pub put_signed-number-requires : goal.put_signed-number-requires
-put_signed-number-requires c = search rules
-
-pub enum_known-number : goal.enum_known-number
-enum_known-number c = search rules
-
-pub enum_told-1 : goal.enum_told-1
-enum_told-1 c = search rules
-
-pub shape_of-out-in_default : goal.shape_of-out-in_default
-shape_of-out-in_default c = search rules
 
 pub returns-in_default : goal.returns-in_default
 returns-in_default c = ended-full (showSigned c.args.z) c.args.out.now _ _ c.if-out-eq0.false (let f : SFits w64 c.args.z = c.ranges.z in rw (to_z-of_z f) at c.put_signed-number.ensures) _ c.in_default.is
@@ -45,9 +26,6 @@ bounds-out-n c = ended_write (showSigned c.args.z) c.args.out.now _ _ c.if-out-e
 
 pub overflow_add-result : goal.overflow_add-result
 overflow_add-result c = record { fits = omega (arith, ended-room (showSigned c.args.z) c.args.out.now _ _ c.if-out-eq0.false (let f : SFits w64 c.args.z = c.ranges.z in rw (to_z-of_z f) at c.put_signed-number.ensures) 0 _ c.in-Bytes.is) }
-
-pub shape_of-out : goal.shape_of-out
-shape_of-out c = search rules
 
 pub returns : goal.returns
 returns c = ended-bytes (showSigned c.args.z) c.args.out.now _ _ c.if-out-eq0.false (let f : SFits w64 c.args.z = c.ranges.z in rw (to_z-of_z f) at c.put_signed-number.ensures) c.args.end _ c.in-Bytes.is

@@ -5,7 +5,6 @@ use mir.Val.{SFits}
 use mir.Facts.{to_z-of_z}
 use Rattle.leaves.proofs.Ints.{below, more-fits, turned-fits, turned-back, not-below, not-below-back}
 use Rattle.shows.proofs.Laying.{shown-below, shown-not-below}
-use borrow.Author.Rules.{rules}
 use Rattle.shows.proofs.text.put_signed.Goals as goal
 
 pub overflow_add-z : goal.overflow_add-z
@@ -34,12 +33,6 @@ overflow_add-z-then-z-lt0 c =
     let b = below z f (rw (to_z-of_z f) at c.if-z-lt0.true) in
     rw (turned-back z f b) (record { fits = omega (arith, b.small) })
 
-pub put_minus-requires : goal.put_minus-requires
-put_minus-requires c = search rules
-
-pub shape_of-out-then-z-lt0 : goal.shape_of-out-then-z-lt0
-shape_of-out-then-z-lt0 c = search rules
-
 pub returns-then-z-lt0 : goal.returns-then-z-lt0
 returns-then-z-lt0 c =
     let z = c.args.z in
@@ -53,12 +46,6 @@ overflow_cast-z-2 c =
     let f : SFits w64 z = c.ranges.z in
     let b = not-below z f (rw (to_z-of_z f) at c.if-z-lt0.false) in
     rw (not-below-back z f b) (tt, record { fits = omega (arith, b.small) })
-
-pub put_count-requires : goal.put_count-requires
-put_count-requires c = search rules
-
-pub shape_of-out : goal.shape_of-out
-shape_of-out c = search rules
 
 pub returns : goal.returns
 returns c =
