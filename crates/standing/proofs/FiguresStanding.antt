@@ -273,8 +273,8 @@ module _ (c : Class) (spool : List ℕ) (k : ℕ) (FileHere : Desk → Set → �
             (or-second (not (eqb (inner_of q.holds) i)) (eqb (length q.key) n) (ap not (eq-eqb (inner_of q.holds) i (sym begun.0))) (row-all (opens_key i n) opened.row e))
 
       -- its head on the scratch
-      on_scratch : (st' : State) (made : List ℤ) → rec₁ ≡ made → Scratch (with_part 32 made d.scratch) st' → Scratch t₁ st'
-      on_scratch st' made q o = subst (λ (r : List ℤ). Scratch (with_part 32 r d.scratch) st') (sym q) o
+      on_scratch : (st' : State) (rec : List ℤ) → rec₁ ≡ rec → Scratch (with_part 32 rec d.scratch) st' → Scratch t₁ st'
+      on_scratch st' rec q o = subst (λ (r : List ℤ). Scratch (with_part 32 r d.scratch) st') (sym q) o
 
       -- `successive`
       on_chain : (j : ℕ) (v : Value) → did ≡ begin 1 j v → rec₁ ≡ record_made (block_kind d.now.layered 1) d.now w (home_rule d.now.layered range wires j) v rec₀
