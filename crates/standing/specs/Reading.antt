@@ -1,13 +1,11 @@
 -- What the reading of a line and of a volume promises.
 use Rattle.std.specs.Prelude.{ℕ, ◌+◌, ◌*◌, ◌/◌, ◌≤◌, ◌<◌, Bool, true, false, cond, eqb, ◌≡◌, List, ◌++◌, ℤ, pos, length, get_or, set, replicate}
-use Rattle.std.proofs.Math.Option.{some}
-use Rattle.rules.specs.declared.Digits.{Digits}
 use Rattle.rules.specs.declared.Class.{Class}
 use Rattle.rules.specs.declared.LineForm.{LineForm}
 use Rattle.rules.specs.Base.{flat, is_nil}
 use Rattle.rules.specs.Lines.{Rest, brace, equals, Form, ignored, wrong, close, eof, keyed}
 use Rattle.rules.specs.Sets.{Set}
-use Rattle.rules.specs.Machine.{Line, Env, State, top, ended, set_of, limited_to}
+use Rattle.rules.specs.Machine.{Line, State, top, ended, set_of, limited_to}
 use Rattle.rules.specs.LineByLine.{refused, run}
 use Rattle.rules.specs.Answers.{linesOfVolume}
 use Rattle.account.specs.declared.Where.{Where}
