@@ -151,7 +151,7 @@ module _ (K : Known) (spool : List ℕ) (first : Bool) (p : Pen) (ns out : List 
       → KeyLine spool first key rest p ns ns' out out' d → LineOut K spool first st' ns' out' d
   defines-key key rest f placed fits does =
       acted (defines s b) (λ j v. unless (is_nil s.symbols) 6 (got (defines s true))) (λ i j v. unless (not b) 6 (taking e (kind_symbol ∷ []) s λ s'. symbol s' fresh))
-      (λ _. unless (b || not (is_nil s.symbols)) 8 (got (top s 3))) (known_of s) (digits_of (define_range s)) st' defines_table (b ∷ false ∷ []) (bytes_at spool key) (rest_in spool rest)
+      (unless (b || not (is_nil s.symbols)) 8 (got (top s 3))) (known_of s) (digits_of (define_range s)) st' defines_table (b ∷ false ∷ []) (bytes_at spool key) (rest_in spool rest)
       (table-keys false 0 0).8 (rw f at fits) (rw f at q) ent beg
     where
       t : find (bytes_at spool key) (table_of (table_for first p (is_brace rest))) ≡ find (bytes_at spool key) defines_table
@@ -192,7 +192,7 @@ module _ (K : Known) (spool : List ℕ) (first : Bool) (p : Pen) (ns out : List 
   defines-close f does n =
       let g =
       closed (defines s b) (λ j v. unless (is_nil s.symbols) 6 (got (defines s true))) (λ i j v. unless (not b) 6 (taking e (kind_symbol ∷ []) s λ s'. symbol s' fresh))
-      (λ _. unless (b || not (is_nil s.symbols)) 8 (got (top s 3))) (known_of s) defines_table (digits_of (define_range s)) (b ∷ false ∷ []) st' (rw f at q) in
+      (unless (b || not (is_nil s.symbols)) 8 (got (top s 3))) (known_of s) defines_table (digits_of (define_range s)) (b ∷ false ∷ []) st' (rw f at q) in
       let (i, g') = unless-got (b || not (is_nil s.symbols)) 8 (got (top s 3)) st' g in
       let st : top s 3 ≡ st' = cc in
       subst (λ (a : State). LineOut K spool first a ns' out' d) st

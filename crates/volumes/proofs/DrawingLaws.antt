@@ -195,7 +195,7 @@ module _ (K : Known) (spool : List ℕ) (first : Bool) (p : Pen) (ns out : List 
   pub drawing-key : (key : Span) (rest : Rest) → l.form ≡ keyed (bytes_at spool key) (rest_in spool rest) → PlacedRest rest → FormFits l.form
       → KeyLine spool first key rest p ns ns' out out' d → LineOut K spool first st' ns' out' d
   drawing-key key rest f placed fits does =
-      acted (drawing s dr) (λ j v. got (drawing s (with_row j v))) (λ i j v. got (layer_names s (with_row j v))) (λ _. got (top (with_drawing dr s) 2))
+      acted (drawing s dr) (λ j v. got (drawing s (with_row j v))) (λ i j v. got (layer_names s (with_row j v))) (got (top (with_drawing dr s) 2))
       (known_of s) (digits_of (arc_of s)) st' drawing_table (rows_there dr.own) (bytes_at spool key) (rest_in spool rest) (table-keys false 0 0).7 (rw f at fits) (rw f at q) ent beg
     where
       -- what the code promises for row j
@@ -237,7 +237,7 @@ module _ (K : Known) (spool : List ℕ) (first : Bool) (p : Pen) (ns out : List 
   pub drawing-close : l.form ≡ close → CloseDone spool first p ns out out' d → ns' ≡ ns → LineOut K spool first st' ns' out' d
   drawing-close f does n =
       let g =
-      closed (drawing s dr) (λ j v. got (drawing s (with_row j v))) (λ i j v. got (layer_names s (with_row j v))) (λ _. got (top (with_drawing dr s) 2))
+      closed (drawing s dr) (λ j v. got (drawing s (with_row j v))) (λ i j v. got (layer_names s (with_row j v))) (got (top (with_drawing dr s) 2))
       (known_of s) drawing_table (digits_of (arc_of s)) (rows_there dr.own) st' (rw f at q) in
       let st : top (with_drawing dr s) 2 ≡ st' = cc in
       let front = within.front in

@@ -118,7 +118,7 @@ module _ (K : Known) (spool : List ℕ) (first : Bool) (p : Pen) (ns out : List 
   pub hide-key : (key : Span) (rest : Rest) → l.form ≡ keyed (bytes_at spool key) (rest_in spool rest) → PlacedRest rest → FormFits l.form
       → KeyLine spool first key rest p ns ns' out out' d → LineOut K spool first st' ns' out' d
   hide-key key rest f placed fits does =
-      acted (hide s y ps) (λ j v. taking e (kind_hidden ∷ []) s λ s'. hide s' y (ps ++ point_at l v ∷ [])) (λ i j v. bad 5) (λ _. got (symbol s (symbol_hidden ps y)))
+      acted (hide s y ps) (λ j v. taking e (kind_hidden ∷ []) s λ s'. hide s' y (ps ++ point_at l v ∷ [])) (λ i j v. bad 5) (got (symbol s (symbol_hidden ps y)))
       (known_of s) (digits 0 0) st' (point_table false) (rows_at_limit (length ps) (point_table false)) (bytes_at spool key) (rest_in spool rest)
       (table-keys false 0 0).13 (rw f at fits) (rw f at q) ent (λ j r v h w u o m g. never g)
     where
@@ -145,7 +145,7 @@ module _ (K : Known) (spool : List ℕ) (first : Bool) (p : Pen) (ns out : List 
   pub hide-close : l.form ≡ close → CloseDone spool first p ns out out' d → ns' ≡ ns → LineOut K spool first st' ns' out' d
   hide-close f does n =
       let g : got (symbol s (symbol_hidden ps y)) ≡ got st' =
-      closed (hide s y ps) (λ j v. taking e (kind_hidden ∷ []) s λ s'. hide s' y (ps ++ point_at l v ∷ [])) (λ i j v. bad 5) (λ _. got (symbol s (symbol_hidden ps y)))
+      closed (hide s y ps) (λ j v. taking e (kind_hidden ∷ []) s λ s'. hide s' y (ps ++ point_at l v ∷ [])) (λ i j v. bad 5) (got (symbol s (symbol_hidden ps y)))
       (known_of s) (point_table false) (digits 0 0) (rows_at_limit (length ps) (point_table false)) st' (rw f at q) in
       let r : symbol s (symbol_hidden ps y) ≡ st' = cc in
       let next : Pen = moved p 3 5 0 in

@@ -105,8 +105,8 @@ placed-table first p (suc zero) c h l m = (rw (h, l), rw (h, l))
 placed-table first p (suc (suc i)) c h l m = absurd (omega (arith, m))
 
 -- a key that is not known is refused
-pub unknown : {P : Type 0} (here : State) (en : ℕ → Value → Got State) (op : ℕ → ℕ → Value → Got State) (cl : Unit {0} → Got State) (b : Bool) (st : State)
-    → by_act here en op cl (or_refuse (unless b 5 (bad 6))) ≡ got st → P
+pub unknown : {P : Type 0} (here : State) (en : ℕ → Value → Got State) (op : ℕ → ℕ → Value → Got State) (cl : Got State) (b : Bool) (st : State)
+    → by_act here en op (λ _. cl) (or_refuse (unless b 5 (bad 6))) ≡ got st → P
 unknown here en op cl true st q = never q
 unknown here en op cl false st q = never q
 
@@ -165,7 +165,7 @@ module _ (K : Known) (spool : List ℕ) (first : Bool) (p : Pen) (ns out : List 
     own_key : (z : Pens K spool first p ns out (placing s m fs n (symbol_block o) 0)) (g : Found) → find (bytes_at spool key) placed_table ≡ g
         → on_placed_key e s m fs n o (bytes_at spool key) (rest_in spool rest) g ≡ got st' → LineOut K spool first st' ns' out' d
     own_key z absent f q =
-        unknown (placing s m fs n (symbol_block o) 0) (λ j v. bad 6) (λ i j v. bad 6) (λ _. bad 6) (has_form (shape_of (rest_in spool rest))) st'
+        unknown (placing s m fs n (symbol_block o) 0) (λ j v. bad 6) (λ i j v. bad 6) (bad 6) (has_form (shape_of (rest_in spool rest))) st'
         (rw (c, served-full (symbol_range s) z.here.1.home.0.served.0) at q)
     own_key z (found j r) f q =
         let (w, same_key) = found-row (bytes_at spool key) placed_table j r f in

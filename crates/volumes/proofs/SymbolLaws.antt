@@ -299,7 +299,7 @@ module _ (K : Known) (spool : List ℕ) (first : Bool) (p : Pen) (ns out : List 
   pub symbol-key : (key : Span) (rest : Rest) → l.form ≡ keyed (bytes_at spool key) (rest_in spool rest) → PlacedRest rest → FormFits l.form
       → KeyLine spool first key rest p ns ns' out out' d → LineOut K spool first st' ns' out' d
   symbol-key key rest f placed fits does =
-      acted (symbol s y) (λ j v. unless (new_name s (with_row j v)) 15 (got (symbol s (with_row j v)))) (λ i j v. open_symbol s (with_row j v) i) (λ _. got (defines (with_symbol y s) false))
+      acted (symbol s y) (λ j v. unless (new_name s (with_row j v)) 15 (got (symbol s (with_row j v)))) (λ i j v. open_symbol s (with_row j v) i) (got (defines (with_symbol y s) false))
       (known_of s) (digits_of (define_range s)) st' symbol_table (rows_there y.own) (bytes_at spool key) (rest_in spool rest) (table-keys false 0 0).9 (rw f at fits) (rw f at q) ent beg
     where
       -- what the code promises for row j
@@ -365,7 +365,7 @@ module _ (K : Known) (spool : List ℕ) (first : Bool) (p : Pen) (ns out : List 
   pub symbol-close : l.form ≡ close → CloseDone spool first p ns out out' d → ns' ≡ ns → LineOut K spool first st' ns' out' d
   symbol-close f does n =
       let g =
-      closed (symbol s y) (λ j v. unless (new_name s (with_row j v)) 15 (got (symbol s (with_row j v)))) (λ i j v. open_symbol s (with_row j v) i) (λ _. got (defines (with_symbol y s) false))
+      closed (symbol s y) (λ j v. unless (new_name s (with_row j v)) 15 (got (symbol s (with_row j v)))) (λ i j v. open_symbol s (with_row j v) i) (got (defines (with_symbol y s) false))
       (known_of s) symbol_table (digits_of (define_range s)) (rows_there y.own) st' (rw f at q) in
       let st : with_symbols ≡ st' = cc in
       let a : List ℕ = row_bytes K (rule 0) (get_or y.own 0 none) in

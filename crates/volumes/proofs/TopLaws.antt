@@ -134,7 +134,7 @@ module _ (K : Known) (spool : List ℕ) (first : Bool) (p : Pen) (ns out : List 
   pub top_key_lem : (key : Span) (rest : Rest) → l.form ≡ keyed (bytes_at spool key) (rest_in spool rest) → PlacedRest rest → FormFits l.form
       → KeyLine spool first key rest p ns ns' out out' d → LineOut K spool first st' ns' out' d
   top_key_lem key rest f placed fits line =
-      acted {P = LineOut K spool first st' ns' out' d} (top s k) (λ j v. bad 5) (λ i j v. unless (eqb j k) 9 (open_top e l s j)) (λ _. bad 9) (known_of s) (digits 0 0) st'
+      acted {P = LineOut K spool first st' ns' out' d} (top s k) (λ j v. bad 5) (λ i j v. unless (eqb j k) 9 (open_top e l s j)) (bad 9) (known_of s) (digits 0 0) st'
       top_table (rows_at_limit 0 top_table) (bytes_at spool key) (rest_in spool rest) (table-keys true 0 0).0 (subst FormFits f fits) (ap (on_top e l s k) (sym f) ∙ q)
       (λ j r v at w reads o full en. never en)
       (λ j r v at w reads o full op.

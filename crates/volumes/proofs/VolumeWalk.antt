@@ -1,5 +1,5 @@
 -- A volume's lines walked through: how far the writing has come, and what one more line makes of it.
-use Prim.Native.Nat.{ℕ, suc, ◌+◌, ◌-◌, ◌<◌}
+use Prim.Native.Nat.{ℕ, suc, ◌+◌, ◌<◌}
 use mathlib.Core.Bool.{Bool, true, false, cond, not}
 use mathlib.Core.List.{List, [], ◌∷◌}
 use mathlib.Core.Path.{◌≡◌, refl, sym, ◌∙◌, ap, subst}
@@ -11,7 +11,7 @@ use Rattle.rules.specs.RefusalNumbers.{got}
 use Rattle.rules.specs.Lines.{Form, form_of}
 use Rattle.rules.specs.Values.{Known}
 use Rattle.rules.specs.Sets.{Set}
-use Rattle.rules.specs.Machine.{Line, Env, State, top, drawing}
+use Rattle.rules.specs.Machine.{Line, Env, State, top}
 use Rattle.rules.specs.LineByLine.{step_in}
 use Rattle.rules.specs.Answers.{numbered, fullClass}
 use Rattle.rules.proofs.Chains.{clash, then-got}

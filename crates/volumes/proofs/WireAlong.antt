@@ -2,7 +2,7 @@
 use Prim.Native.Nat.{ℕ, zero, suc, ◌+◌, ◌-◌, ◌≤◌}
 use mathlib.Core.Bool.{Bool, true, false, cond, ◌&&◌, ◌||◌, not}
 use mathlib.Core.List.{List, [], ◌∷◌, ◌++◌, map}
-use mathlib.Core.Option.{none, some}
+use mathlib.Core.Option.{some}
 use mathlib.Core.Path.{◌≡◌, refl, sym, ◌∙◌, ap, subst}
 use native.Mathlib.Omega.{arith}
 use borrow.Author.Tests.{ne_eqb, eq-eqb, eqb-true, le-leb}
@@ -25,10 +25,11 @@ use Rattle.rules.specs.PlacedSymbol.{on_unknown, new_serial, on_placed, on_place
 use Rattle.rules.specs.Wires.{joins_ends, last_edge, join_of, joined, with_element, group_at, with_groups, with_once, with_texts, is_group_row, with_attribute, nums_alike, new_number, on_wire_own, on_wire_text}
 use Rattle.rules.specs.LineByLine.{step_in}
 use Rattle.rules.specs.Answers.{fullClass}
-use Rattle.rules.specs.FixedForm.{Text, open_line, no_inner, line_of, block, show_group, show_slots, show_wire_texts}
+use Rattle.rules.specs.FixedForm.{Text, open_line, no_inner, line_of, show_group, show_slots, show_wire_texts}
 use Rattle.rules.proofs.Chains.{On, on-unless, on-cond, on_then, on-got, never, clash, unless-got}
 use Rattle.rules.proofs.Rows.{Row}
-use Rattle.rules.proofs.OnActs.{on-by_act, on-taking, on-shut, on_skip}
+use Rattle.promises.proofs.ClosedActs.{on-by_act}
+use Rattle.rules.proofs.OnActs.{on-taking, on-shut, on_skip}
 use Rattle.prints.specs.Reading.{Reads}
 use Rattle.pens.specs.declared.Pen.{Pen}
 use Rattle.pens.specs.Drawing.{FormFits}

@@ -1,5 +1,5 @@
 -- What is written of a volume, line by line.
-use Rattle.std.specs.Prelude.{ℕ, zero, suc, ◌+◌, ◌/◌, ◌%◌, ◌≤◌, Bool, true, false, ◌≡◌, List, [], ◌∷◌, ◌++◌, length, take}
+use Rattle.std.specs.Prelude.{ℕ, zero, suc, ◌/◌, ◌%◌, ◌≤◌, Bool, true, false, ◌≡◌, List, [], ◌∷◌, ◌++◌, length, take}
 use Rattle.rules.specs.Spool.{padded_name, unlines, volume_bytes}
 use Rattle.rules.specs.RefusalNumbers.{Got, got, and_then}
 use Rattle.rules.specs.Values.{Known}
