@@ -2,7 +2,7 @@
 #![tactic(auto)]
 
 ghost use Rattle.std.specs.Prelude.{◌≡◌, length};
-ghost use Rattle.rules.specs.Answers.{answerCount, readAnswer, readTable, packed, checkAnswer, rewriteAnswer, rewriteOutput};
+ghost use Rattle.rules.specs.Answers.{answer_count, read_answer, read_table, packed, check_answer, rewrite_answer, rewrite_output};
 
 use rules::Answer;
 use sets::{check, read, rewrite};
@@ -18,7 +18,7 @@ fn pack(a: Answer) -> u64
 }
 
 fn count_of(a: Answer) -> u64
-    ensures { result ≡ answerCount a }
+    ensures { result ≡ answer_count a }
 {
     match a {
         Answer::Accepted(n) => n as u64,
@@ -33,7 +33,7 @@ const OWN_RECORDS: u32 = 256;
 // table, so its records are counted and none is laid out, 64 KB of the host's small stack.
 #[unsafe(no_mangle)]
 pub extern "C" fn ploverdell_check(spool: &[u8], cls: u64, wire: u64) -> u64
-    ensures { result ≡ checkAnswer cls wire spool.now }
+    ensures { result ≡ check_answer cls wire spool.now }
 {
     pack(check(spool, cls, wire, OWN_RECORDS))
 }
@@ -47,7 +47,7 @@ pub extern "C" fn ploverdell_read(
     table: &mut [i64],
     count: &mut u64,
 ) -> u64
-    ensures { (result ≡ packed (readAnswer cls wire (length table.old) spool.now)) × (table.new ≡ readTable cls wire (length table.old) spool.now) × (count.new ≡ answerCount (readAnswer cls wire (length table.old) spool.now)) }
+    ensures { (result ≡ packed (read_answer cls wire (length table.old) spool.now)) × (table.new ≡ read_table cls wire (length table.old) spool.now) × (count.new ≡ answer_count (read_answer cls wire (length table.old) spool.now)) }
 {
     let a = read(spool, cls, wire, table);
     *count = count_of(a);
@@ -57,7 +57,7 @@ pub extern "C" fn ploverdell_read(
 // The rewriter: the packed number, the fixed form in the lent output, and how many bytes it has.
 #[unsafe(no_mangle)]
 pub extern "C" fn ploverdell_rewrite(spool: &[u8], out: &mut [u8], count: &mut u64) -> u64
-    ensures { (result ≡ packed (rewriteAnswer (length out.old) spool.now)) × (out.new ≡ rewriteOutput (length out.old) spool.now) × (count.new ≡ answerCount (rewriteAnswer (length out.old) spool.now)) }
+    ensures { (result ≡ packed (rewrite_answer (length out.old) spool.now)) × (out.new ≡ rewrite_output (length out.old) spool.now) × (count.new ≡ answer_count (rewrite_answer (length out.old) spool.now)) }
 {
     let a = rewrite(spool, out);
     *count = count_of(a);

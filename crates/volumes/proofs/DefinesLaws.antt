@@ -16,7 +16,7 @@ use Rattle.rules.specs.Rows.{Rule, found, find, blank}
 use Rattle.rules.specs.Blocks.{defines_table, symbol_table}
 use Rattle.rules.specs.Sets.{Symbol, Set, with_records, define_range, known_of}
 use Rattle.rules.specs.RecordTable.{rule_at, kind_symbol}
-use Rattle.rules.specs.Answers.{fullClass}
+use Rattle.rules.specs.Answers.{full_class}
 use Rattle.rules.specs.Machine.{Line, Env, State, top, defines, symbol, taking}
 use Rattle.rules.specs.LineByLine.{step_in}
 use Rattle.rules.specs.FixedForm.{Text, open_line, opens_block, line_of, show_symbols, show_defines}
@@ -89,7 +89,7 @@ module _ (t : ℕ) (p : Pen) (rest : Rest) (K : Known) (r : Rule) (v : Value) (n
   symbol-done : KeyDone t p rest K 1 r v ns ns' out out' d → Draws (ended (line_of K r v)) p.at (begun p (length (ended (line_of K r v))) 5) out out' d × (ns' ≡ forgotten ns)
   symbol-done w = (rw e at w.draws, rw e at w.notes)
 
-module _ (K : Known) (spool : List ℕ) (first : Bool) (p : Pen) (ns out : List ℕ) (s : Set) (b : Bool) (z : Pens K spool first p ns out (defines s b)) (e : Env) (l : Line) (c : e.class ≡ fullClass) (st' : State) (q : step_in e l (defines s b) ≡ got st') (ns' out' : List ℕ) (d : Drawn) (size : length out' ≡ length out) (many : length ns' ≡ 28) where
+module _ (K : Known) (spool : List ℕ) (first : Bool) (p : Pen) (ns out : List ℕ) (s : Set) (b : Bool) (z : Pens K spool first p ns out (defines s b)) (e : Env) (l : Line) (c : e.class ≡ full_class) (st' : State) (q : step_in e l (defines s b) ≡ got st') (ns' out' : List ℕ) (d : Drawn) (size : length out' ≡ length out) (many : length ns' ≡ 28) where
   abbrev front : Front first s
   front = z.here.1
 

@@ -19,7 +19,7 @@ use Rattle.rules.specs.Rows.{Rule, row, found, find, Slots, rows_there}
 use Rattle.rules.specs.Blocks.{drawing_table, most_layers}
 use Rattle.rules.specs.Sets.{Layer, Drawing, Set, with_drawing, with_records, with_layer, with_own, arc_of, known_of}
 use Rattle.rules.specs.RecordTable.{rule_at, kind_layer}
-use Rattle.rules.specs.Answers.{fullClass}
+use Rattle.rules.specs.Answers.{full_class}
 use Rattle.rules.specs.Machine.{Line, Env, State, top, drawing, layer_names, layer_value, taking}
 use Rattle.rules.specs.LineByLine.{step_in}
 use Rattle.rules.specs.FixedForm.{Text, open_line, block, opens_block, line_of, no_inner, show_slot, show_slots, show_layers, show_drawing}
@@ -129,7 +129,7 @@ module _ (K : Known) (dr : Drawing) where
       ∙ slots-more K no_inner (none_more K) noted_table (take 7 dr.own) last
       ∙ ap (λ (u : Text). rows_text ++ u) (names-slot (get_or dr.own 7 none) end)
 
-module _ (K : Known) (spool : List ℕ) (first : Bool) (p : Pen) (ns out : List ℕ) (s : Set) (dr : Drawing) (z : Pens K spool first p ns out (drawing s dr)) (e : Env) (l : Line) (c : e.class ≡ fullClass) (st' : State) (q : step_in e l (drawing s dr) ≡ got st') (ns' out' : List ℕ) (d : Drawn) (size : length out' ≡ length out) (many : length ns' ≡ 28) where
+module _ (K : Known) (spool : List ℕ) (first : Bool) (p : Pen) (ns out : List ℕ) (s : Set) (dr : Drawing) (z : Pens K spool first p ns out (drawing s dr)) (e : Env) (l : Line) (c : e.class ≡ full_class) (st' : State) (q : step_in e l (drawing s dr) ≡ got st') (ns' out' : List ℕ) (d : Drawn) (size : length out' ≡ length out) (many : length ns' ≡ 28) where
   abbrev within : InDrawing K spool first p ns s dr
   within = z.here.1
 
@@ -248,7 +248,7 @@ module _ (K : Known) (spool : List ℕ) (first : Bool) (p : Pen) (ns out : List 
       (refl, (record { volume = front.volume; alone = front.alone; empty = front.empty; served = front.served }, within.bare)))
 
 -- ── in `layer_name` ──
-module _ (K : Known) (spool : List ℕ) (first : Bool) (p : Pen) (ns out : List ℕ) (s : Set) (dr : Drawing) (z : Pens K spool first p ns out (layer_names s dr)) (e : Env) (l : Line) (c : e.class ≡ fullClass) (st' : State) (q : step_in e l (layer_names s dr) ≡ got st') (ns' out' : List ℕ) (d : Drawn) (size : length out' ≡ length out) (many : length ns' ≡ 28) where
+module _ (K : Known) (spool : List ℕ) (first : Bool) (p : Pen) (ns out : List ℕ) (s : Set) (dr : Drawing) (z : Pens K spool first p ns out (layer_names s dr)) (e : Env) (l : Line) (c : e.class ≡ full_class) (st' : State) (q : step_in e l (layer_names s dr) ≡ got st') (ns' out' : List ℕ) (d : Drawn) (size : length out' ≡ length out) (many : length ns' ≡ 28) where
   abbrev around : InDrawing K spool first p ns s dr
   around = z.here.1
 

@@ -23,7 +23,7 @@ use Rattle.rules.specs.Sets.{Contents, Set, with_now, is_first, head_or, known_o
 use Rattle.rules.specs.VolumesAndTotals.{chained, dated}
 use Rattle.rules.specs.Machine.{Line, Env, State, top, file, by_act, close_file, shut_part}
 use Rattle.rules.specs.LineByLine.{step_in}
-use Rattle.rules.specs.Answers.{fullClass}
+use Rattle.rules.specs.Answers.{full_class}
 use Rattle.rules.specs.FixedForm.{Text, open_line, opens_block}
 use Rattle.rules.proofs.Chains.{clash, never, unless-got, map-got, keep-got, cons-got}
 use Rattle.rules.proofs.Rows.{Row, row-all}
@@ -208,7 +208,7 @@ module _ (K : Known) (spool : List ℕ) where
   closed-shown true s n h = ap (λ (u : Text). open_line (bytes "FILE_FORMAT") ∷ u) (held_more K (file_tables true) h (bytes "}" ∷ []))
   closed-shown false s n h = ap (λ (u : Text). open_line (bytes "FILE_FORMAT") ∷ u) (held_more K (file_tables false) h (bytes "}" ∷ []))
 
-module _ (K : Known) (spool : List ℕ) (first : Bool) (p : Pen) (ns out : List ℕ) (s : Set) (n : ℕ) (h : Held) (i : ℕ) (z : Pens K spool first p ns out (file s n h i)) (e : Env) (l : Line) (c : e.class ≡ fullClass) (st' : State) (q : step_in e l (file s n h i) ≡ got st') (ns' out' : List ℕ) (d : Drawn) (size : length out' ≡ length out) (many : length ns' ≡ 28) where
+module _ (K : Known) (spool : List ℕ) (first : Bool) (p : Pen) (ns out : List ℕ) (s : Set) (n : ℕ) (h : Held) (i : ℕ) (z : Pens K spool first p ns out (file s n h i)) (e : Env) (l : Line) (c : e.class ≡ full_class) (st' : State) (q : step_in e l (file s n h i) ≡ got st') (ns' out' : List ℕ) (d : Drawn) (size : length out' ≡ length out) (many : length ns' ≡ 28) where
   abbrev table : List Rule
   table = get_or (file_tables first) i []
 

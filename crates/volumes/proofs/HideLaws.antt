@@ -16,7 +16,7 @@ use Rattle.rules.specs.Rows.{Rule, found, find, rows_at_limit}
 use Rattle.rules.specs.Figures.{point_table}
 use Rattle.rules.specs.Sets.{Point, Symbol, Set, with_records, symbol_hidden, known_of}
 use Rattle.rules.specs.RecordTable.{rule_at, kind_hidden}
-use Rattle.rules.specs.Answers.{fullClass}
+use Rattle.rules.specs.Answers.{full_class}
 use Rattle.rules.specs.Machine.{Line, Env, State, symbol, hide, point_at, taking}
 use Rattle.rules.specs.LineByLine.{step_in}
 use Rattle.rules.specs.FixedForm.{Text, open_line, block, opens_block, line_of, show_points}
@@ -79,7 +79,7 @@ hide-done : (t : ℕ) (p : Pen) (rest : Rest) (K : Known) (r : Rule) (v : Value)
     → Draws (ended (line_of K r v)) p.at (moved p (length (ended (line_of K r v))) 6 0) out out' d × (ns' ≡ ns)
 hide-done t p rest K r v ns ns' out out' d e w = (rw e at w.draws, rw e at w.notes)
 
-module _ (K : Known) (spool : List ℕ) (first : Bool) (p : Pen) (ns out : List ℕ) (s : Set) (y : Symbol) (ps : List Point) (z : Pens K spool first p ns out (hide s y ps)) (e : Env) (l : Line) (c : e.class ≡ fullClass) (st' : State) (q : step_in e l (hide s y ps) ≡ got st') (ns' out' : List ℕ) (d : Drawn) (size : length out' ≡ length out) (many : length ns' ≡ 28) where
+module _ (K : Known) (spool : List ℕ) (first : Bool) (p : Pen) (ns out : List ℕ) (s : Set) (y : Symbol) (ps : List Point) (z : Pens K spool first p ns out (hide s y ps)) (e : Env) (l : Line) (c : e.class ≡ full_class) (st' : State) (q : step_in e l (hide s y ps) ≡ got st') (ns' out' : List ℕ) (d : Drawn) (size : length out' ≡ length out) (many : length ns' ≡ 28) where
   abbrev within : InHide K spool first p ns s y
   within = z.here.1
 

@@ -18,7 +18,7 @@ use Rattle.rules.specs.Blocks.{symbol_table}
 use Rattle.rules.specs.Figures.{figure_table}
 use Rattle.rules.specs.Sets.{Symbol, Set, with_symbol, symbol_own, symbol_order, define_range, known_of}
 use Rattle.rules.specs.RecordTable.{rule_at}
-use Rattle.rules.specs.Answers.{fullClass}
+use Rattle.rules.specs.Answers.{full_class}
 use Rattle.rules.specs.Machine.{Line, Env, in_element, State, defines, symbol, hide, figures, new_name, open_symbol}
 use Rattle.rules.specs.LineByLine.{step_in}
 use Rattle.rules.specs.FixedForm.{Text, open_line, block, opens_block, line_of, show_slot, show_slots, show_figures, show_points, symbol_inner, exchanged, show_symbol, show_symbols}
@@ -188,7 +188,7 @@ module _ (K : Known) (y : Symbol) where
       (ap (λ (o : Slots). show_slots K (exchanged y.hide_first symbol_table) (exchanged y.hide_first o) (symbol_inner K y) (bytes "}" ∷ [])) (four-slots y.own four)
       ∙ rows-order y.hide_first (get_or y.own 0 none) (get_or y.own 1 none) (get_or y.own 2 none) (get_or y.own 3 none) (bytes "}" ∷ []))
 
-module _ (K : Known) (spool : List ℕ) (first : Bool) (p : Pen) (ns out : List ℕ) (s : Set) (y : Symbol) (z : Pens K spool first p ns out (symbol s y)) (e : Env) (l : Line) (c : e.class ≡ fullClass) (st' : State) (q : step_in e l (symbol s y) ≡ got st') (ns' out' : List ℕ) (d : Drawn) (size : length out' ≡ length out) (many : length ns' ≡ 28) where
+module _ (K : Known) (spool : List ℕ) (first : Bool) (p : Pen) (ns out : List ℕ) (s : Set) (y : Symbol) (z : Pens K spool first p ns out (symbol s y)) (e : Env) (l : Line) (c : e.class ≡ full_class) (st' : State) (q : step_in e l (symbol s y) ≡ got st') (ns' out' : List ℕ) (d : Drawn) (size : length out' ≡ length out) (many : length ns' ≡ 28) where
   abbrev within : InSymbol K spool first p ns s y
   within = z.here.1
 

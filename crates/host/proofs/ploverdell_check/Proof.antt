@@ -1,5 +1,5 @@
 use mathlib.Core.Path.{◌∙◌, ap}
-use Rattle.rules.specs.Answers.{packed, checkAnswer}
+use Rattle.rules.specs.Answers.{packed, check_answer}
 use borrow.Author.Rules.{rules}
 use Rattle.host.proofs.ploverdell_check.Statement.{statement}
 use Rattle.host.proofs.ploverdell_check.Tie as tie
@@ -11,7 +11,7 @@ pack-requires : tie.Need-pack-requires
 pack-requires c κs = search rules
 
 returns : tie.Need-returns
-unfolding checkAnswer
+unfolding check_answer
 returns c = c.pack.ensures ∙ ap packed c.before.check.ensures
 
 pub ploverdell-check-spec : {M : Type 1} → statement M

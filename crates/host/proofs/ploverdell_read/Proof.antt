@@ -1,5 +1,5 @@
 use mathlib.Core.Path.{◌∙◌, ap}
-use Rattle.rules.specs.Answers.{packed, answerCount}
+use Rattle.rules.specs.Answers.{packed, answer_count}
 use borrow.Author.Rules.{rules}
 use Rattle.host.proofs.ploverdell_read.Statement.{statement}
 use Rattle.host.proofs.ploverdell_read.Tie as tie
@@ -17,7 +17,7 @@ same_length : tie.Need-same-length
 same_length c = search rules
 
 returns : tie.Need-returns
-returns c = (c.pack.ensures ∙ ap packed c.before.before.before.read.ensures.0, c.before.before.before.read.ensures.1, c.before.count_of.ensures ∙ ap answerCount c.before.before.before.read.ensures.0)
+returns c = (c.pack.ensures ∙ ap packed c.before.before.before.read.ensures.0, c.before.before.before.read.ensures.1, c.before.count_of.ensures ∙ ap answer_count c.before.before.before.read.ensures.0)
 
 pub ploverdell-read-spec : {M : Type 1} → statement M
 ploverdell-read-spec =

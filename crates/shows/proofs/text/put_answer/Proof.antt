@@ -1,7 +1,7 @@
 use mathlib.Core.List.{List}
 use mathlib.Core.Path.{subst}
 use lib.IntN.{ℤ}
-use Rattle.rules.specs.Answers.{printLine}
+use Rattle.rules.specs.Answers.{print_line}
 use Rattle.shows.specs.Laid.{Lays}
 use Rattle.shows.proofs.Laying.{accepted-line, refused-line}
 use borrow.Author.Rules.{rules}
@@ -42,13 +42,13 @@ same_length : tie.Need-same-length
 same_length c = search rules
 
 returns : tie.Need-returns
-returns c = subst (λ (zs : List ℤ). Lays (printLine zs) c.before.before.before.before.before.before.before.before.before.args.out.now c.before.before.put-line.new.1.0 c.before.before.put-line.result) (accepted-line c.before.before.before.before.before.before.before.before.before.args.a c.before.before.before.before.before.before.a.given.0.0 (search rules) c.before.before.before.before.before.before.a.given.1) c.before.before.put-line.ensures
+returns c = subst (λ (zs : List ℤ). Lays (print_line zs) c.before.before.before.before.before.before.before.before.before.args.out.now c.before.before.put-line.new.1.0 c.before.before.put-line.result) (accepted-line c.before.before.before.before.before.before.before.before.before.args.a c.before.before.before.before.before.before.a.given.0.0 (search rules) c.before.before.before.before.before.before.a.given.1) c.before.before.put-line.ensures
 
 same-length-2 : tie.Need-same-length-2
 same-length-2 c = search rules
 
 returns-2 : tie.Need-returns-2
-returns-2 c = subst (λ (zs : List ℤ). Lays (printLine zs) c.before.before.before.before.before.before.before.before.before.before.before.before.args.out.now c.before.before.put-line2.new.1.0 c.before.before.put-line2.result) (refused-line c.before.before.before.before.before.before.before.before.before.before.before.before.args.a c.before.before.before.before.before.before.before.before.before.a2.given.0.0 (search rules) (search rules) (search rules) c.before.before.before.before.before.before.before.before.before.a2.given.1) c.before.before.put-line2.ensures
+returns-2 c = subst (λ (zs : List ℤ). Lays (print_line zs) c.before.before.before.before.before.before.before.before.before.before.before.before.args.out.now c.before.before.put-line2.new.1.0 c.before.before.put-line2.result) (refused-line c.before.before.before.before.before.before.before.before.before.before.before.before.args.a c.before.before.before.before.before.before.before.before.before.a2.given.0.0 (search rules) (search rules) (search rules) c.before.before.before.before.before.before.before.before.before.a2.given.1) c.before.before.put-line2.ensures
 
 pub put-answer-spec : {M : Type 1} → statement M
 put-answer-spec =

@@ -3,14 +3,14 @@ use mathlib.Core.Path.{refl}
 use mathlib.Core.List.{◌∷◌}
 use lib.ListN.{length}
 use native.Mathlib.Omega.{arith}
-use Rattle.rules.specs.Answers.{showNumber}
+use Rattle.rules.specs.Answers.{show_number}
 use Rattle.leaves.proofs.Written.{full, behind-full, behind-room, behind-bytes}
 use borrow.Author.Rules.{rules}
 use Rattle.shows.proofs.text.put_minus.Statement.{statement}
 use Rattle.shows.proofs.text.put_minus.Tie as tie
 
 returns : tie.Need-returns
-returns c = full (45 ∷ showNumber c.before.before.args.n) c.before.before.args.out.now (suc (length (showNumber c.before.before.args.n))) refl (omega (arith, c.if1.true))
+returns c = full (45 ∷ show_number c.before.before.args.n) c.before.before.args.out.now (suc (length (show_number c.before.before.args.n))) refl (omega (arith, c.if1.true))
 
 sub-put-count : tie.Need-overflow-sub-put-count
 sub-put-count c = search rules
