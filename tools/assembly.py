@@ -9,7 +9,7 @@ OF_LLVM = "-no-trap-after-noreturn -trap-unreachable -no-x86-call-frame-opt -dis
 WORDS += [word for flag in OF_LLVM.split() for word in ("-mllvm", flag)]
 UNWOUND = ("attributes #0 = { nounwind", "attributes #0 = { nounwind uwtable(sync)")
 LABEL = re.compile(r'"?([^\s"#.][^\s"#]*)"?:')
-OFFSET = re.compile(r"\.cfi_def_cfa_offset (\d+)")
+OFFSET = re.compile(r"\.cfi_def_cfa(?:_offset| %r(?:sp|11),) (\d+)")
 MOVED = re.compile(r"\.cfi_adjust_cfa_offset (-?\d+)")
 # a call, or a jump out of the function that stands for one
 CALL = re.compile(r'callq?\s+"?([^\s"@]+)"?(?:@PLT)?$')
