@@ -16,7 +16,7 @@ try answer preview: export SPOOL = examples/floor.spool
 # Before any long work: the file can be read, and programs for x86-64 run here.
 READY = tools/answer --readable -- "$$SPOOL" && tools/x86 need run
 
-## make try SPOOL=FILE        its answer in a sentence, by a reader that is built in seconds without proof: it proves nothing
+## make try SPOOL=FILE        its answer in a sentence, by a reader that is built without proof in half a minute: it proves nothing
 try:
 	@$(READY)
 	@tools/unproved accclass
