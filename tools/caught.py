@@ -1,6 +1,9 @@
 """The module that rt compiles, before any processor is chosen, and the kit's tools that compile and link it."""
 import os, pathlib, re, shutil, subprocess, sys, time
 
+import gated
+from crates import needed, used_by
+
 TOP = pathlib.Path(__file__).resolve().parent.parent
 # The last line of `rt try` where the program ended by itself.
 ENDED = re.compile(r"^run=ended .*proved=no\n\Z", re.M)
@@ -14,15 +17,33 @@ def kit():
     return pathlib.Path(shutil.which("rt")).resolve().parent.parent
 
 
-def module(words, crate, room):
-    """The module that `rt WORDS` compiles for a crate: rt puts it into the folder for temporary files while it works. (`rt try` puts a small
+def library(crate):
+    """The command that builds a crate's static library into its out/, once it is proved: `rt lib`. `rt ci` proves all below it from nothing and leaves
+    the libraries, but without the stamp that `rt lib` goes by. Where it passed on these very files, the kit's rattle builds over them, as rt would,
+    and proves the crate itself alone."""
+    below = needed([crate]) - {crate}
+    rlibs = {name: TOP / "crates" / name / "out" / "rlib" / f"{name}.rlib" for name in below}
+    if not all((rlib / "format").is_file() and not (rlib.parent / "stamp").exists() for rlib in rlibs.values()) or not gated.proved_here():
+        return ["rt", "lib"]
+    own = kit()
+    of_kit = dict.fromkeys(["std", *(name for name in used_by()[crate] if name not in below)])
+    words = [word for name in of_kit for word in ("--extern", f"{name}={own}/rlibs/{name}.rlib")]
+    words += [word for name in used_by()[crate] if name in below for word in ("--extern", f"{name}={rlibs[name]}")]
+    words += [word for folder in (own / "rlibs", *(rlib.parent for rlib in rlibs.values())) for word in ("-L", f"dependency={folder}")]
+    words += ["--antt-project", own / "rattle" / "logic" / "antt-project.json", "--logic-built", own / "logic_built", "--links", f"{crate}="]
+    words += ["--crate-type", "staticlib", "--toolchain", own / "toolchain", "--backend", "llvm", "-o", f"out/lib{crate}.a"]
+    return [own / "bin" / "rattle", "build", "--crate-name", crate, "src/lib.rt", *words]
+
+
+def module(command, crate, room):
+    """The module that a command of rt compiles for a crate: rt puts it into the folder for temporary files while it works. (`rt try` puts a small
     one beside it, for the sanitizer.)"""
     work = room / "work"
     work.mkdir()
     said = room / "said"
     with open(said, "wb") as to:
         env = {**os.environ, "TMPDIR": str(work)}
-        rt = subprocess.Popen(["rt", *words], cwd=TOP / "crates" / crate, env=env, stdin=subprocess.DEVNULL, stdout=to, stderr=subprocess.STDOUT)
+        rt = subprocess.Popen(command, cwd=TOP / "crates" / crate, env=env, stdin=subprocess.DEVNULL, stdout=to, stderr=subprocess.STDOUT)
     seen = {}
     while rt.poll() is None:
         for found in work.glob("**/module.bc"):
@@ -32,9 +53,9 @@ def module(words, crate, room):
                 pass
         time.sleep(0.01)
     text = said.read_text(errors="replace")
-    done = ENDED.search(text) if words[0] == "try" else rt.returncode == 0
+    done = ENDED.search(text) if "try" in command else rt.returncode == 0
     if not done or not seen:
-        sys.exit(f"{text}rt {' '.join(words)} failed for {crate}, or its module was not seen")
+        sys.exit(f"{text}{' '.join(map(str, command[:2]))} failed for {crate}, or its module was not seen")
     kept = room / "module.bc"
     kept.write_bytes(max(seen.values(), key=len))
     return kept
@@ -64,6 +85,6 @@ def program(name, room):
     folder = room / name
     folder.mkdir()
     thing, to = folder / "module.o", folder / name
-    compiled(["-O2", "-fPIC", "-c"], module(["try", name], name, folder), thing)
+    compiled(["-O2", "-fPIC", "-c"], module(["rt", "try", name], name, folder), thing)
     linked([thing], to)
     return to

@@ -7,5 +7,5 @@ HOST = "host_c"
 def proved(room):
     """The module as rt hands it to the compiler, nothing of it optimized yet."""
     text = room / "module.ll"
-    caught.compiled(["-S", "-emit-llvm", "-O0", "-Xclang", "-disable-llvm-passes"], caught.module(["lib"], HOST, room), text)
+    caught.compiled(["-S", "-emit-llvm", "-O0", "-Xclang", "-disable-llvm-passes"], caught.module(caught.library(HOST), HOST, room), text)
     return text.read_text()
