@@ -38,13 +38,7 @@ pub fn ploverdell_check(spool: &[u8], cls: u64, wire: u64) -> u64
 }
 
 // The reader: the packed number, the records in the lent table, and how many they are.
-pub fn ploverdell_read(
-    spool: &[u8],
-    cls: u64,
-    wire: u64,
-    table: &mut [i64],
-    count: &mut u64,
-) -> u64
+pub fn ploverdell_read(spool: &[u8], cls: u64, wire: u64, table: &mut [i64], count: &mut u64) -> u64
     ensures { (result ≡ packed (read_answer cls wire (length table.old) spool.now)) × (table.new ≡ read_table cls wire (length table.old) spool.now) × (count.new ≡ answer_count (read_answer cls wire (length table.old) spool.now)) }
 {
     let a = read(spool, cls, wire, table);
