@@ -1,7 +1,7 @@
 # The lines that begin with ## are what `make help` prints; every target that people call has one.
 
-.PHONY: help try answer preview rules accread accfix accclass library host build install dist test gate-steps needs layout samples keys \
-	sentences pictures programs commands c-side reference compared edits-found broken-rules edits bench bench-spools native-bench stack stack-kept stack-bound compare sanitize
+.PHONY: help try answer preview rules accread accfix accclass library host build install dist test gate-steps gate-before gate-behind needs samples keys \
+	sentences pictures programs commands c-side reference asked compared edits-found broken-rules edits bench bench-spools stack stack-kept stack-bound compare sanitize
 
 ## make help                  this list; bare `make` is the same
 help:
@@ -16,7 +16,7 @@ try answer preview: export SPOOL = examples/floor.spool
 # Before any long work: the file can be read, and programs for x86-64 run here.
 READY = tools/answer --readable -- "$$SPOOL" && tools/x86 need run
 
-## make try SPOOL=FILE        its answer in a sentence, by a reader that is built in seconds without proof: it proves nothing
+## make try SPOOL=FILE        its answer in a sentence, by a reader that is built without proof in half a minute: it proves nothing
 try:
 	@$(READY)
 	@tools/unproved accclass
@@ -43,26 +43,25 @@ preview:
 
 ## make rules                 prove the definitions of document 01 and compute its sample rulings: a quarter of a minute
 rules:
-	rt check rules
+	cd crates/rules && rt check
 
 ## make accread               prove the reader and build target/bin/accread: ten to fifteen minutes
 accread:
-	rt check accread
+	tools/prove accread
 
 ## make accfix                prove the rewriter and build target/bin/accfix
 accfix:
-	rt check accfix
+	tools/prove accfix
 
 ## make accclass              prove the reader for any class and build target/bin/accclass
 accclass:
-	rt check accclass
+	tools/prove accclass
 
 ## make library               prove the C side and build target/libploverdell.a, for include/ploverdell.h
-# rt calls it target/staticlib/libhost.a, by its crate.
+# rt calls it crates/host_c/out/libhost_c.a, by its crate.
 library:
-	@tools/prove host
-	rt staticlib host
-	cp target/staticlib/libhost.a target/libploverdell.a
+	@tools/prove host_c
+	cp target/libhost_c.a target/libploverdell.a
 
 ## make host                  the same, and target/host (examples/host.c)
 host:
@@ -95,22 +94,26 @@ dist:
 ##
 ## Tests
 
-## make test                  the gate: all of the following tests, then every proof, must-fail edit and program from nothing (rt ci)
+## make test                  the gate: the tests that need no proof, every proof, must-fail edit and program (rt ci, which sees to the layout too),
+##                            then the tests of what was proved
 test:
 	@tools/gate $(MAKE) --no-print-directory gate-steps
 
-# rt proves in batches that wait for their slowest: four at a time keep two processors busy.
-gate-steps: needs layout samples keys sentences pictures c-side stack-bound reference programs commands compared edits-found broken-rules
-	RT_JOBS=4 rt ci
+# The last line printed is that of rt ci.
+gate-steps:
+	@$(MAKE) --no-print-directory gate-before
+	@tools/ci
+	@$(MAKE) --no-print-directory gate-behind
+	@tools/ci --last
+
+gate-before: needs samples keys sentences pictures c-side reference programs commands asked edits-found
+
+gate-behind: compared broken-rules stack-bound
 
 # Before anything is tried: what the gate calls is there.
 needs:
 	@tools/need rt cargo "$${CC:-cc}"
 	@tools/x86 need run
-
-## make layout                the layout of all code and proofs (rt fmt)
-layout:
-	rt fmt --check
 
 ## make samples               the sample spools, their listed answers and the questions about them are what their scripts make: a second
 samples:
@@ -144,17 +147,22 @@ c-side:
 	tools/c-side
 
 ## make stack-bound           none of the three functions for C takes 1 KB of stack more than bench/STACK says, whatever the spool; no key is laid
-##                            out in an array to be compared: the code is built without proof, in under half a minute
+##                            out in an array to be compared: the proved library is looked at
 stack-bound: bench-spools
+	@tools/x86 need run
+	@$(MAKE) --no-print-directory library
 	tools/stack --check $(STACK_SPOOLS)
 
 ## make reference             the tests of tests/reference, which answers the samples and vectors as they are listed: seconds
 reference:
 	tools/reference-test
 
-## make compared              all that the gate's program asked is asked and must answer: samples, vectors, and questions of the reference,
-##                            every number among its answers: seconds
-# What the program of crates/asked reads and must print: the kept questions, and these. Emulated it takes about half a minute for them.
+## make asked                 the program asked, built without proof, answers samples, vectors and 20,000 questions of the reference, every number
+##                            among their answers: a minute
+asked:
+	tools/frame-compared --unproved 20000 1997
+
+## make compared              the same of the program as it was proved, by each of the two compilers that built it
 compared:
 	tools/frame-compared 20000 1997
 
@@ -185,19 +193,13 @@ bench-spools:
 ## make bench                 ns per byte of splitting, of reading and of rewriting a spool, beside plain C (bench/FIGURES.md)
 bench: bench-spools
 	@tools/x86 need cc run
-	rt staticlib linebench
+	@tools/prove linebench
 	@$(MAKE) --no-print-directory library
-	tools/x86 cc -O2 -o target/split bench/split.c target/staticlib/liblinebench.a
+	tools/x86 cc -O2 -o target/split bench/split.c target/liblinebench.a
 	tools/x86 cc -O2 -Iinclude -o target/read bench/read.c bench/plain.c target/libploverdell.a
 	@echo "x86-64 programs run here: $$(tools/x86 where)"
 	tools/x86 run target/split
 	tools/x86 run target/read $(TIMED_SPOOLS)
-
-## make native-bench          the reader's and the rewriter's figures where the machine is not x86-64, without an emulator
-native-bench: bench-spools
-	tools/native-host target/host.o
-	cc -O2 -Iinclude -o target/read-native bench/read.c bench/plain.c target/host.o
-	target/read-native $(TIMED_SPOOLS)
 
 # What the stack is measured on.
 STACK_SPOOLS = examples/*.spool $(TIMED_SPOOLS)
@@ -225,4 +227,5 @@ compare:
 
 ## make sanitize              a thousand questions under AddressSanitizer, UndefinedBehaviorSanitizer and valgrind: about two minutes
 sanitize:
+	@$(MAKE) --no-print-directory library
 	tools/sanitize 1000 $(SEED)

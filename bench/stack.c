@@ -3,7 +3,7 @@
  * `NAME BYTES CLASS WIRE SPOOL` of the deepest, then one `NAME thread BYTES`: the smallest thread in which that spool's call still ends, in
  * steps of 1,024 bytes; below the thread's stack is a page that may not be touched.
  *
- * tools/stack compiles it with the Rattle kit's compiler, for x86-64 on any machine. The kit has a C library to link with and none of its
+ * tools/stack compiles it with the Rattle kit's compiler, for x86-64. The kit has a C library to link with and none of its
  * headers: what is used of it is declared here, as glibc has it on x86-64. */
 #include "ploverdell.h"
 

@@ -4,10 +4,12 @@ import collections, re, sys
 
 import caught
 
-WORDS = ["-O3", "-fPIC", "-ffunction-sections"]
+WORDS = ["-march=x86-64", "-O3", "-fPIC", "-ffunction-sections", "-fdata-sections"]
+OF_LLVM = "-no-trap-after-noreturn -trap-unreachable -no-x86-call-frame-opt -disable-machine-licm -disable-postra-machine-licm -sink-common-insts=false"
+WORDS += [word for flag in OF_LLVM.split() for word in ("-mllvm", flag)]
 UNWOUND = ("attributes #0 = { nounwind", "attributes #0 = { nounwind uwtable(sync)")
 LABEL = re.compile(r'"?([^\s"#.][^\s"#]*)"?:')
-OFFSET = re.compile(r"\.cfi_def_cfa_offset (\d+)")
+OFFSET = re.compile(r"\.cfi_def_cfa(?:_offset| %r(?:sp|11),) (\d+)")
 MOVED = re.compile(r"\.cfi_adjust_cfa_offset (-?\d+)")
 # a call, or a jump out of the function that stands for one
 CALL = re.compile(r'callq?\s+"?([^\s"@]+)"?(?:@PLT)?$')
@@ -25,7 +27,7 @@ def made(text, words, ending, room):
     """What the compiler makes of the module's text."""
     source, to = room / "source.ll", room / f"made.{ending}"
     source.write_text(text)
-    caught.compiled("x86_64", [*WORDS, *words], source, to)
+    caught.compiled([*WORDS, *words], source, to)
     return to
 
 

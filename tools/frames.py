@@ -17,6 +17,16 @@ REFERENCE_HEAD = 14  # the bytes of a question of tests/reference before its spo
 HEAD = 1 + REFERENCE_HEAD
 
 
+def kept(kind):
+    """The kept questions, or answers, one behind the other."""
+    return b"".join((KEPT / f"{name}.{kind}").read_bytes() for name in KEPT_NAMES)
+
+
+def total(count):
+    """What the program prints behind its answers."""
+    return f"{count} questions\n".encode()
+
+
 def length(n):
     return n.to_bytes(4, "big")
 

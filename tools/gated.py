@@ -3,6 +3,7 @@ import hashlib, os, pathlib, re, subprocess
 
 TOP = pathlib.Path(__file__).resolve().parent.parent
 KEPT = "gate"  # the file's name, in target/
+CI = TOP / "target" / "rt-ci"  # the same of `rt ci`, the gate's middle (tools/ci)
 PASSED = re.compile(r"[0-9]+ passed, 0 failed")
 
 
@@ -32,6 +33,12 @@ def text(last, digest):
     """What is kept: the line, the files, and for people the commit and the kit."""
     commit = said("git", "describe", "--always", "--dirty", "--abbrev=40").decode().strip()
     return f"{last}\ntree {digest}\ncommit {commit}\nkit {said('rt', 'version').decode().strip()}\n"
+
+
+def proved_here():
+    """Whether `rt ci` passed here on these very files."""
+    now = tree()
+    return bool(now) and CI.is_file() and f"tree {now}" in CI.read_text().splitlines()
 
 
 def fault(kept):

@@ -1,5 +1,5 @@
 """Rattle code and its proofs, as text in the layout of `rt fmt`."""
-import collections
+import collections, textwrap
 
 # the widest line, and the widest list of arguments in one line, of the layout (`rt fmt`)
 TO_ONE_LINE = 100
@@ -11,9 +11,23 @@ def in_order(names):
     return sorted(set(names), key=lambda n: n.replace("_", "\x01"))
 
 
-def uses(names):
-    """A line for each name that is used."""
-    return "".join(f"use {n};\n" for n in in_order(names))
+def uses(paths):
+    """The lines of what is used, sorted: a path by itself, names of one module in braces, over several lines where one is too narrow."""
+    modules = collections.defaultdict(list)
+    for path in set(paths):
+        module, _, name = path.rpartition("::")
+        modules[module].append(name)
+    found = [f"{module}::{names[0]}" if len(names) == 1 else f"{module}::{{{', '.join(in_order(names))}}}" for module, names in modules.items()]
+    return "".join(in_lines(f"use {path};") for path in in_order(found))
+
+
+def in_lines(use):
+    """A line of names in braces, which are laid out below it where it is too long."""
+    if len(use) <= TO_ONE_LINE:
+        return f"{use}\n"
+    front, names = use.removesuffix("};").split("{")
+    inner = textwrap.wrap(names + ",", TO_ONE_LINE - 1, initial_indent=" " * 4, subsequent_indent=" " * 4)
+    return "\n".join([f"{front}{{", *inner, "};\n"])
 
 
 def ghost(module, names):
@@ -48,47 +62,40 @@ def test(condition, call):
     return f"    if {condition} {{\n        return {laid(call, 8, len('return ;'))};\n    }}\n"
 
 
-def dashed(name):
-    """A name of the code as the proofs have it."""
-    return name.replace("_", "-")
-
-
 # ── proofs ──
 
 
-def before(n):
-    """What was known n steps before, in a proof."""
-    return "c" + " .before" * n
+def place(name, condition):
+    """What a name is called that is not the function's first of its kind: it stands behind a test that went as said."""
+    return f"{name}-then-{condition}"
 
 
-def again(name, n, dash="-"):
-    """The n-th of a name, from 1: name, name-2, name-3 .."""
-    return name if n == 1 else f"{name}{dash}{n}"
-
-
-class Proof:
-    """A proof file: an answer to each need, in the order of the code, and the function's theorem."""
+class Answers:
+    """A proof file: an answer to each goal of a function whose tests return one after the other, in the order of the code."""
 
     def __init__(self, head, crate, path, imports):
-        self.name = dashed(path.split("/")[-1])
-        home = f"Rattle·{crate}·proofs.proofs.{path.replace('/', '.')}"
-        self.text = f"-- {head}\n{imports}use borrow.Author.Needs.{{needs}}\nuse {home}.Statement.{{statement}}\nuse {home}.Tie as tie\n"
-        self.needs, self.count, self.calls = [], collections.Counter(), collections.Counter()
+        home = f"Rattle.{crate}.proofs.{path.replace('/', '.')}"
+        self.head = f"{imports}use borrow.Author.Rules.{{rules}}\nuse {home}.Goals as goal\n\n-- {head}\n"
+        self.answers, self.there = [], set()
 
-    def answer(self, need, given, args="c", unfolding=""):
-        self.count[need] += 1
-        name = again(need, self.count[need])
+    def named(self, name, behind):
+        """A name's own at its first place, behind a test at any other."""
+        found = place(name, behind) if name in self.there else name
+        self.there.add(name)
+        return found
+
+    def answer(self, goal, given, args="c", unfolding=""):
         opened = f"unfolding {unfolding}\n" if unfolding else ""
-        self.text += f"\n{name} : tie.Need-{name}\n{opened}{name} {args} = {given}\n"
-        self.needs.append(name)
+        self.answers.append(f"pub {goal} : goal.{goal}\n{opened}{goal} {args} = {given}\n")
 
-    def call(self, function, given="search needs"):
+    def call(self, function, behind="", given="search rules"):
         """A call of a function, which asks for what it requires; the name of its place."""
-        self.answer(f"{dashed(function)}-requires", given, "c κs")
-        self.calls[function] += 1
-        return again(dashed(function), self.calls[function], "")
+        self.answer(self.named(f"{function}-requires", behind), given)
+        return self.named(function, behind)
+
+    def returns(self, given, behind="", unfolding=""):
+        """What the function returns where a test was met, or at its end."""
+        self.answer(place("returns", behind) if behind else "returns", given, unfolding=unfolding)
 
     def whole(self):
-        spec = f"{self.name}-spec"
-        needs = "".join(f"\n    {n}" for n in self.needs)
-        return f"{self.text}\npub {spec} : {{M : Type 1}} → statement M\n{spec} =\n    tie.close\n    (tie.spec{needs})\n"
+        return self.head + "\n".join(self.answers)

@@ -25,7 +25,7 @@ def program(unproved=False):
     """The program that answers; NoReader tells how to get it."""
     wanted = UNPROVED if unproved else PROVED
     if not wanted.is_file():
-        raise NoReader(f"{wanted.relative_to(TOP)} is not built: `make try` builds a reader in seconds without proof, `make answer` proves it first")
+        raise NoReader(f"{wanted.relative_to(TOP)} is not built: `make try` builds a reader without proof in half a minute, `make answer` proves it first")
     return wanted
 
 

@@ -4,7 +4,7 @@
 
 ghost use Rattle.std.specs.Prelude.{take, OnOk};
 ghost use Rattle.std.specs.Io.KnownBytes.{Appends};
-ghost use Rattle.rules.specs.Answers.{answerCount};
+ghost use Rattle.rules.specs.Answers.{answer_count};
 
 use rules::Answer;
 use sets::rewrite;
@@ -19,7 +19,7 @@ const MOST_WRITTEN: usize = 61440;
 
 // Writes the fixed form, if there is one.
 fn write<W: Write>(to: &mut W, answer: Answer, out: &[u8]) -> io::Result<()>
-    ensures { OnOk result (Appends (W.contents to.old) (W.contents to.new) (take (answerCount answer) out.now)) }
+    ensures { OnOk result (Appends (W.contents to.old) (W.contents to.new) (take (answer_count answer) out.now)) }
 {
     match answer {
         Answer::Accepted(count) => write_front(to, out, count as usize),

@@ -7,7 +7,7 @@ use mathlib.Core.Path.{◌≡◌, refl, sym, ◌∙◌, ap, subst}
 use native.Mathlib.Omega.{arith}
 use lib.Dec.{leb}
 use lib.IntN.{ℤ, pos}
-use lib.ListN.{length, get_or, set, length-set, take, length-take}
+use lib.ListN.{drop, length, get_or, set, length-set, take, length-take}
 use lib.Seq.{get_or-set_same, get_or-set_other}
 use borrow.Author.Tests.{ne_eqb, not-true, not-false, lt-ltb, leb-true}
 use Rattle.rules.specs.declared.Digits.{Digits}
@@ -239,7 +239,7 @@ act_naming k rs d full (keyed key x) p = go (find key (name_row ∷ rs)) refl
 
 symbol_naming : (k : Known) (d : Digits) (full : List Bool) (f : Form) → ContentPlaced f → Naming (act k (table_of 9) d full f)
 unfolding table_of symbol_table
-symbol_naming k d full f p = act_naming k _ d full f p
+symbol_naming k d full f p = act_naming k (drop 1 symbol_table) d full f p
 
 -- in the record
 two-put : (rec : List ℤ) (at n : ℕ) → length rec ≡ 32 → at < 65536 → n < 65536 → is_named (set (set rec 5 (pos at)) 6 (pos n)) ≡ true

@@ -6,21 +6,21 @@ use mathlib.Core.List.{List}
 use mathlib.Core.Path.{◌≡◌, sym, ◌∙◌}
 use lib.IntN.{ℤ}
 use lib.ListN.{length}
-use Rattle.rules.specs.Answers.{answerCount, readAnswer, readTable, packed, checkAnswer, rewriteAnswer, rewriteOutput}
+use Rattle.rules.specs.Answers.{answer_count, read_answer, read_table, packed, check_answer, rewrite_answer, rewrite_output}
 use Rattle.leaves.proofs.Unique.{One, paired}
 use Rattle.host.proofs.ploverdell_check as ploverdell-check'
 use Rattle.host.proofs.ploverdell_read as ploverdell-read'
 use Rattle.host.proofs.ploverdell_rewrite as ploverdell-rewrite'
 
-pub ploverdell-check_unique : (spool : List ℕ) (cls wire : ℕ) (r₁ r₂ : ℕ) → r₁ ≡ checkAnswer cls wire spool → r₂ ≡ checkAnswer cls wire spool → r₁ ≡ r₂
+pub ploverdell-check_unique : (spool : List ℕ) (cls wire : ℕ) (r₁ r₂ : ℕ) → r₁ ≡ check_answer cls wire spool → r₂ ≡ check_answer cls wire spool → r₁ ≡ r₂
 ploverdell-check_unique spool cls wire r₁ r₂ c₁ c₂ = c₁ ∙ sym c₂
 
 ploverdell-check-code : One ploverdell-check'.Kinds.ps ploverdell-check'.Kinds.r ploverdell-check'.Reads.Learnt (λ κs r e. r)
 ploverdell-check-code κs x r₁ r₂ e₁ e₂ = ploverdell-check_unique x.0.now x.1.0 x.1.1.0 r₁ r₂
 
 pub ploverdell-read_unique : (spool : List ℕ) (cls wire : ℕ) (table table₁ table₂ : List ℤ) (count₁ count₂ r₁ r₂ : ℕ)
-    → (r₁ ≡ packed (readAnswer cls wire (length table) spool)) × (table₁ ≡ readTable cls wire (length table) spool) × (count₁ ≡ answerCount (readAnswer cls wire (length table) spool))
-    → (r₂ ≡ packed (readAnswer cls wire (length table) spool)) × (table₂ ≡ readTable cls wire (length table) spool) × (count₂ ≡ answerCount (readAnswer cls wire (length table) spool))
+    → (r₁ ≡ packed (read_answer cls wire (length table) spool)) × (table₁ ≡ read_table cls wire (length table) spool) × (count₁ ≡ answer_count (read_answer cls wire (length table) spool))
+    → (r₂ ≡ packed (read_answer cls wire (length table) spool)) × (table₂ ≡ read_table cls wire (length table) spool) × (count₂ ≡ answer_count (read_answer cls wire (length table) spool))
     → (r₁ ≡ r₂) × (table₁ ≡ table₂) × (count₁ ≡ count₂)
 ploverdell-read_unique spool cls wire table table₁ table₂ count₁ count₂ r₁ r₂ c₁ c₂ = (c₁.0 ∙ sym c₂.0, c₁.1 ∙ sym c₂.1, c₁.2 ∙ sym c₂.2)
 
@@ -30,8 +30,8 @@ ploverdell-read-code κs x r₁ r₂ e₁ e₂ c₁ c₂ =
     paired (same, paired (table, count))
 
 pub ploverdell_rewrite_unique : (spool out out₁ out₂ : List ℕ) (count₁ count₂ r₁ r₂ : ℕ)
-    → (r₁ ≡ packed (rewriteAnswer (length out) spool)) × (out₁ ≡ rewriteOutput (length out) spool) × (count₁ ≡ answerCount (rewriteAnswer (length out) spool))
-    → (r₂ ≡ packed (rewriteAnswer (length out) spool)) × (out₂ ≡ rewriteOutput (length out) spool) × (count₂ ≡ answerCount (rewriteAnswer (length out) spool))
+    → (r₁ ≡ packed (rewrite_answer (length out) spool)) × (out₁ ≡ rewrite_output (length out) spool) × (count₁ ≡ answer_count (rewrite_answer (length out) spool))
+    → (r₂ ≡ packed (rewrite_answer (length out) spool)) × (out₂ ≡ rewrite_output (length out) spool) × (count₂ ≡ answer_count (rewrite_answer (length out) spool))
     → (r₁ ≡ r₂) × (out₁ ≡ out₂) × (count₁ ≡ count₂)
 ploverdell_rewrite_unique spool out out₁ out₂ count₁ count₂ r₁ r₂ c₁ c₂ = (c₁.0 ∙ sym c₂.0, c₁.1 ∙ sym c₂.1, c₁.2 ∙ sym c₂.2)
 

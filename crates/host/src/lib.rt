@@ -1,8 +1,8 @@
-// The reader and the rewriter for the plot server's host, written in C: include/ploverdell.h.
+// The reader and the rewriter as the plot server's host, written in C, calls them (include/ploverdell.h): crate host_c hands them to C.
 #![tactic(auto)]
 
 ghost use Rattle.std.specs.Prelude.{◌≡◌, length};
-ghost use Rattle.rules.specs.Answers.{answerCount, readAnswer, readTable, packed, checkAnswer, rewriteAnswer, rewriteOutput};
+ghost use Rattle.rules.specs.Answers.{answer_count, read_answer, read_table, packed, check_answer, rewrite_answer, rewrite_output};
 
 use rules::Answer;
 use sets::{check, read, rewrite};
@@ -18,7 +18,7 @@ fn pack(a: Answer) -> u64
 }
 
 fn count_of(a: Answer) -> u64
-    ensures { result ≡ answerCount a }
+    ensures { result ≡ answer_count a }
 {
     match a {
         Answer::Accepted(n) => n as u64,
@@ -31,23 +31,15 @@ const OWN_RECORDS: u32 = 256;
 
 // The check: "takes spool and class, uses a table of 256 records of its own"; "whatever takes a class takes its wire part". Nobody sees that
 // table, so its records are counted and none is laid out, 64 KB of the host's small stack.
-#[unsafe(no_mangle)]
-pub extern "C" fn ploverdell_check(spool: &[u8], cls: u64, wire: u64) -> u64
-    ensures { result ≡ checkAnswer cls wire spool.now }
+pub fn ploverdell_check(spool: &[u8], cls: u64, wire: u64) -> u64
+    ensures { result ≡ check_answer cls wire spool.now }
 {
     pack(check(spool, cls, wire, OWN_RECORDS))
 }
 
 // The reader: the packed number, the records in the lent table, and how many they are.
-#[unsafe(no_mangle)]
-pub extern "C" fn ploverdell_read(
-    spool: &[u8],
-    cls: u64,
-    wire: u64,
-    table: &mut [i64],
-    count: &mut u64,
-) -> u64
-    ensures { (result ≡ packed (readAnswer cls wire (length table.old) spool.now)) × (table.new ≡ readTable cls wire (length table.old) spool.now) × (count.new ≡ answerCount (readAnswer cls wire (length table.old) spool.now)) }
+pub fn ploverdell_read(spool: &[u8], cls: u64, wire: u64, table: &mut [i64], count: &mut u64) -> u64
+    ensures { (result ≡ packed (read_answer cls wire (length table.old) spool.now)) × (table.new ≡ read_table cls wire (length table.old) spool.now) × (count.new ≡ answer_count (read_answer cls wire (length table.old) spool.now)) }
 {
     let a = read(spool, cls, wire, table);
     *count = count_of(a);
@@ -55,9 +47,8 @@ pub extern "C" fn ploverdell_read(
 }
 
 // The rewriter: the packed number, the fixed form in the lent output, and how many bytes it has.
-#[unsafe(no_mangle)]
-pub extern "C" fn ploverdell_rewrite(spool: &[u8], out: &mut [u8], count: &mut u64) -> u64
-    ensures { (result ≡ packed (rewriteAnswer (length out.old) spool.now)) × (out.new ≡ rewriteOutput (length out.old) spool.now) × (count.new ≡ answerCount (rewriteAnswer (length out.old) spool.now)) }
+pub fn ploverdell_rewrite(spool: &[u8], out: &mut [u8], count: &mut u64) -> u64
+    ensures { (result ≡ packed (rewrite_answer (length out.old) spool.now)) × (out.new ≡ rewrite_output (length out.old) spool.now) × (count.new ≡ answer_count (rewrite_answer (length out.old) spool.now)) }
 {
     let a = rewrite(spool, out);
     *count = count_of(a);

@@ -8,7 +8,7 @@ use lib.ListN.{length, get_or, take, drop, length-drop}
 use lib.Seq.{get_or-take, drop-drop}
 use Rattle.rules.specs.Base.{is_some}
 use Rattle.rules.specs.Machine as M
-use Rattle.rules.specs.Answers.{listed, noLines, nextName, linesOfVolume, listVolumes}
+use Rattle.rules.specs.Answers.{listed, no_lines, next_name, lines_of_volume, list_volumes}
 use Rattle.rules.specs.Spool.{most_volumes, Volume, lines_of, volumes_of}
 use Rattle.lines.specs.LineLook.{PartOf}
 use Rattle.lines.specs.VolumePlaces.{layout_of}
@@ -71,7 +71,7 @@ AllLined (v ∷ vs) = Lined v × AllLined vs
 -- what a number says of the volumes from k on: 0, that all have lines; any other, that rule 3 is broken first there
 abbrev pub Tells : ℕ → List Volume → ℕ → Type 0
 Tells k vs zero = AllLined vs
-Tells k vs (suc n) = listVolumes k vs ≡ noLines (suc n)
+Tells k vs (suc n) = list_volumes k vs ≡ no_lines (suc n)
 
 -- one volume's lines before the others
 tells_more : (k : ℕ) (v : Volume) (vs : List Volume) (ls : List (List ℕ)) (n : ℕ) → lines_of v.body ≡ some ls → Tells (suc k) vs n → Tells k (v ∷ vs) n
@@ -124,7 +124,7 @@ module _ (s : List ℕ) (vs : List Volume) (e : volumes_of s ≡ some vs) where
   sound-volumes q = subst (Tells 1 vs) q tells
 
   -- the first that does
-  pub unsound-volume : (n : ℕ) → first_unsound s (layout_of (volumes_of s)) ≡ suc n → listVolumes 1 vs ≡ noLines (suc n)
+  pub unsound-volume : (n : ℕ) → first_unsound s (layout_of (volumes_of s)) ≡ suc n → list_volumes 1 vs ≡ no_lines (suc n)
   unsound-volume n q = subst (Tells 1 vs) q tells
 
 -- ── the lines of all volumes ──
@@ -137,8 +137,8 @@ lined-nth (w ∷ vs) (suc i) v us e h = lined-nth vs i v us e h.1
 -- the lines of volumes that all have lines, the first of them with number k
 abbrev pub lines_over : ℕ → (vs : List Volume) → AllLined vs → List M.Line
 lines_over k [] h = []
-lines_over k (v ∷ vs) h = linesOfVolume k (nextName vs) v.place h.0.lines ++ lines_over (suc k) vs h.1
+lines_over k (v ∷ vs) h = lines_of_volume k (next_name vs) v.place h.0.lines ++ lines_over (suc k) vs h.1
 
-pub lined-listed : (k : ℕ) (vs : List Volume) (h : AllLined vs) → listVolumes k vs ≡ listed (lines_over k vs h)
+pub lined-listed : (k : ℕ) (vs : List Volume) (h : AllLined vs) → list_volumes k vs ≡ listed (lines_over k vs h)
 lined-listed k [] h = refl
 lined-listed k (v ∷ vs) h = rw (h.0.are, lined-listed (suc k) vs h.1)

@@ -12,7 +12,7 @@ pub enum Head {
 
 // Where a spool's volumes stand: how many there are, and for each the place of its first byte and its length; zeros behind them.
 // A spool that refusal 2 holds of has none.
-#[derive(Drop)]
+#[derive(Clone, Copy)]
 pub struct Layout {
     pub count: u32,
     pub places: [u32; 12],

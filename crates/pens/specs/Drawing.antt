@@ -6,7 +6,7 @@ use Rattle.rules.specs.Lines.{brace, equals, Form, ignored, wrong, close, eof, k
 use Rattle.rules.specs.Values.{Known}
 use Rattle.rules.specs.Machine.{Line, Env, State}
 use Rattle.rules.specs.LineByLine.{step_in}
-use Rattle.rules.specs.Answers.{fullClass}
+use Rattle.rules.specs.Answers.{full_class}
 use Rattle.pens.specs.declared.Pen.{Pen}
 use Rattle.pens.specs.declared.Drawn.{Drawn}
 use Rattle.pens.specs.declared.Drawn.TheVariants as D
@@ -32,6 +32,6 @@ LineOut K spool first st ns out D.Full = length out < length (line_bytes (shown 
 -- at class 15 with wire part 18, as the rewriter reads; fs: the forms of the lines behind this one
 abbrev pub DrawPromise : List ℕ → List ℕ → ℕ → ℕ → Bool → LineForm → Pen → List ℕ → List ℕ → List ℕ → List ℕ → Drawn → Type 0
 DrawPromise spool body start from first form p ns₀ ns₁ before after d =
-    (K : Known) (e : Env) (l : Line) (fs : List Form) (st st' : State) → e.class ≡ fullClass → l.form ≡ form_in spool form → PlacedCode form
+    (K : Known) (e : Env) (l : Line) (fs : List Form) (st st' : State) → e.class ≡ full_class → l.form ≡ form_in spool form → PlacedCode form
     → FormFits l.form
     → Pens K spool first p ns₀ before st → Along spool body start from (l.form ∷ fs) st → step_in e l st ≡ got st' → LineOut K spool first st' ns₁ after d

@@ -241,11 +241,14 @@ fn key_file(
     Drawn::Go(pen)
 }
 
+// The row of DRAWING_FORMAT that opens a block.
+const ROW_LAYER_NAME: u8 = 7;
+
 fn key_drawing(row: Row, s: &[u8], rest: Rest, pen: Pen, notes: &mut [u32], out: &mut [u8]) -> Drawn
     requires { Safe pen out.old × (pen.block ≡ block_drawing) }
     ensures { Kept out.old out.new result × (length notes.new ≡ length notes.old) × RowDone 7 row s.now rest pen notes.old notes.new out.old out.new result }
 {
-    if row.number == 7 {
+    if row.number == ROW_LAYER_NAME {
         return put_at_once(7, row, s, rest, pen, BLOCK_LAYER_NAMES, out);
     }
     note(7, row, rest, notes);

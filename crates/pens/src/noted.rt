@@ -200,7 +200,7 @@ fn inner_table(base: u8, table: u8, number: u8, s: &[u8], note: u32, out: &mut [
 }
 
 // The inner part of a table and its `}`; nothing where there is no table.
-#[cycle(put_part_put_rows_put_slot)]
+#[cycle(parts)]
 pub(crate) fn put_part(
     depth: u8,
     base: u8,
@@ -227,7 +227,7 @@ pub(crate) fn put_part(
 }
 
 // The row of number j, and the inner part that it opens.
-#[cycle(put_part_put_rows_put_slot)]
+#[cycle(parts)]
 fn put_slot(depth: u8, base: u8, table: u8, j: u8, s: &[u8], notes: &[u32], out: &mut [u8]) -> Wrote
     requires { depth ≤ 3 }
     ensures { Within out.old out.new result × PrintsSlot s.now depth base table j notes.now out.old out.new result }
@@ -246,7 +246,7 @@ fn put_slot(depth: u8, base: u8, table: u8, j: u8, s: &[u8], notes: &[u32], out:
 }
 
 // The rows of a part from number j on, each inner part and its `}` behind the line that opens it; at most `depth` parts are in each other.
-#[cycle(put_part_put_rows_put_slot)]
+#[cycle(parts)]
 pub(crate) fn put_rows(
     depth: u8,
     base: u8,

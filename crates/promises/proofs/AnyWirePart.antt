@@ -29,7 +29,7 @@ use Rattle.rules.specs.VolumesAndTotals.{counted_all, layers_used, partners_exis
 use Rattle.rules.specs.Wires.{wire_full, is_element_row, on_wire_act, on_wire_unknown, on_wire_key, on_wire_own, on_wire}
 use Rattle.rules.specs.LineByLine.{step_in, step, Outcome, refused, accepted, then_run, run}
 use Rattle.rules.specs.RecordTable.{View, width, unread_state, mark_unread, put_slots, shelves, put_groups, put_texts, wire_start, wire_numbers, wire_values, two_of, edge_records, figure_records, block_records, body_records, later_records, records_from, records_of}
-use Rattle.rules.specs.Answers.{Listed, listed, noLines, listVolumes, outcomeOfLines, outcomeOfVolumes, outcomeOf, outcomeAt, classOr, recordsIn, readOutcome, readRecords, readAnswer, readTable}
+use Rattle.rules.specs.Answers.{Listed, listed, no_lines, list_volumes, outcome_of_lines, outcome_of_volumes, outcome_of, outcome_at, class_or, records_in, read_outcome, read_records, read_answer, read_table}
 use Rattle.rules.proofs.Chains.{and_left, and_right, and_true, and_false, clash, map-agree}
 use Rattle.rules.proofs.Rows.{Row, found-row, row-all}
 use Rattle.rules.proofs.Runs.{not-accepted}
@@ -247,21 +247,21 @@ module _ (symbols one other : Digits) (m : Option ℕ) where
       go (got st') q ih h = ih st' (settled_on here l st st' i q).0 h
       go (bad k) q ih h = refl
 
-  volumes-same : (o : Option (List Volume)) → is_wired (set_of_volumes here o) ≡ false → outcomeOfVolumes here o ≡ outcomeOfVolumes there o
+  volumes-same : (o : Option (List Volume)) → is_wired (set_of_volumes here o) ≡ false → outcome_of_volumes here o ≡ outcome_of_volumes there o
   volumes-same none h = refl
-  volumes-same (some vs) h = go (listVolumes 1 vs) h
+  volumes-same (some vs) h = go (list_volumes 1 vs) h
     where
-      go : (l : Listed) → is_wired (set_of_lines here l) ≡ false → outcomeOfLines here l ≡ outcomeOfLines there l
+      go : (l : Listed) → is_wired (set_of_lines here l) ≡ false → outcome_of_lines here l ≡ outcome_of_lines there l
       go (listed ls) h = run-same ls (top nothing_yet 0) (λ _. nothing-wired) h
-      go (noLines v) h = refl
+      go (no_lines v) h = refl
 
-  volumes-read : (o : Option (List Volume)) (s : Set) → outcomeOfVolumes here o ≡ accepted s → set_of_volumes here o ≡ s
+  volumes-read : (o : Option (List Volume)) (s : Set) → outcome_of_volumes here o ≡ accepted s → set_of_volumes here o ≡ s
   volumes-read none s q = not-accepted q
-  volumes-read (some vs) s q = go (listVolumes 1 vs) q
+  volumes-read (some vs) s q = go (list_volumes 1 vs) q
     where
-      go : (l : Listed) → outcomeOfLines here l ≡ accepted s → set_of_lines here l ≡ s
+      go : (l : Listed) → outcome_of_lines here l ≡ accepted s → set_of_lines here l ≡ s
       go (listed ls) q = whole-read here (top nothing_yet 0) ls s q
-      go (noLines v) q = not-accepted q
+      go (no_lines v) q = not-accepted q
 
 -- ── the records ──
 -- none of a wire's attributes that have a state is there where E_wire is 000
@@ -337,43 +337,43 @@ alike class one other p q = rw (p, q) (go (is_symbol_part class))
     go true = each (digits_of class) (digits_of one) (digits_of other)
     go false = neither
 
-at_same : {c c' : Option Class} → Alike c c' → (m : ℕ) (spool : List ℕ) → is_wired (set_at c m spool) ≡ false → outcomeAt c (some m) spool ≡ outcomeAt c' (some m) spool
-unfolding outcomeOf
+at_same : {c c' : Option Class} → Alike c c' → (m : ℕ) (spool : List ℕ) → is_wired (set_at c m spool) ≡ false → outcome_at c (some m) spool ≡ outcome_at c' (some m) spool
+unfolding outcome_of
 at_same neither m spool h = refl
 at_same (each symbols one other) m spool h = volumes-same symbols one other (some m) (volumes_of spool) h
 
-read_at : {c c' : Option Class} → Alike c c' → (m : ℕ) (spool : List ℕ) (s : Set) → outcomeAt c (some m) spool ≡ accepted s → set_at c m spool ≡ s
-unfolding outcomeOf
+read_at : {c c' : Option Class} → Alike c c' → (m : ℕ) (spool : List ℕ) (s : Set) → outcome_at c (some m) spool ≡ accepted s → set_at c m spool ≡ s
+unfolding outcome_of
 read_at neither m spool s q = not-accepted q
 read_at (each symbols one other) m spool s q = volumes-read symbols one other (some m) (volumes_of spool) s q
 
-taken-same : {c c' : Option Class} → Alike c c' → (o : Outcome) → ((s : Set) → o ≡ accepted s → is_wired s ≡ false) → recordsIn (classOr c) o ≡ recordsIn (classOr c') o
+taken-same : {c c' : Option Class} → Alike c c' → (o : Outcome) → ((s : Set) → o ≡ accepted s → is_wired s ≡ false) → records_in (class_or c) o ≡ records_in (class_or c') o
 taken-same neither o h = refl
 taken-same (each symbols one other) (refused n v l) h = refl
 taken-same (each symbols one other) (accepted s) h = records-same symbols one other s (h s refl)
 
 -- ── the answers ──
 module _ (class one other : ℕ) (p : is_wire_part one ≡ true) (q : is_wire_part other ≡ true) (len : ℕ) (spool : List ℕ) where
-  set-read : (s : Set) → readOutcome class one len spool ≡ accepted s → set_read class one len spool ≡ s
-  unfolding readOutcome
+  set-read : (s : Set) → read_outcome class one len spool ≡ accepted s → set_read class one len spool ≡ s
+  unfolding read_outcome
   set-read s e = read_at (alike class one other p q) (len / width) spool s e
 
   module _ (h : is_wired (set_read class one len spool) ≡ false) where
-    outcome-same : readOutcome class one len spool ≡ readOutcome class other len spool
-    unfolding readOutcome
+    outcome-same : read_outcome class one len spool ≡ read_outcome class other len spool
+    unfolding read_outcome
     outcome-same = at_same (alike class one other p q) (len / width) spool h
 
-    read_same : readRecords class one len spool ≡ readRecords class other len spool
-    unfolding readRecords
+    read_same : read_records class one len spool ≡ read_records class other len spool
+    unfolding read_records
     read_same =
-        taken-same (alike class one other p q) (readOutcome class one len spool) (λ s e. ap is_wired (sym (set-read s e)) ∙ h) ∙ ap (recordsIn (classOr (class_of class other))) outcome-same
+        taken-same (alike class one other p q) (read_outcome class one len spool) (λ s e. ap is_wired (sym (set-read s e)) ∙ h) ∙ ap (records_in (class_or (class_of class other))) outcome-same
 
-    answer-same : readAnswer class one len spool ≡ readAnswer class other len spool
-    unfolding readAnswer
+    answer-same : read_answer class one len spool ≡ read_answer class other len spool
+    unfolding read_answer
     answer-same = rw (read_same, outcome-same)
 
-    table_same : readTable class one len spool ≡ readTable class other len spool
-    unfolding readTable
+    table_same : read_table class one len spool ≡ read_table class other len spool
+    unfolding read_table
     table_same = rw read_same
 
     all_same : SameRead class one other len spool

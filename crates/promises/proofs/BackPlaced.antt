@@ -21,7 +21,7 @@ use Rattle.rules.specs.Machine.{in_layer, State, figures, placing, symbol_block}
 use Rattle.rules.specs.PlacedSymbol.{none_of, new_serial}
 use Rattle.rules.specs.LineByLine.{step_in}
 use Rattle.rules.specs.FixedForm.{Text, opens_block, line_of, no_inner, open_line, show_inner, show_held, show_slots, show_value, show_figure, show_figures}
-use Rattle.rules.specs.Answers.{fullClass}
+use Rattle.rules.specs.Answers.{full_class}
 use Rattle.rules.specs.RecordTable.{rule_at}
 use Rattle.rules.proofs.Chains.{and_left, and_right, and_true, clash, map-append, On, on-map, flat_append}
 use Rattle.rules.proofs.Rows.{Row, here, there, differ, row-all, row-find, row_at}
@@ -116,12 +116,12 @@ row_serialless k d r v g e = go (opens_block r.holds v) (rw (g.again 0) at (act_
     go false h = h
 
 -- ── a placed symbol ──
-placed-sound : (differ placed_table ≡ true) × (all (λ r. reaches fullClass.symbols r.least) placed_table ≡ true) × (all (λ r. not (is_serials r.holds)) (text_table true 16 24) ≡ true)
+placed-sound : (differ placed_table ≡ true) × (all (λ r. reaches full_class.symbols r.least) placed_table ≡ true) × (all (λ r. not (is_serials r.holds)) (text_table true 16 24) ≡ true)
 unfolding placed_table text_table
 placed-sound = (refl, refl, refl)
 
 module _ (next : List ℕ) (S : Set) (n m : ℕ) (fs : List Figure) (own inner : Slots)
-    (own-good : Closed (GoodRow (known_of S) (range_of S)) (both fullClass.symbols (range_of S)) placed_table own)
+    (own-good : Closed (GoodRow (known_of S) (range_of S)) (both full_class.symbols (range_of S)) placed_table own)
     (inner-good : GoodPart (is_some (get_or own 1 none)) (Always none0) none0 (text_table true 16 24) inner)
     (new : none_of (figure_serial (placed n (own ∷ inner ∷ []))) (serials_in S ++ flat (map figure_serial fs)) ≡ true) where
   abbrev letters_table : List Rule
@@ -146,7 +146,7 @@ module _ (next : List ℕ) (S : Set) (n m : ℕ) (fs : List Figure) (own inner :
       → new_serial (retaken n S) fs (bare_value v) ≡ true → Reads next (own-so u) (show_value (known_of S) r v in_placed) (own-so (set u i (some (bare_value v))))
   enters-placed i r v w g u f o z =
       entered next (known_of S) in_placed r v (own-so u) (own-so (set u i (some (bare_value v)))) o
-      (rw (g.form 0, row-find w placed-sound.0, row-all (λ r. reaches fullClass.symbols r.least) w placed-sound.1, free-mark u i f, g.again i, o, z, still w u f v o 1))
+      (rw (g.form 0, row-find w placed-sound.0, row-all (λ r. reaches full_class.symbols r.least) w placed-sound.1, free-mark u i f, g.again i, o, z, still w u f v o 1))
 
   opens-placed : (r : Rule) (v : Value) → Row placed_table 1 r → GoodRow (known_of S) (range_of S) r v → (u : Slots) → Free u 1 → opens_block r.holds v ≡ true → inner_of r.holds ≡ 1
       → Closed (Always none0) none0 letters_table inner → Reads next (own-so u) (show_value (known_of S) r v in_placed) (own-so (set u 1 (some (bare_value v))))
@@ -155,7 +155,7 @@ module _ (next : List ℕ) (S : Set) (n m : ℕ) (fs : List Figure) (own inner :
       rw (unfilled placed_table u 1 f, filled w u f v o)
       (opened next (known_of S) in_placed r v (placing (retaken n S) m fs 0 (symbol_block (u ∷ blank letters_table ∷ [])) 0) (placing (retaken n S) m fs 0 (symbol_block (x ∷ blank letters_table ∷ [])) (inner_of r.holds))
       (placing (retaken n S) m fs 0 (symbol_block (x ∷ bare_slots inner ∷ [])) 0) o
-      (rw (g.form 0, row-find w placed-sound.0, row-all (λ r. reaches fullClass.symbols r.least) w placed-sound.1, free-mark u 1 f, g.again 1, o))
+      (rw (g.form 0, row-find w placed-sound.0, row-all (λ r. reaches full_class.symbols r.least) w placed-sound.1, free-mark u 1 f, g.again 1, o))
       (rw q (letters x)))
     where
       letters : (x : Slots)

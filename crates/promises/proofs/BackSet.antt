@@ -16,7 +16,7 @@ use Rattle.rules.specs.Rows.{Rule, blank, Held, part_of, number_of}
 use Rattle.rules.specs.Blocks.{top_table, file_table, range_table, elec_table, sym_table, later_table, file_tables, blank_held, drawing_table, element_table}
 use Rattle.rules.specs.Sets.{Contents, Set, no_contents, nothing_yet, with_now, with_drawing, with_volume, is_first, head_or, first_contents, arc_of, range_of, define_range, known_of, serials_of_volume, elements_of}
 use Rattle.rules.specs.VolumesAndTotals.{own_table, counted_here, counted_all, layers_used, partners_exist}
-use Rattle.rules.specs.Answers.{fullClass}
+use Rattle.rules.specs.Answers.{full_class}
 use Rattle.rules.specs.Machine.{tests_partners, Line, top, file, drawing, defines, elements, file_kinds}
 use Rattle.rules.specs.LineByLine.{accepted, step_in, run}
 use Rattle.rules.specs.FixedForm.{Text, open_line, block, show_held, show_drawing, show_defines, show_blocks, ending, later_lines, volume_lines}
@@ -63,7 +63,7 @@ eof-form = refl
 
 -- at EOF: every partner is an own number, where that is tested
 abbrev partners_met : Set → Bool
-partners_met s = not (tests_partners fullClass s) || partners_exist s
+partners_met s = not (tests_partners full_class s) || partners_exist s
 
 -- .. and in the last volume EOF follows it
 end-last : (next : List ℕ) (S : Set) → is_nil next ≡ true → counted_here S ≡ true → layers_used (with_volume S) ≡ true → counted_all (with_volume S) ≡ true → partners_met (with_volume S) ≡ true
@@ -221,7 +221,7 @@ module _ (next : List ℕ) (s : Set) (v : Contents) (v-is : v.file ≡ (first_co
 
 -- partners are met or not, whatever the places
 met-bare : (s : Set) → partners_met (bare_set s) ≡ partners_met s
-met-bare s = rw (tests-bare fullClass s, exist-bare s)
+met-bare s = rw (tests-bare full_class s, exist-bare s)
 
 -- ── the whole set ──
 module _ (nexts : List (List ℕ)) (s : Set) (g : GoodSet nexts s) (e : ends_once nexts ≡ true) where

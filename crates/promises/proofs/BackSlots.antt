@@ -17,7 +17,7 @@ use Rattle.rules.specs.Sets.{Set}
 use Rattle.rules.specs.Machine.{unlimited, Line, Env, State}
 use Rattle.rules.specs.LineByLine.{step_in, run}
 use Rattle.rules.specs.FixedForm.{Text, opens_block, line_of, show_value, show_slots}
-use Rattle.rules.specs.Answers.{fullClass}
+use Rattle.rules.specs.Answers.{full_class}
 use Rattle.rules.proofs.Chains.{and_left, and_right, clash}
 use Rattle.rules.proofs.Rows.{Row, here, there, differ, row-all, row-find}
 use Rattle.promises.specs.PlacesApart.{bare_value, bare_slots, bare_form}
@@ -40,7 +40,7 @@ lay_all (n ∷ ns) [] = []
 lay_all (n ∷ ns) (v ∷ vs) = lay n v (lay_all ns vs)
 
 abbrev pub plain_env : Env
-plain_env = unlimited fullClass
+plain_env = unlimited full_class
 
 pub close-form : bare_form (form_of 0 (bytes "}")) ≡ close
 unfolding form_of

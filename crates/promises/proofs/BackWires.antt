@@ -21,7 +21,7 @@ use Rattle.rules.specs.PlacedSymbol.{none_of}
 use Rattle.rules.specs.LineByLine.{step_in}
 use Rattle.rules.specs.FixedForm.{opens_block, line_of, open_line, block, no_inner, show_slots, show_edges, show_group, show_groups, show_wire_texts, show_wire}
 use Rattle.rules.specs.RecordTable.{rule_at}
-use Rattle.rules.specs.Answers.{fullClass}
+use Rattle.rules.specs.Answers.{full_class}
 use Rattle.rules.specs.Wires.{joins_ends, last_edge, group_at, wire_full, is_element_row, new_number, with_attribute, on_wire_act}
 use Rattle.rules.proofs.Chains.{and_left, and_right, and_false, clash, or_true, none-some}
 use Rattle.rules.proofs.Rows.{Row, differ, row-all, row_at, row-find, reaches-none}
@@ -39,7 +39,7 @@ use Rattle.promises.proofs.Edges.{last_snoc, full-once, once-alone}
 abbrev later_calm : ℕ → Rule → Bool
 later_calm j r = not (leb once_rows j) || not (may_open r.holds)
 
-wire-sound : (differ wire_table ≡ true) × (all (λ r. reaches fullClass.wires r.least) wire_table ≡ true) × (all_at later_calm wire_table ≡ true)
+wire-sound : (differ wire_table ≡ true) × (all (λ r. reaches full_class.wires r.least) wire_table ≡ true) × (all_at later_calm wire_table ≡ true)
 unfolding wire_table
 wire-sound = (refl, refl, refl)
 
@@ -89,7 +89,7 @@ module _ (next : List ℕ) (S : Set) (m : ℕ) (fs : List Figure) where
       → step_in plain_env (line_for next false (line_of (known_of S) r v)) (in_wire n w)
       ≡ on_wire_act plain_env (line_for next false (line_of (known_of S) r v)) (retaken n S) m fs 0 w (written_act j r v)
   row_line n w j r v at g first room =
-      rw (g.form 0, row-find at wire-sound.0, first, row-all (λ r. reaches fullClass.wires r.least) at wire-sound.1, room, g.again j)
+      rw (g.form 0, row-find at wire-sound.0, first, row-all (λ r. reaches full_class.wires r.least) at wire-sound.1, room, g.again j)
 
   -- ── lines and arcs ──
   abbrev with_edges : List Edge → Wire

@@ -11,7 +11,7 @@ use Rattle.rules.specs.Base.{flat}
 use Rattle.rules.specs.Sets.{Set}
 use Rattle.rules.specs.LineByLine.{Outcome, refused, accepted}
 use Rattle.rules.specs.RecordTable.{width}
-use Rattle.rules.specs.Answers.{answerWith, readOutcome, readRecords, readAnswer, readTable}
+use Rattle.rules.specs.Answers.{answer_with, read_outcome, read_records, read_answer, read_table}
 use Rattle.promises.specs.DemandOne.{Wide, no_record, one_more}
 use Rattle.promises.specs.DemandThree.{lowered}
 use Rattle.promises.specs.TableTexts.{first_records}
@@ -20,11 +20,11 @@ use Rattle.promises.proofs.Answered.{demand-one}
 use Rattle.promises.proofs.TwoClasses.{lower-accepts, higher-refuses}
 
 -- an answer that accepts comes of a set that was read
-pub accepted-set : (class wire len : ℕ) (spool : List ℕ) (n : ℕ) → readAnswer class wire len spool ≡ Accepted n → (s : Set) × (readOutcome class wire len spool ≡ accepted s)
-unfolding readAnswer
-accepted-set class wire len spool n e = go (readOutcome class wire len spool) (length (readRecords class wire len spool)) e
+pub accepted-set : (class wire len : ℕ) (spool : List ℕ) (n : ℕ) → read_answer class wire len spool ≡ Accepted n → (s : Set) × (read_outcome class wire len spool ≡ accepted s)
+unfolding read_answer
+accepted-set class wire len spool n e = go (read_outcome class wire len spool) (length (read_records class wire len spool)) e
   where
-    go : (o : Outcome) (k : ℕ) → answerWith k o ≡ Accepted n → (s : Set) × (o ≡ accepted s)
+    go : (o : Outcome) (k : ℕ) → answer_with k o ≡ Accepted n → (s : Set) × (o ≡ accepted s)
     go (refused j v l) k e = absurd (let z : ◌≡◌ {A = ℕ} 0 1 = cc in omega arith)
     go (accepted s) k e = (s, refl)
 
@@ -36,17 +36,17 @@ first_flat (r ∷ rs) z (one_more e w) =
     ap₂ ◌∷◌ (ap (take width) seam ∙ take_at r (flat rs ++ z) width e)
     (ap (first_records (length rs)) (ap (drop width) seam ∙ drop_at r (flat rs ++ z) width e) ∙ first_flat rs z w)
 
-pub table-records : (class wire len : ℕ) (spool : List ℕ) (n : ℕ) → readAnswer class wire len spool ≡ Accepted n → first_records n (readTable class wire len spool) ≡ readRecords class wire len spool
+pub table-records : (class wire len : ℕ) (spool : List ℕ) (n : ℕ) → read_answer class wire len spool ≡ Accepted n → first_records n (read_table class wire len spool) ≡ read_records class wire len spool
 table-records class wire len spool n e =
     let w = (demand-one.reader class wire len spool).when_accepted n e in
-    ap₂ first_records (sym w.count) w.stands ∙ first_flat (readRecords class wire len spool) _ w.wide
+    ap₂ first_records (sym w.count) w.stands ∙ first_flat (read_records class wire len spool) _ w.wide
 
 -- the two calls with one spool and one length
 pub lower_call-accepts : LowerCallAccepts
 lower_call-accepts lower higher two n e =
     let len = length higher.before in
     let s = higher.spool in
-    let same = ap₂ (readAnswer lower.class lower.wire) two.lengths two.spools in
+    let same = ap₂ (read_answer lower.class lower.wire) two.lengths two.spools in
     let high = sym higher.answers ∙ e in
     let (set, read) = accepted-set higher.class higher.wire len s n high in
     let (a, r) = lower-accepts lower.class lower.wire higher.class higher.wire two.low two.high two.classes len s set read in
@@ -55,13 +55,13 @@ lower_call-accepts lower higher two n e =
     record {
       set = set;
       reads = read;
-      count = length (lowered two.low set (readRecords higher.class higher.wire len s));
+      count = length (lowered two.low set (read_records higher.class higher.wire len s));
       counts = ap (λ rs. length (lowered two.low set rs)) (sym shown);
       answer = lower.answers ∙ same ∙ a;
       table =
-          lower.fills ∙ ap₂ (readTable lower.class lower.wire) two.lengths two.spools
+          lower.fills ∙ ap₂ (read_table lower.class lower.wire) two.lengths two.spools
           ∙ ((demand-one.reader lower.class lower.wire len s).when_accepted _ a).stands
-          ∙ ap (λ rs. flat rs ++ replicate (len - length (lowered two.low set (readRecords higher.class higher.wire len s)) * width) (pos 0)) r
+          ∙ ap (λ rs. flat rs ++ replicate (len - length (lowered two.low set (read_records higher.class higher.wire len s)) * width) (pos 0)) r
           ∙ ap₂ (λ m rs. laid m (lowered two.low set rs)) (sym size) (sym shown);
     }
 
@@ -69,7 +69,7 @@ pub higher_call-refuses : HigherCallRefuses
 higher_call-refuses lower higher two r e =
     let len = length higher.before in
     let s = higher.spool in
-    let low = sym (ap₂ (readAnswer lower.class lower.wire) two.lengths two.spools) ∙ sym lower.answers ∙ e in
+    let low = sym (ap₂ (read_answer lower.class lower.wire) two.lengths two.spools) ∙ sym lower.answers ∙ e in
     let (q, a, p) = higher-refuses lower.class lower.wire higher.class higher.wire two.low two.high two.classes len s r low in
     record {
       refusal = q;
@@ -78,5 +78,5 @@ higher_call-refuses lower higher two r e =
       table =
           higher.fills ∙ (demand-one.reader higher.class higher.wire len s).when_refused q a
           ∙ sym ((demand-one.reader lower.class lower.wire len s).when_refused r low)
-          ∙ sym (lower.fills ∙ ap₂ (readTable lower.class lower.wire) two.lengths two.spools);
+          ∙ sym (lower.fills ∙ ap₂ (read_table lower.class lower.wire) two.lengths two.spools);
     }

@@ -9,7 +9,7 @@ use Rattle.rules.specs.Base.{is_nil, all}
 use Rattle.rules.specs.Spool.{Volume, names_of, unlines}
 use Rattle.rules.specs.Machine.{Line}
 use Rattle.rules.specs.FixedForm.{Text}
-use Rattle.rules.specs.Answers.{numbered, nextName}
+use Rattle.rules.specs.Answers.{numbered, next_name}
 use Rattle.rules.proofs.Chains.{and_left, and_right, and_true, clash}
 use Rattle.promises.specs.PlacesApart.{bare_line}
 use Rattle.promises.proofs.Forms.{form-place}
@@ -29,7 +29,7 @@ listing-bare k [] (t ∷ ts) h a = absurd h
 listing-bare k (v ∷ vs) [] h a = absurd h
 listing-bare k (v ∷ vs) ([] ∷ ts) h a = clash a refl
 listing-bare k (v ∷ vs) ((l ∷ t) ∷ ts) h a =
-    numbered-bare k (nextName vs) 1 v.place (l ∷ t) (listing (suc k) vs ts) ∙ ap (lay (nextName vs) (l ∷ t)) (listing-bare (suc k) vs ts h.1 a)
+    numbered-bare k (next_name vs) 1 v.place (l ∷ t) (listing (suc k) vs ts) ∙ ap (lay (next_name vs) (l ∷ t)) (listing-bare (suc k) vs ts h.1 a)
 
 -- ── the volumes that are laid out ──
 pub laid-texts : (at : ℕ) (names : List (List ℕ)) (ts : List Text) → length names ≡ length ts → all (all fine) ts ≡ true → Texts (laid at names (map unlines ts)) ts

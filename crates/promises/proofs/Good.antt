@@ -20,7 +20,7 @@ use Rattle.rules.specs.VolumesAndTotals.{own_table, chained, dated, counted_all,
 use Rattle.rules.specs.Machine.{layer_value, tests_partners}
 use Rattle.rules.specs.Wires.{like_first, is_element_row}
 use Rattle.rules.specs.FixedForm.{opens_block, behind, line_of}
-use Rattle.rules.specs.Answers.{fullClass}
+use Rattle.rules.specs.Answers.{full_class}
 use Rattle.rules.specs.RecordTable.{rule_at}
 use Rattle.rules.proofs.Rows.{Row}
 use Rattle.promises.specs.PlacesApart.{bare_value, bare_form}
@@ -113,7 +113,7 @@ pub record GoodPlaced (k : Known) (d : Digits) (h : Held) : Type 0 where
   pub own : Slots
   pub text : Slots
   pub is : h ≡ own ∷ text ∷ []
-  pub own-good : Closed (GoodRow k d) (both fullClass.symbols d) placed_table own
+  pub own-good : Closed (GoodRow k d) (both full_class.symbols d) placed_table own
   pub text-good : GoodPart (is_some (get_or own 1 none)) (Always none0) none0 (text_table true 16 24) text
 
 -- a line of row j of a table
@@ -205,7 +205,7 @@ has_more w = (any_line w.groups || not (is_nil w.texts)) || any_slot w.own
 -- closed: nothing required is missing; nothing was skipped, so that what stands is all there was
 pub record GoodWire (wires : ℕ) (w : Wire) : Type 0 where
   pub holds : WireHolds wires w
-  pub all : complete (both fullClass.wires (digits_of wires)) wire_table (rows_there w.own) ≡ true
+  pub all : complete (both full_class.wires (digits_of wires)) wire_table (rows_there w.own) ≡ true
   pub shut : w.writing ≡ []
   pub past : w.past ≡ has_more w
 
@@ -342,6 +342,6 @@ pub record GoodSet (nexts : List (List ℕ)) (s : Set) : Type 0 where
   pub serials : fresh_numbers [] (flat (map serials_of_volume s.volumes)) ≡ true
   pub used : layers_used s ≡ true
   pub counted : counted_all s ≡ true
-  pub partners : (not (tests_partners fullClass s) || partners_exist s) ≡ true
+  pub partners : (not (tests_partners full_class s) || partners_exist s) ≡ true
   pub before : List Contents
   pub latest : s.volumes ≡ before ++ s.now ∷ []

@@ -9,7 +9,7 @@ use Rattle.rules.specs.declared.Refusal.{Refusal}
 use Rattle.rules.specs.declared.Answer.{Answer}
 use Rattle.rules.specs.declared.Answer.TheVariants.{Accepted, Refused}
 use Rattle.rules.specs.RecordTable.{width}
-use Rattle.rules.specs.Answers.{answerCount, readAnswer, rewriteAnswer, written, ownRecords, packed, checkAnswer}
+use Rattle.rules.specs.Answers.{answer_count, read_answer, rewrite_answer, written, own_records, packed, check_answer}
 use Rattle.promises.specs.DemandOne.{by_reader, by_rewriter, Located, Answered, refused_with}
 use Rattle.promises.specs.DemandThree.{at_or_before}
 use Rattle.promises.specs.TakenApart.{refusal_in, Tells}
@@ -41,19 +41,19 @@ tells_located : (whose : ℕ → Bool) (p : ℕ) (a : Answer) → Tells p a → 
 tells_located whose p a t w h = refusal_located (refusal_in p) (subst (Answered whose) (t.refused h) w)
 
 -- ── the check ──
-check-zero : (class wire : ℕ) (spool : List ℕ) (n : ℕ) → readAnswer class wire (ownRecords * width) spool ≡ Accepted n → checkAnswer class wire spool ≡ 0
-unfolding checkAnswer
-check-zero class wire spool n e = none-packed (readAnswer class wire (ownRecords * width) spool) n e
+check-zero : (class wire : ℕ) (spool : List ℕ) (n : ℕ) → read_answer class wire (own_records * width) spool ≡ Accepted n → check_answer class wire spool ≡ 0
+unfolding check_answer
+check-zero class wire spool n e = none-packed (read_answer class wire (own_records * width) spool) n e
 
 checked : (c : HostCheck) → Checked c
 checked c =
-    let len = ownRecords * width in
-    let a = readAnswer c.class c.wire len c.spool in
+    let len = own_records * width in
+    let a = read_answer c.class c.wire len c.spool in
     let t = subst (λ (p : ℕ). Tells p a) (sym c.answers) (taken-apart.check c.class c.wire c.spool) in
     record {
       when_accepted = λ e.
-          let (k, fit) = (exactly_when.reader c.class c.wire c.spool).only_kept len (answerCount a) (t.accepted e) in
-          (answerCount a, k, omega (arith, fit));
+          let (k, fit) = (exactly_when.reader c.class c.wire c.spool).only_kept len (answer_count a) (t.accepted e) in
+          (answer_count a, k, omega (arith, fit));
       when_refused = tells_located by_reader c.number a t (demand-one.reader c.class c.wire len c.spool).answer;
       when_kept = λ n k h. c.answers ∙ check-zero c.class c.wire c.spool n (kept-accepts c.class c.wire len c.spool n k (omega (arith, h)));
     }
@@ -61,7 +61,7 @@ checked c =
 -- ── the reader ──
 module _ (c : HostRead) where
   abbrev read_as : Answer
-  read_as = readAnswer c.class c.wire (length c.before) c.spool
+  read_as = read_answer c.class c.wire (length c.before) c.spool
 
   read-tells : Tells c.number read_as
   read-tells = subst (λ (p : ℕ). Tells p read_as) (sym c.answers) (taken-apart.reader c.class c.wire (length c.before) c.spool)
@@ -77,7 +77,7 @@ reads c =
     record {
       size = call.size;
       when_refused = tells_located by_reader c.number (read_as c) t call.answer;
-      no_count = λ h. c.counts ∙ ap answerCount (t.refused h);
+      no_count = λ h. c.counts ∙ ap answer_count (t.refused h);
       zeros = λ h. call.when_refused (refusal_in c.number) (t.refused h);
       when_accepted = λ e. call.when_accepted c.count (read-accepted c e);
       when_kept = λ n k h. c.answers ∙ none-packed (read_as c) n (kept-accepts c.class c.wire (length c.before) c.spool n k h);
@@ -87,12 +87,12 @@ reads c =
 rewrites : (c : HostRewrite) → HostRewrites c
 rewrites c =
     let call = rewrite_calls (rewritten_by c) in
-    let a = rewriteAnswer (length c.before) c.spool in
+    let a = rewrite_answer (length c.before) c.spool in
     let t = subst (λ (p : ℕ). Tells p a) (sym c.answers) (taken-apart.rewriter (length c.before) c.spool) in
     record {
       size = call.size;
       when_refused = tells_located by_rewriter c.number a t call.answer;
-      no_count = λ h. c.counts ∙ ap answerCount (t.refused h);
+      no_count = λ h. c.counts ∙ ap answer_count (t.refused h);
       zeros = λ h. call.when_refused (refusal_in c.number) (t.refused h);
       when_accepted = λ e. call.when_accepted c.count (t.accepted e ∙ ap Accepted (sym c.counts));
       when_kept = λ n k h.
@@ -107,7 +107,7 @@ host_calls = record { checks = checked; reads = reads; rewrites = rewrites }
 pub lower_host-accepts : LowerHostAccepts
 lower_host-accepts lower higher two e =
     let w = lower_call-accepts (read_by lower) (read_by higher) two higher.count (read-accepted higher e) in
-    (lower.answers ∙ none-packed (read_as lower) w.count w.answer, w, lower.counts ∙ ap answerCount w.answer)
+    (lower.answers ∙ none-packed (read_as lower) w.count w.answer, w, lower.counts ∙ ap answer_count w.answer)
 
 pub higher_host-refuses : HigherHostRefuses
 higher_host-refuses lower higher two h =

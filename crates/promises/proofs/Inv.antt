@@ -13,7 +13,7 @@ use Rattle.rules.specs.Sets.{Contents, Set, nothing_yet}
 use Rattle.rules.specs.VolumesAndTotals.{counted_here}
 use Rattle.rules.specs.Machine.{unlimited, Line, State, top, file, drawing, layer_names, defines, symbol, hide, elements, figures, successive, texts, placing, skipping, ended, on_top, on_elements, wire_block, wire_unread}
 use Rattle.rules.specs.LineByLine.{step_in, is_ignored, is_close, is_eof, completes, next_volume, Outcome, refused, accepted, then_run, finish, run}
-use Rattle.rules.specs.Answers.{fullClass}
+use Rattle.rules.specs.Answers.{full_class}
 use Rattle.rules.specs.Machine.{symbol_block}
 use Rattle.rules.proofs.Chains.{or_true, clash, cond_same, On, on-unless, on-map, on-also, or_left}
 use Rattle.promises.proofs.Forms.{Tells}
@@ -219,6 +219,6 @@ run-good (l ∷ ls) (n ∷ ns) done st z w i = go l.last refl (λ done st. run-g
         (λ st j. ih done st (facing-same done l ls st w e j))
 
 -- ── every set that was read is good ──
-pub read-good : (ls : List Line) (ns : List ℕ) (s : Set) → Tolds ls ns → Steady ls → run (unlimited fullClass) (top nothing_yet 0) ls ≡ accepted s → GoodSet (nexts_of ls) s
+pub read-good : (ls : List Line) (ns : List ℕ) (s : Set) → Tolds ls ns → Steady ls → run (unlimited full_class) (top nothing_yet 0) ls ≡ accepted s → GoodSet (nexts_of ls) s
 read-good ls ns s z w e =
     subst (OnSet (GoodSet (nexts_of ls))) e (run-good ls ns [] (top nothing_yet 0) z w (facing_any [] ls (top nothing_yet 0) (λ c. (refl, refl))))

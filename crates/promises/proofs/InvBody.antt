@@ -22,7 +22,7 @@ use Rattle.rules.specs.Sets.{Point, Figure, plain, chain, lettering, placed, Lay
 use Rattle.rules.specs.VolumesAndTotals.{counted_here}
 use Rattle.rules.specs.Machine.{Line, Home, in_element, in_layer, State, elements, figures, successive, texts, placing, skipping, by_act, on_elements, is_layer, home_table, close_figures, open_figure, on_figures, on_successive, on_texts, wire_block, wire_unread, no_wire}
 use Rattle.rules.specs.PlacedSymbol.{on_unknown, none_of, new_serial, on_placed, on_placed_key, on_placed_own, on_placing, skip_shut, on_skipping, skip_ended, unread_shut}
-use Rattle.rules.specs.Answers.{fullClass}
+use Rattle.rules.specs.Answers.{full_class}
 use Rattle.rules.specs.RecordTable.{rule_at, kind_line, kind_successive, kind_text, kind_point}
 use Rattle.rules.specs.Machine.{symbol_block, Owned, kind_in}
 use Rattle.rules.specs.Sets.{layer_table_of}
@@ -264,10 +264,10 @@ module _ (done fin : List (List ℕ)) (l : Line) (n : ℕ) (fit : n ≤ 512) whe
       (λ e. add-figure done l.next s h fs (lettering m o) i.0 (text-home s h m o (record { good = i.1; all = e })) refl)
 
   -- ── the placed symbol ──
-  placed-act : (s : Set) (k : ℕ) (fs : List Figure) (m : ℕ) (o : Held) (a : Act) → ActTold (known_of s) (range_of s) (both fullClass.symbols (range_of s)) placed_table (rows_there (part_of o 0)) a → J (placing s k fs m (symbol_block o) 0)
+  placed-act : (s : Set) (k : ℕ) (fs : List Figure) (m : ℕ) (o : Held) (a : Act) → ActTold (known_of s) (range_of s) (both full_class.symbols (range_of s)) placed_table (rows_there (part_of o 0)) a → J (placing s k fs m (symbol_block o) 0)
       → On J (on_placed s k fs m o 0 a)
   placed-act s k fs m o a told i =
-      on-by_act J (known_of s) (range_of s) (both fullClass.symbols (range_of s)) placed_table (rows_there (part_of o 0)) _ _ _ _ a told i
+      on-by_act J (known_of s) (range_of s) (both full_class.symbols (range_of s)) placed_table (rows_there (part_of o 0)) _ _ _ _ a told i
       (λ j v w. on-unless J (new_serial s fs v) 15 _ λ e. (i.0, placed-enter (serials_in s ++ figure_serials fs) o i.1 w e, i.2, i.3))
       (λ i' j v w. (i.0, placed-begin (serials_in s ++ figure_serials fs) o i.1 w, i.2, i.3))
       (λ e. let (g, new) = placed-good (serials_in s ++ figure_serials fs) o m i.1 e in add-figure done l.next s (in_layer k) fs (placed m o) i.0 (g, i.2, i.3) new)
@@ -282,24 +282,24 @@ module _ (done fin : List (List ℕ)) (l : Line) (n : ℕ) (fit : n ≤ 512) whe
   -- what is skipped leaves what is held as it is
   on-unknown : (s : Set) (k : ℕ) (fs : List Figure) (m : ℕ) (o : Held) (key : List ℕ) (c : Rest) → J (placing s k fs m (symbol_block o) 0) → On J (on_unknown full_env s k fs m o key c)
   on-unknown s k fs m o key c i =
-      on-cond J (exceeds (range_of s) fullClass.symbols) _ _ (λ e. on_skip J (skip_of key c) _ _ i i) (λ e. refused-act (placing s k fs m (symbol_block o) 0) (act_unknown c) i)
+      on-cond J (exceeds (range_of s) full_class.symbols) _ _ (λ e. on_skip J (skip_of key c) _ _ i i) (λ e. refused-act (placing s k fs m (symbol_block o) 0) (act_unknown c) i)
 
   placed-key : (s : Set) (k : ℕ) (fs : List Figure) (m : ℕ) (o : Held) (key : List ℕ) (c : Rest) (f : Found) → find key placed_table ≡ f → Tells n (keyed key c) → J (placing s k fs m (symbol_block o) 0)
       → On J (on_placed_key full_env s k fs m o key c f)
   placed-key s k fs m o key c absent e t i = on-unknown s k fs m o key c i
   placed-key s k fs m o key c (found j r) e t i =
       let (w, q) = found-row key placed_table j r e in
-      on-cond J (reaches fullClass.symbols r.least) _ _
+      on-cond J (reaches full_class.symbols r.least) _ _
       (λ _. placed-act s k fs m o (act_row (known_of s) (range_of s) (get_or (rows_there (part_of o 0)) j false) j r c)
-      (row_told (known_of s) (range_of s) (both fullClass.symbols (range_of s)) placed_table (rows_there (part_of o 0)) n key c j r w q (table-keys true 0 0).15 t fit) i)
+      (row_told (known_of s) (range_of s) (both full_class.symbols (range_of s)) placed_table (rows_there (part_of o 0)) n key c j r w q (table-keys true 0 0).15 t fit) i)
       (λ _. on-unknown s k fs m o key c i)
 
   placed-own : (s : Set) (k : ℕ) (fs : List Figure) (m : ℕ) (o : Held) (f : Form) → Tells n f → J (placing s k fs m (symbol_block o) 0) → On J (on_placed_own full_env s k fs m o f)
   placed-own s k fs m o ignored t i = i
   placed-own s k fs m o (wrong p) t i = tt
   placed-own s k fs m o close t i =
-      placed-act s k fs m o (act (known_of s) placed_table (both fullClass.symbols (range_of s)) (rows_there (part_of o 0)) close)
-      (close-told (known_of s) (range_of s) (both fullClass.symbols (range_of s)) placed_table (rows_there (part_of o 0))) i
+      placed-act s k fs m o (act (known_of s) placed_table (both full_class.symbols (range_of s)) (rows_there (part_of o 0)) close)
+      (close-told (known_of s) (range_of s) (both full_class.symbols (range_of s)) placed_table (rows_there (part_of o 0))) i
   placed-own s k fs m o eof t i = tt
   placed-own s k fs m o (keyed key c) t i = placed-key s k fs m o key c (find key placed_table) refl t i
 

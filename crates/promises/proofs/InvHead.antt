@@ -21,7 +21,7 @@ use Rattle.rules.specs.Figures.{point_table}
 use Rattle.rules.specs.Sets.{Point, Layer, Drawing, Symbol, Contents, Set, head_or, with_own, symbol_own, is_first, arc_of, range_of, define_range, symbol_name_of, known_of, serials_of_volume}
 use Rattle.rules.specs.VolumesAndTotals.{chained, dated, counted_all, layers_used, partners_exist}
 use Rattle.rules.specs.Machine.{tests_partners, unlimited, Line, Env, State, top, file, drawing, layer_names, defines, symbol, hide, by_act, open_top, at_eof, on_top, close_file, shut_part, on_file, on_drawing, layer_value, layer_line, on_layer_names, on_defines, new_name, open_symbol, on_symbol, point_at, on_hide}
-use Rattle.rules.specs.Answers.{fullClass}
+use Rattle.rules.specs.Answers.{full_class}
 use Rattle.rules.specs.RecordTable.{rule_at}
 use Rattle.rules.proofs.Chains.{and_left, and_right, or_true, clash, map-append, On, on-unless, on_then}
 use Rattle.rules.proofs.Rows.{row-all, row_at, row-did}
@@ -38,7 +38,7 @@ use Rattle.promises.proofs.OnEof.{on-eof}
 
 -- the reading at class 15, with no limit of records
 abbrev pub full_env : Env
-full_env = unlimited fullClass
+full_env = unlimited full_class
 
 -- ── the end ──
 laters-good : (k : Known) (s : Set) (ns : List (List ℕ)) (vs : List Contents) → Laters k (file_of s) ns vs → GoodLaters k (ranges_in (file_of s)) s ns vs
@@ -48,7 +48,7 @@ laters-good k s (n ∷ ns) [] g = absurd g
 laters-good k s (n ∷ ns) (v ∷ vs) g = (g.0, g.1, g.2, laters-good k s ns vs g.3)
 
 set-good : (nexts : List (List ℕ)) (s : Set) → Over nexts (file_of s) (untaken s) → layers_used s ≡ true → counted_all s ≡ true
-    → (not (tests_partners fullClass s) || partners_exist s) ≡ true → GoodSet nexts s
+    → (not (tests_partners full_class s) || partners_exist s) ≡ true → GoodSet nexts s
 set-good nexts s o used counted partners = go nexts s.volumes refl o.closed
   where
     none_left : (u : List Contents) → s.volumes ≡ [] → s.volumes ≡ u ++ s.now ∷ [] → ⊥

@@ -18,7 +18,7 @@ use Rattle.rules.specs.Blocks.{around, blank_held}
 use Rattle.rules.specs.Figures.{placed_table, placed_tables, text_table}
 use Rattle.rules.specs.Sets.{placed, own_serial, figure_serial}
 use Rattle.rules.specs.PlacedSymbol.{none_of}
-use Rattle.rules.specs.Answers.{fullClass}
+use Rattle.rules.specs.Answers.{full_class}
 use Rattle.promises.proofs.Forms.{keys_ok}
 use Rattle.promises.proofs.Good.{GoodRow, Always, GoodSlots, none0, GoodPlaced}
 use Rattle.promises.proofs.InvRows.{Took, good-set, open_at}
@@ -140,8 +140,8 @@ text-shut {k} {d} used p h f e =
         both-parts (record { low = omega arith; own-good = f.own-good; text-good = part-shut (is_some (get_or own 1 none)) (Always none0) placed_text text f.text-good e; serial = f.serial })
     go (suc p) own text f e = absurd (omega (arith, f.low))
 
-pub placed-good : {k : Known} {d : Digits} (used : List ℕ) (h : Held) (n : ℕ) → PlacedInv k d used 0 h → complete (both fullClass.symbols d) placed_table (rows_there (part_of h 0)) ≡ true
+pub placed-good : {k : Known} {d : Digits} (used : List ℕ) (h : Held) (n : ℕ) → PlacedInv k d used 0 h → complete (both full_class.symbols d) placed_table (rows_there (part_of h 0)) ≡ true
     → GoodPlaced k d h × (none_of (figure_serial (placed n h)) used ≡ true)
 placed-good {k} {d} used h n f e =
-    (subst (λ (h : Held). complete (both fullClass.symbols d) placed_table (rows_there (part_of h 0)) ≡ true → GoodPlaced k d h × (none_of (figure_serial (placed n h)) used ≡ true)) (sym f.is)
+    (subst (λ (h : Held). complete (both full_class.symbols d) placed_table (rows_there (part_of h 0)) ≡ true → GoodPlaced k d h × (none_of (figure_serial (placed n h)) used ≡ true)) (sym f.is)
     (λ e. (record { own = f.own; text = f.text; is = refl; own-good = record { good = f.parts.own-good; all = e }; text-good = f.parts.text-good }, f.parts.serial))) e

@@ -23,7 +23,7 @@ use Rattle.rules.specs.Machine.{Line, in_layer, State, placing, wire_block}
 use Rattle.rules.specs.PlacedSymbol.{none_of}
 use Rattle.rules.specs.Wires.{joins_ends, last_edge, join_of, joined, like_first, group_at, wire_full, is_element_row, nums_alike, new_number, with_attribute, with_groups, with_once, with_texts, on_element, on_wire_act, on_wire_unknown, on_wire_key, on_wire_own, on_wire}
 use Rattle.rules.specs.RecordTable.{rule_at}
-use Rattle.rules.specs.Answers.{fullClass}
+use Rattle.rules.specs.Answers.{full_class}
 use Rattle.rules.proofs.Chains.{On, on-unless, on-cond, clash, and_left, and_right, and_true, or_true, nil-snoc}
 use Rattle.rules.proofs.Rows.{Row, here, there, row-all, found-row}
 use Rattle.promises.proofs.Forms.{table-keys, Tells}
@@ -195,7 +195,7 @@ module _ (s : Set) (fs : List Figure) (w : Wire) (i : WireInv (wire_range s) (se
       }
 
   -- closed: it is good, and its number is new
-  wire-good : complete (both fullClass.wires d) wire_table (rows_there w.own) ≡ true → GoodWire (wire_range s) w
+  wire-good : complete (both full_class.wires d) wire_table (rows_there w.own) ≡ true → GoodWire (wire_range s) w
   wire-good e = record { holds = i.holds; all = e; shut = i.writing.0; past = i.writing.1 }
 
 -- ── one line ──
@@ -257,16 +257,16 @@ module _ (done fin : List (List ℕ)) (l : Line) (n : ℕ) (fit : n ≤ 512) whe
   wire-key s k fs m w key c (found j r) e t i =
       let (at, q) = found-row key wire_table j r e in
       on-cond J (is_element_row j && w.past) _ _ (λ _. refused-act s k fs m w c)
-      (λ _. on-cond J (reaches fullClass.wires r.least) _ _
+      (λ _. on-cond J (reaches full_class.wires r.least) _ _
       (λ _. row-act s k fs m w (act_row (known_of s) (wires_of s) (get_or (wire_full w) j false) j r c)
       (row_told (known_of s) (wires_of s) (wires_of s) wire_table (wire_full w) n key c j r at q (table-keys true 0 0).11 t fit)
       (row_open (known_of s) (wires_of s) (get_or (wire_full w) j false) j r c) i)
       (λ _. on-unknown s k fs m w key c i))
 
   wire-close : (s : Set) (k : ℕ) (fs : List Figure) (m : ℕ) (w : Wire) → J (placing s k fs m (wire_block w) 0) → On J (on_wire_own full_env l s k fs m w close)
-  wire-close s k fs m w i = go (complete (both fullClass.wires (wires_of s)) wire_table (rows_there w.own)) refl
+  wire-close s k fs m w i = go (complete (both full_class.wires (wires_of s)) wire_table (rows_there w.own)) refl
     where
-      go : (b : Bool) → complete (both fullClass.wires (wires_of s)) wire_table (rows_there w.own) ≡ b → On J (on_wire_act full_env l s k fs m w (cond b shut (refuse 8)))
+      go : (b : Bool) → complete (both full_class.wires (wires_of s)) wire_table (rows_there w.own) ≡ b → On J (on_wire_act full_env l s k fs m w (cond b shut (refuse 8)))
       go true e = add-figure done l.next s (in_layer k) fs (wired m w) i.0 (i.1, wire-good s fs w i.2 e) i.2.serial
       go false e = tt
 

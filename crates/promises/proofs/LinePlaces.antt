@@ -15,7 +15,7 @@ use Rattle.rules.specs.Spool.{most_bytes, most_volumes, Volume, good_name, lengt
 use Rattle.rules.specs.Lines.{unindent, allowed, Scan, neither, at_equal, at_brace, scan, Rest, equals, brace, keyed, with_key, form_from, form_of_rest, form_of}
 use Rattle.rules.specs.Machine.{Line}
 use Rattle.rules.specs.FixedForm.{Text}
-use Rattle.rules.specs.Answers.{numbered, nextName}
+use Rattle.rules.specs.Answers.{numbered, next_name}
 use Rattle.rules.proofs.Chains.{and_left, and_right, by_cond, map-some, none-some, cond-some}
 use Rattle.promises.specs.TableTexts.{Shows}
 use Rattle.promises.proofs.Forms.{by-choose, Cuts, scan-cuts}
@@ -117,7 +117,7 @@ module _ (spool : List ℕ) where
   listing-fits k (v ∷ vs) [] h p = tt
   listing-fits k (v ∷ vs) ([] ∷ ts) h p = (tt, listing-fits (suc k) vs ts h.1 p.1)
   listing-fits k (v ∷ vs) ((l ∷ t) ∷ ts) h p =
-      numbered-fits k (nextName vs) 1 v.place (l ∷ t) (listing (suc k) vs ts)
+      numbered-fits k (next_name vs) 1 v.place (l ∷ t) (listing (suc k) vs ts)
       (subst (At v.place) (lines_inv v.body (l ∷ t) h.0).0 p.0) (listing-fits (suc k) vs ts h.1 p.1)
 
   -- ── the volumes of a spool ──

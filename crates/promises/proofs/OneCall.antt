@@ -7,7 +7,7 @@ use lib.ListN.{length}
 use Rattle.rules.specs.declared.Answer.{Answer}
 use Rattle.rules.specs.declared.Answer.TheVariants.{Accepted}
 use Rattle.rules.specs.RecordTable.{width}
-use Rattle.rules.specs.Answers.{readAnswer, readTable, written}
+use Rattle.rules.specs.Answers.{read_answer, read_table, written}
 use Rattle.promises.specs.DemandOne.{by_reader, by_rewriter, Answered, Filled, Written}
 use Rattle.promises.specs.Acceptance.{Keeps, records_at}
 use Rattle.promises.specs.ReaderCalls.{Call}
@@ -16,7 +16,7 @@ use Rattle.promises.proofs.Answered.{demand-one}
 use Rattle.promises.proofs.Exactly.{exactly_when}
 
 -- a spool that keeps the rules with n records is accepted where they fit
-pub kept-accepts : (class wire len : ℕ) (spool : List ℕ) (n : ℕ) → Keeps class wire spool n → n * width ≤ len → readAnswer class wire len spool ≡ Accepted n
+pub kept-accepts : (class wire len : ℕ) (spool : List ℕ) (n : ℕ) → Keeps class wire spool n → n * width ≤ len → read_answer class wire len spool ≡ Accepted n
 kept-accepts class wire len spool n k h =
     let fits : length (records_at class wire k.set) * width ≤ len = subst (λ (i : ℕ). i * width ≤ len) (sym k.count) h in
     ((exactly_when.reader class wire spool).when_kept k.set k.rules len).accepts fits ∙ ap Accepted k.count
@@ -32,7 +32,7 @@ call-accepts c n e =
     record {
       set = k.set;
       rules = k.rules;
-      table = subst (λ (t : List ℤ). Filled len n (records_at c.class c.wire k.set) t) (sym c.fills) (subst (λ (rs : List (List ℤ)). Filled len n rs (readTable c.class c.wire len c.spool)) same w);
+      table = subst (λ (t : List ℤ). Filled len n (records_at c.class c.wire k.set) t) (sym c.fills) (subst (λ (rs : List (List ℤ)). Filled len n rs (read_table c.class c.wire len c.spool)) same w);
     }
 
 pub read_calls : ReadCalls

@@ -20,7 +20,7 @@ use Rattle.rules.specs.Lines.{opener, no_content, content, opening, formless}
 use Rattle.rules.specs.Machine.{Line}
 use Rattle.rules.specs.RecordTable.{rule_at}
 use Rattle.rules.specs.FixedForm.{Text}
-use Rattle.rules.specs.Answers.{numbered, nextName}
+use Rattle.rules.specs.Answers.{numbered, next_name}
 use Rattle.rules.proofs.Chains.{and_left, and_right, by_cond, clash, never, map-got, same-eq}
 use Rattle.rules.proofs.Rows.{found-row, row_at, row-did}
 use Rattle.promises.specs.TableTexts.{number_at}
@@ -109,7 +109,7 @@ listing_has whole d k e [] ts h w = tt
 listing_has whole d k e (v ∷ vs) [] h w = tt
 listing_has whole d k e (v ∷ vs) ([] ∷ ts) h w = (tt, listing_has whole (suc d) (suc k) (omega (arith, e)) vs ts h.1 (within-rest v vs d whole w))
 listing_has whole d k e (v ∷ vs) ((l ∷ t) ∷ ts) h w =
-    numbered_have whole k v (w 1 v first k (omega (arith, e))) (l ∷ t) h.0 (nextName vs) 0 1 v.place refl (l ∷ t) (within_all (l ∷ t)) (listing (suc k) vs ts)
+    numbered_have whole k v (w 1 v first k (omega (arith, e))) (l ∷ t) h.0 (next_name vs) 0 1 v.place refl (l ∷ t) (within_all (l ∷ t)) (listing (suc k) vs ts)
     (listing_has whole (suc d) (suc k) (omega (arith, e)) vs ts h.1 (within-rest v vs d whole w))
 
 pub lines_have : (vs : List Volume) (ts : List Text) → Texts vs ts → Lines (Has vs) (listing 1 vs ts)

@@ -16,7 +16,7 @@ use Rattle.rules.specs.Rows.{part_of, slot_value}
 use Rattle.rules.specs.Figures.{placed_table}
 use Rattle.rules.specs.Sets.{Figure, plain, chain, lettering, placed, wired, passed, Set, own_serial, own_number, figure_serial, wire_range}
 use Rattle.rules.specs.LineByLine.{Outcome, refused, accepted}
-use Rattle.rules.specs.Answers.{classOr, readOutcome, recordsIn, readRecords}
+use Rattle.rules.specs.Answers.{class_or, read_outcome, records_in, read_records}
 use Rattle.rules.proofs.Chains.{clash, map-agree}
 use Rattle.promises.specs.TableTexts.{first_records}
 use Rattle.promises.specs.OwnNumbers as O
@@ -65,13 +65,13 @@ of-first (passed n) = refl
 
 -- ── an accepted set ──
 module _ (class wire len : ℕ) (spool : List ℕ) (s : Set) (r : ReadSound class wire len spool s) where
-  records-shown : own_numbers (readRecords class wire len spool) ≡ flat (map (λ f. first_of (serial_row f)) (figures_in s))
+  records-shown : own_numbers (read_records class wire len spool) ≡ flat (map (λ f. first_of (serial_row f)) (figures_in s))
   records-shown =
       ap own_numbers r.records ∙ (set-shown O.own_number own-quiet symbol_first wire_first r.at s (own-shown r.at s) r.fits r.sound.figures).are
       ∙ ap flat (map-agree (of_figure O.own_number own-quiet symbol_first wire_first) (λ f. first_of (serial_row f)) of-first (figures_in s))
 
   -- they are those that were compared
-  pub shown_compared : own_numbers (readRecords class wire len spool) ≡ closed_serials s
+  pub shown_compared : own_numbers (read_records class wire len spool) ≡ closed_serials s
   shown_compared =
       records-shown
       ∙ sym (volumes_list r.at (wire_range s) figure_serial (λ f. first_of (serial_row f)) (figure-first r.at (wire_range s)) s.volumes r.sound.figures)
@@ -79,14 +79,14 @@ module _ (class wire len : ℕ) (spool : List ℕ) (s : Set) (r : ReadSound clas
 pub own-numbers-shown : OwnNumbersShown
 own-numbers-shown class wire len spool s e = records-shown class wire len spool s (read-sound class wire len spool s e)
 
-none-refused : (class wire len : ℕ) (spool : List ℕ) (n v l : ℕ) → readOutcome class wire len spool ≡ refused n v l → readRecords class wire len spool ≡ []
-unfolding readRecords
-none-refused class wire len spool n v l e = ap (recordsIn (classOr (class_of class wire))) e
+none-refused : (class wire len : ℕ) (spool : List ℕ) (n v l : ℕ) → read_outcome class wire len spool ≡ refused n v l → read_records class wire len spool ≡ []
+unfolding read_records
+none-refused class wire len spool n v l e = ap (records_in (class_or (class_of class wire))) e
 
-records-differ : (class wire len : ℕ) (spool : List ℕ) → Differ (own_numbers (readRecords class wire len spool))
-records-differ class wire len spool = by (readOutcome class wire len spool) refl
+records-differ : (class wire len : ℕ) (spool : List ℕ) → Differ (own_numbers (read_records class wire len spool))
+records-differ class wire len spool = by (read_outcome class wire len spool) refl
   where
-    by : (o : Outcome) → readOutcome class wire len spool ≡ o → Differ (own_numbers (readRecords class wire len spool))
+    by : (o : Outcome) → read_outcome class wire len spool ≡ o → Differ (own_numbers (read_records class wire len spool))
     by (refused n v l) e = subst (λ (rs : List (List ℤ)). Differ (own_numbers rs)) (sym (none-refused class wire len spool n v l e)) tt
     by (accepted s) e = let r = read-sound class wire len spool s e in subst Differ (sym (shown_compared class wire len spool s r)) r.sound.differ
 
@@ -108,7 +108,7 @@ none-twice rs g before between after former later e n a b =
     two-differ before between after former later (subst (λ (rs : List (List ℤ)). Differ (own_numbers rs)) e g) n a b
 
 pub own-numbers-differ : OwnNumbersDiffer
-own-numbers-differ class wire len spool = none-twice (readRecords class wire len spool) (records-differ class wire len spool)
+own-numbers-differ class wire len spool = none-twice (read_records class wire len spool) (records-differ class wire len spool)
 
 pub call-numbers-differ : CallNumbersDiffer
 call-numbers-differ c n e =

@@ -8,7 +8,7 @@ use Rattle.rules.specs.declared.Answer.{Answer}
 use Rattle.rules.specs.declared.Answer.TheVariants.{Accepted, Refused}
 use Rattle.rules.specs.Spool.{most_volumes}
 use Rattle.rules.specs.RecordTable.{width}
-use Rattle.rules.specs.Answers.{readAnswer, rewriteAnswer, ownRecords, packed, checkAnswer}
+use Rattle.rules.specs.Answers.{read_answer, rewrite_answer, own_records, packed, check_answer}
 use Rattle.promises.specs.DemandOne.{by_reader, by_rewriter, of_whole, Located, Answered, accepted_with, refused_with}
 use Rattle.promises.specs.TakenApart.{refusal_in, Tells, TakenApart}
 use Rattle.promises.proofs.Answered.{demand-one}
@@ -40,9 +40,9 @@ tells whose (Refused r) (refused_with _ w) =
     record { accepted = λ q. absurd (omega (arith, q, w.least)); refused = λ _. parts r.number r.volume r.line (omega (arith, w.most)) (omega (arith, v)) }
 
 pub taken-apart : TakenApart
-unfolding checkAnswer
+unfolding check_answer
 taken-apart = record {
-  reader = λ class wire len spool. tells by_reader (readAnswer class wire len spool) (demand-one.reader class wire len spool).answer;
-  rewriter = λ len spool. tells by_rewriter (rewriteAnswer len spool) (demand-one.rewriter len spool).answer;
-  check = λ class wire spool. tells by_reader (readAnswer class wire (ownRecords * width) spool) (demand-one.reader class wire (ownRecords * width) spool).answer;
+  reader = λ class wire len spool. tells by_reader (read_answer class wire len spool) (demand-one.reader class wire len spool).answer;
+  rewriter = λ len spool. tells by_rewriter (rewrite_answer len spool) (demand-one.rewriter len spool).answer;
+  check = λ class wire spool. tells by_reader (read_answer class wire (own_records * width) spool) (demand-one.reader class wire (own_records * width) spool).answer;
 }

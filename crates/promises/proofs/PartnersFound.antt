@@ -17,7 +17,7 @@ use Rattle.rules.specs.Figures.{placed_table}
 use Rattle.rules.specs.Sets.{Figure, plain, chain, lettering, placed, wired, passed, Set, wire_range, figure_partners, partners_of_volume}
 use Rattle.rules.specs.Sets as S
 use Rattle.rules.specs.Machine.{tests_partners}
-use Rattle.rules.specs.Answers.{readRecords}
+use Rattle.rules.specs.Answers.{read_records}
 use Rattle.rules.proofs.Chains.{and_left, and_right, and_true, clash, cond-some, map-agree}
 use Rattle.promises.specs.OwnNumbers.{own_numbers, figures_in, serial_row}
 use Rattle.promises.specs.Partners.{has_serials, range_in, tested, partners_of, ends_of, wire_partners, WirePartnersShown, Found, PartnersFound, CallPartnersFound}
@@ -132,13 +132,13 @@ tests class wire c s p t =
 
 -- ── an accepted set ──
 module _ (class wire len : ℕ) (spool : List ℕ) (s : Set) (r : ReadSound class wire len spool s) where
-  ends-are : flat (map ends_of (readRecords class wire len spool)) ≡ flat (map wire_partners (figures_in s))
+  ends-are : flat (map ends_of (read_records class wire len spool)) ≡ flat (map wire_partners (figures_in s))
   ends-are =
       ap (λ rs. flat (map ends_of rs)) r.records ∙ (set-shown ends_of ends-quiet no_ends wire_ends r.at s (ends-shown r.at s) r.fits r.sound.figures).are
       ∙ ap flat (map-agree (of_figure ends_of ends-quiet no_ends wire_ends) wire_partners of-ends (figures_in s))
 
   found-figures : tested class wire s ≡ true → (n : ℕ) → has_number n (flat (map (λ f. partners_of (serial_row f)) (figures_in s))) ≡ true
-      → has_number n (own_numbers (readRecords class wire len spool)) ≡ true
+      → has_number n (own_numbers (read_records class wire len spool)) ≡ true
   found-figures t n h =
       let exist = r.sound.partners (tests class wire r.at s r.listed t) in
       let same = volumes_list r.at (wire_range s) figure_partners (λ f. partners_of (serial_row f)) (figure-partners r.at (wire_range s)) s.volumes r.sound.figures in
@@ -146,7 +146,7 @@ module _ (class wire len : ℕ) (spool : List ℕ) (s : Set) (r : ReadSound clas
       subst (λ ns. has_number n ns ≡ true) (sym (shown_compared class wire len spool s r))
       (all_has (λ m. has_number m (closed_serials s)) (flat (map partners_of_volume s.volumes)) n exist asked)
 
-  found : tested class wire s ≡ true → Found s (readRecords class wire len spool)
+  found : tested class wire s ≡ true → Found s (read_records class wire len spool)
   found t = record { figures = found-figures t; wires = λ n h. found-figures t n (wires-among n (figures_in s) (subst (λ ns. has_number n ns ≡ true) ends-are h)) }
 
 pub wire-partners-shown : WirePartnersShown

@@ -9,7 +9,7 @@ use Rattle.rules.specs.Sets.{Set}
 use Rattle.rules.specs.Machine.{limited_to}
 use Rattle.rules.specs.LineByLine.{accepted}
 use Rattle.rules.specs.RecordTable.{width, records_of}
-use Rattle.rules.specs.Answers.{readOutcome, readRecords}
+use Rattle.rules.specs.Answers.{read_outcome, read_records}
 use Rattle.rules.proofs.Runs.{not-accepted}
 use Rattle.promises.proofs.FigureSteps.{Sound, accepted-sound}
 use Rattle.promises.proofs.FitSets.{AnyText, FitSet}
@@ -22,11 +22,11 @@ use Rattle.promises.proofs.TwoClasses.{taken, outcome-at}
 pub record ReadSound (class wire len : ℕ) (spool : List ℕ) (s : Set) : Type 0 where
   pub at : Class
   pub listed : class_of class wire ≡ some at
-  pub records : readRecords class wire len spool ≡ records_of at s
+  pub records : read_records class wire len spool ≡ records_of at s
   pub fits : FitSet AnyText s
   pub sound : Sound (limited_to at (len / width)) s
 
-pub read-sound : (class wire len : ℕ) (spool : List ℕ) (s : Set) → readOutcome class wire len spool ≡ accepted s → ReadSound class wire len spool s
+pub read-sound : (class wire len : ℕ) (spool : List ℕ) (s : Set) → read_outcome class wire len spool ≡ accepted s → ReadSound class wire len spool s
 read-sound class wire len spool s e = go (class_of class wire) refl
   where
     go : (o : Option Class) → class_of class wire ≡ o → ReadSound class wire len spool s

@@ -21,7 +21,7 @@ use Rattle.rules.specs.Machine.{Line, Env, Home, in_element, in_layer, State, to
 use Rattle.rules.specs.PlacedSymbol.{by_skip, on_unknown, on_placed, on_placed_key, on_placed_own, on_placing, unread_shut, skip_shut, on_skipping}
 use Rattle.rules.specs.LineByLine.{step_in, step, Outcome, refused, accepted, then_run, finish, run}
 use Rattle.rules.specs.Spool.{Volume, volumes_of, lines_of, most_volumes}
-use Rattle.rules.specs.Answers.{numbered, linesOfVolume, nextName, Listed, listed, noLines, ontoLines, listVolume, listVolumes, outcomeOfLines, outcomeOfVolumes, outcomeOf, outcomeAt}
+use Rattle.rules.specs.Answers.{numbered, lines_of_volume, next_name, Listed, listed, no_lines, onto_lines, list_volume, list_volumes, outcome_of_lines, outcome_of_volumes, outcome_of, outcome_at}
 use Rattle.rules.specs.Machine.{symbol_block, wire_block, wire_unread, Owned, open_wire}
 use Rattle.rules.specs.Wires.{on_wire_act, on_wire_unknown, on_wire_key, on_wire}
 use Rattle.rules.proofs.Chains.{and_left, and_right, clash, by_cond}
@@ -233,7 +233,7 @@ fine-numbered : (v : ℕ) (next : List ℕ) (n at : ℕ) (ls : List (List ℕ)) 
 fine-numbered v next n at [] = no_line
 fine-numbered v next n at (l ∷ ls) = one_line (fine-form at l) (fine-numbered v next (suc n) (at + length l + 2) ls)
 
-fine-volume : (v : ℕ) (next : List ℕ) (at : ℕ) (ls : List (List ℕ)) → FineLines (linesOfVolume v next at ls)
+fine-volume : (v : ℕ) (next : List ℕ) (at : ℕ) (ls : List (List ℕ)) → FineLines (lines_of_volume v next at ls)
 fine-volume v next at [] = one_line passed no_line
 fine-volume v next at (l ∷ ls) = fine-numbered v next 1 at (l ∷ ls)
 
@@ -243,17 +243,17 @@ fine-append (l ∷ a) b (one_line w p) q = one_line w (fine-append a b p q)
 
 data FineListed : Listed → Type 0 where
   lines : {ls : List Line} → FineLines ls → FineListed (listed ls)
-  none3 : {v : ℕ} → FineListed (noLines v)
+  none3 : {v : ℕ} → FineListed (no_lines v)
 
-fine-onto : (ls : List Line) (r : Listed) → FineLines ls → FineListed r → FineListed (ontoLines ls r)
+fine-onto : (ls : List Line) (r : Listed) → FineLines ls → FineListed r → FineListed (onto_lines ls r)
 fine-onto ls (listed rest) p (lines q) = lines (fine-append ls rest p q)
-fine-onto ls (noLines v) p q = none3
+fine-onto ls (no_lines v) p q = none3
 
-fine_list : (k : ℕ) (v : Volume) (vs : List Volume) (ls : Option (List (List ℕ))) (rest : Listed) → FineListed rest → FineListed (listVolume k v vs ls rest)
+fine_list : (k : ℕ) (v : Volume) (vs : List Volume) (ls : Option (List (List ℕ))) (rest : Listed) → FineListed rest → FineListed (list_volume k v vs ls rest)
 fine_list k v vs none rest w = none3
-fine_list k v vs (some ls) rest w = fine-onto _ rest (fine-volume k (nextName vs) v.place ls) w
+fine_list k v vs (some ls) rest w = fine-onto _ rest (fine-volume k (next_name vs) v.place ls) w
 
-fine-volumes : (k : ℕ) (vs : List Volume) → FineListed (listVolumes k vs)
+fine-volumes : (k : ℕ) (vs : List Volume) → FineListed (list_volumes k vs)
 fine-volumes k [] = lines no_line
 fine-volumes k (v ∷ vs) = fine_list k v vs (lines_of v.body) _ (fine-volumes (suc k) vs)
 
@@ -282,7 +282,7 @@ least-run e st (l ∷ ls) (one_line w r) k v n q = go (step e l st) (fine-step e
     go (got st') f ih q = ih st' q
     go (bad j) (refuses _ f) ih q = let z : j ≡ k = cc in omega (arith, (at-line j f).0, z)
 
-pub least-listed : (e : Env) (vs : List Volume) (ls : List Line) → listVolumes 1 vs ≡ listed ls → (k v n : ℕ) → run e (top nothing_yet 0) ls ≡ refused k v n → 4 ≤ k
+pub least-listed : (e : Env) (vs : List Volume) (ls : List Line) → list_volumes 1 vs ≡ listed ls → (k v n : ℕ) → run e (top nothing_yet 0) ls ≡ refused k v n → 4 ≤ k
 least-listed e vs ls q k v n = go (subst FineListed q (fine-volumes 1 vs))
   where
     go : FineListed (listed ls) → run e (top nothing_yet 0) ls ≡ refused k v n → 4 ≤ k
@@ -319,24 +319,24 @@ told-run e st (l ∷ []) (one_line w r) p m =
 told-run e st (l ∷ x ∷ ls) (one_line w r) p m =
     told-step (step e l st) l _ (fine-step e l st w) m.0 m.1 λ st' _. told-run e st' (x ∷ ls) r p m.2
 
-told-volumes : (e : Env) (spool : List ℕ) → OutcomeTold (outcomeOfVolumes e (volumes_of spool))
+told-volumes : (e : Env) (spool : List ℕ) → OutcomeTold (outcome_of_volumes e (volumes_of spool))
 told-volumes e spool = go (volumes_of spool) refl
   where
-    by : (u : Volume) (vs : List Volume) (l : Listed) → listVolumes 1 (u ∷ vs) ≡ l → FineListed l → Within 1 most_volumes l → OutcomeTold (outcomeOfLines e l)
+    by : (u : Volume) (vs : List Volume) (l : Listed) → list_volumes 1 (u ∷ vs) ≡ l → FineListed l → Within 1 most_volumes l → OutcomeTold (outcome_of_lines e l)
     by u vs (listed ls) q (lines w) m = told-run e (top nothing_yet 0) ls w (lines-proper 1 u vs ls q) m
-    by u vs (noLines v) q w m = told_in 3 v 0 (omega arith) (omega arith) refl m.0 m.1
+    by u vs (no_lines v) q w m = told_in 3 v 0 (omega arith) (omega arith) refl m.0 m.1
 
-    go : (o : Option (List Volume)) → volumes_of spool ≡ o → OutcomeTold (outcomeOfVolumes e o)
+    go : (o : Option (List Volume)) → volumes_of spool ≡ o → OutcomeTold (outcome_of_volumes e o)
     go none p = told-whole 2 (omega arith) (omega arith) refl
     go (some []) p = absurd (let w = volumes_inv spool [] p in omega (arith, w.one))
     go (some (u ∷ vs)) p =
-        by u vs (listVolumes 1 (u ∷ vs)) refl (fine-volumes 1 (u ∷ vs))
+        by u vs (list_volumes 1 (u ∷ vs)) refl (fine-volumes 1 (u ∷ vs))
         (listing-within 1 most_volumes 0 (u ∷ vs) (omega arith) (let w = volumes_inv spool (u ∷ vs) p in omega (arith, w.few)))
 
-pub told-spool : (e : Env) (spool : List ℕ) → OutcomeTold (outcomeOf e spool)
-unfolding outcomeOf
+pub told-spool : (e : Env) (spool : List ℕ) → OutcomeTold (outcome_of e spool)
+unfolding outcome_of
 told-spool e spool = told-volumes e spool
 
-pub told_at : (c : Option Class) (m : Option ℕ) (spool : List ℕ) → OutcomeTold (outcomeAt c m spool)
+pub told_at : (c : Option Class) (m : Option ℕ) (spool : List ℕ) → OutcomeTold (outcome_at c m spool)
 told_at none m spool = told-whole 1 (omega arith) (omega arith) refl
 told_at (some c) m spool = told-spool (record { class = c; limit = m }) spool

@@ -16,7 +16,7 @@ use Rattle.rules.specs.Machine.{limited_to, Line, Env, top}
 use Rattle.rules.specs.LineByLine.{Outcome, refused, accepted, run}
 use Rattle.rules.specs.RecordTable.{width, records_from, records_of}
 use Rattle.rules.specs.FixedForm.{Text, volume_lines, volumes_bytes, fixed_form}
-use Rattle.rules.specs.Answers.{numbered, nextName, answerWith, refusal, readOutcome, readRecords, readAnswer, fullClass, names_in, writtenIn, rewriteOutcome, written, fitOutput, rewriteAnswer, fullNumber, fullWire}
+use Rattle.rules.specs.Answers.{numbered, next_name, answer_with, refusal, read_outcome, read_records, read_answer, full_class, names_in, written_in, rewrite_outcome, written, fit_output, rewrite_answer, full_number, full_wire}
 use Rattle.rules.proofs.Chains.{and_left, and_right, and_true, clash}
 use Rattle.promises.specs.PlacesApart.{bare_line, bare_set, places_apart}
 use Rattle.promises.specs.TableTexts.{texts_of}
@@ -43,9 +43,9 @@ use Rattle.promises.proofs.ShownTexts.{shown-texts, read-shows}
 use Rattle.promises.proofs.TextPlaces.{texts-bare, wires-bare}
 
 -- what is written of a spool whose set is known
-written_is : (spool : List ℕ) (vs : List Volume) (s : Set) → volumes_of spool ≡ some vs → rewriteOutcome spool ≡ accepted s → written spool ≡ fixed_form (names_of vs) s
+written_is : (spool : List ℕ) (vs : List Volume) (s : Set) → volumes_of spool ≡ some vs → rewrite_outcome spool ≡ accepted s → written spool ≡ fixed_form (names_of vs) s
 unfolding written
-written_is spool vs s p e = ap₂ (λ o r. writtenIn (names_in o) r) p e
+written_is spool vs s p e = ap₂ (λ o r. written_in (names_in o) r) p e
 
 form-is : (names : List (List ℕ)) (s : Set) → fixed_form names s ≡ framed names (map unlines (volume_lines s s.volumes))
 unfolding fixed_form
@@ -80,25 +80,25 @@ body-total (t ∷ ts) = let a = unlines-length t in let b = body-total ts in ome
 pub accepted-same : {s t : Set} → accepted s ≡ accepted t → s ≡ t
 accepted-same e = cc
 
-answer-with : (len : ℕ) (spool : List ℕ) (o : Outcome) → readOutcome fullNumber fullWire len spool ≡ o → readAnswer fullNumber fullWire len spool ≡ answerWith (length (readRecords fullNumber fullWire len spool)) o
-unfolding readAnswer
-answer-with len spool o q = ap (answerWith (length (readRecords fullNumber fullWire len spool))) q
+answer-with : (len : ℕ) (spool : List ℕ) (o : Outcome) → read_outcome full_number full_wire len spool ≡ o → read_answer full_number full_wire len spool ≡ answer_with (length (read_records full_number full_wire len spool)) o
+unfolding read_answer
+answer-with len spool o q = ap (answer_with (length (read_records full_number full_wire len spool))) q
 
 -- an answer that accepts comes of an outcome that accepts, and counts its records
-accepted_inv : (len : ℕ) (spool : List ℕ) (n : ℕ) → readAnswer fullNumber fullWire len spool ≡ Accepted n
-    → (u : Set) × (readOutcome fullNumber fullWire len spool ≡ accepted u) × (length (records_of fullClass u) ≡ n)
-accepted_inv len spool n e = go (readOutcome fullNumber fullWire len spool) refl
+accepted_inv : (len : ℕ) (spool : List ℕ) (n : ℕ) → read_answer full_number full_wire len spool ≡ Accepted n
+    → (u : Set) × (read_outcome full_number full_wire len spool ≡ accepted u) × (length (records_of full_class u) ≡ n)
+accepted_inv len spool n e = go (read_outcome full_number full_wire len spool) refl
   where
-    go : (o : Outcome) → readOutcome fullNumber fullWire len spool ≡ o → (u : Set) × (readOutcome fullNumber fullWire len spool ≡ accepted u) × (length (records_of fullClass u) ≡ n)
+    go : (o : Outcome) → read_outcome full_number full_wire len spool ≡ o → (u : Set) × (read_outcome full_number full_wire len spool ≡ accepted u) × (length (records_of full_class u) ≡ n)
     go (refused k v l) q = absurd (let z = sym (answer-with len spool (refused k v l) q) ∙ e in let y : ◌≡◌ {A = ℕ} 0 1 = cc in omega arith)
-    go (accepted u) q = (u, q, let z = sym (taken len spool fullNumber fullWire fullClass u class15 q).1 ∙ e in cc)
+    go (accepted u) q = (u, q, let z = sym (taken len spool full_number full_wire full_class u class15 q).1 ∙ e in cc)
 
 -- with room for it the rewriter accepts
-pub room-accepts : (len : ℕ) (spool : List ℕ) (s : Set) → rewriteOutcome spool ≡ accepted s → length (written spool) ≤ len → rewriteAnswer len spool ≡ Accepted (length (written spool))
-unfolding rewriteAnswer
+pub room-accepts : (len : ℕ) (spool : List ℕ) (s : Set) → rewrite_outcome spool ≡ accepted s → length (written spool) ≤ len → rewrite_answer len spool ≡ Accepted (length (written spool))
+unfolding rewrite_answer
 room-accepts len spool s e h =
     let n = length (written spool) in
-    ap (λ o. fitOutput len n (answerWith n o)) e ∙ ap (λ b. cond b (Accepted n) (refusal 20 0 0)) (le-leb n len h)
+    ap (λ o. fit_output len n (answer_with n o)) e ∙ ap (λ b. cond b (Accepted n) (refusal 20 0 0)) (le-leb n len h)
 
 -- the lines written weigh no more than the lines read
 no_longer : (vs : List Volume) (ts : List Text) (s : Set) → Texts vs ts → all some_lines ts ≡ true → run plain_env (top nothing_yet 0) (listing 1 vs ts) ≡ accepted s
@@ -119,7 +119,7 @@ listing-nexts k [] (t ∷ ts) h a = absurd h
 listing-nexts k (v ∷ vs) [] h a = absurd h
 listing-nexts k (v ∷ vs) ([] ∷ ts) h a = clash a refl
 listing-nexts k (v ∷ vs) ((l ∷ t) ∷ ts) h a =
-    numbered-nexts k (nextName vs) 1 v.place l t (listing (suc k) vs ts) ∙ ap (λ ns. nextName vs ∷ ns) (listing-nexts (suc k) vs ts h.1 a)
+    numbered-nexts k (next_name vs) 1 v.place l t (listing (suc k) vs ts) ∙ ap (λ ns. next_name vs ∷ ns) (listing-nexts (suc k) vs ts h.1 a)
 
 numbered_steady : (k : ℕ) (next : List ℕ) (n at : ℕ) (l : List ℕ) (t : Text) (more : List Line) → Steady more → Steady (numbered k next n at (l ∷ t) ++ more)
 numbered_steady k next n at l [] [] h = tt
@@ -131,7 +131,7 @@ listing_steady k [] [] h a = tt
 listing_steady k [] (t ∷ ts) h a = absurd h
 listing_steady k (v ∷ vs) [] h a = absurd h
 listing_steady k (v ∷ vs) ([] ∷ ts) h a = clash a refl
-listing_steady k (v ∷ vs) ((l ∷ t) ∷ ts) h a = numbered_steady k (nextName vs) 1 v.place l t (listing (suc k) vs ts) (listing_steady (suc k) vs ts h.1 a)
+listing_steady k (v ∷ vs) ((l ∷ t) ∷ ts) h a = numbered_steady k (next_name vs) 1 v.place l t (listing (suc k) vs ts) (listing_steady (suc k) vs ts h.1 a)
 
 -- what was read of these texts is good
 listing-good : (vs : List Volume) (ts : List Text) (s : Set) → Texts vs ts → all some_lines ts ≡ true → run plain_env (top nothing_yet 0) (listing 1 vs ts) ≡ accepted s → GoodSet (nexts_of_volumes vs) s
@@ -147,7 +147,7 @@ ends-once (v ∷ w ∷ vs) a h =
     and_true _ _ (and_left (not (is_nil w.name)) _ b) (ends-once (w ∷ vs) b (omega arith))
 
 -- ── one accepted spool ──
-module _ (spool : List ℕ) (s : Set) (outcome : rewriteOutcome spool ≡ accepted s) (p : Parsed plain_env spool s) where
+module _ (spool : List ℕ) (s : Set) (outcome : rewrite_outcome spool ≡ accepted s) (p : Parsed plain_env spool s) where
   abbrev vs : List Volume
   vs = p.volumes
 
@@ -237,9 +237,9 @@ module _ (spool : List ℕ) (s : Set) (outcome : rewriteOutcome spool ≡ accept
     abbrev t : Set
     t = a.set
 
-    again_outcome : rewriteOutcome (written spool) ≡ accepted t
+    again_outcome : rewrite_outcome (written spool) ≡ accepted t
     again_outcome =
-        ap rewriteOutcome is-output ∙ rewrite-is output ∙ reading plain_env output (laid 0 names bodies) lines again-found again-theirs ∙ a.runs
+        ap rewrite_outcome is-output ∙ rewrite-is output ∙ reading plain_env output (laid 0 names bodies) lines again-found again-theirs ∙ a.runs
 
     again-form : written (written spool) ≡ written spool
     again-form =
@@ -257,9 +257,9 @@ module _ (spool : List ℕ) (s : Set) (outcome : rewriteOutcome spool ≡ accept
     -- as many records
     again-taken : t.taken ≡ s.taken
     again-taken =
-        sym (taken-counts fullClass fullClass none (listing 1 (laid 0 names bodies) lines) t a.runs)
-        ∙ sym (length-map (records_of fullClass t) places_apart) ∙ ap length (again-records fullClass) ∙ length-map (records_of fullClass s) places_apart
-        ∙ taken-counts fullClass fullClass none (listing 1 vs p.texts) s p.runs
+        sym (taken-counts full_class full_class none (listing 1 (laid 0 names bodies) lines) t a.runs)
+        ∙ sym (length-map (records_of full_class t) places_apart) ∙ ap length (again-records full_class) ∙ length-map (records_of full_class s) places_apart
+        ∙ taken-counts full_class full_class none (listing 1 vs p.texts) s p.runs
 
     -- so the count of records is the same, and the whole set
     again-set : bare_set t ≡ bare_set s
@@ -277,27 +277,27 @@ module _ (spool : List ℕ) (s : Set) (outcome : rewriteOutcome spool ≡ accept
     again-names = ap (map_o names_of) (ap volumes_of is-output ∙ again-found) ∙ ap some (names-laid 0 names bodies as-bodies) ∙ sym (ap (map_o names_of) p.found)
 
     -- ── with a table ──
-    module _ (len : ℕ) (u : Set) (reads : readOutcome fullNumber fullWire len spool ≡ accepted u) where
+    module _ (len : ℕ) (u : Set) (reads : read_outcome full_number full_wire len spool ≡ accepted u) where
       abbrev m : ℕ
       m = len / width
 
       abbrev env : Env
-      env = limited_to fullClass m
+      env = limited_to full_class m
 
       run-limited : run env (top nothing_yet 0) (listing 1 vs p.texts) ≡ accepted u
-      run-limited = sym (reading env spool vs p.texts p.found p.theirs) ∙ sym (outcome-at len spool fullNumber fullWire fullClass class15) ∙ reads
+      run-limited = sym (reading env spool vs p.texts p.found p.theirs) ∙ sym (outcome-at len spool full_number full_wire full_class class15) ∙ reads
 
       same_set : u ≡ s
-      same_set = accepted-same (sym (limit-drop fullClass m (listing 1 vs p.texts) (top nothing_yet 0) u run-limited) ∙ p.runs)
+      same_set = accepted-same (sym (limit-drop full_class m (listing 1 vs p.texts) (top nothing_yet 0) u run-limited) ∙ p.runs)
 
-      again-limited : readOutcome fullNumber fullWire len (written spool) ≡ accepted t
+      again-limited : read_outcome full_number full_wire len (written spool) ≡ accepted t
       again-limited =
-          let f = taken-fits fullClass m (listing 1 vs p.texts) u run-limited in
+          let f = taken-fits full_class m (listing 1 vs p.texts) u run-limited in
           let g = ap (λ (v : Set). v.taken) same_set in
           let h = again-taken in
-          ap (readOutcome fullNumber fullWire len) is-output ∙ outcome-at len output fullNumber fullWire fullClass class15
+          ap (read_outcome full_number full_wire len) is-output ∙ outcome-at len output full_number full_wire full_class class15
           ∙ reading env output (laid 0 names bodies) lines again-found again-theirs
-          ∙ limit-lift fullClass m (listing 1 (laid 0 names bodies) lines) (top nothing_yet 0) t a.runs (omega arith)
+          ∙ limit-lift full_class m (listing 1 (laid 0 names bodies) lines) (top nothing_yet 0) t a.runs (omega arith)
 
   written-short : length (written spool) ≤ length spool
   written-short = subst (λ o. length o ≤ length spool) (sym is-output) output-length
@@ -308,25 +308,25 @@ module _ (spool : List ℕ) (s : Set) (outcome : rewriteOutcome spool ≡ accept
       record {
         no_longer = written-short;
         writes = λ size room. room-accepts size spool s outcome (omega (arith, written-short, room));
-        many = length (records_of fullClass s);
-        reads = λ len room. (taken len spool fullNumber fullWire fullClass s class15 (fits-table len spool s outcome room)).1;
+        many = length (records_of full_class s);
+        reads = λ len room. (taken len spool full_number full_wire full_class s class15 (fits-table len spool s outcome room)).1;
         names = again-names a;
         set = a.set;
         again = again_outcome a;
         whole = again-set a;
         count = λ len n e.
             let (u, o, q) = accepted_inv len spool n e in
-            let w = taken len (written spool) fullNumber fullWire fullClass a.set class15 (again-limited a len u o) in
-            w.1 ∙ ap Accepted (sym (length-map (records_of fullClass a.set) places_apart) ∙ ap length (again-records a fullClass) ∙ length-map (records_of fullClass s) places_apart
-            ∙ ap (λ v. length (records_of fullClass v)) (sym (same_set a len u o)) ∙ q);
+            let w = taken len (written spool) full_number full_wire full_class a.set class15 (again-limited a len u o) in
+            w.1 ∙ ap Accepted (sym (length-map (records_of full_class a.set) places_apart) ∙ ap length (again-records a full_class) ∙ length-map (records_of full_class s) places_apart
+            ∙ ap (λ v. length (records_of full_class v)) (sym (same_set a len u o)) ∙ q);
         records = λ len n e.
             let (u, o, q) = accepted_inv len spool n e in
-            ap (map places_apart) (taken len (written spool) fullNumber fullWire fullClass a.set class15 (again-limited a len u o)).0 ∙ again-records a fullClass
-            ∙ ap (λ v. map places_apart (records_of fullClass v)) (sym (same_set a len u o)) ∙ ap (map places_apart) (sym (taken len spool fullNumber fullWire fullClass u class15 o).0);
+            ap (map places_apart) (taken len (written spool) full_number full_wire full_class a.set class15 (again-limited a len u o)).0 ∙ again-records a full_class
+            ∙ ap (λ v. map places_apart (records_of full_class v)) (sym (same_set a len u o)) ∙ ap (map places_apart) (sym (taken len spool full_number full_wire full_class u class15 o).0);
         texts = λ len n e.
             let (u, o, q) = accepted_inv len spool n e in
-            ap (texts_of (written spool)) (taken len (written spool) fullNumber fullWire fullClass a.set class15 (again-limited a len u o)).0 ∙ again-texts a fullClass
-            ∙ ap (λ v. texts_of spool (records_of fullClass v)) (sym (same_set a len u o)) ∙ ap (texts_of spool) (sym (taken len spool fullNumber fullWire fullClass u class15 o).0);
+            ap (texts_of (written spool)) (taken len (written spool) full_number full_wire full_class a.set class15 (again-limited a len u o)).0 ∙ again-texts a full_class
+            ∙ ap (λ v. texts_of spool (records_of full_class v)) (sym (same_set a len u o)) ∙ ap (texts_of spool) (sym (taken len spool full_number full_wire full_class u class15 o).0);
         wires = sym (wires-bare a.set) ∙ ap texts_of_wires (again-set a) ∙ wires-bare s;
         twice = again-form a;
       }

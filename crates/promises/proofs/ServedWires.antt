@@ -17,7 +17,7 @@ use Rattle.rules.specs.Values.{Num, num, Value, nums, Known, amount_at, values, 
 use Rattle.rules.specs.Rows.{Slots, Held, part_of, number_of, entry, shape_for}
 use Rattle.rules.specs.Blocks.{elec_table}
 use Rattle.rules.specs.RecordTable.{rule_at}
-use Rattle.rules.specs.Answers.{fullClass}
+use Rattle.rules.specs.Answers.{full_class}
 use Rattle.rules.proofs.Chains.{and_left, and_right, never, map-got, keep-got, cons-got}
 use Rattle.rules.proofs.Rows.{row-did}
 use Rattle.promises.specs.PlacesApart.{bare_value}
@@ -43,7 +43,7 @@ read-served k at c v e =
         subst (λ (u : List Num). served_wires (amount_at (nums u) 0) ≡ true) q (subst (λ (a : Num). served_wires (amount_at (nums (a ∷ r)) 0) ≡ true) z t)
 
 -- such digits are within those of wire part 18
-served-known : (n : ℕ) → served_wires n ≡ true → exceeds (digits_of n) fullClass.wires ≡ false
+served-known : (n : ℕ) → served_wires n ≡ true → exceeds (digits_of n) full_class.wires ≡ false
 served-known n e =
     or_cases (eqb n 0) _ (λ z. let q = eqb-true n 0 z in rw q)
     (λ z.
@@ -76,7 +76,7 @@ unfolding elec_table
 part-served true s g = slots-served s g.good
 part-served false s g = rw g
 
-pub wires-known : (f : Held) → GoodFile f → exceeds (digits_of (number_of "E_wire" elec_table (part_of f 3))) fullClass.wires ≡ false
+pub wires-known : (f : Held) → GoodFile f → exceeds (digits_of (number_of "E_wire" elec_table (part_of f 3))) full_class.wires ≡ false
 wires-known f g =
     served-known (number_of "E_wire" elec_table (part_of f 3))
     (subst (λ (f : Held). served_wires (number_of "E_wire" elec_table (part_of f 3)) ≡ true) (sym g.is) (part-served (is_one (get_or g.range 2 none)) g.elec g.elec-good))

@@ -13,7 +13,7 @@ use Rattle.rules.specs.Sets.{Set}
 use Rattle.rules.specs.Machine.{Env, limited_to}
 use Rattle.rules.specs.LineByLine.{refused, accepted}
 use Rattle.rules.specs.RecordTable.{width, records_of}
-use Rattle.rules.specs.Answers.{outcomeOfVolumes, readOutcome, readRecords}
+use Rattle.rules.specs.Answers.{outcome_of_volumes, read_outcome, read_records}
 use Rattle.rules.proofs.Runs.{not-accepted}
 use Rattle.promises.specs.PlacesApart.{text_places, kind_of}
 use Rattle.promises.specs.TableTexts.{amount_of, text_at, texts_of, Shows, ShowsAt, ShowTexts}
@@ -49,27 +49,27 @@ module _ (spool : List ℕ) where
       go (p ∷ ps) (c ∷ cs) h = ap₂ ◌∷◌ (text-is h.0) (go ps cs h.1)
 
 -- ── a spool that was read ──
-pub read-shows : (e : Env) (c : Class) (spool : List ℕ) (s : Set) → outcomeOfVolumes e (volumes_of spool) ≡ accepted s → ShowTexts spool (records_of c s) (texts_kept s)
+pub read-shows : (e : Env) (c : Class) (spool : List ℕ) (s : Set) → outcome_of_volumes e (volumes_of spool) ≡ accepted s → ShowTexts spool (records_of c s) (texts_kept s)
 read-shows e c spool s h =
     let p = parsed e spool s h in
     let lines = listing-fits spool 1 p.volumes p.texts p.theirs (volumes_stand spool p.volumes p.found) in
     set-shows spool c s (accepted-fit (Standing spool) e (listing 1 p.volumes p.texts) s lines p.runs)
 
 -- its wires' texts
-pub read-stands : (e : Env) (spool : List ℕ) (s : Set) → outcomeOfVolumes e (volumes_of spool) ≡ accepted s → WiresStand spool (texts_of_wires s)
+pub read-stands : (e : Env) (spool : List ℕ) (s : Set) → outcome_of_volumes e (volumes_of spool) ≡ accepted s → WiresStand spool (texts_of_wires s)
 read-stands e spool s h =
     let p = parsed e spool s h in
     let lines = listing-fits spool 1 p.volumes p.texts p.theirs (volumes_stand spool p.volumes p.found) in
     wires_stand spool s (accepted-fit (Standing spool) e (listing 1 p.volumes p.texts) s lines p.runs)
 
-pub no-class : (len : ℕ) (spool : List ℕ) (class wire : ℕ) → class_of class wire ≡ none → readOutcome class wire len spool ≡ refused 1 0 0
-unfolding readOutcome
+pub no-class : (len : ℕ) (spool : List ℕ) (class wire : ℕ) → class_of class wire ≡ none → read_outcome class wire len spool ≡ refused 1 0 0
+unfolding read_outcome
 no-class len spool class wire p = rw p
 
 pub texts-kept : TextsKept
 texts-kept class wire len spool s e = go (class_of class wire) refl
   where
-    go : (o : Option Class) → class_of class wire ≡ o → ShowTexts spool (readRecords class wire len spool) (texts_kept s)
+    go : (o : Option Class) → class_of class wire ≡ o → ShowTexts spool (read_records class wire len spool) (texts_kept s)
     go none p = not-accepted (sym (no-class len spool class wire p) ∙ e)
     go (some c) p =
         subst (λ rs. ShowTexts spool rs (texts_kept s)) (sym (taken len spool class wire c s p e).0)

@@ -21,7 +21,7 @@ use Rattle.rules.specs.VolumesAndTotals.{counted_here}
 use Rattle.rules.specs.Machine.{Line, Env, by_act, in_layer, State, top, file, drawing, layer_names, defines, symbol, hide, elements, figures, successive, texts, placing, skipping, ended, on_top, on_elements}
 use Rattle.rules.specs.LineByLine.{step_in, in_elements, after_elements, is_ignored, is_close, is_eof, completes, next_volume, step, accepted, then_run, run}
 use Rattle.rules.specs.FixedForm.{Text}
-use Rattle.rules.specs.Answers.{numbered, linesOfVolume, nextName, Listed, listed, noLines, listVolume, listVolumes}
+use Rattle.rules.specs.Answers.{numbered, lines_of_volume, next_name, Listed, listed, no_lines, list_volume, list_volumes}
 use Rattle.rules.proofs.Runs.{not-accepted}
 use Rattle.rules.proofs.Chains.{and_left, and_right, clash, never, unless-got, map-got, also-got, total-append, cond_true}
 use Rattle.promises.proofs.Forms.{Told, form-tells}
@@ -33,7 +33,7 @@ use Rattle.promises.proofs.Weights.{weigh}
 abbrev pub listing : ℕ → List Volume → List Text → List Line
 listing k [] ts = []
 listing k (v ∷ vs) [] = []
-listing k (v ∷ vs) (t ∷ ts) = linesOfVolume k (nextName vs) v.place t ++ listing (suc k) vs ts
+listing k (v ∷ vs) (t ∷ ts) = lines_of_volume k (next_name vs) v.place t ++ listing (suc k) vs ts
 
 -- each volume's text
 abbrev pub Texts : List Volume → List Text → Type 0
@@ -45,7 +45,7 @@ Texts (v ∷ vs) (t ∷ ts) = (lines_of v.body ≡ some t) × Texts vs ts
 listed-eq : {a b : List Line} → listed a ≡ listed b → a ≡ b
 listed-eq e = cc
 
-no-listed : {P : Type 0} {v : ℕ} {ls : List Line} → noLines v ≡ listed ls → P
+no-listed : {P : Type 0} {v : ℕ} {ls : List Line} → no_lines v ≡ listed ls → P
 no-listed e = absurd (let z : ◌≡◌ {A = ℕ} 0 1 = cc in omega arith)
 
 pub record Listing (k : ℕ) (vs : List Volume) (ls : List Line) : Type 0 where
@@ -53,19 +53,19 @@ pub record Listing (k : ℕ) (vs : List Volume) (ls : List Line) : Type 0 where
   pub theirs : Texts vs texts
   pub are : ls ≡ listing k vs texts
 
-pub listing_inv : (k : ℕ) (vs : List Volume) (ls : List Line) → listVolumes k vs ≡ listed ls → Listing k vs ls
+pub listing_inv : (k : ℕ) (vs : List Volume) (ls : List Line) → list_volumes k vs ≡ listed ls → Listing k vs ls
 listing_inv k [] ls e = record { texts = []; theirs = tt; are = sym (listed-eq e) }
-listing_inv k (v ∷ vs) ls e = go (lines_of v.body) refl (listVolumes (suc k) vs) refl (listing_inv (suc k) vs) e
+listing_inv k (v ∷ vs) ls e = go (lines_of v.body) refl (list_volumes (suc k) vs) refl (listing_inv (suc k) vs) e
   where
-    go : (o : Option Text) → lines_of v.body ≡ o → (r : Listed) → listVolumes (suc k) vs ≡ r → ((rest : List Line) → listVolumes (suc k) vs ≡ listed rest → Listing (suc k) vs rest)
-        → listVolume k v vs o r ≡ listed ls → Listing k (v ∷ vs) ls
+    go : (o : Option Text) → lines_of v.body ≡ o → (r : Listed) → list_volumes (suc k) vs ≡ r → ((rest : List Line) → list_volumes (suc k) vs ≡ listed rest → Listing (suc k) vs rest)
+        → list_volume k v vs o r ≡ listed ls → Listing k (v ∷ vs) ls
     go none p r q ih e = no-listed e
-    go (some t) p (noLines w) q ih e = no-listed e
+    go (some t) p (no_lines w) q ih e = no-listed e
     go (some t) p (listed rest) q ih e =
         let i = ih rest q in
-        record { texts = t ∷ i.texts; theirs = (p, i.theirs); are = sym (listed-eq e) ∙ ap (λ r. linesOfVolume k (nextName vs) v.place t ++ r) i.are }
+        record { texts = t ∷ i.texts; theirs = (p, i.theirs); are = sym (listed-eq e) ∙ ap (λ r. lines_of_volume k (next_name vs) v.place t ++ r) i.are }
 
-pub listing_of : (k : ℕ) (vs : List Volume) (ts : List Text) → Texts vs ts → listVolumes k vs ≡ listed (listing k vs ts)
+pub listing_of : (k : ℕ) (vs : List Volume) (ts : List Text) → Texts vs ts → list_volumes k vs ≡ listed (listing k vs ts)
 listing_of k [] [] h = refl
 listing_of k [] (t ∷ ts) h = absurd h
 listing_of k (v ∷ vs) [] h = absurd h
@@ -74,7 +74,7 @@ listing_of k (v ∷ vs) (t ∷ ts) h = rw (h.0, listing_of (suc k) vs ts h.1)
 -- ── names that follow ──
 abbrev pub nexts_of_volumes : List Volume → List (List ℕ)
 nexts_of_volumes [] = []
-nexts_of_volumes (v ∷ vs) = nextName vs ∷ nexts_of_volumes vs
+nexts_of_volumes (v ∷ vs) = next_name vs ∷ nexts_of_volumes vs
 
 -- ── a volume's end ──
 -- through the last line of a volume that is not the last, the next volume begins
@@ -161,7 +161,7 @@ pub none-empty : (e : Env) (k : ℕ) (vs : List Volume) (ts : List Text) → Tex
 none-empty e k [] [] h a s u r = refl
 none-empty e k [] (t ∷ ts) h a s u r = absurd h
 none-empty e k (v ∷ vs) [] h a s u r = absurd h
-none-empty e k (v ∷ vs) ([] ∷ ts) h a s u r = empty-refused e k (nextName vs) s (listing (suc k) vs ts) u r
+none-empty e k (v ∷ vs) ([] ∷ ts) h a s u r = empty-refused e k (next_name vs) s (listing (suc k) vs ts) u r
 none-empty e k (v ∷ []) ((l ∷ ls) ∷ []) h a s u r = refl
 none-empty e k (v ∷ []) ((l ∷ ls) ∷ t ∷ ts) h a s u r = absurd h.1
 none-empty e k (v ∷ w ∷ vs) ((l ∷ ls) ∷ ts) h a s u r =
@@ -217,4 +217,4 @@ listing-told k [] (t ∷ ts) h a = absurd h
 listing-told k (v ∷ vs) [] h a = absurd h
 listing-told k (v ∷ vs) ([] ∷ ts) h a = clash a refl
 listing-told k (v ∷ vs) ((l ∷ t) ∷ ts) h a =
-    numbered-told k (nextName vs) 1 v.place (l ∷ t) (lines_inv v.body (l ∷ t) h.0).1 (listing (suc k) vs ts) (sizes ts) (listing-told (suc k) vs ts h.1 a)
+    numbered-told k (next_name vs) 1 v.place (l ∷ t) (lines_inv v.body (l ∷ t) h.0).1 (listing (suc k) vs ts) (sizes ts) (listing-told (suc k) vs ts h.1 a)

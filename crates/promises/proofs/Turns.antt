@@ -24,7 +24,7 @@ use Rattle.rules.specs.RangeClass.{digits, digits_of}
 use Rattle.rules.specs.RecordTable.{width, View, view_of, plain_view, padded, put_slot, start, file_records, drawing_record, layer_records, rule_at, line_record, point_records, mark_unread, wire_start, unread_numbers, edge_record, edge_records, figure_records, inner_records, symbol_records, block_records, body_records, later_records, records_from, records_of}
 use Rattle.rules.specs.Machine.{Env, limited_to}
 use Rattle.rules.specs.LineByLine.{accepted}
-use Rattle.rules.specs.Answers.{outcomeOfVolumes}
+use Rattle.rules.specs.Answers.{outcome_of_volumes}
 use Rattle.rules.proofs.Chains.{by_cond, map-got, keep-got}
 use Rattle.promises.specs.PlacesApart.{kind_of}
 use Rattle.promises.specs.TableTexts.{first_records, number_at}
@@ -338,7 +338,7 @@ module _ (spool : List ℕ) where
               (volumes_say 2 us g.1 y.1)
 
 -- ── the whole reading ──
-read_says : (e : Env) (c : Class) (spool : List ℕ) (s : Set) → FitSet AnyText s → outcomeOfVolumes e (volumes_of spool) ≡ accepted s → AtTheirLines spool (records_of c s)
+read_says : (e : Env) (c : Class) (spool : List ℕ) (s : Set) → FitSet AnyText s → outcome_of_volumes e (volumes_of spool) ≡ accepted s → AtTheirLines spool (records_of c s)
 read_says e c spool s f h =
     let p = parsed e spool s h in
     let ls = listing 1 p.volumes p.texts in

@@ -18,7 +18,7 @@ use Rattle.rules.specs.Sets.{Set, nothing_yet}
 use Rattle.rules.specs.Machine.{limited_to, Env, top}
 use Rattle.rules.specs.LineByLine.{Outcome, refused, accepted}
 use Rattle.rules.specs.RecordTable.{width, records_of}
-use Rattle.rules.specs.Answers.{Listed, listed, noLines, listVolumes, outcomeOfLines, outcomeOfVolumes, outcomeOf, answerWith, refusal, readOutcome, readRecords, readAnswer}
+use Rattle.rules.specs.Answers.{Listed, listed, no_lines, list_volumes, outcome_of_lines, outcome_of_volumes, outcome_of, answer_with, refusal, read_outcome, read_records, read_answer}
 use Rattle.rules.proofs.Chains.{and_left, and_right, and_false, clash, cond-some}
 use Rattle.rules.proofs.Runs.{not-accepted}
 use Rattle.promises.specs.DemandThree.{ClassNotAbove, lowered, LowerAccepts, HigherRefuses}
@@ -39,13 +39,13 @@ module _ (low high : Class) (le : ClassNotAbove low high) (reads : knows_serials
   abbrev AcceptedToo : Outcome → Set → Type 0
   AcceptedToo o s = (took : ℕ) × (o ≡ accepted (lower_set took low s)) × Rows s
 
-  accepts : (o : Option (List Volume)) (s : Set) → outcomeOfVolumes hi o ≡ accepted s → AcceptedToo (outcomeOfVolumes lo o) s
+  accepts : (o : Option (List Volume)) (s : Set) → outcome_of_volumes hi o ≡ accepted s → AcceptedToo (outcome_of_volumes lo o) s
   accepts none s e = not-accepted e
-  accepts (some vs) s e = go (listVolumes 1 vs) e
+  accepts (some vs) s e = go (list_volumes 1 vs) e
     where
-      go : (l : Listed) → outcomeOfLines hi l ≡ accepted s → AcceptedToo (outcomeOfLines lo l) s
+      go : (l : Listed) → outcome_of_lines hi l ≡ accepted s → AcceptedToo (outcome_of_lines lo l) s
       go (listed ls) e = sim-run low high le reads m ls 0 (top nothing_yet 0) s (beside-start low high le reads m) e
-      go (noLines v) e = not-accepted e
+      go (no_lines v) e = not-accepted e
 
   abbrev There : Outcome → ℕ → ℕ → Type 0
   There o v n = (k' : ℕ) × (v' : ℕ) × (n' : ℕ) × (o ≡ refused k' v' n') × (not_after v' n' v n ≡ true)
@@ -54,27 +54,27 @@ module _ (low high : Class) (le : ClassNotAbove low high) (reads : knows_serials
   both : (o : Outcome) (k v n : ℕ) → o ≡ refused k v n → There o v n
   both o k v n e = (k, v, n, e, not_after_refl v n)
 
-  refuses : (spool : List ℕ) (k v n : ℕ) → outcomeOfVolumes lo (volumes_of spool) ≡ refused k v n → There (outcomeOfVolumes hi (volumes_of spool)) v n
+  refuses : (spool : List ℕ) (k v n : ℕ) → outcome_of_volumes lo (volumes_of spool) ≡ refused k v n → There (outcome_of_volumes hi (volumes_of spool)) v n
   refuses spool k v n e = go (volumes_of spool) refl e
     where
-      by : (vs : List Volume) → volumes_of spool ≡ some vs → (l : Listed) → listVolumes 1 vs ≡ l → outcomeOfLines lo l ≡ refused k v n → There (outcomeOfLines hi l) v n
+      by : (vs : List Volume) → volumes_of spool ≡ some vs → (l : Listed) → list_volumes 1 vs ≡ l → outcome_of_lines lo l ≡ refused k v n → There (outcome_of_lines hi l) v n
       by [] p l q e = absurd (let w = volumes_inv spool [] p in omega (arith, w.one))
-      by (u ∷ vs) p (noLines w) q e = both (refused 3 w 0) k v n e
+      by (u ∷ vs) p (no_lines w) q e = both (refused 3 w 0) k v n e
       by (u ∷ vs) p (listed ls) q e = refused_too low high le reads m ls 0 (top nothing_yet 0) (beside-start low high le reads m) (lines-proper 1 u vs ls q) (lines-whole 0 (u ∷ vs) ls q).sorted k v n e
 
-      go : (o : Option (List Volume)) → volumes_of spool ≡ o → outcomeOfVolumes lo o ≡ refused k v n → There (outcomeOfVolumes hi o) v n
+      go : (o : Option (List Volume)) → volumes_of spool ≡ o → outcome_of_volumes lo o ≡ refused k v n → There (outcome_of_volumes hi o) v n
       go none p e = both (refused 2 0 0) k v n e
-      go (some vs) p e = by vs p (listVolumes 1 vs) refl e
+      go (some vs) p e = by vs p (list_volumes 1 vs) refl e
 
 -- ── the answers ──
-pub taken : (len : ℕ) (spool : List ℕ) (class wire : ℕ) (c : Class) (s : Set) → class_of class wire ≡ some c → readOutcome class wire len spool ≡ accepted s
-    → (readRecords class wire len spool ≡ records_of c s) × (readAnswer class wire len spool ≡ Accepted (length (records_of c s)))
-unfolding readRecords readAnswer
+pub taken : (len : ℕ) (spool : List ℕ) (class wire : ℕ) (c : Class) (s : Set) → class_of class wire ≡ some c → read_outcome class wire len spool ≡ accepted s
+    → (read_records class wire len spool ≡ records_of c s) × (read_answer class wire len spool ≡ Accepted (length (records_of c s)))
+unfolding read_records read_answer
 taken len spool class wire c s p e = (rw (e, p), rw (e, p))
 
 pub outcome-at : (len : ℕ) (spool : List ℕ) (class wire : ℕ) (c : Class) → class_of class wire ≡ some c
-    → readOutcome class wire len spool ≡ outcomeOfVolumes (limited_to c (len / width)) (volumes_of spool)
-unfolding readOutcome outcomeOf
+    → read_outcome class wire len spool ≡ outcome_of_volumes (limited_to c (len / width)) (volumes_of spool)
+unfolding read_outcome outcome_of
 outcome-at len spool class wire c p = rw p
 
 -- a listed class knows wires where its wire part isn't 0: no listed part has the last digit 0 but 0
@@ -129,16 +129,16 @@ lower-accepts lo loWire hi hiWire low high cs len spool set e =
     (b.1 ∙ ap (λ rs. Accepted (length rs)) r, b.0 ∙ r)
 
 -- an answer that refuses comes of an outcome that refuses
-refused_inv : (len : ℕ) (spool : List ℕ) (class wire : ℕ) (r : Refusal) → readAnswer class wire len spool ≡ Refused r → readOutcome class wire len spool ≡ refused r.number r.volume r.line
-unfolding readAnswer
-refused_inv len spool class wire r e = go (readOutcome class wire len spool) (length (readRecords class wire len spool)) e
+refused_inv : (len : ℕ) (spool : List ℕ) (class wire : ℕ) (r : Refusal) → read_answer class wire len spool ≡ Refused r → read_outcome class wire len spool ≡ refused r.number r.volume r.line
+unfolding read_answer
+refused_inv len spool class wire r e = go (read_outcome class wire len spool) (length (read_records class wire len spool)) e
   where
-    go : (o : Outcome) (n : ℕ) → answerWith n o ≡ Refused r → o ≡ refused r.number r.volume r.line
+    go : (o : Outcome) (n : ℕ) → answer_with n o ≡ Refused r → o ≡ refused r.number r.volume r.line
     go (refused k v l) n e = let z : record { number = k; volume = v; line = l } ≡ r = cc in ap (λ (q : Refusal). refused q.number q.volume q.line) z
     go (accepted s) n e = absurd (let z : ◌≡◌ {A = ℕ} 0 1 = cc in omega arith)
 
-refused_of : (len : ℕ) (spool : List ℕ) (class wire k v n : ℕ) → readOutcome class wire len spool ≡ refused k v n → readAnswer class wire len spool ≡ refusal k v n
-unfolding readAnswer
+refused_of : (len : ℕ) (spool : List ℕ) (class wire k v n : ℕ) → read_outcome class wire len spool ≡ refused k v n → read_answer class wire len spool ≡ refusal k v n
+unfolding read_answer
 refused_of len spool class wire k v n e = rw e
 
 pub higher-refuses : HigherRefuses

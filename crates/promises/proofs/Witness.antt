@@ -1,10 +1,10 @@
 -- The small set and what it is answered, computed.
 use mathlib.Core.Path.{refl}
-use Rattle.rules.specs.Answers.{readOutcome, readAnswer, written, rewriteAnswer, checkAnswer, readRecords}
+use Rattle.rules.specs.Answers.{read_outcome, read_answer, written, rewrite_answer, check_answer, read_records}
 use Rattle.promises.specs.Witnesses.{small, cut, wired_of, serials_with, linked_with, circles_of, Witnesses}
 
 pub witnesses : Witnesses
-unfolding small cut wired_of serials_with linked_with circles_of readOutcome readAnswer readRecords written rewriteAnswer checkAnswer
+unfolding small cut wired_of serials_with linked_with circles_of read_outcome read_answer read_records written rewrite_answer check_answer
 witnesses = record {
   accepted = refl;
   checked = refl;

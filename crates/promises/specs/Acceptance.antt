@@ -9,17 +9,17 @@ use Rattle.rules.specs.RangeClass.{class_of}
 use Rattle.rules.specs.Sets.{Set}
 use Rattle.rules.specs.LineByLine.{Outcome, refused, accepted}
 use Rattle.rules.specs.RecordTable.{records_of, width}
-use Rattle.rules.specs.Answers.{outcomeAt, classOr, refusal, readAnswer, readRecords, fullNumber, fullWire, written, rewriteAnswer}
+use Rattle.rules.specs.Answers.{outcome_at, class_or, refusal, read_answer, read_records, full_number, full_wire, written, rewrite_answer}
 use Rattle.promises.specs.TableTexts.{number_at, amount_of}
 
 -- ── the rules of a class, given by its number and its wire part, apart from the table ──
 -- the reading with room for whatever records there are: every rule of document 01 but 19
 abbrev pub ruled : ℕ → ℕ → List ℕ → Outcome
-ruled class wire spool = outcomeAt (class_of class wire) none spool
+ruled class wire spool = outcome_at (class_of class wire) none spool
 
 -- the records that a set has at a class
 abbrev pub records_at : ℕ → ℕ → Set → List (List ℤ)
-records_at class wire s = records_of (classOr (class_of class wire)) s
+records_at class wire s = records_of (class_or (class_of class wire)) s
 
 -- the spool keeps the rules of the class, and has n records there
 pub record Keeps (class wire : ℕ) (spool : List ℕ) (n : ℕ) : Type 0 where
@@ -52,11 +52,11 @@ first_out len ps = get_or ps (len / width) (place 0 0)
 
 -- ── a set that keeps the rules ──
 pub record Fits (class wire : ℕ) (spool : List ℕ) (s : Set) (len : ℕ) : Type 0 where
-  pub accepts : length (records_at class wire s) * width ≤ len → readAnswer class wire len spool ≡ Accepted (length (records_at class wire s))
+  pub accepts : length (records_at class wire s) * width ≤ len → read_answer class wire len spool ≡ Accepted (length (records_at class wire s))
   -- with the records that it has, whatever the table's length
-  pub records : length (records_at class wire s) * width ≤ len → readRecords class wire len spool ≡ records_at class wire s
+  pub records : length (records_at class wire s) * width ≤ len → read_records class wire len spool ≡ records_at class wire s
   -- 19 at the line of the first record that does not fit
-  pub refuses : len < length (records_at class wire s) * width → readAnswer class wire len spool ≡ no_room (first_out len (map place_of (records_at class wire s)))
+  pub refuses : len < length (records_at class wire s) * width → read_answer class wire len spool ≡ no_room (first_out len (map place_of (records_at class wire s)))
 
 -- ── one that breaks a rule: number, volume and line of the first that is broken ──
 pub record Names (class wire : ℕ) (spool : List ℕ) (number volume line : ℕ) : Type 0 where
@@ -66,23 +66,23 @@ pub record Names (class wire : ℕ) (spool : List ℕ) (number volume line : ℕ
   -- "Order: 1, 2, 3 over all volumes, then line by line"
   pub none_yet : number ≤ 3 → places ≡ []
   -- where they fit, that rule is named
-  pub names : (len : ℕ) → length places * width ≤ len → readAnswer class wire len spool ≡ refusal number volume line
+  pub names : (len : ℕ) → length places * width ≤ len → read_answer class wire len spool ≡ refusal number volume line
   -- where they do not, 19 is the first rule that is broken
-  pub refuses : (len : ℕ) → len < length places * width → readAnswer class wire len spool ≡ no_room (first_out len places)
+  pub refuses : (len : ℕ) → len < length places * width → read_answer class wire len spool ≡ no_room (first_out len places)
 
 -- ── the reader ──
 pub record Acceptance (class wire : ℕ) (spool : List ℕ) : Type 0 where
   -- "exactly when": accepted, then it keeps the rules and its records fit
-  pub only_kept : (len n : ℕ) → readAnswer class wire len spool ≡ Accepted n → Keeps class wire spool n × (n * width ≤ len)
+  pub only_kept : (len n : ℕ) → read_answer class wire len spool ≡ Accepted n → Keeps class wire spool n × (n * width ≤ len)
   -- it keeps the rules: accepted where its records fit
   pub when_kept : (s : Set) → ruled class wire spool ≡ accepted s → (len : ℕ) → Fits class wire spool s len
   pub when_broken : (number volume line : ℕ) → ruled class wire spool ≡ refused number volume line → Names class wire spool number volume line
 
 -- ── the rewriter: "reads at class 15 and has no table limit", with wire part 18; 20 is judged last ──
 pub record RewriterAccepts (spool : List ℕ) (len : ℕ) : Type 0 where
-  pub when_kept : (s : Set) → ruled fullNumber fullWire spool ≡ accepted s → length (written spool) ≤ len → rewriteAnswer len spool ≡ Accepted (length (written spool))
-  pub when_short : (s : Set) → ruled fullNumber fullWire spool ≡ accepted s → len < length (written spool) → rewriteAnswer len spool ≡ refusal 20 0 0
-  pub when_broken : (number volume line : ℕ) → ruled fullNumber fullWire spool ≡ refused number volume line → rewriteAnswer len spool ≡ refusal number volume line
+  pub when_kept : (s : Set) → ruled full_number full_wire spool ≡ accepted s → length (written spool) ≤ len → rewrite_answer len spool ≡ Accepted (length (written spool))
+  pub when_short : (s : Set) → ruled full_number full_wire spool ≡ accepted s → len < length (written spool) → rewrite_answer len spool ≡ refusal 20 0 0
+  pub when_broken : (number volume line : ℕ) → ruled full_number full_wire spool ≡ refused number volume line → rewrite_answer len spool ≡ refusal number volume line
 
 pub record ExactlyWhen : Type 0 where
   pub reader : (class wire : ℕ) (spool : List ℕ) → Acceptance class wire spool

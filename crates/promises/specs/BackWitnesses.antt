@@ -6,7 +6,7 @@ use Rattle.rules.specs.declared.Answer.TheVariants.{Accepted}
 use Rattle.rules.specs.Base.{bytes}
 use Rattle.rules.specs.LineByLine.{Outcome, refused, accepted}
 use Rattle.rules.specs.RecordTable.{width}
-use Rattle.rules.specs.Answers.{readAnswer, readRecords, fullNumber, fullWire, rewriteOutcome, written}
+use Rattle.rules.specs.Answers.{read_answer, read_records, full_number, full_wire, rewrite_outcome, written}
 use Rattle.promises.specs.TableTexts.{texts_of}
 use Rattle.promises.specs.TextsKept.{Kept, texts_of_wires}
 use Rattle.promises.specs.Witnesses.{one_volume, file_lines, other_lines}
@@ -39,15 +39,15 @@ wires_of_outcome (accepted s) = texts_of_wires s
 
 -- those that the wire's two records point at
 abbrev pub wire_shown : List ℕ → List Kept
-wire_shown spool = texts_of spool (take 2 (drop 4 (readRecords fullNumber fullWire (7 * width) spool)))
+wire_shown spool = texts_of spool (take 2 (drop 4 (read_records full_number full_wire (7 * width) spool)))
 
 pub record BackWitnesses : Type 0 where
-  pub taken : readAnswer fullNumber fullWire (7 * width) as_read ≡ Accepted 7
+  pub taken : read_answer full_number full_wire (7 * width) as_read ≡ Accepted 7
   pub fixed : written as_read ≡ as_written
-  pub taken_again : readAnswer fullNumber fullWire (7 * width) as_written ≡ Accepted 7
+  pub taken_again : read_answer full_number full_wire (7 * width) as_written ≡ Accepted 7
   pub fixed_again : written as_written ≡ as_written
   -- the first text and the circuit, which is empty, are shown; both texts are there
   pub shown : wire_shown as_read ≡ [] ∷ (bytes "A=B" ∷ [] ∷ []) ∷ []
   pub shown_again : wire_shown as_written ≡ [] ∷ (bytes "A=B" ∷ [] ∷ []) ∷ []
-  pub texts : wires_of_outcome (rewriteOutcome as_read) ≡ (bytes "A=B" ∷ bytes "SECOND" ∷ [] ∷ []) ∷ []
-  pub texts_again : wires_of_outcome (rewriteOutcome as_written) ≡ (bytes "A=B" ∷ bytes "SECOND" ∷ [] ∷ []) ∷ []
+  pub texts : wires_of_outcome (rewrite_outcome as_read) ≡ (bytes "A=B" ∷ bytes "SECOND" ∷ [] ∷ []) ∷ []
+  pub texts_again : wires_of_outcome (rewrite_outcome as_written) ≡ (bytes "A=B" ∷ bytes "SECOND" ∷ [] ∷ []) ∷ []

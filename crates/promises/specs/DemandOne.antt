@@ -10,7 +10,7 @@ use Rattle.rules.specs.Spool.{most_volumes}
 use Rattle.rules.specs.Sets.{Set}
 use Rattle.rules.specs.LineByLine.{accepted}
 use Rattle.rules.specs.RecordTable.{width}
-use Rattle.rules.specs.Answers.{refusal, readRecords, readAnswer, readTable, rewriteOutcome, written, rewriteAnswer, rewriteOutput}
+use Rattle.rules.specs.Answers.{refusal, read_records, read_answer, read_table, rewrite_outcome, written, rewrite_answer, rewrite_output}
 
 -- ── an answer ──
 -- 1 (class), 2 (spool) and 20 (output) are of the spool as a whole
@@ -56,12 +56,12 @@ pub record Filled (len n : ℕ) (records : List (List ℤ)) (table : List ℤ) :
 
 -- what the reader gives back for a class and its wire part, a table of `len` numbers and a spool
 pub record Reads (class wire len : ℕ) (spool : List ℕ) : Type 0 where
-  pub answer : Answered by_reader (readAnswer class wire len spool)
+  pub answer : Answered by_reader (read_answer class wire len spool)
   -- the lent table is as long as it was
-  pub size : length (readTable class wire len spool) ≡ len
+  pub size : length (read_table class wire len spool) ≡ len
   -- "Refused: no records, table wholly zero"
-  pub when_refused : (r : Refusal) → readAnswer class wire len spool ≡ Refused r → readTable class wire len spool ≡ replicate len (pos 0)
-  pub when_accepted : (n : ℕ) → readAnswer class wire len spool ≡ Accepted n → Filled len n (readRecords class wire len spool) (readTable class wire len spool)
+  pub when_refused : (r : Refusal) → read_answer class wire len spool ≡ Refused r → read_table class wire len spool ≡ replicate len (pos 0)
+  pub when_accepted : (n : ℕ) → read_answer class wire len spool ≡ Accepted n → Filled len n (read_records class wire len spool) (read_table class wire len spool)
 
 -- ── the rewriter ──
 -- "Accepted: zeros after the last byte": n bytes stand in the output, and zeros follow
@@ -72,15 +72,15 @@ pub record Written (len n : ℕ) (bytes output : List ℕ) : Type 0 where
 
 -- what the rewriter gives back for an output of `len` bytes and a spool
 pub record Rewrites (len : ℕ) (spool : List ℕ) : Type 0 where
-  pub answer : Answered by_rewriter (rewriteAnswer len spool)
+  pub answer : Answered by_rewriter (rewrite_answer len spool)
   -- the lent output is as long as it was
-  pub size : length (rewriteOutput len spool) ≡ len
+  pub size : length (rewrite_output len spool) ≡ len
   -- "Refused: output wholly zero"
-  pub when_refused : (r : Refusal) → rewriteAnswer len spool ≡ Refused r → rewriteOutput len spool ≡ replicate len 0
-  pub when_accepted : (n : ℕ) → rewriteAnswer len spool ≡ Accepted n → Written len n (written spool) (rewriteOutput len spool)
+  pub when_refused : (r : Refusal) → rewrite_answer len spool ≡ Refused r → rewrite_output len spool ≡ replicate len 0
+  pub when_accepted : (n : ℕ) → rewrite_answer len spool ≡ Accepted n → Written len n (written spool) (rewrite_output len spool)
   -- "20 output shorter than the written set": then, and only then (where the reading refuses, nothing is written)
-  pub short : (s : Set) → rewriteOutcome spool ≡ accepted s → len < length (written spool) → rewriteAnswer len spool ≡ refusal 20 0 0
-  pub only_short : (r : Refusal) → rewriteAnswer len spool ≡ Refused r → r.number ≡ 20 → len < length (written spool)
+  pub short : (s : Set) → rewrite_outcome spool ≡ accepted s → len < length (written spool) → rewrite_answer len spool ≡ refusal 20 0 0
+  pub only_short : (r : Refusal) → rewrite_answer len spool ≡ Refused r → r.number ≡ 20 → len < length (written spool)
 
 -- ── demand 1 ──
 pub record DemandOne : Type 0 where

@@ -13,7 +13,7 @@ use Rattle.rules.specs.Base.{has_number}
 use Rattle.rules.specs.RangeClass.{digits, class_of}
 use Rattle.rules.specs.Sets.{Set, range_of, wires_of}
 use Rattle.rules.specs.LineByLine.{accepted}
-use Rattle.rules.specs.Answers.{readOutcome, readAnswer, readRecords}
+use Rattle.rules.specs.Answers.{read_outcome, read_answer, read_records}
 use Rattle.rules.specs.RecordTable.{kind_placed, kind_wire, kind_wire_more, kind_edge, unread_mark}
 
 -- ── classes ──
@@ -169,9 +169,9 @@ lowered c s rs = map (unread c s) (filter (keeps c) rs)
 abbrev pub LowerAccepts : Type 0
 LowerAccepts =
     (lo loWire hi hiWire : ℕ) (low high : Class) → Classes lo loWire hi hiWire low high
-    → (len : ℕ) (spool : List ℕ) (set : Set) → readOutcome hi hiWire len spool ≡ accepted set
-    → (readAnswer lo loWire len spool ≡ Accepted (length (lowered low set (readRecords hi hiWire len spool))))
-    × (readRecords lo loWire len spool ≡ lowered low set (readRecords hi hiWire len spool))
+    → (len : ℕ) (spool : List ℕ) (set : Set) → read_outcome hi hiWire len spool ≡ accepted set
+    → (read_answer lo loWire len spool ≡ Accepted (length (lowered low set (read_records hi hiWire len spool))))
+    × (read_records lo loWire len spool ≡ lowered low set (read_records hi hiWire len spool))
 
 -- a place in the set is at or before another
 abbrev pub at_or_before : Refusal → Refusal → Bool
@@ -181,5 +181,5 @@ at_or_before q r = ltb q.volume r.volume || (eqb q.volume r.volume && leb q.line
 abbrev pub HigherRefuses : Type 0
 HigherRefuses =
     (lo loWire hi hiWire : ℕ) (low high : Class) → Classes lo loWire hi hiWire low high
-    → (len : ℕ) (spool : List ℕ) (r : Refusal) → readAnswer lo loWire len spool ≡ Refused r
-    → (q : Refusal) × (readAnswer hi hiWire len spool ≡ Refused q) × (at_or_before q r ≡ true)
+    → (len : ℕ) (spool : List ℕ) (r : Refusal) → read_answer lo loWire len spool ≡ Refused r
+    → (q : Refusal) × (read_answer hi hiWire len spool ≡ Refused q) × (at_or_before q r ≡ true)

@@ -7,7 +7,7 @@ use Rattle.rules.specs.Spool.{names_of, volumes_of}
 use Rattle.rules.specs.Sets.{Set}
 use Rattle.rules.specs.LineByLine.{accepted}
 use Rattle.rules.specs.RecordTable.{width}
-use Rattle.rules.specs.Answers.{readOutcome, readAnswer, readRecords, fullNumber, fullWire, rewriteOutcome, written, rewriteAnswer}
+use Rattle.rules.specs.Answers.{read_outcome, read_answer, read_records, full_number, full_wire, rewrite_outcome, written, rewrite_answer}
 use Rattle.promises.specs.PlacesApart.{bare_set, places_apart}
 use Rattle.promises.specs.TableTexts.{texts_of}
 use Rattle.promises.specs.TextsKept.{texts_of_wires}
@@ -17,26 +17,26 @@ pub record RoundTrip (spool : List ℕ) (s : Set) : Type 0 where
   -- the fixed form is never longer than the spool it came from
   pub no_longer : length (written spool) ≤ length spool
   -- so the rewriter accepts with every output as long as the spool, or longer
-  pub writes : (size : ℕ) → length spool ≤ size → rewriteAnswer size spool ≡ Accepted (length (written spool))
+  pub writes : (size : ℕ) → length spool ≤ size → rewrite_answer size spool ≡ Accepted (length (written spool))
   -- and the reader at class 15 with every table in which the set's records fit
   pub many : ℕ
-  pub reads : (len : ℕ) → many * width ≤ len → readAnswer fullNumber fullWire len spool ≡ Accepted many
+  pub reads : (len : ℕ) → many * width ≤ len → read_answer full_number full_wire len spool ≡ Accepted many
   -- "Same volumes, names and record order": the fixed form has as many volumes, their names the same in the same order
   pub names : map_o names_of (volumes_of (written spool)) ≡ map_o names_of (volumes_of spool)
   -- "read back": it is again a spool that document 01 takes, and accepted at class 15
   pub set : Set
-  pub again : rewriteOutcome (written spool) ≡ accepted set
+  pub again : rewrite_outcome (written spool) ≡ accepted set
   -- as the same set, places apart, with what no record shows: partner numbers, next_file, a later volume's date and time; of a wire every
   -- line of a key that repeats, in the order written, and every text
   pub whole : bare_set set ≡ bare_set s
   -- "gives the same records, places apart": with a table in which the spool's records fit it gives as many, the same apart from line
   -- numbers and byte places of text
-  pub count : (len n : ℕ) → readAnswer fullNumber fullWire len spool ≡ Accepted n → readAnswer fullNumber fullWire len (written spool) ≡ Accepted n
-  pub records : (len n : ℕ) → readAnswer fullNumber fullWire len spool ≡ Accepted n
-      → map places_apart (readRecords fullNumber fullWire len (written spool)) ≡ map places_apart (readRecords fullNumber fullWire len spool)
+  pub count : (len n : ℕ) → read_answer full_number full_wire len spool ≡ Accepted n → read_answer full_number full_wire len (written spool) ≡ Accepted n
+  pub records : (len n : ℕ) → read_answer full_number full_wire len spool ≡ Accepted n
+      → map places_apart (read_records full_number full_wire len (written spool)) ≡ map places_apart (read_records full_number full_wire len spool)
   -- "and texts": record by record, the bytes that it points at in its own spool
-  pub texts : (len n : ℕ) → readAnswer fullNumber fullWire len spool ≡ Accepted n
-      → texts_of (written spool) (readRecords fullNumber fullWire len (written spool)) ≡ texts_of spool (readRecords fullNumber fullWire len spool)
+  pub texts : (len n : ℕ) → read_answer full_number full_wire len spool ≡ Accepted n
+      → texts_of (written spool) (read_records full_number full_wire len (written spool)) ≡ texts_of spool (read_records full_number full_wire len spool)
   -- of a wire every text and its circuit, with those texts behind the first for which its record has no room
   pub wires : texts_of_wires set ≡ texts_of_wires s
   -- "writing it twice changes nothing more", byte for byte
@@ -45,15 +45,15 @@ pub record RoundTrip (spool : List ℕ) (s : Set) : Type 0 where
 -- what the reader accepts at class 15 with a table of some length, with n records: the rewriter reads it as the same set
 pub record Taken (spool : List ℕ) (len n : ℕ) : Type 0 where
   pub set : Set
-  pub read : readOutcome fullNumber fullWire len spool ≡ accepted set
-  pub rewritten : rewriteOutcome spool ≡ accepted set
+  pub read : read_outcome full_number full_wire len spool ≡ accepted set
+  pub rewritten : rewrite_outcome spool ≡ accepted set
   pub back : RoundTrip spool set
   pub many : back.many ≡ n
 
 -- "A set accepted at class 15": whatever the length of the table with which it is
 abbrev pub DemandTwo : Type 0
-DemandTwo = (spool : List ℕ) (len n : ℕ) → readAnswer fullNumber fullWire len spool ≡ Accepted n → Taken spool len n
+DemandTwo = (spool : List ℕ) (len n : ℕ) → read_answer full_number full_wire len spool ≡ Accepted n → Taken spool len n
 
 -- the same of whatever the rewriter reads, which has no table
 abbrev pub WrittenBack : Type 0
-WrittenBack = (spool : List ℕ) (s : Set) → rewriteOutcome spool ≡ accepted s → RoundTrip spool s
+WrittenBack = (spool : List ℕ) (s : Set) → rewrite_outcome spool ≡ accepted s → RoundTrip spool s

@@ -2,7 +2,7 @@
 -- A number other than 0 is a refusal, and `refusal_in` takes it apart; 0 is accepted.
 use Rattle.std.specs.Prelude.{ℕ, ◌*◌, ◌≤◌, ◌<◌, true, List, ◌≡◌, refl, ℤ, pos, length, replicate}
 use Rattle.rules.specs.RecordTable.{width}
-use Rattle.rules.specs.Answers.{answerCount, readAnswer, readTable, fullNumber, fullWire, rewriteAnswer, rewriteOutput, written, ownRecords, packed, checkAnswer}
+use Rattle.rules.specs.Answers.{answer_count, read_answer, read_table, full_number, full_wire, rewrite_answer, rewrite_output, written, own_records, packed, check_answer}
 use Rattle.promises.specs.DemandOne.{by_reader, by_rewriter, Located, Written}
 use Rattle.promises.specs.Acceptance.{Keeps}
 use Rattle.promises.specs.DemandThree.{at_or_before}
@@ -17,14 +17,14 @@ pub record HostCheck : Type 0 where
   pub class : ℕ
   pub wire : ℕ
   pub number : ℕ
-  pub answers : number ≡ checkAnswer class wire spool
+  pub answers : number ≡ check_answer class wire spool
 
 pub record Checked (c : HostCheck) : Type 0 where
   -- accepted: the spool keeps the rules of the class, and its records fit a table of 256
-  pub when_accepted : c.number ≡ 0 → (n : ℕ) × Keeps c.class c.wire c.spool n × (n ≤ ownRecords)
+  pub when_accepted : c.number ≡ 0 → (n : ℕ) × Keeps c.class c.wire c.spool n × (n ≤ own_records)
   pub when_refused : 0 < c.number → Located by_reader (refusal_in c.number)
   -- and accepted only so
-  pub when_kept : (n : ℕ) → Keeps c.class c.wire c.spool n → n ≤ ownRecords → c.number ≡ 0
+  pub when_kept : (n : ℕ) → Keeps c.class c.wire c.spool n → n ≤ own_records → c.number ≡ 0
 
 -- ── ploverdell_read ──
 pub record HostRead : Type 0 where
@@ -35,9 +35,9 @@ pub record HostRead : Type 0 where
   pub number : ℕ
   pub after : List ℤ
   pub count : ℕ
-  pub answers : number ≡ packed (readAnswer class wire (length before) spool)
-  pub fills : after ≡ readTable class wire (length before) spool
-  pub counts : count ≡ answerCount (readAnswer class wire (length before) spool)
+  pub answers : number ≡ packed (read_answer class wire (length before) spool)
+  pub fills : after ≡ read_table class wire (length before) spool
+  pub counts : count ≡ answer_count (read_answer class wire (length before) spool)
 
 -- the call of the reader that it stands for
 abbrev pub read_by : HostRead → Call
@@ -46,7 +46,7 @@ read_by c = record {
   class = c.class;
   wire = c.wire;
   before = c.before;
-  answer = readAnswer c.class c.wire (length c.before) c.spool;
+  answer = read_answer c.class c.wire (length c.before) c.spool;
   after = c.after;
   answers = refl;
   fills = c.fills;
@@ -67,16 +67,16 @@ pub record HostRewrite : Type 0 where
   pub number : ℕ
   pub after : List ℕ
   pub count : ℕ
-  pub answers : number ≡ packed (rewriteAnswer (length before) spool)
-  pub fills : after ≡ rewriteOutput (length before) spool
-  pub counts : count ≡ answerCount (rewriteAnswer (length before) spool)
+  pub answers : number ≡ packed (rewrite_answer (length before) spool)
+  pub fills : after ≡ rewrite_output (length before) spool
+  pub counts : count ≡ answer_count (rewrite_answer (length before) spool)
 
 -- the call of the rewriter that it stands for
 abbrev pub rewritten_by : HostRewrite → Rewriting
 rewritten_by c = record {
   spool = c.spool;
   before = c.before;
-  answer = rewriteAnswer (length c.before) c.spool;
+  answer = rewrite_answer (length c.before) c.spool;
   after = c.after;
   answers = refl;
   fills = c.fills;
@@ -89,7 +89,7 @@ pub record HostRewrites (c : HostRewrite) : Type 0 where
   pub zeros : 0 < c.number → c.after ≡ replicate (length c.before) 0
   pub when_accepted : c.number ≡ 0 → Written (length c.before) c.count (written c.spool) c.after
   -- an output as long as the spool is enough for every spool that keeps the rules of class 15 with wire part 18
-  pub when_kept : (n : ℕ) → Keeps fullNumber fullWire c.spool n → length c.spool ≤ length c.before → c.number ≡ 0
+  pub when_kept : (n : ℕ) → Keeps full_number full_wire c.spool n → length c.spool ≤ length c.before → c.number ≡ 0
 
 pub record HostCalls : Type 0 where
   pub checks : (c : HostCheck) → Checked c

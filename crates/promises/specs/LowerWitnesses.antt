@@ -6,7 +6,7 @@ use Rattle.rules.specs.declared.Answer.{Answer}
 use Rattle.rules.specs.declared.Answer.TheVariants.{Accepted}
 use Rattle.rules.specs.Numbers.{minus}
 use Rattle.rules.specs.RecordTable.{width}
-use Rattle.rules.specs.Answers.{refusal, readAnswer, readRecords, fullNumber, fullWire}
+use Rattle.rules.specs.Answers.{refusal, read_answer, read_records, full_number, full_wire}
 use Rattle.promises.specs.DemandThree.{is_of, filter}
 use Rattle.promises.specs.Witnesses.{one_volume, file_lines, lines_with, other_lines}
 
@@ -32,7 +32,7 @@ wire408 = wire_set "E_wire=408" "all_line=62" "this_line=62" attribute_lines
 
 -- ── its two records, at a wire part ──
 abbrev pub wire_records_at : ℕ → List ℕ → List (List ℤ)
-wire_records_at wire spool = filter (is_of (18 ∷ 19 ∷ [])) (readRecords fullNumber wire (8 * width) spool)
+wire_records_at wire spool = filter (is_of (18 ∷ 19 ∷ [])) (read_records full_number wire (8 * width) spool)
 
 abbrev pub zeros : ℕ → List ℕ
 zeros n = replicate n 0
@@ -74,7 +74,7 @@ states a b c d = a ∷ b ∷ c ∷ d ∷ []
 
 -- its line and its arc, at lines 45 and 46: nothing is joined to the first, how the second is joined is untested
 abbrev pub edges_at : ℕ → List ℕ → List (List ℤ)
-edges_at wire spool = filter (is_of (20 ∷ 21 ∷ [])) (readRecords fullNumber wire (8 * width) spool)
+edges_at wire spool = filter (is_of (20 ∷ 21 ∷ [])) (read_records full_number wire (8 * width) spool)
 
 abbrev pub line_and_arc : List (List ℤ)
 line_and_arc =
@@ -103,12 +103,12 @@ partners_with serial =
 -- at the classes with and without serials of symbols, with and without those of wires, and without wires
 abbrev pub at_serials : List ℕ → List Answer
 at_serials spool =
-    readAnswer 15 18 (9 * width) spool ∷ readAnswer 11 11 (9 * width) spool ∷ readAnswer 11 8 (9 * width) spool ∷ readAnswer 5 18 (9 * width) spool
-    ∷ readAnswer 5 8 (9 * width) spool ∷ readAnswer 15 0 (9 * width) spool ∷ []
+    read_answer 15 18 (9 * width) spool ∷ read_answer 11 11 (9 * width) spool ∷ read_answer 11 8 (9 * width) spool ∷ read_answer 5 18 (9 * width) spool
+    ∷ read_answer 5 8 (9 * width) spool ∷ read_answer 15 0 (9 * width) spool ∷ []
 
 pub record LowerWitnesses : Type 0 where
   -- the fullest class reads all of it; 5 knows direc, piend, num and texts, 2 direc alone, 11 the serial alone; 0 skips the wire whole
-  pub full : wire_records_at fullWire wire418
+  pub full : wire_records_at full_wire wire418
       ≡ first_numbers 2 direcs piends nums (125000 ∷ []) (states 2 2 2 2) 4 0 ∷ second_numbers texts circuits powers serials (states 2 2 2 2) 0 ∷ []
   pub five : wire_records_at 5 wire418
       ≡ first_numbers 2 direcs piends nums (zeros 1) (states 2 2 2 3) 4 0 ∷ second_numbers texts (zeros 2) (zeros 3) (zeros 5) (states 2 3 3 3) 0 ∷ []
@@ -124,13 +124,13 @@ pub record LowerWitnesses : Type 0 where
   pub none_below : wire_records_at 0 wire408
       ≡ first_numbers 0 (zeros 9) (zeros 4) (zeros 6) (zeros 1) (states 3 3 3 3) 0 3 ∷ second_numbers (zeros 11) (zeros 2) (zeros 3) (zeros 5) (states 3 3 3 0) 3 ∷ []
   -- the line and the arc are left out by 0 alone, and are the same at the others
-  pub counts : map (λ wire. readAnswer fullNumber wire (8 * width) wire418) (fullWire ∷ 5 ∷ 2 ∷ 11 ∷ 1 ∷ 0 ∷ []) ≡ map Accepted (8 ∷ 8 ∷ 8 ∷ 8 ∷ 8 ∷ 6 ∷ [])
-  pub edges : map (λ wire. edges_at wire wire418) (fullWire ∷ 1 ∷ 0 ∷ []) ≡ line_and_arc ∷ line_and_arc ∷ [] ∷ []
+  pub counts : map (λ wire. read_answer full_number wire (8 * width) wire418) (full_wire ∷ 5 ∷ 2 ∷ 11 ∷ 1 ∷ 0 ∷ []) ≡ map Accepted (8 ∷ 8 ∷ 8 ∷ 8 ∷ 8 ∷ 6 ∷ [])
+  pub edges : map (λ wire. edges_at wire wire418) (full_wire ∷ 1 ∷ 0 ∷ []) ≡ line_and_arc ∷ line_and_arc ∷ [] ∷ []
   -- a class that doesn't know direc doesn't count them; one that refuses may be above one that accepts, not below
-  pub too_many : map (λ wire. readAnswer fullNumber wire (6 * width) three_direcs) (fullWire ∷ 2 ∷ 11 ∷ 1 ∷ 0 ∷ [])
+  pub too_many : map (λ wire. read_answer full_number wire (6 * width) three_direcs) (full_wire ∷ 2 ∷ 11 ∷ 1 ∷ 0 ∷ [])
       ≡ refusal 11 1 47 ∷ refusal 11 1 47 ∷ Accepted 6 ∷ Accepted 6 ∷ Accepted 6 ∷ []
   -- "at the same line or before it"
-  pub before : map (λ wire. readAnswer fullNumber wire (6 * width) twice_wrong) (fullWire ∷ 7 ∷ 4 ∷ 3 ∷ 0 ∷ [])
+  pub before : map (λ wire. read_answer full_number wire (6 * width) twice_wrong) (full_wire ∷ 7 ∷ 4 ∷ 3 ∷ 0 ∷ [])
       ≡ refusal 11 1 45 ∷ refusal 11 1 46 ∷ refusal 11 1 46 ∷ Accepted 6 ∷ Accepted 6 ∷ []
   -- partners are tested where both serials are known; own numbers where either is
   pub partners : at_serials (partners_with "serial=8,7,9") ≡ refusal 21 1 64 ∷ refusal 21 1 64 ∷ map Accepted (9 ∷ 9 ∷ 9 ∷ 9 ∷ [])

@@ -14,7 +14,7 @@ use Rattle.rules.specs.Values.{Value, empty, nums, chars, linked, amount_at}
 use Rattle.rules.specs.Rows.{part_of}
 use Rattle.rules.specs.Sets.{Figure, plain, chain, lettering, placed, wired, passed, Set}
 use Rattle.rules.specs.LineByLine.{accepted}
-use Rattle.rules.specs.Answers.{readOutcome, readRecords}
+use Rattle.rules.specs.Answers.{read_outcome, read_records}
 use Rattle.promises.specs.PlacesApart.{kind_of}
 use Rattle.promises.specs.ReaderCalls.{Call}
 use Rattle.promises.specs.TableTexts.{first_records, number_at, amount_of}
@@ -77,8 +77,8 @@ first_of (some (linked n ps)) = n ∷ []
 
 -- a symbol or wire that was read with a serial shows its number, and no record shows another
 abbrev pub OwnNumbersShown : Type 0
-OwnNumbersShown = (class wire len : ℕ) (spool : List ℕ) (s : Set) → readOutcome class wire len spool ≡ accepted s
-    → own_numbers (readRecords class wire len spool) ≡ flat (map (λ f. first_of (serial_row f)) (figures_in s))
+OwnNumbersShown = (class wire len : ℕ) (spool : List ℕ) (s : Set) → read_outcome class wire len spool ≡ accepted s
+    → own_numbers (read_records class wire len spool) ≡ flat (map (λ f. first_of (serial_row f)) (figures_in s))
 
 -- ── no two records, one behind the other, show the same ──
 abbrev pub NoneTwice : List (List ℤ) → Type 0
@@ -87,7 +87,7 @@ NoneTwice records = (before between after : List (List ℤ)) (former later : Lis
 
 -- where the reader refuses there is no record
 abbrev pub OwnNumbersDiffer : Type 0
-OwnNumbersDiffer = (class wire len : ℕ) (spool : List ℕ) → NoneTwice (readRecords class wire len spool)
+OwnNumbersDiffer = (class wire len : ℕ) (spool : List ℕ) → NoneTwice (read_records class wire len spool)
 
 -- of a call of the reader, of which nothing is known but what its contract says: the records that stand in the table
 abbrev pub CallNumbersDiffer : Type 0

@@ -15,7 +15,7 @@ use Rattle.rules.specs.Rows.{part_of, number_of}
 use Rattle.rules.specs.Blocks.{elec_table}
 use Rattle.rules.specs.Sets.{Figure, plain, chain, lettering, placed, wired, passed, Set, first_contents}
 use Rattle.rules.specs.LineByLine.{accepted}
-use Rattle.rules.specs.Answers.{readOutcome, readRecords}
+use Rattle.rules.specs.Answers.{read_outcome, read_records}
 use Rattle.promises.specs.OwnNumbers.{wire_owner, shows, own_numbers, figures_in, serial_row}
 use Rattle.promises.specs.ReaderCalls.{Call}
 use Rattle.promises.specs.TableTexts.{first_records, number_at, amount_of}
@@ -60,8 +60,8 @@ wire_partners (wired n w) = partners_of (serial_row (wired n w))
 wire_partners (passed n) = []
 
 abbrev pub WirePartnersShown : Type 0
-WirePartnersShown = (class wire len : ℕ) (spool : List ℕ) (s : Set) → readOutcome class wire len spool ≡ accepted s
-    → flat (map ends_of (readRecords class wire len spool)) ≡ flat (map wire_partners (figures_in s))
+WirePartnersShown = (class wire len : ℕ) (spool : List ℕ) (s : Set) → read_outcome class wire len spool ≡ accepted s
+    → flat (map ends_of (read_records class wire len spool)) ≡ flat (map wire_partners (figures_in s))
 
 -- ── each is the own number of one ──
 pub record Found (s : Set) (records : List (List ℤ)) : Type 0 where
@@ -69,14 +69,14 @@ pub record Found (s : Set) (records : List (List ℤ)) : Type 0 where
   pub wires : (n : ℕ) → has_number n (flat (map ends_of records)) ≡ true → has_number n (own_numbers records) ≡ true
 
 abbrev pub PartnersFound : Type 0
-PartnersFound = (class wire len : ℕ) (spool : List ℕ) (s : Set) → readOutcome class wire len spool ≡ accepted s
-    → tested class wire s ≡ true → Found s (readRecords class wire len spool)
+PartnersFound = (class wire len : ℕ) (spool : List ℕ) (s : Set) → read_outcome class wire len spool ≡ accepted s
+    → tested class wire s ≡ true → Found s (read_records class wire len spool)
 
 -- of a call of the reader, of which nothing is known but what its contract says: a set was read, and of it and of the records that stand in
 -- the table this holds
 pub record CallFound (c : Call) (n : ℕ) : Type 0 where
   pub set : Set
-  pub reads : readOutcome c.class c.wire (length c.before) c.spool ≡ accepted set
+  pub reads : read_outcome c.class c.wire (length c.before) c.spool ≡ accepted set
   pub found : tested c.class c.wire set ≡ true → Found set (first_records n c.after)
 
 abbrev pub CallPartnersFound : Type 0

@@ -5,36 +5,36 @@ use Rattle.std.specs.Prelude.{ℕ, ◌*◌, List, [], ◌∷◌, ◌++◌, map, 
 use Rattle.rules.specs.declared.Answer.TheVariants.{Accepted}
 use Rattle.rules.specs.Base.{bytes, flat}
 use Rattle.rules.specs.RecordTable.{width}
-use Rattle.rules.specs.Answers.{answerCount, refusal, readRecords, readAnswer, readTable, fullNumber, fullWire, ownRecords, printLine, first_line, printed}
+use Rattle.rules.specs.Answers.{answer_count, refusal, read_records, read_answer, read_table, full_number, full_wire, own_records, print_line, first_line, printed}
 use Rattle.promises.specs.TableTexts.{first_records}
 
 -- the lines of a table's first n records, one after the other
 abbrev pub record_lines : ℕ → List ℤ → List ℕ
-record_lines n t = flat (map printLine (first_records n t))
+record_lines n t = flat (map print_line (first_records n t))
 
 -- what is written from the answer and the table that a reading gives
 abbrev pub listing : ℕ → ℕ → ℕ → List ℕ → List ℕ
 listing class wire len spool =
-    printLine (first_line (readAnswer class wire len spool))
-    ++ record_lines (answerCount (readAnswer class wire len spool)) (readTable class wire len spool)
+    print_line (first_line (read_answer class wire len spool))
+    ++ record_lines (answer_count (read_answer class wire len spool)) (read_table class wire len spool)
 
 -- accclass, for any class, wire part and table: the answer's line, then a line for each record that the rules give
 abbrev pub ListingPrints : Type 0
 ListingPrints =
     (class wire len : ℕ) (spool : List ℕ)
-    → listing class wire len spool ≡ printLine (first_line (readAnswer class wire len spool)) ++ flat (map printLine (readRecords class wire len spool))
+    → listing class wire len spool ≡ print_line (first_line (read_answer class wire len spool)) ++ flat (map print_line (read_records class wire len spool))
 
 -- accread, whose table has 256 records
 abbrev pub ProgramPrints : Type 0
-ProgramPrints = (spool : List ℕ) → listing fullNumber fullWire (ownRecords * width) spool ≡ printed spool
+ProgramPrints = (spool : List ℕ) → listing full_number full_wire (own_records * width) spool ≡ printed spool
 
--- Both sides of these go by `first_line` and `printLine`: what these are, computed. An empty spool; a refusal, an acceptance; numbers of either
+-- Both sides of these go by `first_line` and `print_line`: what these are, computed. An empty spool; a refusal, an acceptance; numbers of either
 -- sign, "single spaces, newline at the end".
 abbrev ended : List ℕ → List ℕ
 ended s = s ++ 10 ∷ []
 
 pub record SamplesPrint : Type 0 where
   pub empty : printed [] ≡ ended (bytes "2 0 0 0")
-  pub refused : printLine (first_line (refusal 15 1 61)) ≡ ended (bytes "15 1 61 0")
-  pub accepted : printLine (first_line (Accepted 9)) ≡ ended (bytes "0 0 0 9")
-  pub numbers : printLine (pos 12 ∷ negsuc 154999 ∷ pos 0 ∷ []) ≡ ended (bytes "12 -155000 0")
+  pub refused : print_line (first_line (refusal 15 1 61)) ≡ ended (bytes "15 1 61 0")
+  pub accepted : print_line (first_line (Accepted 9)) ≡ ended (bytes "0 0 0 9")
+  pub numbers : print_line (pos 12 ∷ negsuc 154999 ∷ pos 0 ∷ []) ≡ ended (bytes "12 -155000 0")

@@ -8,7 +8,7 @@ use Rattle.rules.specs.Base.{flat}
 use Rattle.rules.specs.Sets.{Set}
 use Rattle.rules.specs.LineByLine.{accepted}
 use Rattle.rules.specs.RecordTable.{width}
-use Rattle.rules.specs.Answers.{readOutcome, readAnswer, readTable}
+use Rattle.rules.specs.Answers.{read_outcome, read_answer, read_table}
 use Rattle.promises.specs.DemandThree.{Classes, lowered, at_or_before}
 use Rattle.promises.specs.TableTexts.{first_records}
 
@@ -21,8 +21,8 @@ pub record Call : Type 0 where
   pub before : List ℤ
   pub answer : Answer
   pub after : List ℤ
-  pub answers : answer ≡ readAnswer class wire (length before) spool
-  pub fills : after ≡ readTable class wire (length before) spool
+  pub answers : answer ≡ read_answer class wire (length before) spool
+  pub fills : after ≡ read_table class wire (length before) spool
 
 -- these records laid into a table of so many numbers, "zeros after the last record"
 abbrev pub laid : ℕ → List (List ℤ) → List ℤ
@@ -42,7 +42,7 @@ pub record TwoCalls (lower higher : Call) : Type 0 where
 -- its list": the whole table, number for number. The higher's n records are cut out of its table, left out or changed, and laid again.
 pub record Accepts (lower higher : Call) (low : Class) (n : ℕ) : Type 0 where
   pub set : Set
-  pub reads : readOutcome higher.class higher.wire (length higher.before) higher.spool ≡ accepted set
+  pub reads : read_outcome higher.class higher.wire (length higher.before) higher.spool ≡ accepted set
   pub count : ℕ
   pub counts : count ≡ length (lowered low set (first_records n higher.after))
   pub answer : lower.answer ≡ Accepted count

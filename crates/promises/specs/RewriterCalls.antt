@@ -5,7 +5,7 @@ use Rattle.rules.specs.declared.Answer.TheVariants.{Accepted}
 use Rattle.rules.specs.Base.{map_o}
 use Rattle.rules.specs.Spool.{names_of, volumes_of}
 use Rattle.rules.specs.RecordTable.{width}
-use Rattle.rules.specs.Answers.{fullNumber, fullWire, rewriteOutcome, rewriteAnswer, rewriteOutput}
+use Rattle.rules.specs.Answers.{full_number, full_wire, rewrite_outcome, rewrite_answer, rewrite_output}
 use Rattle.promises.specs.PlacesApart.{places_apart, bare_outcome}
 use Rattle.promises.specs.TableTexts.{first_records, texts_of}
 use Rattle.promises.specs.ReaderCalls.{Call}
@@ -17,13 +17,13 @@ pub record Rewriting : Type 0 where
   pub before : List ℕ
   pub answer : Answer
   pub after : List ℕ
-  pub answers : answer ≡ rewriteAnswer (length before) spool
-  pub fills : after ≡ rewriteOutput (length before) spool
+  pub answers : answer ≡ rewrite_answer (length before) spool
+  pub fills : after ≡ rewrite_output (length before) spool
 
 -- ── a call of the reader at class 15 with wire part 18 on a spool, with a table in which n records fit ──
 pub record ReadsAll (spool : List ℕ) (n : ℕ) (call : Call) : Type 0 where
-  pub full : call.class ≡ fullNumber
-  pub full_wires : call.wire ≡ fullWire
+  pub full : call.class ≡ full_number
+  pub full_wires : call.wire ≡ full_wire
   pub lent : call.spool ≡ spool
   pub room : n * width ≤ length call.before
 
@@ -54,7 +54,7 @@ pub record CallsBack (w : Rewriting) (n : ℕ) : Type 0 where
   -- "Same volumes, names": as many volumes, their names the same in the same order
   pub names : map_o names_of (volumes_of (take n w.after)) ≡ map_o names_of (volumes_of w.spool)
   -- the same set, places apart, with what no record shows: partner numbers, next_file, a later volume's date and time
-  pub whole : bare_outcome (rewriteOutcome (take n w.after)) ≡ bare_outcome (rewriteOutcome w.spool)
+  pub whole : bare_outcome (rewrite_outcome (take n w.after)) ≡ bare_outcome (rewrite_outcome w.spool)
   -- how many records the set has: a table in which they fit is long enough for the spool and for what was written
   pub records : ℕ
   pub reads : (first again : Call) → ReadsAll w.spool records first → ReadsAll (take n w.after) records again → Alike records first again
@@ -72,5 +72,5 @@ pub record RewrittenBack (k : ℕ) (w : Rewriting) : Type 0 where
   pub many : back.records ≡ k
 
 abbrev pub AcceptedRewrites : Type 0
-AcceptedRewrites = (first : Call) (k : ℕ) → first.class ≡ fullNumber → first.wire ≡ fullWire → first.answer ≡ Accepted k → (w : Rewriting) → w.spool ≡ first.spool
+AcceptedRewrites = (first : Call) (k : ℕ) → first.class ≡ full_number → first.wire ≡ full_wire → first.answer ≡ Accepted k → (w : Rewriting) → w.spool ≡ first.spool
     → length w.spool ≤ length w.before → RewrittenBack k w

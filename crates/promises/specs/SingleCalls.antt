@@ -5,7 +5,7 @@ use Rattle.rules.specs.declared.Answer.TheVariants.{Accepted, Refused}
 use Rattle.rules.specs.Sets.{Set}
 use Rattle.rules.specs.LineByLine.{accepted, refused}
 use Rattle.rules.specs.RecordTable.{width}
-use Rattle.rules.specs.Answers.{refusal, fullNumber, fullWire, written}
+use Rattle.rules.specs.Answers.{refusal, full_number, full_wire, written}
 use Rattle.promises.specs.DemandOne.{by_reader, by_rewriter, Answered, Filled, Written}
 use Rattle.promises.specs.Acceptance.{ruled, records_at, place_of, no_room, first_out}
 use Rattle.promises.specs.ReaderCalls.{Call}
@@ -39,10 +39,10 @@ pub record RewriteCall (w : Rewriting) : Type 0 where
   pub when_refused : (r : Refusal) → w.answer ≡ Refused r → w.after ≡ replicate (length w.before) 0
   pub when_accepted : (n : ℕ) → w.answer ≡ Accepted n → Written (length w.before) n (written w.spool) w.after
   -- a spool that keeps the rules of class 15 with wire part 18: accepted where its fixed form fits, and else 20; one that breaks a rule: that rule
-  pub when_kept : (s : Set) → ruled fullNumber fullWire w.spool ≡ accepted s → length (written w.spool) ≤ length w.before
+  pub when_kept : (s : Set) → ruled full_number full_wire w.spool ≡ accepted s → length (written w.spool) ≤ length w.before
       → w.answer ≡ Accepted (length (written w.spool))
-  pub when_short : (s : Set) → ruled fullNumber fullWire w.spool ≡ accepted s → length w.before < length (written w.spool) → w.answer ≡ refusal 20 0 0
-  pub when_broken : (number volume line : ℕ) → ruled fullNumber fullWire w.spool ≡ refused number volume line → w.answer ≡ refusal number volume line
+  pub when_short : (s : Set) → ruled full_number full_wire w.spool ≡ accepted s → length w.before < length (written w.spool) → w.answer ≡ refusal 20 0 0
+  pub when_broken : (number volume line : ℕ) → ruled full_number full_wire w.spool ≡ refused number volume line → w.answer ≡ refusal number volume line
 
 abbrev pub RewriteCalls : Type 0
 RewriteCalls = (w : Rewriting) → RewriteCall w

@@ -10,7 +10,7 @@ use Rattle.rules.specs.Sets.{Point, Figure, plain, chain, lettering, placed, Lay
 use Rattle.rules.specs.LineByLine.{accepted}
 use Rattle.rules.specs.RecordTable.{kind_wire_more, first_text}
 use Rattle.rules.specs.declared.Answer.TheVariants.{Accepted}
-use Rattle.rules.specs.Answers.{readOutcome, readRecords}
+use Rattle.rules.specs.Answers.{read_outcome, read_records}
 use Rattle.promises.specs.PlacesApart.{text_places}
 use Rattle.promises.specs.TableTexts.{first_records, Shows, ShowTexts}
 use Rattle.promises.specs.ReaderCalls.{Call}
@@ -93,8 +93,8 @@ texts_kept s = kept_from s s.volumes
 
 -- at every class, with every table: each record points at the whole of each text that the set keeps for it, and at nothing else
 abbrev pub TextsKept : Type 0
-TextsKept = (class wire len : ℕ) (spool : List ℕ) (s : Set) → readOutcome class wire len spool ≡ accepted s
-    → ShowTexts spool (readRecords class wire len spool) (texts_kept s)
+TextsKept = (class wire len : ℕ) (spool : List ℕ) (s : Set) → read_outcome class wire len spool ≡ accepted s
+    → ShowTexts spool (read_records class wire len spool) (texts_kept s)
 
 -- ── all texts of wires ──
 -- A wire has any number of texts, and its record room for the first: of each of them the characters, in the order written, and the circuit.
@@ -135,12 +135,12 @@ WiresStand spool (cs ∷ css) = AllStand spool cs × WiresStand spool css
 
 -- at every class: no text of a wire that is read is other than what was written
 abbrev pub WireTexts : Type 0
-WireTexts = (class wire len : ℕ) (spool : List ℕ) (s : Set) → readOutcome class wire len spool ≡ accepted s → WiresStand spool (texts_of_wires s)
+WireTexts = (class wire len : ℕ) (spool : List ℕ) (s : Set) → read_outcome class wire len spool ≡ accepted s → WiresStand spool (texts_of_wires s)
 
 -- the same of a call of the reader that is accepted with n records: the first n of its table, and the spool that was lent
 pub record Points (call : Call) (n : ℕ) : Type 0 where
   pub set : Set
-  pub read : readOutcome call.class call.wire (length call.before) call.spool ≡ accepted set
+  pub read : read_outcome call.class call.wire (length call.before) call.spool ≡ accepted set
   pub texts : ShowTexts call.spool (first_records n call.after) (texts_kept set)
   pub wires : WiresStand call.spool (texts_of_wires set)
 

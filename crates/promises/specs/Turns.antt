@@ -12,7 +12,7 @@ use Rattle.rules.specs.Numbers.{read_fixed, read_decimal}
 use Rattle.rules.specs.Sets.{Set}
 use Rattle.rules.specs.LineByLine.{accepted}
 use Rattle.rules.specs.declared.Answer.TheVariants.{Accepted}
-use Rattle.rules.specs.Answers.{readOutcome, readRecords}
+use Rattle.rules.specs.Answers.{read_outcome, read_records}
 use Rattle.promises.specs.PlacesApart.{kind_of}
 use Rattle.promises.specs.ReaderCalls.{Call}
 use Rattle.promises.specs.TableTexts.{first_records, number_at}
@@ -112,8 +112,8 @@ AtTheirLines spool (r ∷ rs) = Says spool r (one_line_of (kind_of r)) × AtThei
 
 -- at every class, with every table
 abbrev pub Turns : Type 0
-Turns = (class wire len : ℕ) (spool : List ℕ) (s : Set) → readOutcome class wire len spool ≡ accepted s
-    → AtTheirLines spool (readRecords class wire len spool)
+Turns = (class wire len : ℕ) (spool : List ℕ) (s : Set) → read_outcome class wire len spool ≡ accepted s
+    → AtTheirLines spool (read_records class wire len spool)
 
 -- the same of a call of the reader that is accepted with n records: the first n of its table, and the spool that was lent
 abbrev pub CallTurns : Type 0

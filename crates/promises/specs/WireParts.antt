@@ -11,7 +11,7 @@ use Rattle.rules.specs.Sets.{Set, nothing_yet, wire_range}
 use Rattle.rules.specs.Machine.{Line, Env, State, top, set_of}
 use Rattle.rules.specs.LineByLine.{accepted, step}
 use Rattle.rules.specs.RecordTable.{width}
-use Rattle.rules.specs.Answers.{Listed, listed, noLines, listVolumes, readOutcome, readAnswer, readRecords, readTable}
+use Rattle.rules.specs.Answers.{Listed, listed, no_lines, list_volumes, read_outcome, read_answer, read_records, read_table}
 
 -- ── the set as far as it is read: up to the line that is refused, or the whole of it ──
 abbrev pub go_on : Got State → Set → (State → Set) → Set
@@ -24,11 +24,11 @@ read_up_to e st (l ∷ ls) = go_on (step e l st) (set_of st) (λ st'. read_up_to
 
 abbrev pub set_of_lines : Env → Listed → Set
 set_of_lines e (listed ls) = read_up_to e (top nothing_yet 0) ls
-set_of_lines e (noLines v) = nothing_yet
+set_of_lines e (no_lines v) = nothing_yet
 
 abbrev pub set_of_volumes : Env → Option (List Volume) → Set
 set_of_volumes e none = nothing_yet
-set_of_volumes e (some vs) = set_of_lines e (listVolumes 1 vs)
+set_of_volumes e (some vs) = set_of_lines e (list_volumes 1 vs)
 
 abbrev pub set_at : Option Class → ℕ → List ℕ → Set
 set_at none m spool = nothing_yet
@@ -40,9 +40,9 @@ set_read class wire len spool = set_at (class_of class wire) (len / width) spool
 
 -- ── two wire parts of one class ──
 pub record SameRead (class one other len : ℕ) (spool : List ℕ) : Type 0 where
-  pub answer : readAnswer class one len spool ≡ readAnswer class other len spool
-  pub records : readRecords class one len spool ≡ readRecords class other len spool
-  pub table : readTable class one len spool ≡ readTable class other len spool
+  pub answer : read_answer class one len spool ≡ read_answer class other len spool
+  pub records : read_records class one len spool ≡ read_records class other len spool
+  pub table : read_table class one len spool ≡ read_table class other len spool
 
 pub record WireParts : Type 0 where
   -- every spool, as long as E_wire is 000 in what is read of it
@@ -50,5 +50,5 @@ pub record WireParts : Type 0 where
       → (len : ℕ) (spool : List ℕ) → wire_range (set_read class one len spool) ≡ 0 → SameRead class one other len spool
   -- an accepted one: "the file's E_wire"
   pub whole : (class one other : ℕ) → is_wire_part one ≡ true → is_wire_part other ≡ true
-      → (len : ℕ) (spool : List ℕ) (set : Set) → readOutcome class one len spool ≡ accepted set → wire_range set ≡ 0
+      → (len : ℕ) (spool : List ℕ) (set : Set) → read_outcome class one len spool ≡ accepted set → wire_range set ≡ 0
       → SameRead class one other len spool

@@ -10,7 +10,7 @@ use Rattle.rules.specs.Rows.{part_of, number_of}
 use Rattle.rules.specs.Blocks.{elec_table}
 use Rattle.rules.specs.Sets.{Edge, Figure, plain, chain, lettering, placed, wired, passed, Set, first_contents}
 use Rattle.rules.specs.LineByLine.{accepted}
-use Rattle.rules.specs.Answers.{readOutcome, readRecords}
+use Rattle.rules.specs.Answers.{read_outcome, read_records}
 use Rattle.promises.specs.OwnNumbers.{figures_in}
 use Rattle.promises.specs.PlacesApart.{kind_of}
 use Rattle.promises.specs.TableTexts.{number_at}
@@ -90,13 +90,13 @@ first_digit s = number_of "E_wire" elec_table (part_of (first_contents s).file 3
 
 -- at every class, with every table: "A class with 0 skips whole wires"
 abbrev pub WiresJoined : Type 0
-WiresJoined = (class wire len : ℕ) (spool : List ℕ) (s : Set) → readOutcome class wire len spool ≡ accepted s
-    → WiresIn (not (eqb wire 0)) (first_digit s) (readRecords class wire len spool)
+WiresJoined = (class wire len : ℕ) (spool : List ℕ) (s : Set) → read_outcome class wire len spool ≡ accepted s
+    → WiresIn (not (eqb wire 0)) (first_digit s) (read_records class wire len spool)
 
 -- so of two records of lines that follow each other, where the later one says that its join was tested, the later starts where the former ends
 abbrev pub LinesMeet : Type 0
-LinesMeet = (class wire len : ℕ) (spool : List ℕ) (s : Set) → readOutcome class wire len spool ≡ accepted s
-    → (before : List (List ℤ)) (former r : List ℤ) (after : List (List ℤ)) → readRecords class wire len spool ≡ before ++ former ∷ r ∷ after
+LinesMeet = (class wire len : ℕ) (spool : List ℕ) (s : Set) → read_outcome class wire len spool ≡ accepted s
+    → (before : List (List ℤ)) (former r : List ℤ) (after : List (List ℤ)) → read_records class wire len spool ≡ before ++ former ∷ r ∷ after
     → is_line former ≡ true → is_line r ≡ true → join_in r ≡ pos 1 → Meets former r
 
 -- ── what the record of a line or arc shows: its kind, and its values from place 4 on, five of a line and seven of an arc ──
@@ -125,5 +125,5 @@ elements_of (passed n) = []
 
 -- so kind 20 is a `line=` and kind 21 a `circle=` of a wire that was read, with its values, one after the other and none left out
 abbrev pub ElementsShown : Type 0
-ElementsShown = (class wire len : ℕ) (spool : List ℕ) (s : Set) → readOutcome class wire len spool ≡ accepted s
-    → flat (map element_in (readRecords class wire len spool)) ≡ flat (map elements_of (figures_in s))
+ElementsShown = (class wire len : ℕ) (spool : List ℕ) (s : Set) → read_outcome class wire len spool ≡ accepted s
+    → flat (map element_in (read_records class wire len spool)) ≡ flat (map elements_of (figures_in s))

@@ -6,7 +6,7 @@ use Rattle.rules.specs.declared.Answer.TheVariants.{Accepted}
 use Rattle.rules.specs.Base.{bytes, flat}
 use Rattle.rules.specs.Spool.{unlines, volume_bytes}
 use Rattle.rules.specs.RecordTable.{width}
-use Rattle.rules.specs.Answers.{refusal, readAnswer, written, rewriteAnswer, checkAnswer, fullNumber, fullWire, readOutcome, readRecords}
+use Rattle.rules.specs.Answers.{refusal, read_answer, written, rewrite_answer, check_answer, full_number, full_wire, read_outcome, read_records}
 use Rattle.rules.specs.Numbers.{minus}
 use Rattle.rules.specs.LineByLine.{Outcome, refused, accepted}
 use Rattle.promises.specs.OwnNumbers.{own_numbers}
@@ -94,7 +94,7 @@ serials_with second =
 
 -- the own numbers that a class shows of it
 abbrev pub field_own : ℕ → List ℕ → List ℕ
-field_own class spool = own_numbers (readRecords class fullWire (8 * width) spool)
+field_own class spool = own_numbers (read_records class full_wire (8 * width) spool)
 
 -- a symbol of two circles, the first at line 46
 unfoldable pub circles_of : S.String → S.String → List ℕ
@@ -127,10 +127,10 @@ abbrev pub parts : List (ℕ × ℕ)
 parts = (15, 18) ∷ (11, 11) ∷ (15, 8) ∷ (5, 18) ∷ (15, 0) ∷ []
 
 abbrev pub answers_to : List ℕ → List Answer
-answers_to spool = map (λ p. readAnswer p.0 p.1 (10 * width) spool) parts
+answers_to spool = map (λ p. read_answer p.0 p.1 (10 * width) spool) parts
 
 abbrev pub shown_at : (List (List ℤ) → List ℕ) → List ℕ → List (List ℕ)
-shown_at show spool = map (λ p. show (readRecords p.0 p.1 (10 * width) spool)) parts
+shown_at show spool = map (λ p. show (read_records p.0 p.1 (10 * width) spool)) parts
 
 abbrev pub tested_in : ℕ → ℕ → Outcome → Bool
 tested_in class wire (refused n v l) = false
@@ -146,52 +146,52 @@ records_with wire = cond (eqb wire 0) 6 9
 
 pub record Witnesses : Type 0 where
   -- its three records fit a table of 96 numbers: accepted at each of the ten classes with each of the 17 wire parts, by the check too
-  pub accepted : at_each (λ class wire. readAnswer class wire (3 * width) small) ≡ at_each (λ _ _. Accepted 3)
-  pub checked : at_each (λ class wire. checkAnswer class wire small) ≡ at_each (λ _ _. 0)
+  pub accepted : at_each (λ class wire. read_answer class wire (3 * width) small) ≡ at_each (λ _ _. Accepted 3)
+  pub checked : at_each (λ class wire. check_answer class wire small) ≡ at_each (λ _ _. 0)
   -- the third, the drawing's, does not fit a table of 95
-  pub full : readAnswer fullNumber fullWire (3 * width - 1) small ≡ refusal 19 1 23
+  pub full : read_answer full_number full_wire (3 * width - 1) small ≡ refusal 19 1 23
   -- it is in the fixed form; an output one byte shorter is too short
   pub fixed : written small ≡ small
-  pub rewritten : rewriteAnswer (length small) small ≡ Accepted (length small)
-  pub short : rewriteAnswer (length small - 1) small ≡ refusal 20 0 0
+  pub rewritten : rewrite_answer (length small) small ≡ Accepted (length small)
+  pub short : rewrite_answer (length small - 1) small ≡ refusal 20 0 0
   -- without EOF its volume ends early, without its last byte its length is wrong; class 6 is none, nor is wire part 9, 10, 19 or 20
-  pub no_eof : readAnswer fullNumber fullWire (3 * width) cut ≡ refusal 9 1 37
-  pub no_byte : readAnswer fullNumber fullWire (3 * width) (take (length small - 1) small) ≡ refusal 2 0 0
-  pub no_class : readAnswer 6 fullWire (3 * width) small ≡ refusal 1 0 0
-  pub no_wire_part : map (λ wire. readAnswer fullNumber wire (3 * width) small) no_wire_parts ≡ map (λ _. refusal 1 0 0) no_wire_parts
+  pub no_eof : read_answer full_number full_wire (3 * width) cut ≡ refusal 9 1 37
+  pub no_byte : read_answer full_number full_wire (3 * width) (take (length small - 1) small) ≡ refusal 2 0 0
+  pub no_class : read_answer 6 full_wire (3 * width) small ≡ refusal 1 0 0
+  pub no_wire_part : map (λ wire. read_answer full_number wire (3 * width) small) no_wire_parts ≡ map (λ _. refusal 1 0 0) no_wire_parts
   -- a wire is read with every wire part but 0, which skips it, and accepted where its lines meet; it is in the fixed form
-  pub wires : map (λ wire. readAnswer fullNumber wire (9 * width) (wired_with joined_line)) wire_parts ≡ map (λ wire. Accepted (records_with wire)) wire_parts
+  pub wires : map (λ wire. read_answer full_number wire (9 * width) (wired_with joined_line)) wire_parts ≡ map (λ wire. Accepted (records_with wire)) wire_parts
   pub wires_fixed : written (wired_with joined_line) ≡ wired_with joined_line
   -- its first line is joined to none, the second was tested, the arc was not
-  pub joins : map (λ r. number_at r 11) (drop 6 (readRecords fullNumber fullWire (9 * width) (wired_with joined_line))) ≡ pos 0 ∷ pos 1 ∷ pos 2 ∷ []
+  pub joins : map (λ r. number_at r 11) (drop 6 (read_records full_number full_wire (9 * width) (wired_with joined_line))) ≡ pos 0 ∷ pos 1 ∷ pos 2 ∷ []
   -- where they do not meet it is 11 at the later line, but for the class that skips it
-  pub apart : map (λ wire. readAnswer fullNumber wire (9 * width) (wired_with apart_line)) wire_parts
+  pub apart : map (λ wire. read_answer full_number wire (9 * width) (wired_with apart_line)) wire_parts
       ≡ map (λ wire. cond (eqb wire 0) (Accepted 6) (refusal 11 1 46)) wire_parts
   -- "an opener directly in the wire's block has depth 1" where it is skipped, and 4 is the most
-  pub deep : readAnswer fullNumber 0 (6 * width) (wired_of four_deep) ≡ Accepted 6
-  pub too_deep : readAnswer fullNumber 0 (6 * width) (wired_of five_deep) ≡ refusal 18 1 49
+  pub deep : read_answer full_number 0 (6 * width) (wired_of four_deep) ≡ Accepted 6
+  pub too_deep : read_answer full_number 0 (6 * width) (wired_of five_deep) ≡ refusal 18 1 49
   -- own numbers are shown as they were written, at a class that knows them; one that was used is 15, as a number, and a partner's is none
   pub serials : map (λ class. field_own class (serials_with "serial=08,7")) (11 ∷ 15 ∷ 5 ∷ []) ≡ (7 ∷ 8 ∷ []) ∷ (7 ∷ 8 ∷ []) ∷ [] ∷ []
-  pub serials_taken : readAnswer fullNumber fullWire (8 * width) (serials_with "serial=08,7") ≡ Accepted 8
-  pub serial_twice : readAnswer fullNumber fullWire (8 * width) (serials_with "serial=007") ≡ refusal 15 1 61
+  pub serials_taken : read_answer full_number full_wire (8 * width) (serials_with "serial=08,7") ≡ Accepted 8
+  pub serial_twice : read_answer full_number full_wire (8 * width) (serials_with "serial=007") ≡ refusal 15 1 61
   -- a wire's own number and its partner are shown where the wire part knows them, a symbol's own number where the class knows it
   pub linked_taken : answers_to linked ≡ tested_by (Accepted 10)
   pub linked_own : shown_at own_numbers linked ≡ (7 ∷ 8 ∷ []) ∷ (7 ∷ 8 ∷ []) ∷ (7 ∷ []) ∷ (8 ∷ []) ∷ (7 ∷ []) ∷ []
   pub linked_ends : shown_at (λ rs. flat (map ends_of rs)) linked ≡ (7 ∷ []) ∷ (7 ∷ []) ∷ [] ∷ (7 ∷ []) ∷ [] ∷ []
-  pub linked_tests : map (λ p. tested_in p.0 p.1 (readOutcome p.0 p.1 (10 * width) linked)) parts ≡ true ∷ true ∷ false ∷ false ∷ false ∷ []
+  pub linked_tests : map (λ p. tested_in p.0 p.1 (read_outcome p.0 p.1 (10 * width) linked)) parts ≡ true ∷ true ∷ false ∷ false ∷ false ∷ []
   pub linked_fixed : written linked ≡ linked_with "serial=7,8" "serial=8,7,"
   -- a wire's number that a symbol has is 15, at the wire's line; a partner that none has is 21, at EOF: a symbol's, a wire's start's, its end's
-  pub linked_twice : readAnswer fullNumber fullWire (10 * width) (linked_with "serial=7,8" "serial=007,,") ≡ refusal 15 1 61
+  pub linked_twice : read_answer full_number full_wire (10 * width) (linked_with "serial=7,8" "serial=007,,") ≡ refusal 15 1 61
   pub symbol_alone : answers_to (linked_with "serial=7,9" "serial=8,7,") ≡ tested_by (refusal 21 1 65)
   pub start_alone : answers_to (linked_with "serial=7,8" "serial=8,9,7") ≡ tested_by (refusal 21 1 65)
   pub end_alone : answers_to (linked_with "serial=7,8" "serial=8,7,9") ≡ tested_by (refusal 21 1 65)
   -- a line of a wire is shown with its values, and an arc
-  pub edges : flat (map element_in (readRecords fullNumber fullWire (9 * width) (wired_with joined_line)))
+  pub edges : flat (map element_in (read_records full_number full_wire (9 * width) (wired_with joined_line)))
       ≡ map (map pos) ((20 ∷ 1307 ∷ 0 ∷ 0 ∷ 100000 ∷ 50000 ∷ []) ∷ (20 ∷ 1307 ∷ 100000 ∷ 50000 ∷ 100000 ∷ 90000 ∷ []) ∷ [])
       ++ (pos 21 ∷ pos 1307 ∷ minus 50000 ∷ map pos (50000 ∷ 30000 ∷ 0 ∷ 900000 ∷ 1 ∷ [])) ∷ []
   -- a circle's turn at place 10: -1 where six values stand, and the seventh where seven do, at the least class too; each is written back with as many
-  pub turns : map (λ class. map (λ r. number_at r 10) (drop 4 (readRecords class 0 (6 * width) circles))) (15 ∷ 1 ∷ [])
+  pub turns : map (λ class. map (λ r. number_at r 10) (drop 4 (read_records class 0 (6 * width) circles))) (15 ∷ 1 ∷ [])
       ≡ (minus 1 ∷ pos 1 ∷ []) ∷ (minus 1 ∷ pos 1 ∷ []) ∷ []
   pub turns_fixed : written circles ≡ circles
   -- an arc needs its turn
-  pub arc_turns : readAnswer fullNumber fullWire (6 * width) (circles_of "circle=1307,0,0,2,0,90" "circle=1307,0,0,1,0,360") ≡ refusal 10 1 46
+  pub arc_turns : read_answer full_number full_wire (6 * width) (circles_of "circle=1307,0,0,2,0,90" "circle=1307,0,0,1,0,360") ≡ refusal 10 1 46

@@ -127,7 +127,7 @@ then_run (got s) l f = f s
 then_run (bad n) l f = refused n l.volume l.line
 
 -- After the last line of the last volume the set has ended. The other clauses are never reached: a spool has a volume, a volume a line
--- (`Answers: linesOfVolume`), and at the last line of the last volume `completes` lets EOF alone through.
+-- (`Answers: lines_of_volume`), and at the last line of the last volume `completes` lets EOF alone through.
 abbrev pub ended_as : Stage → Outcome
 ended_as (between s k) = refused 9 0 0
 ended_as within_element = refused 9 0 0

@@ -8,7 +8,7 @@ use Rattle.rules.specs.Numbers.{minus}
 use Rattle.rules.specs.RefusalNumbers.{Got, got, bad}
 use Rattle.rules.specs.Spool.{unlines, volume_bytes}
 use Rattle.rules.specs.Values.{Num, decimal, anySign, read_part}
-use Rattle.rules.specs.Answers.{readAnswer, readRecords, ownRecords, written}
+use Rattle.rules.specs.Answers.{read_answer, read_records, own_records, written}
 use Rattle.rules.specs.RecordTable.{width}
 
 -- ── spools in plain writing ──
@@ -288,7 +288,7 @@ of_number (got n) = worth n.value
 of_number (bad n) = broken n
 
 abbrev pub ruling : Question → Ruling
-ruling (spool c w s) = of_reading (readAnswer c w (ownRecords * width) s) (readRecords c w (ownRecords * width) s)
+ruling (spool c w s) = of_reading (read_answer c w (own_records * width) s) (read_records c w (own_records * width) s)
 ruling (number s) = of_number (read_part (record { symbols = []; layers = [] }) (decimal anySign) (bytes s))
 ruling (fixed s) = writes (written s)
 
@@ -371,5 +371,5 @@ cases =
     ∷ []
 
 pub sample_rulings : map (λ c. ruling (asked c)) cases ≡ map expected cases
-unfolding cases readAnswer readRecords written
+unfolding cases read_answer read_records written
 sample_rulings = refl

@@ -7,7 +7,7 @@ use Rattle.rules.specs.Base.{flat, all, is_nil, has_number}
 use Rattle.rules.specs.Numbers.{minus}
 use Rattle.rules.specs.Values.{equal_z}
 use Rattle.rules.specs.RangeClass.{digits, digits_of, reaches, hides}
-use Rattle.rules.specs.Answers.{readAnswer, readRecords, written, answerNumber, answerLine, ownRecords}
+use Rattle.rules.specs.Answers.{read_answer, read_records, written, answer_number, answer_line, own_records}
 use Rattle.rules.specs.RecordTable.{width}
 use Rattle.rules.specs.SampleRulings.{Lines, volume, file_lines_with, drawing_lines, element_lines, ending, whole, from, entry, six_entries}
 use Rattle.rules.specs.SampleRulings.{point_entry, placed_entry, Case, ruled}
@@ -351,7 +351,7 @@ cases =
     ∷ []
 
 pub wire_rulings : map (λ c. ruling (asked c)) cases ≡ map expected cases
-unfolding cases readAnswer readRecords written
+unfolding cases read_answer read_records written
 wire_rulings = refl
 
 -- ── demand 3, tried on short wires: "If the higher accepts, the lower accepts with the same records, except that attributes the file's range
@@ -429,7 +429,7 @@ abbrev pub trial : S.String → ℕ → ℕ → ℕ → Trial
 trial l r h w = record { line = l; range = r; higher = h; lower = w }
 
 abbrev pub records_at : ℕ → List ℕ → List (List ℤ)
-records_at part s = readRecords 15 part (ownRecords * width) s
+records_at part s = read_records 15 part (own_records * width) s
 
 abbrev pub at_lower : Trial → List (List ℤ)
 at_lower t = records_at t.lower (rich_wire t.line t.range)
@@ -461,7 +461,7 @@ abbrev pub demanded : Trial → Bool
 demanded t = not (is_nil (at_lower t)) && same_records (at_lower t) (from_higher t)
 
 pub short_wires : all demanded trials ≡ true
-unfolding trials readRecords
+unfolding trials read_records
 short_wires = refl
 
 -- "If the lower refuses, the higher refuses too, at the same line or before it": odd wires, at each pair of a higher and a lower wire part
@@ -480,12 +480,12 @@ no_later lowNumber lowLine highNumber highLine = eqb lowNumber 0 || (not (eqb hi
 
 abbrev pub holds_of : ℕ → ℕ → List ℕ → Bool
 holds_of high low s =
-    let h = readAnswer 15 high (ownRecords * width) s in
-    let l = readAnswer 15 low (ownRecords * width) s in
-    no_later (answerNumber l) (answerLine l) (answerNumber h) (answerLine h)
+    let h = read_answer 15 high (own_records * width) s in
+    let l = read_answer 15 low (own_records * width) s in
+    no_later (answer_number l) (answer_line l) (answer_number h) (answer_line h)
 
 pub oddWiresRefused :
     all (λ inside. holds_of 18 1 (wire_of "E_wire=018" inside) && (holds_of 18 14 (wire_of "E_wire=018" inside) && holds_of 14 0 (wire_of "E_wire=018" inside)))
     odd_wires ≡ true
-unfolding readAnswer
+unfolding read_answer
 oddWiresRefused = refl

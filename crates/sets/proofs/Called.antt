@@ -9,7 +9,7 @@ use denote.Triple.Clauses.{AtExit}
 use borrow.Fn.Kinds.{ParamKind, ResultKind, Out, Dens, res_t, ended_of}
 use Rattle.rules.specs.declared.Refusal.{Refusal}
 use Rattle.rules.specs.declared.Answer.TheVariants.{Accepted, Refused}
-use Rattle.rules.specs.Answers.{fullNumber, fullWire}
+use Rattle.rules.specs.Answers.{full_number, full_wire}
 use Rattle.promises.specs.ReaderCalls.{Call, TwoCalls, Accepts, Refuses}
 use Rattle.promises.specs.RewriterCalls.{Rewriting, CallsBack, RewrittenBack}
 use Rattle.promises.specs.SingleCalls.{ReadCall, RewriteCall}
@@ -70,7 +70,7 @@ rewrites-back κs x r e c n = rewriter_calls (rewrite_call κs x r e c) n
 -- what `read` accepts at class 15 is accepted by `rewrite`, with an output not shorter than the spool
 pub read-rewritten : (κs κs' : Lfts 2) (x : Dens κs read'.Kinds.ps) (x' : Dens κs' rewrite'.Kinds.ps) (r : (res_t read'.Kinds.r κs).Denot) (r' : (res_t rewrite'.Kinds.r κs').Denot)
     (e : AtExit (ended_of 2 read'.Kinds.ps read'.Kinds.r) κs) (e' : AtExit (ended_of 2 rewrite'.Kinds.ps rewrite'.Kinds.r) κs')
-    (c : read'.Reads.Learnt κs x r e) (c' : rewrite'.Reads.Learnt κs' x' r' e') (k : ℕ) → (read_call κs x r e c).class ≡ fullNumber → (read_call κs x r e c).wire ≡ fullWire → r ≡ Accepted k
+    (c : read'.Reads.Learnt κs x r e) (c' : rewrite'.Reads.Learnt κs' x' r' e') (k : ℕ) → (read_call κs x r e c).class ≡ full_number → (read_call κs x r e c).wire ≡ full_wire → r ≡ Accepted k
     → x'.0.now ≡ x.0.now → length x'.0.now ≤ length x'.1.0.now → RewrittenBack k (rewrite_call κs' x' r' e' c')
 read-rewritten κs κs' x x' r r' e e' c c' k full wide a = accepted-rewrites (read_call κs x r e c) k full wide a (rewrite_call κs' x' r' e' c')
 

@@ -12,7 +12,7 @@ use Rattle.rules.specs.declared.Answer.{Answer}
 use Rattle.rules.specs.declared.Answer.TheVariants as A
 use Rattle.rules.specs.Spool.{most_bytes}
 use Rattle.rules.specs.LineByLine.{Outcome, accepted}
-use Rattle.rules.specs.Answers.{answerWith, refusal, rewriteOutcome, written, fitOutput, rewriteAnswer, rewriteOutput}
+use Rattle.rules.specs.Answers.{answer_with, refusal, rewrite_outcome, written, fit_output, rewrite_answer, rewrite_output}
 use Rattle.promises.proofs.Answered.{demand-one}
 use Rattle.promises.proofs.Round.{written_back}
 use Rattle.leaves.specs.declared.Wrote.{Wrote}
@@ -28,13 +28,13 @@ use Rattle.sets.specs.SetReading.{IsAccepted, Judged}
 module _ (len : ℕ) (spool : List ℕ) where
   -- what is answered, and what the output holds
   abbrev pub Rewrites : Answer → List ℕ → Type 0
-  Rewrites a out = (a ≡ rewriteAnswer len spool) × (out ≡ rewriteOutput len spool)
+  Rewrites a out = (a ≡ rewrite_answer len spool) × (out ≡ rewrite_output len spool)
 
-  answer_of : (o : Outcome) → rewriteOutcome spool ≡ o → rewriteAnswer len spool ≡ fitOutput len (length (written spool)) (answerWith (length (written spool)) o)
-  unfolding rewriteAnswer
-  answer_of o e = ap (λ (x : Outcome). fitOutput len (length (written spool)) (answerWith (length (written spool)) x)) e
+  answer_of : (o : Outcome) → rewrite_outcome spool ≡ o → rewrite_answer len spool ≡ fit_output len (length (written spool)) (answer_with (length (written spool)) o)
+  unfolding rewrite_answer
+  answer_of o e = ap (λ (x : Outcome). fit_output len (length (written spool)) (answer_with (length (written spool)) x)) e
 
-  refused-so : (r : Refusal) (out : List ℕ) → rewriteAnswer len spool ≡ A.Refused r → out ≡ replicate len 0 → Rewrites (A.Refused r) out
+  refused-so : (r : Refusal) (out : List ℕ) → rewrite_answer len spool ≡ A.Refused r → out ≡ replicate len 0 → Rewrites (A.Refused r) out
   refused-so r out e h = (sym e, h ∙ sym ((demand-one.rewriter len spool).when_refused r e))
 
   -- the spool is refused
@@ -42,7 +42,7 @@ module _ (len : ℕ) (spool : List ℕ) where
   rewrites-refused f out j h = refused-so f out (answer_of _ j) h
 
   module _ (yes : IsAccepted spool) where
-    accepts : rewriteAnswer len spool ≡ cond (leb (length (written spool)) len) (A.Accepted (length (written spool))) (refusal 20 0 0)
+    accepts : rewrite_answer len spool ≡ cond (leb (length (written spool)) len) (A.Accepted (length (written spool))) (refusal 20 0 0)
     accepts = answer_of (accepted yes.0) yes.1
 
 -- an accepted spool, behind the writing
@@ -86,7 +86,7 @@ module _ (spool before after : List ℕ) (r : Wrote) (yes : IsAccepted spool) (w
     pub rewrites-accepted : (rest : List ℕ) → rest ≡ replicate (length (lent n after wrote-inside)) 0 → Rewrites len spool (A.Accepted n) (back n after wrote-inside rest)
     rewrites-accepted rest h =
         let (fits, size) = wrote in
-        let is : rewriteAnswer len spool ≡ A.Accepted n =
+        let is : rewrite_answer len spool ≡ A.Accepted n =
         accepts len spool yes ∙ ap (λ (b : Bool). cond b (A.Accepted (length text)) (refusal 20 0 0)) fits ∙ ap A.Accepted (sym size) in
         let front : take n after ≡ text = ap (λ (m : ℕ). take m after) size ∙ fronts.memory (leb-true (length text) len fits) in
         let zeros : rest ≡ replicate (len - n) 0 = h ∙ ap (λ (m : ℕ). replicate m 0) (lent-long n after wrote-inside ∙ ap (λ (m : ℕ). m - n) within.long) in

@@ -19,7 +19,7 @@ use Rattle.rules.specs.Sets.{Set, nothing_yet}
 use Rattle.rules.specs.Machine.{Line, Env, top, ended, limited_to}
 use Rattle.rules.specs.LineByLine.{refused, accepted, run}
 use Rattle.rules.specs.RecordTable.{records_from, records_of, table_of, width}
-use Rattle.rules.specs.Answers.{nextName, linesOfVolume, outcomeOfLines, outcomeOfVolumes, outcomeOf}
+use Rattle.rules.specs.Answers.{next_name, lines_of_volume, outcome_of_lines, outcome_of_volumes, outcome_of}
 use Rattle.lines.specs.VolumePlaces.{no_layout, layout_of}
 use Rattle.lines.specs.VolumeNames.{name_at}
 use Rattle.lines.specs.LineEnds.{first_unsound}
@@ -45,19 +45,19 @@ use Rattle.sets.proofs.SetRunVolumes.{Grown, volumes_grow, next-nil, over-few}
 use Rattle.sets.proofs.SetRunStart.{first_desk, begin-stands, begin-kept}
 
 -- ── the outcome, by what the volumes say ──
-pub outcome-is : (e : Env) (spool : List ℕ) → outcomeOf e spool ≡ outcomeOfVolumes e (volumes_of spool)
-unfolding outcomeOf
+pub outcome-is : (e : Env) (spool : List ℕ) → outcome_of e spool ≡ outcome_of_volumes e (volumes_of spool)
+unfolding outcome_of
 outcome-is e spool = refl
 
 count_none : (layout_of none).count ≡ 0
 unfolding layout_of no_layout
 count_none = refl
 
-outcome-none : (e : Env) (spool : List ℕ) (l : Layout) → l ≡ layout_of (volumes_of spool) → l.count ≡ 0 → outcomeOf e spool ≡ refused 2 0 0
+outcome-none : (e : Env) (spool : List ℕ) (l : Layout) → l ≡ layout_of (volumes_of spool) → l.count ≡ 0 → outcome_of e spool ≡ refused 2 0 0
 outcome-none e spool l q h = outcome-is e spool ∙ go (volumes_of spool) refl
   where
-    go : (o : Option (List P.Volume)) → volumes_of spool ≡ o → outcomeOfVolumes e (volumes_of spool) ≡ refused 2 0 0
-    go none z = ap (outcomeOfVolumes e) z
+    go : (o : Option (List P.Volume)) → volumes_of spool ≡ o → outcome_of_volumes e (volumes_of spool) ≡ refused 2 0 0
+    go none z = ap (outcome_of_volumes e) z
     go (some vs) z = absurd (let y = volumes-laid spool vs z in omega (arith, h, ap (λ (x : Layout). x.count) q, y.count, y.some-volume))
 
 pub some-volumes : (spool : List ℕ) (l : Layout) → l ≡ layout_of (volumes_of spool) → (l.count ≡ 0 → ⊥) → (vs : List P.Volume) × (volumes_of spool ≡ some vs)
@@ -67,11 +67,11 @@ some-volumes spool l q h = go (volumes_of spool) refl
     go none z = absurd (h (ap (λ (x : Layout). x.count) q ∙ ap (λ (o : Option (List P.Volume)). (layout_of o).count) z ∙ count_none))
     go (some vs) z = (vs, z)
 
-pub outcome_unsound : (e : Env) (spool : List ℕ) (vs : List P.Volume) → volumes_of spool ≡ some vs → (n : ℕ) → first_unsound spool (layout_of (volumes_of spool)) ≡ suc n → outcomeOf e spool ≡ refused 3 (suc n) 0
-outcome_unsound e spool vs z n h = outcome-is e spool ∙ ap (outcomeOfVolumes e) z ∙ ap (outcomeOfLines e) (unsound-volume spool vs z n h)
+pub outcome_unsound : (e : Env) (spool : List ℕ) (vs : List P.Volume) → volumes_of spool ≡ some vs → (n : ℕ) → first_unsound spool (layout_of (volumes_of spool)) ≡ suc n → outcome_of e spool ≡ refused 3 (suc n) 0
+outcome_unsound e spool vs z n h = outcome-is e spool ∙ ap (outcome_of_volumes e) z ∙ ap (outcome_of_lines e) (unsound-volume spool vs z n h)
 
-pub outcome-lined : (e : Env) (spool : List ℕ) (vs : List P.Volume) → volumes_of spool ≡ some vs → (h : AllLined vs) → outcomeOf e spool ≡ run e (top nothing_yet 0) (lines_over 1 vs h)
-outcome-lined e spool vs z h = outcome-is e spool ∙ ap (outcomeOfVolumes e) z ∙ ap (outcomeOfLines e) (lined-listed 1 vs h)
+pub outcome-lined : (e : Env) (spool : List ℕ) (vs : List P.Volume) → volumes_of spool ≡ some vs → (h : AllLined vs) → outcome_of e spool ≡ run e (top nothing_yet 0) (lines_over 1 vs h)
+outcome-lined e spool vs z h = outcome-is e spool ∙ ap (outcome_of_volumes e) z ∙ ap (outcome_of_lines e) (lined-listed 1 vs h)
 
 -- limit: how many records the table has room for; lent: how many numbers are lent for it
 module _ (c : Class) (spool : List ℕ) (limit lent : ℕ) (l : Layout) where
@@ -95,10 +95,10 @@ module _ (c : Class) (spool : List ℕ) (limit lent : ℕ) (l : Layout) where
     pub kept : Kept c limit t d.now.records (next_state (is_nil left) set)
     pub eq : run e (top nothing_yet 0) (lines_over 1 all lined) ≡ run e (next_state (is_nil left) set) (lines_over (i + 1) left lines)
 
-  pub came-none : l ≡ layout_of (volumes_of spool) → l.count ≡ 0 → outcomeOf e spool ≡ refused 2 0 0
+  pub came-none : l ≡ layout_of (volumes_of spool) → l.count ≡ 0 → outcome_of e spool ≡ refused 2 0 0
   came-none q h = outcome-none e spool l q h
 
-  pub came_unsound : l ≡ layout_of (volumes_of spool) → (l.count ≡ 0 → ⊥) → (n : ℕ) → n ≡ first_unsound spool l → (n ≡ 0 → ⊥) → outcomeOf e spool ≡ refused 3 n 0
+  pub came_unsound : l ≡ layout_of (volumes_of spool) → (l.count ≡ 0 → ⊥) → (n : ℕ) → n ≡ first_unsound spool l → (n ≡ 0 → ⊥) → outcome_of e spool ≡ refused 3 n 0
   came_unsound q h zero w g = absurd (g refl)
   came_unsound q h (suc n) w g = let (vs, z) = some-volumes spool l q h in outcome_unsound e spool vs z n (ap (first_unsound spool) (sym q) ∙ sym w)
 
@@ -185,10 +185,10 @@ module _ (c : Class) (spool : List ℕ) (limit lent : ℕ) (l : Layout) where
       more-drops = sym (drop-drop 1 i w.all) ∙ ap (drop 1) here.drops
 
       -- the name behind is that of the next volume, and nothing behind the last
-      pub behind-is : name_behind spool l.places l.count i ≡ nextName here.more
+      pub behind-is : name_behind spool l.places l.count i ≡ next_name here.more
       behind-is = go here.more refl
         where
-          go : (us : List P.Volume) → here.more ≡ us → name_behind spool l.places l.count i ≡ nextName us
+          go : (us : List P.Volume) → here.more ≡ us → name_behind spool l.places l.count i ≡ next_name us
           go [] z = rw (le-ltb (i + 1) l.count (omega (arith, more-long, ap length z)))
           go (v ∷ us) z =
               let y : VolumeIn spool l (i + 1) v = subst (λ (x : Layout). VolumeIn spool x (i + 1) v) (sym w.laid) (volume_in spool w.all w.are (i + 1) v us (more-drops ∙ z)) in
@@ -201,9 +201,9 @@ module _ (c : Class) (spool : List ℕ) (limit lent : ℕ) (l : Layout) where
       abbrev more-lines : List Line
       more-lines = lines_over (suc (i + 1)) here.more here.lines.1
 
-      run-here : run e (top nothing_yet 0) (lines_over 1 w.all w.lined) ≡ run e (top w.set 0) (linesOfVolume (i + 1) (nextName here.more) start here.lines.0.lines ++ more-lines)
+      run-here : run e (top nothing_yet 0) (lines_over 1 w.all w.lined) ≡ run e (top w.set 0) (lines_of_volume (i + 1) (next_name here.more) start here.lines.0.lines ++ more-lines)
       run-here =
-          here.eq ∙ ap (λ (n : ℕ). run e (top w.set 0) (linesOfVolume (i + 1) (nextName here.more) n here.lines.0.lines ++ more-lines)) (sym here.held.place)
+          here.eq ∙ ap (λ (n : ℕ). run e (top w.set 0) (lines_of_volume (i + 1) (next_name here.more) n here.lines.0.lines ++ more-lines)) (sym here.held.place)
 
       -- its part of the spool, as it is lent
       module _ (body : List ℕ) (part : body ≡ bytes_at spool (span start (get_or l.lengths i 0))) where
@@ -230,18 +230,18 @@ module _ (c : Class) (spool : List ℕ) (limit lent : ℕ) (l : Layout) where
         module _ (following : List ℕ) (f : following ≡ name_behind spool l.places l.count i) (d₁ : Now → Desk) (t₁ : List ℤ) (r : Through)
             (promise : VolumePromise c spool body vol limit following d t d₁ t₁ r) where
           abbrev Out : List ℕ → Through → Type 0
-          Out x = VolumeOut c spool body vol (is_nil x) limit (top w.set 0) (linesOfVolume (i + 1) x start here.lines.0.lines) more-lines d₁ t₁
+          Out x = VolumeOut c spool body vol (is_nil x) limit (top w.set 0) (lines_of_volume (i + 1) x start here.lines.0.lines) more-lines d₁ t₁
 
-          out : Out (nextName here.more) r
+          out : Out (next_name here.more) r
           out = subst (λ (x : List ℕ). Out x r) (f ∙ behind-is) (promise w.set here.lines.0.lines more-lines at-start stands_here here.kept)
 
-          pub stops : (x : Refusal) → r ≡ T.Stop x → outcomeOf e spool ≡ refused x.number x.volume x.line
-          stops x q = outcome-lined e spool w.all w.are w.lined ∙ run-here ∙ subst (Out (nextName here.more)) q out
+          pub stops : (x : Refusal) → r ≡ T.Stop x → outcome_of e spool ≡ refused x.number x.volume x.line
+          stops x q = outcome-lined e spool w.all w.are w.lined ∙ run-here ∙ subst (Out (next_name here.more)) q out
 
           pub goes : (n : Now) → r ≡ T.Go n → length t₁ ≡ length t → (d₁ n).now ≡ n → Came (i + 1) (d₁ n) t₁
           goes n q m is =
-              let (s, x, z, o) = subst (Out (nextName here.more)) q out in
-              let last : is_nil (nextName here.more) ≡ is_nil here.more = next-nil (here.one.place + length here.one.body) here.more here.grown.2 in
+              let (s, x, z, o) = subst (Out (next_name here.more)) q out in
+              let last : is_nil (next_name here.more) ≡ is_nil here.more = next-nil (here.one.place + length here.one.body) here.more here.grown.2 in
               let k : suc (i + 1) ≡ i + 1 + 1 = omega arith in
               let y = here.held in
               let at-end : here.one.place + length here.one.body ≡ end_of body vol = omega (arith, y.place, ap length is_body) in
@@ -283,7 +283,7 @@ module _ (c : Class) (spool : List ℕ) (limit lent : ℕ) (l : Layout) where
           go [] z h = refl
           go (v ∷ us) z h = absurd (omega (arith, ap length z))
 
-      pub accepts : outcomeOf e spool ≡ accepted w.set
+      pub accepts : outcome_of e spool ≡ accepted w.set
       accepts = outcome-lined e spool w.all w.are w.lined ∙ run-ended
 
       pub counts-records : d.now.records ≡ length (records_of c w.set)

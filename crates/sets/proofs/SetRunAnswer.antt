@@ -14,7 +14,7 @@ use Rattle.rules.specs.RangeClass.{class_of}
 use Rattle.rules.specs.Sets.{Set}
 use Rattle.rules.specs.LineByLine.{refused, accepted}
 use Rattle.rules.specs.RecordTable.{records_of, table_of, width}
-use Rattle.rules.specs.Answers.{outcomeOf, outcomeAt, classOr, recordsIn, answerWith, refusal, readOutcome, readRecords, readAnswer, readTable}
+use Rattle.rules.specs.Answers.{outcome_of, outcome_at, class_or, records_in, answer_with, refusal, read_outcome, read_records, read_answer, read_table}
 use Rattle.rules.specs.Machine.{limited_to}
 use Rattle.account.specs.declared.MaybeClass.TheVariants as C
 use Rattle.account.specs.Classes.{class_in}
@@ -26,33 +26,33 @@ pub table_none : (n : ℕ) → table_of n [] ≡ replicate n (pos 0)
 table_none n = ap (λ (m : ℕ). table_of m []) (sym (length-replicate n (pos 0))) ∙ sym (laid_table (replicate n (pos 0)) [] 0 (laid_none n))
 
 module _ (class wire len : ℕ) (spool : List ℕ) where
-  outcome-read : readOutcome class wire len spool ≡ outcomeAt (class_of class wire) (some (len / width)) spool
-  unfolding readOutcome
+  outcome-read : read_outcome class wire len spool ≡ outcome_at (class_of class wire) (some (len / width)) spool
+  unfolding read_outcome
   outcome-read = refl
 
-  records-read : readRecords class wire len spool ≡ recordsIn (classOr (class_of class wire)) (readOutcome class wire len spool)
-  unfolding readRecords
+  records-read : read_records class wire len spool ≡ records_in (class_or (class_of class wire)) (read_outcome class wire len spool)
+  unfolding read_records
   records-read = refl
 
-  answer-read : readAnswer class wire len spool ≡ answerWith (length (readRecords class wire len spool)) (readOutcome class wire len spool)
-  unfolding readAnswer
+  answer-read : read_answer class wire len spool ≡ answer_with (length (read_records class wire len spool)) (read_outcome class wire len spool)
+  unfolding read_answer
   answer-read = refl
 
-  table-read : readTable class wire len spool ≡ table_of len (readRecords class wire len spool)
-  unfolding readTable
+  table-read : read_table class wire len spool ≡ table_of len (read_records class wire len spool)
+  unfolding read_table
   table-read = refl
 
   -- what is answered, and what the table holds
   abbrev pub Reads : Answer → List ℤ → Type 0
-  Reads a t = (a ≡ readAnswer class wire len spool) × (t ≡ readTable class wire len spool)
+  Reads a t = (a ≡ read_answer class wire len spool) × (t ≡ read_table class wire len spool)
 
-  refused-answers : (n v k : ℕ) → readOutcome class wire len spool ≡ refused n v k → refusal n v k ≡ readAnswer class wire len spool
-  refused-answers n v k q = sym (answer-read ∙ ap (answerWith (length (readRecords class wire len spool))) q)
+  refused-answers : (n v k : ℕ) → read_outcome class wire len spool ≡ refused n v k → refusal n v k ≡ read_answer class wire len spool
+  refused-answers n v k q = sym (answer-read ∙ ap (answer_with (length (read_records class wire len spool))) q)
 
-  refused-reads : (n v k : ℕ) (t : List ℤ) → readOutcome class wire len spool ≡ refused n v k → t ≡ replicate len (pos 0) → Reads (refusal n v k) t
+  refused-reads : (n v k : ℕ) (t : List ℤ) → read_outcome class wire len spool ≡ refused n v k → t ≡ replicate len (pos 0) → Reads (refusal n v k) t
   refused-reads n v k t q h = (
     refused-answers n v k q,
-    h ∙ sym (table_none len) ∙ ap (table_of len) (sym (records-read ∙ ap (recordsIn (classOr (class_of class wire))) q)) ∙ sym table-read,
+    h ∙ sym (table_none len) ∙ ap (table_of len) (sym (records-read ∙ ap (records_in (class_or (class_of class wire))) q)) ∙ sym table-read,
   )
 
   class-none : (o : Option Class) → C.Not ≡ class_in o → o ≡ none
@@ -64,29 +64,29 @@ module _ (class wire len : ℕ) (spool : List ℕ) where
   class-some (some d) c q = let z : c ≡ d = cc in ap some (sym z)
 
   -- no class
-  outcome-none : C.Not ≡ class_in (class_of class wire) → readOutcome class wire len spool ≡ refused 1 0 0
-  outcome-none q = outcome-read ∙ ap (λ (o : Option Class). outcomeAt o (some (len / width)) spool) (class-none (class_of class wire) q)
+  outcome-none : C.Not ≡ class_in (class_of class wire) → read_outcome class wire len spool ≡ refused 1 0 0
+  outcome-none q = outcome-read ∙ ap (λ (o : Option Class). outcome_at o (some (len / width)) spool) (class-none (class_of class wire) q)
 
-  pub answers-none : C.Not ≡ class_in (class_of class wire) → refusal 1 0 0 ≡ readAnswer class wire len spool
+  pub answers-none : C.Not ≡ class_in (class_of class wire) → refusal 1 0 0 ≡ read_answer class wire len spool
   answers-none q = refused-answers 1 0 0 (outcome-none q)
 
   pub reads_none : (t : List ℤ) → C.Not ≡ class_in (class_of class wire) → t ≡ replicate len (pos 0) → Reads (refusal 1 0 0) t
   reads_none t q h = refused-reads 1 0 0 t (outcome-none q) h
 
   module _ (c : Class) (q : C.Is c ≡ class_in (class_of class wire)) where
-    outcome-class : readOutcome class wire len spool ≡ outcomeOf (limited_to c (len / width)) spool
-    outcome-class = outcome-read ∙ ap (λ (o : Option Class). outcomeAt o (some (len / width)) spool) (class-some (class_of class wire) c q)
+    outcome-class : read_outcome class wire len spool ≡ outcome_of (limited_to c (len / width)) spool
+    outcome-class = outcome-read ∙ ap (λ (o : Option Class). outcome_at o (some (len / width)) spool) (class-some (class_of class wire) c q)
 
-    records-class : (s : Set) → readOutcome class wire len spool ≡ accepted s → readRecords class wire len spool ≡ records_of c s
+    records-class : (s : Set) → read_outcome class wire len spool ≡ accepted s → read_records class wire len spool ≡ records_of c s
     records-class s o =
-        records-read ∙ ap (recordsIn (classOr (class_of class wire))) o ∙ ap (λ (o : Option Class). records_of (classOr o) s) (class-some (class_of class wire) c q)
+        records-read ∙ ap (records_in (class_or (class_of class wire))) o ∙ ap (λ (o : Option Class). records_of (class_or o) s) (class-some (class_of class wire) c q)
 
     -- the answer by what the set comes to, whatever table it was lent
-    pub answers : (r : Answer) (t₀ t₁ : List ℤ) → SetOut c spool (len / width) t₀ t₁ r → r ≡ readAnswer class wire len spool
+    pub answers : (r : Answer) (t₀ t₁ : List ℤ) → SetOut c spool (len / width) t₀ t₁ r → r ≡ read_answer class wire len spool
     answers (A.Accepted n) t₀ t₁ z =
         let (s, p, m, u) = z in
-        let o : readOutcome class wire len spool ≡ accepted s = outcome-class ∙ p in
-        ap A.Accepted (m ∙ ap length (sym (records-class s o))) ∙ sym (answer-read ∙ ap (answerWith (length (readRecords class wire len spool))) o)
+        let o : read_outcome class wire len spool ≡ accepted s = outcome-class ∙ p in
+        ap A.Accepted (m ∙ ap length (sym (records-class s o))) ∙ sym (answer-read ∙ ap (answer_with (length (read_records class wire len spool))) o)
     answers (A.Refused f) t₀ t₁ z = refused-answers f.number f.volume f.line (outcome-class ∙ z)
 
     -- t₁: the table that the set left, t: cleared
@@ -102,7 +102,7 @@ module _ (class wire len : ℕ) (spool : List ℕ) where
 
 -- the answer where so many records are counted and the table that the set was lent is of another length
 pub counted-answers : (class wire records : ℕ) (spool : List ℕ) (c : Class) → C.Is c ≡ class_in (class_of class wire) → (r : Answer) (t₀ t₁ : List ℤ)
-    → SetOut c spool records t₀ t₁ r → r ≡ readAnswer class wire (records * width) spool
+    → SetOut c spool records t₀ t₁ r → r ≡ read_answer class wire (records * width) spool
 counted-answers class wire records spool c q r t₀ t₁ z =
     let room : records ≡ records * width / width = omega arith in
     answers class wire (records * width) spool c q r t₀ t₁ (subst (λ (m : ℕ). SetOut c spool m t₀ t₁ r) room z)

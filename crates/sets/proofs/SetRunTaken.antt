@@ -24,7 +24,8 @@ use Rattle.promises.proofs.OnWires.{on-wire}
 use Rattle.rules.specs.RecordTable.{kind_wire, kind_wire_more}
 use Rattle.rules.specs.LineByLine.{step_in, completes, next_volume, step, accepted, then_run, run}
 use Rattle.rules.specs.Machine.{symbol_block, wire_block, wire_unread, file_kinds, Owned, set_of}
-use Rattle.rules.proofs.OnActs.{on-by_act, on-shut, on_skip}
+use Rattle.rules.proofs.OnActs.{on-shut, on_skip}
+use Rattle.promises.proofs.ClosedActs.{on-by_act}
 use Rattle.rules.proofs.Chains.{On, on-unless, on-cond, on-map, on_then, on-also, on_weaken}
 use Rattle.rules.proofs.Runs.{not-accepted, finish-ended}
 

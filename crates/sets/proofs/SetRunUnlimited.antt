@@ -15,7 +15,7 @@ use Rattle.rules.specs.Spool as P
 use Rattle.rules.specs.Spool.{volumes_of}
 use Rattle.rules.specs.Machine.{Line, State, set_of, top, unlimited, limited_to}
 use Rattle.rules.specs.LineByLine.{then_run, run}
-use Rattle.rules.specs.Answers.{fullClass, outcomeOfVolumes, outcomeOf, rewriteOutcome}
+use Rattle.rules.specs.Answers.{full_class, outcome_of_volumes, outcome_of, rewrite_outcome}
 use Rattle.rules.proofs.Chains.{On}
 use Rattle.promises.proofs.Limits.{Alike, refuses, goes, over, alike-step}
 use Rattle.lines.specs.VolumePlaces.{layout_of}
@@ -39,15 +39,15 @@ same-run c m st (l ∷ ls) h = go (alike-step c m l st) (few-step (unlimited c) 
     go (over u p r) w ih = absurd (omega (arith, w, h, r))
 
 -- ── a spool ──
-judge-same : (c : Class) (spool : List ℕ) → outcomeOf (limited_to c most_records) spool ≡ outcomeOf (unlimited c) spool
+judge-same : (c : Class) (spool : List ℕ) → outcome_of (limited_to c most_records) spool ≡ outcome_of (unlimited c) spool
 judge-same c spool = by-volumes (volumes_of spool) refl
   where
-    by-volumes : (o : Option (List P.Volume)) → volumes_of spool ≡ o → outcomeOf (limited_to c most_records) spool ≡ outcomeOf (unlimited c) spool
+    by-volumes : (o : Option (List P.Volume)) → volumes_of spool ≡ o → outcome_of (limited_to c most_records) spool ≡ outcome_of (unlimited c) spool
     by-volumes none z =
-        outcome-is (limited_to c most_records) spool ∙ ap (outcomeOfVolumes (limited_to c most_records)) z ∙ sym (outcome-is (unlimited c) spool ∙ ap (outcomeOfVolumes (unlimited c)) z)
+        outcome-is (limited_to c most_records) spool ∙ ap (outcome_of_volumes (limited_to c most_records)) z ∙ sym (outcome-is (unlimited c) spool ∙ ap (outcome_of_volumes (unlimited c)) z)
     by-volumes (some vs) z = by-sound (first_unsound spool (layout_of (volumes_of spool))) refl
       where
-        by-sound : (n : ℕ) → first_unsound spool (layout_of (volumes_of spool)) ≡ n → outcomeOf (limited_to c most_records) spool ≡ outcomeOf (unlimited c) spool
+        by-sound : (n : ℕ) → first_unsound spool (layout_of (volumes_of spool)) ≡ n → outcome_of (limited_to c most_records) spool ≡ outcome_of (unlimited c) spool
         by-sound zero q =
             let h = sound-volumes spool vs z q in
             let y = volumes-laid spool vs z in
@@ -55,11 +55,11 @@ judge-same c spool = by-volumes (volumes_of spool) refl
             outcome-lined (limited_to c most_records) spool vs z h ∙ same-run c most_records (top nothing_yet 0) (lines_over 1 vs h) (omega (arith, b, y.few, y.spool)) ∙ sym (outcome-lined (unlimited c) spool vs z h)
         by-sound (suc n) q = outcome_unsound (limited_to c most_records) spool vs z n q ∙ sym (outcome_unsound (unlimited c) spool vs z n q)
 
-pub judge-is : (spool : List ℕ) → rewriteOutcome spool ≡ outcomeOf (limited_to fullClass most_records) spool
-unfolding rewriteOutcome
-judge-is spool = sym (judge-same fullClass spool)
+pub judge-is : (spool : List ℕ) → rewrite_outcome spool ≡ outcome_of (limited_to full_class most_records) spool
+unfolding rewrite_outcome
+judge-is spool = sym (judge-same full_class spool)
 
 -- what the reading of the set says of it
-pub judged : (spool : List ℕ) (t₀ t₁ : List ℤ) (r : Answer) → SetOut fullClass spool most_records t₀ t₁ r → Judged spool r
+pub judged : (spool : List ℕ) (t₀ t₁ : List ℤ) (r : Answer) → SetOut full_class spool most_records t₀ t₁ r → Judged spool r
 judged spool t₀ t₁ (A.Accepted n) o = let (s, p, m, u) = o in (s, judge-is spool ∙ p)
 judged spool t₀ t₁ (A.Refused f) o = judge-is spool ∙ o

@@ -11,7 +11,7 @@ use lib.Seq.{length-take-le}
 use borrow.Author.Tests.{leb-true, not-true}
 use Rattle.rules.specs.Base.{choose, map_o, is_nil, is_some, all, same, distinct, within}
 use Rattle.rules.specs.Spool.{most_bytes, most_volumes, Volume, name_byte, name_of, padded_name, good_name, length_of, good_head, volume_at, volumes_from, names_of, sound_volumes, volumes_of, lines_from, head_line, lines_of}
-use Rattle.rules.specs.Answers.{numbered, linesOfVolume, nextName}
+use Rattle.rules.specs.Answers.{numbered, lines_of_volume, next_name}
 use Rattle.rules.proofs.Chains.{and_left, and_right, none-some, map-some, by_cond}
 use Rattle.lines.specs.LineEnds.{unsound_from, first_unsound}
 use Rattle.lines.specs.declared.Layout.{Layout}
@@ -65,7 +65,7 @@ volumes_grow s vs e =
     grown most_volumes 0 s vs (sound-some (volumes_from most_volumes 0 s) vs w)
 
 -- a volume's name is no empty one: so only the last has nothing behind it
-pub next-nil : (at : ℕ) (vs : List Volume) → Grown at vs → is_nil (nextName vs) ≡ is_nil vs
+pub next-nil : (at : ℕ) (vs : List Volume) → Grown at vs → is_nil (next_name vs) ≡ is_nil vs
 next-nil at [] g = refl
 next-nil at (v ∷ vs) g = g.1
 
@@ -107,7 +107,7 @@ numbered-long : (k : ℕ) (next : List ℕ) (n at : ℕ) (ls : List (List ℕ)) 
 numbered-long k next n at [] = refl
 numbered-long k next n at (l ∷ ls) = ap suc (numbered-long k next (suc n) (at + length l + 2) ls)
 
-volume-long : (k : ℕ) (next : List ℕ) (at : ℕ) (ls : List (List ℕ)) → length (linesOfVolume k next at ls) ≤ suc (length ls)
+volume-long : (k : ℕ) (next : List ℕ) (at : ℕ) (ls : List (List ℕ)) → length (lines_of_volume k next at ls) ≤ suc (length ls)
 volume-long k next at [] = omega arith
 volume-long k next at (l ∷ ls) = omega (arith, numbered-long k next 1 at (l ∷ ls))
 
@@ -116,10 +116,10 @@ pub over-few : (s : List ℕ) (k at : ℕ) (vs : List Volume) (h : AllLined vs) 
 over-few s k at [] h p g q = omega (arith, q)
 over-few s k at (v ∷ vs) h p g q =
     let ls = h.0.lines in
-    let a : length (lines_over k (v ∷ vs) h) ≡ length (linesOfVolume k (nextName vs) v.place ls) + length (lines_over (suc k) vs h.1) =
-    length-append (linesOfVolume k (nextName vs) v.place ls) (lines_over (suc k) vs h.1) in
+    let a : length (lines_over k (v ∷ vs) h) ≡ length (lines_of_volume k (next_name vs) v.place ls) + length (lines_over (suc k) vs h.1) =
+    length-append (lines_of_volume k (next_name vs) v.place ls) (lines_over (suc k) vs h.1) in
     let b : 2 * length ls ≤ length v.body + 0 = few-lines false v.body ls (lines_of_lem v.body ls h.0.are) in
-    omega (arith, a, volume-long k (nextName vs) v.place ls, b, g.0, over-few s (suc k) (v.place + length v.body) vs h.1 p.1 g.2 p.0.high)
+    omega (arith, a, volume-long k (next_name vs) v.place ls, b, g.0, over-few s (suc k) (v.place + length v.body) vs h.1 p.1 g.2 p.0.high)
 
 -- ── the first volume whose lines break rule 3 is one of twelve ──
 unsound-from : (s : List ℕ) (l : Layout) (k i : ℕ) → unsound_from s l k i ≤ i + k

@@ -6,7 +6,7 @@ use Rattle.rules.specs.declared.Answer.TheVariants as A
 use Rattle.rules.specs.Sets.{Set}
 use Rattle.rules.specs.LineByLine.{refused, accepted}
 use Rattle.rules.specs.RecordTable.{records_of, table_of, width}
-use Rattle.rules.specs.Answers.{outcomeOf, rewriteOutcome}
+use Rattle.rules.specs.Answers.{outcome_of, rewrite_outcome}
 use Rattle.rules.specs.Machine.{limited_to}
 use Rattle.lines.specs.VolumeNames.{name_at}
 use Rattle.account.specs.declared.Now.{Now}
@@ -23,9 +23,9 @@ name_behind spool places count i = cond (ltb (i + 1) count) (name_at spool (get_
 -- limit: how many records the table has room for. t₁: the numbers on return, where they are the table. Refused, nothing is said of them.
 abbrev pub SetOut : Class → List ℕ → ℕ → List ℤ → List ℤ → Answer → Type 0
 SetOut c spool limit t₀ t₁ (A.Accepted n) =
-    (s : Set) × (outcomeOf (limited_to c limit) spool ≡ accepted s) × (n ≡ length (records_of c s))
+    (s : Set) × (outcome_of (limited_to c limit) spool ≡ accepted s) × (n ≡ length (records_of c s))
     × (length t₀ / width ≡ limit → t₁ ≡ table_of (length t₀) (records_of c s))
-SetOut c spool limit t₀ t₁ (A.Refused f) = outcomeOf (limited_to c limit) spool ≡ refused f.number f.volume f.line
+SetOut c spool limit t₀ t₁ (A.Refused f) = outcome_of (limited_to c limit) spool ≡ refused f.number f.volume f.line
 
 -- more records than any spool has: the rewriter counts them and keeps none
 abbrev pub most_records : ℕ
@@ -33,8 +33,8 @@ most_records = 65536
 
 -- what the rewriter asks of a spool before it writes
 abbrev pub IsAccepted : List ℕ → Type 0
-IsAccepted spool = (s : Set) × (rewriteOutcome spool ≡ accepted s)
+IsAccepted spool = (s : Set) × (rewrite_outcome spool ≡ accepted s)
 
 abbrev pub Judged : List ℕ → Answer → Type 0
 Judged spool (A.Accepted n) = IsAccepted spool
-Judged spool (A.Refused f) = rewriteOutcome spool ≡ refused f.number f.volume f.line
+Judged spool (A.Refused f) = rewrite_outcome spool ≡ refused f.number f.volume f.line

@@ -1,6 +1,6 @@
 // The reader.
 ghost use Rattle.std.specs.Prelude.{◌≡◌, ◌+◌, ◌*◌, ◌≤◌, ◌<◌, pos, length, replicate};
-ghost use Rattle.rules.specs.Answers.{readAnswer, readTable};
+ghost use Rattle.rules.specs.Answers.{read_answer, read_table};
 ghost use Rattle.rules.specs.RecordTable.{width};
 ghost use Rattle.sets.specs.SetReading.{nothing_now, name_behind, SetOut, Judged};
 
@@ -118,7 +118,7 @@ fn read_set(s: &[u8], class: Class, limit: usize, t: &mut [i64]) -> Answer
 // A spool, a range class with its wire part, and a lent table: the answer, and the records in the table. Refused, the table is all zeros; accepted, it is zero
 // behind the last record, whatever it held before.
 pub fn read(s: &[u8], class: u64, wire: u64, t: &mut [i64]) -> Answer
-    ensures { (result ≡ readAnswer class wire (length t.old) s.now) × (t.new ≡ readTable class wire (length t.old) s.now) }
+    ensures { (result ≡ read_answer class wire (length t.old) s.now) × (t.new ≡ read_table class wire (length t.old) s.now) }
 {
     let limit = t.len() / WIDTH;
     clear(t);
@@ -144,7 +144,7 @@ pub fn read(s: &[u8], class: u64, wire: u64, t: &mut [i64]) -> Answer
 // A spool, a range class with its wire part, and a number of records: the answer of a reader that is lent a table for so many. They are counted
 // and not kept, so that whoever asks only for the answer needs no room for a table.
 pub fn check(s: &[u8], class: u64, wire: u64, records: u32) -> Answer
-    ensures { result ≡ readAnswer class wire (records * width) s.now }
+    ensures { result ≡ read_answer class wire (records * width) s.now }
 {
     match class_of(class, wire) {
         MaybeClass::Not => Answer::Refused(Refusal {

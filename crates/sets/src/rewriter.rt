@@ -1,6 +1,6 @@
 // The rewriter.
 ghost use Rattle.std.specs.Prelude.{◌≡◌, length};
-ghost use Rattle.rules.specs.Answers.{rewriteAnswer, rewriteOutput};
+ghost use Rattle.rules.specs.Answers.{rewrite_answer, rewrite_output};
 ghost use Rattle.sets.specs.SetReading.{IsAccepted};
 
 use crate::reader::judge;
@@ -12,7 +12,7 @@ use volumes::put_set;
 // An accepted spool's fixed form and zeros behind it; "20 output shorter than the written set".
 fn write_set(s: &[u8], out: &mut [u8]) -> Answer
     requires { IsAccepted s.now }
-    ensures { (result ≡ rewriteAnswer (length out.old) s.now) × (out.new ≡ rewriteOutput (length out.old) s.now) }
+    ensures { (result ≡ rewrite_answer (length out.old) s.now) × (out.new ≡ rewrite_output (length out.old) s.now) }
 {
     match put_set(s, out) {
         Wrote::Bytes(n) => {
@@ -34,7 +34,7 @@ fn write_set(s: &[u8], out: &mut [u8]) -> Answer
 // 15, so nothing is written of a spool that is refused: the output is then all zeros. Accepted, it is zero behind the last byte, whatever
 // it held before.
 pub fn rewrite(s: &[u8], out: &mut [u8]) -> Answer
-    ensures { (result ≡ rewriteAnswer (length out.old) s.now) × (out.new ≡ rewriteOutput (length out.old) s.now) }
+    ensures { (result ≡ rewrite_answer (length out.old) s.now) × (out.new ≡ rewrite_output (length out.old) s.now) }
 {
     match judge(s) {
         Answer::Accepted(_) => write_set(s, out),

@@ -18,7 +18,7 @@ use mir.Facts.{to_z-of_z}
 use Rattle.rules.specs.declared.Refusal.{Refusal}
 use Rattle.rules.specs.declared.Answer.{Answer}
 use Rattle.rules.specs.declared.Answer.TheVariants as A
-use Rattle.rules.specs.Answers.{showNumber, showSigned, printLine, first_line}
+use Rattle.rules.specs.Answers.{show_number, show_signed, print_line, first_line}
 use Rattle.leaves.specs.declared.Wrote.{Wrote}
 use Rattle.leaves.specs.declared.Wrote.TheVariants as W
 use Rattle.leaves.specs.Writing.{Puts}
@@ -27,11 +27,11 @@ use Rattle.leaves.proofs.Written.{fits, full, was-full, was-bytes}
 use Rattle.shows.specs.Laid.{Lays}
 
 -- ── a number's sign ──
-pub shown-below : (z : ℤ) → lt_z z (pos 0) ≡ true → showSigned z ≡ 45 ∷ showNumber (suc (mag z))
+pub shown-below : (z : ℤ) → lt_z z (pos 0) ≡ true → show_signed z ≡ 45 ∷ show_number (suc (mag z))
 shown-below (pos n) e = absurd (let h = ltb-true n 0 e in omega arith)
 shown-below (negsuc n) e = refl
 
-pub shown-not-below : (z : ℤ) → lt_z z (pos 0) ≡ false → showSigned z ≡ showNumber (mag z)
+pub shown-not-below : (z : ℤ) → lt_z z (pos 0) ≡ false → show_signed z ≡ show_number (mag z)
 shown-not-below (pos n) e = refl
 shown-not-below (negsuc n) e = absurd (let q : ◌≡◌ {A = ℕ} 0 1 = cc in omega arith)
 
@@ -98,7 +98,7 @@ empty-lays (b ∷ s) after r p =
     let m : after ≡ 10 ∷ s = rw t at p.memory in
     record { answer = p.answer; memory = m ∙ sym (rw t) }
 
-pub line_of-none : (zs : List ℤ) → length zs ≡ 0 → printLine zs ≡ 10 ∷ []
+pub line_of-none : (zs : List ℤ) → length zs ≡ 0 → print_line zs ≡ 10 ∷ []
 line_of-none [] e = refl
 line_of-none (z ∷ zs) e = absurd (omega arith)
 
@@ -109,14 +109,14 @@ end_of (z ∷ zs) = 32
 -- numbers, each with the byte behind it
 abbrev pub ended : List ℤ → List ℕ
 ended [] = []
-ended (z ∷ zs) = showSigned z ++ end_of zs ∷ ended zs
+ended (z ∷ zs) = show_signed z ++ end_of zs ∷ ended zs
 
-pub ended-line : (z : ℤ) (zs : List ℤ) → printLine (z ∷ zs) ≡ ended (z ∷ zs)
+pub ended-line : (z : ℤ) (zs : List ℤ) → print_line (z ∷ zs) ≡ ended (z ∷ zs)
 ended-line z [] = refl
 ended-line z (y ∷ zs) =
-    append_assoc (showSigned z) (32 ∷ join 32 (map showSigned (y ∷ zs))) (10 ∷ []) ∙ ap (λ (s : List ℕ). showSigned z ++ 32 ∷ s) (ended-line y zs)
+    append_assoc (show_signed z) (32 ∷ join 32 (map show_signed (y ∷ zs))) (10 ∷ []) ∙ ap (λ (s : List ℕ). show_signed z ++ 32 ∷ s) (ended-line y zs)
 
-line-is : (zs : List ℤ) → (length zs ≡ 0 → ⊥) → printLine zs ≡ ended zs
+line-is : (zs : List ℤ) → (length zs ≡ 0 → ⊥) → print_line zs ≡ ended zs
 line-is [] h = absurd (h refl)
 line-is (z ∷ zs) h = ended-line z zs
 
@@ -137,63 +137,63 @@ pub laid_none : (zs : List ℤ) (out : List ℕ) → (length zs ≡ 0 → ⊥) �
 laid_none zs out h = record { some = h; few = omega arith; room = omega arith; same = refl; text = refl; rest = refl }
 
 module _ (zs : List ℤ) (before out : List ℕ) (at i : ℕ) (g : Laid zs before out at i) where
-  pub laid-all : length zs ≤ i → Lays (printLine zs) before out (W.Bytes at)
+  pub laid-all : length zs ≤ i → Lays (print_line zs) before out (W.Bytes at)
   laid-all h =
       let none : ended (drop i zs) ≡ [] = ap ended (drop_of_length-le zs {i = i} h) in
-      let whole : printLine zs ≡ take at out = line-is zs g.some ∙ g.text ∙ ap (λ (s : List ℕ). take at out ++ s) none ∙ append-nil (take at out) in
+      let whole : print_line zs ≡ take at out = line-is zs g.some ∙ g.text ∙ ap (λ (s : List ℕ). take at out ++ s) none ∙ append-nil (take at out) in
       let there : out ≡ take at out ++ drop at before = sym (take-append-drop at out) ∙ ap (λ (s : List ℕ). take at out ++ s) g.rest in
       subst (λ (s : List ℕ). Lays s before out (W.Bytes at)) (sym whole) (lays-bytes (take at out) before out at (length-take-le at out g.room) (omega (arith, g.room, g.same)) there)
 
   module _ (h : i < length zs) (z : ℤ) (ez : z ≡ get_or zs i (pos 0)) (b : ℕ) (eb : b ≡ cond (eqb (length zs - i - 1) 0) 10 32) (after : List ℕ) (r : Wrote)
-      (p : Puts (showSigned z ++ b ∷ []) (take (length out - at) (drop at out)) after r) where
+      (p : Puts (show_signed z ++ b ∷ []) (take (length out - at) (drop at out)) after r) where
     left : length (drop (suc i) zs) ≡ length zs - i - 1
     left = omega (arith, length-drop (suc i) zs)
 
     end_byte_lem : end_of (drop (suc i) zs) ≡ b
     end_byte_lem = end_is (drop (suc i) zs) ∙ ap (λ (k : ℕ). cond (eqb k 0) 10 32) left ∙ sym eb
 
-    next : ended (drop i zs) ≡ (showSigned z ++ b ∷ []) ++ ended (drop (suc i) zs)
+    next : ended (drop i zs) ≡ (show_signed z ++ b ∷ []) ++ ended (drop (suc i) zs)
     next =
         ap ended (drop-cons zs i (pos 0) h)
-        ∙ ap (λ (y : ℤ). showSigned y ++ end_of (drop (suc i) zs) ∷ ended (drop (suc i) zs)) (sym ez)
-        ∙ ap (λ (e : ℕ). showSigned z ++ e ∷ ended (drop (suc i) zs)) end_byte_lem
-        ∙ sym (append_snoc (showSigned z) b (ended (drop (suc i) zs)))
+        ∙ ap (λ (y : ℤ). show_signed y ++ end_of (drop (suc i) zs) ∷ ended (drop (suc i) zs)) (sym ez)
+        ∙ ap (λ (e : ℕ). show_signed z ++ e ∷ ended (drop (suc i) zs)) end_byte_lem
+        ∙ sym (append_snoc (show_signed z) b (ended (drop (suc i) zs)))
 
-    written : Puts (showSigned z ++ b ∷ []) (drop at out) after r
-    written = subst (λ (s : List ℕ). Puts (showSigned z ++ b ∷ []) s after r) (rest_all at out) p
+    written : Puts (show_signed z ++ b ∷ []) (drop at out) after r
+    written = subst (λ (s : List ℕ). Puts (show_signed z ++ b ∷ []) s after r) (rest_all at out) p
 
-    pub line-full : r ≡ W.Full → (cleared : List ℕ) → cleared ≡ replicate (length (put_mid at (length out - at) out after)) 0 → Lays (printLine zs) before cleared W.Full
+    pub line-full : r ≡ W.Full → (cleared : List ℕ) → cleared ≡ replicate (length (put_mid at (length out - at) out after)) 0 → Lays (print_line zs) before cleared W.Full
     line-full e cleared m =
-        let w = was-full (showSigned z ++ b ∷ []) (drop at out) after (subst (Puts (showSigned z ++ b ∷ []) (drop at out) after) e written) in
+        let w = was-full (show_signed z ++ b ∷ []) (drop at out) after (subst (Puts (show_signed z ++ b ∷ []) (drop at out) after) e written) in
         let kept : length (put_mid at (length out - at) out after) ≡ length out = same_len_mid at (length out - at) out after (ap (λ (s : List ℕ). length s) (w.1 ∙ sym (rest_all at out))) in
-        let long : length (ended zs) ≡ at + (length (showSigned z ++ b ∷ []) + length (ended (drop (suc i) zs))) =
+        let long : length (ended zs) ≡ at + (length (show_signed z ++ b ∷ []) + length (ended (drop (suc i) zs))) =
         ap (λ (s : List ℕ). length s) (g.text ∙ ap (λ (s : List ℕ). take at out ++ s) next)
-        ∙ length-append (take at out) ((showSigned z ++ b ∷ []) ++ ended (drop (suc i) zs))
-        ∙ ap₂ ◌+◌ (length-take-le at out g.room) (length-append (showSigned z ++ b ∷ []) (ended (drop (suc i) zs))) in
+        ∙ length-append (take at out) ((show_signed z ++ b ∷ []) ++ ended (drop (suc i) zs))
+        ∙ ap₂ ◌+◌ (length-take-le at out g.room) (length-append (show_signed z ++ b ∷ []) (ended (drop (suc i) zs))) in
         let less : length before < length (ended zs) = omega (arith, w.0, length-drop at out, long, g.same, g.room) in
-        lays-full (printLine zs) before cleared (rw (line-is zs g.some) less) (m ∙ ap (λ (k : ℕ). replicate k 0) (kept ∙ g.same))
+        lays-full (print_line zs) before cleared (rw (line-is zs g.some) less) (m ∙ ap (λ (k : ℕ). replicate k 0) (kept ∙ g.same))
 
     module _ (n : ℕ) (e : r ≡ W.Bytes n) where
-      there : (length (showSigned z ++ b ∷ []) ≡ n) × (length (showSigned z ++ b ∷ []) ≤ length (drop at out)) × (after ≡ (showSigned z ++ b ∷ []) ++ drop (length (showSigned z ++ b ∷ [])) (drop at out))
-      there = was-bytes (showSigned z ++ b ∷ []) (drop at out) after n (subst (Puts (showSigned z ++ b ∷ []) (drop at out) after) e written)
+      there : (length (show_signed z ++ b ∷ []) ≡ n) × (length (show_signed z ++ b ∷ []) ≤ length (drop at out)) × (after ≡ (show_signed z ++ b ∷ []) ++ drop (length (show_signed z ++ b ∷ [])) (drop at out))
+      there = was-bytes (show_signed z ++ b ∷ []) (drop at out) after n (subst (Puts (show_signed z ++ b ∷ []) (drop at out) after) e written)
 
       pub line-room : at + n ≤ length out
       line-room = omega (arith, there.0, there.1, length-drop at out, g.room)
 
-      after-there : put_mid at (length out - at) out after ≡ (take at out ++ (showSigned z ++ b ∷ [])) ++ drop (at + n) out
+      after-there : put_mid at (length out - at) out after ≡ (take at out ++ (show_signed z ++ b ∷ [])) ++ drop (at + n) out
       after-there =
           ap (λ (s : List ℕ). take at out ++ (after ++ s)) (drop_of_length-le (drop at out) {i = length out - at} (omega (arith, length-drop at out)))
-          ∙ ap (λ (s : List ℕ). take at out ++ s) (append-nil after ∙ there.2 ∙ ap (λ (k : ℕ). (showSigned z ++ b ∷ []) ++ drop k (drop at out)) there.0 ∙ ap (λ (s : List ℕ). (showSigned z ++ b ∷ []) ++ s) (drop-drop n at out))
-          ∙ sym (append_assoc (take at out) (showSigned z ++ b ∷ []) (drop (at + n) out))
+          ∙ ap (λ (s : List ℕ). take at out ++ s) (append-nil after ∙ there.2 ∙ ap (λ (k : ℕ). (show_signed z ++ b ∷ []) ++ drop k (drop at out)) there.0 ∙ ap (λ (s : List ℕ). (show_signed z ++ b ∷ []) ++ s) (drop-drop n at out))
+          ∙ sym (append_assoc (take at out) (show_signed z ++ b ∷ []) (drop (at + n) out))
 
-      front : length (take at out ++ (showSigned z ++ b ∷ [])) ≡ at + n
-      front = length-append (take at out) (showSigned z ++ b ∷ []) ∙ ap₂ ◌+◌ (length-take-le at out g.room) there.0
+      front : length (take at out ++ (show_signed z ++ b ∷ [])) ≡ at + n
+      front = length-append (take at out) (show_signed z ++ b ∷ []) ∙ ap₂ ◌+◌ (length-take-le at out g.room) there.0
 
       pub line-more : Laid zs before (put_mid at (length out - at) out after) (at + n) (i + 1)
       line-more =
           let one : suc i ≡ i + 1 = omega arith in
           let long : length (put_mid at (length out - at) out after) ≡ length out =
-          ap (λ (s : List ℕ). length s) after-there ∙ omega (arith, front, line-room, length-append (take at out ++ (showSigned z ++ b ∷ [])) (drop (at + n) out), length-drop (at + n) out) in
+          ap (λ (s : List ℕ). length s) after-there ∙ omega (arith, front, line-room, length-append (take at out ++ (show_signed z ++ b ∷ [])) (drop (at + n) out), length-drop (at + n) out) in
           record {
             some = g.some;
             few = omega arith;
@@ -201,10 +201,10 @@ module _ (zs : List ℤ) (before out : List ℕ) (at i : ℕ) (g : Laid zs befor
             same = long ∙ g.same;
             text =
                 g.text ∙ ap (λ (s : List ℕ). take at out ++ s) next
-                ∙ sym (append_assoc (take at out) (showSigned z ++ b ∷ []) (ended (drop (suc i) zs)))
-                ∙ ap₂ (λ (s : List ℕ) (k : ℕ). s ++ ended (drop k zs)) (sym (ap (take (at + n)) after-there ∙ take_at (take at out ++ (showSigned z ++ b ∷ [])) (drop (at + n) out) (at + n) front)) one;
+                ∙ sym (append_assoc (take at out) (show_signed z ++ b ∷ []) (ended (drop (suc i) zs)))
+                ∙ ap₂ (λ (s : List ℕ) (k : ℕ). s ++ ended (drop k zs)) (sym (ap (take (at + n)) after-there ∙ take_at (take at out ++ (show_signed z ++ b ∷ [])) (drop (at + n) out) (at + n) front)) one;
             rest =
-                ap (drop (at + n)) after-there ∙ drop_at (take at out ++ (showSigned z ++ b ∷ [])) (drop (at + n) out) (at + n) front
+                ap (drop (at + n)) after-there ∙ drop_at (take at out ++ (show_signed z ++ b ∷ [])) (drop (at + n) out) (at + n) front
                 ∙ sym (drop-drop n at out) ∙ ap (drop n) g.rest ∙ drop-drop n at before;
           }
 

@@ -4,7 +4,7 @@ use Prim.Native.Nat.{ℕ, ◌+◌, ◌*◌}
 use mathlib.Core.List.{List}
 use mathlib.Core.Path.{◌≡◌, sym, ◌∙◌}
 use lib.IntN.{ℤ}
-use Rattle.rules.specs.Answers.{printLine, first_line}
+use Rattle.rules.specs.Answers.{print_line, first_line}
 use Rattle.rules.specs.declared.Answer.{Answer}
 use Rattle.leaves.specs.declared.Wrote.{Wrote}
 use Rattle.leaves.proofs.Unique.{One, paired}
@@ -16,13 +16,13 @@ use Rattle.shows.proofs.questions.pair as pair'
 both-laid : {text out out₁ out₂ : List ℕ} {r₁ r₂ : Wrote} → Lays text out out₁ r₁ → Lays text out out₂ r₂ → (r₁ ≡ r₂) × (out₁ ≡ out₂)
 both-laid c₁ c₂ = (c₁.answer ∙ sym c₂.answer, c₁.memory ∙ sym c₂.memory)
 
-pub put-line_unique : (zs : List ℤ) (out out₁ out₂ : List ℕ) (r₁ r₂ : Wrote) → Lays (printLine zs) out out₁ r₁ → Lays (printLine zs) out out₂ r₂ → (r₁ ≡ r₂) × (out₁ ≡ out₂)
+pub put-line_unique : (zs : List ℤ) (out out₁ out₂ : List ℕ) (r₁ r₂ : Wrote) → Lays (print_line zs) out out₁ r₁ → Lays (print_line zs) out out₂ r₂ → (r₁ ≡ r₂) × (out₁ ≡ out₂)
 put-line_unique zs out out₁ out₂ r₁ r₂ c₁ c₂ = both-laid c₁ c₂
 
 put-line-code : One put-line'.Kinds.ps put-line'.Kinds.r put-line'.Reads.Learnt {A = Wrote × List ℕ} (λ κs r e. (r, e.1.0.now))
 put-line-code κs x r₁ r₂ e₁ e₂ c₁ c₂ = paired (put-line_unique x.0.now x.1.0.now e₁.1.0.now e₂.1.0.now r₁ r₂ c₁ c₂)
 
-pub put-answer_unique : (a : Answer) (out out₁ out₂ : List ℕ) (r₁ r₂ : Wrote) → Lays (printLine (first_line a)) out out₁ r₁ → Lays (printLine (first_line a)) out out₂ r₂
+pub put-answer_unique : (a : Answer) (out out₁ out₂ : List ℕ) (r₁ r₂ : Wrote) → Lays (print_line (first_line a)) out out₁ r₁ → Lays (print_line (first_line a)) out out₂ r₂
     → (r₁ ≡ r₂) × (out₁ ≡ out₂)
 put-answer_unique a out out₁ out₂ r₁ r₂ c₁ c₂ = both-laid c₁ c₂
 

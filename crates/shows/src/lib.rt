@@ -6,7 +6,7 @@ ghost use Rattle.std.specs.Prelude.{◌≡◌, ◌≤◌, ◌*◌, ℕ, [], ◌�
 ghost use Rattle.std.specs.Io.KnownBytes.{Appends};
 ghost use Rattle.leaves.specs.declared.Wrote.TheVariants.{Bytes};
 ghost use Rattle.rules.specs.Base.{join};
-ghost use Rattle.rules.specs.Answers.{answerCount, showSigned, printLine, first_line};
+ghost use Rattle.rules.specs.Answers.{answer_count, show_signed, print_line, first_line};
 ghost use Rattle.promises.specs.Printing.{record_lines};
 
 pub mod failure;
@@ -66,7 +66,7 @@ fn write_laid<W: Write>(out: &mut W, text: &[u8], laid: Wrote) -> io::Result<()>
 
 // An answer's line.
 pub fn answer_line<W: Write>(out: &mut W, a: Answer) -> io::Result<()>
-    ensures { OnOk result (Appends (W.contents out.old) (W.contents out.new) (printLine (first_line a))) }
+    ensures { OnOk result (Appends (W.contents out.old) (W.contents out.new) (print_line (first_line a))) }
 {
     let mut line = [0u8; ANSWER_LINE];
     let laid = put_answer(a, &mut line);
@@ -75,7 +75,7 @@ pub fn answer_line<W: Write>(out: &mut W, a: Answer) -> io::Result<()>
 
 // The same without its newline.
 pub fn answer<W: Write>(out: &mut W, a: Answer) -> io::Result<()>
-    ensures { OnOk result (Appends (W.contents out.old) (W.contents out.new) (join 32 (map showSigned (first_line a)))) }
+    ensures { OnOk result (Appends (W.contents out.old) (W.contents out.new) (join 32 (map show_signed (first_line a)))) }
 {
     let mut line = [0u8; ANSWER_LINE];
     let Wrote::Bytes(n) = put_answer(a, &mut line) else {
@@ -88,7 +88,7 @@ pub fn answer<W: Write>(out: &mut W, a: Answer) -> io::Result<()>
 }
 
 fn record<W: Write>(out: &mut W, rec: &[i64]) -> io::Result<()>
-    ensures { OnOk result (Appends (W.contents out.old) (W.contents out.new) (printLine rec.now)) }
+    ensures { OnOk result (Appends (W.contents out.old) (W.contents out.new) (print_line rec.now)) }
 {
     let mut line = [0u8; RECORD_LINE];
     let laid = put_line(rec, &mut line);
@@ -121,7 +121,7 @@ pub fn records<W: Write>(out: &mut W, count: u64, table: &[i64]) -> io::Result<(
 // A reading: the line of its answer, then the lines of the table's records one after the other, each as it was laid (`put_answer`, `put_line`).
 pub fn listing<W: Write>(out: &mut W, answer: Answer, table: &[i64]) -> io::Result<()>
     ensures { OnOk result (Appends (W.contents out.old) (W.contents out.new)
-        (printLine (first_line answer) ++ record_lines (answerCount answer) table.now)) }
+        (print_line (first_line answer) ++ record_lines (answer_count answer) table.now)) }
 {
     answer_line(out, answer)?;
     match answer {

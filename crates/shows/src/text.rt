@@ -1,8 +1,8 @@
 // One printed line, laid into a lent buffer: numbers in decimal, single spaces between them, a newline at the end (rules, Answers:
-// `printLine`).
+// `print_line`).
 ghost use Rattle.std.specs.Prelude.{cond, [], ◌∷◌, ◌++◌, ◌≡◌, eqb};
 ghost use Rattle.leaves.specs.Writing.{Puts};
-ghost use Rattle.rules.specs.Answers.{showNumber, showSigned, printLine, first_line};
+ghost use Rattle.rules.specs.Answers.{show_number, show_signed, print_line, first_line};
 ghost use Rattle.shows.specs.Laid.{Lays};
 
 use leaves::Wrote;
@@ -11,7 +11,7 @@ use rules::Answer;
 
 // A number behind a `-`; the number is written first, so that nothing is written where there is no room for both.
 fn put_minus(n: u64, out: &mut [u8]) -> Wrote
-    ensures { Puts (45 ∷ showNumber n) out.old out.new result }
+    ensures { Puts (45 ∷ show_number n) out.old out.new result }
 {
     if out.len() == 0 {
         return Wrote::Full;
@@ -26,7 +26,7 @@ fn put_minus(n: u64, out: &mut [u8]) -> Wrote
 
 // One is added before the sign is turned, for the least of all numbers.
 fn put_signed(z: i64, out: &mut [u8]) -> Wrote
-    ensures { Puts (showSigned z) out.old out.new result }
+    ensures { Puts (show_signed z) out.old out.new result }
 {
     if z < 0 {
         return put_minus(-(z + 1) as u64 + 1, out);
@@ -36,7 +36,7 @@ fn put_signed(z: i64, out: &mut [u8]) -> Wrote
 
 // A number and the byte behind it. The number is lent one byte less, so that nothing is written where there is no room for both.
 fn put_ended(z: i64, end: u8, out: &mut [u8]) -> Wrote
-    ensures { Puts (showSigned z ++ end ∷ []) out.old out.new result }
+    ensures { Puts (show_signed z ++ end ∷ []) out.old out.new result }
 {
     if out.len() == 0 {
         return Wrote::Full;
@@ -69,7 +69,7 @@ fn put_empty(out: &mut [u8]) -> Wrote
 
 // The line of these numbers at the front of out, where it fits; where it does not, out is all zeros.
 pub fn put_line(zs: &[i64], out: &mut [u8]) -> Wrote
-    ensures { Lays (printLine zs.now) out.old out.new result }
+    ensures { Lays (print_line zs.now) out.old out.new result }
 {
     if zs.len() == 0 {
         return put_empty(out);
@@ -91,7 +91,7 @@ pub fn put_line(zs: &[i64], out: &mut [u8]) -> Wrote
 
 // The line of an answer.
 pub fn put_answer(a: Answer, out: &mut [u8]) -> Wrote
-    ensures { Lays (printLine (first_line a)) out.old out.new result }
+    ensures { Lays (print_line (first_line a)) out.old out.new result }
 {
     match a {
         Answer::Accepted(count) => {

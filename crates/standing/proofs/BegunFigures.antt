@@ -6,7 +6,7 @@ use mathlib.Core.Option.{none}
 use mathlib.Core.Path.{◌≡◌, refl, sym, ◌∙◌, ap}
 use native.Mathlib.Omega.{arith}
 use lib.IntN.{pos}
-use lib.ListN.{length, set, take, replicate}
+use lib.ListN.{length, take, replicate}
 use Rattle.rules.specs.Values.{Num, nums}
 use Rattle.rules.specs.Rows.{Rule, blank, part_of, rows_there}
 use Rattle.rules.specs.Blocks.{blank_held}

@@ -18,7 +18,7 @@ use Rattle.rules.specs.Values.{Known, Value}
 use Rattle.rules.specs.Rows.{Rule, Held, rows_at_limit, Act, stay, entry, begin, shut, refuse, act}
 use Rattle.rules.specs.Figures.{point_table, least_points}
 use Rattle.rules.specs.Sets.{Point, Figure, chain, Set, known_of, with_records}
-use Rattle.rules.specs.Machine.{Line, Home, in_element, in_layer, is_layer, State, figures, successive, by_act, point_at, kind_in}
+use Rattle.rules.specs.Machine.{Line, Home, in_element, in_layer, is_layer, State, figures, successive, point_at, kind_in}
 use Rattle.rules.specs.RecordTable.{kind_point}
 use Rattle.rules.proofs.Chains.{clash}
 use Rattle.tables.specs.Tables.{table_of}
@@ -43,6 +43,7 @@ use Rattle.standing.proofs.Standings.{sight, desk_with, stands_on, known, stands
 use Rattle.standing.proofs.HomeFacts.{home-layered, home-owner, home-volume, home-on, home_stays}
 use Rattle.standing.proofs.FigureSights.{plain-serials}
 use Rattle.standing.proofs.PointEntries.{point-rows, plain-points, point-few, point-put}
+use Rattle.standing.proofs.ClosedActs.{acted}
 
 chain-kind : (h : Home) → chain_kind (is_layer h) ≡ 17 + home_more h
 chain-kind (in_element y) = refl
@@ -112,7 +113,7 @@ module _ (c : Class) (spool : List ℕ) (k : ℕ) (FileHere : Desk → Set → �
     -- nothing but the place in the spool
     on-stay : did ≡ stay → recs₁ ≡ recs₀ → Out (S.Go d.now)
     on-stay a q =
-        goes-still c spool k FileHere own l to st d₁ d.now st (ap (by_act _ _ _ _) a) refl refl refl refl
+        goes-still c spool k FileHere own l to st d₁ d.now st (ap (acted _ _ _ _) a) refl refl refl refl
         (stands-still c spool k FileHere d at to st z later d.tally d.marks d.inner d.header t₁ refl refl refl refl
         (ap (λ (u : List ℤ). take 32 d.scratch ++ u) q ∙ take-append-drop 32 d.scratch))
 
@@ -152,7 +153,7 @@ module _ (c : Class) (spool : List ℕ) (k : ℕ) (FileHere : Desk → Set → �
 
       on-entry : Out (S.Go now)
       on-entry =
-          goes_filling c spool k FileHere own l to st d₁ now st' (ap (by_act _ _ _ _) a) 64 d.now.records (completed-line d.now now 9 64 z.block.0 refl z.block.0 refl)
+          goes_filling c spool k FileHere own l to st d₁ now st' (ap (acted _ _ _ _) a) 64 d.now.records (completed-line d.now now 9 64 z.block.0 refl z.block.0 refl)
           (number_same d.now now own refl) 1 refl refl
           (point-fills c s h fs n ps p d.now.records y.size t₁ (chain-point d.scratch z.lengths.scratch recs₁ parts.long ∙ parts.behind))
           (stands_on c spool k FileHere d at to st st' z now d.marks d.inner (with_part 64 empty_record t₁) (same-sight (kind_in h kind_point) s h fs n ps (ps ++ p ∷ [])) z.lengths.marks z.lengths.inner
@@ -172,7 +173,7 @@ module _ (c : Class) (spool : List ℕ) (k : ℕ) (FileHere : Desk → Set → �
     on-begin i j v a = clash (ap is_begin a) (no-begin (known_of s) rows (digits 0 0) (rows_at_limit (length ps) rows) l.form (plain-points (is_layer h)))
 
     on-refuse : (m : ℕ) → did ≡ refuse m → Out (S.Stop m)
-    on-refuse m a = ap (by_act _ _ _ _) a
+    on-refuse m a = ap (acted _ _ _ _) a
 
     -- its end
     on-shut : did ≡ shut → ltb d.now.points least_points ≡ false → recs₁ ≡ chain_closed d.now recs₀ → Out (S.Go (figure_done d.now))
@@ -184,7 +185,7 @@ module _ (c : Class) (spool : List ℕ) (k : ℕ) (FileHere : Desk → Set → �
         let put : t₁ ≡ with_part 32 closed d.scratch =
         ap (λ (u : List ℤ). take 32 d.scratch ++ u) (q ∙ ap (λ (m : ℕ). set recs₀ 5 (pos m)) inc.points) ∙ counted-own d.scratch (pos (length ps)) z.lengths.scratch in
         let long : length closed ≡ 32 = length-set (part_at 32 d.scratch) 5 (pos (length ps)) ∙ part-long 32 d.scratch (omega (arith, z.lengths.scratch)) in
-        goes_filling c spool k FileHere own l to st d₁ now st' (ap (by_act _ _ _ _) a ∙ ap (λ (t : Bool). unless t 8 (got st')) (le-leb 3 (length ps) many)) 32 (d.now.records - (length ps + 1))
+        goes_filling c spool k FileHere own l to st d₁ now st' (ap (acted _ _ _ _) a ∙ ap (λ (t : Bool). unless t 8 (got st')) (le-leb 3 (length ps) many)) 32 (d.now.records - (length ps + 1))
         (completed-by d.now now 9 8 z.block.0 refl) (number_by d.now now own 9 8 z.block.0 refl ∙ ap (λ (m : ℕ). d.now.records - (m + 1)) inc.points) 0 (omega arith) (omega arith)
         (chain-fills c s h fs n ps d.now.records y.size d.scratch t₁ z.scratch (ap (part_at 32) put ∙ line-there d.scratch closed st long z.scratch))
         (stands_on c spool k FileHere d at to st st' z now d.marks d.inner (with_part 32 empty_record t₁) (closed-sight s h fs n ps) z.lengths.marks z.lengths.inner
@@ -195,7 +196,7 @@ module _ (c : Class) (spool : List ℕ) (k : ℕ) (FileHere : Desk → Set → �
     -- its end, where there are too few points
     on-few : did ≡ shut → ltb d.now.points least_points ≡ true → Out (S.Stop 8)
     on-few a b =
-        ap (by_act _ _ _ _) a
+        ap (acted _ _ _ _) a
         ∙ ap (λ (t : Bool). unless t 8 (got (figures s h (fs ++ chain n ps ∷ [])))) (lt-leb 3 (length ps) (omega (arith, ltb-true d.now.points 3 b, inc.points)))
 
     on-end : did ≡ shut → (b : Bool) → ltb d.now.points least_points ≡ b → (ltb d.now.points least_points ≡ false → recs₁ ≡ chain_closed d.now recs₀)

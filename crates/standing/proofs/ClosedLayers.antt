@@ -7,7 +7,7 @@ use Rattle.rules.specs.Base.{flat, total}
 use Rattle.rules.specs.Rows.{Held, part_of, number_of}
 use Rattle.rules.specs.Blocks.{file_table, range_table, elec_table, sym_table}
 use Rattle.rules.specs.Sets.{Figure, LayerBlock, Contents, Set, first_contents, with_block, elements_of, used_in, with_volume}
-use Rattle.rules.specs.Machine.{in_layer, figures}
+use Rattle.rules.specs.Machine.{in_layer}
 use Rattle.rules.proofs.Chains.{map-append, total-more}
 use Rattle.rules.proofs.Runs.{head-snoc}
 use Rattle.standing.specs.Standing.{home_used, links_with, closed_links, tally_of, links_of_block, links_of_volume, links_in}

@@ -19,7 +19,7 @@ use Rattle.rules.specs.Values.{Known, Value}
 use Rattle.rules.specs.Rows.{Rule, Held, blank, rows_there, Act, stay, entry, begin, shut, refuse, act}
 use Rattle.rules.specs.Blocks.{defines_table, symbol_table}
 use Rattle.rules.specs.Sets.{Symbol, Contents, Set, known_of, define_range, with_records}
-use Rattle.rules.specs.Machine.{Line, State, top, defines, symbol, set_of, by_act, new_name, new_symbol, unlimited}
+use Rattle.rules.specs.Machine.{Line, State, top, defines, symbol, set_of, new_name, new_symbol, unlimited}
 use Rattle.rules.specs.LineByLine.{step_in}
 use Rattle.rules.specs.RecordTable.{rule_at, start, kind_symbol}
 use Rattle.rules.proofs.Chains.{clash}
@@ -48,6 +48,7 @@ use Rattle.standing.proofs.Completing.{completed-by, completed-none, goes_enteri
 use Rattle.standing.proofs.OpenersKept.{symbol-opens}
 use Rattle.standing.proofs.EntriesKept.{stays, non-enters, defines-close}
 use Rattle.standing.proofs.RowOpeners.{begin-row}
+use Rattle.standing.proofs.ClosedActs.{acted}
 
 -- ── what is computed of the tables ──
 defines-rows : table_of 8 ≡ defines_table
@@ -167,11 +168,11 @@ module _ (c : Class) (spool : List ℕ) (k : ℕ) (FileHere : Desk → Set → �
 
     on-stay : did ≡ stay → Same → Out (S.Go d.now)
     on-stay a q =
-        kept st d.now (ap (by_act _ _ _ _) a) (completed-none d.now d.now refl refl) refl refl refl q (stays c st d.scratch z.scratch) refl refl refl z.block
+        kept st d.now (ap (acted _ _ _ _) a) (completed-none d.now d.now refl refl) refl refl refl q (stays c st d.scratch z.scratch) refl refl refl z.block
 
     -- `NON=`
     on-entry : (j : ℕ) (v : Value) → did ≡ entry j v → Same → Out (non_read d.now names_lent)
-    on-entry j v a q = go (is_nil s.symbols) (ap (by_act _ _ _ _) a) none_yet
+    on-entry j v a q = go (is_nil s.symbols) (ap (acted _ _ _ _) a) none_yet
       where
         go : (y : Bool) → step_in (unlimited c) l st ≡ unless y 6 (got (defines s true)) → eqb names_lent 0 ≡ y → Out (non_read d.now names_lent)
         go true p h =
@@ -182,7 +183,7 @@ module _ (c : Class) (spool : List ℕ) (k : ℕ) (FileHere : Desk → Set → �
 
     -- the block closes
     on-shut : did ≡ shut → Same → Out (close_defines d.now names_lent)
-    on-shut a q = go (b || not (is_nil s.symbols)) (ap (by_act _ _ _ _) a) (ap (λ (y : Bool). y || not (eqb names_lent 0)) non ∙ ap (λ (y : Bool). b || not y) none_yet)
+    on-shut a q = go (b || not (is_nil s.symbols)) (ap (acted _ _ _ _) a) (ap (λ (y : Bool). y || not (eqb names_lent 0)) non ∙ ap (λ (y : Bool). b || not y) none_yet)
       where
         go : (y : Bool) → step_in (unlimited c) l st ≡ unless y 8 (got (top s 3)) → (non_in d.now || not (eqb names_lent 0)) ≡ y → Out (close_defines d.now names_lent)
         go true p h =
@@ -192,7 +193,7 @@ module _ (c : Class) (spool : List ℕ) (k : ℕ) (FileHere : Desk → Set → �
         go false p h = subst Out (ap (λ (y : Bool). cond y (S.Go (at_block d.now 0 3)) (S.Stop 8)) (sym h)) p
 
     on-refuse : (m : ℕ) → did ≡ refuse m → Out (S.Stop m)
-    on-refuse m a = ap (by_act _ _ _ _) a
+    on-refuse m a = ap (acted _ _ _ _) a
 
     -- a symbol is begun
     module _ (i j : ℕ) (v : Value) (a : did ≡ begin i j v) where
@@ -214,7 +215,7 @@ module _ (c : Class) (spool : List ℕ) (k : ℕ) (FileHere : Desk → Set → �
       st' = symbol (with_records (kind_symbol ∷ []) s) y₀
 
       step : step_in (unlimited c) l st ≡ unless (not b) 6 (got st')
-      step = ap (by_act _ _ _ _) a
+      step = ap (acted _ _ _ _) a
 
       module _ (q : SymbolBegun names_lent w d.marks m₁ (part_at 0 d.scratch) rec₁) where
         abbrev n : Now

@@ -16,7 +16,7 @@ use Rattle.rules.specs.Values.{Known, Value}
 use Rattle.rules.specs.Rows.{Rule, Held, rows_there, Act, stay, entry, begin, shut, refuse, act}
 use Rattle.rules.specs.Blocks.{drawing_table}
 use Rattle.rules.specs.Sets.{Layer, Drawing, Set, with_own, with_drawing, arc_of, symbol_name_of, known_of}
-use Rattle.rules.specs.Machine.{Line, State, top, drawing, layer_names, by_act}
+use Rattle.rules.specs.Machine.{Line, State, top, drawing, layer_names}
 use Rattle.rules.specs.RecordTable.{rule_at}
 use Rattle.tables.specs.Tables.{table_of}
 use Rattle.entries.specs.Names.{names_in, known_in}
@@ -42,6 +42,7 @@ use Rattle.standing.proofs.Completing.{completed-by, number_by, goes-still, goes
 use Rattle.standing.proofs.EntriesKept.{line_in, drawing-row, names_open}
 use Rattle.standing.proofs.ClosesKept.{drawing-fills}
 use Rattle.standing.proofs.ClearedKept.{drawing-cleared}
+use Rattle.standing.proofs.ClosedActs.{acted}
 
 -- ── what is computed of the table ──
 pub drawing-table : table_of 7 ≡ drawing_table
@@ -96,7 +97,7 @@ module _ (c : Class) (spool : List ℕ) (k : ℕ) (FileHere : Desk → Set → �
     -- nothing but the place in the spool
     on-stay : did ≡ stay → m₁ ≡ d.marks → rec₁ ≡ part_at 0 d.scratch → Out (S.Go d.now)
     on-stay a m q =
-        goes-still c spool k FileHere own l to st desk₁ d.now st (ap (by_act _ _ _ _) a) refl refl refl refl
+        goes-still c spool k FileHere own l to st desk₁ d.now st (ap (acted _ _ _ _) a) refl refl refl refl
         (stands-still c spool k FileHere d at to st z later d.tally m₁ d.inner d.header t₁ refl m refl refl (with-back 0 rec₁ d.scratch q))
 
     -- one of its rows: j, with these numbers
@@ -123,7 +124,7 @@ module _ (c : Class) (spool : List ℕ) (k : ℕ) (FileHere : Desk → Set → �
       on-entry : did ≡ entry j v → Out (S.Go d.now)
       on-entry a =
           let entered : Enters c st (drawing s g') t₁ = subst (Enters c st (drawing s g')) put (drawing-row c s g d.scratch z.scratch j v inw.slots it) in
-          goes-still c spool k FileHere own l to st desk₁ d.now (drawing s g') (ap (by_act _ _ _ _) a) refl refl refl entered.same
+          goes-still c spool k FileHere own l to st desk₁ d.now (drawing s g') (ap (acted _ _ _ _) a) refl refl refl entered.same
           (stands_on c spool k FileHere d at to st (drawing s g') z d.now m₁ d.inner t₁ refl row-marks z.lengths.inner entered.scratch
           (omega (arith, z.counted, later)) (omega (arith, z.named, later)) (omega (arith, z.numbered, later)) (z.block.0, row_in d.now))
 
@@ -132,12 +133,12 @@ module _ (c : Class) (spool : List ℕ) (k : ℕ) (FileHere : Desk → Set → �
       on-begin i a =
           let n : Now = at_block d.now 3 0 in
           let entered : Enters c st (layer_names s g') t₁ = subst (Enters c st (layer_names s g')) put (names_open c s g d.scratch z.scratch j v inw.slots it) in
-          goes_entering c spool k FileHere own l to st desk₁ n (layer_names s g') (ap (by_act _ _ _ _) a) (completed-by d.now n 2 3 z.block.0 refl) refl refl entered.same
+          goes_entering c spool k FileHere own l to st desk₁ n (layer_names s g') (ap (acted _ _ _ _) a) (completed-by d.now n 2 3 z.block.0 refl) refl refl entered.same
           (stands_on c spool k FileHere d at to st (layer_names s g') z n m₁ d.inner t₁ refl row-marks z.lengths.inner entered.scratch
           (omega (arith, z.counted, later)) (omega (arith, z.named, later)) (omega (arith, z.numbered, later)) (refl, row_in n))
 
     on-refuse : (m : ℕ) → did ≡ refuse m → Out (S.Stop m)
-    on-refuse m a = ap (by_act _ _ _ _) a
+    on-refuse m a = ap (acted _ _ _ _) a
 
     -- its end: its record is complete
     on-shut : did ≡ shut → m₁ ≡ d.marks → rec₁ ≡ part_at 0 d.scratch → Out (S.Go (at_block d.now 0 2))
@@ -147,7 +148,7 @@ module _ (c : Class) (spool : List ℕ) (k : ℕ) (FileHere : Desk → Set → �
         let same : Scratch t₁ st = subst (λ (t : List ℤ). Scratch t st) (sym (with-back 0 rec₁ d.scratch q)) z.scratch in
         let t₂ : List ℤ = with_part 0 empty_record t₁ in
         let cleared : Scratch t₂ st' = drawing-cleared s g t₁ same in
-        goes_filling c spool k FileHere own l to st desk₁ n st' (ap (by_act _ _ _ _) a) 0 own (completed-by d.now n 2 0 z.block.0 refl) (number_by d.now n own 2 0 z.block.0 refl)
+        goes_filling c spool k FileHere own l to st desk₁ n st' (ap (acted _ _ _ _) a) 0 own (completed-by d.now n 2 0 z.block.0 refl) (number_by d.now n own 2 0 z.block.0 refl)
         0 (omega arith) (omega arith) (drawing-fills c s g own t₁ same y.own)
         (record {
           lengths = lengths-kept d n d.tally m₁ d.inner d.header t₂ z.lengths (ap length m ∙ z.lengths.marks) z.lengths.inner z.lengths.header (scratch-long t₂ st' cleared);

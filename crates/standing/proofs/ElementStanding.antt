@@ -17,7 +17,7 @@ use Rattle.rules.specs.Rows.{Rule, Held, rows_at_limit, Act, stay, entry, begin,
 use Rattle.rules.specs.Blocks.{element_table}
 use Rattle.rules.specs.Sets.{Layer, Set, with_volume, known_of, elements_of, used_in}
 use Rattle.rules.specs.VolumesAndTotals.{counted_here}
-use Rattle.rules.specs.Machine.{Line, in_layer, State, top, elements, figures, by_act}
+use Rattle.rules.specs.Machine.{Line, in_layer, State, top, elements, figures}
 use Rattle.rules.proofs.Chains.{clash, nil-snoc, total-more}
 use Rattle.tables.specs.Tables.{table_of}
 use Rattle.entries.specs.Names.{known_in}
@@ -37,6 +37,7 @@ use Rattle.standing.proofs.OpenersKept.{layer-opens}
 use Rattle.standing.proofs.EntriesKept.{elements-close}
 use Rattle.standing.proofs.UsedLayers.{element-rows, element-full, element-opens, layer-known, used-more}
 use Rattle.standing.proofs.ClosedLayers.{closed-serials, closed-tally, closed-used}
+use Rattle.standing.proofs.ClosedActs.{acted}
 
 -- the act that the code goes by
 abbrev pub element_act : List ℕ → Desk → LineForm → Act
@@ -83,7 +84,7 @@ module _ (c : Class) (spool : List ℕ) (k : ℕ) (FileHere : Desk → Set → �
   -- ── nothing but the place in the spool ──
   on-stay : did ≡ stay → OutOf d.tally d.used d.used_all (S.Go d.now)
   on-stay a =
-      goes-still c spool k FileHere own l to st (element_desk d d.tally d.used d.used_all) d.now st (ap (by_act _ _ _ _) a) refl refl refl refl
+      goes-still c spool k FileHere own l to st (element_desk d d.tally d.used d.used_all) d.now st (ap (acted _ _ _ _) a) refl refl refl refl
       (stands-still c spool k FileHere d at to st z later d.tally d.marks d.inner d.header d.scratch refl refl refl refl refl)
 
   -- ── a layer opens ──
@@ -109,7 +110,7 @@ module _ (c : Class) (spool : List ℕ) (k : ℕ) (FileHere : Desk → Set → �
 
     -- "14: layer used twice"
     on-twice : get_or d.used m false ≡ true → (t : List ℕ) (us all : List Bool) → OutOf t us all (S.Stop 14)
-    on-twice b t us all = ap (by_act _ _ _ _) a ∙ ap (λ (y : Bool). unless (not y) 14 (got st')) (sym known-used ∙ b)
+    on-twice b t us all = ap (acted _ _ _ _) a ∙ ap (λ (y : Bool). unless (not y) 14 (got st')) (sym known-used ∙ b)
 
     on-begin : get_or d.used m false ≡ false → OutOf d.tally (set d.used m true) (set d.used_all m true) (S.Go (layer_opened d.now m))
     on-begin b =
@@ -117,7 +118,7 @@ module _ (c : Class) (spool : List ℕ) (k : ℕ) (FileHere : Desk → Set → �
         let opened : Enters c st st' d.scratch = layer-opens c s m d.scratch z.scratch in
         let now : Now = layer_opened d.now m in
         goes_entering c spool k FileHere own l to st (element_desk d d.tally (set d.used m true) (set d.used_all m true)) now st'
-        (ap (by_act _ _ _ _) a ∙ ap (λ (y : Bool). unless (not y) 14 (got st')) (sym known-used ∙ b)) (completed-by d.now now 7 8 z.block.0 refl) refl refl opened.same
+        (ap (acted _ _ _ _) a ∙ ap (λ (y : Bool). unless (not y) 14 (got st')) (sym known-used ∙ b)) (completed-by d.now now 7 8 z.block.0 refl) refl refl opened.same
         (record {
           lengths = record {
             symbols = z.lengths.symbols;
@@ -158,7 +159,7 @@ module _ (c : Class) (spool : List ℕ) (k : ℕ) (FileHere : Desk → Set → �
 
     -- "17: this_ele at ELEMENT's close"
     on_miscounted : agrees d.tally ≡ false → (t : List ℕ) (us all : List Bool) → OutOf t us all (S.Stop 17)
-    on_miscounted b t us all = ap (by_act _ _ _ _) a ∙ ap (λ (y : Bool). unless y 17 (got st'')) (sym agrees-here ∙ b)
+    on_miscounted b t us all = ap (acted _ _ _ _) a ∙ ap (λ (y : Bool). unless y 17 (got st'')) (sym agrees-here ∙ b)
 
     on-shut : agrees d.tally ≡ true → OutOf (set d.tally 8 (get_or d.tally 8 0 + get_or d.tally 7 0)) d.used d.used_all (S.Go (at_block d.now 0 4))
     on-shut b =
@@ -166,7 +167,7 @@ module _ (c : Class) (spool : List ℕ) (k : ℕ) (FileHere : Desk → Set → �
         let closed : Enters c st st'' d.scratch = elements-close c s d.scratch z.scratch in
         let tally : List ℕ = set d.tally 8 (get_or d.tally 8 0 + get_or d.tally 7 0) in
         let now : Now = at_block d.now 0 4 in
-        goes_entering c spool k FileHere own l to st (element_desk d tally d.used d.used_all) now st'' (ap (by_act _ _ _ _) a ∙ ap (λ (y : Bool). unless y 17 (got st'')) (sym agrees-here ∙ b))
+        goes_entering c spool k FileHere own l to st (element_desk d tally d.used d.used_all) now st'' (ap (acted _ _ _ _) a ∙ ap (λ (y : Bool). unless y 17 (got st'')) (sym agrees-here ∙ b))
         (completed-by d.now now 7 0 z.block.0 refl) refl refl closed.same
         (record {
           lengths = lengths-kept d now tally d.marks d.inner d.header d.scratch z.lengths z.lengths.marks z.lengths.inner z.lengths.header z.lengths.scratch;
@@ -213,7 +214,7 @@ module _ (c : Class) (spool : List ℕ) (k : ℕ) (FileHere : Desk → Set → �
     by-act (entry j v) a p q o = clash (ap is_entry a) (no-entry (known_of s) element_table (digits 0 0) (rows_at_limit 0 element_table) l.form element-opens)
     by-act (begin i j v) a p q o = by_use i j v a (get_or d.used (amount_at v 0) false) refl p q o
     by-act shut a p q o = by_count a (agrees d.tally) refl p q o
-    by-act (refuse n) a p q o = ap (by_act _ _ _ _) a
+    by-act (refuse n) a p q o = ap (acted _ _ _ _) a
 
     pub element-line : (r : Step) → ElementLine (element_act spool d form) d.now d.tally t₁ d.used u₁ d.used_all a₁ r → Out r
     element-line r y =

@@ -21,7 +21,7 @@ use Rattle.rules.specs.Blocks.{blank_held}
 use Rattle.rules.specs.Figures.{text_table, placed_tables}
 use Rattle.rules.specs.Sets.{Figure, plain, Symbol, Set, symbol_range, wire_range, range_of, known_of, with_records, symbol_figures, used_in}
 use Rattle.rules.specs.Machine as M
-use Rattle.rules.specs.Machine.{Line, Home, in_element, in_layer, is_layer, State, symbol, elements, figures, successive, texts, placing, by_act}
+use Rattle.rules.specs.Machine.{Line, Home, in_element, in_layer, is_layer, State, symbol, elements, figures, successive, texts, placing}
 use Rattle.rules.specs.RecordTable.{numbers, rule_at, start, kind_line, kind_successive, kind_text, kind_placed, kind_wire, kind_wire_more, wire_start}
 use Rattle.rules.specs.Machine.{symbol_block, kind_in, no_wire, begin_wire, set_of, unlimited}
 use Rattle.rules.specs.LineByLine.{step_in}
@@ -66,6 +66,7 @@ use Rattle.standing.proofs.Marks.{marks-length}
 use Rattle.standing.proofs.HeadRecords.{line-put}
 use Rattle.standing.proofs.BegunFigures.{plain_sight, chain-sight, text-sight, placed-sight, chain-kind, text-kind, empty-line, two-unmarked, two-slots, unmarked, blank-shaped, placed-bytes, wire-unmarked, wire-blank, wire-bytes}
 use Rattle.standing.proofs.ClosedLayers.{with_closed, serials-closed, used-closed, elements-closed, tally-closed}
+use Rattle.standing.proofs.ClosedActs.{acted}
 
 or-second : (a b : Bool) → a ≡ false → (a || b) ≡ true → b ≡ true
 or-second true b q e = clash refl q
@@ -151,11 +152,11 @@ module _ (c : Class) (spool : List ℕ) (k : ℕ) (FileHere : Desk → Set → �
       -- nothing but the place in the spool
       on-stay : did ≡ stay → rec₁ ≡ rec₀ → m₁ ≡ d.marks → i₁ ≡ d.inner → Out (S.Go d.now)
       on-stay a q qm qi =
-          goes-still c spool k FileHere own l to st (desk_with d d.now m₁ i₁ t₁) d.now st (ap (by_act _ _ _ _) a) refl refl refl refl
+          goes-still c spool k FileHere own l to st (desk_with d d.now m₁ i₁ t₁) d.now st (ap (acted _ _ _ _) a) refl refl refl refl
           (stands-still c spool k FileHere d at to st z later d.tally m₁ i₁ d.header t₁ refl qm qi refl (with-back 32 rec₁ d.scratch q))
 
       on-refuse : (m : ℕ) → did ≡ refuse m → Out (S.Stop m)
-      on-refuse m a = ap (by_act _ _ _ _) a
+      on-refuse m a = ap (acted _ _ _ _) a
 
       -- ── the lent record, zeros before ──
       abbrev heading : ℕ → List ℤ
@@ -216,7 +217,7 @@ module _ (c : Class) (spool : List ℕ) (k : ℕ) (FileHere : Desk → Set → �
             ap length p ∙ length-sets (put_line (rule_at rows j) 0 (nums (nums_of v)) empty_record) 0 (heading (line_kind (is_layer h) j)) ∙ length-line (rule_at rows j) 0 (nums (nums_of v)) empty_record in
             let there : part_at 32 t₁ ≡ rec₁ = line-there d.scratch rec₁ st long z.scratch in
             with-marks n qm qi
-            (goes_filling c spool k FileHere own l to st (desk_with d d.now d.marks d.inner t₁) n st' (ap (by_act _ _ _ _) a) 32 d.now.records
+            (goes_filling c spool k FileHere own l to st (desk_with d d.now d.marks d.inner t₁) n st' (ap (acted _ _ _ _) a) 32 d.now.records
             (completed-line d.now n 8 32 z.block.0 refl z.block.0 refl) (number_same d.now n own refl) 1 refl refl
             (line-fills c s kind h fs now-plain d.now.records count.size t₁ (ap length there ∙ long) (sym made-is ∙ ap (λ (r : List ℤ). r ∷ []) (sym (there ∙ p))))
             (stands_on c spool k FileHere d at to st st' z n d.marks d.inner (with_part 32 empty_record t₁) (plain_sight kind s h fs l.line j (nums_of v)) z.lengths.marks z.lengths.inner
@@ -272,8 +273,8 @@ module _ (c : Class) (spool : List ℕ) (k : ℕ) (FileHere : Desk → Set → �
             (or-second (not (eqb (inner_of q.holds) i)) (eqb (length q.key) n) (ap not (eq-eqb (inner_of q.holds) i (sym begun.0))) (row-all (opens_key i n) opened.row e))
 
       -- its head on the scratch
-      on_scratch : (st' : State) (made : List ℤ) → rec₁ ≡ made → Scratch (with_part 32 made d.scratch) st' → Scratch t₁ st'
-      on_scratch st' made q o = subst (λ (r : List ℤ). Scratch (with_part 32 r d.scratch) st') (sym q) o
+      on_scratch : (st' : State) (rec : List ℤ) → rec₁ ≡ rec → Scratch (with_part 32 rec d.scratch) st' → Scratch t₁ st'
+      on_scratch st' rec q o = subst (λ (r : List ℤ). Scratch (with_part 32 r d.scratch) st') (sym q) o
 
       -- `successive`
       on_chain : (j : ℕ) (v : Value) → did ≡ begin 1 j v → rec₁ ≡ record_made (block_kind d.now.layered 1) d.now w (home_rule d.now.layered range wires j) v rec₀
@@ -285,7 +286,7 @@ module _ (c : Class) (spool : List ℕ) (k : ℕ) (FileHere : Desk → Set → �
           let head : List ℤ = head_of s h kind_successive l.line in
           let o : Begins c st st' 1 (with_part 32 head d.scratch) = chain-opens c s h fs l.line d.scratch z.scratch in
           with-marks n qm qi
-          (goes-opening c spool k FileHere own l to st (desk_with d d.now d.marks d.inner t₁) n st' (ap (by_act _ _ _ _) a) (completed-by d.now n 8 9 z.block.0 refl) 1 refl refl o.opens
+          (goes-opening c spool k FileHere own l to st (desk_with d d.now d.marks d.inner t₁) n st' (ap (acted _ _ _ _) a) (completed-by d.now n 8 9 z.block.0 refl) 1 refl refl o.opens
           (stands_on c spool k FileHere d at to st st' z n d.marks d.inner t₁ (chain-sight kind s h fs l.line) z.lengths.marks z.lengths.inner
           (on_scratch st' head (put-begun 1 j v a (14 + home_more h) (chain-kind h) q) o.scratch)
           (omega (arith, z.counted, later)) (omega (arith, z.named, later)) (omega (arith, z.numbered, later))
@@ -303,7 +304,7 @@ module _ (c : Class) (spool : List ℕ) (k : ℕ) (FileHere : Desk → Set → �
           let o : Begins c st st' 1 (with_part 32 head d.scratch) = text-opens c s h fs l.line d.scratch z.scratch in
           let i : i₁ ≡ rows_there slots = qi ∙ two-unmarked (is_layer h) d.inner z.lengths.inner in
           subst (λ (y : List Bool). Lent y i₁ (S.Go n)) (sym qm)
-          (goes-opening c spool k FileHere own l to st (desk_with d d.now d.marks i₁ t₁) n st' (ap (by_act _ _ _ _) a) (completed-by d.now n 8 10 z.block.0 refl) 1 refl refl o.opens
+          (goes-opening c spool k FileHere own l to st (desk_with d d.now d.marks i₁ t₁) n st' (ap (acted _ _ _ _) a) (completed-by d.now n 8 10 z.block.0 refl) 1 refl refl o.opens
           (stands_on c spool k FileHere d at to st st' z n d.marks i₁ t₁ (text-sight kind s h fs l.line) z.lengths.marks (ap length i ∙ marks-length slots ∙ two-slots (is_layer h))
           (on_scratch st' head (put-begun 2 j v a (15 + home_more h) (text-kind h) q) o.scratch)
           (omega (arith, z.counted, later)) (omega (arith, z.named, later)) (omega (arith, z.numbered, later))
@@ -327,7 +328,7 @@ module _ (c : Class) (spool : List ℕ) (k : ℕ) (FileHere : Desk → Set → �
         let head : List ℤ = start kind_placed m (home_volume s h) l.line in
         let o : Begins c (figures s h fs) st' 1 (with_part 32 head d.scratch) = placed-opens c s m fs l.line d.scratch z.scratch in
         subst (λ (y : List Bool). StepOut c spool k FileHere own l to (figures s h fs) (desk_with d d.now m₁ y t) (S.Go n)) (sym qi)
-        (goes-opening c spool k FileHere own l to (figures s h fs) (desk_with d d.now m₁ d.inner t) n st' (ap (by_act _ _ _ _) a) (completed-by d.now n 8 11 z.block.0 refl) 1 refl refl o.opens
+        (goes-opening c spool k FileHere own l to (figures s h fs) (desk_with d d.now m₁ d.inner t) n st' (ap (acted _ _ _ _) a) (completed-by d.now n 8 11 z.block.0 refl) 1 refl refl o.opens
         (stands_on c spool k FileHere d at to (figures s h fs) st' z n m₁ d.inner t (placed-sight kind_placed s m fs l.line) (ap length qm ∙ length-replicate (length d.marks) false ∙ z.lengths.marks) z.lengths.inner
         (on_scratch h z m₁ i₁ rec₁ st' head (put-begun h z m₁ i₁ rec₁ 3 j v a 16 refl q) o.scratch)
         (omega (arith, z.counted, later)) (omega (arith, z.named, later))
@@ -385,7 +386,7 @@ module _ (c : Class) (spool : List ℕ) (k : ℕ) (FileHere : Desk → Set → �
           (S.Go (cond b opened-now (at_block opened-now 12 2)))
 
       step_is : (b : Bool) → knows_wires c ≡ b → step_in (unlimited c) l (figures s h fs) ≡ got (begin_wire b (with_records ks s) m fs l.line)
-      step_is b e = ap (by_act _ _ _ _) a ∙ ap (λ (y : Bool). got (begin_wire y (with_records ks s) m fs l.line)) e
+      step_is b e = ap (acted _ _ _ _) a ∙ ap (λ (y : Bool). got (begin_wire y (with_records ks s) m fs l.line)) e
 
       wire-home : (n' : Now) → n'.layered ≡ d.now.layered → n'.owner ≡ d.now.owner → InHome spool k n' m₁ i₁ (with_records ks s) h
       wire-home n' a b = home-on spool k d.now n' d.marks d.inner i₁ s ks h a b z.block.1
@@ -423,7 +424,7 @@ module _ (c : Class) (spool : List ℕ) (k : ℕ) (FileHere : Desk → Set → �
         let st' : State = elements (with_closed s m fs) in
         let back : t ≡ d.scratch = with-back 32 rec₁ d.scratch q in
         let ends : Enters c (figures s h fs) st' d.scratch = layer-close c s m fs d.scratch z.scratch in
-        goes_entering c spool k FileHere own l to (figures s h fs) (desk_lent d tally₁ m₁ i₁ t) n st' (ap (by_act _ _ _ _) a) (completed-by d.now n 8 7 z.block.0 refl) refl refl ends.same
+        goes_entering c spool k FileHere own l to (figures s h fs) (desk_lent d tally₁ m₁ i₁ t) n st' (ap (acted _ _ _ _) a) (completed-by d.now n 8 7 z.block.0 refl) refl refl ends.same
         (record {
           lengths =
               lengths-kept d n tally₁ m₁ i₁ d.header t z.lengths (ap length qm ∙ z.lengths.marks) (ap length qi ∙ z.lengths.inner) z.lengths.header (ap length back ∙ z.lengths.scratch);
@@ -457,7 +458,7 @@ module _ (c : Class) (spool : List ℕ) (k : ℕ) (FileHere : Desk → Set → �
         let bytes : ℕ → Bool → ℕ = λ m b. cond (not b) m 0 in
         let ends : Enters c st st' d.scratch = element-close c s y d.scratch fs z.block.1.2 z.block.1.3 z.scratch in
         with-marks (in_element y) z m₁ i₁ rec₁ n qm qi
-        (goes_entering c spool k FileHere own l to st (desk_with d d.now d.marks d.inner t) n st' (ap (by_act _ _ _ _) a ∙ ap (λ (o : Bool). unless (not o) 8 (got st')) some-figure)
+        (goes_entering c spool k FileHere own l to st (desk_with d d.now d.marks d.inner t) n st' (ap (acted _ _ _ _) a ∙ ap (λ (o : Bool). unless (not o) 8 (got st')) some-figure)
         (completed-by d.now n 8 5 z.block.0 refl) refl refl ends.same
         (stands_on c spool k FileHere d at to st st' z n d.marks d.inner t refl z.lengths.marks z.lengths.inner
         (subst (λ (u : List ℤ). Scratch u st') (sym (with-back 32 rec₁ d.scratch q)) ends.scratch)
@@ -478,7 +479,7 @@ module _ (c : Class) (spool : List ℕ) (k : ℕ) (FileHere : Desk → Set → �
 
     -- "`element` (one or more figures)"
     on-element-empty : did (in_element y) z ≡ shut → is_nil fs ≡ true → Out (in_element y) z m₁ i₁ rec₁ (S.Stop 8)
-    on-element-empty a no-figure = ap (by_act _ _ _ _) a ∙ ap (λ (o : Bool). unless (not o) 8 (got (symbol s (symbol_figures fs y)))) no-figure
+    on-element-empty a no-figure = ap (acted _ _ _ _) a ∙ ap (λ (o : Bool). unless (not o) 8 (got (symbol s (symbol_figures fs y)))) no-figure
 
   -- ── the line ──
   module _ (h : Home) (z : Stands c spool k d (FileHere d) at (figures s h fs)) (m₁ i₁ : List Bool) (rec₁ : List ℤ) where

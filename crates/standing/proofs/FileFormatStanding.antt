@@ -17,7 +17,7 @@ use Rattle.rules.specs.Values.{Known, Value, range_of_wires, day, clock, nothing
 use Rattle.rules.specs.Rows.{Rule, Held, part_of, enter, rows_there, Act, stay, entry, begin, shut, refuse, act}
 use Rattle.rules.specs.Blocks.{around, file_tables}
 use Rattle.rules.specs.Sets.{Contents, Set, is_first, known_of}
-use Rattle.rules.specs.Machine.{Line, State, top, file, by_act, close_file, shut_part, unlimited}
+use Rattle.rules.specs.Machine.{Line, State, top, file, close_file, shut_part, unlimited}
 use Rattle.rules.specs.LineByLine.{step_in}
 use Rattle.rules.specs.RecordTable.{columns, put_held, rule_at}
 use Rattle.rules.proofs.Chains.{clash}
@@ -49,6 +49,7 @@ use Rattle.standing.proofs.FilePartMarks.{file-table, part-number}
 use Rattle.standing.proofs.FileEntries.{name-value, name-closed, one-numbers, one_number}
 use Rattle.standing.proofs.FileEntered.{name-kind, date-kind, time-kind, wires-kind, plain-elec, plain-later, kept_open, part_moved, row-entered}
 use Rattle.standing.proofs.FileClosing.{file_desk, agree-is, closed-first, closed-later}
+use Rattle.standing.proofs.ClosedActs.{acted}
 
 module _ (c : Class) (spool : List ℕ) (k : ℕ) (d : Desk) (at to own : ℕ) (l : Line) (w : Where) (form : LineForm)
     (x : LineHere spool k at to form w l) (following : List ℕ) (nx : l.next ≡ following) (pf : PlacedForm l.form) (s : Set) (n : ℕ) (h : Held) (p : ℕ)
@@ -133,11 +134,11 @@ module _ (c : Class) (spool : List ℕ) (k : ℕ) (d : Desk) (at to own : ℕ) (
     -- nothing but the place in the spool
     on-stay : did ≡ stay → tally₁ ≡ d.tally → m₁ ≡ d.marks → h₁ ≡ d.header → Out (S.Go d.now)
     on-stay a et em eh =
-        goes-still c spool k (InFile spool k) own l to st desk₁ d.now st (ap (by_act _ _ _ _) a) refl refl refl refl
+        goes-still c spool k (InFile spool k) own l to st desk₁ d.now st (ap (acted _ _ _ _) a) refl refl refl refl
         (stands-still c spool k (InFile spool k) d at to st z later tally₁ m₁ d.inner h₁ d.scratch et em refl eh refl)
 
     on-refuse : (m : ℕ) → did ≡ refuse m → Out (S.Stop m)
-    on-refuse m a = ap (by_act _ _ _ _) a
+    on-refuse m a = ap (acted _ _ _ _) a
 
     -- ── a row ──
     module _ (j : ℕ) (v : Value) (a : did ≡ entry j v) (et : tally₁ ≡ d.tally) (em : m₁ ≡ set d.marks (marks_from p + j) true)
@@ -153,7 +154,7 @@ module _ (c : Class) (spool : List ℕ) (k : ℕ) (d : Desk) (at to own : ℕ) (
 
       on-entry : Out (S.Go d.now)
       on-entry =
-          stays d.now (enter h p j v) p (ap (by_act _ _ _ _) a) et (ap length em ∙ length-set d.marks (marks_from p + j) true ∙ z.lengths.marks) after.0.long refl z.block.0
+          stays d.now (enter h p j v) p (ap (acted _ _ _ _) a) et (ap length em ∙ length-set d.marks (marks_from p + j) true ∙ z.lengths.marks) after.0.long refl z.block.0
           (row-entered spool k d s n h p f tally₁ m₁ h₁ d.now j v (entry-taken (known_of s) rows (digits 0 0) (rows_there (part_of h p)) l.form j v a) (subst Holds a holds) em
           (eh ∙ ap (λ (t : List Rule). kept_in first p j (put_line (rule_at t j) 64 v d.header)) table_is) after.0
           (λ q r. name-value spool form (known_of s) rows (digits 0 0) (rows_there (part_of h p)) l.form j v x.is from (ap (λ (y : Rule). y.holds) (sym the_row) ∙ name-kind first p j q r))
@@ -188,7 +189,7 @@ module _ (c : Class) (spool : List ℕ) (k : ℕ) (d : Desk) (at to own : ℕ) (
 
       on-begin : Out (S.Go (at_block d.now 1 i))
       on-begin =
-          stays (at_block d.now 1 i) (enter h p j v) i (ap (by_act _ _ _ _) a) et (ap length em ∙ length-set d.marks (marks_from p + j) true ∙ z.lengths.marks) opened.0.long refl refl
+          stays (at_block d.now 1 i) (enter h p j v) i (ap (acted _ _ _ _) a) et (ap length em ∙ length-set d.marks (marks_from p + j) true ∙ z.lengths.marks) opened.0.long refl refl
           (row-entered spool k d s n h p f tally₁ m₁ h₁ (at_block d.now 1 i) j v (begin-taken (known_of s) rows (digits 0 0) (rows_there (part_of h p)) l.form i j v a) (subst Holds a holds).0 em
           (eh ∙ ap (λ (t : List Rule). put_line (rule_at t j) 64 v d.header) table_is ∙ sym (kept_open first p j (put_line (rule_at rows j) 64 v d.header) not-later not-name not-elec)) opened.0
           (λ q r. absurd (not-name q r)) (λ b r. absurd (not-later b)) (λ b r. absurd (not-later b)) (λ q r. absurd (not-elec q))
@@ -197,7 +198,7 @@ module _ (c : Class) (spool : List ℕ) (k : ℕ) (d : Desk) (at to own : ℕ) (
     -- ── an end ──
     module _ (a : did ≡ shut) (em : m₁ ≡ d.marks) (eh : h₁ ≡ d.header) where
       shut-step : step_in (unlimited c) l st ≡ shut_part p (close_file l s n h) (λ q. file s n h q)
-      shut-step = ap (by_act _ _ _ _) a
+      shut-step = ap (acted _ _ _ _) a
 
       -- of an inner part
       on-back : (q : ℕ) → p ≡ suc q → tally₁ ≡ d.tally → Out (S.Go (at_block d.now 1 (around p)))

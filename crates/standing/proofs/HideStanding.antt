@@ -14,7 +14,7 @@ use Rattle.rules.specs.Values.{Known, Value}
 use Rattle.rules.specs.Rows.{Rule, Held, rows_at_limit, Act, stay, entry, begin, shut, refuse, act}
 use Rattle.rules.specs.Figures.{point_table}
 use Rattle.rules.specs.Sets.{Point, Symbol, Set, known_of, with_records, symbol_hidden}
-use Rattle.rules.specs.Machine.{Line, State, symbol, hide, by_act, point_at}
+use Rattle.rules.specs.Machine.{Line, State, symbol, hide, point_at}
 use Rattle.rules.specs.RecordTable.{kind_hidden}
 use Rattle.rules.proofs.Chains.{clash}
 use Rattle.tables.specs.Tables.{table_of}
@@ -38,6 +38,7 @@ use Rattle.standing.proofs.ClearedKept.{line-there, hidden-cleared}
 use Rattle.standing.proofs.Standings.{desk_with, stands_on, known, stands-still}
 use Rattle.standing.proofs.HomeFacts.{symbol-on}
 use Rattle.standing.proofs.PointEntries.{point-rows, plain-points, point-few, point-put}
+use Rattle.standing.proofs.ClosedActs.{acted}
 
 module _ (c : Class) (spool : List ℕ) (k : ℕ) (FileHere : Desk → Set → ℕ → Held → ℕ → Type 0) (d : Desk) (at to own : ℕ) (l : Line) (w : Where) (form : LineForm)
     (x : LineHere spool k at to form w l) (s : Set) (v : Symbol) (ps : List Point) (z : Stands c spool k d (FileHere d) at (hide s v ps)) (y : Counted c own d (hide s v ps)) where
@@ -84,7 +85,7 @@ module _ (c : Class) (spool : List ℕ) (k : ℕ) (FileHere : Desk → Set → �
     -- nothing but the place in the spool
     on-stay : did ≡ stay → rec₁ ≡ part_at 32 d.scratch → Out (S.Go d.now)
     on-stay a q =
-        goes-still c spool k FileHere own l to st d₁ d.now st (ap (by_act _ _ _ _) a) refl refl refl refl
+        goes-still c spool k FileHere own l to st d₁ d.now st (ap (acted _ _ _ _) a) refl refl refl refl
         (stands-still c spool k FileHere d at to st z later d.tally d.marks d.inner d.header t₁ refl refl refl refl (with-back 32 rec₁ d.scratch q))
 
     -- one more point
@@ -108,7 +109,7 @@ module _ (c : Class) (spool : List ℕ) (k : ℕ) (FileHere : Desk → Set → �
 
       on-entry : Out (S.Go n)
       on-entry =
-          goes_filling c spool k FileHere own l to st d₁ n st' (ap (by_act _ _ _ _) a) 32 d.now.records (completed-line d.now n 6 32 z.block.0 refl z.block.0 refl)
+          goes_filling c spool k FileHere own l to st d₁ n st' (ap (acted _ _ _ _) a) 32 d.now.records (completed-line d.now n 6 32 z.block.0 refl z.block.0 refl)
           (number_same d.now n own refl) 1 refl refl (hidden-fills c s v ps point d.now.records y.size t₁ (line-there d.scratch rec₁ st long z.scratch ∙ made))
           (stands_on c spool k FileHere d at to st st' z n d.marks d.inner (with_part 32 empty_record t₁) refl z.lengths.marks z.lengths.inner
           (hidden-cleared s (kind_hidden ∷ []) v ps (ps ++ point ∷ []) d.scratch rec₁ long z.scratch)
@@ -129,7 +130,7 @@ module _ (c : Class) (spool : List ℕ) (k : ℕ) (FileHere : Desk → Set → �
     on-begin i j p a = clash (ap is_begin a) (no-begin (known_of s) rows (digits 0 0) (rows_at_limit (length ps) rows) l.form (plain-points false))
 
     on-refuse : (m : ℕ) → did ≡ refuse m → Out (S.Stop m)
-    on-refuse m a = ap (by_act _ _ _ _) a
+    on-refuse m a = ap (acted _ _ _ _) a
 
     -- its end: the symbol is open again
     abbrev closed : Symbol
@@ -156,7 +157,7 @@ module _ (c : Class) (spool : List ℕ) (k : ℕ) (FileHere : Desk → Set → �
         let bytes : ℕ → Bool → ℕ = λ m b. cond (not b) m 0 in
         let n : Now = at_block d.now 5 0 in
         let ends : Enters c st (symbol s closed) d.scratch = hide-close c s v d.scratch ps inh.hidden inh.shown z.scratch in
-        goes_entering c spool k FileHere own l to st d₁ n (symbol s closed) (ap (by_act _ _ _ _) a) (completed-by d.now n 6 5 z.block.0 refl) refl refl ends.same
+        goes_entering c spool k FileHere own l to st d₁ n (symbol s closed) (ap (acted _ _ _ _) a) (completed-by d.now n 6 5 z.block.0 refl) refl refl ends.same
         (stands_on c spool k FileHere d at to st (symbol s closed) z n d.marks d.inner t₁ refl z.lengths.marks z.lengths.inner
         (subst (λ (t : List ℤ). Scratch t (symbol s closed)) (sym (with-back 32 rec₁ d.scratch q)) ends.scratch)
         (omega (arith, z.counted, later)) (omega (arith, z.named, x.bytes, f, ap (bytes 8) inh.entered, ap (bytes 11) inh.entered)) (omega (arith, z.numbered, later)) (refl, in-closed))

@@ -1,3 +1,4 @@
+pub mod ClosedActs
 pub mod Puts
 pub mod Openers
 pub mod Marks

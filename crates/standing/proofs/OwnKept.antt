@@ -25,10 +25,11 @@ use Rattle.rules.specs.RecordTable.{kind_line, kind_successive, kind_text, kind_
 use Rattle.rules.specs.PlacedSymbol.{on_unknown, new_serial, on_placed, on_placed_key, on_placing, skip_shut, on_skipping}
 use Rattle.rules.specs.LineByLine.{step_in}
 use Rattle.rules.specs.Wires.{joins_ends, last_edge, joined, is_element_row, nums_alike, new_number, wire_full, on_wire_act, on_wire_unknown, on_wire_key, on_wire}
-use Rattle.rules.proofs.OnActs.{on-by_act, on-shut, on_skip}
+use Rattle.rules.proofs.OnActs.{on-shut, on_skip}
 use Rattle.rules.proofs.Chains.{On, on-unless, on-cond, on_then, on-got}
 use Rattle.standing.specs.Kept.{shut_so_far, HomeOwnAt, OwnAt, own_behind}
 use Rattle.standing.proofs.MoreRecords.{closed-taken}
+use Rattle.standing.proofs.ClosedActs.{on-by_act}
 
 -- ── line by line ──
 module _ (c : Class) (e : Env) (l : Line) (records : ℕ) where

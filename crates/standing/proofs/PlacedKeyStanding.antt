@@ -23,7 +23,7 @@ use Rattle.rules.specs.Values.{serials_of as numbers_of}
 use Rattle.rules.specs.Rows.{Rule, found, find, Slots, Held, part_of, enter, rows_there, slot_value, shape_for, inner_of, Act, stay, entry, begin, shut, refuse, act_row, act_found, act}
 use Rattle.rules.specs.Figures.{placed_table, placed_tables}
 use Rattle.rules.specs.Sets.{Figure, own_serial, Set, range_of, known_of}
-use Rattle.rules.specs.Machine.{Line, in_layer, State, placing, by_act, symbol_block, unlimited}
+use Rattle.rules.specs.Machine.{Line, in_layer, State, placing, symbol_block, unlimited}
 use Rattle.rules.specs.PlacedSymbol.{none_of, numbers_so_far, new_serial, on_placed}
 use Rattle.rules.specs.LineByLine.{step_in}
 use Rattle.rules.specs.RecordTable.{rule_at}
@@ -59,6 +59,7 @@ use Rattle.standing.proofs.PlacedTables.{lent_of, lent_desk, record-kept, record
 use Rattle.standing.proofs.OwnLines.{was-none}
 use Rattle.standing.proofs.HeldParts.{shaped-enter, enter-own, enter-other}
 use Rattle.standing.proofs.RowOpeners.{begin-row}
+use Rattle.standing.proofs.ClosedActs.{acted}
 
 module _ (c : Class) (spool : List ℕ) (k : ℕ) (FileHere : Desk → Set → ℕ → Held → ℕ → Type 0) (d : Desk) (at to own : ℕ) (l : Line) (w : Where) (form : LineForm)
     (x : LineHere spool k at to form w l) (s : Set) (m : ℕ) (fs : List Figure) (n : ℕ) (o : Held) (z : Stands c spool k d (FileHere d) at (placing s m fs n (symbol_block o) 0)) where
@@ -169,7 +170,7 @@ module _ (c : Class) (spool : List ℕ) (k : ℕ) (FileHere : Desk → Set → �
             let plain : numbers_of v ≡ [] =
             entry-plain (known_of s) i i from.rule (shape_for from.rule from.rest) v (subst (λ (r : Rule). is_serials r.holds ≡ false) is-rule (other-rule i below b)) from.did.read in
             let lent_is : x₁ ≡ lent d.tally d.serials (set d.marks i true) d.inner = y ∙ ap (λ (t : Bool). lent_with t (lent_of d) i (own_number rec₁) (content_at rest)) b in
-            goes-still c spool k FileHere own l to st d₁ d.now st'' (h ∙ ap (by_act _ _ _ _) a ∙ ap (λ (t : List ℕ). unless (none_of (own_serial t) (numbers_so_far s fs)) 15 (got st'')) plain) refl refl refl refl
+            goes-still c spool k FileHere own l to st d₁ d.now st'' (h ∙ ap (acted _ _ _ _) a ∙ ap (λ (t : List ℕ). unless (none_of (own_serial t) (numbers_so_far s fs)) 15 (got st'')) plain) refl refl refl refl
             (subst (λ (t : Lent). StandsAt c spool k FileHere (desk_now (lent_desk d t rec₁) d.now) to st'') (sym lent_is)
             (placing-on c spool k FileHere d at to s m fs n o 0 z d.now (set d.marks i true) d.inner rec₁ (enter o 0 i v) 0 later (length-set d.marks i true ∙ z.lengths.marks) z.lengths.inner put-entry
             (sym (other-slot i 5 v (λ t. eqb-false i 5 b (sym t))))
@@ -236,7 +237,7 @@ module _ (c : Class) (spool : List ℕ) (k : ℕ) (FileHere : Desk → Set → �
           new-so = ap (λ (y : Value). none_of (own_serial (numbers_of y)) (numbers_so_far s fs)) serial.is ∙ one_of serial.own (numbers_so_far s fs)
 
           stepped : (t : Bool) → in_use d.tally d.serials serial.own ≡ t → step_in (unlimited c) l st ≡ unless (not t) 15 (got st'')
-          stepped t b = h ∙ ap (by_act _ _ _ _) a ∙ ap (λ (y : Bool). unless y 15 (got st'')) (new-so ∙ ap not (sym used-so ∙ b))
+          stepped t b = h ∙ ap (acted _ _ _ _) a ∙ ap (λ (y : Bool). unless y 15 (got st'')) (new-so ∙ ap not (sym used-so ∙ b))
 
           on-new : in_use d.tally d.serials serial.own ≡ false → x₁ ≡ lent_with true (lent_of d) 5 serial.own where-at → Out (S.Go d.now)
           on-new b y =
@@ -287,7 +288,7 @@ module _ (c : Class) (spool : List ℕ) (k : ℕ) (FileHere : Desk → Set → �
           ap (λ (t : Slots). is_none (get_or t 1 none)) row_in ∙ ap (λ (t : ℕ). is_none (get_or (set (part_of o 0) t (some v)) 1 none)) one
           ∙ ap is_none (get_or-set_same (part_of o 0) 1 (some v) none (omega (arith, six))) in
           let free : is_none (get_or (part_of o 0) 1 none) ≡ true = ap (λ (t : ℕ). is_none (get_or (part_of o 0) t none)) (sym one) ∙ ap is_none (mark-free (part_of o 0) j taken.free) in
-          goes-still c spool k FileHere own l to st d₁ now st₁ (h ∙ ap (by_act _ _ _ _) a ∙ ap (λ (t : ℕ). got (placing s m fs n (symbol_block o') t)) part-so) z.block.0 refl refl refl
+          goes-still c spool k FileHere own l to st d₁ now st₁ (h ∙ ap (acted _ _ _ _) a ∙ ap (λ (t : ℕ). got (placing s m fs n (symbol_block o') t)) part-so) z.block.0 refl refl refl
           (subst (λ (t : Lent). StandsAt c spool k FileHere (desk_now (lent_desk d t rec₁) now) to st₁) (sym y)
           (placing-on c spool k FileHere d at to s m fs n o 0 z now (set d.marks j true) (replicate (length d.inner) false) rec₁ o' 1 later
           (length-set d.marks j true ∙ z.lengths.marks) (length-replicate (length d.inner) false ∙ z.lengths.inner)
@@ -306,14 +307,14 @@ module _ (c : Class) (spool : List ℕ) (k : ℕ) (FileHere : Desk → Set → �
           })))
 
       on-stay : did ≡ stay → x₁ ≡ lent_of d → rec₁ ≡ rec₀ → Out (S.Go d.now)
-      on-stay a y q = goes-still c spool k FileHere own l to st d₁ d.now st (h ∙ ap (by_act _ _ _ _) a) refl refl refl refl (same-stands x₁ rec₁ y q)
+      on-stay a y q = goes-still c spool k FileHere own l to st d₁ d.now st (h ∙ ap (acted _ _ _ _) a) refl refl refl refl (same-stands x₁ rec₁ y q)
 
       by-act : (a : Act) → did ≡ a → Entered (rule_at (table_of 18)) 0 rec₀ a rec₁ → PlacedLent (lent_of d) x₁ (own_number rec₁) (content_at rest) (next_of a) → Out (placed_step d.now (lent_of d) (own_number rec₁) (next_of a))
       by-act stay a q y = on-stay a y q
       by-act (entry i v) a q y = on-entry i v a q (eqb i 5) refl y
       by-act (begin i j v) a q y = on-begin i j v a q y
       by-act shut a q y = clash refl (read-shut (known_of s) row rule (shape_for rule rest) shut (row-did (known_of s) (range_of s) (get_or full row false) row rule rest shut refl a).read)
-      by-act (refuse i) a q y = h ∙ ap (by_act _ _ _ _) a
+      by-act (refuse i) a q y = h ∙ ap (acted _ _ _ _) a
 
       pub row_line : (r : Step) → RowLine d.now (lent_of d) x₁ rec₀ rec₁ r (content_at rest) row_act → Out r
       row_line r y =

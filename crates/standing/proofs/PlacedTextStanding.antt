@@ -18,7 +18,7 @@ use Rattle.rules.specs.Values.{Known, Value, serials_of}
 use Rattle.rules.specs.Rows.{Rule, Slots, Held, part_of, enter, rows_there, shape_for, Act, stay, entry, begin, shut, refuse, act}
 use Rattle.rules.specs.Figures.{text_table, placed_tables}
 use Rattle.rules.specs.Sets.{Figure, Set, known_of, own_serial}
-use Rattle.rules.specs.Machine.{Line, in_layer, State, placing, by_act, symbol_block}
+use Rattle.rules.specs.Machine.{Line, in_layer, State, placing, symbol_block}
 use Rattle.rules.specs.PlacedSymbol.{none_of, numbers_so_far}
 use Rattle.rules.specs.RecordTable.{rule_at}
 use Rattle.rules.proofs.Chains.{clash}
@@ -44,6 +44,7 @@ use Rattle.standing.proofs.HomeFacts.{home_stays}
 use Rattle.standing.proofs.PlacedFacts.{is_serials, text-rows, plain-text, text-rule, entry-plain}
 use Rattle.standing.proofs.PlacedTables.{record-kept, record-entered, placing-on}
 use Rattle.standing.proofs.HeldParts.{shaped-enter, enter-own, enter-other}
+use Rattle.standing.proofs.ClosedActs.{acted}
 
 module _ (c : Class) (spool : List ℕ) (k : ℕ) (FileHere : Desk → Set → ℕ → Held → ℕ → Type 0) (d : Desk) (at to own : ℕ) (l : Line) (w : Where) (form : LineForm)
     (x : LineHere spool k at to form w l) (s : Set) (m : ℕ) (fs : List Figure) (n : ℕ) (o : Held) (z : Stands c spool k d (FileHere d) at (placing s m fs n (symbol_block o) 1)) where
@@ -88,7 +89,7 @@ module _ (c : Class) (spool : List ℕ) (k : ℕ) (FileHere : Desk → Set → �
 
     on-stay : did ≡ stay → is ≡ d.inner → rec₁ ≡ rec₀ → Out (S.Go d.now)
     on-stay a i q =
-        goes-still c spool k FileHere own l to st d₁ d.now st (ap (by_act _ _ _ _) a) refl refl refl refl
+        goes-still c spool k FileHere own l to st d₁ d.now st (ap (acted _ _ _ _) a) refl refl refl refl
         (placing-on c spool k FileHere d at to s m fs n o 1 z d.now d.marks is rec₁ o 1 later z.lengths.marks (long i)
         (record-kept c spool k FileHere d at to s m fs n o 1 z 1 rec₁ q) refl z.block.0
         (record {
@@ -114,7 +115,7 @@ module _ (c : Class) (spool : List ℕ) (k : ℕ) (FileHere : Desk → Set → �
         let st' : State = placing s m fs n (symbol_block o') 1 in
         let same : part_of o' 0 ≡ part_of o 0 = enter-other o 1 0 j v (λ y. omega (arith, y)) in
         let first : Slots → Option Value = λ y. get_or y 1 none in
-        goes-still c spool k FileHere own l to st d₁ d.now st' (ap (by_act _ _ _ _) a ∙ ap (λ (y : List ℕ). unless (none_of (own_serial y) (numbers_so_far s fs)) 15 (got st')) plain) refl refl refl refl
+        goes-still c spool k FileHere own l to st d₁ d.now st' (ap (acted _ _ _ _) a ∙ ap (λ (y : List ℕ). unless (none_of (own_serial y) (numbers_so_far s fs)) 15 (got st')) plain) refl refl refl refl
         (placing-on c spool k FileHere d at to s m fs n o 1 z d.now d.marks is rec₁ o' 1 later z.lengths.marks
         (ap length i ∙ length-set d.inner j true ∙ z.lengths.inner)
         (record-entered c spool k FileHere d at to s m fs n o 1 z 1 1 j v rec₁ (omega arith) taken (q ∙ ap (λ (y : List Rule). put_line (rule_at y j) 0 v rec₀) text-rows))
@@ -138,7 +139,7 @@ module _ (c : Class) (spool : List ℕ) (k : ℕ) (FileHere : Desk → Set → �
     on-shut : did ≡ shut → is ≡ d.inner → rec₁ ≡ rec₀ → Out (S.Go (at_block d.now 11 0))
     on-shut a i q =
         let now : Now = at_block d.now 11 0 in
-        goes-still c spool k FileHere own l to st d₁ now (placing s m fs n (symbol_block o) 0) (ap (by_act _ _ _ _) a) z.block.0 refl refl refl
+        goes-still c spool k FileHere own l to st d₁ now (placing s m fs n (symbol_block o) 0) (ap (acted _ _ _ _) a) z.block.0 refl refl refl
         (placing-on c spool k FileHere d at to s m fs n o 1 z now d.marks is rec₁ o 0 later z.lengths.marks (long i)
         (record-kept c spool k FileHere d at to s m fs n o 1 z 0 rec₁ q) refl refl
         (record {
@@ -154,7 +155,7 @@ module _ (c : Class) (spool : List ℕ) (k : ℕ) (FileHere : Desk → Set → �
         }))
 
     on-refuse : (i : ℕ) → did ≡ refuse i → Out (S.Stop i)
-    on-refuse i a = ap (by_act _ _ _ _) a
+    on-refuse i a = ap (acted _ _ _ _) a
 
     by-act : (a : Act) → did ≡ a → PlacedTextMarks d.inner is a → Entered (rule_at (table_of 19)) 0 rec₀ a rec₁ → Out (placed_text_step d.now a)
     by-act stay a i q = on-stay a i q

@@ -15,7 +15,6 @@ use Rattle.rules.specs.Rows.{Held}
 use Rattle.rules.specs.Sets.{Set, is_first}
 use Rattle.rules.specs.Machine.{State, top, file, drawing, layer_names, defines, symbol, hide, elements, figures, successive, texts, placing, skipping, ended, set_of, symbol_block, wire_block, wire_unread}
 use Rattle.rules.proofs.Chains.{flat_append}
-use Rattle.account.specs.declared.Now.{Now}
 use Rattle.account.specs.declared.Complete.{Complete}
 use Rattle.account.specs.declared.Complete.TheVariants as C
 use Rattle.account.specs.Records.{part_at, with_part, with_numbers}

@@ -18,7 +18,6 @@ use Rattle.rules.specs.Values.{Value, empty, nums, chars, linked, word, lettersA
 use Rattle.rules.specs.Rows.{Slots, rows_there, slot_value, inner_of, complete}
 use Rattle.rules.specs.Blocks.{symbol_table}
 use Rattle.rules.specs.Sets.{Symbol, symbol_name_of, symbol_order}
-use Rattle.rules.specs.Machine.{figures}
 use Rattle.rules.specs.RecordTable.{numbers_of, first_or0, others, first_slot, other_slots, rule_at, put_slots, point_records, figure_records, inner_records}
 use Rattle.rules.specs.RecordTable.{plain_view}
 use Rattle.rules.proofs.Chains.{clash, and_left, and_right}

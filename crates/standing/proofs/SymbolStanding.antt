@@ -21,7 +21,7 @@ use Rattle.rules.specs.Values.{Known, Value, chars, lettersAndDigits, chars_of}
 use Rattle.rules.specs.Rows.{Rule, Held, Slots, rows_there, slot_value, Act, stay, entry, begin, shut, refuse, complete, act}
 use Rattle.rules.specs.Blocks.{symbol_table}
 use Rattle.rules.specs.Sets.{Symbol, Set, known_of, define_range, symbol_name_of, symbol_own, symbol_order, with_symbol}
-use Rattle.rules.specs.Machine.{Line, in_element, State, defines, symbol, hide, figures, by_act, new_name, open_symbol}
+use Rattle.rules.specs.Machine.{Line, in_element, State, defines, symbol, hide, figures, new_name, open_symbol}
 use Rattle.rules.specs.RecordTable.{rule_at, start}
 use Rattle.rules.proofs.Chains.{clash, map-append}
 use Rattle.rules.proofs.Rows.{row_at}
@@ -53,6 +53,7 @@ use Rattle.standing.proofs.Completing.{completed-by, number_by, goes-still, goes
 use Rattle.standing.proofs.EntriesKept.{line_in, symbol-row, element_open, hide_open}
 use Rattle.standing.proofs.ClosesKept.{symbol-fills}
 use Rattle.standing.proofs.ClearedKept.{symbol-cleared}
+use Rattle.standing.proofs.ClosedActs.{acted}
 
 -- ── what is lent on return ──
 -- a symbol's record that was lent, on return
@@ -180,11 +181,11 @@ module _ (c : Class) (spool : List ℕ) (short : length spool ≤ 61440) (k : �
     -- nothing but the place in the spool
     on-stay : did ≡ stay → m₁ ≡ d.marks → rec₁ ≡ symbol_record d → Out (S.Go d.now)
     on-stay a p q =
-        goes-still c spool k FileHere own l to st desk₁ d.now st (ap (by_act _ _ _ _) a) refl refl refl refl
+        goes-still c spool k FileHere own l to st desk₁ d.now st (ap (acted _ _ _ _) a) refl refl refl refl
         (stands-still c spool k FileHere d at to st z later d.tally m₁ d.inner d.header t₁ refl p refl refl (with-back 0 rec₁ d.scratch q))
 
     on-refuse : (m : ℕ) → did ≡ refuse m → Out (S.Stop m)
-    on-refuse m a = ap (by_act _ _ _ _) a
+    on-refuse m a = ap (acted _ _ _ _) a
 
     -- ── a row more ──
     module _ (j : ℕ) (v : Value) (taken : Taken symbol_table full j v) (qm : m₁ ≡ set d.marks j true) (q : rec₁ ≡ put_line (rule_at (table_of 9) j) 0 v (symbol_record d)) where
@@ -249,7 +250,7 @@ module _ (c : Class) (spool : List ℕ) (short : length spool ≤ 61440) (k : �
         entered : new_name s y' ≡ true → CharsHere spool (get_or own' 0 none) → is_text (get_or own' 0 none) ≡ true → 48 * n + symbol_bytes y' ≤ to → Out (S.Go d.now)
         entered fresh name text paid =
             let on : Enters c st st' t₁ = subst (Enters c st st') back (symbol-row c s y d.scratch z.scratch j v iny.slots taken) in
-            goes-still c spool k FileHere own l to st desk₁ d.now st' (ap (by_act _ _ _ _) a ∙ ap (λ (b : Bool). unless b 15 (got st')) fresh) refl refl refl on.same
+            goes-still c spool k FileHere own l to st desk₁ d.now st' (ap (acted _ _ _ _) a ∙ ap (λ (b : Bool). unless b 15 (got st')) fresh) refl refl refl on.same
             (stands_on c spool k FileHere d at to st st' z d.now m₁ d.inner t₁ refl long-marks z.lengths.inner on.scratch (omega (arith, z.counted, later)) paid
             (omega (arith, z.numbered, later)) (
               z.block.0,
@@ -320,7 +321,7 @@ module _ (c : Class) (spool : List ℕ) (short : length spool ≤ 61440) (k : �
 
           on-name : (b : Bool) → is_new spool (symbol_names d) (name_of rec₁) ≡ b → Out (cond (not b) (S.Stop 15) (S.Go d.now))
           on-name true h = entered (new ∙ h) here (ap is_text slot) paid
-          on-name false h = ap (by_act _ _ _ _) a ∙ ap (λ (b : Bool). unless b 15 (got st')) (new ∙ h)
+          on-name false h = ap (acted _ _ _ _) a ∙ ap (λ (b : Bool). unless b 15 (got st')) (new ∙ h)
 
         on-entry : Out (symbol_entry spool (symbol_names d) d.now j (symbol_put (symbol_record d) j v))
         on-entry = subst (λ (r : List ℤ). Out (symbol_entry spool (symbol_names d) d.now j r)) q (go (eqb j 0) refl)
@@ -374,7 +375,7 @@ module _ (c : Class) (spool : List ℕ) (short : length spool ≤ 61440) (k : �
             let n' : Now = symbol_part d.now 1 in
             let on : Enters c st st'' t₁ = subst (Enters c st st'') back (element_open c s y d.scratch z.scratch j v iny.slots taken) in
             subst (λ (m : ℕ). Out (S.Go (symbol_part d.now m))) (sym p)
-            (goes_entering c spool k FileHere own l to st desk₁ n' st'' (ap (by_act _ _ _ _) a ∙ ap (open_symbol s y') p) (completed-by d.now n' 5 8 z.block.0 refl) refl refl on.same
+            (goes_entering c spool k FileHere own l to st desk₁ n' st'' (ap (acted _ _ _ _) a ∙ ap (open_symbol s y') p) (completed-by d.now n' 5 8 z.block.0 refl) refl refl on.same
             (stands_on c spool k FileHere d at to st st'' z n' m₁ d.inner t₁ refl long-marks z.lengths.inner on.scratch (omega (arith, z.counted, later)) paid (omega (arith, z.numbered, later))
             (refl, (around n' y.hide_first refl other (λ h. clash h (there 1 r)) (λ h. iny.hide-first (was-none y.own 2 j v h)), refl, f.0, f.1, there 1 r), refl)))
 
@@ -392,7 +393,7 @@ module _ (c : Class) (spool : List ℕ) (short : length spool ≤ 61440) (k : �
             let n' : Now = symbol_part d.now 2 in
             let on : Enters c st st'' t₁ = subst (Enters c st st'') back (hide_open c s y d.scratch z.scratch j v iny.slots taken b none_yet) in
             subst (λ (m : ℕ). Out (S.Go (symbol_part d.now m))) (sym p)
-            (goes_entering c spool k FileHere own l to st desk₁ n' st'' (ap (by_act _ _ _ _) a ∙ ap (open_symbol s y') p) (completed-by d.now n' 5 6 z.block.0 refl) refl refl on.same
+            (goes_entering c spool k FileHere own l to st desk₁ n' st'' (ap (acted _ _ _ _) a ∙ ap (open_symbol s y') p) (completed-by d.now n' 5 6 z.block.0 refl) refl refl on.same
             (stands_on c spool k FileHere d at to st st'' z n' m₁ d.inner t₁ refl long-marks z.lengths.inner on.scratch (omega (arith, z.counted, later)) paid (omega (arith, z.numbered, later)) (
               refl,
               record {
@@ -456,7 +457,7 @@ module _ (c : Class) (spool : List ℕ) (short : length spool ≤ 61440) (k : �
           let same : Scratch t₁ st = subst (λ (t : List ℤ). Scratch t st) (sym (with-back 0 rec₁ d.scratch q)) z.scratch in
           let t₂ : List ℤ = with_part 0 empty_record t₁ in
           let cleared : Scratch t₂ st' = symbol-cleared s y t₁ same in
-          goes_filling c spool k FileHere own l to st (name_kept d m₁ rec₁) n' st' (ap (by_act _ _ _ _) a) 0 own (completed-by d.now n' 5 4 z.block.0 refl)
+          goes_filling c spool k FileHere own l to st (name_kept d m₁ rec₁) n' st' (ap (acted _ _ _ _) a) 0 own (completed-by d.now n' 5 4 z.block.0 refl)
           (number_by d.now n' own 5 4 z.block.0 refl) 0 (omega arith) (omega arith) (symbol-fills c s y own t₁ same counts.own)
           (record {
             lengths = record {

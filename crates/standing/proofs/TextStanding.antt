@@ -16,7 +16,7 @@ use Rattle.rules.specs.Values.{Known, Value}
 use Rattle.rules.specs.Rows.{Rule, Slots, Held, rows_there, Act, stay, entry, begin, shut, refuse, act}
 use Rattle.rules.specs.Figures.{text_table}
 use Rattle.rules.specs.Sets.{Figure, lettering, Set, known_of}
-use Rattle.rules.specs.Machine.{Line, Home, is_layer, State, figures, texts, by_act}
+use Rattle.rules.specs.Machine.{Line, Home, is_layer, State, figures, texts}
 use Rattle.rules.specs.RecordTable.{rule_at}
 use Rattle.rules.proofs.Chains.{clash}
 use Rattle.tables.specs.Tables.{table_of}
@@ -44,6 +44,7 @@ use Rattle.standing.proofs.ClearedKept.{text-cleared}
 use Rattle.standing.proofs.Standings.{sight, desk_with, stands_on, known, stands-still}
 use Rattle.standing.proofs.HomeFacts.{home-layered, home_stays}
 use Rattle.standing.proofs.FigureSights.{plain-serials}
+use Rattle.standing.proofs.ClosedActs.{acted}
 
 -- ── what is computed of the table of a text ──
 text-rows : (b : Bool) → table_of (text_table_of b) ≡ text_rows b
@@ -108,7 +109,7 @@ module _ (c : Class) (spool : List ℕ) (k : ℕ) (FileHere : Desk → Set → �
     -- nothing but the place in the spool
     on-stay : did ≡ stay → m₁ ≡ d.inner → rec₁ ≡ part_at 32 d.scratch → Out (S.Go d.now)
     on-stay a m q =
-        goes-still c spool k FileHere own l to st d₁ d.now st (ap (by_act _ _ _ _) a) refl refl refl refl
+        goes-still c spool k FileHere own l to st d₁ d.now st (ap (acted _ _ _ _) a) refl refl refl refl
         (stands-still c spool k FileHere d at to st z later d.tally d.marks m₁ d.header t₁ refl refl m refl (with-back 32 rec₁ d.scratch q))
 
     -- one of its lines
@@ -119,7 +120,7 @@ module _ (c : Class) (spool : List ℕ) (k : ℕ) (FileHere : Desk → Set → �
         let row : Enters c st st' (line_in 32 rows j v d.scratch) = text-row c s h fs n o d.scratch z.scratch j v z.block.3 got-it in
         let put : line_in 32 rows j v d.scratch ≡ t₁ =
         ap (λ (i : List ℤ). with_part 32 i d.scratch) (ap (λ (i : List Rule). put_line (rule_at i j) 0 v (part_at 32 d.scratch)) (sym the-rows) ∙ sym q) in
-        goes-still c spool k FileHere own l to st d₁ d.now st' (ap (by_act _ _ _ _) a) refl refl refl row.same
+        goes-still c spool k FileHere own l to st d₁ d.now st' (ap (acted _ _ _ _) a) refl refl refl row.same
         (stands_on c spool k FileHere d at to st st' z d.now d.marks m₁ t₁ refl z.lengths.marks (ap length m ∙ length-set d.inner j true ∙ z.lengths.inner)
         (subst (λ (t : List ℤ). Scratch t st') put row.scratch)
         (omega (arith, z.counted, later)) (omega (arith, z.named, later)) (omega (arith, z.numbered, later)) (
@@ -134,7 +135,7 @@ module _ (c : Class) (spool : List ℕ) (k : ℕ) (FileHere : Desk → Set → �
     on-begin i j v a = clash (ap is_begin a) (no-begin (known_of s) rows (digits 0 0) (rows_there o) l.form (plain_rows (is_layer h)))
 
     on-refuse : (m : ℕ) → did ≡ refuse m → Out (S.Stop m)
-    on-refuse m a = ap (by_act _ _ _ _) a
+    on-refuse m a = ap (acted _ _ _ _) a
 
     -- its end
     on-shut : did ≡ shut → m₁ ≡ d.inner → rec₁ ≡ part_at 32 d.scratch → Out (S.Go (figure_done d.now))
@@ -142,7 +143,7 @@ module _ (c : Class) (spool : List ℕ) (k : ℕ) (FileHere : Desk → Set → �
         let now : Now = figure_done d.now in
         let st' : State = figures s h (fs ++ lettering n o ∷ []) in
         let back : d.scratch ≡ t₁ = sym (with-back 32 rec₁ d.scratch q) in
-        goes_filling c spool k FileHere own l to st d₁ now st' (ap (by_act _ _ _ _) a) 32 (d.now.records - 1) (completed-by d.now now 10 8 z.block.0 refl)
+        goes_filling c spool k FileHere own l to st d₁ now st' (ap (acted _ _ _ _) a) 32 (d.now.records - 1) (completed-by d.now now 10 8 z.block.0 refl)
         (number_by d.now now own 10 8 z.block.0 refl) 0 (omega arith) (omega arith)
         (subst (Fills c st st' 0 32 (d.now.records - 1)) back (text-fills c s h fs n o d.now.records y.size d.scratch z.scratch))
         (stands_on c spool k FileHere d at to st st' z now d.marks m₁ (with_part 32 empty_record t₁) (closed-sight s h fs n o) z.lengths.marks (ap length m ∙ z.lengths.inner)

@@ -47,7 +47,7 @@ use Rattle.standing.proofs.LineSizes.{read-shut}
 use Rattle.standing.proofs.Openers.{plain_kind}
 use Rattle.standing.proofs.RowOpeners.{begin-row}
 use Rattle.standing.proofs.Completing.{goes-still, goes_filling, completed-line, number_same}
-use Rattle.standing.proofs.WireCells.{spelled, scratch, once_slots, once_of, GroupLine, no-direc, no-piend, no-num, a-direc, a-piend, a-num, direc-put, piend-put, num-put, num-agrees, counts-at}
+use Rattle.standing.proofs.WireCells.{spelled, once_slots, once_of, GroupLine, no-direc, no-piend, no-num, a-direc, a-piend, a-num, direc-put, piend-put, num-put, num-agrees, counts-at}
 use Rattle.standing.proofs.WireParts.{direcs_of, piends_of, nums_in, slot_of, own-slots, cells_of, so-far-cells}
 use Rattle.standing.proofs.WireScratch.{wire_scratch, wire-scratch, scratch-wire, Filled, filled, edge_of, edge_scratch, element-holds, element-put}
 use Rattle.standing.proofs.WireKept.{edge-long, edge-fills}

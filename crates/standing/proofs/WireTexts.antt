@@ -1,5 +1,5 @@
 -- A line in the text of a wire that is read: from the code's answer to the step that the definitions make.
-use Prim.Native.Nat.{ℕ, ◌+◌, ◌≤◌}
+use Prim.Native.Nat.{ℕ, ◌≤◌}
 use mathlib.Core.Bool.{Bool, true}
 use mathlib.Core.List.{List, [], ◌∷◌, ◌++◌}
 use mathlib.Core.Option.{some}
@@ -17,7 +17,7 @@ use Rattle.rules.specs.Values.{Known, Value}
 use Rattle.rules.specs.Rows.{Rule, Slots, Held, rows_there, Act, stay, entry, begin, shut, refuse, act}
 use Rattle.rules.specs.Figures.{wire_text_table, text_table}
 use Rattle.rules.specs.Sets.{Wire, Figure, Set, known_of}
-use Rattle.rules.specs.Machine.{Line, in_layer, State, placing, wire_block, by_act}
+use Rattle.rules.specs.Machine.{Line, in_layer, State, placing, wire_block}
 use Rattle.rules.specs.Wires.{last_edge, with_texts}
 use Rattle.rules.specs.RecordTable.{rule_at, put_slots}
 use Rattle.rules.proofs.Chains.{clash}
@@ -43,6 +43,7 @@ use Rattle.standing.proofs.WireParts.{direcs_of, piends_of, nums_in, slot_of, ce
 use Rattle.standing.proofs.WireScratch.{wire-scratch, writing-long, scratch-wire}
 use Rattle.standing.proofs.Standings.{desk_with, stands_on, known, stands-still}
 use Rattle.standing.proofs.HomeFacts.{home_stays}
+use Rattle.standing.proofs.ClosedActs.{acted}
 
 -- ── what is computed of its table ──
 text-rows : table_of 16 ≡ wire_text_table
@@ -117,7 +118,7 @@ module _ (c : Class) (spool : List ℕ) (k : ℕ) (FileHere : Desk → Set → �
 
     on-stay : did ≡ stay → i₁ ≡ d.inner → t₁ ≡ d.scratch → Out (S.Go d.now)
     on-stay a i q =
-        goes-still c spool k FileHere own l to st d₁ d.now st (ap (by_act _ _ _ _) a) refl refl refl refl
+        goes-still c spool k FileHere own l to st d₁ d.now st (ap (acted _ _ _ _) a) refl refl refl refl
         (stands-still c spool k FileHere d at to st z later d.tally d.marks i₁ d.header t₁ refl refl i refl q)
 
     -- one of its two lines
@@ -133,7 +134,7 @@ module _ (c : Class) (spool : List ℕ) (k : ℕ) (FileHere : Desk → Set → �
         ∙ ap (λ (u : List Rule). put_line (rule_at u j) 0 v (writing_record wire) ++ two) text-rows
         ∙ ap (λ (u : List ℤ). u ++ two)
         (own_line wire_text_table written j v empty_record ((inr.writes refl).1 ∙ sym two-rows) taken.row (mark-free written j taken.free) taken.fill clear-rows housed-rows) in
-        goes-still c spool k FileHere own l to st d₁ d.now st' (ap (by_act _ _ _ _) a) refl refl refl refl
+        goes-still c spool k FileHere own l to st d₁ d.now st' (ap (acted _ _ _ _) a) refl refl refl refl
         (stands_on c spool k FileHere d at to st st' z d.now d.marks i₁ t₁ refl z.lengths.marks (ap length i ∙ length-set d.inner j true ∙ z.lengths.inner)
         (scratch-wire s m fs n wire' 1 t₁ put) (omega (arith, z.counted, later)) (omega (arith, z.named, later)) (omega (arith, z.numbered, later)) (
           z.block.0,
@@ -167,7 +168,7 @@ module _ (c : Class) (spool : List ℕ) (k : ℕ) (FileHere : Desk → Set → �
         q ∙ ap (shelved text_from text_shelf) (before ∙ ap (λ (u : List ℤ). writing_record wire ++ u) (so-far-cells s m n wire inr.slots inr.repeats inr.groups 1))
         ∙ text-put (direcs_of wire) (piends_of wire) (nums_in wire) wire.texts (once_of m (volume_of s) n (slot_of 6 wire) (slot_of 7 wire) (slot_of 8 wire) (slot_of 9 wire)) (last_edge wire.elements) written
         ∙ ap (λ (u : List ℤ). empty_record ++ u) (sym (so-far-cells s m n wire' inr.slots inr.repeats inr.groups 0)) ∙ ap (λ (u : List ℤ). u ++ wire_so_far s m n wire' 0) (sym no_text) in
-        goes-still c spool k FileHere own l to st d₁ now st' (ap (by_act _ _ _ _) a) z.block.0 refl refl refl
+        goes-still c spool k FileHere own l to st d₁ now st' (ap (acted _ _ _ _) a) z.block.0 refl refl refl
         (stands_on c spool k FileHere d at to st st' z now d.marks i₁ t₁ refl z.lengths.marks (ap length i ∙ z.lengths.inner)
         (scratch-wire s m fs n wire' 0 t₁ put) (omega (arith, z.counted, x.bytes, length-append wire.texts (written ∷ []))) (omega (arith, z.named, later)) (omega (arith, z.numbered, later)) (
           refl,
@@ -193,7 +194,7 @@ module _ (c : Class) (spool : List ℕ) (k : ℕ) (FileHere : Desk → Set → �
     by-act (entry j v) a i q = on-entry j v a i q
     by-act (begin h j v) a i q = on-begin h j v a
     by-act shut a i q = on-shut a i q
-    by-act (refuse h) a i q = ap (by_act _ _ _ _) a
+    by-act (refuse h) a i q = ap (acted _ _ _ _) a
 
     pub text-line : (r : Step) → TextInWire code_act d.now d.inner i₁ d.scratch t₁ r → Out r
     text-line r f =

@@ -1,15 +1,13 @@
 -- What the reading of a line and of a volume promises.
 use Rattle.std.specs.Prelude.{ℕ, ◌+◌, ◌*◌, ◌/◌, ◌≤◌, ◌<◌, Bool, true, false, cond, eqb, ◌≡◌, List, ◌++◌, ℤ, pos, length, get_or, set, replicate}
-use Rattle.std.proofs.Math.Option.{some}
-use Rattle.rules.specs.declared.Digits.{Digits}
 use Rattle.rules.specs.declared.Class.{Class}
 use Rattle.rules.specs.declared.LineForm.{LineForm}
 use Rattle.rules.specs.Base.{flat, is_nil}
 use Rattle.rules.specs.Lines.{Rest, brace, equals, Form, ignored, wrong, close, eof, keyed}
 use Rattle.rules.specs.Sets.{Set}
-use Rattle.rules.specs.Machine.{Line, Env, State, top, ended, set_of, limited_to}
+use Rattle.rules.specs.Machine.{Line, State, top, ended, set_of, limited_to}
 use Rattle.rules.specs.LineByLine.{refused, run}
-use Rattle.rules.specs.Answers.{linesOfVolume}
+use Rattle.rules.specs.Answers.{lines_of_volume}
 use Rattle.account.specs.declared.Where.{Where}
 use Rattle.account.specs.declared.Step.{Step}
 use Rattle.account.specs.declared.Step.TheVariants as S
@@ -137,4 +135,4 @@ abbrev pub VolumePromise : Class → List ℕ → List ℕ → Volume → ℕ �
 VolumePromise c spool body v limit following d₀ table₀ d₁ table₁ r =
     (s : Set) (lines : List (List ℕ)) (more : List Line) → At spool body v (start_of v.at) lines → Standing c spool v.number d₀ v.at (top s 0)
     → Kept c limit table₀ d₀.now.records (top s 0)
-    → VolumeOut c spool body v (is_nil following) limit (top s 0) (linesOfVolume v.number following v.at lines) more d₁ table₁ r
+    → VolumeOut c spool body v (is_nil following) limit (top s 0) (lines_of_volume v.number following v.at lines) more d₁ table₁ r

@@ -14,7 +14,7 @@ use Rattle.rules.specs.RefusalNumbers.{Got}
 use Rattle.rules.specs.Sets.{Set}
 use Rattle.rules.specs.Machine.{Line, State, top, limited_to}
 use Rattle.rules.specs.LineByLine.{refused, then_run, run}
-use Rattle.rules.specs.Answers.{linesOfVolume}
+use Rattle.rules.specs.Answers.{lines_of_volume}
 use Rattle.rules.proofs.Chains.{clash}
 use Rattle.lines.specs.LineLook.{look_in}
 use Rattle.lines.specs.declared.Seen.{Seen as SeenLine}
@@ -65,14 +65,14 @@ module _ (c : Class) (spool body : List ℕ) (v : Volume) (following : List ℕ)
   }
 
   -- what the volume's lines are in the definitions
-  lines-todo : (lines : List (List ℕ)) (more : List Line) → is_nil lines ≡ false → linesOfVolume k following v.at lines ++ more ≡ todo v following (start_of v.at) lines more
+  lines-todo : (lines : List (List ℕ)) (more : List Line) → is_nil lines ≡ false → lines_of_volume k following v.at lines ++ more ≡ todo v following (start_of v.at) lines more
   lines-todo [] more n = clash refl n
   lines-todo (l ∷ ls) more n = refl
 
-  empty-volume : (s : Set) (lines : List (List ℕ)) (more : List Line) → is_nil lines ≡ true → run (limited_to c limit) (top s 0) (linesOfVolume k following v.at lines ++ more) ≡ refused 9 k 0
+  empty-volume : (s : Set) (lines : List (List ℕ)) (more : List Line) → is_nil lines ≡ true → run (limited_to c limit) (top s 0) (lines_of_volume k following v.at lines ++ more) ≡ refused 9 k 0
   empty-volume s [] more n = by_next (is_nil following) refl
     where
-      by_next : (b : Bool) → is_nil following ≡ b → run (limited_to c limit) (top s 0) (linesOfVolume k following v.at [] ++ more) ≡ refused 9 k 0
+      by_next : (b : Bool) → is_nil following ≡ b → run (limited_to c limit) (top s 0) (lines_of_volume k following v.at [] ++ more) ≡ refused 9 k 0
       by_next true h = rw h
       by_next false h = rw h
   empty-volume s (l ∷ ls) more n = clash n refl
@@ -197,7 +197,7 @@ module _ (c : Class) (spool body : List ℕ) (v : Volume) (following : List ℕ)
           Last st w = LastOut c spool k (InFile spool k) limit (seen_line spool v following p f) f.next st (desk_now d₁ d.now) table w
 
           by_last : (s : Set) (lines : List (List ℕ)) (more : List Line) (o : At spool body v (start_of v.at) lines) (z : Standing c spool k d₀ v.at (top s 0)) (x : Kept c limit table₀ d₀.now.records (top s 0))
-              (w : Step) → done ≡ w → VolumeOut c spool body v (is_nil following) limit (top s 0) (linesOfVolume k following v.at lines) more (back_desk d₁) table (through_of v (p.line + 1) w)
+              (w : Step) → done ≡ w → VolumeOut c spool body v (is_nil following) limit (top s 0) (lines_of_volume k following v.at lines) more (back_desk d₁) table (through_of v (p.line + 1) w)
           by_last s lines more o z x (S.Go n) a =
               let g = gone s lines more o z x in
               let (s', e, b, y) = subst (Last g.state) a (last c spool body v following limit (top s 0) (start_of v.at) lines more p d own table g f q d₁ answer promise h) in

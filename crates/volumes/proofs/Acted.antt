@@ -57,15 +57,15 @@ reads_any k k' r x v e z = record {
   fit = z.fit;
 }
 
-module _ {P : Type 0} (here : State) (en : ℕ → Value → Got State) (op : ℕ → ℕ → Value → Got State) (cl : Unit {0} → Got State) (k : Known) (d : Digits) (st' : State) where
+module _ {P : Type 0} (here : State) (en : ℕ → Value → Got State) (op : ℕ → ℕ → Value → Got State) (cl : Got State) (k : Known) (d : Digits) (st' : State) where
   -- under a row that was found
-  pub row-acted : (full : Bool) (j : ℕ) (r : Rule) (x : Rest) → key_ok r.key ≡ true → FormFits (keyed r.key x) → by_act here en op cl (act_row k d full j r x) ≡ got st'
+  pub row-acted : (full : Bool) (j : ℕ) (r : Rule) (x : Rest) → key_ok r.key ≡ true → FormFits (keyed r.key x) → by_act here en op (λ _. cl) (act_row k d full j r x) ≡ got st'
       → ((v : Value) → Reads k r x v → opens_block r.holds v ≡ false → full ≡ false → en j v ≡ got st' → P)
       → ((v : Value) → Reads k r x v → opens_block r.holds v ≡ true → full ≡ false → op (inner_of r.holds) j v ≡ got st' → P)
       → P
   row-acted full j r x key fits e ent beg = go (act_row k d full j r x) refl e
     where
-      go : (a : Act) → act_row k d full j r x ≡ a → by_act here en op cl a ≡ got st' → P
+      go : (a : Act) → act_row k d full j r x ≡ a → by_act here en op (λ _. cl) a ≡ got st' → P
       go stay q e = clash (on-got (λ a. is_taken a ≡ true) (read_shape k j r (shape_for r x)) stay (shape-taken k j r (shape_for r x)) (row-did k d full j r x stay refl q).read) refl
       go (entry j' v) q e =
           let t = told r.key x fits in
@@ -82,17 +82,17 @@ module _ {P : Type 0} (here : State) (en : ℕ → Value → Got State) (op : �
       go (refuse m) q e = never e
 
   -- in a block of the table t
-  pub acted : (t : List Rule) (full : List Bool) (key : List ℕ) (x : Rest) → keys_ok t ≡ true → FormFits (keyed key x) → by_act here en op cl (act k t d full (keyed key x)) ≡ got st'
+  pub acted : (t : List Rule) (full : List Bool) (key : List ℕ) (x : Rest) → keys_ok t ≡ true → FormFits (keyed key x) → by_act here en op (λ _. cl) (act k t d full (keyed key x)) ≡ got st'
       → ((j : ℕ) (r : Rule) (v : Value) → find key t ≡ found j r → Row t j r → Reads k r x v → opens_block r.holds v ≡ false → get_or full j false ≡ false → en j v ≡ got st' → P)
       → ((j : ℕ) (r : Rule) (v : Value) → find key t ≡ found j r → Row t j r → Reads k r x v → opens_block r.holds v ≡ true → get_or full j false ≡ false → op (inner_of r.holds) j v ≡ got st' → P)
       → P
   acted t full key x keys fits e ent beg = go (find key t) refl e
     where
-      unknown : (b : Bool) → by_act here en op cl (or_refuse (unless b 5 (bad 6))) ≡ got st' → P
+      unknown : (b : Bool) → by_act here en op (λ _. cl) (or_refuse (unless b 5 (bad 6))) ≡ got st' → P
       unknown true e = never e
       unknown false e = never e
 
-      go : (g : Found) → find key t ≡ g → by_act here en op cl (act_found k d full x g) ≡ got st' → P
+      go : (g : Found) → find key t ≡ g → by_act here en op (λ _. cl) (act_found k d full x g) ≡ got st' → P
       go absent q e = unknown (has_form (shape_of x)) e
       go (found j r) q e =
           let (w, s) = found-row key t j r q in

@@ -18,7 +18,7 @@ use Rattle.rules.specs.RecordTable.{rule_at, kind_point}
 use Rattle.rules.specs.Sets.{Point, Figure, chain, Set, with_records, known_of}
 use Rattle.rules.specs.Machine.{Line, Env, Home, State, figures, successive, is_layer, taking, point_at, on_successive, kind_in}
 use Rattle.rules.specs.LineByLine.{step_in}
-use Rattle.rules.specs.Answers.{fullClass}
+use Rattle.rules.specs.Answers.{full_class}
 use Rattle.rules.specs.FixedForm.{Text, open_line, opens_block, line_of, show_points}
 use Rattle.rules.proofs.Chains.{never, and_right, unless-got}
 use Rattle.rules.proofs.Rows.{Row, row-all, row_below}
@@ -55,7 +55,7 @@ point-line b {j} w k v =
     let i : j ≡ 0 = omega (arith, row_below w) in
     ap (λ (n : ℕ). line_of k (rule_at (point_table b) n) (nums (nums_of v))) (sym i) ∙ nums-line w refl k v
 
-module _ (K : Known) (spool : List ℕ) (first : Bool) (p : Pen) (ns out : List ℕ) (e : Env) (l : Line) (c : e.class ≡ fullClass)
+module _ (K : Known) (spool : List ℕ) (first : Bool) (p : Pen) (ns out : List ℕ) (e : Env) (l : Line) (c : e.class ≡ full_class)
     (st' : State) (ns' out' : List ℕ) (d : Drawn) (size : length out' ≡ length out) (many : length ns' ≡ 28)
     (s : Set) (h : Home) (fs : List Figure) (n : ℕ) (ps : List Point) (z : Pens K spool first p ns out (successive s h fs n ps)) (q : step_in e l (successive s h fs n ps) ≡ got st') where
   pub successive-key : (key : Span) (rest : CodeRest) → l.form ≡ keyed (bytes_at spool key) (rest_in spool rest) → PlacedRest rest → FormFits l.form

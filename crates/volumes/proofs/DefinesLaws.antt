@@ -16,7 +16,7 @@ use Rattle.rules.specs.Rows.{Rule, found, find, blank}
 use Rattle.rules.specs.Blocks.{defines_table, symbol_table}
 use Rattle.rules.specs.Sets.{Symbol, Set, with_records, define_range, known_of}
 use Rattle.rules.specs.RecordTable.{rule_at, kind_symbol}
-use Rattle.rules.specs.Answers.{fullClass}
+use Rattle.rules.specs.Answers.{full_class}
 use Rattle.rules.specs.Machine.{Line, Env, State, top, defines, symbol, taking}
 use Rattle.rules.specs.LineByLine.{step_in}
 use Rattle.rules.specs.FixedForm.{Text, open_line, opens_block, line_of, show_symbols, show_defines}
@@ -89,7 +89,7 @@ module _ (t : ℕ) (p : Pen) (rest : Rest) (K : Known) (r : Rule) (v : Value) (n
   symbol-done : KeyDone t p rest K 1 r v ns ns' out out' d → Draws (ended (line_of K r v)) p.at (begun p (length (ended (line_of K r v))) 5) out out' d × (ns' ≡ forgotten ns)
   symbol-done w = (rw e at w.draws, rw e at w.notes)
 
-module _ (K : Known) (spool : List ℕ) (first : Bool) (p : Pen) (ns out : List ℕ) (s : Set) (b : Bool) (z : Pens K spool first p ns out (defines s b)) (e : Env) (l : Line) (c : e.class ≡ fullClass) (st' : State) (q : step_in e l (defines s b) ≡ got st') (ns' out' : List ℕ) (d : Drawn) (size : length out' ≡ length out) (many : length ns' ≡ 28) where
+module _ (K : Known) (spool : List ℕ) (first : Bool) (p : Pen) (ns out : List ℕ) (s : Set) (b : Bool) (z : Pens K spool first p ns out (defines s b)) (e : Env) (l : Line) (c : e.class ≡ full_class) (st' : State) (q : step_in e l (defines s b) ≡ got st') (ns' out' : List ℕ) (d : Drawn) (size : length out' ≡ length out) (many : length ns' ≡ 28) where
   abbrev front : Front first s
   front = z.here.1
 
@@ -151,7 +151,7 @@ module _ (K : Known) (spool : List ℕ) (first : Bool) (p : Pen) (ns out : List 
       → KeyLine spool first key rest p ns ns' out out' d → LineOut K spool first st' ns' out' d
   defines-key key rest f placed fits does =
       acted (defines s b) (λ j v. unless (is_nil s.symbols) 6 (got (defines s true))) (λ i j v. unless (not b) 6 (taking e (kind_symbol ∷ []) s λ s'. symbol s' fresh))
-      (λ _. unless (b || not (is_nil s.symbols)) 8 (got (top s 3))) (known_of s) (digits_of (define_range s)) st' defines_table (b ∷ false ∷ []) (bytes_at spool key) (rest_in spool rest)
+      (unless (b || not (is_nil s.symbols)) 8 (got (top s 3))) (known_of s) (digits_of (define_range s)) st' defines_table (b ∷ false ∷ []) (bytes_at spool key) (rest_in spool rest)
       (table-keys false 0 0).8 (rw f at fits) (rw f at q) ent beg
     where
       t : find (bytes_at spool key) (table_of (table_for first p (is_brace rest))) ≡ find (bytes_at spool key) defines_table
@@ -192,7 +192,7 @@ module _ (K : Known) (spool : List ℕ) (first : Bool) (p : Pen) (ns out : List 
   defines-close f does n =
       let g =
       closed (defines s b) (λ j v. unless (is_nil s.symbols) 6 (got (defines s true))) (λ i j v. unless (not b) 6 (taking e (kind_symbol ∷ []) s λ s'. symbol s' fresh))
-      (λ _. unless (b || not (is_nil s.symbols)) 8 (got (top s 3))) (known_of s) defines_table (digits_of (define_range s)) (b ∷ false ∷ []) st' (rw f at q) in
+      (unless (b || not (is_nil s.symbols)) 8 (got (top s 3))) (known_of s) defines_table (digits_of (define_range s)) (b ∷ false ∷ []) st' (rw f at q) in
       let (i, g') = unless-got (b || not (is_nil s.symbols)) 8 (got (top s 3)) st' g in
       let st : top s 3 ≡ st' = cc in
       subst (λ (a : State). LineOut K spool first a ns' out' d) st

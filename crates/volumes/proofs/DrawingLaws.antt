@@ -19,7 +19,7 @@ use Rattle.rules.specs.Rows.{Rule, row, found, find, Slots, rows_there}
 use Rattle.rules.specs.Blocks.{drawing_table, most_layers}
 use Rattle.rules.specs.Sets.{Layer, Drawing, Set, with_drawing, with_records, with_layer, with_own, arc_of, known_of}
 use Rattle.rules.specs.RecordTable.{rule_at, kind_layer}
-use Rattle.rules.specs.Answers.{fullClass}
+use Rattle.rules.specs.Answers.{full_class}
 use Rattle.rules.specs.Machine.{Line, Env, State, top, drawing, layer_names, layer_value, taking}
 use Rattle.rules.specs.LineByLine.{step_in}
 use Rattle.rules.specs.FixedForm.{Text, open_line, block, opens_block, line_of, no_inner, show_slot, show_slots, show_layers, show_drawing}
@@ -129,7 +129,7 @@ module _ (K : Known) (dr : Drawing) where
       ∙ slots-more K no_inner (none_more K) noted_table (take 7 dr.own) last
       ∙ ap (λ (u : Text). rows_text ++ u) (names-slot (get_or dr.own 7 none) end)
 
-module _ (K : Known) (spool : List ℕ) (first : Bool) (p : Pen) (ns out : List ℕ) (s : Set) (dr : Drawing) (z : Pens K spool first p ns out (drawing s dr)) (e : Env) (l : Line) (c : e.class ≡ fullClass) (st' : State) (q : step_in e l (drawing s dr) ≡ got st') (ns' out' : List ℕ) (d : Drawn) (size : length out' ≡ length out) (many : length ns' ≡ 28) where
+module _ (K : Known) (spool : List ℕ) (first : Bool) (p : Pen) (ns out : List ℕ) (s : Set) (dr : Drawing) (z : Pens K spool first p ns out (drawing s dr)) (e : Env) (l : Line) (c : e.class ≡ full_class) (st' : State) (q : step_in e l (drawing s dr) ≡ got st') (ns' out' : List ℕ) (d : Drawn) (size : length out' ≡ length out) (many : length ns' ≡ 28) where
   abbrev within : InDrawing K spool first p ns s dr
   within = z.here.1
 
@@ -195,7 +195,7 @@ module _ (K : Known) (spool : List ℕ) (first : Bool) (p : Pen) (ns out : List 
   pub drawing-key : (key : Span) (rest : Rest) → l.form ≡ keyed (bytes_at spool key) (rest_in spool rest) → PlacedRest rest → FormFits l.form
       → KeyLine spool first key rest p ns ns' out out' d → LineOut K spool first st' ns' out' d
   drawing-key key rest f placed fits does =
-      acted (drawing s dr) (λ j v. got (drawing s (with_row j v))) (λ i j v. got (layer_names s (with_row j v))) (λ _. got (top (with_drawing dr s) 2))
+      acted (drawing s dr) (λ j v. got (drawing s (with_row j v))) (λ i j v. got (layer_names s (with_row j v))) (got (top (with_drawing dr s) 2))
       (known_of s) (digits_of (arc_of s)) st' drawing_table (rows_there dr.own) (bytes_at spool key) (rest_in spool rest) (table-keys false 0 0).7 (rw f at fits) (rw f at q) ent beg
     where
       -- what the code promises for row j
@@ -237,7 +237,7 @@ module _ (K : Known) (spool : List ℕ) (first : Bool) (p : Pen) (ns out : List 
   pub drawing-close : l.form ≡ close → CloseDone spool first p ns out out' d → ns' ≡ ns → LineOut K spool first st' ns' out' d
   drawing-close f does n =
       let g =
-      closed (drawing s dr) (λ j v. got (drawing s (with_row j v))) (λ i j v. got (layer_names s (with_row j v))) (λ _. got (top (with_drawing dr s) 2))
+      closed (drawing s dr) (λ j v. got (drawing s (with_row j v))) (λ i j v. got (layer_names s (with_row j v))) (got (top (with_drawing dr s) 2))
       (known_of s) drawing_table (digits_of (arc_of s)) (rows_there dr.own) st' (rw f at q) in
       let st : top (with_drawing dr s) 2 ≡ st' = cc in
       let front = within.front in
@@ -248,7 +248,7 @@ module _ (K : Known) (spool : List ℕ) (first : Bool) (p : Pen) (ns out : List 
       (refl, (record { volume = front.volume; alone = front.alone; empty = front.empty; served = front.served }, within.bare)))
 
 -- ── in `layer_name` ──
-module _ (K : Known) (spool : List ℕ) (first : Bool) (p : Pen) (ns out : List ℕ) (s : Set) (dr : Drawing) (z : Pens K spool first p ns out (layer_names s dr)) (e : Env) (l : Line) (c : e.class ≡ fullClass) (st' : State) (q : step_in e l (layer_names s dr) ≡ got st') (ns' out' : List ℕ) (d : Drawn) (size : length out' ≡ length out) (many : length ns' ≡ 28) where
+module _ (K : Known) (spool : List ℕ) (first : Bool) (p : Pen) (ns out : List ℕ) (s : Set) (dr : Drawing) (z : Pens K spool first p ns out (layer_names s dr)) (e : Env) (l : Line) (c : e.class ≡ full_class) (st' : State) (q : step_in e l (layer_names s dr) ≡ got st') (ns' out' : List ℕ) (d : Drawn) (size : length out' ≡ length out) (many : length ns' ≡ 28) where
   abbrev around : InDrawing K spool first p ns s dr
   around = z.here.1
 

@@ -17,7 +17,7 @@ use Rattle.rules.specs.Sets.{Set, with_volume, layer_table_of, known_of, used_in
 use Rattle.rules.specs.VolumesAndTotals.{counted_here}
 use Rattle.rules.specs.Machine.{Line, Env, in_layer, State, top, elements, figures, on_elements}
 use Rattle.rules.specs.LineByLine.{step_in}
-use Rattle.rules.specs.Answers.{fullClass}
+use Rattle.rules.specs.Answers.{full_class}
 use Rattle.rules.specs.FixedForm.{Text, open_line, opens_block, line_of, show_blocks}
 use Rattle.rules.proofs.Chains.{never, clash, map-got, unless-got}
 use Rattle.rules.proofs.Rows.{Row, row_at, row_below}
@@ -75,7 +75,7 @@ element-table : (first : Bool) (p : Pen) (b : Bool) → p.block ≡ 7 → table_
 unfolding table_of
 element-table first p b h = rw h
 
-module _ (K : Known) (spool : List ℕ) (first : Bool) (p : Pen) (ns out : List ℕ) (e : Env) (l : Line) (c : e.class ≡ fullClass)
+module _ (K : Known) (spool : List ℕ) (first : Bool) (p : Pen) (ns out : List ℕ) (e : Env) (l : Line) (c : e.class ≡ full_class)
     (st' : State) (ns' out' : List ℕ) (d : Drawn) (size : length out' ≡ length out) (many : length ns' ≡ 28)
     (s : Set) (z : Pens K spool first p ns out (elements s)) (q : step_in e l (elements s) ≡ got st') where
   pub elements-key : (key : Span) (rest : CodeRest) → l.form ≡ keyed (bytes_at spool key) (rest_in spool rest) → PlacedRest rest → FormFits l.form

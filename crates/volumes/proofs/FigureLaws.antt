@@ -23,7 +23,7 @@ use Rattle.rules.specs.Sets.{Figure, plain, Symbol, LayerBlock, Set, with_record
 use Rattle.rules.specs.Machine.{Line, Env, Home, in_element, in_layer, State, symbol, elements, figures, successive, texts, placing, is_layer, home_table, taking, open_figure, on_figures, close_figures}
 use Rattle.rules.specs.Wires.{group_at}
 use Rattle.rules.specs.LineByLine.{step_in}
-use Rattle.rules.specs.Answers.{fullClass}
+use Rattle.rules.specs.Answers.{full_class}
 use Rattle.rules.specs.FixedForm.{Text, open_line, opens_block, behind, line_of, block, show_figures, show_blocks}
 use Rattle.rules.specs.Machine.{symbol_block, wire_block, no_wire, begin_wire, kind_in}
 use Rattle.rules.specs.RangeClass.{knows_wires}
@@ -236,7 +236,7 @@ module _ (K : Known) (spool : List ℕ) (first : Bool) where
   text-keeps : (ns : List ℕ) (i : ℕ) → i < 4 → get_or (text_forgotten ns) i 0 ≡ get_or ns i 0
   text-keeps ns i l = get_or-set_other (set ns 4 0) 5 i 0 0 (omega arith) ∙ get_or-set_other ns 4 i 0 0 (omega arith)
 
-  module _ (p : Pen) (ns out : List ℕ) (e : Env) (l : Line) (c : e.class ≡ fullClass)
+  module _ (p : Pen) (ns out : List ℕ) (e : Env) (l : Line) (c : e.class ≡ full_class)
       (st' : State) (ns' out' : List ℕ) (d : Drawn) (size : length out' ≡ length out) (many : length ns' ≡ 28) where
     -- a figure that is a block
     opened : (s : Set) (h : Home) (fs : List Figure) (z : Pens K spool first p ns out (figures s h fs)) (i : ℕ) (w : List ℕ) → i ≤ 4 → open_figure e l s h fs i ≡ got st'

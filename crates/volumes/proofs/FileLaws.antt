@@ -23,7 +23,7 @@ use Rattle.rules.specs.Sets.{Contents, Set, with_now, is_first, head_or, known_o
 use Rattle.rules.specs.VolumesAndTotals.{chained, dated}
 use Rattle.rules.specs.Machine.{Line, Env, State, top, file, by_act, close_file, shut_part}
 use Rattle.rules.specs.LineByLine.{step_in}
-use Rattle.rules.specs.Answers.{fullClass}
+use Rattle.rules.specs.Answers.{full_class}
 use Rattle.rules.specs.FixedForm.{Text, open_line, opens_block}
 use Rattle.rules.proofs.Chains.{clash, never, unless-got, map-got, keep-got, cons-got}
 use Rattle.rules.proofs.Rows.{Row, row-all}
@@ -59,8 +59,8 @@ stays at next out out' d room go same =
       full = λ l. absurd (omega (arith, l, room));
     }
 
-pub shut-got : (here : State) (en : ℕ → Value → Got State) (op : ℕ → ℕ → Value → Got State) (cl : Unit {0} → Got State) (b : Bool) (st' : State)
-    → by_act here en op cl (cond b shut (refuse 8)) ≡ got st' → cl tt ≡ got st'
+pub shut-got : (here : State) (en : ℕ → Value → Got State) (op : ℕ → ℕ → Value → Got State) (cl : Got State) (b : Bool) (st' : State)
+    → by_act here en op (λ _. cl) (cond b shut (refuse 8)) ≡ got st' → cl ≡ got st'
 shut-got here en op cl true st' e = e
 shut-got here en op cl false st' e = never e
 
@@ -208,7 +208,7 @@ module _ (K : Known) (spool : List ℕ) where
   closed-shown true s n h = ap (λ (u : Text). open_line (bytes "FILE_FORMAT") ∷ u) (held_more K (file_tables true) h (bytes "}" ∷ []))
   closed-shown false s n h = ap (λ (u : Text). open_line (bytes "FILE_FORMAT") ∷ u) (held_more K (file_tables false) h (bytes "}" ∷ []))
 
-module _ (K : Known) (spool : List ℕ) (first : Bool) (p : Pen) (ns out : List ℕ) (s : Set) (n : ℕ) (h : Held) (i : ℕ) (z : Pens K spool first p ns out (file s n h i)) (e : Env) (l : Line) (c : e.class ≡ fullClass) (st' : State) (q : step_in e l (file s n h i) ≡ got st') (ns' out' : List ℕ) (d : Drawn) (size : length out' ≡ length out) (many : length ns' ≡ 28) where
+module _ (K : Known) (spool : List ℕ) (first : Bool) (p : Pen) (ns out : List ℕ) (s : Set) (n : ℕ) (h : Held) (i : ℕ) (z : Pens K spool first p ns out (file s n h i)) (e : Env) (l : Line) (c : e.class ≡ full_class) (st' : State) (q : step_in e l (file s n h i) ≡ got st') (ns' out' : List ℕ) (d : Drawn) (size : length out' ≡ length out) (many : length ns' ≡ 28) where
   abbrev table : List Rule
   table = get_or (file_tables first) i []
 
@@ -253,7 +253,7 @@ module _ (K : Known) (spool : List ℕ) (first : Bool) (p : Pen) (ns out : List 
   file-key key rest f placed fit line =
       let (block, here) = z.here in
       acted {P = LineOut K spool first st' ns' out' d} (file s n h i) (λ j v. got (file s n (enter h i j v) i)) (λ m j v. got (file s n (enter h i j v) m))
-      (λ _. shut_part i (close_file l s n h) (λ m. file s n h m)) (known_of s) (digits 0 0) st' table (rows_there (part_of h i)) (bytes_at spool key) (rest_in spool rest)
+      (shut_part i (close_file l s n h) (λ m. file s n h m)) (known_of s) (digits 0 0) st' table (rows_there (part_of h i)) (bytes_at spool key) (rest_in spool rest)
       (file-rows first i).0 (subst FormFits f fit) (did (keyed (bytes_at spool key) (rest_in spool rest)) f)
       (λ j r v at w reads o full en.
       let is : file s n (enter h i j v) i ≡ st' = cc in
@@ -268,7 +268,7 @@ module _ (K : Known) (spool : List ℕ) (first : Bool) (p : Pen) (ns out : List 
   pub file-close : l.form ≡ close → CloseDone spool first p ns out out' d → ns' ≡ ns → LineOut K spool first st' ns' out' d
   file-close f done notes =
       go i z
-      (shut-got (file s n h i) (λ j v. got (file s n (enter h i j v) i)) (λ m j v. got (file s n (enter h i j v) m)) (λ _. shut_part i (close_file l s n h) (λ m. file s n h m))
+      (shut-got (file s n h i) (λ j v. got (file s n (enter h i j v) i)) (λ m j v. got (file s n (enter h i j v) m)) (shut_part i (close_file l s n h) (λ m. file s n h m))
       (complete (digits 0 0) table (rows_there (part_of h i))) st' (did close f))
     where
       go : (i : ℕ) → Pens K spool first p ns out (file s n h i) → shut_part i (close_file l s n h) (λ m. file s n h m) ≡ got st' → LineOut K spool first st' ns' out' d

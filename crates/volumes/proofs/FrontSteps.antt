@@ -27,11 +27,11 @@ pub took : (e : Env) (ks : List ℕ) (s : Set) (f : Set → State) (st : State) 
 took e ks s f st q = let w = (unless-got (room_for e.limit (s.taken + length ks)) 19 (got (f (with_records ks s))) st q).1 in cc
 
 -- a `}` that was taken closes the block
-pub closed : (here : State) (en : ℕ → Value → Got State) (op : ℕ → ℕ → Value → Got State) (cl : Unit {0} → Got State) (k : Known) (t : List Rule) (d : Digits) (full : List Bool) (st : State)
-    → by_act here en op cl (act k t d full close) ≡ got st → cl tt ≡ got st
+pub closed : (here : State) (en : ℕ → Value → Got State) (op : ℕ → ℕ → Value → Got State) (cl : Got State) (k : Known) (t : List Rule) (d : Digits) (full : List Bool) (st : State)
+    → by_act here en op (λ _. cl) (act k t d full close) ≡ got st → cl ≡ got st
 closed here en op cl k t d full st e = go (complete d t full) e
   where
-    go : (b : Bool) → by_act here en op cl (cond b shut (refuse 8)) ≡ got st → cl tt ≡ got st
+    go : (b : Bool) → by_act here en op (λ _. cl) (cond b shut (refuse 8)) ≡ got st → cl ≡ got st
     go true e = e
     go false e = never e
 

@@ -16,7 +16,7 @@ use Rattle.rules.specs.Rows.{Rule, found, find, rows_at_limit}
 use Rattle.rules.specs.Figures.{point_table}
 use Rattle.rules.specs.Sets.{Point, Symbol, Set, with_records, symbol_hidden, known_of}
 use Rattle.rules.specs.RecordTable.{rule_at, kind_hidden}
-use Rattle.rules.specs.Answers.{fullClass}
+use Rattle.rules.specs.Answers.{full_class}
 use Rattle.rules.specs.Machine.{Line, Env, State, symbol, hide, point_at, taking}
 use Rattle.rules.specs.LineByLine.{step_in}
 use Rattle.rules.specs.FixedForm.{Text, open_line, block, opens_block, line_of, show_points}
@@ -79,7 +79,7 @@ hide-done : (t : ℕ) (p : Pen) (rest : Rest) (K : Known) (r : Rule) (v : Value)
     → Draws (ended (line_of K r v)) p.at (moved p (length (ended (line_of K r v))) 6 0) out out' d × (ns' ≡ ns)
 hide-done t p rest K r v ns ns' out out' d e w = (rw e at w.draws, rw e at w.notes)
 
-module _ (K : Known) (spool : List ℕ) (first : Bool) (p : Pen) (ns out : List ℕ) (s : Set) (y : Symbol) (ps : List Point) (z : Pens K spool first p ns out (hide s y ps)) (e : Env) (l : Line) (c : e.class ≡ fullClass) (st' : State) (q : step_in e l (hide s y ps) ≡ got st') (ns' out' : List ℕ) (d : Drawn) (size : length out' ≡ length out) (many : length ns' ≡ 28) where
+module _ (K : Known) (spool : List ℕ) (first : Bool) (p : Pen) (ns out : List ℕ) (s : Set) (y : Symbol) (ps : List Point) (z : Pens K spool first p ns out (hide s y ps)) (e : Env) (l : Line) (c : e.class ≡ full_class) (st' : State) (q : step_in e l (hide s y ps) ≡ got st') (ns' out' : List ℕ) (d : Drawn) (size : length out' ≡ length out) (many : length ns' ≡ 28) where
   abbrev within : InHide K spool first p ns s y
   within = z.here.1
 
@@ -118,7 +118,7 @@ module _ (K : Known) (spool : List ℕ) (first : Bool) (p : Pen) (ns out : List 
   pub hide-key : (key : Span) (rest : Rest) → l.form ≡ keyed (bytes_at spool key) (rest_in spool rest) → PlacedRest rest → FormFits l.form
       → KeyLine spool first key rest p ns ns' out out' d → LineOut K spool first st' ns' out' d
   hide-key key rest f placed fits does =
-      acted (hide s y ps) (λ j v. taking e (kind_hidden ∷ []) s λ s'. hide s' y (ps ++ point_at l v ∷ [])) (λ i j v. bad 5) (λ _. got (symbol s (symbol_hidden ps y)))
+      acted (hide s y ps) (λ j v. taking e (kind_hidden ∷ []) s λ s'. hide s' y (ps ++ point_at l v ∷ [])) (λ i j v. bad 5) (got (symbol s (symbol_hidden ps y)))
       (known_of s) (digits 0 0) st' (point_table false) (rows_at_limit (length ps) (point_table false)) (bytes_at spool key) (rest_in spool rest)
       (table-keys false 0 0).13 (rw f at fits) (rw f at q) ent (λ j r v h w u o m g. never g)
     where
@@ -145,7 +145,7 @@ module _ (K : Known) (spool : List ℕ) (first : Bool) (p : Pen) (ns out : List 
   pub hide-close : l.form ≡ close → CloseDone spool first p ns out out' d → ns' ≡ ns → LineOut K spool first st' ns' out' d
   hide-close f does n =
       let g : got (symbol s (symbol_hidden ps y)) ≡ got st' =
-      closed (hide s y ps) (λ j v. taking e (kind_hidden ∷ []) s λ s'. hide s' y (ps ++ point_at l v ∷ [])) (λ i j v. bad 5) (λ _. got (symbol s (symbol_hidden ps y)))
+      closed (hide s y ps) (λ j v. taking e (kind_hidden ∷ []) s λ s'. hide s' y (ps ++ point_at l v ∷ [])) (λ i j v. bad 5) (got (symbol s (symbol_hidden ps y)))
       (known_of s) (point_table false) (digits 0 0) (rows_at_limit (length ps) (point_table false)) st' (rw f at q) in
       let r : symbol s (symbol_hidden ps y) ≡ st' = cc in
       let next : Pen = moved p 3 5 0 in

@@ -34,8 +34,8 @@ use Rattle.pens.proofs.ShownLaws.{figures-last}
 -- a record that was taken
 
 -- a block that was closed
-pub shut-did : {P : Type 0} (here : State) (en : ℕ → Value → Got State) (op : ℕ → ℕ → Value → Got State) (cl : Unit {0} → Got State) (b : Bool) (st : State)
-    → by_act here en op cl (cond b shut (refuse 8)) ≡ got st → (cl tt ≡ got st → P) → P
+pub shut-did : {P : Type 0} (here : State) (en : ℕ → Value → Got State) (op : ℕ → ℕ → Value → Got State) (cl : Got State) (b : Bool) (st : State)
+    → by_act here en op (λ _. cl) (cond b shut (refuse 8)) ≡ got st → (cl ≡ got st → P) → P
 shut-did here en op cl true st q f = f q
 shut-did here en op cl false st q f = never q
 

@@ -16,7 +16,7 @@ use Rattle.rules.specs.PlacedSymbol.{on_placing, on_skipping}
 use Rattle.rules.specs.Wires.{on_wire_own, on_wire_text}
 use Rattle.rules.specs.Sets.{known_of}
 use Rattle.rules.specs.LineByLine.{step_in}
-use Rattle.rules.specs.Answers.{fullClass}
+use Rattle.rules.specs.Answers.{full_class}
 use Rattle.rules.specs.Machine.{symbol_block, wire_block, wire_unread}
 use Rattle.rules.proofs.Chains.{never}
 use Rattle.entries.specs.declared.Rest.{Rest}
@@ -43,7 +43,7 @@ use Rattle.volumes.proofs.WireLaws.{wire-key, wire-close}
 use Rattle.volumes.proofs.TextLaws.{texts-key, texts-close}
 use Rattle.volumes.proofs.PlacedLaws.{placing-key, placing-close}
 
-module _ (K : Known) (spool : List ℕ) (first : Bool) (p : Pen) (ns out : List ℕ) (e : Env) (l : Line) (c : e.class ≡ fullClass) (st' : State) (ns' out' : List ℕ) (d : Drawn) (size : length out' ≡ length out) (many : length ns' ≡ 28) where
+module _ (K : Known) (spool : List ℕ) (first : Bool) (p : Pen) (ns out : List ℕ) (e : Env) (l : Line) (c : e.class ≡ full_class) (st' : State) (ns' out' : List ℕ) (d : Drawn) (size : length out' ≡ length out) (many : length ns' ≡ 28) where
   elsewhere : (b : ℕ) → p.block ≡ b → (b ≡ 3 → ⊥) → p.block ≡ 3 → ⊥
   elsewhere b e f h = f (sym e ∙ h)
 

@@ -20,7 +20,7 @@ use Rattle.rules.specs.Sets.{Figure, placed, Set, symbol_range, range_of, known_
 use Rattle.rules.specs.Machine.{Line, Env, in_layer, State, figures, placing, by_act, symbol_block}
 use Rattle.rules.specs.PlacedSymbol.{new_serial, on_placed_key, on_placing}
 use Rattle.rules.specs.LineByLine.{step_in}
-use Rattle.rules.specs.Answers.{fullClass}
+use Rattle.rules.specs.Answers.{full_class}
 use Rattle.rules.specs.FixedForm.{Text, open_line, opens_block, show_held}
 use Rattle.rules.proofs.Chains.{never, clash, same-eq, and_left, and_right, cond_true, unless-got}
 use Rattle.rules.proofs.Rows.{Row, found-row, row-all}
@@ -48,13 +48,13 @@ use Rattle.pens.proofs.NotedLaws.{noted-line, placed-laid, set-parts}
 use Rattle.pens.proofs.ShownLaws.{opens_nothing, opens_not, held_more}
 
 -- ── class 15 knows every key, and no range that is served exceeds it ──
-served-full : (n : ℕ) → served_symbols n ≡ true → exceeds (digits_of n) fullClass.symbols ≡ false
+served-full : (n : ℕ) → served_symbols n ≡ true → exceeds (digits_of n) full_class.symbols ≡ false
 served-full n e = go (within 0 5 n) refl e
   where
-    few : n / 10 % 10 ≤ 1 → n % 10 ≤ 5 → exceeds (digits_of n) fullClass.symbols ≡ false
+    few : n / 10 % 10 ≤ 1 → n % 10 ≤ 5 → exceeds (digits_of n) full_class.symbols ≡ false
     few m l = rw (le-ltb 1 (n / 10 % 10) m, le-ltb 5 (n % 10) l)
 
-    go : (b : Bool) → within 0 5 n ≡ b → (b || within 11 15 n) ≡ true → exceeds (digits_of n) fullClass.symbols ≡ false
+    go : (b : Bool) → within 0 5 n ≡ b → (b || within 11 15 n) ≡ true → exceeds (digits_of n) full_class.symbols ≡ false
     go true q e = let hi = leb-true n 5 (and_right (leb 0 n) _ q) in few (omega (arith, hi)) (omega (arith, hi))
     go false q e =
         let lo = leb-true 11 n (and_left (leb 11 n) _ e) in
@@ -77,7 +77,7 @@ opens_text (opens i) = eqb i 1
 opens_text (headed i p) = false
 opens_text (either i) = false
 
-placed-rows : (all (λ r. reaches fullClass.symbols r.least) placed_table ≡ true) × (all (λ r. opens_text r.holds) placed_table ≡ true) × (all opens_nothing (text_table true 16 24) ≡ true)
+placed-rows : (all (λ r. reaches full_class.symbols r.least) placed_table ≡ true) × (all (λ r. opens_text r.holds) placed_table ≡ true) × (all opens_nothing (text_table true 16 24) ≡ true)
 unfolding placed_table text_table
 placed-rows = (refl, refl, refl)
 
@@ -105,8 +105,8 @@ placed-table first p (suc zero) c h l m = (rw (h, l), rw (h, l))
 placed-table first p (suc (suc i)) c h l m = absurd (omega (arith, m))
 
 -- a key that is not known is refused
-pub unknown : {P : Type 0} (here : State) (en : ℕ → Value → Got State) (op : ℕ → ℕ → Value → Got State) (cl : Unit {0} → Got State) (b : Bool) (st : State)
-    → by_act here en op cl (or_refuse (unless b 5 (bad 6))) ≡ got st → P
+pub unknown : {P : Type 0} (here : State) (en : ℕ → Value → Got State) (op : ℕ → ℕ → Value → Got State) (cl : Got State) (b : Bool) (st : State)
+    → by_act here en op (λ _. cl) (or_refuse (unless b 5 (bad 6))) ≡ got st → P
 unknown here en op cl true st q = never q
 unknown here en op cl false st q = never q
 
@@ -120,7 +120,7 @@ part_draws at next out out' d fits go kept = record {
 placed_pen_lem : (p : Pen) (j : ℕ) (d : Kind) (opened : Bool) (inner n : ℕ) → p.block ≡ 11 → key_pen p j d opened inner n ≡ placed_pen p d
 placed_pen_lem p j d opened inner n h = rw h
 
-module _ (K : Known) (spool : List ℕ) (first : Bool) (p : Pen) (ns out : List ℕ) (e : Env) (l : Line) (c : e.class ≡ fullClass)
+module _ (K : Known) (spool : List ℕ) (first : Bool) (p : Pen) (ns out : List ℕ) (e : Env) (l : Line) (c : e.class ≡ full_class)
     (st' : State) (ns' out' : List ℕ) (d : Drawn) (size : length out' ≡ length out) (many : length ns' ≡ 28)
     (s : Set) (m : ℕ) (fs : List Figure) (n : ℕ) (o : Held) where
   module _ (i : ℕ) (z : Pens K spool first p ns out (placing s m fs n (symbol_block o) i)) (key : Span) (rest : CodeRest) (place : PlacedRest rest) (line : KeyLine spool first key rest p ns ns' out out' d)
@@ -165,11 +165,11 @@ module _ (K : Known) (spool : List ℕ) (first : Bool) (p : Pen) (ns out : List 
     own_key : (z : Pens K spool first p ns out (placing s m fs n (symbol_block o) 0)) (g : Found) → find (bytes_at spool key) placed_table ≡ g
         → on_placed_key e s m fs n o (bytes_at spool key) (rest_in spool rest) g ≡ got st' → LineOut K spool first st' ns' out' d
     own_key z absent f q =
-        unknown (placing s m fs n (symbol_block o) 0) (λ j v. bad 6) (λ i j v. bad 6) (λ _. bad 6) (has_form (shape_of (rest_in spool rest))) st'
+        unknown (placing s m fs n (symbol_block o) 0) (λ j v. bad 6) (λ i j v. bad 6) (bad 6) (has_form (shape_of (rest_in spool rest))) st'
         (rw (c, served-full (symbol_range s) z.here.1.home.0.served.0) at q)
     own_key z (found j r) f q =
         let (w, same_key) = found-row (bytes_at spool key) placed_table j r f in
-        let knows : reaches e.class.symbols r.least ≡ true = ap (λ (x : Class). reaches x.symbols r.least) c ∙ row-all (λ r. reaches fullClass.symbols r.least) w placed-rows.0 in
+        let knows : reaches e.class.symbols r.least ≡ true = ap (λ (x : Class). reaches x.symbols r.least) c ∙ row-all (λ r. reaches full_class.symbols r.least) w placed-rows.0 in
         row-acted (placing s m fs n (symbol_block o) 0) _ _ _ (known_of s) (range_of s) st' (get_or (rows_there (part_of o 0)) j false) j r (rest_in spool rest)
         (row-all (λ r. key_ok r.key) w (table-keys true 0 0).15)
         (subst (λ (x : List ℕ). FormFits (keyed x (rest_in spool rest))) (same-eq (bytes_at spool key) r.key same_key) (subst FormFits form fit))

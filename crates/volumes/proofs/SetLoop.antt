@@ -9,7 +9,7 @@ use lib.ListN.{length, get_or, take, drop}
 use Rattle.rules.specs.Spool.{Volume, volumes_of}
 use Rattle.rules.specs.Sets.{Set}
 use Rattle.rules.specs.LineByLine.{accepted}
-use Rattle.rules.specs.Answers.{rewriteOutcome}
+use Rattle.rules.specs.Answers.{rewrite_outcome}
 use Rattle.leaves.specs.declared.Wrote.{Wrote}
 use Rattle.leaves.specs.declared.Wrote.TheVariants as W
 use Rattle.lines.specs.VolumePlaces.{zeros, no_layout, layout_of}
@@ -38,14 +38,14 @@ pub record Going (s before out : List ℕ) (notes : List ℕ) (at i : ℕ) : Typ
   pub long : length out ≡ length before
   pub many : length notes ≡ 28
   pub fits : at ≤ length out
-  pub done : (set : Set) (q : rewriteOutcome s ≡ accepted set) → Done s set (accepted-so s set q) i at out
+  pub done : (set : Set) (q : rewrite_outcome s ≡ accepted set) → Done s set (accepted-so s set q) i at out
 
 pub begins : (s before notes : List ℕ) → length notes ≡ 28 → Going s before before notes 0 0
 begins s before notes m = record { long = refl; many = m; fits = omega arith; done = λ set q. done-begins s set (accepted-so s set q) before }
 
 module _ (s before out notes : List ℕ) (at i : ℕ) (z : Going s before out notes at i) (l : Layout) (e : l ≡ layout_of (volumes_of s)) (h : i < l.count) (f : at ≤ length out) (body : List ℕ) (held : body ≡ take (get_or l.lengths i 0) (drop (get_or l.places i 0) s))
     (part : List ℕ) (r : Wrote) (w : Within (lent at out f) part r) (promise : VolumePromise s body (get_or l.places i 0) (eqb i 0) (lent at out f) part r) where
-  below : (set : Set) (q : rewriteOutcome s ≡ accepted set) → i < length (accepted-so s set q).volumes
+  below : (set : Set) (q : rewrite_outcome s ≡ accepted set) → i < length (accepted-so s set q).volumes
   below set q =
       let a = accepted-so s set q in omega (arith, (volumes-laid s a.volumes a.are).count, ap (λ (y : Layout). y.count) e, h)
 

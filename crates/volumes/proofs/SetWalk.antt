@@ -16,7 +16,7 @@ use Rattle.rules.specs.Sets.{Contents, Set, nothing_yet, known_of}
 use Rattle.rules.specs.FixedForm.{Text, volume_lines, volumes_bytes, fixed_form}
 use Rattle.rules.specs.Machine.{Line, Env, State, top}
 use Rattle.rules.specs.LineByLine.{Outcome, accepted, run}
-use Rattle.rules.specs.Answers.{nextName, Listed, listed, noLines, listVolumes, outcomeOfLines, outcomeOfVolumes, outcomeOf, fullClass, names_in, writtenIn, rewriteOutcome, written}
+use Rattle.rules.specs.Answers.{next_name, Listed, listed, no_lines, list_volumes, outcome_of_lines, outcome_of_volumes, outcome_of, full_class, names_in, written_in, rewrite_outcome, written}
 use Rattle.rules.proofs.Chains.{clash, cond-some}
 use Rattle.rules.proofs.Runs.{not-accepted}
 use Rattle.leaves.specs.declared.Wrote.{Wrote}
@@ -36,7 +36,7 @@ use Rattle.volumes.proofs.SetTexts.{rest_lines, text-between, text-last, volumes
 
 -- as the rewriter reads
 abbrev pub plain_env : Env
-plain_env = record { class = fullClass; limit = none }
+plain_env = record { class = full_class; limit = none }
 
 -- ── the reading that was accepted ──
 pub record Accepted (spool : List ℕ) (set : Set) : Type 0 where
@@ -47,17 +47,17 @@ pub record Accepted (spool : List ℕ) (set : Set) : Type 0 where
   pub goes : run plain_env (top nothing_yet 0) lines ≡ accepted set
   pub text : written spool ≡ volumes_bytes (names_of volumes) (volume_lines set set.volumes)
 
-pub accepted-so : (spool : List ℕ) (set : Set) → rewriteOutcome spool ≡ accepted set → Accepted spool set
-unfolding rewriteOutcome outcomeOf written fixed_form
+pub accepted-so : (spool : List ℕ) (set : Set) → rewrite_outcome spool ≡ accepted set → Accepted spool set
+unfolding rewrite_outcome outcome_of written fixed_form
 accepted-so spool set q = go (volumes_of spool) refl q
   where
-    go : (o : Option (List Volume)) → volumes_of spool ≡ o → outcomeOfVolumes plain_env o ≡ accepted set → Accepted spool set
+    go : (o : Option (List Volume)) → volumes_of spool ≡ o → outcome_of_volumes plain_env o ≡ accepted set → Accepted spool set
     go none p h = not-accepted h
-    go (some vs) p h = on (listVolumes 1 vs) refl h
+    go (some vs) p h = on (list_volumes 1 vs) refl h
       where
-        on : (r : Listed) → listVolumes 1 vs ≡ r → outcomeOfLines plain_env r ≡ accepted set → Accepted spool set
-        on (noLines n) l h = not-accepted h
-        on (listed ls) l h = record { volumes = vs; lines = ls; are = p; lists = lists_of 1 vs ls l; goes = h; text = ap (λ (x : Outcome). writtenIn (names_in (volumes_of spool)) x) q ∙ ap (λ (x : Option (List Volume)). writtenIn (names_in x) (accepted set)) p }
+        on : (r : Listed) → list_volumes 1 vs ≡ r → outcome_of_lines plain_env r ≡ accepted set → Accepted spool set
+        on (no_lines n) l h = not-accepted h
+        on (listed ls) l h = record { volumes = vs; lines = ls; are = p; lists = lists_of 1 vs ls l; goes = h; text = ap (λ (x : Outcome). written_in (names_in (volumes_of spool)) x) q ∙ ap (λ (x : Option (List Volume)). written_in (names_in x) (accepted set)) p }
 
 -- ── how far the writing has come ──
 module _ (spool : List ℕ) (set : Set) (a : Accepted spool set) where
@@ -212,7 +212,7 @@ module _ (spool : List ℕ) (set : Set) (a : Accepted spool set) where
             let same : body ≡ v.body = held ∙ ap (λ (m : ℕ). take m (drop place spool)) w.size ∙ ap (λ (m : ℕ). take (length v.body) (drop m spool)) here ∙ sym w.part.bytes in
             let p : VolumePromise spool v.body v.place (eqb i 0) (lent at out h) part r =
             subst (λ (u : List ℕ). VolumePromise spool u v.place (eqb i 0) (lent at out h) part r) same (subst (λ (m : ℕ). VolumePromise spool body m (eqb i 0) (lent at out h) part r) here promise) in
-            let o = p (known_of set) plain_env (suc i) (nextName us) y.lines s y.state refl (lines_at i v us y.lines d y.are) b y.goes in
+            let o = p (known_of set) plain_env (suc i) (next_name us) y.lines s y.state refl (lines_at i v us y.lines d y.are) b y.goes in
             record {
               volume = v;
               us = us;

@@ -18,7 +18,7 @@ use Rattle.rules.specs.Blocks.{symbol_table}
 use Rattle.rules.specs.Figures.{figure_table}
 use Rattle.rules.specs.Sets.{Symbol, Set, with_symbol, symbol_own, symbol_order, define_range, known_of}
 use Rattle.rules.specs.RecordTable.{rule_at}
-use Rattle.rules.specs.Answers.{fullClass}
+use Rattle.rules.specs.Answers.{full_class}
 use Rattle.rules.specs.Machine.{Line, Env, in_element, State, defines, symbol, hide, figures, new_name, open_symbol}
 use Rattle.rules.specs.LineByLine.{step_in}
 use Rattle.rules.specs.FixedForm.{Text, open_line, block, opens_block, line_of, show_slot, show_slots, show_figures, show_points, symbol_inner, exchanged, show_symbol, show_symbols}
@@ -188,7 +188,7 @@ module _ (K : Known) (y : Symbol) where
       (ap (λ (o : Slots). show_slots K (exchanged y.hide_first symbol_table) (exchanged y.hide_first o) (symbol_inner K y) (bytes "}" ∷ [])) (four-slots y.own four)
       ∙ rows-order y.hide_first (get_or y.own 0 none) (get_or y.own 1 none) (get_or y.own 2 none) (get_or y.own 3 none) (bytes "}" ∷ []))
 
-module _ (K : Known) (spool : List ℕ) (first : Bool) (p : Pen) (ns out : List ℕ) (s : Set) (y : Symbol) (z : Pens K spool first p ns out (symbol s y)) (e : Env) (l : Line) (c : e.class ≡ fullClass) (st' : State) (q : step_in e l (symbol s y) ≡ got st') (ns' out' : List ℕ) (d : Drawn) (size : length out' ≡ length out) (many : length ns' ≡ 28) where
+module _ (K : Known) (spool : List ℕ) (first : Bool) (p : Pen) (ns out : List ℕ) (s : Set) (y : Symbol) (z : Pens K spool first p ns out (symbol s y)) (e : Env) (l : Line) (c : e.class ≡ full_class) (st' : State) (q : step_in e l (symbol s y) ≡ got st') (ns' out' : List ℕ) (d : Drawn) (size : length out' ≡ length out) (many : length ns' ≡ 28) where
   abbrev within : InSymbol K spool first p ns s y
   within = z.here.1
 
@@ -299,7 +299,7 @@ module _ (K : Known) (spool : List ℕ) (first : Bool) (p : Pen) (ns out : List 
   pub symbol-key : (key : Span) (rest : Rest) → l.form ≡ keyed (bytes_at spool key) (rest_in spool rest) → PlacedRest rest → FormFits l.form
       → KeyLine spool first key rest p ns ns' out out' d → LineOut K spool first st' ns' out' d
   symbol-key key rest f placed fits does =
-      acted (symbol s y) (λ j v. unless (new_name s (with_row j v)) 15 (got (symbol s (with_row j v)))) (λ i j v. open_symbol s (with_row j v) i) (λ _. got (defines (with_symbol y s) false))
+      acted (symbol s y) (λ j v. unless (new_name s (with_row j v)) 15 (got (symbol s (with_row j v)))) (λ i j v. open_symbol s (with_row j v) i) (got (defines (with_symbol y s) false))
       (known_of s) (digits_of (define_range s)) st' symbol_table (rows_there y.own) (bytes_at spool key) (rest_in spool rest) (table-keys false 0 0).9 (rw f at fits) (rw f at q) ent beg
     where
       -- what the code promises for row j
@@ -365,7 +365,7 @@ module _ (K : Known) (spool : List ℕ) (first : Bool) (p : Pen) (ns out : List 
   pub symbol-close : l.form ≡ close → CloseDone spool first p ns out out' d → ns' ≡ ns → LineOut K spool first st' ns' out' d
   symbol-close f does n =
       let g =
-      closed (symbol s y) (λ j v. unless (new_name s (with_row j v)) 15 (got (symbol s (with_row j v)))) (λ i j v. open_symbol s (with_row j v) i) (λ _. got (defines (with_symbol y s) false))
+      closed (symbol s y) (λ j v. unless (new_name s (with_row j v)) 15 (got (symbol s (with_row j v)))) (λ i j v. open_symbol s (with_row j v) i) (got (defines (with_symbol y s) false))
       (known_of s) symbol_table (digits_of (define_range s)) (rows_there y.own) st' (rw f at q) in
       let st : with_symbols ≡ st' = cc in
       let a : List ℕ = row_bytes K (rule 0) (get_or y.own 0 none) in

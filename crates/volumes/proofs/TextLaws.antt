@@ -18,7 +18,7 @@ use Rattle.rules.specs.Figures.{text_table}
 use Rattle.rules.specs.Sets.{Figure, lettering, Set, known_of}
 use Rattle.rules.specs.Machine.{Line, Env, Home, State, figures, texts, is_layer, on_texts}
 use Rattle.rules.specs.LineByLine.{step_in}
-use Rattle.rules.specs.Answers.{fullClass}
+use Rattle.rules.specs.Answers.{full_class}
 use Rattle.rules.specs.FixedForm.{open_line, opens_block, show_slots, no_inner}
 use Rattle.rules.proofs.Chains.{never, and_right}
 use Rattle.rules.proofs.Rows.{Row, row-all, row_at, row_below}
@@ -51,7 +51,7 @@ unfolding table_of
 text-table first p true c h l = (rw (h, l), rw (h, l))
 text-table first p false c h l = (rw (h, l), rw (h, l))
 
-module _ (K : Known) (spool : List ℕ) (first : Bool) (p : Pen) (ns out : List ℕ) (e : Env) (l : Line) (c : e.class ≡ fullClass)
+module _ (K : Known) (spool : List ℕ) (first : Bool) (p : Pen) (ns out : List ℕ) (e : Env) (l : Line) (c : e.class ≡ full_class)
     (st' : State) (ns' out' : List ℕ) (d : Drawn) (size : length out' ≡ length out) (many : length ns' ≡ 28)
     (s : Set) (h : Home) (fs : List Figure) (n : ℕ) (o : Slots) (z : Pens K spool first p ns out (texts s h fs n o)) (q : step_in e l (texts s h fs n o) ≡ got st') where
   pub texts-key : (key : Span) (rest : CodeRest) → l.form ≡ keyed (bytes_at spool key) (rest_in spool rest) → PlacedRest rest → FormFits l.form

@@ -20,7 +20,7 @@ use Rattle.rules.specs.Sets.{Drawing, Symbol, LayerBlock, Set, with_records, is_
 use Rattle.rules.specs.VolumesAndTotals.{counted_all, layers_used, partners_exist}
 use Rattle.rules.specs.Machine.{Line, Env, State, top, file, drawing, defines, elements, ended, tests_partners, open_top, on_top, file_kinds}
 use Rattle.rules.specs.LineByLine.{step_in}
-use Rattle.rules.specs.Answers.{fullClass}
+use Rattle.rules.specs.Answers.{full_class}
 use Rattle.rules.specs.FixedForm.{Text, open_line, line_of, show_symbols, show_blocks}
 use Rattle.rules.specs.RecordTable.{kind_drawing}
 use Rattle.rules.proofs.Chains.{and_left, never, unless-got}
@@ -130,11 +130,11 @@ module _ (K : Known) (spool : List ℕ) (first : Bool) (p : Pen) (ns out : List 
       (ap (λ (us : List LayerBlock). front_text K first s ++ open_line (bytes "ELEMENT") ∷ show_blocks (known_of s) (layer_table_of s) us []) blocks) w refl many (refl, body))
   opened (suc (suc (suc (suc j)))) few z o w = absurd (omega (arith, few))
 
-module _ (K : Known) (spool : List ℕ) (first : Bool) (p : Pen) (ns out : List ℕ) (s : Set) (k : ℕ) (z : Pens K spool first p ns out (top s k)) (e : Env) (l : Line) (c : e.class ≡ fullClass) (st' : State) (q : step_in e l (top s k) ≡ got st') (ns' out' : List ℕ) (d : Drawn) (size : length out' ≡ length out) (many : length ns' ≡ 28) where
+module _ (K : Known) (spool : List ℕ) (first : Bool) (p : Pen) (ns out : List ℕ) (s : Set) (k : ℕ) (z : Pens K spool first p ns out (top s k)) (e : Env) (l : Line) (c : e.class ≡ full_class) (st' : State) (q : step_in e l (top s k) ≡ got st') (ns' out' : List ℕ) (d : Drawn) (size : length out' ≡ length out) (many : length ns' ≡ 28) where
   pub top_key_lem : (key : Span) (rest : Rest) → l.form ≡ keyed (bytes_at spool key) (rest_in spool rest) → PlacedRest rest → FormFits l.form
       → KeyLine spool first key rest p ns ns' out out' d → LineOut K spool first st' ns' out' d
   top_key_lem key rest f placed fits line =
-      acted {P = LineOut K spool first st' ns' out' d} (top s k) (λ j v. bad 5) (λ i j v. unless (eqb j k) 9 (open_top e l s j)) (λ _. bad 9) (known_of s) (digits 0 0) st'
+      acted {P = LineOut K spool first st' ns' out' d} (top s k) (λ j v. bad 5) (λ i j v. unless (eqb j k) 9 (open_top e l s j)) (bad 9) (known_of s) (digits 0 0) st'
       top_table (rows_at_limit 0 top_table) (bytes_at spool key) (rest_in spool rest) (table-keys true 0 0).0 (subst FormFits f fits) (ap (on_top e l s k) (sym f) ∙ q)
       (λ j r v at w reads o full en. never en)
       (λ j r v at w reads o full op.

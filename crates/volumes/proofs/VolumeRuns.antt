@@ -18,7 +18,7 @@ use Rattle.rules.specs.Sets.{Contents, Set, is_first}
 use Rattle.rules.specs.VolumesAndTotals.{counted_here, counted_all, layers_used, partners_exist}
 use Rattle.rules.specs.Machine.{Line, Env, State, top, file, drawing, layer_names, defines, symbol, hide, elements, figures, successive, texts, placing, skipping, ended, tests_partners, on_top, on_elements}
 use Rattle.rules.specs.LineByLine.{step_in, is_ignored, is_close, is_eof, completes, next_volume, step, Outcome, accepted, then_run, run}
-use Rattle.rules.specs.Answers.{numbered, linesOfVolume, nextName, Listed, listed, noLines, listVolume, listVolumes}
+use Rattle.rules.specs.Answers.{numbered, lines_of_volume, next_name, Listed, listed, no_lines, list_volume, list_volumes}
 use Rattle.rules.proofs.Chains.{On, on-unless, on-got, cond_same, clash, never, map-got, also-got, or_left, nil-snoc}
 use Rattle.rules.proofs.Runs.{not-accepted, finish-ended}
 use Rattle.volumes.specs.Volumes.{through}
@@ -133,9 +133,9 @@ ran-numbered e v next set more (m ∷ ls) l n at st q =
     }
 
 -- a volume with no line is refused
-no_lines : {P : Type 0} (e : Env) (v : ℕ) (next : List ℕ) (set : Set) (more : List Line) (s : Set)
+no_lines_lem : {P : Type 0} (e : Env) (v : ℕ) (next : List ℕ) (set : Set) (more : List Line) (s : Set)
     → run e (top s 0) (record { volume = v; line = 0; last = true; next = next; form = ignored } ∷ more) ≡ accepted set → P
-no_lines e v next set more s q =
+no_lines_lem e v next set more s q =
     let x : Line = record { volume = v; line = 0; last = true; next = next; form = ignored } in
     let (st₁, a, b) = then-run (step e x (top s 0)) x (λ s. run e s more) set q in
     let (st₂, c, d) = map-got next_volume (also (completes x (top s 0)) 9 (step_in e x (top s 0))) st₁ a in
@@ -143,33 +143,33 @@ no_lines e v next set more s q =
     clash f (cond_same (is_nil next) false)
 
 pub ran-volume : (e : Env) (v : ℕ) (next : List ℕ) (at : ℕ) (ls : List (List ℕ)) (set : Set) (more : List Line) (s : Set)
-    → run e (top s 0) (linesOfVolume v next at ls ++ more) ≡ accepted set → Ran e (top s 0) (numbered v next 1 at ls) more set
-ran-volume e v next at [] set more s q = no_lines e v next set more s q
+    → run e (top s 0) (lines_of_volume v next at ls ++ more) ≡ accepted set → Ran e (top s 0) (numbered v next 1 at ls) more set
+ran-volume e v next at [] set more s q = no_lines_lem e v next set more s q
 ran-volume e v next at (l ∷ ls) set more s q = ran-numbered e v next set more ls l 1 at (top s 0) q
 
 -- ── the lines of volumes ──
 abbrev pub Lists : ℕ → List Volume → List Line → Type 0
 Lists k [] ls = ls ≡ []
 Lists k (v ∷ vs) ls =
-    (us : List (List ℕ)) × (more : List Line) × (lines_of v.body ≡ some us) × (ls ≡ linesOfVolume k (nextName vs) v.place us ++ more) × Lists (suc k) vs more
+    (us : List (List ℕ)) × (more : List Line) × (lines_of v.body ≡ some us) × (ls ≡ lines_of_volume k (next_name vs) v.place us ++ more) × Lists (suc k) vs more
 
-not_listed : {P : Type 0} {n : ℕ} {ls : List Line} → noLines n ≡ listed ls → P
+not_listed : {P : Type 0} {n : ℕ} {ls : List Line} → no_lines n ≡ listed ls → P
 not_listed e = absurd (let z : ◌≡◌ {A = ℕ} 0 1 = cc in omega arith)
 
-pub lists_of : (k : ℕ) (vs : List Volume) (ls : List Line) → listVolumes k vs ≡ listed ls → Lists k vs ls
+pub lists_of : (k : ℕ) (vs : List Volume) (ls : List Line) → list_volumes k vs ≡ listed ls → Lists k vs ls
 lists_of k [] ls e = let same : [] ≡ ls = cc in sym same
-lists_of k (v ∷ vs) ls e = go (lines_of v.body) refl (listVolumes (suc k) vs) (λ more q. lists_of (suc k) vs more q) e
+lists_of k (v ∷ vs) ls e = go (lines_of v.body) refl (list_volumes (suc k) vs) (λ more q. lists_of (suc k) vs more q) e
   where
-    go : (o : Option (List (List ℕ))) → lines_of v.body ≡ o → (r : Listed) → ((more : List Line) → r ≡ listed more → Lists (suc k) vs more) → listVolume k v vs o r ≡ listed ls → Lists k (v ∷ vs) ls
+    go : (o : Option (List (List ℕ))) → lines_of v.body ≡ o → (r : Listed) → ((more : List Line) → r ≡ listed more → Lists (suc k) vs more) → list_volume k v vs o r ≡ listed ls → Lists k (v ∷ vs) ls
     go none p r ih h = not_listed h
-    go (some us) p (noLines n) ih h = not_listed h
-    go (some us) p (listed more) ih h = let same : linesOfVolume k (nextName vs) v.place us ++ more ≡ ls = cc in (us, more, p, sym same, ih more refl)
+    go (some us) p (no_lines n) ih h = not_listed h
+    go (some us) p (listed more) ih h = let same : lines_of_volume k (next_name vs) v.place us ++ more ≡ ls = cc in (us, more, p, sym same, ih more refl)
 
 -- a volume has a line at least
 lists-some : (k : ℕ) (v : Volume) (vs : List Volume) (ls : List Line) → Lists k (v ∷ vs) ls → (l : Line) × (rest : List Line) × (ls ≡ l ∷ rest)
 lists-some k v vs ls (us, more, p, e, r) = go us e
   where
-    go : (us : List (List ℕ)) → ls ≡ linesOfVolume k (nextName vs) v.place us ++ more → (l : Line) × (rest : List Line) × (ls ≡ l ∷ rest)
+    go : (us : List (List ℕ)) → ls ≡ lines_of_volume k (next_name vs) v.place us ++ more → (l : Line) × (rest : List Line) × (ls ≡ l ∷ rest)
     go [] e = (_, more, e)
     go (u ∷ us) e = (_, _, e)
 
@@ -225,14 +225,14 @@ module _ (e : Env) (set : Set) where
       pub lines : List (List ℕ)
       pub are : lines_of v.body ≡ some lines
       pub state : State
-      pub goes : through e (top s 0) (numbered k (nextName us) 1 v.place lines) ≡ got state
+      pub goes : through e (top s 0) (numbered k (next_name us) 1 v.place lines) ≡ got state
       pub after : After us state
 
     pub volume-step : (K : Known) (v : Volume) (us : List Volume) (ls : List Line) → is_first s ≡ first → Lists k (v ∷ us) ls → run e (top s 0) ls ≡ accepted set → Stepped v us
     volume-step K v us ls start (lines, more, are, is, rest) q =
-        let r = ran-volume e k (nextName us) v.place lines set more s (ap (run e (top s 0)) (sym is) ∙ q) in
+        let r = ran-volume e k (next_name us) v.place lines set more s (ap (run e (top s 0)) (sym is) ∙ q) in
         let same : Same first s s = record { volumes = refl; drawing = λ _. refl; symbols = λ _. refl } in
-        let sound = (through-goes K first s start e (numbered k (nextName us) 1 v.place lines) (top s 0) r.state same r.goes).0 in
+        let sound = (through-goes K first s start e (numbered k (next_name us) 1 v.place lines) (top s 0) r.state same r.goes).0 in
         record { lines = lines; are = are; state = r.state; goes = r.goes; after = go us rest r.state r.ends sound r.on }
       where
         go : (us : List Volume) → Lists (suc k) us more → (st : State) → Ends st → Sound first s st → run e (next_volume st) more ≡ accepted set → After us st

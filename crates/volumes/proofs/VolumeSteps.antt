@@ -28,7 +28,8 @@ use Rattle.rules.specs.Machine.{symbol_block, wire_block, wire_unread, begin_wir
 use Rattle.rules.specs.RecordTable.{kind_drawing, kind_symbol, kind_layer, kind_line, kind_successive, kind_text, kind_placed, kind_point, kind_hidden, kind_wire, kind_wire_more, kind_edge}
 use Rattle.rules.proofs.Chains.{On, on-unless, on-cond, on-got, and_left, clash, then-got}
 use Rattle.rules.proofs.Rows.{Row, row_below}
-use Rattle.rules.proofs.OnActs.{on-by_act, on-layers, on-taking, on-shut, on_skip}
+use Rattle.promises.proofs.ClosedActs.{on-by_act}
+use Rattle.rules.proofs.OnActs.{on-layers, on-taking, on-shut, on_skip}
 use Rattle.promises.proofs.CountActs.{act-begin}
 use Rattle.volumes.specs.Volumes.{through}
 use Rattle.volumes.proofs.FrontSteps.{unread}
@@ -108,7 +109,7 @@ module _ (K : Known) (first : Bool) (s₀ : Set) (start : is_first s₀ ≡ firs
       four : (k : ℕ) → k ≡ 4 → Sound first s₀ (top s k) → Goes (top s k) (ended s)
       four k e z = subst (λ (m : ℕ). Goes (top s m) (ended s)) (sym e) (record { sound = subst (λ (m : ℕ). Sound first s₀ (top s m)) e z; grows = eof-grows K first s })
   top-goes s k (keyed key c) z =
-      on-by_act (Goes (top s k)) (top s k) (λ j v. bad 5) (λ i j v. unless (eqb j k) 9 (open_top e l s j)) (λ _. bad 9) (act (known_of s) top_table (digits 0 0) (rows_at_limit 0 top_table) (keyed key c))
+      on-by_act (Goes (top s k)) (top s k) (λ j v. bad 5) (λ i j v. unless (eqb j k) 9 (open_top e l s j)) (bad 9) (act (known_of s) top_table (digits 0 0) (rows_at_limit 0 top_table) (keyed key c))
       (stays (top s k) z) (λ j v. tt)
       (λ i j v a.
       on-unless (Goes (top s k)) (eqb j k) 9 (open_top e l s j) λ q.

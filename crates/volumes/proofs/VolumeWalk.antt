@@ -1,5 +1,5 @@
 -- A volume's lines walked through: how far the writing has come, and what one more line makes of it.
-use Prim.Native.Nat.{ℕ, suc, ◌+◌, ◌-◌, ◌<◌}
+use Prim.Native.Nat.{ℕ, suc, ◌+◌, ◌<◌}
 use mathlib.Core.Bool.{Bool, true, false, cond, not}
 use mathlib.Core.List.{List, [], ◌∷◌}
 use mathlib.Core.Path.{◌≡◌, refl, sym, ◌∙◌, ap, subst}
@@ -11,9 +11,9 @@ use Rattle.rules.specs.RefusalNumbers.{got}
 use Rattle.rules.specs.Lines.{Form, form_of}
 use Rattle.rules.specs.Values.{Known}
 use Rattle.rules.specs.Sets.{Set}
-use Rattle.rules.specs.Machine.{Line, Env, State, top, drawing}
+use Rattle.rules.specs.Machine.{Line, Env, State, top}
 use Rattle.rules.specs.LineByLine.{step_in}
-use Rattle.rules.specs.Answers.{numbered, fullClass}
+use Rattle.rules.specs.Answers.{numbered, full_class}
 use Rattle.rules.proofs.Chains.{clash, then-got}
 use Rattle.lines.specs.LineLook.{look_in}
 use Rattle.lines.specs.declared.Seen.{Seen}
@@ -43,7 +43,7 @@ pub record Reading (spool body : List ℕ) (start : ℕ) (first : Bool) : Type 0
   pub lines : List (List ℕ)
   pub set : Set
   pub ends : State
-  pub class-is : env.class ≡ fullClass
+  pub class-is : env.class ≡ full_class
   pub all_lines : LinesAt spool body start start lines
   pub begins : Begins first set
   pub goes : through env (top set 0) (numbered volume name 1 start lines) ≡ got ends

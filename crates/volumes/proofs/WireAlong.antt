@@ -2,7 +2,7 @@
 use Prim.Native.Nat.{ℕ, zero, suc, ◌+◌, ◌-◌, ◌≤◌}
 use mathlib.Core.Bool.{Bool, true, false, cond, ◌&&◌, ◌||◌, not}
 use mathlib.Core.List.{List, [], ◌∷◌, ◌++◌, map}
-use mathlib.Core.Option.{none, some}
+use mathlib.Core.Option.{some}
 use mathlib.Core.Path.{◌≡◌, refl, sym, ◌∙◌, ap, subst}
 use native.Mathlib.Omega.{arith}
 use borrow.Author.Tests.{ne_eqb, eq-eqb, eqb-true, le-leb}
@@ -24,11 +24,12 @@ use Rattle.rules.specs.Machine.{Line, Env, Home, in_element, in_layer, State, to
 use Rattle.rules.specs.PlacedSymbol.{on_unknown, new_serial, on_placed, on_placed_key, on_placed_own, on_placing}
 use Rattle.rules.specs.Wires.{joins_ends, last_edge, join_of, joined, with_element, group_at, with_groups, with_once, with_texts, is_group_row, with_attribute, nums_alike, new_number, on_wire_own, on_wire_text}
 use Rattle.rules.specs.LineByLine.{step_in}
-use Rattle.rules.specs.Answers.{fullClass}
-use Rattle.rules.specs.FixedForm.{Text, open_line, no_inner, line_of, block, show_group, show_slots, show_wire_texts}
+use Rattle.rules.specs.Answers.{full_class}
+use Rattle.rules.specs.FixedForm.{Text, open_line, no_inner, line_of, show_group, show_slots, show_wire_texts}
 use Rattle.rules.proofs.Chains.{On, on-unless, on-cond, on_then, on-got, never, clash, unless-got}
 use Rattle.rules.proofs.Rows.{Row}
-use Rattle.rules.proofs.OnActs.{on-by_act, on-taking, on-shut, on_skip}
+use Rattle.promises.proofs.ClosedActs.{on-by_act}
+use Rattle.rules.proofs.OnActs.{on-taking, on-shut, on_skip}
 use Rattle.prints.specs.Reading.{Reads}
 use Rattle.pens.specs.declared.Pen.{Pen}
 use Rattle.pens.specs.Drawing.{FormFits}
@@ -162,7 +163,7 @@ module _ (spool body : List ℕ) (start : ℕ) where
     }
 
   -- ── a wire's line ──
-  module _ (from : ℕ) (fs : List Form) (e : Env) (l : Line) (c : e.class ≡ fullClass) (fits : FormFits l.form) (st' : State) (s : Set) (m : ℕ) (gs : List Figure) (n : ℕ) (w : Wire)
+  module _ (from : ℕ) (fs : List Form) (e : Env) (l : Line) (c : e.class ≡ full_class) (fits : FormFits l.form) (st' : State) (s : Set) (m : ℕ) (gs : List Figure) (n : ℕ) (w : Wire)
       (three : length w.groups ≡ 3) (served : served_wires (wire_range s) ≡ true) where
     abbrev to : State → Type 0
     to st = Along spool body start from fs st
@@ -375,7 +376,7 @@ module _ (spool body : List ℕ) (start : ℕ) where
 
   -- ── any line ──
   -- from: the place of the line behind the opener of the wire that is open; elsewhere it is that of the next line
-  module _ (K : Known) (first : Bool) (p : Pen) (ns : List ℕ) (from next : ℕ) (ls : List (List ℕ)) (left : LinesAt spool body start next ls) (e : Env) (l : Line) (c : e.class ≡ fullClass) (fits : FormFits l.form) (st' : State) where
+  module _ (K : Known) (first : Bool) (p : Pen) (ns : List ℕ) (from next : ℕ) (ls : List (List ℕ)) (left : LinesAt spool body start next ls) (e : Env) (l : Line) (c : e.class ≡ full_class) (fits : FormFits l.form) (st' : State) where
     abbrev there : Bool → Type 0
     there b = Along spool body start (cond b from next) (forms_of next ls) st'
 

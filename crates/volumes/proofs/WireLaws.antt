@@ -22,7 +22,7 @@ use Rattle.rules.specs.Sets.{Edge, Wire, Figure, wired, Set, with_records, join_
 use Rattle.rules.specs.Machine.{Line, Env, in_layer, State, figures, placing, wire_block, taking}
 use Rattle.rules.specs.Wires.{joins_ends, last_edge, join_of, joined, with_element, group_at, with_texts, is_group_row, with_groups, with_once, with_attribute, nums_alike, new_number, on_element, on_wire_own, on_wire_text}
 use Rattle.rules.specs.LineByLine.{step_in}
-use Rattle.rules.specs.Answers.{fullClass}
+use Rattle.rules.specs.Answers.{full_class}
 use Rattle.rules.specs.FixedForm.{Text, open_line, opens_block, line_of, show_edges, show_group, show_wire_texts, show_wire}
 use Rattle.rules.proofs.Chains.{unless-got}
 use Rattle.rules.proofs.Rows.{Row, row-all, row_below}
@@ -33,7 +33,6 @@ use Rattle.entries.specs.Shapes.{rest_in}
 use Rattle.prints.specs.Reading.{Reads}
 use Rattle.pens.specs.declared.Pen.{Pen}
 use Rattle.pens.specs.declared.Drawn.{Drawn}
-use Rattle.pens.specs.declared.Drawn.TheVariants as D
 use Rattle.pens.specs.Texts.{ended, line_bytes, Draws}
 use Rattle.pens.specs.Moves.{moved, is_opener, at_once, key_pen, table_for}
 use Rattle.pens.specs.Noting.{note_of, key_notes, Noted}
@@ -187,7 +186,7 @@ attribute-noted K spool first p ns s m w j x v many lo hi ne some-note note z = 
             let differ = eqb-false i j q in
             rw (other i differ, get_or-set_other w.own j i (some v) none differ) (z.noted i l h)
 
-module _ (K : Known) (spool : List ℕ) (first : Bool) (p : Pen) (ns out : List ℕ) (e : Env) (l : Line) (c : e.class ≡ fullClass)
+module _ (K : Known) (spool : List ℕ) (first : Bool) (p : Pen) (ns out : List ℕ) (e : Env) (l : Line) (c : e.class ≡ full_class)
     (st' : State) (ns' out' : List ℕ) (d : Drawn) (size : length out' ≡ length out) (many : length ns' ≡ 28)
     (s : Set) (m : ℕ) (fs : List Figure) (n : ℕ) (w : Wire) where
   abbrev k : Known

@@ -1,5 +1,5 @@
 -- A wire's rows: what a line with a key does, by its row; the text of all rows, one behind the other.
-use Prim.Native.Nat.{ℕ, zero, suc, ◌+◌, ◌-◌, ◌/◌, ◌%◌, ◌≤◌, ◌<◌}
+use Prim.Native.Nat.{ℕ, zero, suc, ◌/◌, ◌%◌, ◌≤◌, ◌<◌}
 use mathlib.Core.Bool.{Bool, true, false, cond, ◌&&◌, ◌||◌}
 use mathlib.Core.List.{List, [], ◌∷◌, ◌++◌, append_assoc}
 use mathlib.Core.Option.{none, some}
@@ -20,7 +20,7 @@ use Rattle.rules.specs.RecordTable.{rule_at}
 use Rattle.rules.specs.Sets.{Wire, Figure, Set, wire_range, wires_of, known_of}
 use Rattle.rules.specs.Machine.{Line, Env, State, placing, wire_block}
 use Rattle.rules.specs.Wires.{group_at, with_texts, wire_full, is_element_row, on_element, on_attribute, on_wire_act, on_wire_unknown, on_wire_key, on_wire_own, on_wire_text}
-use Rattle.rules.specs.Answers.{fullClass}
+use Rattle.rules.specs.Answers.{full_class}
 use Rattle.rules.specs.FixedForm.{Text, no_inner, opens_block, show_group, show_groups, show_slot, show_slots, show_wire_texts}
 use Rattle.rules.proofs.Chains.{clash, same-eq, and_left, and_right, cond_true}
 use Rattle.rules.proofs.Rows.{Row, found-row, row-all, row_at, row_below}
@@ -34,13 +34,13 @@ use Rattle.volumes.proofs.Acted.{acted, row-acted}
 use Rattle.volumes.proofs.PlacedLaws.{unknown}
 
 -- ── wire part 18 knows every key, and no E_wire that is served exceeds it ──
-pub wires-full : (n : ℕ) → served_wires n ≡ true → exceeds (digits_of n) fullClass.wires ≡ false
+pub wires-full : (n : ℕ) → served_wires n ≡ true → exceeds (digits_of n) full_class.wires ≡ false
 wires-full n e = go (eqb n 0) refl e
   where
-    few : n / 10 % 10 ≤ 1 → n % 10 ≤ 8 → exceeds (digits_of n) fullClass.wires ≡ false
+    few : n / 10 % 10 ≤ 1 → n % 10 ≤ 8 → exceeds (digits_of n) full_class.wires ≡ false
     few m l = rw (le-ltb 1 (n / 10 % 10) m, le-ltb 8 (n % 10) l)
 
-    go : (b : Bool) → eqb n 0 ≡ b → (b || (leb (n / 100) 4 && (leb (n / 10 % 10) 1 && within 1 8 (n % 10)))) ≡ true → exceeds (digits_of n) fullClass.wires ≡ false
+    go : (b : Bool) → eqb n 0 ≡ b → (b || (leb (n / 100) 4 && (leb (n / 10 % 10) 1 && within 1 8 (n % 10)))) ≡ true → exceeds (digits_of n) full_class.wires ≡ false
     go true q e = let z = eqb-true n 0 q in few (omega (arith, z)) (omega (arith, z))
     go false q e =
         let rest = and_right (leb (n / 100) 4) _ e in
@@ -57,7 +57,7 @@ rows-ten = refl
 pub row-ten : {j : ℕ} {r : Rule} → Row wire_table j r → j < 10
 row-ten w = omega (arith, row_below w, rows-ten)
 
-known-rows : all (λ r. reaches fullClass.wires r.least) wire_table ≡ true
+known-rows : all (λ r. reaches full_class.wires r.least) wire_table ≡ true
 unfolding wire_table
 known-rows = refl
 
@@ -95,7 +95,7 @@ unfolding wire_table
 five-opens v = refl
 
 -- ── a line with a key ──
-module _ {P : Type 0} (e : Env) (l : Line) (c : e.class ≡ fullClass) (s : Set) (m : ℕ) (fs : List Figure) (n : ℕ) (w : Wire) (key : List ℕ) (x : Rest) (fits : FormFits (keyed key x)) (st' : State) where
+module _ {P : Type 0} (e : Env) (l : Line) (c : e.class ≡ full_class) (s : Set) (m : ℕ) (fs : List Figure) (n : ℕ) (w : Wire) (key : List ℕ) (x : Rest) (fits : FormFits (keyed key x)) (st' : State) where
   -- directly in the wire
   pub wire-acted : served_wires (wire_range s) ≡ true → on_wire_own e l s m fs n w (keyed key x) ≡ got st'
       → ((j : ℕ) (r : Rule) (v : Value) → find key wire_table ≡ found j r → Row wire_table j r → Reads (known_of s) r x v → j < 2 → on_element e l s m fs n w j (nums_of v) ≡ got st' → P)
@@ -136,7 +136,7 @@ module _ {P : Type 0} (e : Env) (l : Line) (c : e.class ≡ fullClass) (s : Set)
       by (found j r) f u = past (is_element_row j && w.past) u
         where
           knows : reaches e.class.wires r.least ≡ true
-          knows = ap (λ (y : Class). reaches y.wires r.least) c ∙ row-all (λ r. reaches fullClass.wires r.least) (found-row key wire_table j r f).0 known-rows
+          knows = ap (λ (y : Class). reaches y.wires r.least) c ∙ row-all (λ r. reaches full_class.wires r.least) (found-row key wire_table j r f).0 known-rows
 
           past : (b : Bool) → cond b (on_wire_act e l s m fs n w (act_unknown x))
               (cond (reaches e.class.wires r.least) (on_wire_act e l s m fs n w (act_row (known_of s) (wires_of s) (get_or (wire_full w) j false) j r x)) (on_wire_unknown e l s m fs n w key x)) ≡ got st' → P

@@ -1,5 +1,5 @@
 -- What is written of a volume, line by line.
-use Rattle.std.specs.Prelude.{ℕ, zero, suc, ◌+◌, ◌/◌, ◌%◌, ◌≤◌, Bool, true, false, ◌≡◌, List, [], ◌∷◌, ◌++◌, length, take}
+use Rattle.std.specs.Prelude.{ℕ, zero, suc, ◌/◌, ◌%◌, ◌≤◌, Bool, true, false, ◌≡◌, List, [], ◌∷◌, ◌++◌, length, take}
 use Rattle.rules.specs.Spool.{padded_name, unlines, volume_bytes}
 use Rattle.rules.specs.RefusalNumbers.{Got, got, and_then}
 use Rattle.rules.specs.Values.{Known}
@@ -7,7 +7,7 @@ use Rattle.rules.specs.Sets.{Set, is_first}
 use Rattle.rules.specs.Machine.{Line, Env, State, top, file, drawing, layer_names, defines, symbol, hide, elements, figures, successive, texts, placing}
 use Rattle.rules.specs.Machine.{skipping, ended}
 use Rattle.rules.specs.LineByLine.{step_in, accepted}
-use Rattle.rules.specs.Answers.{numbered, fullClass, rewriteOutcome, written}
+use Rattle.rules.specs.Answers.{numbered, full_class, rewrite_outcome, written}
 use Rattle.leaves.specs.declared.Wrote.{Wrote}
 use Rattle.leaves.specs.declared.Wrote.TheVariants as W
 use Rattle.leaves.specs.Writing.{put_answer}
@@ -60,7 +60,7 @@ pub record BodyOut (K : Known) (first : Bool) (st : State) (before after : List 
 
 abbrev pub BodyPromise : List ℕ → List ℕ → ℕ → Bool → List ℕ → List ℕ → Wrote → Type 0
 BodyPromise spool body start first before after r =
-    (K : Known) (e : Env) (v : ℕ) (next : List ℕ) (ls : List (List ℕ)) (s : Set) (st : State) → e.class ≡ fullClass
+    (K : Known) (e : Env) (v : ℕ) (next : List ℕ) (ls : List (List ℕ)) (s : Set) (st : State) → e.class ≡ full_class
     → LinesAt spool body start start ls → Begins first s
     → through e (top s 0) (numbered v next 1 start ls) ≡ got st → BodyOut K first st before after r
 
@@ -74,11 +74,11 @@ pub record VolumeOut (K : Known) (first : Bool) (name : List ℕ) (st : State) (
 
 abbrev pub VolumePromise : List ℕ → List ℕ → ℕ → Bool → List ℕ → List ℕ → Wrote → Type 0
 VolumePromise spool body start first before after r =
-    (K : Known) (e : Env) (v : ℕ) (next : List ℕ) (ls : List (List ℕ)) (s : Set) (st : State) → e.class ≡ fullClass
+    (K : Known) (e : Env) (v : ℕ) (next : List ℕ) (ls : List (List ℕ)) (s : Set) (st : State) → e.class ≡ full_class
     → LinesAt spool body start start ls → Begins first s
     → through e (top s 0) (numbered v next 1 start ls) ≡ got st → VolumeOut K first (name_at spool start) st before after r
 
 -- ── the set ──
 -- an accepted spool's fixed form
 abbrev pub SetPromise : List ℕ → List ℕ → List ℕ → Wrote → Type 0
-SetPromise spool before after r = (set : Set) → rewriteOutcome spool ≡ accepted set → Fronts (written spool) before after r
+SetPromise spool before after r = (set : Set) → rewrite_outcome spool ≡ accepted set → Fronts (written spool) before after r

@@ -1,10 +1,10 @@
 use Prim.Native.Nat.{zero-le}
-use mathlib.Core.Path.{refl}
 use Rattle.rules.specs.Blocks.{drawing_table}
 use Rattle.keywords.proofs.KeyTexts.{past, key-none}
 use borrow.Author.Rules.{rules}
 use Rattle.keywords.proofs.drawing_key.Goals as goal
 
+-- Made by tools/make-keys from the definitions' rows: change those, or the script.
 pub put-requires : goal.put-requires
 put-requires c = tt
 

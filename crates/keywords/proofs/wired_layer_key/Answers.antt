@@ -1,5 +1,4 @@
 use Prim.Native.Nat.{zero-le}
-use mathlib.Core.Path.{refl}
 use Rattle.rules.specs.Figures.{layer_table}
 use Rattle.keywords.proofs.KeyTexts.{past, key-none}
 use mathlib.Core.Bool.{false}
@@ -7,6 +6,7 @@ use mathlib.Core.Bool.{true}
 use borrow.Author.Rules.{rules}
 use Rattle.keywords.proofs.wired_layer_key.Goals as goal
 
+-- Made by tools/make-keys from the definitions' rows: change those, or the script.
 pub put-requires : goal.put-requires
 put-requires c = tt
 

@@ -1,0 +1,18 @@
+use Prim.Native.Nat.{◌+◌, ◌-◌}
+use mathlib.Core.Path.{sym}
+use native.Mathlib.Omega.{arith}
+use borrow.Author.Rules.{rules}
+use Rattle.account.specs.Walk.{end_of}
+use Rattle.account.proofs.SeenLines.{seen-forward}
+use Rattle.account.proofs.SkipRun.{Going, start, at_last, stays, shut, refuses, too-deep, inner_ready, inner-stops, goes_on}
+use Prim.Native.Nat.{ℕ, ◌<◌}
+use Rattle.elements.proofs.skip.+skip_block.Given as goal
+
+abbrev pub decreases-skip_block : goal.decreases-skip_block
+decreases-skip_block l = l.left
+
+abbrev pub invariant-loop-did : goal.invariant-loop-did
+invariant-loop-did l = Going l.s l.body l.v l.left (record { at = l.initial.at; line = l.initial.line }) (record { at = l.at; line = l.line })
+
+abbrev pub decreases-loop-did : goal.decreases-loop-did
+decreases-loop-did l = end_of l.body l.v + 1 - l.at

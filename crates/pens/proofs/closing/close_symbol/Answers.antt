@@ -1,0 +1,135 @@
+use Rattle.rules.specs.Blocks.{symbol_table}
+use Rattle.rules.specs.RecordTable.{rule_at}
+use Rattle.pens.specs.Closing.{row_bytes, shut_bytes}
+use native.Mathlib.Omega.{arith}
+use Prim.Native.Nat.{◌+◌}
+use mathlib.Core.List.{◌++◌}
+use lib.ListN.{length}
+use Rattle.pens.proofs.Writers.{room-left, kept-long, kept_full, kept_then, lays, no_room, drawn_then, inserted, inserted-none, turned-room, last-same, last-room, last-full, last-lays, last_none}
+use Rattle.pens.proofs.Closings.{shut_at, shut_none, safe-there, name-row, wall-row}
+use borrow.Author.Rules.{rules}
+use Rattle.pens.proofs.closing.close_symbol.Goals as goal
+
+pub bounds-notes-0 : goal.bounds-notes-0
+bounds-notes-0 c = search rules
+
+pub slice_bounds-put_noted-count : goal.slice_bounds-put_noted-count
+slice_bounds-put_noted-count c = search rules
+
+pub slice_bounds-put_noted-start : goal.slice_bounds-put_noted-start
+slice_bounds-put_noted-start c = search rules
+
+pub slice_bounds-put_noted-end : goal.slice_bounds-put_noted-end
+slice_bounds-put_noted-end c = search rules
+
+pub put_noted-named-requires : goal.put_noted-named-requires
+put_noted-named-requires c = search rules
+
+pub enum_known-named : goal.enum_known-named
+enum_known-named c = search rules
+
+pub enum_told-1 : goal.enum_told-1
+enum_told-1 c = search rules
+
+pub shape_of-out-in_default : goal.shape_of-out-in_default
+shape_of-out-in_default c = search rules
+
+pub returns-in_default : goal.returns-in_default
+returns-in_default c =
+    let args = c.args in
+    let pre = c.requires in
+    let the-put-noted = c.put_noted-named in
+    (kept_full args.out.now args.pen.at pre.0.within _ _ the-put-noted.ensures.0, λ k a b x y. inserted-none (row_bytes k (rule_at symbol_table 0) a) ((row_bytes k (rule_at symbol_table 3) b) ++ shut_bytes) args.pen.start args.pen.at _ args.out.now _ (no_room args.out.now args.pen.at pre.0.within _ _ (row_bytes k (rule_at symbol_table 0) a) (the-put-noted.ensures.1 k (rule_at symbol_table 0) a name-row x) c.in_default.is))
+
+pub overflow_add-to : goal.overflow_add-to
+overflow_add-to c =
+    let args = c.args in
+    let pre = c.requires in
+    record { fits = omega (arith, room-left args.out.now args.pen.at pre.0.within _ _ c.put_noted-named.ensures.0 c.in-Bytes.n c.in-Bytes.is) }
+
+pub slice_bounds-exchange-count : goal.slice_bounds-exchange-count
+slice_bounds-exchange-count c = search rules
+
+pub slice_bounds-exchange-start : goal.slice_bounds-exchange-start
+slice_bounds-exchange-start c = search rules
+
+pub slice_bounds-exchange-end : goal.slice_bounds-exchange-end
+slice_bounds-exchange-end c =
+    let args = c.args in
+    let pre = c.requires in
+    let the-put-noted = c.put_noted-named in
+    omega (arith, room-left args.out.now args.pen.at pre.0.within _ _ the-put-noted.ensures.0 c.in-Bytes.n c.in-Bytes.is, kept-long args.out.now args.pen.at pre.0.within _ _ the-put-noted.ensures.0)
+
+pub overflow_sub-middle : goal.overflow_sub-middle
+overflow_sub-middle c = search rules
+
+pub exchange-requires : goal.exchange-requires
+exchange-requires c = search rules
+
+pub bounds-notes-3 : goal.bounds-notes-3
+bounds-notes-3 c = search rules
+
+pub slice_bounds-put_noted-count-2 : goal.slice_bounds-put_noted-count-2
+slice_bounds-put_noted-count-2 c =
+    let args = c.args in
+    let pre = c.requires in
+    let the-put-noted = c.put_noted-named in
+    turned-room args.out.now args.pen.at pre.0.within _ _ the-put-noted.ensures.0 c.in-Bytes.n c.in-Bytes.is args.pen.start _ c.exchange.ensures
+
+pub slice_bounds-put_noted-start-2 : goal.slice_bounds-put_noted-start-2
+slice_bounds-put_noted-start-2 c =
+    let args = c.args in
+    let pre = c.requires in
+    let the-put-noted = c.put_noted-named in
+    turned-room args.out.now args.pen.at pre.0.within _ _ the-put-noted.ensures.0 c.in-Bytes.n c.in-Bytes.is args.pen.start _ c.exchange.ensures
+
+pub slice_bounds-put_noted-end-2 : goal.slice_bounds-put_noted-end-2
+slice_bounds-put_noted-end-2 c = search rules
+
+pub put_noted-walled-requires : goal.put_noted-walled-requires
+put_noted-walled-requires c = search rules
+
+pub enum_known-walled : goal.enum_known-walled
+enum_known-walled c = search rules
+
+pub enum_told-in_default-walled : goal.enum_told-in_default-walled
+enum_told-in_default-walled c = search rules
+
+pub shape_of-out-in_default-walled : goal.shape_of-out-in_default-walled
+shape_of-out-in_default-walled c = search rules
+
+pub returns-in_default-walled : goal.returns-in_default-walled
+returns-in_default-walled c =
+    let args = c.args in
+    let pre = c.requires in
+    let the-put-noted = c.put_noted-named in
+    let the-exchange = c.exchange in
+    let the-put-noted2 = c.put_noted-walled in
+    (last-full args.out.now args.pen.at pre.0.within _ _ the-put-noted.ensures.0 c.in-Bytes.n c.in-Bytes.is args.pen.start _ the-exchange.ensures _ _ the-put-noted2.ensures.0, λ k a b x y. let l = lays args.out.now args.pen.at pre.0.within _ _ (row_bytes k (rule_at symbol_table 0) a) (the-put-noted.ensures.1 k (rule_at symbol_table 0) a name-row x) c.in-Bytes.n c.in-Bytes.is in inserted (row_bytes k (rule_at symbol_table 0) a) c.in-Bytes.n args.pen.at args.out.now _ l args.pen.start pre.0.begun _ the-exchange.ensures ((row_bytes k (rule_at symbol_table 3) b) ++ shut_bytes) _ _ _ (shut_none (row_bytes k (rule_at symbol_table 3) b) (args.pen.at + c.in-Bytes.n) _ _ _ (last_none args.out.now args.pen.at pre.0.within _ _ the-put-noted.ensures.0 c.in-Bytes.n c.in-Bytes.is args.pen.start _ the-exchange.ensures _ _ (row_bytes k (rule_at symbol_table 3) b) (the-put-noted2.ensures.1 k (rule_at symbol_table 3) b wall-row y) c.in_default-walled.is)))
+
+pub overflow_add-n : goal.overflow_add-n
+overflow_add-n c = record { fits = omega (arith, last-room c.args.out.now c.args.pen.at c.requires.0.within _ _ c.put_noted-named.ensures.0 c.in-Bytes.n c.in-Bytes.is c.args.pen.start _ c.exchange.ensures _ _ c.put_noted-walled.ensures.0 c.in-Bytes-walled.m c.in-Bytes-walled.is) }
+
+pub at_block-requires : goal.at_block-requires
+at_block-requires c = omega (arith, last-room c.args.out.now c.args.pen.at c.requires.0.within _ _ c.put_noted-named.ensures.0 c.in-Bytes.n c.in-Bytes.is c.args.pen.start _ c.exchange.ensures _ _ c.put_noted-walled.ensures.0 c.in-Bytes-walled.m c.in-Bytes-walled.is)
+
+pub shut-requires : goal.shut-requires
+shut-requires c =
+    let args = c.args in
+    let pre = c.requires in
+    let the-put-noted = c.put_noted-named in
+    let the-exchange = c.exchange in
+    let the-put-noted2 = c.put_noted-walled in
+    safe-there args.pen _ (c.in-Bytes.n + c.in-Bytes-walled.m) 5 c.at_block.ensures _ pre.0.begun (omega (arith, last-room args.out.now args.pen.at pre.0.within _ _ the-put-noted.ensures.0 c.in-Bytes.n c.in-Bytes.is args.pen.start _ the-exchange.ensures _ _ the-put-noted2.ensures.0 c.in-Bytes-walled.m c.in-Bytes-walled.is, last-same args.out.now args.pen.at pre.0.within _ _ the-put-noted.ensures.0 c.in-Bytes.n c.in-Bytes.is args.pen.start _ the-exchange.ensures _ _ the-put-noted2.ensures.0))
+
+pub shape_of-out : goal.shape_of-out
+shape_of-out c = search rules
+
+pub returns : goal.returns
+returns c =
+    let args = c.args in
+    let pre = c.requires in
+    let the-put-noted = c.put_noted-named in
+    let the-exchange = c.exchange in
+    let the-put-noted2 = c.put_noted-walled in
+    (kept_then _ _ _ _ (last-same args.out.now args.pen.at pre.0.within _ _ the-put-noted.ensures.0 c.in-Bytes.n c.in-Bytes.is args.pen.start _ the-exchange.ensures _ _ the-put-noted2.ensures.0) c.shut.ensures.0, λ k a b x y. let l = lays args.out.now args.pen.at pre.0.within _ _ (row_bytes k (rule_at symbol_table 0) a) (the-put-noted.ensures.1 k (rule_at symbol_table 0) a name-row x) c.in-Bytes.n c.in-Bytes.is in let m = last-lays args.out.now args.pen.at pre.0.within _ _ the-put-noted.ensures.0 c.in-Bytes.n c.in-Bytes.is args.pen.start _ the-exchange.ensures _ _ (row_bytes k (rule_at symbol_table 3) b) (the-put-noted2.ensures.1 k (rule_at symbol_table 3) b wall-row y) c.in-Bytes-walled.m c.in-Bytes-walled.is in inserted (row_bytes k (rule_at symbol_table 0) a) c.in-Bytes.n args.pen.at args.out.now _ l args.pen.start pre.0.begun _ the-exchange.ensures ((row_bytes k (rule_at symbol_table 3) b) ++ shut_bytes) _ _ _ (drawn_then (row_bytes k (rule_at symbol_table 3) b) c.in-Bytes-walled.m (args.pen.at + c.in-Bytes.n) _ _ m shut_bytes _ _ _ (shut_at args.pen _ (c.in-Bytes.n + c.in-Bytes-walled.m) 5 c.at_block.ensures (length (row_bytes k (rule_at symbol_table 0) a) + (length (row_bytes k (rule_at symbol_table 3) b) + 3)) 4 ((args.pen.at + c.in-Bytes.n) + c.in-Bytes-walled.m) _ _ _ (omega (arith, l.size, m.size)) (omega arith) c.shut.ensures.1)))

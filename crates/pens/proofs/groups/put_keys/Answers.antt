@@ -1,0 +1,58 @@
+use mathlib.Core.Path.{◌∙◌}
+use native.Mathlib.Omega.{arith}
+use Rattle.pens.proofs.Behind.{within-full}
+use Rattle.pens.proofs.Writers.{kept-long, room-left}
+use Rattle.pens.proofs.KeysLaws.{keys-begin, keys-within, keys-end, keys-more, keys-full}
+use borrow.Author.Rules.{rules}
+use Rattle.pens.proofs.groups.put_keys.Goals as goal
+
+pub loop-j-init : goal.loop-j-init
+loop-j-init c = keys-begin _ _ _ _ _ _
+
+pub overflow_cast-j : goal.overflow_cast-j
+overflow_cast-j c = search rules
+
+pub slice_bounds-put_lines-count : goal.slice_bounds-put_lines-count
+slice_bounds-put_lines-count c = omega (arith, c.loop-j.invariant.within, c.loop-j.invariant.long)
+
+pub slice_bounds-put_lines-start : goal.slice_bounds-put_lines-start
+slice_bounds-put_lines-start c = omega (arith, c.loop-j.invariant.within, c.loop-j.invariant.long)
+
+pub slice_bounds-put_lines-end : goal.slice_bounds-put_lines-end
+slice_bounds-put_lines-end c = omega (arith, c.loop-j.invariant.within, c.loop-j.invariant.long)
+
+pub put_lines-requires : goal.put_lines-requires
+put_lines-requires c = search rules
+
+pub enum_known-m : goal.enum_known-m
+enum_known-m c = search rules
+
+pub enum_told-1 : goal.enum_told-1
+enum_told-1 c = search rules
+
+pub shape_of-out-in_default : goal.shape_of-out-in_default
+shape_of-out-in_default c = kept-long c.loop-j.out c.loop-j.n (omega (arith, c.loop-j.invariant.within, c.loop-j.invariant.long)) _ _ c.put_lines.ensures.0 ∙ c.loop-j.invariant.long
+
+pub returns-in_default : goal.returns-in_default
+returns-in_default c = (
+  within-full _ _ (kept-long c.loop-j.out c.loop-j.n (omega (arith, c.loop-j.invariant.within, c.loop-j.invariant.long)) _ _ c.put_lines.ensures.0 ∙ c.loop-j.invariant.long),
+  keys-full _ _ _ _ _ _ _ _ _ c.loop-j.invariant c.loop-j-test.true _ _ c.put_lines.ensures.1 c.in_default.is _,
+)
+
+pub overflow_add-n : goal.overflow_add-n
+overflow_add-n c = omega (arith, c.loop-j.invariant.long, room-left c.loop-j.out c.loop-j.n (omega (arith, c.loop-j.invariant.within, c.loop-j.invariant.long)) _ _ c.put_lines.ensures.0 c.in-Bytes.m c.in-Bytes.is)
+
+pub overflow_add-j : goal.overflow_add-j
+overflow_add-j c = omega (arith, c.loop-j-test.true)
+
+pub loop-j-smaller : goal.loop-j-smaller
+loop-j-smaller c = omega (arith, c.loop-j-test.true)
+
+pub loop-j-preserved : goal.loop-j-preserved
+loop-j-preserved c = keys-more _ _ _ _ _ _ _ _ _ c.loop-j.invariant c.loop-j-test.true _ _ c.put_lines.ensures.1 c.in-Bytes.m c.in-Bytes.is c.put_lines.ensures.0
+
+pub shape_of-out : goal.shape_of-out
+shape_of-out c = c.loop-j.invariant.long
+
+pub returns : goal.returns
+returns c = (keys-within _ _ _ _ _ _ _ _ _ c.loop-j.invariant, keys-end _ _ _ _ _ _ _ _ _ c.loop-j.invariant c.loop-j-test.false)

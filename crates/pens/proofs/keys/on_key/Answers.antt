@@ -1,0 +1,58 @@
+use mathlib.Core.Path.{refl, ◌∙◌}
+use Rattle.pens.specs.Keys.{is_brace}
+use Rattle.pens.proofs.KeyRows.{plain-table, no_row, on_row}
+use Rattle.pens.proofs.Writers.{kept-still}
+use borrow.Author.Rules.{rules}
+use Rattle.pens.proofs.keys.on_key.Goals as goal
+
+pub key_names-requires : goal.key_names-requires
+key_names-requires c = search rules
+
+pub shape_of-out-then-pen-eq-BLOCK_LAYER_NAMES : goal.shape_of-out-then-pen-eq-BLOCK_LAYER_NAMES
+shape_of-out-then-pen-eq-BLOCK_LAYER_NAMES c = search rules
+
+pub returns-then-pen-eq-BLOCK_LAYER_NAMES : goal.returns-then-pen-eq-BLOCK_LAYER_NAMES
+returns-then-pen-eq-BLOCK_LAYER_NAMES c = (c.key_names.ensures.0, c.requires.1, record { name = λ _. (c.key_names.ensures.1, refl); row = λ h. absurd (h c.if-pen-eq-BLOCK_LAYER_NAMES.true) })
+
+pub table_of-table-requires : goal.table_of-table-requires
+table_of-table-requires c = search rules
+
+pub part-requires : goal.part-requires
+part-requires c = search rules
+
+pub row_of-requires : goal.row_of-requires
+row_of-requires c = search rules
+
+pub enum_told-1 : goal.enum_told-1
+enum_told-1 c = search rules
+
+pub enum_known-row : goal.enum_known-row
+enum_known-row c = search rules
+
+pub row_line-requires : goal.row_line-requires
+row_line-requires c =
+    let args = c.args in
+    let pre = c.requires in
+    let the-table-of = c.table_of-table in
+    (pre.0, pre.1, plain-table args.first args.pen (is_brace args.rest) _ the-table-of.ensures)
+
+pub returns-in-Absent : goal.returns-in-Absent
+returns-in-Absent c =
+    let pre = c.requires in
+    (kept-still _ _ pre.0, pre.1, record { name = λ h. absurd (c.if-pen-eq-BLOCK_LAYER_NAMES.false h); row = λ _ k j q v f g. no_row _ _ _ _ j q _ c.part.ensures c.table_of-table.ensures c.in-Absent.is c.row_of.ensures f })
+
+pub shape_of-notes : goal.shape_of-notes
+shape_of-notes c = search rules
+
+pub shape_of-out : goal.shape_of-out
+shape_of-out c = search rules
+
+pub returns-in-Row : goal.returns-in-Row
+returns-in-Row c =
+    let pre = c.requires in
+    let the-if1 = c.if-pen-eq-BLOCK_LAYER_NAMES in
+    let the-table-of = c.table_of-table in
+    let the-part = c.part in
+    let the-row-of = c.row_of in
+    let the-row-line = c.row_line in
+    (the-row-line.ensures.0, the-row-line.ensures.1 ∙ pre.1, record { name = λ h. absurd (the-if1.false h); row = λ _ k j q v f g. on_row _ _ k q v _ _ _ _ _ _ _ _ _ _ j _ the-part.ensures the-table-of.ensures c.in-Row.is the-row-of.ensures f (λ i. the-row-line.ensures.2 k q v i g) })

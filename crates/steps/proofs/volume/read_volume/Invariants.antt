@@ -1,0 +1,20 @@
+use borrow.Author.Rules.{rules}
+use mathlib.Core.Path.{◌≡◌, refl, ◌∙◌}
+use native.Mathlib.Omega.{arith}
+use Prim.Native.Nat.{◌+◌, ◌-◌}
+use lib.ListN.{length}
+use Rattle.standing.specs.Standing.{Desk, desk}
+use Rattle.account.specs.Walk.{end_of}
+use Rattle.account.proofs.SeenLines.{seen-forward}
+use Rattle.steps.proofs.VolumeLoop.{back_desk, SameLengths, OwnLengths}
+use Rattle.steps.proofs.VolumeLoopTurns.{none_following, skipped-further, Turn, begins, turn-empty, turn_ready, turn-own, same-on, own_on, turn-go, turn-block, turn_skip, turn-left, turn-stop, turn_last}
+use Rattle.steps.proofs.volume.read_volume.Given as goal
+
+abbrev pub invariant-loop-at : goal.invariant-loop-at
+invariant-loop-at l =
+    Turn l.class l.s l.body l.v l.following l.limit (desk l.initial.here l.initial.tally l.initial.symbols l.initial.layers l.initial.serials l.initial.used l.initial.used_all l.initial.marks l.initial.inner l.initial.header l.initial.scratch) l.initial.t (record { at = l.at; line = l.line })
+    (desk l.here l.tally l.symbols l.layers l.serials l.used l.used_all l.marks l.inner l.header l.scratch) l.own l.t l.first l.last_volume
+
+abbrev pub decreases-loop-at : goal.decreases-loop-at
+decreases-loop-at l =
+    (end_of l.body l.v + 1) - l.at

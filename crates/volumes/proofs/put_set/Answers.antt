@@ -1,0 +1,75 @@
+use mathlib.Core.Path.{refl, ◌∙◌}
+use native.Mathlib.Omega.{arith}
+use borrow.Author.Rules.{rules}
+use Rattle.volumes.proofs.LentOutput.{within-long, lent-room}
+use Rattle.volumes.proofs.SetLoop.{few, begins, goes_on, no_room, ends}
+use Rattle.volumes.proofs.put_set.Goals as goal
+
+pub volumes-l-requires : goal.volumes-l-requires
+volumes-l-requires c = tt
+
+pub overflow_cast-count : goal.overflow_cast-count
+overflow_cast-count c = omega arith
+
+pub loop-i-init : goal.loop-i-init
+loop-i-init c = begins _ _ _ refl
+
+pub offset_bounds-l-i : goal.offset_bounds-l-i
+offset_bounds-l-i c = omega (arith, c.loop-i.invariant.fits, few _ _ _ c.volumes-l.ensures c.loop-i-test.true)
+
+pub bounds-l-i : goal.bounds-l-i
+bounds-l-i c = few _ _ _ c.volumes-l.ensures c.loop-i-test.true
+
+pub offset_bounds-l-i-in-loop-i : goal.offset_bounds-l-i-in-loop-i
+offset_bounds-l-i-in-loop-i c = omega (arith, few _ _ _ c.volumes-l.ensures c.loop-i-test.true)
+
+pub bounds-l-i-in-loop-i : goal.bounds-l-i-in-loop-i
+bounds-l-i-in-loop-i c = few _ _ _ c.volumes-l.ensures c.loop-i-test.true
+
+pub part-body-requires : goal.part-body-requires
+part-body-requires c = search rules
+
+pub slice_bounds-put_volume-end : goal.slice_bounds-put_volume-end
+slice_bounds-put_volume-end c = search rules
+
+pub slice_bounds-put_volume-count : goal.slice_bounds-put_volume-count
+slice_bounds-put_volume-count c = c.loop-i.invariant.fits
+
+pub slice_bounds-put_volume-start : goal.slice_bounds-put_volume-start
+slice_bounds-put_volume-start c = search rules
+
+pub slice_bounds-put_volume-end-in-loop-i : goal.slice_bounds-put_volume-end-in-loop-i
+slice_bounds-put_volume-end-in-loop-i c = search rules
+
+pub put_volume-wrote-requires : goal.put_volume-wrote-requires
+put_volume-wrote-requires c = c.loop-i.invariant.many
+
+pub enum_known-wrote : goal.enum_known-wrote
+enum_known-wrote c = search rules
+
+pub enum_told-1 : goal.enum_told-1
+enum_told-1 c = search rules
+
+pub shape_of-out-in_default : goal.shape_of-out-in_default
+shape_of-out-in_default c = within-long _ _ c.loop-i.invariant.fits _ _ c.put_volume-wrote.ensures.0 ∙ c.loop-i.invariant.long
+
+pub returns-in_default : goal.returns-in_default
+returns-in_default c = no_room _ _ _ _ _ _ c.loop-i.invariant _ c.volumes-l.ensures c.loop-i-test.true c.loop-i.invariant.fits c.part-body.result.now c.part-body.ensures _ _ c.put_volume-wrote.ensures.0 c.put_volume-wrote.ensures.2 c.in_default.is
+
+pub overflow_add-at : goal.overflow_add-at
+overflow_add-at c = omega (arith, lent-room c.loop-i.at c.loop-i.out c.loop-i.invariant.fits _ _ _ c.put_volume-wrote.ensures.0 c.in-Bytes.is)
+
+pub overflow_add-i : goal.overflow_add-i
+overflow_add-i c = omega (arith, few _ _ _ c.volumes-l.ensures c.loop-i-test.true)
+
+pub loop-i-smaller : goal.loop-i-smaller
+loop-i-smaller c = omega (arith, c.loop-i-test.true)
+
+pub loop-i-preserved : goal.loop-i-preserved
+loop-i-preserved c = goes_on _ _ _ _ _ _ c.loop-i.invariant _ c.volumes-l.ensures c.loop-i-test.true c.loop-i.invariant.fits c.part-body.result.now c.part-body.ensures _ _ c.put_volume-wrote.ensures.0 c.put_volume-wrote.ensures.2 _ c.put_volume-wrote.ensures.1 _ c.in-Bytes.is
+
+pub shape_of-out : goal.shape_of-out
+shape_of-out c = c.loop-i.invariant.long
+
+pub returns : goal.returns
+returns c = ends _ _ _ _ _ _ c.loop-i.invariant _ c.volumes-l.ensures (omega (arith, c.loop-i-test.false))
