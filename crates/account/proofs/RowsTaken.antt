@@ -12,7 +12,7 @@ use Rattle.rules.specs.declared.Digits.{Digits}
 use Rattle.rules.specs.Base.{all, same, split, cut}
 use Rattle.rules.specs.RefusalNumbers.{Got, got, bad, unless, map_g, keep, or_bad}
 use Rattle.rules.specs.Lines.{Rest, Form, ignored, wrong, close, eof, keyed, Shape, opener, no_content, content, opening, formless, has_form, shape_of}
-use Rattle.rules.specs.Values.{Num, Value, empty, nums, chars, Known, byte_in, lettersAndDigits, capital, Part, range, read_part, read_all, agree, Kind, values, text, word, volume_name, sheet, ratio, serials, wire_serial, symbol_circle, nothing, opens, headed, either, sheets, two_nums, find_sheet, good_ratio, with_one, ratio_parts, read_counts, read_ratio, most_partners, read_serials, linked_of, read_wire_serial, read_circle, read_kind}
+use Rattle.rules.specs.Values.{Num, Value, empty, nums, chars, Known, byte_in, letters_and_digits, capital, Part, range, read_part, read_all, agree, Kind, values, text, word, volume_name, sheet, ratio, serials, wire_serial, symbol_circle, nothing, opens, headed, either, sheets, two_nums, find_sheet, good_ratio, with_one, ratio_parts, read_counts, read_ratio, most_partners, read_serials, linked_of, read_wire_serial, read_circle, read_kind}
 use Rattle.rules.specs.Rows.{Rule, Found, absent, found, find, shape_for, Act, stay, entry, begin, shut, refuse, or_refuse, inner_of, read_shape, act_row, act_found, complete, act}
 use Rattle.rules.specs.RecordTable.{numbers, columns, rule_at}
 use Rattle.rules.proofs.Chains.{clash, never, none-some, unless-got, map-got, keep-got, or-got, cons-got, by_cond}
@@ -83,7 +83,7 @@ kind-fills k (values p ps a) at c v e =
     nums-fills (values p ps a) (keep 11 (agree a) (read_all k (p ∷ ps) (split 44 c))) v (λ w h. read_length k (p ∷ ps) (split 44 c) w (keep-got 11 (agree a) (read_all k (p ∷ ps) (split 44 c)) w h).0) e
 kind-fills k (text n b) at c v e = text-fills (text n b) (all (byte_in b) c && leb (length c) n) at c v refl e
 kind-fills k (word n b) at c v e = text-fills (word n b) (all (byte_in b) c && leb (length c) n) at c v refl e
-kind-fills k volume_name at c v e = text-fills volume_name (all (byte_in lettersAndDigits) c) at (map capital c) v refl e
+kind-fills k volume_name at c v e = text-fills volume_name (all (byte_in letters_and_digits) c) at (map capital c) v refl e
 kind-fills k sheet at c v e = nums-fills sheet (or_bad 11 (find_sheet c sheets)) v (λ w h. two_of-sheet c sheets w (or-got 11 (find_sheet c sheets) w h)) e
 kind-fills k ratio at c v e = nums-fills ratio (read_ratio c) v two e
   where

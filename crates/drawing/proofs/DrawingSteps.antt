@@ -19,7 +19,7 @@ use Rattle.rules.specs.RefusalNumbers.{Got, got, bad, unless}
 use Rattle.rules.specs.Lines.{Rest, Form, ignored, wrong, close, eof, keyed, Shape, opener, no_content, content, opening, formless, free_shape_of, span, bytes_at}
 use Rattle.rules.specs.RangeClass.{digits_of}
 use Rattle.rules.specs.Numbers.{is_digit, digit_run, value}
-use Rattle.rules.specs.Values.{Known, Value, empty, chars, byte_in, anyBytes, is_layer_id}
+use Rattle.rules.specs.Values.{Known, Value, empty, chars, byte_in, any_bytes, is_layer_id}
 use Rattle.rules.specs.Rows.{Act, act}
 use Rattle.rules.specs.Blocks.{drawing_table}
 use Rattle.rules.specs.RecordTable.{numbers, padded}
@@ -152,7 +152,7 @@ module _ (s : List ℕ) (x : Shape) (p : Placed) (h : shape_in s p ≡ x) where
     judged t = name_of (unless t 11 (got (chars c.at (bytes_at s c))))
 
     abbrev fitting : List ℕ → Bool
-    fitting u = all (byte_in anyBytes) u && leb (length u) 20
+    fitting u = all (byte_in any_bytes) u && leb (length u) 20
 
     pub name-long : fitting b ≡ false → N.Bad 11 ≡ name_of (layer_value [] x)
     name-long f = name-is (P.Content c) (N.Bad 11) e (sym (ap judged (sym (ap fitting z) ∙ f)))
@@ -161,18 +161,18 @@ module _ (s : List ℕ) (x : Shape) (p : Placed) (h : shape_in s p ≡ x) where
     name-short f = name-is (P.Content c) (N.Is (span c.at (length b))) e (ap (λ (u : List ℕ). N.Is (span c.at (length u))) z ∙ sym (ap judged (sym (ap fitting z) ∙ f)))
 
 -- by the rule of the table
-pub ruled : (b : List ℕ) (rule : TextRule) (t : Bool) → rule ≡ get_or text_rules 12 no_text → t ≡ (all (byte_in (bytes_of rule.set)) b && leb (length b) rule.most) → t ≡ (all (byte_in anyBytes) b && leb (length b) 20)
+pub ruled : (b : List ℕ) (rule : TextRule) (t : Bool) → rule ≡ get_or text_rules 12 no_text → t ≡ (all (byte_in (bytes_of rule.set)) b && leb (length b) rule.most) → t ≡ (all (byte_in any_bytes) b && leb (length b) 20)
 unfolding text_rules
 ruled b rule t e q = q ∙ ap (λ (r : TextRule). all (byte_in (bytes_of r.set)) b && leb (length b) r.most) e
 
-pub name-fits : (b : List ℕ) → (all (byte_in anyBytes) b && leb (length b) 20) ≡ true → length b ≤ 20
-name-fits b e = leb-true (length b) 20 (and_right (all (byte_in anyBytes) b) (leb (length b) 20) e)
+pub name-fits : (b : List ℕ) → (all (byte_in any_bytes) b && leb (length b) 20) ≡ true → length b ≤ 20
+name-fits b e = leb-true (length b) 20 (and_right (all (byte_in any_bytes) b) (leb (length b) 20) e)
 
 -- a name that was refused, and one that was not
 pub value-bad : (id : List ℕ) (x : Shape) (m : ℕ) → N.Bad m ≡ name_of (layer_value [] x) → layer_value id x ≡ bad m
 value-bad id opener m e = let q : m ≡ 5 = cc in ap (λ (k : ℕ). bad k) (sym q)
 value-bad id no_content m e = absurd (let y : ◌≡◌ {A = ℕ} 0 1 = cc in omega arith)
-value-bad id (content at c) m e = go (all (byte_in anyBytes) c && leb (length c) 20) e
+value-bad id (content at c) m e = go (all (byte_in any_bytes) c && leb (length c) 20) e
   where
     go : (t : Bool) → N.Bad m ≡ name_of (unless t 11 (got (chars at c))) → unless t 11 (got (chars at c)) ≡ bad m
     go true e = absurd (let y : ◌≡◌ {A = ℕ} 0 1 = cc in omega arith)
@@ -189,9 +189,9 @@ pub value-is : (id : List ℕ) (x : Shape) (p : Span) → N.Is p ≡ name_of (la
 value-is id opener p e = absurd (let y : ◌≡◌ {A = ℕ} 0 1 = cc in omega arith)
 value-is id no_content p e =
     let q : p ≡ span 0 0 = cc in record { held = empty; read = refl; two = ap (λ (u : Span). pos u.at ∷ pos u.len ∷ []) (sym q) }
-value-is id (content at c) p e = go (all (byte_in anyBytes) c && leb (length c) 20) refl e
+value-is id (content at c) p e = go (all (byte_in any_bytes) c && leb (length c) 20) refl e
   where
-    go : (t : Bool) → (all (byte_in anyBytes) c && leb (length c) 20) ≡ t → N.Is p ≡ name_of (unless t 11 (got (chars at c))) → Named id (content at c) p
+    go : (t : Bool) → (all (byte_in any_bytes) c && leb (length c) 20) ≡ t → N.Is p ≡ name_of (unless t 11 (got (chars at c))) → Named id (content at c) p
     go true f e =
         let q : p ≡ span at (length c) = cc in
         record { held = chars at c; read = ap (λ (b : Bool). unless b 11 (got (chars at c))) f; two = ap (λ (u : Span). pos u.at ∷ pos u.len ∷ []) (sym q) }

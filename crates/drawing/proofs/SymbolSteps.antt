@@ -15,7 +15,7 @@ use Rattle.rules.specs.declared.Span.{Span}
 use Rattle.rules.specs.Base.{all}
 use Rattle.rules.specs.RefusalNumbers.{got, bad, unless}
 use Rattle.rules.specs.Lines.{Rest, brace, equals, Form, ignored, wrong, close, eof, keyed, Shape, opener, no_content, content, opening, formless, has_form, stem, by_stem, shape_of}
-use Rattle.rules.specs.Values.{Known, Value, empty, nums, chars, byte_in, lettersAndDigits, word, read_kind}
+use Rattle.rules.specs.Values.{Known, Value, empty, nums, chars, byte_in, letters_and_digits, word, read_kind}
 use Rattle.rules.specs.Rows.{Rule, row, Found, absent, found, find, fits, shape_for, Act, stay, entry, begin, shut, refuse, or_refuse, inner_of, read_shape, act_row, act_found, complete, act}
 use Rattle.rules.specs.RecordTable.{rule_at}
 use Rattle.rules.specs.Blocks.{defines_table, symbol_table}
@@ -180,16 +180,16 @@ shape-placed key (equals at (b ∷ c)) p = go (stem (b ∷ c))
     go (some (d ∷ t)) = tt
 
 abbrev name_row : Rule
-name_row = row "name" (word 32 lettersAndDigits) 5
+name_row = row "name" (word 32 letters_and_digits) 5
 
 first-row : (k : Known) (s : Shape) (a : Act) → Placed s → fits name_row.holds false s ≡ true → read_shape k 0 name_row s ≡ got a → Naming a
 first-row k opener a p f e = clash f refl
 first-row k no_content a p f e = clash f refl
 first-row k (content at c) a p f e =
     let (v, g, q) = map-got (entry 0) (read_kind k name_row.holds at c) a e in
-    let (h, w) = unless-got (all (byte_in lettersAndDigits) c && leb (length c) 32) 11 (got (chars at c)) v g in
+    let (h, w) = unless-got (all (byte_in letters_and_digits) c && leb (length c) 32) 11 (got (chars at c)) v g in
     let z : v ≡ chars at c = cc in
-    subst Naming q (at, c, z, p, leb-true (length c) 32 (and_right (all (byte_in lettersAndDigits) c) (leb (length c) 32) h))
+    subst Naming q (at, c, z, p, leb-true (length c) 32 (and_right (all (byte_in letters_and_digits) c) (leb (length c) 32) h))
 first-row k (opening at c) a p f e = clash f refl
 first-row k formless a p f e = clash f refl
 

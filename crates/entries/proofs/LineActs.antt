@@ -12,7 +12,7 @@ use borrow.Author.Tests.{leb-true, ltb-true, ne_eqb}
 use Rattle.rules.specs.Base.{all, split}
 use Rattle.rules.specs.RefusalNumbers.{Got, got, bad, unless, map_g, or_bad, keep, and_then}
 use Rattle.rules.specs.Lines.{bytes_at}
-use Rattle.rules.specs.Values.{Num, Known, Value, empty, nums, chars, Kind, values, text, word, volume_name, sheet, ratio, serials, wire_serial, symbol_circle, nothing, opens, headed, either, read_kind, read_part, range, read_all, read_wire_serial, read_circle, read_ratio, find_sheet, sheets, agree, byte_in, lettersAndDigits}
+use Rattle.rules.specs.Values.{Num, Known, Value, empty, nums, chars, Kind, values, text, word, volume_name, sheet, ratio, serials, wire_serial, symbol_circle, nothing, opens, headed, either, read_kind, read_part, range, read_all, read_wire_serial, read_circle, read_ratio, find_sheet, sheets, agree, byte_in, letters_and_digits}
 use Rattle.rules.specs.RecordTable.{numbers, given, columns, put_state}
 use Rattle.rules.specs.Rows.{Rule, Act, entry, begin, or_refuse, read_shape, inner_of, not_twice, any_number, up_to}
 use Rattle.rules.proofs.Chains.{and_left, and_right}
@@ -67,7 +67,7 @@ pub given-kind : (k : Known) (d : Kind) (at : ℕ) (c : List ℕ) → Given (rea
 given-kind k (values p ps a) at c = given-map nums (λ _. refl) (keep 11 (agree a) (read_all k (p ∷ ps) (split 44 c)))
 given-kind k (text n b) at c = given-unless (all (byte_in b) c && leb (length c) n) 11 (chars at c) refl
 given-kind k (word n b) at c = given-unless (all (byte_in b) c && leb (length c) n) 11 (chars at c) refl
-given-kind k volume_name at c = given-unless (all (byte_in lettersAndDigits) c) 11 (chars at _) refl
+given-kind k volume_name at c = given-unless (all (byte_in letters_and_digits) c) 11 (chars at _) refl
 given-kind k sheet at c = given-map nums (λ _. refl) (or_bad 11 (find_sheet c sheets))
 given-kind k ratio at c = given-map nums (λ _. refl) (read_ratio c)
 given-kind k serials at c = on-linked_in (λ v. given v ≡ pos 2) (λ _ _. refl) c

@@ -11,7 +11,7 @@ use lib.ListN.{length, length-append}
 use lib.Seq.{sets}
 use Rattle.rules.specs.Base.{all, split}
 use Rattle.rules.specs.RefusalNumbers.{Got, got, bad, unless, map_g, or_bad, keep}
-use Rattle.rules.specs.Values.{Num, Known, Value, nums, chars, Kind, values, text, word, volume_name, sheet, ratio, serials, wire_serial, symbol_circle, nothing, opens, headed, either, read_kind, read_part, range, read_all, read_wire_serial, arc_of_circle, arc_parts, whole_parts, no_turn, read_circle, read_ratio, find_sheet, sheets, agree, byte_in, lettersAndDigits, capital}
+use Rattle.rules.specs.Values.{Num, Known, Value, nums, chars, Kind, values, text, word, volume_name, sheet, ratio, serials, wire_serial, symbol_circle, nothing, opens, headed, either, read_kind, read_part, range, read_all, read_wire_serial, arc_of_circle, arc_parts, whole_parts, no_turn, read_circle, read_ratio, find_sheet, sheets, agree, byte_in, letters_and_digits, capital}
 use Rattle.rules.specs.RecordTable.{numbers, given, columns, padded, put_numbers, put_state, put_slot}
 use Rattle.rules.specs.Rows.{Rule}
 use Rattle.rules.proofs.Chains.{by_cond}
@@ -87,7 +87,7 @@ pub kind-fills : (k : Known) (d : Kind) (at : ℕ) (c : List ℕ) → On (Fills 
 kind-fills k (values p ps a) at c = keep-fill (agree a) (read_all k (p ∷ ps) (split 44 c)) (suc (length ps)) (long-all k (p ∷ ps) (split 44 c))
 kind-fills k (text n b) at c = unless-fill (all (byte_in b) c && leb (length c) n) 2 11 (chars at c) refl
 kind-fills k (word n b) at c = unless-fill (all (byte_in b) c && leb (length c) n) 2 11 (chars at c) refl
-kind-fills k volume_name at c = unless-fill (all (byte_in lettersAndDigits) c) 2 11 (chars at (map capital c)) refl
+kind-fills k volume_name at c = unless-fill (all (byte_in letters_and_digits) c) 2 11 (chars at (map capital c)) refl
 kind-fills k sheet at c = sheet-fill (find_sheet c sheets) (sheets-two c sheets)
 kind-fills k ratio at c = ratio-fill (read_ratio c) (ratio-two c)
 kind-fills k serials at c = on-linked_in (Fills 2) (λ _ _. refl) c

@@ -5,7 +5,7 @@ use mathlib.Core.List.{List, [], ◌∷◌, ◌++◌, map}
 use mathlib.Core.Bool.{Bool, true, false, cond, ◌&&◌}
 use lib.ListN.{get_or}
 use Rattle.rules.specs.Rows.{Rule}
-use Rattle.rules.specs.Values.{Bytes, anyBytes, ascii, lettersAndDigits, telephone, circuitBytes, Kind, is_free}
+use Rattle.rules.specs.Values.{Bytes, any_bytes, ascii, letters_and_digits, telephone, circuit_bytes, Kind, is_free}
 use Rattle.rules.specs.Blocks.{file_table, drawing_table, layer_name_kind}
 use Rattle.rules.specs.Figures.{text_table}
 use Rattle.leaves.specs.Bytes.{bytes_of}
@@ -14,11 +14,11 @@ use Rattle.leaves.specs.declared.TextRule.{TextRule}
 
 -- the set that a number stands for
 pub set-number : (b : Bytes) → bytes_of (set_number b) ≡ b
-set-number anyBytes = refl
+set-number any_bytes = refl
 set-number ascii = refl
-set-number lettersAndDigits = refl
+set-number letters_and_digits = refl
 set-number telephone = refl
-set-number circuitBytes = refl
+set-number circuit_bytes = refl
 
 -- ── the rules by columns, as the code has them ──
 pub by-columns : (t : List TextRule) (k : ℕ) → record { most = get_or (map (λ r. r.most) t) k 0; set = get_or (map (λ r. r.set) t) k 0 } ≡ get_or t k no_text

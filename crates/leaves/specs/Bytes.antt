@@ -2,7 +2,7 @@
 use Rattle.std.specs.Prelude.{ℕ, ◌+◌, ◌*◌, Bool, cond, ◌&&◌, ◌||◌, not, List, [], ◌∷◌, eqb, get_or}
 use Rattle.rules.specs.Base.{bytes, has_number}
 use Rattle.rules.specs.Lines.{single_byte, lead_byte, trail_byte}
-use Rattle.rules.specs.Values.{Bytes, anyBytes, ascii, lettersAndDigits, telephone, circuitBytes}
+use Rattle.rules.specs.Values.{Bytes, any_bytes, ascii, letters_and_digits, telephone, circuit_bytes}
 
 -- four bytes and eight, from place i on, as one number, the first byte the lowest
 abbrev pub half : List ℕ → ℕ → ℕ
@@ -34,4 +34,4 @@ is_layer_letter b = has_number b (bytes "BAEPM")
 
 -- a set of bytes by its number; any other number is that of all bytes
 abbrev pub bytes_of : ℕ → Bytes
-bytes_of n = cond (eqb n 1) ascii (cond (eqb n 2) lettersAndDigits (cond (eqb n 3) telephone (cond (eqb n 4) circuitBytes anyBytes)))
+bytes_of n = cond (eqb n 1) ascii (cond (eqb n 2) letters_and_digits (cond (eqb n 3) telephone (cond (eqb n 4) circuit_bytes any_bytes)))

@@ -2,7 +2,7 @@ ghost use Rattle.std.specs.Prelude.{◌+◌, ◌≤◌, ◌≡◌, ◌||◌, len
 ghost use Rattle.rules.specs.Base.{all, same, within};
 ghost use Rattle.rules.specs.Lines.{single_byte, lead_byte, trail_byte, allowed};
 ghost use Rattle.rules.specs.Numbers.{is_digit};
-ghost use Rattle.rules.specs.Values.{capital, lettersAndDigits, telephone, circuitBytes, is_letter, byte_in, is_layer_id};
+ghost use Rattle.rules.specs.Values.{capital, letters_and_digits, telephone, circuit_bytes, is_letter, byte_in, is_layer_id};
 ghost use Rattle.leaves.specs.Bytes.{half, word, up_to, bytes_of, may_stand, starts_pair, is_layer_letter};
 
 // Four bytes at once, as one number: two such numbers are equal only if all four bytes are.
@@ -221,7 +221,7 @@ fn letter(b: u8) -> bool
 }
 
 fn of_word(b: u8) -> bool
-    ensures { result ≡ byte_in lettersAndDigits b }
+    ensures { result ≡ byte_in letters_and_digits b }
 {
     if letter(b) {
         return true;
@@ -245,7 +245,7 @@ fn of_telephone(b: u8) -> bool
 }
 
 fn of_circuit(b: u8) -> bool
-    ensures { result ≡ byte_in circuitBytes b }
+    ensures { result ≡ byte_in circuit_bytes b }
 {
     if letter(b) {
         return true;

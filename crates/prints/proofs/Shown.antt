@@ -13,7 +13,7 @@ use Rattle.rules.specs.Base.{bytes, all, flat, same, within, index_of, split, jo
 use Rattle.rules.specs.RefusalNumbers.{Got, got, bad, unless, map_g, and_then, or_bad, keep, cons_g}
 use Rattle.rules.specs.Numbers.{is_digit, digit_run, value, read_count, read_fixed, is_day, is_clock, read_decimal, fixed_onto, fixed, trim, show_count, show_decimal}
 use Rattle.rules.specs.Lines.{Rest, Shape, opener, no_content, content, opening, formless}
-use Rattle.rules.specs.Values.{Num, num, Value, empty, nums, chars, Known, byte_in, lettersAndDigits, capital, is_layer_id, Part, count, digit, type_digits, range, range_of_symbols, range_of_wires, day, clock, decimal, exactly, symbol_name, layer_id, served_symbols, served_wires, natural, read_part, amount, show_part, read_all, show_all, agree, arc_of_circle, arc_parts, whole_turn, whole_parts, no_turn, read_circle, show_circle, Kind, values, text, word, volume_name, sheet, ratio, serials, wire_serial, symbol_circle, nothing, opens, headed, either, sheets, find_sheet, read_ratio, most_partners, read_serials, linked_of, show_serials, two_nums, read_partner, read_wire_serial, show_partner, read_kind, amount_at, show_content}
+use Rattle.rules.specs.Values.{Num, num, Value, empty, nums, chars, Known, byte_in, letters_and_digits, capital, is_layer_id, Part, count, digit, type_digits, range, range_of_symbols, range_of_wires, day, clock, decimal, exactly, symbol_name, layer_id, served_symbols, served_wires, natural, read_part, amount, show_part, read_all, show_all, agree, arc_of_circle, arc_parts, whole_turn, whole_parts, no_turn, read_circle, show_circle, Kind, values, text, word, volume_name, sheet, ratio, serials, wire_serial, symbol_circle, nothing, opens, headed, either, sheets, find_sheet, read_ratio, most_partners, read_serials, linked_of, show_serials, two_nums, read_partner, read_wire_serial, show_partner, read_kind, amount_at, show_content}
 use Rattle.rules.specs.Rows.{Rule, Act, entry, begin, refuse, or_refuse, read_shape, fits, inner_of, not_twice, shape_for, act_row}
 use Rattle.rules.specs.RangeClass.{reaches}
 use Rattle.rules.specs.Lines.{has_form}
@@ -245,7 +245,7 @@ module _ (c : List ℕ) where
 
   name-kept : (k : Known) (at : ℕ) (v : Value) → read_kind k volume_name at c ≡ got v → map capital c ≡ show_content k volume_name v
   name-kept k at v e =
-      let (p, g) = unless-got (all (byte_in lettersAndDigits) c) 11 (got (chars at (map capital c))) v e in
+      let (p, g) = unless-got (all (byte_in letters_and_digits) c) 11 (got (chars at (map capital c))) v e in
       let q : chars at (map capital c) ≡ v = cc in
       rw (← q)
 

@@ -10,7 +10,7 @@ use lib.ListN.{length, get_or, take, drop}
 use Rattle.rules.specs.Base.{all}
 use Rattle.rules.specs.RefusalNumbers.{Got, got, bad}
 use Rattle.rules.specs.Lines.{Rest, brace, equals, Shape, free_shape_of, shape_of}
-use Rattle.rules.specs.Values.{Num, Value, empty, chars, capital, show_sheet, show_ratio, chars_of, byte_in, anyBytes, is_free}
+use Rattle.rules.specs.Values.{Num, Value, empty, chars, capital, show_sheet, show_ratio, chars_of, byte_in, any_bytes, is_free}
 use Rattle.rules.specs.Machine.{layer_value}
 use Rattle.rules.specs.Rows.{Rule, shape_for}
 use Rattle.rules.specs.FixedForm.{behind, line_of}
@@ -81,7 +81,7 @@ plain-line text b c d p w x y =
 named : (id : List ℕ) (at : ℕ) (c : List ℕ) (v : Value) → layer_value id (free_shape_of (equals at c)) ≡ got v → chars_of v ≡ c
 named id at [] v e = let q : empty ≡ v = cc in rw (← q)
 named id at (b ∷ c) v e =
-    let (t, g) = unless-got (all (byte_in anyBytes) (b ∷ c) && leb (length (b ∷ c)) 20) 11 (got (chars at (b ∷ c))) v e in
+    let (t, g) = unless-got (all (byte_in any_bytes) (b ∷ c) && leb (length (b ∷ c)) 20) 11 (got (chars at (b ∷ c))) v e in
     let q : chars at (b ∷ c) ≡ v = cc in
     rw (← q)
 

@@ -12,7 +12,7 @@ use Rattle.rules.specs.Base.{bytes, all, is_some, flat, has_number, split}
 use Rattle.rules.specs.RefusalNumbers.{Got, got, bad, unless, map_g, and_then, or_bad, keep}
 use Rattle.rules.specs.Lines.{Rest, form_of, Shape, opener, no_content, content, opening, formless, has_form}
 use Rattle.rules.specs.RangeClass.{digits, reaches, both}
-use Rattle.rules.specs.Values.{Num, Value, nums, chars, Known, Kind, values, text, word, volume_name, sheet, ratio, serials, wire_serial, symbol_circle, nothing, opens, headed, either, lettersAndDigits, byte_in, capital, agree, range, read_part, read_all, read_ratio, find_sheet, sheets, read_kind, serials_of, read_wire_serial, read_circle}
+use Rattle.rules.specs.Values.{Num, Value, nums, chars, Known, Kind, values, text, word, volume_name, sheet, ratio, serials, wire_serial, symbol_circle, nothing, opens, headed, either, letters_and_digits, byte_in, capital, agree, range, read_part, read_all, read_ratio, find_sheet, sheets, read_kind, serials_of, read_wire_serial, read_circle}
 use Rattle.rules.specs.Rows.{Rule, Slots, blank, Held, part_of, rows_there, slot_value, held, fits, shape_for, Act, stay, entry, begin, shut, refuse, or_refuse, inner_of, read_shape, not_twice, act_row}
 use Rattle.rules.specs.Blocks.{blank_held}
 use Rattle.rules.specs.Figures.{layer_table, text_table, placed_table, placed_tables, wire_serial_row}
@@ -75,7 +75,7 @@ read_serialless : (k : Known) (d : Kind) (at : ℕ) (c : List ℕ) → is_serial
 read_serialless k (values p ps a) at c e = nums_serialless (keep 11 (agree a) (read_all k (p ∷ ps) (split 44 c)))
 read_serialless k (text n b) at c e = chars_serialless (all (byte_in b) c && leb (length c) n) at c
 read_serialless k (word n b) at c e = chars_serialless (all (byte_in b) c && leb (length c) n) at c
-read_serialless k volume_name at c e = chars_serialless (all (byte_in lettersAndDigits) c) at (map capital c)
+read_serialless k volume_name at c e = chars_serialless (all (byte_in letters_and_digits) c) at (map capital c)
 read_serialless k sheet at c e = nums_serialless (or_bad 11 (find_sheet c sheets))
 read_serialless k ratio at c e = nums_serialless (read_ratio c)
 read_serialless k serials at c e = clash refl e

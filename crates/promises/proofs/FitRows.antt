@@ -11,7 +11,7 @@ use Rattle.rules.specs.Base.{is_nil, all, split}
 use Rattle.rules.specs.RefusalNumbers.{Got, got, bad, unless, map_g, and_then, or_bad, keep}
 use Rattle.rules.specs.Lines.{Rest, brace, equals, Form, ignored, wrong, close, eof, keyed, stem, Shape, opener, no_content, content, opening, formless, by_stem, shape_of, free_shape_of, has_form}
 use Rattle.rules.specs.RangeClass.{reaches}
-use Rattle.rules.specs.Values.{Value, nums, chars, Known, Kind, values, text, word, volume_name, sheet, ratio, serials, wire_serial, symbol_circle, nothing, opens, headed, either, is_free, byte_in, lettersAndDigits, capital, read_all, agree, read_part, range, find_sheet, sheets, read_ratio, most_partners, read_serials, read_kind, linked_of, read_wire_serial, read_circle}
+use Rattle.rules.specs.Values.{Value, nums, chars, Known, Kind, values, text, word, volume_name, sheet, ratio, serials, wire_serial, symbol_circle, nothing, opens, headed, either, is_free, byte_in, letters_and_digits, capital, read_all, agree, read_part, range, find_sheet, sheets, read_ratio, most_partners, read_serials, read_kind, linked_of, read_wire_serial, read_circle}
 use Rattle.rules.specs.Rows.{Rule, Found, absent, found, find, Slots, blank, Held, part_of, enter, is_content, is_empty, fits, shape_for, Act, stay, entry, begin, shut, refuse, or_refuse, inner_of, read_shape, not_twice, act_row, act_unknown, act_found, complete, act}
 use Rattle.rules.specs.Blocks.{blank_held, layer_name_kind}
 use Rattle.rules.specs.Sets.{Contents}
@@ -120,7 +120,7 @@ module _ (S : ℕ → List ℕ → Type 0) where
   kind-fit k (values p ps a) at c h = numbers_fit (values p ps a) nums (λ v. refl) (keep 11 (agree a) (read_all k (p ∷ ps) (split 44 c)))
   kind-fit k (text n b) at c h = on-unless (FitValue S (text n b)) (all (byte_in b) c && leb (length c) n) 11 (got (chars at c)) (λ e. (refl, h))
   kind-fit k (word n b) at c h = on-unless (FitValue S (word n b)) (all (byte_in b) c && leb (length c) n) 11 (got (chars at c)) (λ e. (refl, h))
-  kind-fit k volume_name at c h = on-unless (FitValue S volume_name) (all (byte_in lettersAndDigits) c) 11 (got (chars at (map capital c))) (λ e. (refl, λ x. clash x refl))
+  kind-fit k volume_name at c h = on-unless (FitValue S volume_name) (all (byte_in letters_and_digits) c) 11 (got (chars at (map capital c))) (λ e. (refl, λ x. clash x refl))
   kind-fit k sheet at c h = numbers_fit sheet nums (λ v. refl) (or_bad 11 (find_sheet c sheets))
   kind-fit k ratio at c h = numbers_fit ratio nums (λ v. refl) (read_ratio c)
   kind-fit k serials at c h = numbers_fit serials linked_of linked-fit (keep 11 (λ ns. leb (length ns) (most_partners + 1)) (read_serials (split 44 c)))

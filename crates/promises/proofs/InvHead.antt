@@ -14,7 +14,7 @@ use Rattle.rules.specs.Base.{is_nil, is_some, among, flat}
 use Rattle.rules.specs.RefusalNumbers.{bad, unless}
 use Rattle.rules.specs.Lines.{Rest, equals, Form, ignored, wrong, close, eof, keyed, shape_of, free_shape_of}
 use Rattle.rules.specs.RangeClass.{digits_of, reaches}
-use Rattle.rules.specs.Values.{Value, empty, nums, chars, linked, Known, word, lettersAndDigits, chars_of, is_layer_id, show_content}
+use Rattle.rules.specs.Values.{Value, empty, nums, chars, linked, Known, word, letters_and_digits, chars_of, is_layer_id, show_content}
 use Rattle.rules.specs.Rows.{Slots, Held, part_of, rows_there, rows_at_limit, fits, Act, entry, begin, act, complete}
 use Rattle.rules.specs.Blocks.{top_table, drawing_table, most_layers, defines_table, symbol_table}
 use Rattle.rules.specs.Figures.{point_table}
@@ -155,11 +155,11 @@ name-full d (some v ∷ own) g e = go v (row-did nobody d false 0 (rule_at symbo
     nobody : Known
     nobody = record { symbols = []; layers = [] }
 
-    chars-full : (at : ℕ) (c : List ℕ) → fits (word 32 lettersAndDigits) false (shape_of (equals 0 c)) ≡ true → is_nil c ≡ false
+    chars-full : (at : ℕ) (c : List ℕ) → fits (word 32 letters_and_digits) false (shape_of (equals 0 c)) ≡ true → is_nil c ≡ false
     chars-full at [] f = clash f refl
     chars-full at (b ∷ c) f = refl
 
-    go : (v : Value) → fits (word 32 lettersAndDigits) false (shape_of (equals 0 (show_content nobody (word 32 lettersAndDigits) v))) ≡ true → is_nil (chars_of v) ≡ false
+    go : (v : Value) → fits (word 32 letters_and_digits) false (shape_of (equals 0 (show_content nobody (word 32 letters_and_digits) v))) ≡ true → is_nil (chars_of v) ≡ false
     go empty f = clash f refl
     go (nums u) f = clash f refl
     go (chars at c) f = chars-full at c f

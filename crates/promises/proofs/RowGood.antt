@@ -15,7 +15,7 @@ use Rattle.rules.specs.RefusalNumbers.{got, or_bad, keep}
 use Rattle.rules.specs.Numbers.{read_fixed, fixed_onto, fixed}
 use Rattle.rules.specs.Lines.{allowed, Rest, brace, equals, keyed, form_of, stem, Shape, opener, no_content, content, opening, formless, by_stem, shape_of, free_shape_of, has_form}
 use Rattle.rules.specs.RangeClass.{reaches}
-use Rattle.rules.specs.Values.{Num, num, Value, empty, nums, chars, Known, anyBytes, byte_in, is_layer_id, Part, range, read_part, Kind, values, text, word, volume_name, sheet, ratio, serials, wire_serial, symbol_circle, nothing, opens, headed, either, is_free, read_kind, chars_of, show_content}
+use Rattle.rules.specs.Values.{Num, num, Value, empty, nums, chars, Known, any_bytes, byte_in, is_layer_id, Part, range, read_part, Kind, values, text, word, volume_name, sheet, ratio, serials, wire_serial, symbol_circle, nothing, opens, headed, either, is_free, read_kind, chars_of, show_content}
 use Rattle.rules.specs.Rows.{Times, once, up_to, any_number, Rule, is_content, is_empty, fits, shape_for, Act, entry, begin, inner_of, read_shape, not_twice, act_row}
 use Rattle.rules.specs.Machine.{layer_value}
 use Rattle.rules.specs.FixedForm.{opens_block, behind, line_of}
@@ -340,6 +340,6 @@ pub layer-good : (k : List ℕ) (x : Rest) (n m : ℕ) (v : Value) → is_layer_
 layer-good k brace n m v id t most e = never e
 layer-good k (equals at []) n m v id t most e = let q : empty ≡ v = cc in subst (LayerGood k n m) q (layer-written k n m empty id most t refl)
 layer-good k (equals at (b ∷ c)) n m v id t most e =
-    let (h, g) = unless-got (all (byte_in anyBytes) (b ∷ c) && leb (length (b ∷ c)) 20) 11 (got (chars at (b ∷ c))) v e in
+    let (h, g) = unless-got (all (byte_in any_bytes) (b ∷ c) && leb (length (b ∷ c)) 20) 11 (got (chars at (b ∷ c))) v e in
     let q : chars at (b ∷ c) ≡ v = cc in
     subst (LayerGood k n m) q (layer-written k n m (chars at (b ∷ c)) id most t (rw h))

@@ -117,20 +117,20 @@ module _ {X : Type 0} (g : List ℤ → List X) (quiet : (r : List ℤ) → is_o
       other refl (behind (inner-none n y i.0) (symbols-none (suc n) ys i.1))
 
   -- ── layers: what symbols and wires show ──
-  module _ (ofSymbol : Held → List X) (ofWire : Wire → List X) where
+  module _ (of_symbol : Held → List X) (of_wire : Wire → List X) where
     abbrev pub of_figure : Figure → List X
     of_figure (plain n j v) = []
     of_figure (chain n ps) = []
     of_figure (lettering n s) = []
-    of_figure (placed n h) = ofSymbol h
-    of_figure (wired n w) = ofWire w
+    of_figure (placed n h) = of_symbol h
+    of_figure (wired n w) = of_wire w
     of_figure (passed n) = []
 
     pub record Shown (c : Class) (s : Set) : Type 0 where
-      pub symbols : (owner volume n : ℕ) (h : Held) → SymbolSlot c h → g (placed_record (view_of c s) 0 owner volume n h) ≡ ofSymbol h
+      pub symbols : (owner volume n : ℕ) (h : Held) → SymbolSlot c h → g (placed_record (view_of c s) 0 owner volume n h) ≡ of_symbol h
       -- of a file in which a placed symbol is a line alone
       pub single : (owner volume n : ℕ) (v : List Num) → g (placed_record (view_of c s) 0 owner volume n ((some (nums v) ∷ []) ∷ [])) ≡ []
-      pub wires : (owner volume n : ℕ) (w : Wire) → SoundWire c (wire_range s) w → Tells (figure_records (view_of c s) 0 owner volume (wired n w)) (ofWire w)
+      pub wires : (owner volume n : ℕ) (w : Wire) → SoundWire c (wire_range s) w → Tells (figure_records (view_of c s) 0 owner volume (wired n w)) (of_wire w)
       pub skipped : (owner volume n : ℕ) → Tells (figure_records (view_of c s) 0 owner volume (passed n)) []
 
     module _ (c : Class) (s : Set) (is : Shown c s) where

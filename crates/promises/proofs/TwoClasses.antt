@@ -117,14 +117,14 @@ serials-read c agree e = not-not (knows_wires c) (sym agree ∙ rw (ne_eqb c.wir
     not-not false e = clash refl e
 
 pub lower-accepts : LowerAccepts
-lower-accepts lo loWire hi hiWire low high cs len spool set e =
+lower-accepts lo lo_wire hi hi_wire low high cs len spool set e =
     let m = len / width in
-    let agree = listed-agrees lo loWire low cs.lower in
-    let up = outcome-at len spool hi hiWire high cs.higher in
+    let agree = listed-agrees lo lo_wire low cs.lower in
+    let up = outcome-at len spool hi hi_wire high cs.higher in
     let (took, p, rows) = accepts low high cs.below (serials-read low agree) m (volumes_of spool) set (sym up ∙ e) in
-    let down = outcome-at len spool lo loWire low cs.lower ∙ p in
-    let a = taken len spool hi hiWire high set cs.higher e in
-    let b = taken len spool lo loWire low (lower_set took low set) cs.lower down in
+    let down = outcome-at len spool lo lo_wire low cs.lower ∙ p in
+    let a = taken len spool hi hi_wire high set cs.higher e in
+    let b = taken len spool lo lo_wire low (lower_set took low set) cs.lower down in
     let r = records-lower low high cs.below agree took set rows ∙ ap (lowered low set) (sym a.0) in
     (b.1 ∙ ap (λ rs. Accepted (length rs)) r, b.0 ∙ r)
 
@@ -142,8 +142,8 @@ unfolding read_answer
 refused_of len spool class wire k v n e = rw e
 
 pub higher-refuses : HigherRefuses
-higher-refuses lo loWire hi hiWire low high cs len spool r e =
+higher-refuses lo lo_wire hi hi_wire low high cs len spool r e =
     let m = len / width in
-    let down = sym (outcome-at len spool lo loWire low cs.lower) ∙ refused_inv len spool lo loWire r e in
-    let (k, v, n, p, q) = refuses low high cs.below (serials-read low (listed-agrees lo loWire low cs.lower)) m spool r.number r.volume r.line down in
-    (record { number = k; volume = v; line = n }, refused_of len spool hi hiWire k v n (outcome-at len spool hi hiWire high cs.higher ∙ p), q)
+    let down = sym (outcome-at len spool lo lo_wire low cs.lower) ∙ refused_inv len spool lo lo_wire r e in
+    let (k, v, n, p, q) = refuses low high cs.below (serials-read low (listed-agrees lo lo_wire low cs.lower)) m spool r.number r.volume r.line down in
+    (record { number = k; volume = v; line = n }, refused_of len spool hi hi_wire k v n (outcome-at len spool hi hi_wire high cs.higher ∙ p), q)

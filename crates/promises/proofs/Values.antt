@@ -13,7 +13,7 @@ use Rattle.rules.specs.Base.{map_o, is_nil, all, flat, same, index_of, within, C
 use Rattle.rules.specs.RefusalNumbers.{got, unless, map_g, or_bad, keep, cons_g}
 use Rattle.rules.specs.Numbers.{is_digit, read_count, read_fixed, is_day, is_clock, read_decimal, fixed_onto, fixed, show_count}
 use Rattle.rules.specs.Lines.{allowed, stem}
-use Rattle.rules.specs.Values.{Num, num, Value, nums, chars, linked, Known, is_letter, lettersAndDigits, byte_in, capital, is_layer_id, in_bound, Part, count, digit, type_digits, range, range_of_symbols, range_of_wires, day, clock, decimal, exactly, symbol_name, layer_id, served_symbols, served_wires, natural, read_part, amount, show_part, read_all, show_all, agree, Kind, values, text, word, volume_name, sheet, ratio, serials, wire_serial, symbol_circle, nothing, opens, headed, either, sheets, two_nums, find_sheet, show_sheet, good_ratio, with_one, ratio_parts, read_counts, read_ratio, show_ratio, most_partners, read_serials, linked_of, show_serials, read_kind, show_content, read_wire_serial, read_partner, show_partner, amount_at, equal_z, arc_of_circle, arc_parts, whole_parts, no_turn, read_circle, show_circle}
+use Rattle.rules.specs.Values.{Num, num, Value, nums, chars, linked, Known, is_letter, letters_and_digits, byte_in, capital, is_layer_id, in_bound, Part, count, digit, type_digits, range, range_of_symbols, range_of_wires, day, clock, decimal, exactly, symbol_name, layer_id, served_symbols, served_wires, natural, read_part, amount, show_part, read_all, show_all, agree, Kind, values, text, word, volume_name, sheet, ratio, serials, wire_serial, symbol_circle, nothing, opens, headed, either, sheets, two_nums, find_sheet, show_sheet, good_ratio, with_one, ratio_parts, read_counts, read_ratio, show_ratio, most_partners, read_serials, linked_of, show_serials, read_kind, show_content, read_wire_serial, read_partner, show_partner, amount_at, equal_z, arc_of_circle, arc_parts, whole_parts, no_turn, read_circle, show_circle}
 use Rattle.rules.proofs.Chains.{map-some, and_left, and_right, and_true, by_cond, clash, same-eq, never, none-some, unless-got, map-got, keep-got, or-got, cons-got, all_weaken, all_append}
 use Rattle.promises.specs.PlacesApart.{bare_value}
 use Rattle.promises.proofs.Circles.{all-lengths, show-first, circle-whole, circle_arc, arc-turns, whole_turnless}
@@ -363,7 +363,7 @@ or_right : (a b : Bool) → b ≡ true → (a || b) ≡ true
 or_right true b e = refl
 or_right false b e = e
 
-capital-upper : (b : ℕ) → byte_in lettersAndDigits b ≡ true → upper (capital b) ≡ true
+capital-upper : (b : ℕ) → byte_in letters_and_digits b ≡ true → upper (capital b) ≡ true
 capital-upper b e =
     by_cond (λ x. upper x ≡ true) (within 97 122 b) (λ w. let (l, h) = within_both 97 122 b w in rw (both-within 65 90 (b - 32) (omega arith) (omega arith)))
     (λ w. or_cases (is_letter b) (is_digit b) (or_cases (within 65 90 b) (within 97 122 b) (λ p. rw p) (λ p. clash p w)) (or_right (within 65 90 b) (is_digit b)) e)
@@ -372,15 +372,15 @@ upper-plain : (b : ℕ) → upper b ≡ true → plain b ≡ true
 upper-plain b e =
     or_cases (within 65 90 b) (is_digit b) (or_right (within 45 57 b) (within 65 90 b)) (λ d. let (l, h) = within_both 48 57 b d in rw (both-within 45 57 b (omega arith) h)) e
 
-upper-known : (b : ℕ) → upper b ≡ true → byte_in lettersAndDigits b ≡ true
+upper-known : (b : ℕ) → upper b ≡ true → byte_in letters_and_digits b ≡ true
 upper-known b e = or_cases (within 65 90 b) (is_digit b) (λ p. rw p) (or_right (is_letter b) (is_digit b)) e
 
 upper-same : (b : ℕ) → upper b ≡ true → capital b ≡ b
 upper-same b e = let (l, h) = plain_bounds b (upper-plain b e) in rw (lt-leb 97 b (omega arith))
 
-capitals : (s : List ℕ) → all (byte_in lettersAndDigits) s ≡ true → all upper (map capital s) ≡ true
+capitals : (s : List ℕ) → all (byte_in letters_and_digits) s ≡ true → all upper (map capital s) ≡ true
 capitals [] e = refl
-capitals (b ∷ s) e = and_true (upper (capital b)) _ (capital-upper b (and_left (byte_in lettersAndDigits b) _ e)) (capitals s (and_right (byte_in lettersAndDigits b) _ e))
+capitals (b ∷ s) e = and_true (upper (capital b)) _ (capital-upper b (and_left (byte_in letters_and_digits b) _ e)) (capitals s (and_right (byte_in letters_and_digits b) _ e))
 
 capitals-same : (s : List ℕ) → all upper s ≡ true → map capital s ≡ s
 capitals-same [] e = refl
@@ -427,13 +427,13 @@ kind-back k (word m b) at c v n e =
     let q : chars at c ≡ v = cc in
     subst (λ (v : Value). Kept k (word m b) c v) q (kept k (word m b) c (chars at c) n (stands_same c) (rw t))
 kind-back k volume_name at c v n e =
-    let (t, g) = unless-got (all (byte_in lettersAndDigits) c) 11 (got (chars at (map capital c))) v e in
+    let (t, g) = unless-got (all (byte_in letters_and_digits) c) 11 (got (chars at (map capital c))) v e in
     let q : chars at (map capital c) ≡ v = cc in
     let u = capitals c t in
     subst (λ (v : Value). Kept k volume_name c v) q
     (kept k volume_name c (chars at (map capital c)) n
     (stands_plain c (map capital c) (all_weaken upper plain upper-plain (map capital c) u) (map-full c n) (omega (arith, length-map c capital)))
-    (rw (all_weaken upper (byte_in lettersAndDigits) upper-known (map capital c) u, capitals-same (map capital c) u)))
+    (rw (all_weaken upper (byte_in letters_and_digits) upper-known (map capital c) u, capitals-same (map capital c) u)))
 kind-back k sheet at c v n e =
     let (u, g, q) = map-got nums (or_bad 11 (find_sheet c sheets)) v e in
     let (m, a, z, y) = sheet-same c sheets sheets-named u (or-got 11 (find_sheet c sheets) u g) in

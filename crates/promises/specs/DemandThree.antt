@@ -28,9 +28,9 @@ pub record ClassNotAbove (low high : Class) : Type 0 where
   pub wires : NotAbove low.wires high.wires
 
 -- two listed classes, by their numbers and wire parts
-pub record Classes (lo loWire hi hiWire : ℕ) (low high : Class) : Type 0 where
-  pub lower : class_of lo loWire ≡ some low
-  pub higher : class_of hi hiWire ≡ some high
+pub record Classes (lo lo_wire hi hi_wire : ℕ) (low high : Class) : Type 0 where
+  pub lower : class_of lo lo_wire ≡ some low
+  pub higher : class_of hi hi_wire ≡ some high
   pub below : ClassNotAbove low high
 
 -- "1 to 8 or 11 to 18, or 0": the wire part is 0, and "A class with 0 skips whole wires"
@@ -168,10 +168,10 @@ lowered c s rs = map (unread c s) (filter (keeps c) rs)
 -- "if the higher accepts, the lower accepts with the same records, except .."
 abbrev pub LowerAccepts : Type 0
 LowerAccepts =
-    (lo loWire hi hiWire : ℕ) (low high : Class) → Classes lo loWire hi hiWire low high
-    → (len : ℕ) (spool : List ℕ) (set : Set) → read_outcome hi hiWire len spool ≡ accepted set
-    → (read_answer lo loWire len spool ≡ Accepted (length (lowered low set (read_records hi hiWire len spool))))
-    × (read_records lo loWire len spool ≡ lowered low set (read_records hi hiWire len spool))
+    (lo lo_wire hi hi_wire : ℕ) (low high : Class) → Classes lo lo_wire hi hi_wire low high
+    → (len : ℕ) (spool : List ℕ) (set : Set) → read_outcome hi hi_wire len spool ≡ accepted set
+    → (read_answer lo lo_wire len spool ≡ Accepted (length (lowered low set (read_records hi hi_wire len spool))))
+    × (read_records lo lo_wire len spool ≡ lowered low set (read_records hi hi_wire len spool))
 
 -- a place in the set is at or before another
 abbrev pub at_or_before : Refusal → Refusal → Bool
@@ -180,6 +180,6 @@ at_or_before q r = ltb q.volume r.volume || (eqb q.volume r.volume && leb q.line
 -- "If the lower refuses, the higher refuses too, at the same line or before it."
 abbrev pub HigherRefuses : Type 0
 HigherRefuses =
-    (lo loWire hi hiWire : ℕ) (low high : Class) → Classes lo loWire hi hiWire low high
-    → (len : ℕ) (spool : List ℕ) (r : Refusal) → read_answer lo loWire len spool ≡ Refused r
-    → (q : Refusal) × (read_answer hi hiWire len spool ≡ Refused q) × (at_or_before q r ≡ true)
+    (lo lo_wire hi hi_wire : ℕ) (low high : Class) → Classes lo lo_wire hi hi_wire low high
+    → (len : ℕ) (spool : List ℕ) (r : Refusal) → read_answer lo lo_wire len spool ≡ Refused r
+    → (q : Refusal) × (read_answer hi hi_wire len spool ≡ Refused q) × (at_or_before q r ≡ true)

@@ -74,36 +74,36 @@ pub record Seven (r : List ℤ) (c : List ℕ) : Type 0 where
 -- whether six may stand
 pub data Turned (r : List ℤ) (c : List ℕ) : Bool → Type 0 where
   six : Six r c → Turned r c true
-  seven : {maySix : Bool} → Seven r c → Turned r c maySix
+  seven : {may_six : Bool} → Seven r c → Turned r c may_six
 
-pub record Circle (spool : List ℕ) (maySix : Bool) (r : List ℤ) : Type 0 where
+pub record Circle (spool : List ℕ) (may_six : Bool) (r : List ℤ) : Type 0 where
   pub content : List ℕ
   pub own : OwnLine spool r (bytes "circle=" ++ content)
   pub values : ShowsValues r content
-  pub turned : Turned r content maySix
+  pub turned : Turned r content may_six
 
 -- ── every record ──
 -- The figures that are one line each, by the kinds of their records: "10 line, 11 circle, 12 ellipse, 13 point", "plus 20 inside a symbol", and a
 -- wire's lines and arcs, 20 and 21. Six values may stand inside a symbol alone.
 pub data OneLine : Type 0 where
-  is_line isEllipse isPoint : OneLine
+  is_line is_ellipse is_point : OneLine
   is_circle : Bool → OneLine
   another : OneLine
 
 abbrev pub one_line_of : ℕ → OneLine
 one_line_of kind =
     cond (has_number kind (10 ∷ 20 ∷ 30 ∷ [])) is_line
-    (cond (has_number kind (12 ∷ 32 ∷ [])) isEllipse
-    (cond (has_number kind (13 ∷ 33 ∷ [])) isPoint
+    (cond (has_number kind (12 ∷ 32 ∷ [])) is_ellipse
+    (cond (has_number kind (13 ∷ 33 ∷ [])) is_point
     (cond (has_number kind (11 ∷ 21 ∷ [])) (is_circle false)
     (cond (eqb kind 31) (is_circle true) another))))
 
 -- each stands under its key, so that none is shown as another's kind
 abbrev pub Says : List ℕ → List ℤ → OneLine → Type 0
 Says spool r is_line = Under spool r "line="
-Says spool r isEllipse = Under spool r "ellipse="
-Says spool r isPoint = Under spool r "point="
-Says spool r (is_circle maySix) = Circle spool maySix r
+Says spool r is_ellipse = Under spool r "ellipse="
+Says spool r is_point = Under spool r "point="
+Says spool r (is_circle may_six) = Circle spool may_six r
 Says spool r another = Unit {0}
 
 abbrev pub AtTheirLines : List ℕ → List (List ℤ) → Type 0

@@ -1,7 +1,7 @@
 -- Document 01, "Blocks": the tables of keys of every block but the figures. A row: the key, what it holds, where it goes in the record.
 use Rattle.std.specs.Prelude.{ℕ, zero, suc, ◌+◌, Bool, true, false, List, [], ◌∷◌, map}
-use Rattle.rules.specs.Values.{Part, count, range, range_of_symbols, range_of_wires, day, clock, decimal, anySign, notNegative, layer_id, Kind, values, text, word}
-use Rattle.rules.specs.Values.{volume_name, sheet, ratio, nothing, opens, headed, either, anyBytes, ascii, lettersAndDigits, telephone, nothing_more}
+use Rattle.rules.specs.Values.{Part, count, range, range_of_symbols, range_of_wires, day, clock, decimal, any_sign, not_negative, layer_id, Kind, values, text, word}
+use Rattle.rules.specs.Values.{volume_name, sheet, ratio, nothing, opens, headed, either, any_bytes, ascii, letters_and_digits, telephone, nothing_more}
 use Rattle.rules.specs.Rows.{Rule, row, may_be_empty, from, optional, repeated, state_at, any_number, blank, Held}
 
 abbrev pub one : Part → Kind
@@ -31,10 +31,10 @@ file_table =
     ∷ row "os" (text 20 ascii) 18
     ∷ row "hard" (text 20 ascii) 20
     ∷ row "ver" (text 10 ascii) 22
-    ∷ may_be_empty (row "corp" (text 40 anyBytes) 24)
-    ∷ may_be_empty (row "make" (text 40 anyBytes) 26)
+    ∷ may_be_empty (row "corp" (text 40 any_bytes) 24)
+    ∷ may_be_empty (row "make" (text 40 any_bytes) 26)
     ∷ may_be_empty (row "tel" (text 20 telephone) 28)
-    ∷ may_be_empty (row "name" (text 20 anyBytes) 30) ∷ []
+    ∷ may_be_empty (row "name" (text 20 any_bytes) 30) ∷ []
 
 -- "`range` holds `base=001:{B_sym}`, `arc`, `elec`, `air`, `pipe`, `sym`." "`base` is required; any other of the six not written counts as 000."
 unfoldable pub range_table : List Rule
@@ -90,11 +90,11 @@ unfoldable pub drawing_table : List Rule
 drawing_table =
     row "size" sheet 5
     ∷ row "scale" ratio 7
-    ∷ row "project" (text 60 anyBytes) 12
-    ∷ row "drawname" (text 60 anyBytes) 14
+    ∷ row "project" (text 60 any_bytes) 12
+    ∷ row "drawname" (text 60 any_bytes) 14
     ∷ row "date" (one day) 9
-    ∷ may_be_empty (row "drawer" (text 20 anyBytes) 16)
-    ∷ state_at 10 (from 0 1 (may_be_empty (row "floor_height" (one (decimal notNegative)) 11)))
+    ∷ may_be_empty (row "drawer" (text 20 any_bytes) 16)
+    ∷ state_at 10 (from 0 1 (may_be_empty (row "floor_height" (one (decimal not_negative)) 11)))
     ∷ row "layer_name" (opens 1) 0 ∷ []
 
 -- "`layer_name` with 0 to 64 lines such as `E_151=`: one of B A E P M, `_`, three digits, name 0-20 bytes."
@@ -102,7 +102,7 @@ abbrev pub most_layers : ℕ
 most_layers = 64
 
 abbrev pub layer_name_kind : Kind
-layer_name_kind = text 20 anyBytes
+layer_name_kind = text 20 any_bytes
 
 -- ── SYMBOL_DEFINE ──
 -- "`NON=` alone, or one or more `E_symbol` (S_elec at least 001)": the range of these two tables is S_elec.
@@ -114,10 +114,10 @@ defines_table =
 -- "`name` (1-32 letters and digits), `element` (one or more figures), `hide` (0 to 100 points), and at 002 `wall`, empty or x,y."
 unfoldable pub symbol_table : List Rule
 symbol_table =
-    row "name" (word 32 lettersAndDigits) 5
+    row "name" (word 32 letters_and_digits) 5
     ∷ row "element" (opens 1) 0
     ∷ row "hide" (opens 2) 0
-    ∷ state_at 7 (from 0 2 (may_be_empty (row "wall" (values (decimal anySign) (decimal anySign ∷ []) nothing_more) 8))) ∷ []
+    ∷ state_at 7 (from 0 2 (may_be_empty (row "wall" (values (decimal any_sign) (decimal any_sign ∷ []) nothing_more) 8))) ∷ []
 
 -- ── ELEMENT ──
 -- "`LAYER=id:{ figures or none }`, at most once a volume for each layer, each layer declared": twice is 14, judged where it is read

@@ -1,14 +1,14 @@
 -- Document 01, "Figures": the tables of figures in layers and in symbols, of points, of texts and of the placed symbol.
 use Rattle.std.specs.Prelude.{ℕ, ◌+◌, Bool, true, false, List, [], ◌∷◌, ◌++◌}
-use Rattle.rules.specs.Values.{Part, count, digit, type_digits, decimal, anySign, notNegative, halfTurn, symbol_name, Kind, values, text, word, serials}
+use Rattle.rules.specs.Values.{Part, count, digit, type_digits, decimal, any_sign, not_negative, half_turn, symbol_name, Kind, values, text, word, serials}
 use Rattle.rules.specs.Values.{centre, measure, degrees, flag, arc_rest, wire_serial, symbol_circle, served_power}
-use Rattle.rules.specs.Values.{opens, anyBytes, circuitBytes, nothing_more, ends_differ, arc_of_circle, axes_of_ellipse}
+use Rattle.rules.specs.Values.{opens, any_bytes, circuit_bytes, nothing_more, ends_differ, arc_of_circle, axes_of_ellipse}
 use Rattle.rules.specs.Rows.{Rule, row, may_be_empty, from, optional, repeated, state_at, up_to, any_number}
 
 -- "In layers no coordinate is negative but the two centres; in symbols any sign."
 abbrev pub coordinate : Bool → Part
-coordinate true = decimal notNegative
-coordinate false = decimal anySign
+coordinate true = decimal not_negative
+coordinate false = decimal any_sign
 
 -- the values of a point: type,x,y
 abbrev pub point_kind : Bool → Kind
@@ -39,7 +39,7 @@ block_rows = row "successive" (opens 1) 0 ∷ row "text" (opens 2) 0 ∷ []
 
 -- "Placed symbol: `name,x,y,angle,factor`, factor above zero."
 abbrev pub placing : Kind
-placing = values symbol_name (decimal notNegative ∷ decimal notNegative ∷ degrees ∷ measure ∷ []) nothing_more
+placing = values symbol_name (decimal not_negative ∷ decimal not_negative ∷ degrees ∷ measure ∷ []) nothing_more
 
 -- "At range 001 it is `E_symbol=` with these; at any other range a block": whether E_sym is 001
 abbrev pub placed_kind : Bool → Kind
@@ -79,8 +79,8 @@ point_table in_layer = repeated (up_to most_points) (row "point" (point_kind in_
 -- "text: block of `type` (type,x,y,width,height,gap,angle,upright) and `character` (1-200 bytes)": where its two lines go in the record
 unfoldable pub text_table : Bool → ℕ → ℕ → List Rule
 text_table in_layer p q =
-    row "type" (values type_digits (coordinate in_layer ∷ coordinate in_layer ∷ measure ∷ measure ∷ decimal notNegative ∷ degrees ∷ flag ∷ []) nothing_more) p
-    ∷ row "character" (text 200 anyBytes) q ∷ []
+    row "type" (values type_digits (coordinate in_layer ∷ coordinate in_layer ∷ measure ∷ measure ∷ decimal not_negative ∷ degrees ∷ flag ∷ []) nothing_more) p
+    ∷ row "character" (text 200 any_bytes) q ∷ []
 
 -- "Last digit 2 or more: `text`, may be missing; 3: `hight`, signed or empty; 4: `pos`, 1 to 5 or empty;
 -- 5: `circuit`, 0-10 of letters, digits, `-`, `.`. Middle digit 1: `serial`": the range of this table is E_sym
@@ -88,9 +88,9 @@ unfoldable pub placed_table : List Rule
 placed_table =
     row "symbol" placing 5
     ∷ state_at 26 (from 0 2 (optional (row "text" (opens 1) 0)))
-    ∷ state_at 27 (from 0 3 (may_be_empty (row "hight" (values (decimal anySign) [] nothing_more) 10)))
+    ∷ state_at 27 (from 0 3 (may_be_empty (row "hight" (values (decimal any_sign) [] nothing_more) 10)))
     ∷ state_at 28 (from 0 4 (may_be_empty (row "pos" (values (digit 1 5) [] nothing_more) 11)))
-    ∷ state_at 29 (from 0 5 (may_be_empty (row "circuit" (word 10 circuitBytes) 12)))
+    ∷ state_at 29 (from 0 5 (may_be_empty (row "circuit" (word 10 circuit_bytes) 12)))
     ∷ state_at 30 (from 1 0 (row "serial" serials 14)) ∷ []
 
 -- A wire's block: "lines and arcs first, nothing else before or among them", with the values of those in a layer; "then `direc`, `piend`,
@@ -100,7 +100,7 @@ abbrev pub most_direcs : ℕ
 most_direcs = 2
 
 abbrev pub site : Part
-site = decimal notNegative
+site = decimal not_negative
 
 unfoldable pub wire_table : List Rule
 wire_table =
@@ -108,10 +108,10 @@ wire_table =
     ∷ repeated any_number (circle_row true)
     ∷ state_at 26 (from 0 2 (repeated (up_to most_direcs) (row "direc" (values (digit 0 4) (site ∷ site ∷ degrees ∷ []) nothing_more) 0)))
     ∷ state_at 27 (from 0 3 (repeated any_number (row "piend" (values site (site ∷ degrees ∷ []) nothing_more) 0)))
-    ∷ state_at 28 (from 0 4 (repeated any_number (row "num" (values flag (count ∷ site ∷ site ∷ decimal halfTurn ∷ []) nothing_more) 0)))
+    ∷ state_at 28 (from 0 4 (repeated any_number (row "num" (values flag (count ∷ site ∷ site ∷ decimal half_turn ∷ []) nothing_more) 0)))
     ∷ state_at (32 + 26) (from 0 5 (repeated any_number (row "text" (opens 1) 0)))
     ∷ state_at 29 (from 0 6 (may_be_empty (row "length" (values site [] nothing_more) 25)))
-    ∷ state_at (32 + 27) (from 0 7 (may_be_empty (row "circuit" (word 10 circuitBytes) (32 + 16))))
+    ∷ state_at (32 + 27) (from 0 7 (may_be_empty (row "circuit" (word 10 circuit_bytes) (32 + 16))))
     ∷ state_at (32 + 28) (from 0 8 (may_be_empty (row "power" (values (digit 0 9) (digit 0 9 ∷ count ∷ []) served_power) (32 + 18))))
     ∷ state_at (32 + 29) (from 1 0 (row "serial" wire_serial (32 + 21))) ∷ []
 

@@ -7,7 +7,7 @@ use Rattle.rules.specs.Base.{bytes, flat}
 use Rattle.rules.specs.Numbers.{minus}
 use Rattle.rules.specs.RefusalNumbers.{Got, got, bad}
 use Rattle.rules.specs.Spool.{unlines, volume_bytes}
-use Rattle.rules.specs.Values.{Num, decimal, anySign, read_part}
+use Rattle.rules.specs.Values.{Num, decimal, any_sign, read_part}
 use Rattle.rules.specs.Answers.{read_answer, read_records, own_records, written}
 use Rattle.rules.specs.RecordTable.{width}
 
@@ -289,7 +289,7 @@ of_number (bad n) = broken n
 
 abbrev pub ruling : Question → Ruling
 ruling (spool c w s) = of_reading (read_answer c w (own_records * width) s) (read_records c w (own_records * width) s)
-ruling (number s) = of_number (read_part (record { symbols = []; layers = [] }) (decimal anySign) (bytes s))
+ruling (number s) = of_number (read_part (record { symbols = []; layers = [] }) (decimal any_sign) (bytes s))
 ruling (fixed s) = writes (written s)
 
 pub cases : List Case

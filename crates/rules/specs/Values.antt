@@ -32,14 +32,14 @@ abbrev pub is_letter : ℕ → Bool
 is_letter b = within 65 90 b || within 97 122 b
 
 pub data Bytes : Type 0 where
-  anyBytes ascii lettersAndDigits telephone circuitBytes : Bytes
+  any_bytes ascii letters_and_digits telephone circuit_bytes : Bytes
 
 abbrev pub byte_in : Bytes → ℕ → Bool
-byte_in anyBytes b = true
+byte_in any_bytes b = true
 byte_in ascii b = within 32 126 b
-byte_in lettersAndDigits b = is_letter b || is_digit b
+byte_in letters_and_digits b = is_letter b || is_digit b
 byte_in telephone b = is_digit b || (eqb b 45 || (eqb b 40 || eqb b 41))
-byte_in circuitBytes b = is_letter b || (is_digit b || (eqb b 45 || eqb b 46))
+byte_in circuit_bytes b = is_letter b || (is_digit b || (eqb b 45 || eqb b 46))
 
 -- "a-z read as A-Z"
 abbrev pub capital : ℕ → ℕ
@@ -54,14 +54,14 @@ is_layer_id (l ∷ s) = has_number l (bytes "BAEPM") && (same (take 1 s) (bytes 
 -- the sign and limit of a decimal: "Angles are 0 to 360 inclusive"; "Radius, axes, width, height above zero; gap not negative";
 -- "In layers no coordinate is negative but the two centres; in symbols any sign."
 pub data Bound : Type 0 where
-  anySign notNegative aboveZero angle halfTurn : Bound
+  any_sign not_negative above_zero angle half_turn : Bound
 
 abbrev pub in_bound : Bound → ℤ → Bool
-in_bound anySign z = true
-in_bound notNegative z = le_z (pos 0) z
-in_bound aboveZero z = lt_z (pos 0) z
+in_bound any_sign z = true
+in_bound not_negative z = le_z (pos 0) z
+in_bound above_zero z = lt_z (pos 0) z
 in_bound angle z = le_z (pos 0) z && le_z z (pos 3600000)
-in_bound halfTurn z = le_z (pos 0) z && le_z z (pos 1800000)
+in_bound half_turn z = le_z (pos 0) z && le_z z (pos 1800000)
 
 pub data Part : Type 0 where
   count : Part  -- 1 to 9 digits
@@ -175,10 +175,10 @@ agree served_power v = among (map amount v) powers
 -- ── circles ──
 -- a centre's x or y; "Radius, axes, width, height above zero", a factor too; "Angles are 0 to 360 inclusive"; "Turn and upright are 0 or 1"
 abbrev pub centre : Part
-centre = decimal anySign
+centre = decimal any_sign
 
 abbrev pub measure : Part
-measure = decimal aboveZero
+measure = decimal above_zero
 
 abbrev pub degrees : Part
 degrees = decimal angle
@@ -341,7 +341,7 @@ abbrev pub read_kind : Known → Kind → ℕ → List ℕ → Got Value
 read_kind k (values p ps a) at c = map_g nums (keep 11 (agree a) (read_all k (p ∷ ps) (split 44 c)))
 read_kind k (text n b) at c = read_text n b at c
 read_kind k (word n b) at c = read_text n b at c
-read_kind k volume_name at c = unless (all (byte_in lettersAndDigits) c) 11 (got (chars at (map capital c)))
+read_kind k volume_name at c = unless (all (byte_in letters_and_digits) c) 11 (got (chars at (map capital c)))
 read_kind k sheet at c = map_g nums (or_bad 11 (find_sheet c sheets))
 read_kind k ratio at c = map_g nums (read_ratio c)
 read_kind k serials at c = map_g linked_of (keep 11 (λ ns. leb (length ns) (most_partners + 1)) (read_serials (split 44 c)))

@@ -12,7 +12,7 @@ use Rattle.rules.specs.declared.LineForm.{LineForm}
 use Rattle.rules.specs.Base.{all, split}
 use Rattle.rules.specs.RefusalNumbers.{got, keep}
 use Rattle.rules.specs.Lines.{Rest, brace, equals, Form, Shape, opener, no_content, content, opening, formless, stem, by_stem, shape_of, free_shape_of, span, bytes_at, form_in}
-use Rattle.rules.specs.Values.{Num, num, Value, empty, nums, chars, linked, Known, byte_in, lettersAndDigits, capital, Part, range, Across, Kind, values, text, word, volume_name, sheet, ratio, serials, wire_serial, symbol_circle, nothing, opens, headed, either, is_free, read_part, read_all, agree, read_kind, amount, amount_at}
+use Rattle.rules.specs.Values.{Num, num, Value, empty, nums, chars, linked, Known, byte_in, letters_and_digits, capital, Part, range, Across, Kind, values, text, word, volume_name, sheet, ratio, serials, wire_serial, symbol_circle, nothing, opens, headed, either, is_free, read_part, read_all, agree, read_kind, amount, amount_at}
 use Rattle.rules.specs.Rows.{Rule, fits, shape_for, Act, entry, begin, inner_of, read_shape, slot_value}
 use Rattle.rules.specs.RecordTable.{numbers_of, columns, first_or0}
 use Rattle.rules.proofs.Chains.{clash, never, map-got, keep-got, cons-got, unless-got}
@@ -56,7 +56,7 @@ name-read spool k j r opener v e h q = absurd (let z : ◌≡◌ {A = ℕ} 0 1 =
 name-read spool k j r no_content v e h q = let z : empty ≡ v = cc in subst (NameHere spool) z tt
 name-read spool k j r (content at c) v e h q =
     let (w, p, t) = map-got (entry j) (read_kind k r.holds at c) (entry j v) q in
-    let (b, u) = unless-got (all (byte_in lettersAndDigits) c) 11 (got (chars at (map capital c))) w (ap (λ (d : Kind). read_kind k d at c) (sym e) ∙ p) in
+    let (b, u) = unless-got (all (byte_in letters_and_digits) c) 11 (got (chars at (map capital c))) w (ap (λ (d : Kind). read_kind k d at c) (sym e) ∙ p) in
     let z : chars at (map capital c) ≡ w = cc in
     subst (NameHere spool) (z ∙ ap value_of t) (name-here spool at c h)
 name-read spool k j r (opening at c) v e h q = let (w, p, t) = map-got (begin (inner_of r.holds) j) (read_kind k r.holds at c) (entry j v) q in absurd (let z : ◌≡◌ {A = ℕ} 0 1 = cc in omega (arith, z))

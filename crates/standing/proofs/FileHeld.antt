@@ -14,7 +14,7 @@ use Rattle.rules.specs.Base.{bytes, map_o, all, same, split}
 use Rattle.rules.specs.RefusalNumbers.{got, bad, unless, map_g, or_bad, keep}
 use Rattle.rules.specs.Numbers.{is_digit, digit_run, value, is_day, is_clock}
 use Rattle.rules.specs.Lines.{Rest, brace, equals, Form, ignored, wrong, close, eof, keyed, Shape, opener, no_content, content, opening, formless, has_form, stem, by_stem, shape_of, free_shape_of}
-use Rattle.rules.specs.Values.{Num, Value, empty, nums, chars, Known, byte_in, lettersAndDigits, capital, Part, count, digit, type_digits, range, range_of_symbols, range_of_wires, day, clock, decimal, exactly, symbol_name, layer_id, served_symbols, served_wires, natural, read_part, read_all, agree, Kind, values, text, word, volume_name, sheet, ratio, serials, wire_serial, symbol_circle, nothing, opens, headed, either, is_free, read_kind}
+use Rattle.rules.specs.Values.{Num, Value, empty, nums, chars, Known, byte_in, letters_and_digits, capital, Part, count, digit, type_digits, range, range_of_symbols, range_of_wires, day, clock, decimal, exactly, symbol_name, layer_id, served_symbols, served_wires, natural, read_part, read_all, agree, Kind, values, text, word, volume_name, sheet, ratio, serials, wire_serial, symbol_circle, nothing, opens, headed, either, is_free, read_kind}
 use Rattle.rules.specs.Rows.{Rule, Found, absent, found, find, shape_for, Act, stay, entry, begin, shut, refuse, or_refuse, inner_of, read_shape, act_row, act_found, complete, act}
 use Rattle.rules.specs.RecordTable.{numbers}
 use Rattle.rules.specs.Blocks.{file_table, range_table, base_table, elec_table, sym_table, later_table}
@@ -122,7 +122,7 @@ kind-count k (values p ps x) at c v h a l e =
     subst Counted q (parts-count k (p ∷ ps) (split 44 c) w h (keep-got 11 (agree x) (read_all k (p ∷ ps) (split 44 c)) w g).0)
 kind-count k (text n b) at c v h a l e = text-count (all (byte_in b) c && leb (length c) n) 11 at c v a l e
 kind-count k (word n b) at c v h a l e = text-count (all (byte_in b) c && leb (length c) n) 11 at c v a l e
-kind-count k volume_name at c v h a l e = text-count (all (byte_in lettersAndDigits) c) 11 at (map capital c) v a (omega (arith, l, capital-length c)) e
+kind-count k volume_name at c v h a l e = text-count (all (byte_in letters_and_digits) c) 11 at (map capital c) v a (omega (arith, l, capital-length c)) e
 kind-count k sheet at c v h a l e = clash h refl
 kind-count k ratio at c v h a l e = clash h refl
 kind-count k serials at c v h a l e = clash h refl

@@ -10,7 +10,7 @@ use lib.ListN.{length, get_or, replicate}
 use Rattle.rules.specs.Base.{all, split}
 use Rattle.rules.specs.RefusalNumbers.{Got, got, unless, map_g, keep, or_bad}
 use Rattle.rules.specs.Lines.{Shape, opener, no_content, content, opening, formless}
-use Rattle.rules.specs.Values.{Num, Value, empty, nums, chars, Known, byte_in, lettersAndDigits, capital, Kind, values, text, word, volume_name, sheet, ratio, serials, wire_serial, symbol_circle, nothing, opens, headed, either, range, read_part, read_all, read_ratio, read_wire_serial, find_sheet, sheets, agree, read_kind, serials_of, read_circle}
+use Rattle.rules.specs.Values.{Num, Value, empty, nums, chars, Known, byte_in, letters_and_digits, capital, Kind, values, text, word, volume_name, sheet, ratio, serials, wire_serial, symbol_circle, nothing, opens, headed, either, range, read_part, read_all, read_ratio, read_wire_serial, find_sheet, sheets, agree, read_kind, serials_of, read_circle}
 use Rattle.rules.specs.Rows.{Rule, blank, Held, part_of, rows_there, slot_value, entry, begin, inner_of, read_shape}
 use Rattle.rules.specs.Figures.{placed_table, text_table, placed_tables}
 use Rattle.rules.specs.RecordTable.{rule_at}
@@ -81,7 +81,7 @@ read_plain : (k : Known) (d : Kind) (at : ℕ) (c : List ℕ) (v : Value) → is
 read_plain k (values p ps a) at c v i e = nums-plain (keep 11 (agree a) (read_all k (p ∷ ps) (split 44 c))) v e
 read_plain k (text n b) at c v i e = chars-plain (all (byte_in b) c && leb (length c) n) at c v e
 read_plain k (word n b) at c v i e = chars-plain (all (byte_in b) c && leb (length c) n) at c v e
-read_plain k volume_name at c v i e = chars-plain (all (byte_in lettersAndDigits) c) at (map capital c) v e
+read_plain k volume_name at c v i e = chars-plain (all (byte_in letters_and_digits) c) at (map capital c) v e
 read_plain k sheet at c v i e = nums-plain (or_bad 11 (find_sheet c sheets)) v e
 read_plain k ratio at c v i e = nums-plain (read_ratio c) v e
 read_plain k serials at c v i e = clash refl i

@@ -14,7 +14,7 @@ use Rattle.rules.specs.declared.Digits.{Digits}
 use Rattle.rules.specs.Base.{all, flat, is_some}
 use Rattle.rules.specs.RangeClass.{digits, reaches}
 use Rattle.rules.specs.Lines.{span}
-use Rattle.rules.specs.Values.{Value, empty, nums, chars, linked, word, lettersAndDigits, chars_of}
+use Rattle.rules.specs.Values.{Value, empty, nums, chars, linked, word, letters_and_digits, chars_of}
 use Rattle.rules.specs.Rows.{Slots, rows_there, slot_value, inner_of, complete}
 use Rattle.rules.specs.Blocks.{symbol_table}
 use Rattle.rules.specs.Sets.{Symbol, symbol_name_of, symbol_order}
@@ -55,7 +55,7 @@ pub symbol-entry : (o : Slots) (j : ℕ) (v : Value) (b : List ℤ) → length o
     → put_line (rule_at symbol_table j) 0 v (put_slots symbol_table o b) ≡ put_slots symbol_table (set o j (some v)) b
 symbol-entry o j v b e k = own_line symbol_table o j v b (e ∙ sym symbol-length) k.row (mark-free o j k.free) k.fill symbol-clear symbol-housed
 
-pub name-row : ((rule_at symbol_table 0).holds ≡ word 32 lettersAndDigits) × ((rule_at symbol_table 0).may ≡ false) × (length (rule_at symbol_table 0).key ≡ 4)
+pub name-row : ((rule_at symbol_table 0).holds ≡ word 32 letters_and_digits) × ((rule_at symbol_table 0).may ≡ false) × (length (rule_at symbol_table 0).key ≡ 4)
 unfolding symbol_table
 name-row = (refl, refl, refl)
 

@@ -17,7 +17,7 @@ use Rattle.rules.specs.Base.{among, is_nil, is_none, is_some}
 use Rattle.rules.specs.RefusalNumbers.{got, unless}
 use Rattle.rules.specs.RangeClass.{digits_of}
 use Rattle.rules.specs.Lines.{close, span, bytes_at, form_in}
-use Rattle.rules.specs.Values.{Known, Value, chars, lettersAndDigits, chars_of}
+use Rattle.rules.specs.Values.{Known, Value, chars, letters_and_digits, chars_of}
 use Rattle.rules.specs.Rows.{Rule, Held, Slots, rows_there, slot_value, Act, stay, entry, begin, shut, refuse, complete, act}
 use Rattle.rules.specs.Blocks.{symbol_table}
 use Rattle.rules.specs.Sets.{Symbol, Set, known_of, define_range, symbol_name_of, symbol_own, symbol_order, with_symbol}
@@ -285,7 +285,7 @@ module _ (c : Class) (spool : List ℕ) (short : length spool ≤ 61440) (k : �
 
           held : WordRead spool from.rest v
           held =
-              word_read spool form (known_of s) symbol_table (digits_of (define_range s)) full l.form 32 lettersAndDigits j v from x.is
+              word_read spool form (known_of s) symbol_table (digits_of (define_range s)) full l.form 32 letters_and_digits j v from x.is
               (ap (λ (r : Rule). r.holds) (sym is_row) ∙ name-row.0) (ap (λ (r : Rule). r.may) (sym is_row) ∙ name-row.1)
 
           -- `name=` and a byte, and the line's end

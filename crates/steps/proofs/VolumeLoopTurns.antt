@@ -58,15 +58,15 @@ skipped-further spool body v p q l m a = subst (Further body v p) a m.further
 
 module _ (c : Class) (spool body : List ℕ) (v : Volume) (following : List ℕ) (limit : ℕ) (d₀ : Desk) (table₀ : List ℤ) where
   -- the loop's invariant: how far the reading is, what keeps its length, and what the code asked once
-  pub record Turn (p : Pos) (d : Desk) (own : ℕ) (table : List ℤ) (first lastVolume : Bool) : Type 0 where
+  pub record Turn (p : Pos) (d : Desk) (own : ℕ) (table : List ℤ) (first last_volume : Bool) : Type 0 where
     pub through : Through-to c spool body v following limit d₀ table₀ p d own table
     pub lengths : SameLengths d₀ d table₀ table
     pub arrays : OwnLengths d
     pub is-first : first ≡ eqb v.number 1
-    pub is_last : lastVolume ≡ is_nil following
+    pub is_last : last_volume ≡ is_nil following
 
-  pub begins : VolumeReady c spool body v limit d₀ table₀ → OwnLengths d₀ → (lastVolume : Bool) → lastVolume ≡ is_nil following → Turn (start_of v.at) d₀ 0 table₀ (eqb v.number 1) lastVolume
-  begins y o lastVolume e = record {
+  pub begins : VolumeReady c spool body v limit d₀ table₀ → OwnLengths d₀ → (last_volume : Bool) → last_volume ≡ is_nil following → Turn (start_of v.at) d₀ 0 table₀ (eqb v.number 1) last_volume
+  begins y o last_volume e = record {
     through = begun c spool body v following limit d₀ table₀ (omega (arith, y.at.here, y.at.part.inside, y.at.short));
     lengths = same-lengths d₀ table₀;
     arrays = o;
@@ -74,12 +74,12 @@ module _ (c : Class) (spool body : List ℕ) (v : Volume) (following : List ℕ)
     is_last = e;
   }
 
-  module _ (first lastVolume : Bool) (p : Pos) (d : Desk) (own : ℕ) (table : List ℤ) (i : Turn p d own table first lastVolume) (f : Seen) (q : f ≡ seen_from body v p) where
+  module _ (first last_volume : Bool) (p : Pos) (d : Desk) (own : ℕ) (table : List ℤ) (i : Turn p d own table first last_volume) (f : Seen) (q : f ≡ seen_from body v p) where
     pub turn-empty : f.next ≡ p.at → (d₁ : Now → Desk) (table₁ : List ℤ) (r : Through) → r ≡ stop_of v 9 p.line → VolumePromise c spool body v limit following d₀ table₀ d₁ table₁ r
     turn-empty same d₁ table₁ r a =
         subst (VolumePromise c spool body v limit following d₀ table₀ d₁ table₁) (sym a) (ends-empty c spool body v following limit d₀ table₀ p d own table i.through f q same d₁ table₁)
 
-    module _ (apart : (f.next ≡ p.at) → ⊥) (ends : Bool) (both : ends ≡ (lastVolume && f.last)) where
+    module _ (apart : (f.next ≡ p.at) → ⊥) (ends : Bool) (both : ends ≡ (last_volume && f.last)) where
       ends_so : ends ≡ (is_nil following && f.last)
       ends_so = both ∙ ap (λ (b : Bool). b && f.last) i.is_last
 
@@ -102,7 +102,7 @@ module _ (c : Class) (spool body : List ℕ) (v : Volume) (following : List ℕ)
           pub turn-go : VolumeReady c spool body v limit d₀ table₀ → (n : Now) → r ≡ S.Go n → (scratch₁ table₁ : List ℤ) → scratch₁ ≡ cleared_by (completed d.now n) d₁.scratch
               → table₁ ≡ put_by (completed d.now n) first (number_for d.now n own) d₁.header d₁.scratch table
               → (own₁ : ℕ) → own₁ ≡ own_after d.now own → SameLengths d₀ (desk_now (desk_scratch d₁ scratch₁) n) table₀ table₁ → OwnLengths (desk_now (desk_scratch d₁ scratch₁) n)
-              → Turn (past p f) (desk_now (desk_scratch d₁ scratch₁) n) own₁ table₁ first lastVolume
+              → Turn (past p f) (desk_now (desk_scratch d₁ scratch₁) n) own₁ table₁ first last_volume
           turn-go y n a scratch₁ table₁ cleared put own₁ e kept o = record {
             through =
                 subst (λ (o : ℕ). Through-to c spool body v following limit d₀ table₀ (past p f) (desk_now (desk_scratch d₁ scratch₁) n) o table₁) (sym e)
@@ -117,7 +117,7 @@ module _ (c : Class) (spool body : List ℕ) (v : Volume) (following : List ℕ)
           turn-block = skip_ready c spool body v following limit d₀ table₀ p d own table i.through f q apart d₁ answer judged h
 
           pub turn_skip : (n : Now) → r ≡ S.Skip n → (l : Left) → SkipMet spool body v (past p f) 4 l → (q' : Pos) → l ≡ L.Go q' → SameLengths d₀ (desk_now d₁ n) table₀ table → OwnLengths (desk_now d₁ n)
-              → Turn q' (desk_now d₁ n) own table first lastVolume
+              → Turn q' (desk_now d₁ n) own table first last_volume
           turn_skip n a l m q' b kept o = record {
             through = on_skip c spool body v following limit d₀ table₀ p d own table i.through f q apart d₁ answer judged h n (sym limited ∙ a) q' (subst (SkipMet spool body v (past p f) 4) b m);
             lengths = kept;
@@ -136,7 +136,7 @@ module _ (c : Class) (spool body : List ℕ) (v : Volume) (following : List ℕ)
               subst (VolumePromise c spool body v limit following d₀ table₀ d₂ table₂) (sym b)
               (ends-stop c spool body v following limit d₀ table₀ p d own table i.through f q apart d₁ answer judged h n (sym limited ∙ a) d₂ table₂)
 
-        pub turn_last : f.last ≡ true → (complete : Bool) → complete ≡ completes_of d.now f.form lastVolume → (done : Step) → done ≡ last_step complete r → (t : Through) → t ≡ through_of v (p.line + 1) done
+        pub turn_last : f.last ≡ true → (complete : Bool) → complete ≡ completes_of d.now f.form last_volume → (done : Step) → done ≡ last_step complete r → (t : Through) → t ≡ through_of v (p.line + 1) done
             → VolumePromise c spool body v limit following d₀ table₀ (back_desk d₁) table t
         turn_last h complete a done b t x =
             subst

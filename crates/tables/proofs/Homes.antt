@@ -5,7 +5,7 @@ use mathlib.Core.List.{List, [], ◌∷◌}
 use mathlib.Core.Path.{◌≡◌, refl}
 use Rattle.rules.specs.Base.{bytes, same}
 use Rattle.rules.specs.Rows.{found, row, repeated, any_number, up_to, find}
-use Rattle.rules.specs.Values.{values, type_digits, ends_differ, nothing_more, decimal, aboveZero, notNegative, angle, flag}
+use Rattle.rules.specs.Values.{values, type_digits, ends_differ, nothing_more, decimal, above_zero, not_negative, angle, flag}
 use Rattle.rules.specs.Figures.{coordinate, point_kind, circle_row, wire_rows, any_of, most_points}
 use Rattle.tables.specs.Rows.{parts_of, rule_of, for_line, found_for_line, times_row, several_row, from_row, circle_in}
 use Rattle.tables.specs.Tables.{placed_rows, behind_six, behind_seven}
@@ -33,7 +33,7 @@ points-home true = refl
 points-home false = refl
 
 pub lettering-home : (b : Bool) (p : ℕ) →
-    for_line (row "type" (values type_digits (coordinate b ∷ coordinate b ∷ decimal aboveZero ∷ decimal aboveZero ∷ decimal notNegative ∷ decimal angle ∷ flag ∷ []) nothing_more) p)
+    for_line (row "type" (values type_digits (coordinate b ∷ coordinate b ∷ decimal above_zero ∷ decimal above_zero ∷ decimal not_negative ∷ decimal angle ∷ flag ∷ []) nothing_more) p)
     ≡ rule_of (several_row 0 (cond b 523212222212117 523212222202017) 7 0 p)
 unfolding parts_of
 lettering-home true p = refl

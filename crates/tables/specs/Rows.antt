@@ -1,8 +1,8 @@
 -- What the numbers of a row in the code stand for.
 use Rattle.std.specs.Prelude.{ℕ, zero, suc, ◌/◌, ◌%◌, Bool, true, false, cond, List, [], ◌∷◌, eqb, ltb, get_or}
 use Rattle.rules.specs.RangeClass.{digits}
-use Rattle.rules.specs.Values.{Part, count, digit, type_digits, range, range_of_symbols, range_of_wires, day, clock, decimal, exactly, whole_turn, Bound, anySign, notNegative, aboveZero, angle}
-use Rattle.rules.specs.Values.{halfTurn, symbol_name, layer_id, Across, nothing_more, ends_differ, arc_of_circle, axes_of_ellipse, served_power, Kind, values, text, word}
+use Rattle.rules.specs.Values.{Part, count, digit, type_digits, range, range_of_symbols, range_of_wires, day, clock, decimal, exactly, whole_turn, Bound, any_sign, not_negative, above_zero, angle}
+use Rattle.rules.specs.Values.{half_turn, symbol_name, layer_id, Across, nothing_more, ends_differ, arc_of_circle, axes_of_ellipse, served_power, Kind, values, text, word}
 use Rattle.rules.specs.Values.{volume_name, sheet, ratio, serials, wire_serial, symbol_circle, nothing, opens, headed, either}
 use Rattle.rules.specs.Rows.{Times, once, up_to, any_number, Rule, Found, absent, found}
 use Rattle.leaves.specs.Bytes.{bytes_of}
@@ -19,10 +19,10 @@ use Rattle.tables.specs.Numbering.{holds_serials, holds_nothing, holds_block, ho
 -- the sign and limit of a decimal, by its number
 abbrev pub bound_of : ℕ → Bound
 bound_of n =
-    cond (eqb n part_any_sign) anySign
-    (cond (eqb n part_not_negative) notNegative
-    (cond (eqb n part_above_zero) aboveZero
-    (cond (eqb n part_half_turn) halfTurn angle)))
+    cond (eqb n part_any_sign) any_sign
+    (cond (eqb n part_not_negative) not_negative
+    (cond (eqb n part_above_zero) above_zero
+    (cond (eqb n part_half_turn) half_turn angle)))
 
 -- a value that is no decimal; any other number is that of a type
 abbrev pub whole_of : ℕ → Part
