@@ -35,6 +35,15 @@ def library(crate):
     return [own / "bin" / "rattle", "build", "--crate-name", crate, "src/lib.rt", *words]
 
 
+def emptied(work):
+    """Takes away what rt left in its folder. A process that it began may still be doing so when rt has ended: that one is waited for."""
+    for _ in range(500):
+        shutil.rmtree(work, ignore_errors=True)
+        if not work.exists():
+            return
+        time.sleep(0.02)
+
+
 def module(command, crate, room):
     """The module that a command of rt compiles for a crate: rt puts it into the folder for temporary files while it works. (`rt try` puts a small
     one beside it, for the sanitizer.)"""
@@ -52,6 +61,7 @@ def module(command, crate, room):
             except FileNotFoundError: # rt was quicker
                 pass
         time.sleep(0.01)
+    emptied(work)
     text = said.read_text(errors="replace")
     done = ENDED.search(text) if "try" in command else rt.returncode == 0
     if not done or not seen:
