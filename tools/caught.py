@@ -55,11 +55,11 @@ def module(command, crate, room):
         rt = subprocess.Popen(command, cwd=TOP / "crates" / crate, env=env, stdin=subprocess.DEVNULL, stdout=to, stderr=subprocess.STDOUT)
     seen = {}
     while rt.poll() is None:
-        for found in work.glob("**/module.bc"):
-            try:
+        try:
+            for found in work.glob("**/module.bc"):
                 seen[found] = max(seen.get(found, b""), found.read_bytes(), key=len)
-            except FileNotFoundError: # rt was quicker
-                pass
+        except FileNotFoundError: # rt was quicker, with the file or with a folder on the way to it
+            pass
         time.sleep(0.01)
     emptied(work)
     text = said.read_text(errors="replace")
